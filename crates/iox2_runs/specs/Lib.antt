@@ -1,0 +1,6 @@
+pub mod Outcomes
+pub mod Step
+pub mod Runs
+pub mod Shows
+pub mod Fills
+pub mod Views

@@ -1,0 +1,49 @@
+-- Whole runs: lists of commands with their replies.
+use Rattle.std.specs.Prelude.{ℕ, cond, ◌&&◌, List, [], ◌∷◌, ◌++◌, ◌≡◌, ◌==◌}
+use Rattle.iox2_store.specs.Records.{Environment}
+use Rattle.iox2_store.specs.State.{State, Messages}
+use Rattle.iox2_runs.specs.Outcomes.{Handle, Event, No_event, Message_sent, Message_received, Outcome, messages_after}
+use Rattle.iox2_runs.specs.Step.{Step}
+use Rattle.iox2_runs.specs.declared.command.Command.{Command}
+use Rattle.iox2_runs.specs.declared.reply.Reply.{Reply}
+
+-- The environment of a run: no port has a boxed handler.
+abbrev pub fixed_handlers : Environment
+fixed_handlers = record { may_refuse_memory = Unit {0}; backpressure_answers = λ port info action. ⊥; degradation_answers = λ port cause info action. ⊥ }
+
+-- The same, and memory is never refused.
+abbrev pub ample_memory : Environment
+ample_memory = record { may_refuse_memory = ⊥; backpressure_answers = λ port info action. ⊥; degradation_answers = λ port cause info action. ⊥ }
+
+-- These commands get these replies, one step after another, with these events, and the messages and the state end so.
+abbrev pub RunFrom : {T U : Type 0} → Environment → (default_value : T) → (default_header : U) → Messages T U → State T U → List Handle → List (Command T U) → List (Reply T U) → List (Event T U) → Messages T U → State T U → Type 0
+RunFrom environment default_value default_header m s handles [] [] [] m' s' = (m' ≡ m) × (s' ≡ s)
+RunFrom {T} {U} environment default_value default_header m s handles (command ∷ commands) (reply ∷ replies) (event ∷ events) m' s' =
+    (o : Outcome T U) × Step environment default_value default_header m s handles command o × (o.reply ≡ reply) × (o.event ≡ event)
+    × RunFrom environment default_value default_header (messages_after o.event m) o.state (handles ++ o.handle ∷ []) commands replies events m' s'
+RunFrom environment default_value default_header m s handles _ _ _ m' s' = ⊥
+
+-- A run begins with no handles: its commands name only what it made itself.
+abbrev pub Run : {T U : Type 0} → Environment → (default_value : T) → (default_header : U) → Messages T U → State T U → List (Command T U) → List (Reply T U) → List (Event T U) → Messages T U → State T U → Type 0
+Run environment default_value default_header m s commands replies events m' s' =
+    RunFrom environment default_value default_header m s [] commands replies events m' s'
+
+-- The messages that p sent, in the order of sending.
+abbrev pub sent : {T U : Type 0} → (p : ℕ) → List (Event T U) → List ℕ
+sent p [] = []
+sent p (No_event ∷ events) = sent p events
+sent p (Message_sent p' n entry ∷ events) = cond (p' == p) (n ∷ sent p events) (sent p events)
+sent p (Message_received p' q n ∷ events) = sent p events
+
+-- The messages that q received from p, in the order of receipt.
+abbrev pub received : {T U : Type 0} → (p q : ℕ) → List (Event T U) → List ℕ
+received p q [] = []
+received p q (No_event ∷ events) = received p q events
+received p q (Message_sent p' n entry ∷ events) = received p q events
+received p q (Message_received p' q' n ∷ events) = cond (p' == p && q' == q) (n ∷ received p q events) (received p q events)
+
+-- The one list is a part of the other, in the same order.
+pub data IsSubsequence : List ℕ → List ℕ → Type 0 where
+  Empty : IsSubsequence [] []
+  Left_out : {n : ℕ} {ns ms : List ℕ} → IsSubsequence ns ms → IsSubsequence ns (n ∷ ms)
+  Taken : {n : ℕ} {ns ms : List ℕ} → IsSubsequence ns ms → IsSubsequence (n ∷ ns) (n ∷ ms)

@@ -1,0 +1,82 @@
+-- What one subscriber sees of a state, and lists of commands that differ only in what the other subscribers do.
+use Rattle.std.specs.Prelude.{ℕ, Bool, true, false, cond, not, ◌&&◌, List, [], ◌∷◌, map, ◌≡◌, ◌⊎◌, ◌==◌, slice_get, IsTrue}
+use Rattle.std.specs.declared.option.Option.{Option}
+use Rattle.std.specs.declared.option.Option.TheVariants.{None, Some}
+use Rattle.std.specs.Option.{option_map}
+use Rattle.iox2_store.specs.Records.{Subscriber}
+use Rattle.iox2_store.specs.State.{State, Messages}
+use Rattle.iox2_runs.specs.Outcomes.{Handle, No_handle, Sample_handle}
+use Rattle.iox2_runs.specs.declared.command.Command.{Command}
+use Rattle.iox2_runs.specs.declared.command.Command.TheVariants.{Nothing, CreateSubscriber, Receive, HasSamples, Update, Release, Read, ReadHeader, ReadUserHeader}
+
+-- What another subscriber shows of itself: neither its ends and expired publishers nor whether it is due.
+pub record PublicPart : Type 0 where
+  pub is_open : Bool
+  pub place : ℕ
+  pub buffer : ℕ
+
+abbrev pub public_part : Option Subscriber → Option PublicPart
+public_part o = option_map {T = Subscriber} {U = PublicPart} (λ y. record { is_open = y.is_open; place = y.place; buffer = y.buffer }) o
+
+-- The handle, or none where it is another subscriber's sample.
+abbrev pub seen_handle : (q : ℕ) → Handle → Handle
+seen_handle q (Sample_handle p q' n) = cond (q' == q) (Sample_handle p q' n) No_handle
+seen_handle q handle = handle
+
+-- The subscriber q sees the same of both: all ports and loans, all messages, its own record and mailboxes, and all
+-- handles but other subscribers' samples. Of other subscribers' ends, mailboxes and due marks, and of warnings, it sees
+-- nothing.
+pub record SameView {T U : Type 0} (q : ℕ) (m : Messages T U) (s : State T U) (named : List Handle) (m' : Messages T U) (s' : State T U) (named' : List Handle) : Type 0 where
+  pub config : s.config ≡ s'.config
+  pub next_port : s.next_port ≡ s'.next_port
+  pub next_message : s.next_message ≡ s'.next_message
+  pub loans : (n : ℕ) → s.loans n ≡ s'.loans n
+  pub publishers : (p : ℕ) → s.publishers p ≡ s'.publishers p
+  pub publisher_places : s.publisher_places ≡ s'.publisher_places
+  pub subscriber_places : s.subscriber_places ≡ s'.subscriber_places
+  pub others : (r : ℕ) → public_part (s.subscribers r) ≡ public_part (s'.subscribers r)
+  pub own : s.subscribers q ≡ s'.subscribers q
+  pub mailboxes : (p : ℕ) → s.mailboxes p q ≡ s'.mailboxes p q
+  pub messages : (n : ℕ) → m n ≡ m' n
+  pub handles : map (seen_handle q) named ≡ map (seen_handle q) named'
+
+-- ---- quieter lists
+
+module _ {T U : Type 0} where
+  -- At that position a subscriber is made, and it isn't this one.
+  abbrev pub makes_other_subscriber : (position : ℕ) → List (Command T U) → (of : ℕ) → Bool
+  makes_other_subscriber position commands of = elim (slice_get commands of) [
+    | Some (CreateSubscriber buffer degradation) ↦ not (of == position)
+    | _ ↦ false
+  ]
+
+  -- At that position a sample is received by a subscriber other than this one.
+  abbrev pub receives_for_other : (position : ℕ) → List (Command T U) → (of : ℕ) → Bool
+  receives_for_other position commands of = elim (slice_get commands of) [
+    | Some (Receive subscriber) ↦ makes_other_subscriber position commands subscriber
+    | _ ↦ false
+  ]
+
+  -- The command is one that another subscriber may leave out: a receive, a question, an update, or a read or release of a
+  -- sample of its own.
+  abbrev pub may_be_left_out : (position : ℕ) → List (Command T U) → Command T U → Bool
+  may_be_left_out position commands (Receive of) = makes_other_subscriber position commands of
+  may_be_left_out position commands (HasSamples of) = makes_other_subscriber position commands of
+  may_be_left_out position commands (Update of) = makes_other_subscriber position commands of
+  may_be_left_out position commands (Release of) = receives_for_other position commands of
+  may_be_left_out position commands (Read of at) = receives_for_other position commands of
+  may_be_left_out position commands (ReadHeader of) = receives_for_other position commands of
+  may_be_left_out position commands (ReadUserHeader of) = receives_for_other position commands of
+  may_be_left_out position commands _ = false
+
+  abbrev pub IsQuieterFrom : (position : ℕ) → (whole : List (Command T U)) → List (Command T U) → List (Command T U) → Type 0
+  IsQuieterFrom position whole [] [] = Unit {0}
+  IsQuieterFrom position whole (command ∷ commands) (quieter ∷ others) =
+      ((quieter ≡ command) ⊎ ((quieter ≡ Nothing) × (may_be_left_out position whole command ≡ true)))
+      × IsQuieterFrom position whole commands others
+  IsQuieterFrom position whole _ _ = ⊥
+
+  -- The second list is the first with nothing in place of some commands of other subscribers than the one that is made at
+  -- that position.
+  abbrev pub IsQuieter : (position : ℕ) → List (Command T U) → List (Command T U) → Type 0
+  IsQuieter position commands quieter = IsQuieterFrom position commands commands quieter

@@ -1,0 +1,163 @@
+use iox2_store::{AllocationStrategy, BackpressureAction, BackpressureStrategy, DegradationAction};
+use std::time::Duration;
+
+/// One call of a run, as plain data. It is this project's own.
+///
+/// `of` is the position in the list, counted from 0, of the command that made the port, loan, sample or blocked send
+/// that the call is on. A loan keeps the name of its loan command through writes and `AssumeInit`, a blocked send that of
+/// the `Send` or `SendCopy` that blocked. Where `of` names nothing live of the wanted kind, the command is skipped and
+/// changes nothing. In a service whose `units_per_element` isn't 1 each loan, `SendCopy` and `Receive` is skipped.
+#[derive(Debug, Clone, Copy, PartialEq, Eq)]
+pub enum Command<T, U> {
+    /// Does nothing.
+    Nothing,
+    /// Makes a publisher, with handlers that always give the answers named here.
+    CreatePublisher {
+        /// How many loans may be out at a time.
+        loans: usize,
+        /// What it does with a full receiver where no handler says otherwise.
+        strategy: BackpressureStrategy,
+        /// How its segments grow. It is taken as given in services for single values too.
+        allocation: AllocationStrategy,
+        /// The number of elements for which its first segment has room; in a service for single values it counts as 1.
+        initial_max_slice_len: usize,
+        /// What the override of the preallocation answers, if there is one.
+        override_slots: Option<usize>,
+        /// The answer of its degradation handler.
+        degradation: DegradationAction,
+        /// The answer of its backpressure handler, if there is one.
+        backpressure: Option<BackpressureAction>,
+    },
+    /// Makes a subscriber, with a degradation handler that always gives the answer named here.
+    CreateSubscriber {
+        /// How many messages of one publisher may wait; the service's limit where nothing is named. 0 means 1.
+        buffer: Option<usize>,
+        /// The answer of its degradation handler.
+        degradation: DegradationAction,
+    },
+    /// Loans one unwritten value of a publisher in a service for single values.
+    LoanUninit {
+        /// The publisher.
+        of: usize,
+    },
+    /// Loans one default value of a publisher in a service for single values.
+    Loan {
+        /// The publisher.
+        of: usize,
+    },
+    /// Loans unwritten values of a publisher in a service for slices.
+    LoanSlice {
+        /// The publisher.
+        of: usize,
+        /// How many elements.
+        len: usize,
+    },
+    /// Writes one cell of an unwritten loan.
+    WriteCell {
+        /// The loan.
+        of: usize,
+        /// The cell, below the loan's length.
+        at: usize,
+        /// What is written.
+        value: T,
+    },
+    /// Writes every cell of an unwritten loan, which is written from then on.
+    WriteAll {
+        /// The loan.
+        of: usize,
+        /// What is written.
+        value: T,
+    },
+    /// Takes an unwritten loan as written, where it has no unwritten cell.
+    AssumeInit {
+        /// The loan.
+        of: usize,
+    },
+    /// Writes the user header of a loan.
+    WriteHeader {
+        /// The loan.
+        of: usize,
+        /// What is written.
+        value: U,
+    },
+    /// Changes one value of a written loan.
+    SetPayload {
+        /// The loan.
+        of: usize,
+        /// The cell, below the loan's length.
+        at: usize,
+        /// What is written.
+        value: T,
+    },
+    /// Sends a written loan whose publisher doesn't wait for a receiver.
+    Send {
+        /// The loan.
+        of: usize,
+    },
+    /// Loans a value of a publisher in a service for single values, writes it and sends it.
+    SendCopy {
+        /// The publisher.
+        of: usize,
+        /// What is sent.
+        value: T,
+    },
+    /// Gives a loan back unsent.
+    Discard {
+        /// The loan.
+        of: usize,
+    },
+    /// Tries a blocked send again.
+    Retry {
+        /// The blocked send.
+        of: usize,
+        /// The time since the send was blocked, of which the backpressure handler is told.
+        elapsed: Duration,
+    },
+    /// Lets a blocked send go on past the receiver that it waits for.
+    GiveUp {
+        /// The blocked send.
+        of: usize,
+    },
+    /// Updates the connections of a port.
+    Update {
+        /// The port.
+        of: usize,
+    },
+    /// Receives a sample.
+    Receive {
+        /// The subscriber.
+        of: usize,
+    },
+    /// Asks whether any sample waits.
+    HasSamples {
+        /// The subscriber.
+        of: usize,
+    },
+    /// Reads a value of a sample, or a cell of a loan.
+    Read {
+        /// The sample or loan.
+        of: usize,
+        /// The element, below the length.
+        at: usize,
+    },
+    /// Reads the header of a sample or a loan.
+    ReadHeader {
+        /// The sample or loan.
+        of: usize,
+    },
+    /// Reads the user header of a sample or a loan.
+    ReadUserHeader {
+        /// The sample or loan.
+        of: usize,
+    },
+    /// Releases a sample.
+    Release {
+        /// The sample.
+        of: usize,
+    },
+    /// Closes a port.
+    Close {
+        /// The port.
+        of: usize,
+    },
+}

@@ -1,0 +1,49 @@
+use iox2_store::{
+    ConnectionFailure, Header, LoanError, PublisherCreateError, ReceiveError, SendError, SubscriberCreateError,
+    UniquePublisherId, UniqueSubscriberId,
+};
+
+/// What a command of a run comes to. It is this project's own.
+#[derive(Debug, Clone, Copy, PartialEq, Eq)]
+pub enum Reply<T, U> {
+    /// The command was carried out, and has nothing to tell.
+    Done,
+    /// The command names nothing live of the wanted kind, and changed nothing.
+    Skipped,
+    /// A publisher was made, with this id.
+    PublisherMade(UniquePublisherId),
+    /// No publisher was made.
+    PublisherRefused(PublisherCreateError),
+    /// A subscriber was made, with this id.
+    SubscriberMade(UniqueSubscriberId),
+    /// No subscriber was made.
+    SubscriberRefused(SubscriberCreateError),
+    /// A loan was granted.
+    Loaned,
+    /// No loan was granted.
+    LoanRefused(LoanError),
+    /// A cell is unwritten, and the loan stays as it was.
+    Unwritten,
+    /// The message was sent, and so many receivers took it.
+    Delivered(usize),
+    /// The send waits for a receiver.
+    Blocked,
+    /// The send failed.
+    SendRefused(SendError),
+    /// The update failed.
+    UpdateRefused(ConnectionFailure),
+    /// A sample of this publisher was received.
+    Sample(UniquePublisherId),
+    /// No sample waits.
+    NoSample,
+    /// The receive failed.
+    ReceiveRefused(ReceiveError),
+    /// Whether any sample waits.
+    Has(bool),
+    /// The value that was read; nothing only for an unwritten cell of an unwritten loan.
+    Cell(Option<T>),
+    /// The header that was read.
+    Header(Header),
+    /// The user header that was read.
+    UserHeader(U),
+}

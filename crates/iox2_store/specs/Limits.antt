@@ -1,0 +1,37 @@
+-- The limits that a service's configuration sets. All are mathematical values, which needn't fit a machine word.
+use Rattle.std.specs.Prelude.{ℕ, Bool, ◌+◌, ◌-◌, ◌*◌, ◌^◌, max, nat_lt}
+use Rattle.iox2_store.specs.declared.service_config.ServiceConfig.{ServiceConfig}
+
+-- A subscriber's buffer holds at most as many messages as the service allows, and at least one.
+abbrev pub buffer_limit : ServiceConfig → ℕ
+buffer_limit c = max 1 c.subscriber_max_buffer_size
+
+-- A subscriber keeps at least as many departed publishers as it may borrow messages of one.
+-- (iceoryx2: `port/subscriber.rs`, `Subscriber::new`, which raises the setting and warns.)
+abbrev pub expired_limit : ServiceConfig → ℕ
+expired_limit c = max c.subscriber_expired_connection_buffer c.subscriber_max_borrowed_samples
+
+-- With so many slots a publisher with that many loans never runs out of them.
+abbrev pub worst_case : ServiceConfig → (loans : ℕ) → ℕ
+worst_case c loans = c.max_subscribers * (buffer_limit c + c.subscriber_max_borrowed_samples) + c.history_size + loans
+
+-- A counter of ports or messages ends here: this number is never given out.
+abbrev pub last_number : ℕ
+last_number = 2 ^ 128 - 1
+
+-- A publisher makes at most so many segments in its life.
+-- (iceoryx2: `port/details/data_segment.rs`, `max_number_of_segments`.)
+abbrev pub segment_limit : ℕ
+segment_limit = 255
+
+-- Warnings past the last so many are forgotten.
+abbrev pub warning_limit : ℕ
+warning_limit = 32
+
+-- The number fits a machine word (`usize`).
+abbrev pub fits : ℕ → Bool
+fits n = nat_lt n (2 ^ 64)
+
+-- That many slots of that many elements each fit a machine word.
+abbrev pub segment_fits : ServiceConfig → (slots len : ℕ) → Bool
+segment_fits c slots len = fits (slots * len * c.units_per_element)

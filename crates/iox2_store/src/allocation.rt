@@ -1,0 +1,26 @@
+//! How the memory for a publisher's messages is laid out and grows.
+
+/// How a publisher's memory grows where a loan finds no room.
+///
+/// iceoryx2's `iceoryx2_cal::shm_allocator::AllocationStrategy`.
+#[derive(Debug, Clone, Copy, PartialEq, Eq)]
+pub enum AllocationStrategy {
+    /// It doesn't grow: such a loan is refused.
+    Static,
+    /// By a segment with room for slices of the length that is asked for, or of the length that
+    /// fits so far if that is longer.
+    BestFit,
+    /// As `BestFit`, with that length rounded up to a power of two.
+    PowerOfTwo,
+}
+
+/// Whether a publisher's memory can grow.
+///
+/// iceoryx2's `port::DataSegmentType` (`src/port/details/data_segment.rs`).
+#[derive(Debug, Clone, Copy, PartialEq, Eq)]
+pub enum DataSegmentType {
+    /// It can: a loan that finds no room may get a new segment.
+    Dynamic,
+    /// It is one segment, made with the publisher.
+    Static,
+}

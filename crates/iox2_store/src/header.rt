@@ -1,0 +1,41 @@
+ghost use Rattle.std.specs.Prelude.{◌≡◌};
+
+use crate::ids::{UniqueNodeId, UniquePublisherId};
+
+/// What travels with each message beside its payload: where it comes from and how long it is.
+///
+/// iceoryx2's `service::header::publish_subscribe::Header`
+/// (`src/service/header/publish_subscribe.rs`).
+#[derive(Debug, Clone, Copy, PartialEq, Eq)]
+pub struct Header {
+    /// The node of the publisher.
+    pub node_id: UniqueNodeId,
+    /// The publisher that lent the message.
+    pub publisher_id: UniquePublisherId,
+    /// How many elements the payload has: 1 for a single value, the length of a slice, and for a
+    /// custom payload its number of bytes over those of one element.
+    pub number_of_elements: u64,
+}
+
+impl Header {
+    /// The node of the publisher.
+    pub fn node_id(&self) -> UniqueNodeId
+        ensures { result ≡ self.now.node_id }
+    {
+        self.node_id
+    }
+
+    /// The publisher that lent the message.
+    pub fn publisher_id(&self) -> UniquePublisherId
+        ensures { result ≡ self.now.publisher_id }
+    {
+        self.publisher_id
+    }
+
+    /// How many elements the payload has, as the field of this name says.
+    pub fn number_of_elements(&self) -> u64
+        ensures { result ≡ self.now.number_of_elements }
+    {
+        self.number_of_elements
+    }
+}

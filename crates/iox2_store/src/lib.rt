@@ -1,0 +1,30 @@
+//! The plain types of publish-subscribe delivery: ids, headers, settings, answers of handlers,
+//! errors and warnings.
+#![tactic(auto)]
+
+mod allocation;
+mod backpressure;
+mod degradation;
+mod errors;
+mod header;
+mod ids;
+mod key;
+mod service_config;
+#[cfg(test)]
+mod tests;
+mod warning;
+
+pub use allocation::{AllocationStrategy, DataSegmentType};
+pub use backpressure::{
+    BackpressureAction, BackpressureInfo, BackpressureStrategy, BackpressureToReceiverAction,
+};
+pub use degradation::{DegradationAction, DegradationCause, DegradationInfo};
+pub use errors::{
+    ConnectionFailure, DomainCreateError, LoanError, PublisherCreateError, ReceiveError, SendError,
+    SharedMemoryOpenError, SubscriberCreateError, ZeroCopyCreationError,
+};
+pub use header::Header;
+pub use ids::{UniqueNodeId, UniquePublisherId, UniqueSubscriberId};
+pub use key::Key;
+pub use service_config::{ServiceConfig, TypeVariant};
+pub use warning::Warning;

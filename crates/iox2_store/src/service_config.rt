@@ -1,0 +1,56 @@
+use crate::allocation::AllocationStrategy;
+use crate::backpressure::BackpressureStrategy;
+
+/// What the payload of each message is.
+///
+/// iceoryx2's `service::static_config::message_type_details::TypeVariant`.
+#[derive(Debug, Clone, Copy, PartialEq, Eq)]
+pub enum TypeVariant {
+    /// One value.
+    FixedSize,
+    /// A slice, whose length each loan sets.
+    Dynamic,
+}
+
+/// The settings of a domain: the limits that all of its ports share, and what a publisher gets
+/// where its factory sets nothing else.
+///
+/// This library's own. Every number may be anything that its type holds; where numbers ask for
+/// more memory than there can be, it is the creation of a port that is refused.
+#[derive(Debug, Clone, Copy, PartialEq, Eq)]
+pub struct ServiceConfig {
+    /// Names the domain. Its handles carry this number, so two domains need two numbers if their
+    /// handles are to be told apart.
+    pub service_id: u128,
+    /// The number of the node that the header of each message names.
+    pub node_id: u128,
+    /// What the payload of each message is.
+    pub variant: TypeVariant,
+    /// How many cells one element takes: 1 for values and slices, and for custom payloads the
+    /// size of an element in bytes.
+    pub units_per_element: usize,
+    /// How many publishers may be open at a time.
+    pub max_publishers: usize,
+    /// How many subscribers there may be at a time. A closed one counts until its last sample is
+    /// released.
+    pub max_subscribers: usize,
+    /// How many messages of one publisher may wait for one subscriber. A subscriber may ask for
+    /// less. Here 0 counts as 1.
+    pub subscriber_max_buffer_size: usize,
+    /// How many samples of one publisher a subscriber may hold that it hasn't released.
+    pub subscriber_max_borrowed_samples: usize,
+    /// How many of its last messages a publisher keeps for subscribers that connect later.
+    pub history_size: usize,
+    /// Whether a message that finds a full buffer pushes the oldest waiting one out. If not, the
+    /// publisher's handler or strategy decides.
+    pub enable_safe_overflow: bool,
+    /// How many connections to departed publishers a subscriber keeps while something waits or is
+    /// borrowed there. A number below `subscriber_max_borrowed_samples` counts as that one.
+    pub subscriber_expired_connection_buffer: usize,
+    /// How many loans of a publisher may be out at a time, where its factory sets no number.
+    pub publisher_max_loaned_samples: usize,
+    /// What a publisher does at a full buffer, where its factory sets no strategy.
+    pub backpressure_strategy: BackpressureStrategy,
+    /// How a publisher's memory grows, where its factory sets no strategy.
+    pub publisher_allocation_strategy: AllocationStrategy,
+}
