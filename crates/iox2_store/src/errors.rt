@@ -5,8 +5,8 @@
 /// iceoryx2's `port::LoanError` (`src/port/mod.rs`).
 #[derive(Debug, Clone, Copy, PartialEq, Eq, Hash)]
 pub enum LoanError {
-    /// Every slot that could hold the message is taken, or a publisher whose memory grows has made
-    /// all the segments that it may make.
+    /// Every slot that could hold the message is taken, or a publisher whose memory grows would need
+    /// one segment more than it may make.
     OutOfMemory,
     /// As many loans are out as the publisher may have at a time.
     ExceedsMaxLoans,
