@@ -4,3 +4,4 @@ pub mod Puts
 pub mod NumberLemmas
 pub mod PlaceLemmas
 pub mod MailboxLemmas
+pub mod Enough

@@ -1,5 +1,5 @@
 -- A function changed at one argument.
-use Rattle.std.proofs.Common.{◌≡◌, ℕ, Bool, true, false, cond, refl, sym, ap, subst, eqb, Option, None, Some}
+use Rattle.std.proofs.Common.{◌≡◌, ℕ, true, false, cond, refl, sym, subst, eqb, Option, None, Some}
 use Rattle.std.specs.Option.{option_map}
 use Rattle.std.proofs.lemmas.Bool.{eqb-true, eq-eqb}
 use Rattle.std.proofs.lemmas.Option.{none-some, same_Some}
