@@ -5,3 +5,10 @@ pub mod NumberLemmas
 pub mod PlaceLemmas
 pub mod MailboxLemmas
 pub mod Enough
+pub mod Walks
+pub mod SenderSides
+pub mod PublisherUpdates
+pub mod ReleaseLaws
+pub mod ReceiverSides
+pub mod SubscriberUpdates
+pub mod ReceiveLaws

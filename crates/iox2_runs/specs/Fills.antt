@@ -8,7 +8,7 @@ use Rattle.iox2_store.specs.Records.{Publisher}
 use Rattle.iox2_store.specs.State.{State, Messages, fresh, no_messages, held}
 use Rattle.iox2_store.specs.declared.service_config.ServiceConfig.{ServiceConfig}
 use Rattle.iox2_runs.specs.Outcomes.{Event}
-use Rattle.iox2_runs.specs.Runs.{Run, ample_memory}
+use Rattle.iox2_runs.specs.Runs.{Run, ample_memory, any_defaults}
 use Rattle.iox2_runs.specs.declared.command.Command.{Command}
 use Rattle.iox2_runs.specs.declared.reply.Reply.{Reply}
 use Rattle.iox2_runs.specs.declared.reply.Reply.TheVariants.{Skipped, PublisherRefused, SubscriberRefused, LoanRefused, SendRefused, UpdateRefused, ReceiveRefused}
@@ -28,7 +28,7 @@ is_granted _ = true
 -- holds the worst case for so many loans.
 abbrev pub Fills : {T U : Type 0} → ServiceConfig → (loans : ℕ) → List (Command T U) → Type 0
 Fills {T} {U} c loans commands =
-    (default_value : T) (default_header : U) (replies : List (Reply T U)) (events : List (Event T U)) (m : Messages T U) (s : State T U)
-    → Run ample_memory default_value default_header no_messages (fresh c) commands replies events m s
+    (replies : List (Reply T U)) (events : List (Event T U)) (m : Messages T U) (s : State T U)
+    → Run ample_memory any_defaults no_messages (fresh c) commands replies events m s
     → (list_all is_granted replies ≡ true)
       × ((p : ℕ) × (x : Publisher) × (s.publishers p ≡ Some x) × (size (held s p x) ≡ worst_case c loans))

@@ -15,18 +15,33 @@ fixed_handlers = record { may_refuse_memory = Unit {0}; backpressure_answers = �
 abbrev pub ample_memory : Environment
 ample_memory = record { may_refuse_memory = ⊥; backpressure_answers = λ port info action. ⊥; degradation_answers = λ port cause info action. ⊥ }
 
+-- What a payload type and a user header type take for a default value.
+pub record Defaults (T U : Type 0) : Type 1 where
+  pub IsDefaultValue : T → Type 0
+  pub IsDefaultHeader : U → Type 0
+
+-- Every value counts as a default value.
+abbrev pub any_defaults : {T U : Type 0} → Defaults T U
+any_defaults = record { IsDefaultValue = λ value. Unit {0}; IsDefaultHeader = λ header. Unit {0} }
+
+-- These alone are the default values.
+abbrev pub only_defaults : {T U : Type 0} → (default_value : T) → (default_header : U) → Defaults T U
+only_defaults default_value default_header = record { IsDefaultValue = λ value. value ≡ default_value; IsDefaultHeader = λ header. header ≡ default_header }
+
 -- These commands get these replies, one step after another, with these events, and the messages and the state end so.
-abbrev pub RunFrom : {T U : Type 0} → Environment → (default_value : T) → (default_header : U) → Messages T U → State T U → List Handle → List (Command T U) → List (Reply T U) → List (Event T U) → Messages T U → State T U → Type 0
-RunFrom environment default_value default_header m s handles [] [] [] m' s' = (m' ≡ m) × (s' ≡ s)
-RunFrom {T} {U} environment default_value default_header m s handles (command ∷ commands) (reply ∷ replies) (event ∷ events) m' s' =
-    (o : Outcome T U) × Step environment default_value default_header m s handles command o × (o.reply ≡ reply) × (o.event ≡ event)
-    × RunFrom environment default_value default_header (messages_after o.event m) o.state (handles ++ o.handle ∷ []) commands replies events m' s'
-RunFrom environment default_value default_header m s handles _ _ _ m' s' = ⊥
+-- Where a step needs a default value, it has some.
+abbrev pub RunFrom : {T U : Type 0} → Environment → Defaults T U → Messages T U → State T U → List Handle → List (Command T U) → List (Reply T U) → List (Event T U) → Messages T U → State T U → Type 0
+RunFrom environment defaults m s handles [] [] [] m' s' = (m' ≡ m) × (s' ≡ s)
+RunFrom {T} {U} environment defaults m s handles (command ∷ commands) (reply ∷ replies) (event ∷ events) m' s' =
+    (default_value : T) × (default_header : U) × defaults.IsDefaultValue default_value × defaults.IsDefaultHeader default_header
+    × (o : Outcome T U) × Step environment default_value default_header m s handles command o × (o.reply ≡ reply) × (o.event ≡ event)
+    × RunFrom environment defaults (messages_after o.event m) o.state (handles ++ o.handle ∷ []) commands replies events m' s'
+RunFrom environment defaults m s handles _ _ _ m' s' = ⊥
 
 -- A run begins with no handles: its commands name only what it made itself.
-abbrev pub Run : {T U : Type 0} → Environment → (default_value : T) → (default_header : U) → Messages T U → State T U → List (Command T U) → List (Reply T U) → List (Event T U) → Messages T U → State T U → Type 0
-Run environment default_value default_header m s commands replies events m' s' =
-    RunFrom environment default_value default_header m s [] commands replies events m' s'
+abbrev pub Run : {T U : Type 0} → Environment → Defaults T U → Messages T U → State T U → List (Command T U) → List (Reply T U) → List (Event T U) → Messages T U → State T U → Type 0
+Run environment defaults m s commands replies events m' s' =
+    RunFrom environment defaults m s [] commands replies events m' s'
 
 -- The messages that p sent, in the order of sending.
 abbrev pub sent : {T U : Type 0} → (p : ℕ) → List (Event T U) → List ℕ
