@@ -12,3 +12,6 @@ pub mod ReleaseLaws
 pub mod ReceiverSides
 pub mod SubscriberUpdates
 pub mod ReceiveLaws
+pub mod PortChanges
+pub mod PortLaws
+pub mod CloseLaws
