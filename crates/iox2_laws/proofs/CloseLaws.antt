@@ -20,6 +20,7 @@ use Rattle.iox2_store.specs.WellFormed.{IsWellFormed}
 use Rattle.iox2_laws.specs.Laws.{Advances}
 use Rattle.iox2_laws.proofs.Puts.{put_at-same, put_at-other, found_put, found_removed, found_mapped}
 use Rattle.iox2_laws.proofs.NumberLemmas.{absent_from}
+use Rattle.iox2_laws.proofs.FilterLemmas.{contains_in_filter, contains-filter, IsOnce-filter, length-filter_le}
 use Rattle.iox2_laws.proofs.PlaceLemmas.{occupant-vacated, vacated_keeps, length-vacated, occupant-places_of, places_of_keeps, length-places_of}
 use Rattle.iox2_laws.proofs.PlaceLemmas.{injective_places_of}
 use Rattle.iox2_laws.proofs.MailboxLemmas.{has_numbers-borrows, has_numbers_dropped, IsWithin-dropped, contains_in_dropped}
@@ -27,53 +28,6 @@ use Rattle.iox2_laws.proofs.ReleaseLaws.{freed_if_unused_keeps, freed_if_unused_
 use Rattle.iox2_laws.proofs.PortChanges.{changed, places_agree_by, place_of_publisher, place_of_subscriber, publisher_kept, subscriber_kept, loan_kept}
 use Rattle.iox2_laws.proofs.PortChanges.{publishers_due_keeps, subscribers_due_keeps}
 use Rattle.iox2_laws.proofs.PortLaws.{advances_trans}
-
--- ---- lists that are filtered
-
--- What is left by a filter stood there before, and passes.
-pub contains_in_filter : (test : ℕ → Bool) (xs : List ℕ) (n : ℕ) → contains (filter test xs) n ≡ true → (contains xs n ≡ true) × (test n ≡ true)
-contains_in_filter test [] n h = absurd (true≢false (sym h))
-contains_in_filter test (x ∷ xs) n h =
-    elim (test x) as (λ b. test x ≡ b → contains (cond b (x ∷ filter test xs) (filter test xs)) n ≡ true → ((eqb x n || contains xs n) ≡ true) × (test n ≡ true)) [
-      | true ↦ λ passes h. ⊎_elim
-          (λ same. (or_left (eqb x n) (contains xs n) same, ap test (sym (eqb-true x n same)) ∙ passes))
-          (λ r. (or_right (eqb x n) (contains xs n) (contains_in_filter test xs n r).0, (contains_in_filter test xs n r).1))
-          (or_cases (eqb x n) (contains (filter test xs) n) h)
-      | false ↦ λ _ h. (or_right (eqb x n) (contains xs n) (contains_in_filter test xs n h).0, (contains_in_filter test xs n h).1)
-    ] refl h
-
--- What passes a filter is left.
-pub filter_keeps : (test : ℕ → Bool) (xs : List ℕ) (n : ℕ) → contains xs n ≡ true → test n ≡ true → contains (filter test xs) n ≡ true
-filter_keeps test [] n h passes = h
-filter_keeps test (x ∷ xs) n h passes =
-    elim (test x) as (λ b. test x ≡ b → contains (cond b (x ∷ filter test xs) (filter test xs)) n ≡ true) [
-      | true ↦ λ _. ⊎_elim
-          (λ same. or_left (eqb x n) (contains (filter test xs) n) same)
-          (λ r. or_right (eqb x n) (contains (filter test xs) n) (filter_keeps test xs n r passes))
-          (or_cases (eqb x n) (contains xs n) h)
-      | false ↦ λ fails. ⊎_elim
-          (λ same. absurd (true≢false (sym passes ∙ ap test (sym (eqb-true x n same)) ∙ fails)))
-          (λ r. filter_keeps test xs n r passes)
-          (or_cases (eqb x n) (contains xs n) h)
-    ] refl
-
--- A filter makes no list longer.
-pub length-filter_le : (test : ℕ → Bool) (xs : List ℕ) → length (filter test xs) ≤ length xs
-length-filter_le test [] = omega arith
-length-filter_le test (x ∷ xs) =
-    elim (test x) as (λ b. length (cond b (x ∷ filter test xs) (filter test xs)) ≤ length (x ∷ xs)) [
-      | true ↦ omega (arith, length-filter_le test xs)
-      | false ↦ omega (arith, length-filter_le test xs)
-    ]
-
--- A filter makes no number stand twice.
-pub IsOnce-filter : (test : ℕ → Bool) (xs : List ℕ) → IsOnce xs → IsOnce (filter test xs)
-IsOnce-filter test [] o = tt
-IsOnce-filter test (x ∷ xs) o =
-    elim (test x) as (λ b. IsOnce (cond b (x ∷ filter test xs) (filter test xs))) [
-      | true ↦ (absent_from (filter test xs) x (λ h. true≢false (sym (contains_in_filter test xs x h).0 ∙ o.0)), IsOnce-filter test xs o.1)
-      | false ↦ IsOnce-filter test xs o.1
-    ]
 
 -- ---- mailboxes that lose what waits
 
@@ -110,7 +64,7 @@ connected_by_borrows o box b e h = e ∙ or_right (is_some o) (has_numbers box) 
 receiver_end_left : (test : ℕ → Bool) (expired : List ℕ) (ends : List (Option ℕ)) (p : ℕ) → test p ≡ true → (contains expired p ≡ true) ⊎ LeadsTo ends p
   → (contains (filter test expired) p ≡ true) ⊎ LeadsTo (places_of test ends) p
 receiver_end_left test expired ends p passes h =
-    ⊎_elim (λ l. inl (filter_keeps test expired p l passes)) (λ r. inr (r.0, places_of_keeps test ends r.0 p r.1 passes)) h
+    ⊎_elim (λ l. inl (contains-filter test expired p l passes)) (λ r. inr (r.0, places_of_keeps test ends r.0 p r.1 passes)) h
 
 -- No publisher is there that wasn't there before.
 abbrev pub FewerPublishers : (f f' : ℕ → Option Publisher) → Type 0

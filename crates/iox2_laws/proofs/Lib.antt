@@ -8,6 +8,7 @@ pub mod Enough
 pub mod Walks
 pub mod SenderSides
 pub mod PublisherUpdates
+pub mod FilterLemmas
 pub mod ReleaseLaws
 pub mod ReceiverSides
 pub mod SubscriberUpdates

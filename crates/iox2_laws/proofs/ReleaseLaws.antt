@@ -6,6 +6,8 @@ use Rattle.std.proofs.lemmas.Bool.{true≢false, or_left, or_right, or_cases, eq
 use Rattle.std.proofs.lemmas.Option.{none-some}
 use Rattle.iox2_laws.proofs.Puts.{put_at-other, at_each, found_removed, found_mapped}
 use Rattle.iox2_laws.proofs.NumberLemmas.{contains_in_append, contains_left, contains_right, absent_from, size_le, contains_in_flat_map, contains-flat_map}
+use Rattle.iox2_laws.proofs.PortChanges.{publishers_due_keeps}
+use Rattle.iox2_laws.proofs.FilterLemmas.{contains_in_filter, contains-filter, IsOnce-filter, length-filter_le, passes_all}
 use Rattle.iox2_laws.proofs.PlaceLemmas.{occupant-vacated, vacated_keeps, length-vacated, occupant-places_of, places_of_keeps, length-places_of, contains-occupants, injective_places_of}
 use Rattle.iox2_laws.proofs.MailboxLemmas.{has_numbers-borrows, IsWithin-released, contains_in_released, has_borrows_before_release, has_numbers_before_release}
 use Rattle.iox2_laws.specs.Laws.{Advances}
@@ -42,67 +44,7 @@ held_shrinks loans history ids f g each n h =
         contains_right (loans ++ history) (flat_map g ids) n (contains-flat_map g ids at.0 n at.1 (each at.0 n at.2)))
       (contains_in_append (loans ++ history) (flat_map f ids) n h)
 
--- ---- lists of which some elements stay
-
-pub contains_in_filter : (test : ℕ → Bool) (ns : List ℕ) (n : ℕ) → contains (filter test ns) n ≡ true → (contains ns n ≡ true) × (test n ≡ true)
-contains_in_filter test [] n h = absurd (true≢false (sym h))
-contains_in_filter test (k ∷ ns) n h =
-    elim (test k) as (λ b. test k ≡ b → contains (cond b (k ∷ filter test ns) (filter test ns)) n ≡ true → (contains (k ∷ ns) n ≡ true) × (test n ≡ true)) [
-      | true ↦ λ e h. ⊎_elim
-          (λ kn. (or_left (eqb k n) (contains ns n) kn, ap test (sym (eqb-true k n kn)) ∙ e))
-          (λ r. let old : (contains ns n ≡ true) × (test n ≡ true) = contains_in_filter test ns n r in (or_right (eqb k n) (contains ns n) old.0, old.1))
-          (or_cases (eqb k n) (contains (filter test ns) n) h)
-      | false ↦ λ _ r. let old : (contains ns n ≡ true) × (test n ≡ true) = contains_in_filter test ns n r in (or_right (eqb k n) (contains ns n) old.0, old.1)
-    ] refl h
-
-pub contains-filter : (test : ℕ → Bool) (ns : List ℕ) (n : ℕ) → contains ns n ≡ true → test n ≡ true → contains (filter test ns) n ≡ true
-contains-filter test [] n h passes = h
-contains-filter test (k ∷ ns) n h passes =
-    elim (test k) as (λ b. test k ≡ b → contains (cond b (k ∷ filter test ns) (filter test ns)) n ≡ true) [
-      | true ↦ λ _. ⊎_elim
-          (λ kn. or_left (eqb k n) (contains (filter test ns) n) kn)
-          (λ r. or_right (eqb k n) (contains (filter test ns) n) (contains-filter test ns n r passes))
-          (or_cases (eqb k n) (contains ns n) h)
-      | false ↦ λ fails. ⊎_elim
-          (λ kn. absurd (true≢false (sym passes ∙ ap test (sym (eqb-true k n kn)) ∙ fails)))
-          (λ r. contains-filter test ns n r passes)
-          (or_cases (eqb k n) (contains ns n) h)
-    ] refl
-
-pub IsOnce-filter : (test : ℕ → Bool) (ns : List ℕ) → IsOnce ns → IsOnce (filter test ns)
-IsOnce-filter test [] o = tt
-IsOnce-filter test (k ∷ ns) o =
-    elim (test k) as (λ b. IsOnce (cond b (k ∷ filter test ns) (filter test ns))) [
-      | true ↦ (absent_from (filter test ns) k (λ h. true≢false (sym (contains_in_filter test ns k h).0 ∙ o.0)), IsOnce-filter test ns o.1)
-      | false ↦ IsOnce-filter test ns o.1
-    ]
-
-pub length-filter_le : (test : ℕ → Bool) (ns : List ℕ) → length (filter test ns) ≤ length ns
-length-filter_le test [] = omega arith
-length-filter_le test (k ∷ ns) =
-    elim (test k) as (λ b. length (cond b (k ∷ filter test ns) (filter test ns)) ≤ suc (length ns)) [
-      | true ↦ omega (arith, length-filter_le test ns)
-      | false ↦ omega (arith, length-filter_le test ns)
-    ]
-
--- A test that each number of a list passes is passed by this one.
-pub passes_all : (test : ℕ → Bool) (ns : List ℕ) (n : ℕ) → list_all test ns ≡ true → contains ns n ≡ true → test n ≡ true
-passes_all test [] n all h = absurd (true≢false (sym h))
-passes_all test (k ∷ ns) n all h =
-    let parts : (test k ≡ true) × (list_all test ns ≡ true) = and_parts (test k) (list_all test ns) all in
-    ⊎_elim (λ kn. ap test (sym (eqb-true k n kn)) ∙ parts.0) (λ r. passes_all test ns n parts.1 r) (or_cases (eqb k n) (contains ns n) h)
-
 -- ---- publishers that become due, and what is read of them
-
-place_still : (o : Option Publisher) → option_map {T = Publisher} {U = ℕ} (λ x. x.place) (option_map {T = Publisher} (λ x. record x { is_due = true }) o) ≡
-  option_map {T = Publisher} {U = ℕ} (λ x. x.place) o
-place_still None = refl
-place_still (Some x) = refl
-
-stands_still : (o : Option Publisher) (P : Type 0) (place : ℕ) → MatchOption o P (λ x. x.place ≡ place)
-  → MatchOption (option_map {T = Publisher} (λ x. record x { is_due = true }) o) P (λ x. x.place ≡ place)
-stands_still None P place h = h
-stands_still (Some x) P place h = h
 
 -- What stands where a departed publisher needs a message stands there with another such fact.
 pub stands_with : (o : Option Publisher) (P P' : Type 0) (Q : Publisher → Type 0) → MatchOption o P Q → (P → P') → MatchOption o P' Q
@@ -224,54 +166,6 @@ module _ {T U : Type 0} where
   }
 
   -- ---- every publisher becomes due
-
-  publisher_due : (s : State T U) (p : ℕ) (x : Publisher) → PublisherIsWellFormed s p x → PublisherIsWellFormed (publishers_due s) p (record x { is_due = true })
-  publisher_due s p x b = record {
-    is_known = b.is_known; loans_bound = b.loans_bound; loans_once = b.loans_once; loans_below = b.loans_below; loans_held = b.loans_held;
-    history_bound = b.history_bound; history_once = b.history_once; history_below = b.history_below;
-    ends_bound = b.ends_bound; ends_apart = b.ends_apart; ends_known = b.ends_known; ends_stand = b.ends_stand;
-    slots_bound = b.slots_bound; some_segment = b.some_segment; segments_bound = b.segments_bound;
-    blocked = λ c e. let old : BlockedIsWellFormed s p x c = b.blocked c e in record
-        { is_out = old.is_out; unheld = old.unheld; ends = old.ends; unserved = old.unserved };
-  }
-
-  -- Publishers that become due stay well-formed.
-  pub publishers_due_keeps : (s : State T U) → IsWellFormed s → IsWellFormed (publishers_due s)
-  publishers_due_keeps s w = record {
-    publisher_places = record {
-      bound = w.publisher_places.bound;
-      stands = λ id place e. w.publisher_places.stands id place (sym (place_still (s.publishers id)) ∙ e);
-      known = λ id place e. place_still (s.publishers id) ∙ w.publisher_places.known id place e;
-    };
-    subscriber_places = record { bound = w.subscriber_places.bound; stands = w.subscriber_places.stands; known = w.subscriber_places.known };
-    publishers = λ p x e. found_mapped {A = Publisher} (λ v. record v { is_due = true }) (s.publishers p) x (PublisherIsWellFormed (publishers_due s) p x) e
-        (λ v f g. subst (PublisherIsWellFormed (publishers_due s) p) (sym g) (publisher_due s p v (w.publishers p v f)));
-    subscribers = λ q y e.
-        let b : SubscriberIsWellFormed s q y = w.subscribers q y e in
-        record {
-          is_known = b.is_known; some_room = b.some_room; buffer_bound = b.buffer_bound;
-          ends_bound = b.ends_bound; ends_apart = b.ends_apart; ends_known = b.ends_known;
-          ends_stand = λ place p h. stands_still (s.publishers p) (has_numbers (s.mailboxes p q) ≡ true) place (b.ends_stand place p h);
-          expired_bound = b.expired_bound; expired_once = b.expired_once; expired_apart = b.expired_apart; expired_known = b.expired_known;
-          expired_gone = λ p h. ap (option_map {T = Publisher} (λ v. record v { is_due = true })) (b.expired_gone p h);
-          expired_kept = b.expired_kept;
-        };
-    mailboxes = λ p q.
-        let b : MailboxIsWellFormed s p q = w.mailboxes p q in
-        record {
-          within = b.within; room = b.room; below = b.below; known = b.known; receiver_end = b.receiver_end;
-          sender_end = λ x e h. found_mapped {A = Publisher} (λ v. record v { is_due = true }) (s.publishers p) x (LeadsTo x.ends q) e
-              (λ v f g. subst (λ (r : Publisher). LeadsTo r.ends q) (sym g) (b.sender_end v f h));
-        };
-    loans = λ n l e.
-        let b : LoanIsWellFormed s n l = w.loans n l e in
-        record {
-          below = b.below; known = b.known; origin = b.origin; cells = b.cells; complete = b.complete; unsent = b.unsent;
-          is_out = λ x e. found_mapped {A = Publisher} (λ v. record v { is_due = true }) (s.publishers l.publisher) x
-              ((contains x.loans n ≡ true) × (contains x.history n ≡ false)) e
-              (λ v f g. subst (λ (r : Publisher). (contains r.loans n ≡ true) × (contains r.history n ≡ false)) (sym g) (b.is_out v f));
-        };
-  }
 
   -- ---- a subscriber goes
 
