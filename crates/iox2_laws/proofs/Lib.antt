@@ -16,3 +16,7 @@ pub mod ReceiveLaws
 pub mod PortChanges
 pub mod PortLaws
 pub mod CloseLaws
+pub mod Altered
+pub mod LoanLaws
+pub mod DeliveryLaws
+pub mod SendLaws

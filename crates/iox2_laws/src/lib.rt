@@ -2,5 +2,7 @@
 #![tactic(auto)]
 
 mod laws;
+#[cfg(test)]
+mod tests;
 
 pub use laws::{fresh_is_well_formed, holds_at_most_worst_case, size_is_length};

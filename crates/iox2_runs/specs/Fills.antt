@@ -31,4 +31,4 @@ Fills {T} {U} c loans commands =
     (replies : List (Reply T U)) (events : List (Event T U)) (m : Messages T U) (s : State T U)
     → Run ample_memory any_defaults no_messages (fresh c) commands replies events m s
     → (list_all is_granted replies ≡ true)
-      × ((p : ℕ) × (x : Publisher) × (s.publishers p ≡ Some x) × (size (held s p x) ≡ worst_case c loans))
+    × ((p : ℕ) × (x : Publisher) × (s.publishers p ≡ Some x) × (size (held s p x) ≡ worst_case c loans))

@@ -37,5 +37,5 @@ StepsLift T U =
     → StoredStep (tested_environment may_refuse_memory backpressure degradation) default_value default_header old handles command o new
     → (m : Messages T U) (s : State T U) → Shows old m s
     → (m' : Messages T U) × (s' : State T U) × Shows new m' s'
-      × Step (tested_environment may_refuse_memory backpressure degradation) default_value default_header m s handles command o
-      × (m' ≡ messages_after o.event m) × (s' ≡ o.state)
+    × Step (tested_environment may_refuse_memory backpressure degradation) default_value default_header m s handles command o
+    × (m' ≡ messages_after o.event m) × (s' ≡ o.state)

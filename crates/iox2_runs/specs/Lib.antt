@@ -4,3 +4,5 @@ pub mod Runs
 pub mod Shows
 pub mod Fills
 pub mod Views
+pub mod Laws
+pub mod RunLaws

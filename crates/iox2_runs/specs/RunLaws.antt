@@ -58,9 +58,9 @@ abbrev pub ReadsGiveWhatWasSent : Type 0 → Type 0 → Type 0
 ReadsGiveWhatWasSent T U = OfEachRun T U (λ commands replies events.
     (i of p q n : ℕ) → of < i → slice_get events of ≡ Some (Message_received p q n) → IsUnreleased commands of i
     → (entry : Entry T U) × WasSent p n entry events
-      × ((at : ℕ) → slice_get commands i ≡ Some (Read of at) → slice_get replies i ≡ Some (option_map_or (λ value. Cell (Some value)) (slice_get entry.values at) Skipped))
-      × (slice_get commands i ≡ Some (ReadHeader of) → slice_get replies i ≡ Some (Header entry.header))
-      × (slice_get commands i ≡ Some (ReadUserHeader of) → slice_get replies i ≡ Some (UserHeader entry.user_header)))
+    × ((at : ℕ) → slice_get commands i ≡ Some (Read of at) → slice_get replies i ≡ Some (option_map_or (λ value. Cell (Some value)) (slice_get entry.values at) Skipped))
+    × (slice_get commands i ≡ Some (ReadHeader of) → slice_get replies i ≡ Some (Header entry.header))
+    × (slice_get commands i ≡ Some (ReadUserHeader of) → slice_get replies i ≡ Some (UserHeader entry.user_header)))
 
 -- ---- enough slots
 

@@ -47,5 +47,5 @@ pub record StoredStep {T U : Type 0} (environment : Environment) (default_value 
   pub step : Step environment default_value default_header old.entries old.state handles command o
   pub state : o.state ≡ new.state
   pub entries_kept : (n : ℕ) (entry : Entry T U) → new.entries n ≡ Some entry
-    → IsNewEntry o.event n entry ⊎ ((old.entries n ≡ Some entry) × ((entry' : Entry T U) → ¬ IsNewEntry o.event n entry'))
+      → IsNewEntry o.event n entry ⊎ ((old.entries n ≡ Some entry) × ((entry' : Entry T U) → ¬ IsNewEntry o.event n entry'))
   pub complete : KeepsEntries new

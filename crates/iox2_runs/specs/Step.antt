@@ -79,7 +79,7 @@ module _ {T U : Type 0} where
   blocked_at s handles of = elim (slice_get handles of) [
     | Some (Blocked_handle p n) ↦
         option_and_then {U = ℕ × BlockedSend} (λ x.
-          option_and_then {U = ℕ × BlockedSend} (λ b. cond (b.message == n) (Some (p, b)) None) x.blocked) (s.publishers p)
+        option_and_then {U = ℕ × BlockedSend} (λ b. cond (b.message == n) (Some (p, b)) None) x.blocked) (s.publishers p)
     | _ ↦ None
   ]
 
@@ -145,7 +145,9 @@ module _ {T U : Type 0} where
 -- What a command says of a publisher. In a service for single values there is nothing to say of its length.
 abbrev pub publisher_settings : TypeVariant → (loans : ℕ) → BackpressureStrategy → AllocationStrategy → (initial_max_slice_len : ℕ) → Option ℕ → DegradationAction → Option BackpressureAction → PublisherSettings
 publisher_settings variant loans strategy allocation len override_slots degradation backpressure = record {
-  max_loaned_samples = loans; backpressure_strategy = strategy; allocation_strategy = allocation;
+  max_loaned_samples = loans;
+  backpressure_strategy = strategy;
+  allocation_strategy = allocation;
   initial_max_slice_len = elim variant [ FixedSize ↦ 1 | Dynamic ↦ len ];
   asked_slots = override_slots;
   degradation_handler = Fixed degradation;
@@ -162,9 +164,9 @@ module _ {T U : Type 0} (environment : Environment) (default_value : T) (default
   abbrev Loans : (checks_length : Bool) → (len : ℕ) → Option (ℕ × Publisher) → Outcome T U → Type 0
   Loans checks_length len named o =
       IfLive o (if_single_units s named) (λ (publisher : ℕ × Publisher).
-        (s' : State T U) × (refusal : Option LoanError)
-        × GrantLoan environment default_header checks_length len s publisher.0 s' refusal
-        × (o ≡ after_loan s' s.next_message refusal))
+      (s' : State T U) × (refusal : Option LoanError)
+      × GrantLoan environment default_header checks_length len s publisher.0 s' refusal
+      × (o ≡ after_loan s' s.next_message refusal))
 
   -- A written loan is sent.
   abbrev SendsLoan : State T U → (n : ℕ) → Loan T U → Outcome T U → Type 0
@@ -185,9 +187,9 @@ module _ {T U : Type 0} (environment : Environment) (default_value : T) (default
   Step (LoanUninit of) o = Loans false 1 (if_fixed_size s (unblocked_at s handles of)) o
   Step (LoanDefault of) o =
       IfLive o (if_single_units s (if_fixed_size s (unblocked_at s handles of))) (λ publisher.
-        (s' : State T U) × (refusal : Option LoanError)
-        × GrantWrittenLoan environment default_value default_header false 1 s publisher.0 s' refusal
-        × (o ≡ after_loan s' s.next_message refusal))
+      (s' : State T U) × (refusal : Option LoanError)
+      × GrantWrittenLoan environment default_value default_header false 1 s publisher.0 s' refusal
+      × (o ≡ after_loan s' s.next_message refusal))
   Step (LoanSlice of len) o = Loans true len (if_dynamic s (unblocked_at s handles of)) o
   Step (WriteCell of at value) o =
       IfLive o (with_cell_at at (unwritten_at s handles of)) (λ loan. o ≡ done (with_loan s loan.0 (Some (with_cell loan.1 at value))))
@@ -195,7 +197,7 @@ module _ {T U : Type 0} (environment : Environment) (default_value : T) (default
       IfLive o (unwritten_at s handles of) (λ loan. o ≡ done (with_loan s loan.0 (Some (written loan.1 value))))
   Step (AssumeInit of) o =
       IfLive o (unwritten_at s handles of) (λ loan.
-        o ≡ cond (is_initialized loan.1) (done (initialized s loan.0 loan.1)) (replied Unwritten s))
+      o ≡ cond (is_initialized loan.1) (done (initialized s loan.0 loan.1)) (replied Unwritten s))
   Step (WriteHeader of value) o =
       IfLive o (loan_at s handles of) (λ loan. o ≡ done (with_loan s loan.0 (Some (record (loan.1) { user_header = value }))))
   Step (SetPayload of at value) o =
@@ -203,48 +205,48 @@ module _ {T U : Type 0} (environment : Environment) (default_value : T) (default
   Step (SendLoan of) o = IfLive o (sendable_at s handles of) (λ loan. SendsLoan s loan.0 loan.1 o)
   Step (SendCopy of value) o =
       IfLive o (if_single_units s (if_fixed_size s (unblocked_at s handles of))) (λ publisher.
-        (mid : State T U) × (refusal : Option LoanError)
-        × GrantWrittenLoan environment value default_header false 1 s publisher.0 mid refusal
-        × MatchOption refusal
-            (MatchOption (mid.loans s.next_message) ⊥ (λ l. SendsLoan mid s.next_message l o))
-            (λ e. o ≡ replied (SendRefused (NotLoaned e)) mid))
+      (mid : State T U) × (refusal : Option LoanError)
+      × GrantWrittenLoan environment value default_header false 1 s publisher.0 mid refusal
+      × MatchOption refusal
+      (MatchOption (mid.loans s.next_message) ⊥ (λ l. SendsLoan mid s.next_message l o))
+      (λ e. o ≡ replied (SendRefused (NotLoaned e)) mid))
   Step (Discard of) o = IfLive o (loan_at s handles of) (λ loan. o ≡ done (loan_discarded s loan.0 loan.1))
   Step (RetrySend of elapsed) o =
       IfLive o (blocked_at s handles of) (λ blocked.
-        (s' : State T U) × (result : SendResult) × Retry environment s blocked.0 blocked.1 elapsed s' result × (o ≡ after_retry s' result))
+      (s' : State T U) × (result : SendResult) × Retry environment s blocked.0 blocked.1 elapsed s' result × (o ≡ after_retry s' result))
   Step (GiveUpSend of) o =
       IfLive o (blocked_at s handles of) (λ blocked.
-        (s' : State T U) × (result : SendResult) × GiveUp environment s blocked.0 blocked.1 s' result × (o ≡ after_retry s' result))
+      (s' : State T U) × (result : SendResult) × GiveUp environment s blocked.0 blocked.1 s' result × (o ≡ after_retry s' result))
   Step (Update of) o =
       MatchOption (unblocked_at s handles of)
-        (IfLive o (subscriber_at s handles of) (λ subscriber.
-          (s' : State T U) × (failure : Option ConnectionFailure) × UpdateSubscriber environment s subscriber.0 s' failure × (o ≡ after_update s' failure)))
-        (λ publisher. (s' : State T U) × (failure : Option ConnectionFailure) × UpdatePublisher environment s publisher.0 s' failure × (o ≡ after_update s' failure))
+      (IfLive o (subscriber_at s handles of) (λ subscriber.
+      (s' : State T U) × (failure : Option ConnectionFailure) × UpdateSubscriber environment s subscriber.0 s' failure × (o ≡ after_update s' failure)))
+      (λ publisher. (s' : State T U) × (failure : Option ConnectionFailure) × UpdatePublisher environment s publisher.0 s' failure × (o ≡ after_update s' failure))
   Step (ReceiveSample of) o =
       IfLive o (if_single_units s (subscriber_at s handles of)) (λ subscriber.
-        (s' : State T U) × (result : ReceiveResult) × Receive environment s subscriber.0 s' result × (o ≡ after_receive s' subscriber.0 result))
+      (s' : State T U) × (result : ReceiveResult) × Receive environment s subscriber.0 s' result × (o ≡ after_receive s' subscriber.0 result))
   Step (AskForSamples of) o =
       IfLive o (subscriber_at s handles of) (λ subscriber.
-        (s' : State T U) × (failure : Option ConnectionFailure) × (has_samples : Bool)
-        × HasSamples environment s subscriber.0 s' failure has_samples
-        × (o ≡ after_question s' failure has_samples))
+      (s' : State T U) × (failure : Option ConnectionFailure) × (has_samples : Bool)
+      × HasSamples environment s subscriber.0 s' failure has_samples
+      × (o ≡ after_question s' failure has_samples))
   Step (Read of at) o =
       MatchOption (sample_at s handles of)
-        (IfLive o (with_cell_at at (loan_at s handles of)) (λ loan.
-          MatchOption (slice_get (loan.1).cells at) ⊥ (λ cell. o ≡ replied (Cell cell) s)))
-        (λ sample. MatchOption (messages sample.2) ⊥ (λ entry.
-          IfLive o (slice_get entry.values at) (λ value. o ≡ replied (Cell (Some value)) s)))
+      (IfLive o (with_cell_at at (loan_at s handles of)) (λ loan.
+      MatchOption (slice_get (loan.1).cells at) ⊥ (λ cell. o ≡ replied (Cell cell) s)))
+      (λ sample. MatchOption (messages sample.2) ⊥ (λ entry.
+      IfLive o (slice_get entry.values at) (λ value. o ≡ replied (Cell (Some value)) s)))
   Step (ReadHeader of) o =
       MatchOption (sample_at s handles of)
-        (IfLive o (loan_at s handles of) (λ loan. o ≡ replied (HeaderRead (loan.1).header) s))
-        (λ sample. MatchOption (messages sample.2) ⊥ (λ entry. o ≡ replied (HeaderRead entry.header) s))
+      (IfLive o (loan_at s handles of) (λ loan. o ≡ replied (HeaderRead (loan.1).header) s))
+      (λ sample. MatchOption (messages sample.2) ⊥ (λ entry. o ≡ replied (HeaderRead entry.header) s))
   Step (ReadUserHeader of) o =
       MatchOption (sample_at s handles of)
-        (IfLive o (loan_at s handles of) (λ loan. o ≡ replied (UserHeader (loan.1).user_header) s))
-        (λ sample. MatchOption (messages sample.2) ⊥ (λ entry. o ≡ replied (UserHeader entry.user_header) s))
+      (IfLive o (loan_at s handles of) (λ loan. o ≡ replied (UserHeader (loan.1).user_header) s))
+      (λ sample. MatchOption (messages sample.2) ⊥ (λ entry. o ≡ replied (UserHeader entry.user_header) s))
   Step (Release of) o =
       IfLive o (sample_at s handles of) (λ sample. o ≡ done (released s sample.0 sample.1 sample.2))
   Step (Close of) o =
       MatchOption (unblocked_at s handles of)
-        (IfLive o (subscriber_at s handles of) (λ subscriber. o ≡ done (subscriber_closed s subscriber.0 subscriber.1)))
-        (λ publisher. o ≡ done (publisher_closed s publisher.0 publisher.1))
+      (IfLive o (subscriber_at s handles of) (λ subscriber. o ≡ done (subscriber_closed s subscriber.0 subscriber.1)))
+      (λ publisher. o ≡ done (publisher_closed s publisher.0 publisher.1))

@@ -1,6 +1,6 @@
 use iox2_store::{
-    ConnectionFailure, Header, LoanError, PublisherCreateError, ReceiveError, SendError, SubscriberCreateError,
-    UniquePublisherId, UniqueSubscriberId,
+    ConnectionFailure, Header, LoanError, PublisherCreateError, ReceiveError, SendError,
+    SubscriberCreateError, UniquePublisherId, UniqueSubscriberId,
 };
 
 /// What a command of a run comes to. It is this project's own.
