@@ -20,13 +20,21 @@ absent_apart f i k a none some = ne_eqb i k (λ same. none-some a (sym none ∙ 
 
 -- two states with the same parts are the same
 pub same_state : {T U : Type 0} (a b : State T U)
-  → a.config ≡ b.config → a.next_port ≡ b.next_port → a.next_message ≡ b.next_message
-  → ((n : ℕ) → a.loans n ≡ b.loans n) → ((p : ℕ) → a.publishers p ≡ b.publishers p) → ((q : ℕ) → a.subscribers q ≡ b.subscribers q)
-  → ((p q : ℕ) → a.mailboxes p q ≡ b.mailboxes p q)
-  → a.publisher_places ≡ b.publisher_places → a.subscriber_places ≡ b.subscriber_places → a.warnings ≡ b.warnings → a ≡ b
+    → a.config ≡ b.config → a.next_port ≡ b.next_port → a.next_message ≡ b.next_message
+    → ((n : ℕ) → a.loans n ≡ b.loans n) → ((p : ℕ) → a.publishers p ≡ b.publishers p) → ((q : ℕ) → a.subscribers q ≡ b.subscribers q)
+    → ((p q : ℕ) → a.mailboxes p q ≡ b.mailboxes p q)
+    → a.publisher_places ≡ b.publisher_places → a.subscriber_places ≡ b.subscriber_places → a.warnings ≡ b.warnings → a ≡ b
 same_state a b e1 e2 e3 e4 e5 e6 e7 e8 e9 e10 = λ i. record {
-  config = e1 i; next_port = e2 i; next_message = e3 i; loans = λ n. e4 n i; publishers = λ p. e5 p i; subscribers = λ q. e6 q i;
-  mailboxes = λ p q. e7 p q i; publisher_places = e8 i; subscriber_places = e9 i; warnings = e10 i;
+  config = e1 i;
+  next_port = e2 i;
+  next_message = e3 i;
+  loans = λ n. e4 n i;
+  publishers = λ p. e5 p i;
+  subscribers = λ q. e6 q i;
+  mailboxes = λ p q. e7 p q i;
+  publisher_places = e8 i;
+  subscriber_places = e9 i;
+  warnings = e10 i;
 }
 
 -- a number of three lists stands in one of them
@@ -62,7 +70,7 @@ module _ {T U : Type 0} where
       (more : s.next_message ≤ next) where
     -- a mailbox stays well-formed where it and its publisher stay the same
     pub mailbox_moves : (p q : ℕ) → publishers p ≡ s.publishers p → mailboxes p q ≡ s.mailboxes p q → MailboxIsWellFormed s p q
-      → MailboxIsWellFormed (rewritten s publishers mailboxes loans next) p q
+        → MailboxIsWellFormed (rewritten s publishers mailboxes loans next) p q
     mailbox_moves p q same box w = record {
       within = subst (λ (m : Mailbox). IsWithin (buffer_limit s.config) (s.config).subscriber_max_borrowed_samples m) (sym box) w.within;
       room = λ y e. subst (λ (m : Mailbox). waiting_count m ≤ y.buffer) (sym box) (w.room y e);
@@ -75,29 +83,39 @@ module _ {T U : Type 0} where
     -- a loan stays well-formed where its publisher and that one's mailboxes stay the same
     pub loan_moves : (n : ℕ) (l : Loan T U) → publishers l.publisher ≡ s.publishers l.publisher → mailboxes l.publisher ≡ s.mailboxes l.publisher
         → LoanIsWellFormed s n l
-      → LoanIsWellFormed (rewritten s publishers mailboxes loans next) n l
+        → LoanIsWellFormed (rewritten s publishers mailboxes loans next) n l
     loan_moves n l same row w = record {
       below = omega (arith, w.below);
-      known = w.known; origin = w.origin; cells = w.cells; complete = w.complete;
+      known = w.known;
+      origin = w.origin;
+      cells = w.cells;
+      complete = w.complete;
       is_out = λ x e. w.is_out x (sym same ∙ e);
       unsent = λ q. ap (λ (m : ℕ → Mailbox). contains (numbers_in (m q)) n) row ∙ w.unsent q;
     }
 
     -- a publisher stays well-formed where its mailboxes stay the same and its loans stay its own
     pub publisher_moves : (p : ℕ) (x : Publisher) → mailboxes p ≡ s.mailboxes p
-      → ((n : ℕ) (l : Loan T U) → s.loans n ≡ Some l → l.publisher ≡ p → (l' : Loan T U) × (loans n ≡ Some l') × (l'.publisher ≡ p))
-      → ((n : ℕ) → n < s.next_message → s.loans n ≡ None → loans n ≡ None)
-      → PublisherIsWellFormed s p x → PublisherIsWellFormed (rewritten s publishers mailboxes loans next) p x
+        → ((n : ℕ) (l : Loan T U) → s.loans n ≡ Some l → l.publisher ≡ p → (l' : Loan T U) × (loans n ≡ Some l') × (l'.publisher ≡ p))
+        → ((n : ℕ) → n < s.next_message → s.loans n ≡ None → loans n ≡ None)
+        → PublisherIsWellFormed s p x → PublisherIsWellFormed (rewritten s publishers mailboxes loans next) p x
     publisher_moves p x row own none w = record {
-      is_known = w.is_known; loans_bound = w.loans_bound; loans_once = w.loans_once;
+      is_known = w.is_known;
+      loans_bound = w.loans_bound;
+      loans_once = w.loans_once;
       loans_below = λ n h. omega (arith, w.loans_below n h);
       loans_held = λ n h. ⊎_elim (λ held. inl (own n held.0 held.1 held.2)) (λ waits. inr waits) (w.loans_held n h);
-      history_bound = w.history_bound; history_once = w.history_once;
+      history_bound = w.history_bound;
+      history_once = w.history_once;
       history_below = λ n h. omega (arith, w.history_below n h);
-      ends_bound = w.ends_bound; ends_apart = w.ends_apart; ends_known = w.ends_known; ends_stand = w.ends_stand;
+      ends_bound = w.ends_bound;
+      ends_apart = w.ends_apart;
+      ends_known = w.ends_known;
+      ends_stand = w.ends_stand;
       slots_bound = λ static. subst (λ (m : ℕ → Mailbox). size (x.loans ++ x.history ++ flat_map (λ q. numbers_in (m q)) (occupants x.ends)) ≤ x.slots)
           (sym row) (w.slots_bound static);
-      some_segment = w.some_segment; segments_bound = w.segments_bound;
+      some_segment = w.some_segment;
+      segments_bound = w.segments_bound;
       blocked = λ b e. let v : BlockedIsWellFormed s p x b = w.blocked b e in record {
         is_out = v.is_out;
         unheld = none b.message (w.loans_below b.message v.is_out) v.unheld;
@@ -111,15 +129,15 @@ module _ {T U : Type 0} where
     place_alike : s.publishers p ≡ Some x → x'.place ≡ x.place → (i : ℕ) → publisher_place (altered s p x' boxes loans next) i ≡ publisher_place s i
     place_alike here place i =
         at_each s.publishers p (Some x') (λ j o. option_map {T = Publisher} {U = ℕ} (λ v. v.place) o ≡ publisher_place s j) i
-          (λ _. ap Some place ∙ sym (ap (option_map {T = Publisher} {U = ℕ} (λ v. v.place)) here))
-          (λ _. refl)
+        (λ _. ap Some place ∙ sym (ap (option_map {T = Publisher} {U = ℕ} (λ v. v.place)) here))
+        (λ _. refl)
 
     subscriber_end_stands : s.publishers p ≡ Some x → x'.place ≡ x.place → (place i q : ℕ)
-      → MatchOption (s.publishers i) (has_numbers (s.mailboxes i q) ≡ true) (λ (v : Publisher). v.place ≡ place)
-      → MatchOption (put_at s.publishers p (Some x') i) (has_numbers (put_at s.mailboxes p boxes i q) ≡ true) (λ (v : Publisher). v.place ≡ place)
+        → MatchOption (s.publishers i) (has_numbers (s.mailboxes i q) ≡ true) (λ (v : Publisher). v.place ≡ place)
+        → MatchOption (put_at s.publishers p (Some x') i) (has_numbers (put_at s.mailboxes p boxes i q) ≡ true) (λ (v : Publisher). v.place ≡ place)
     subscriber_end_stands here same place i q h =
         elim (eqb i p) as (λ b. eqb i p ≡ b → MatchOption (cond b (Some x') (s.publishers i)) (has_numbers (cond b boxes (s.mailboxes i) q) ≡ true)
-            (λ (v : Publisher). v.place ≡ place)) [
+        (λ (v : Publisher). v.place ≡ place)) [
           | true ↦ λ e. same ∙ subst (λ o. MatchOption o (has_numbers (s.mailboxes i q) ≡ true) (λ (v : Publisher). v.place ≡ place))
               (ap s.publishers (eqb-true i p e) ∙ here) h
           | false ↦ λ _. h
@@ -127,13 +145,13 @@ module _ {T U : Type 0} where
 
     -- what changes at one publisher keeps a state well-formed where that publisher, its mailboxes and its loans are so
     pub altered_keeps : IsWellFormed s → s.publishers p ≡ Some x → x'.place ≡ x.place → s.next_message ≤ next
-      → PublisherIsWellFormed (uniform s x' boxes loans next) p x'
-      → ((q : ℕ) → MailboxIsWellFormed (uniform s x' boxes loans next) p q)
-      → ((n : ℕ) (l : Loan T U) → loans n ≡ Some l → ((s.loans n ≡ Some l) × (eqb l.publisher p ≡ false))
-          ⊎ ((l.publisher ≡ p) × LoanIsWellFormed (uniform s x' boxes loans next) n l))
-      → ((n : ℕ) (l : Loan T U) → s.loans n ≡ Some l → eqb l.publisher p ≡ false → loans n ≡ Some l)
-      → ((n : ℕ) → n < s.next_message → s.loans n ≡ None → loans n ≡ None)
-      → IsWellFormed (altered s p x' boxes loans next)
+        → PublisherIsWellFormed (uniform s x' boxes loans next) p x'
+        → ((q : ℕ) → MailboxIsWellFormed (uniform s x' boxes loans next) p q)
+        → ((n : ℕ) (l : Loan T U) → loans n ≡ Some l → ((s.loans n ≡ Some l) × (eqb l.publisher p ≡ false))
+        ⊎ ((l.publisher ≡ p) × LoanIsWellFormed (uniform s x' boxes loans next) n l))
+        → ((n : ℕ) (l : Loan T U) → s.loans n ≡ Some l → eqb l.publisher p ≡ false → loans n ≡ Some l)
+        → ((n : ℕ) → n < s.next_message → s.loans n ≡ None → loans n ≡ None)
+        → IsWellFormed (altered s p x' boxes loans next)
     altered_keeps w here place more own row own_loans other_loans none = record {
       publisher_places = record {
         bound = (w.publisher_places).bound;
@@ -142,37 +160,44 @@ module _ {T U : Type 0} where
       };
       subscriber_places = w.subscriber_places;
       publishers = λ i v e. found_put s.publishers p x' (λ j u. PublisherIsWellFormed (altered s p x' boxes loans next) j u) i v e
-        (λ _. publisher_moves (uniform s x' boxes loans next) (put_at s.publishers p (Some x')) (put_at s.mailboxes p boxes) loans next (le_refl next) p x'
+          (λ _. publisher_moves (uniform s x' boxes loans next) (put_at s.publishers p (Some x')) (put_at s.mailboxes p boxes) loans next (le_refl next) p x'
           (put_at-same s.mailboxes p boxes) (λ n l e k. (l, e, k)) (λ n _ e. e) own)
-        (λ apart e. publisher_moves s (put_at s.publishers p (Some x')) (put_at s.mailboxes p boxes) loans next more i v
+          (λ apart e. publisher_moves s (put_at s.publishers p (Some x')) (put_at s.mailboxes p boxes) loans next more i v
           (put_at-other s.mailboxes p boxes i apart)
           (λ n l e k. (l, other_loans n l e (ap (λ j. eqb j p) k ∙ apart), k)) none (w.publishers i v e));
       subscribers = λ q y e. let v : SubscriberIsWellFormed s q y = w.subscribers q y e in record {
-        is_known = v.is_known; some_room = v.some_room; buffer_bound = v.buffer_bound; ends_bound = v.ends_bound; ends_apart = v.ends_apart;
+        is_known = v.is_known;
+        some_room = v.some_room;
+        buffer_bound = v.buffer_bound;
+        ends_bound = v.ends_bound;
+        ends_apart = v.ends_apart;
         ends_known = v.ends_known;
         ends_stand = λ at i h. subscriber_end_stands here place at i q (v.ends_stand at i h);
-        expired_bound = v.expired_bound; expired_once = v.expired_once; expired_apart = v.expired_apart; expired_known = v.expired_known;
+        expired_bound = v.expired_bound;
+        expired_once = v.expired_once;
+        expired_apart = v.expired_apart;
+        expired_known = v.expired_known;
         expired_gone = λ i h. put_at-other s.publishers p (Some x') i (absent_apart s.publishers i p x (v.expired_gone i h) here) ∙ v.expired_gone i h;
         expired_kept = λ i h. ap (λ (m : ℕ → Mailbox). has_numbers (m q))
             (put_at-other s.mailboxes p boxes i (absent_apart s.publishers i p x (v.expired_gone i h) here)) ∙ v.expired_kept i h;
       };
       mailboxes = λ i q.
-        elim (eqb i p) as (λ b. eqb i p ≡ b → MailboxIsWellFormed (altered s p x' boxes loans next) i q) [
-          | true ↦ λ e. subst (λ j. MailboxIsWellFormed (altered s p x' boxes loans next) j q) (sym (eqb-true i p e))
-              (mailbox_moves (uniform s x' boxes loans next) (put_at s.publishers p (Some x')) (put_at s.mailboxes p boxes) loans next (le_refl next) p q
+          elim (eqb i p) as (λ b. eqb i p ≡ b → MailboxIsWellFormed (altered s p x' boxes loans next) i q) [
+            | true ↦ λ e. subst (λ j. MailboxIsWellFormed (altered s p x' boxes loans next) j q) (sym (eqb-true i p e))
+                (mailbox_moves (uniform s x' boxes loans next) (put_at s.publishers p (Some x')) (put_at s.mailboxes p boxes) loans next (le_refl next) p q
                 (put_at-same s.publishers p (Some x')) (ap (λ (m : ℕ → Mailbox). m q) (put_at-same s.mailboxes p boxes)) (row q))
-          | false ↦ λ e. mailbox_moves s (put_at s.publishers p (Some x')) (put_at s.mailboxes p boxes) loans next more i q
-              (put_at-other s.publishers p (Some x') i e) (ap (λ (m : ℕ → Mailbox). m q) (put_at-other s.mailboxes p boxes i e)) (w.mailboxes i q)
-        ] refl;
+            | false ↦ λ e. mailbox_moves s (put_at s.publishers p (Some x')) (put_at s.mailboxes p boxes) loans next more i q
+                (put_at-other s.publishers p (Some x') i e) (ap (λ (m : ℕ → Mailbox). m q) (put_at-other s.mailboxes p boxes i e)) (w.mailboxes i q)
+          ] refl;
       loans = λ n l e. ⊎_elim
-        (λ (old : (s.loans n ≡ Some l) × (eqb l.publisher p ≡ false)). loan_moves s (put_at s.publishers p (Some x')) (put_at s.mailboxes p boxes) loans next
-            more n l
+          (λ (old : (s.loans n ≡ Some l) × (eqb l.publisher p ≡ false)). loan_moves s (put_at s.publishers p (Some x')) (put_at s.mailboxes p boxes) loans next
+          more n l
           (put_at-other s.publishers p (Some x') l.publisher old.1) (put_at-other s.mailboxes p boxes l.publisher old.1) (w.loans n l old.0))
-        (λ (new : (l.publisher ≡ p) × LoanIsWellFormed (uniform s x' boxes loans next) n l). loan_moves (uniform s x' boxes loans next)
-            (put_at s.publishers p (Some x')) (put_at s.mailboxes p boxes) loans next (le_refl next) n l
+          (λ (new : (l.publisher ≡ p) × LoanIsWellFormed (uniform s x' boxes loans next) n l). loan_moves (uniform s x' boxes loans next)
+          (put_at s.publishers p (Some x')) (put_at s.mailboxes p boxes) loans next (le_refl next) n l
           (ap (put_at s.publishers p (Some x')) new.0 ∙ put_at-same s.publishers p (Some x'))
-              (ap (put_at s.mailboxes p boxes) new.0 ∙ put_at-same s.mailboxes p boxes) new.1)
-        (own_loans n l e);
+          (ap (put_at s.mailboxes p boxes) new.0 ∙ put_at-same s.mailboxes p boxes) new.1)
+          (own_loans n l e);
     }
 
   module _ (s : State T U) (p : ℕ) (x x' : Publisher) (boxes : ℕ → Mailbox) (loans : ℕ → Option (Loan T U)) (next : ℕ) (here : s.publishers p ≡ Some x)
@@ -192,20 +217,23 @@ module _ {T U : Type 0} where
     -- a loan of the publisher stays well-formed where it stays out, and enters neither the history nor a mailbox
     pub loan_stays : (n : ℕ) (l : Loan T U) → l.publisher ≡ p → (contains x.loans n ≡ true → contains x'.loans n ≡ true)
         → (contains x.history n ≡ false → contains x'.history n ≡ false)
-      → ((q : ℕ) → contains (numbers_in (s.mailboxes p q)) n ≡ false → contains (numbers_in (boxes q)) n ≡ false)
-      → LoanIsWellFormed s n l → LoanIsWellFormed (uniform s x' boxes loans next) n l
+        → ((q : ℕ) → contains (numbers_in (s.mailboxes p q)) n ≡ false → contains (numbers_in (boxes q)) n ≡ false)
+        → LoanIsWellFormed s n l → LoanIsWellFormed (uniform s x' boxes loans next) n l
     loan_stays n l own out unsent absent w =
         let facts : (contains x.loans n ≡ true) × (contains x.history n ≡ false) = w.is_out x (ap s.publishers own ∙ here) in
         record {
           below = omega (arith, w.below);
-          known = w.known; origin = w.origin; cells = w.cells; complete = w.complete;
+          known = w.known;
+          origin = w.origin;
+          cells = w.cells;
+          complete = w.complete;
           is_out = λ v e. subst (λ (u : Publisher). (contains u.loans n ≡ true) × (contains u.history n ≡ false)) (same_Some x' v e) (out facts.0, unsent facts.1);
           unsent = λ q. absent q (ap (λ i. contains (numbers_in (s.mailboxes i q)) n) (sym own) ∙ w.unsent q);
         }
 
   -- writing a publisher's own mailboxes changes nothing
   pub altered_same_row : (s : State T U) (p : ℕ) (x : Publisher) (loans : ℕ → Option (Loan T U)) (next : ℕ) (publishers : ℕ → Option Publisher)
-    → ((i : ℕ) → put_at s.publishers p (Some x) i ≡ publishers i) → altered s p x (s.mailboxes p) loans next ≡ rewritten s publishers s.mailboxes loans next
+      → ((i : ℕ) → put_at s.publishers p (Some x) i ≡ publishers i) → altered s p x (s.mailboxes p) loans next ≡ rewritten s publishers s.mailboxes loans next
   altered_same_row s p x loans next publishers same =
       same_state (altered s p x (s.mailboxes p) loans next) (rewritten s publishers s.mailboxes loans next) refl refl refl (λ _. refl) same (λ _. refl)
-        (λ i q. at_each s.mailboxes p (s.mailboxes p) (λ j m. m q ≡ s.mailboxes j q) i (λ _. refl) (λ _. refl)) refl refl refl
+      (λ i q. at_each s.mailboxes p (s.mailboxes p) (λ j m. m q ≡ s.mailboxes j q) i (λ _. refl) (λ _. refl)) refl refl refl

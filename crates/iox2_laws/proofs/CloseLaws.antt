@@ -1,13 +1,13 @@
 -- What closing a port keeps.
 use mathlib.Core.Path.{fun_ext}
-use Rattle.std.proofs.Common.{◌≡◌, ℕ, ◌≤◌, ◌<◌, Bool, true, false, cond, ◌||◌, List, [], ◌∷◌, length, refl, sym, ap, subst, ◌∙◌, arith, eqb, is_some, Option}
+use Rattle.std.proofs.Common.{◌≡◌, ℕ, ◌≤◌, ◌<◌, Bool, true, false, cond, ◌||◌, List, refl, sym, ap, subst, ◌∙◌, arith, eqb, is_some, Option}
 use Rattle.std.proofs.Common.{None, Some, ◌⊎◌, inl, inr, ⊎_elim}
 use Rattle.std.specs.List.{filter}
 use Rattle.std.specs.Option.{MatchOption, option_map}
-use Rattle.std.proofs.lemmas.Bool.{eqb-true, true≢false, or_cases, or_left, or_right}
+use Rattle.std.proofs.lemmas.Bool.{eqb-true, or_right}
 use Rattle.std.proofs.lemmas.Option.{none-some, same_Some}
 use Rattle.iox2_store.specs.Limits.{buffer_limit}
-use Rattle.iox2_store.specs.Numbers.{contains, put_at, IsOnce}
+use Rattle.iox2_store.specs.Numbers.{contains, put_at}
 use Rattle.iox2_store.specs.Places.{occupant, vacated, places_of}
 use Rattle.iox2_store.specs.Mailbox.{Mailbox, numbers_in, has_numbers, has_borrows, waiting_count, waiting_dropped, IsWithin}
 use Rattle.iox2_store.specs.Records.{Publisher, Subscriber}
@@ -19,7 +19,6 @@ use Rattle.iox2_store.specs.WellFormed.{LeadsTo, PlacesAgree, subscriber_place, 
 use Rattle.iox2_store.specs.WellFormed.{IsWellFormed}
 use Rattle.iox2_laws.specs.Laws.{Advances}
 use Rattle.iox2_laws.proofs.Puts.{put_at-same, put_at-other, found_put, found_removed, found_mapped}
-use Rattle.iox2_laws.proofs.NumberLemmas.{absent_from}
 use Rattle.iox2_laws.proofs.FilterLemmas.{contains_in_filter, contains-filter, IsOnce-filter, length-filter_le}
 use Rattle.iox2_laws.proofs.PlaceLemmas.{occupant-vacated, vacated_keeps, length-vacated, occupant-places_of, places_of_keeps, length-places_of}
 use Rattle.iox2_laws.proofs.PlaceLemmas.{injective_places_of}
@@ -62,7 +61,7 @@ connected_by_borrows o box b e h = e ∙ or_right (is_some o) (has_numbers box) 
 
 -- The receiver's end stays where a message is borrowed.
 receiver_end_left : (test : ℕ → Bool) (expired : List ℕ) (ends : List (Option ℕ)) (p : ℕ) → test p ≡ true → (contains expired p ≡ true) ⊎ LeadsTo ends p
-  → (contains (filter test expired) p ≡ true) ⊎ LeadsTo (places_of test ends) p
+    → (contains (filter test expired) p ≡ true) ⊎ LeadsTo (places_of test ends) p
 receiver_end_left test expired ends p passes h =
     ⊎_elim (λ l. inl (contains-filter test expired p l passes)) (λ r. inr (r.0, places_of_keeps test ends r.0 p r.1 passes)) h
 
@@ -76,14 +75,14 @@ none_if_none o (Some x) fewer absent = absurd (none-some x (sym absent ∙ fewer
 
 -- Where the publisher stood at its end's place it does so still, or it has numbers left.
 stands_or_left : (place : ℕ) (o o' : Option Publisher) (box box' : Mailbox) (b : Bool) → ((x : Publisher) → o' ≡ Some x → o ≡ Some x)
-  → StillConnected o' box' b → b ≡ true
-  → MatchOption o (has_numbers box ≡ true) (λ x. x.place ≡ place) → MatchOption o' (has_numbers box' ≡ true) (λ x. x.place ≡ place)
+    → StillConnected o' box' b → b ≡ true
+    → MatchOption o (has_numbers box ≡ true) (λ x. x.place ≡ place) → MatchOption o' (has_numbers box' ≡ true) (λ x. x.place ≡ place)
 stands_or_left place o None box box' b fewer e passes h = left_of_absent None box' b e passes refl
 stands_or_left place o (Some x) box box' b fewer e passes h = subst (λ v. MatchOption v (has_numbers box ≡ true) (λ x. x.place ≡ place)) (fewer x refl) h
 
 -- The place of a publisher that is gone is free, and the others agree.
 vacated_agree : (limit : ℕ) (places : List (Option ℕ)) (f : ℕ → Option Publisher) (p : ℕ)
-  → PlacesAgree limit places (λ i. place_of_publisher (f i)) → PlacesAgree limit (vacated p places) (λ i. place_of_publisher (put_at f p None i))
+    → PlacesAgree limit places (λ i. place_of_publisher (f i)) → PlacesAgree limit (vacated p places) (λ i. place_of_publisher (put_at f p None i))
 vacated_agree limit places f p w = record {
   bound = omega (arith, w.bound, length-vacated p places);
   stands = λ id place e. elim (eqb id p) as (λ b. eqb id p ≡ b → place_of_publisher (cond b None (f id)) ≡ Some place → occupant (vacated p places) place ≡ Some id) [
@@ -97,10 +96,12 @@ vacated_agree limit places f p w = record {
 module _ {T U : Type 0} where
   -- A subscriber that forgets the departed publishers of which it has nothing is well-formed.
   pruned_is : (s t : State T U) (test : ℕ → Bool) (q : ℕ) (y : Subscriber) → SubscriberIsWellFormed s q y
-    → s.next_port ≤ t.next_port → FewerPublishers s.publishers t.publishers → ((p : ℕ) → StillConnected (t.publishers p) (t.mailboxes p q) (test p))
-    → SubscriberIsWellFormed (changed s t) q (record y { ends = places_of test y.ends; expired = filter test y.expired })
+      → s.next_port ≤ t.next_port → FewerPublishers s.publishers t.publishers → ((p : ℕ) → StillConnected (t.publishers p) (t.mailboxes p q) (test p))
+      → SubscriberIsWellFormed (changed s t) q (record y { ends = places_of test y.ends; expired = filter test y.expired })
   pruned_is s t test q y w more fewer connected = record {
-    is_known = omega (arith, w.is_known); some_room = w.some_room; buffer_bound = w.buffer_bound;
+    is_known = omega (arith, w.is_known);
+    some_room = w.some_room;
+    buffer_bound = w.buffer_bound;
     ends_bound = omega (arith, w.ends_bound, length-places_of test y.ends);
     ends_apart = injective_places_of test y.ends w.ends_apart;
     ends_known = λ p h. omega (arith, w.ends_known p (h.0, (occupant-places_of test y.ends h.0 p h.1).0));
@@ -117,11 +118,11 @@ module _ {T U : Type 0} where
 
   -- A mailbox that loses what waits, or doesn't, is well-formed where what is borrowed is still borrowed by somebody.
   mailbox_kept : (s t : State T U) (p q : ℕ) → MailboxIsWellFormed s p q
-    → s.next_port ≤ t.next_port → FewerPublishers s.publishers t.publishers → LosesWaiting (s.mailboxes p q) (t.mailboxes p q)
-    → ((y : Subscriber) → t.subscribers q ≡ Some y → waiting_count (s.mailboxes p q) ≤ y.buffer)
-    → (has_borrows (t.mailboxes p q) ≡ true → has_borrows (s.mailboxes p q) ≡ true
+      → s.next_port ≤ t.next_port → FewerPublishers s.publishers t.publishers → LosesWaiting (s.mailboxes p q) (t.mailboxes p q)
+      → ((y : Subscriber) → t.subscribers q ≡ Some y → waiting_count (s.mailboxes p q) ≤ y.buffer)
+      → (has_borrows (t.mailboxes p q) ≡ true → has_borrows (s.mailboxes p q) ≡ true
       → (y : Subscriber) × (t.subscribers q ≡ Some y) × ((contains y.expired p ≡ true) ⊎ LeadsTo y.ends p))
-    → MailboxIsWellFormed (changed s t) p q
+      → MailboxIsWellFormed (changed s t) p q
   mailbox_kept s t p q w more fewer loses room ends = record {
     within = after_loss (λ v. IsWithin (buffer_limit s.config) (s.config).subscriber_max_borrowed_samples v) box (t.mailboxes p q) loses w.within
         (IsWithin-dropped (buffer_limit s.config) (s.config).subscriber_max_borrowed_samples box w.within);
@@ -134,6 +135,7 @@ module _ {T U : Type 0} where
     where
       box : Mailbox
       box = s.mailboxes p q
+
       numbers_before : has_numbers (t.mailboxes p q) ≡ true → has_numbers box ≡ true
       numbers_before = after_loss (λ v. has_numbers v ≡ true → has_numbers box ≡ true) box (t.mailboxes p q) loses
           (λ k. k) (λ k. has_numbers-borrows box (sym (has_numbers_dropped box) ∙ k))
@@ -156,20 +158,22 @@ module _ {T U : Type 0} where
         (λ q. subscriber_stays q (s.subscribers q));
     publishers = λ i z e. found_removed s.publishers p i z (PublisherIsWellFormed s' i z) e (λ _ old.
         publisher_kept s s' i z (w.publishers i z old)
-          (omega arith) (λ q. loss_has_fewer (s.mailboxes i q) (s'.mailboxes i q) (gone_loses s p x i q))
-          (λ place q y at found. found_mapped (pruned t q) (s.subscribers q) y (y.place ≡ place) found
-            (λ v g k. ap (λ (u : Subscriber). u.place) k ∙ (w.publishers i z old).ends_stand place q v at g)));
+        (omega arith) (λ q. loss_has_fewer (s.mailboxes i q) (s'.mailboxes i q) (gone_loses s p x i q))
+        (λ place q y at found. found_mapped (pruned t q) (s.subscribers q) y (y.place ≡ place) found
+        (λ v g k. ap (λ (u : Subscriber). u.place) k ∙ (w.publishers i z old).ends_stand place q v at g)));
     subscribers = λ q y e. found_mapped (pruned t q) (s.subscribers q) y (SubscriberIsWellFormed s' q y) e (λ v g k.
         subst (SubscriberIsWellFormed s' q) (sym k)
-          (pruned_is s s' (is_connected t q) q v (w.subscribers q v g) (omega arith) fewer (λ i. refl)));
+        (pruned_is s s' (is_connected t q) q v (w.subscribers q v g) (omega arith) fewer (λ i. refl)));
     mailboxes = λ i q. mailbox_kept s s' i q (w.mailboxes i q) (omega arith) fewer (gone_loses s p x i q)
         (λ y e. found_mapped (pruned t q) (s.subscribers q) y (waiting_count (s.mailboxes i q) ≤ y.buffer) e (λ v g k.
-          subst (λ (u : Subscriber). waiting_count (s.mailboxes i q) ≤ u.buffer) (sym k) ((w.mailboxes i q).room v g)))
+        subst (λ (u : Subscriber). waiting_count (s.mailboxes i q) ≤ u.buffer) (sym k) ((w.mailboxes i q).room v g)))
         (λ h before. let found : (y : Subscriber) × (s.subscribers q ≡ Some y) × ((contains y.expired i ≡ true) ⊎ LeadsTo y.ends i) =
-            (w.mailboxes i q).receiver_end before in
-          (pruned t q found.0, ap (λ o. option_map (pruned t q) o) found.1,
-           receiver_end_left (is_connected t q) (found.0).expired (found.0).ends i
-             (connected_by_borrows (t.publishers i) (t.mailboxes i q) (is_connected t q i) refl h) found.2));
+        (w.mailboxes i q).receiver_end before in (
+          pruned t q found.0,
+          ap (λ o. option_map (pruned t q) o) found.1,
+          receiver_end_left (is_connected t q) (found.0).expired (found.0).ends i
+              (connected_by_borrows (t.publishers i) (t.mailboxes i q) (is_connected t q i) refl h) found.2,
+        ));
     loans = λ n l e. loan_kept s s' n l (w.loans n l e)
         (omega arith) (λ q. loss_has_fewer (s.mailboxes l.publisher q) (s'.mailboxes l.publisher q) (gone_loses s p x l.publisher q))
         (λ z found. (w.loans n l e).is_out z (fewer l.publisher z found));
@@ -177,10 +181,13 @@ module _ {T U : Type 0} where
     where
       t : State T U
       t = publisher_gone s p x
+
       s' : State T U
       s' = subscribers_pruned t
+
       fewer : FewerPublishers s.publishers s'.publishers
       fewer i z e = found_removed s.publishers p i z (s.publishers i ≡ Some z) e (λ _ old. old)
+
       subscriber_stays : (q : ℕ) (o : Option Subscriber) → place_of_subscriber (option_map (pruned t q) o) ≡ place_of_subscriber o
       subscriber_stays q None = refl
       subscriber_stays q (Some y) = refl
@@ -205,10 +212,19 @@ module _ {T U : Type 0} where
 
   shut_is : (s : State T U) (q : ℕ) (y : Subscriber) → SubscriberIsWellFormed s q y → SubscriberIsWellFormed s q (record y { is_open = false })
   shut_is s q y w = record {
-    is_known = w.is_known; some_room = w.some_room; buffer_bound = w.buffer_bound;
-    ends_bound = w.ends_bound; ends_apart = w.ends_apart; ends_known = w.ends_known; ends_stand = w.ends_stand;
-    expired_bound = w.expired_bound; expired_once = w.expired_once; expired_apart = w.expired_apart;
-    expired_known = w.expired_known; expired_gone = w.expired_gone; expired_kept = w.expired_kept;
+    is_known = w.is_known;
+    some_room = w.some_room;
+    buffer_bound = w.buffer_bound;
+    ends_bound = w.ends_bound;
+    ends_apart = w.ends_apart;
+    ends_known = w.ends_known;
+    ends_stand = w.ends_stand;
+    expired_bound = w.expired_bound;
+    expired_once = w.expired_once;
+    expired_apart = w.expired_apart;
+    expired_known = w.expired_known;
+    expired_gone = w.expired_gone;
+    expired_kept = w.expired_kept;
   }
 
   -- The subscriber q is closed and has forgotten what departed; nobody is due for it yet.
@@ -225,17 +241,17 @@ module _ {T U : Type 0} where
     publishers = λ p x e. publisher_kept s s' p x (w.publishers p x e)
         (omega arith) (λ r. loss_has_fewer (s.mailboxes p r) (s'.mailboxes p r) (shut_loses s q p r))
         (λ place r v at found. found_put s.subscribers q new (λ r v. occupant x.ends place ≡ Some r → v.place ≡ place) r v found
-          (λ _ at. (w.publishers p x e).ends_stand place q y at here)
-          (λ _ old at. (w.publishers p x e).ends_stand place r v at old) at);
+        (λ _ at. (w.publishers p x e).ends_stand place q y at here)
+        (λ _ old at. (w.publishers p x e).ends_stand place r v at old) at);
     subscribers = λ r v e. found_put s.subscribers q new (λ r v. SubscriberIsWellFormed s' r v) r v e
         (λ _. pruned_is s s' (is_connected t q) q (record y { is_open = false })
-          (shut_is s q y (w.subscribers q y here)) (omega arith) (λ p x e. e) connected)
+        (shut_is s q y (w.subscribers q y here)) (omega arith) (λ p x e. e) connected)
         (λ apart old. subscriber_kept s s' r v (w.subscribers r v old)
-          (omega arith) (λ p. put_at-other (s.mailboxes p) q (mailbox_after_subscriber s q p) r apart) (λ p _. refl));
+        (omega arith) (λ p. put_at-other (s.mailboxes p) q (mailbox_after_subscriber s q p) r apart) (λ p _. refl));
     mailboxes = λ p r. mailbox_kept s s' p r (w.mailboxes p r)
         (omega arith) (λ p x e. e) (shut_loses s q p r)
         (λ v e. found_put s.subscribers q new (λ r v. waiting_count (s.mailboxes p r) ≤ v.buffer) r v e
-          (λ _. (w.mailboxes p q).room y here) (λ _ old. (w.mailboxes p r).room v old))
+        (λ _. (w.mailboxes p q).room y here) (λ _ old. (w.mailboxes p r).room v old))
         (λ h before. receiver_end_stays p r h ((w.mailboxes p r).receiver_end before));
     loans = λ n l e. loan_kept s s' n l (w.loans n l e)
         (omega arith) (λ r. loss_has_fewer (s.mailboxes l.publisher r) (s'.mailboxes l.publisher r) (shut_loses s q l.publisher r)) (w.loans n l e).is_out;
@@ -243,32 +259,42 @@ module _ {T U : Type 0} where
     where
       t : State T U
       t = subscriber_shut s q y
+
       s' : State T U
       s' = shut_and_pruned s q y
+
       new : Subscriber
       new = pruned t q (record y { is_open = false })
+
       place_stays : (r : ℕ) → subscriber_place s' r ≡ subscriber_place s r
       place_stays r =
           elim (eqb r q) as (λ b. eqb r q ≡ b → place_of_subscriber (cond b (Some new) (s.subscribers r)) ≡ subscriber_place s r) [
             | true ↦ λ same. ap place_of_subscriber (sym here) ∙ ap (subscriber_place s) (sym (eqb-true r q same))
             | false ↦ λ _. refl
           ] refl
+
       present : (o : Option Publisher) (b : Bool)
-        → (is_some (option_map {T = Publisher} {U = Publisher} (λ x. record x { is_due = true }) o) || b) ≡ (is_some o || b)
+          → (is_some (option_map {T = Publisher} {U = Publisher} (λ x. record x { is_due = true }) o) || b) ≡ (is_some o || b)
       present None b = refl
       present (Some x) b = refl
+
       connected : (p : ℕ) → StillConnected (s.publishers p) (s'.mailboxes p q) (is_connected t q p)
       connected p = present (s.publishers p) (has_numbers (s'.mailboxes p q))
+
       receiver_end_stays : (p r : ℕ) → has_borrows (s'.mailboxes p r) ≡ true
-        → (v : Subscriber) × (s.subscribers r ≡ Some v) × ((contains v.expired p ≡ true) ⊎ LeadsTo v.ends p)
-        → (v : Subscriber) × (s'.subscribers r ≡ Some v) × ((contains v.expired p ≡ true) ⊎ LeadsTo v.ends p)
+          → (v : Subscriber) × (s.subscribers r ≡ Some v) × ((contains v.expired p ≡ true) ⊎ LeadsTo v.ends p)
+          → (v : Subscriber) × (s'.subscribers r ≡ Some v) × ((contains v.expired p ≡ true) ⊎ LeadsTo v.ends p)
       receiver_end_stays p r h found =
           elim (eqb r q) as (λ b. eqb r q ≡ b → (v : Subscriber) × (cond b (Some new) (s.subscribers r) ≡ Some v) × ((contains v.expired p ≡ true) ⊎ LeadsTo v.ends p)) [
-            | true ↦ λ same. (new, refl, receiver_end_left (is_connected t q) y.expired y.ends p
-                (connected_by_borrows (s.publishers p) (s'.mailboxes p q) (is_connected t q p) (connected p)
+            | true ↦ λ same. (
+              new,
+              refl,
+              receiver_end_left (is_connected t q) y.expired y.ends p
+                  (connected_by_borrows (s.publishers p) (s'.mailboxes p q) (is_connected t q p) (connected p)
                   (subst (λ j. has_borrows (s'.mailboxes p j) ≡ true) (eqb-true r q same) h))
-                (subst (λ (u : Subscriber). (contains u.expired p ≡ true) ⊎ LeadsTo u.ends p)
-                  (same_Some found.0 y (sym found.1 ∙ ap s.subscribers (eqb-true r q same) ∙ here)) found.2))
+                  (subst (λ (u : Subscriber). (contains u.expired p ≡ true) ⊎ LeadsTo u.ends p)
+                  (same_Some found.0 y (sym found.1 ∙ ap s.subscribers (eqb-true r q same) ∙ here)) found.2),
+            )
             | false ↦ λ _. found
           ] refl
 
@@ -278,10 +304,11 @@ module _ {T U : Type 0} where
     where
       t : State T U
       t = subscriber_shut s q y
+
       at : (r : ℕ) → (shut_and_pruned s q y).subscribers r ≡ (subscriber_pruned t q).subscribers r
       at r =
           elim (eqb r q) as (λ b. cond b (Some (pruned t q (record y { is_open = false }))) (s.subscribers r)
-              ≡ cond b (option_map (pruned t q) (t.subscribers q)) (cond b (Some (record y { is_open = false })) (s.subscribers r))) [
+          ≡ cond b (option_map (pruned t q) (t.subscribers q)) (cond b (Some (record y { is_open = false })) (s.subscribers r))) [
             | true ↦ ap (λ o. option_map (pruned t q) o) (sym (put_at-same s.subscribers q (Some (record y { is_open = false }))))
             | false ↦ refl
           ]
@@ -290,11 +317,11 @@ module _ {T U : Type 0} where
   pub subscriber_closed_keeps : (s : State T U) → IsWellFormed s → (q : ℕ) (y : Subscriber) → s.subscribers q ≡ Some y → IsWellFormed (subscriber_closed s q y)
   subscriber_closed_keeps s w q y here =
       freed_if_unused_keeps (subscriber_pruned (subscriber_shut s q y) q)
-        (subst IsWellFormed (shut_then_pruned s q y) (publishers_due_keeps (shut_and_pruned s q y) (shut_and_pruned_keeps s w q y here))) q
+      (subst IsWellFormed (shut_then_pruned s q y) (publishers_due_keeps (shut_and_pruned s q y) (shut_and_pruned_keeps s w q y here))) q
 
   -- A subscriber that is closed lets no counter fall.
   pub subscriber_closed_advances : (s : State T U) (q : ℕ) (y : Subscriber) → Advances s (subscriber_closed s q y)
   subscriber_closed_advances s q y =
       advances_trans s (subscriber_pruned (subscriber_shut s q y) q) (subscriber_closed s q y)
-        (record { config = refl; next_port = omega arith; next_message = omega arith })
-        (freed_if_unused_advances (subscriber_pruned (subscriber_shut s q y) q) q)
+      (record { config = refl; next_port = omega arith; next_message = omega arith })
+      (freed_if_unused_advances (subscriber_pruned (subscriber_shut s q y) q) q)

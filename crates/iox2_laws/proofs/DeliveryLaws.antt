@@ -69,29 +69,29 @@ module _ (environment : Environment) (c : ServiceConfig) (p : ℕ) (strategy : B
     (buffers : ℕ → Option ℕ) (n : ℕ) where
   put_is : (q retries : ℕ) (elapsed : Duration) (buffer : Option ℕ) (box : Mailbox) (result : PutResult) (box' : Mailbox)
       → Put environment c p strategy handler buffers n q retries elapsed buffer box result box'
-    → (box' ≡ box) ⊎ ((size : ℕ) × (buffer ≡ Some size) × (box' ≡ with_appended size n box) × (result ≡ Accepted))
+      → (box' ≡ box) ⊎ ((size : ℕ) × (buffer ≡ Some size) × (box' ≡ with_appended size n box) × (result ≡ Accepted))
   put_is q retries elapsed None box result box' h = inl h.1
   put_is q retries elapsed (Some buffer) box result box' h =
       by_bool _ (has_room buffer box || c.enable_safe_overflow) _ _ h (λ _ h. inr (buffer, refl, h.1, h.0)) (λ _ h. inl h.1)
 
   -- one end: a mailbox stays, or it is the end's and the message is accepted there
   put_at_end_is : (retries : ℕ) (elapsed : Duration) (end : Option ℕ) (boxes : ℕ → Mailbox) (result : PutResult) (boxes' : ℕ → Mailbox)
-    → PutAtEnd environment c p strategy handler buffers n retries elapsed end boxes result boxes' → (q : ℕ)
-    → (boxes' q ≡ boxes q) ⊎ ((end ≡ Some q) × (result ≡ Accepted) × Puts buffers n boxes boxes' q)
+      → PutAtEnd environment c p strategy handler buffers n retries elapsed end boxes result boxes' → (q : ℕ)
+      → (boxes' q ≡ boxes q) ⊎ ((end ≡ Some q) × (result ≡ Accepted) × Puts buffers n boxes boxes' q)
   put_at_end_is retries elapsed end boxes result boxes' h q =
       by_option _ end _ _ h
-        (λ _ h. inl (ap (λ (f : ℕ → Mailbox). f q) h.1))
-        (λ r leads h. subst (λ (f : ℕ → Mailbox). (f q ≡ boxes q) ⊎ ((end ≡ Some q) × (result ≡ Accepted) × Puts buffers n boxes f q)) (sym h.2)
-          (at_each boxes r h.0 (λ i box. (box ≡ boxes i)
-              ⊎ ((end ≡ Some i) × (result ≡ Accepted) × ((buffer : ℕ) × (buffers i ≡ Some buffer) × (box ≡ with_appended buffer n (boxes i))))) q
-            (λ _. ⊎_elim (λ same. inl same) (λ new. inr (leads, new.3, (new.0, new.1, new.2))) (put_is r retries elapsed (buffers r) (boxes r) result h.0 h.1))
-            (λ _. inl refl)))
+      (λ _ h. inl (ap (λ (f : ℕ → Mailbox). f q) h.1))
+      (λ r leads h. subst (λ (f : ℕ → Mailbox). (f q ≡ boxes q) ⊎ ((end ≡ Some q) × (result ≡ Accepted) × Puts buffers n boxes f q)) (sym h.2)
+      (at_each boxes r h.0 (λ i box. (box ≡ boxes i)
+      ⊎ ((end ≡ Some i) × (result ≡ Accepted) × ((buffer : ℕ) × (buffers i ≡ Some buffer) × (box ≡ with_appended buffer n (boxes i))))) q
+      (λ _. ⊎_elim (λ same. inl same) (λ new. inr (leads, new.3, (new.0, new.1, new.2))) (put_is r retries elapsed (buffers r) (boxes r) result h.0 h.1))
+      (λ _. inl refl)))
 
   -- a delivery does what `Delivered` says
   pub deliver_is : (retries : ℕ) (elapsed : Duration) (place : ℕ) (ends : List (Option ℕ)) (count : ℕ) (has_failed : Bool) (whole : List (Option ℕ))
       (boxes : ℕ → Mailbox) (how : DeliveryEnd) (boxes' : ℕ → Mailbox)
-    → IsInjective ends → ends ≡ drop place whole → Deliver environment c p strategy handler buffers n retries elapsed place ends count has_failed boxes how
-        boxes' → Delivered buffers n whole ends boxes how boxes'
+      → IsInjective ends → ends ≡ drop place whole → Deliver environment c p strategy handler buffers n retries elapsed place ends count has_failed boxes how
+      boxes' → Delivered buffers n whole ends boxes how boxes'
   deliver_is retries elapsed place [] count has_failed whole boxes how boxes' apart tail h = record {
     each = λ q. inl (ap (λ (f : ℕ → Mailbox). f q) h.1);
     message = λ b e. absurd (not_suspended count has_failed b (sym h.0 ∙ e));
@@ -103,37 +103,37 @@ module _ (environment : Environment) (c : ServiceConfig) (p : ℕ) (strategy : B
       let result : PutResult = h.0 in
       let mid : ℕ → Mailbox = h.1 in
       let step : (q : ℕ) → (mid q ≡ boxes q) ⊎ ((end ≡ Some q) × (result ≡ Accepted) × Puts buffers n boxes mid q) =
-          put_at_end_is retries elapsed end boxes result mid h.2 in
+      put_at_end_is retries elapsed end boxes result mid h.2 in
       by_bool (Delivered buffers n whole (end ∷ rest) boxes how boxes') (is_blocking result) _ _ h.3
-        (λ blocks k.
-          let stop : BlockedSend = record { message = n; place = place; ends = end ∷ rest; retries = retries; count = count; has_failed = has_failed } in
-          let is_stop : (b : BlockedSend) → how ≡ Suspended b → stop ≡ b = λ b e. same_suspended stop b (sym k.0 ∙ e) in
-          let same : (q : ℕ) → boxes' q ≡ boxes q = λ q. ap (λ (f : ℕ → Mailbox). f q) k.1 ∙ ⊎_elim (λ e. e) (λ put. absurd (not_accepted result blocks put.1))
-              (step q) in
-          record {
-            each = λ q. inl (same q);
-            message = λ b e. ap (λ (v : BlockedSend). v.message) (sym (is_stop b e));
-            remain = λ b e. subst (λ (v : BlockedSend). v.ends ≡ drop v.place whole) (is_stop b e) tail;
-            within = λ b e q leads. subst (λ (v : BlockedSend). LeadsTo v.ends q) (sym (is_stop b e)) leads;
-            unserved = λ b e q _. same q;
-          })
-        (λ _ k.
-          let later : Delivered buffers n whole rest mid how boxes' =
-              deliver_is 0 no_time (place + 1) rest (count + accepted_count result) (has_failed || is_failed result) whole mid how boxes'
-                  (injective_rest end rest apart) (rest_of end rest whole place tail) k in
-          record {
-            each = λ q. ⊎_elim
-              (λ same. ⊎_elim (λ first. inl (same ∙ first)) (λ put. inr ((zero, put.0), ((put.2).0, (put.2).1, same ∙ (put.2).2))) (step q))
-              (λ put. ⊎_elim
-                (λ first. inr (leads_further end rest q put.0, ((put.1).0, (put.1).1, (put.1).2 ∙ ap (with_appended (put.1).0 n) first)))
-                (λ first. absurd (first_apart end rest q apart first.0 put.0)) (step q))
-              (later.each q);
-            message = later.message;
-            remain = later.remain;
-            within = λ b e q leads. leads_further end rest q (later.within b e q leads);
-            unserved = λ b e q leads. later.unserved b e q leads
-              ∙ ⊎_elim (λ first. first) (λ first. absurd (first_apart end rest q apart first.0 (later.within b e q leads))) (step q);
-          })
+      (λ blocks k.
+      let stop : BlockedSend = record { message = n; place = place; ends = end ∷ rest; retries = retries; count = count; has_failed = has_failed } in
+      let is_stop : (b : BlockedSend) → how ≡ Suspended b → stop ≡ b = λ b e. same_suspended stop b (sym k.0 ∙ e) in
+      let same : (q : ℕ) → boxes' q ≡ boxes q = λ q. ap (λ (f : ℕ → Mailbox). f q) k.1 ∙ ⊎_elim (λ e. e) (λ put. absurd (not_accepted result blocks put.1))
+      (step q) in
+      record {
+        each = λ q. inl (same q);
+        message = λ b e. ap (λ (v : BlockedSend). v.message) (sym (is_stop b e));
+        remain = λ b e. subst (λ (v : BlockedSend). v.ends ≡ drop v.place whole) (is_stop b e) tail;
+        within = λ b e q leads. subst (λ (v : BlockedSend). LeadsTo v.ends q) (sym (is_stop b e)) leads;
+        unserved = λ b e q _. same q;
+      })
+      (λ _ k.
+      let later : Delivered buffers n whole rest mid how boxes' =
+      deliver_is 0 no_time (place + 1) rest (count + accepted_count result) (has_failed || is_failed result) whole mid how boxes'
+      (injective_rest end rest apart) (rest_of end rest whole place tail) k in
+      record {
+        each = λ q. ⊎_elim
+            (λ same. ⊎_elim (λ first. inl (same ∙ first)) (λ put. inr ((zero, put.0), ((put.2).0, (put.2).1, same ∙ (put.2).2))) (step q))
+            (λ put. ⊎_elim
+            (λ first. inr (leads_further end rest q put.0, ((put.1).0, (put.1).1, (put.1).2 ∙ ap (with_appended (put.1).0 n) first)))
+            (λ first. absurd (first_apart end rest q apart first.0 put.0)) (step q))
+            (later.each q);
+        message = later.message;
+        remain = later.remain;
+        within = λ b e q leads. leads_further end rest q (later.within b e q leads);
+        unserved = λ b e q leads. later.unserved b e q leads
+            ∙ ⊎_elim (λ first. first) (λ first. absurd (first_apart end rest q apart first.0 (later.within b e q leads))) (step q);
+      })
 
 -- ---- the state whose blocked send goes on
 
@@ -171,95 +171,112 @@ module _ {T U : Type 0} (s : State T U) (w : IsWellFormed s) (p : ℕ) (x : Publ
       let after : List ℕ = flat_map (λ q. numbers_in (boxes q)) (occupants x.ends) in
       let before : List ℕ = flat_map (λ q. numbers_in (s.mailboxes p q)) (occupants x.ends) in
       size_le (loans ++ x.history ++ after) (x.loans ++ x.history ++ before) (λ m h. in_three loans x.history after m _ h
-        (λ k. in_first x.loans x.history before m (still m k)) (in_second x.loans x.history before m)
-        (λ k. let at : (q : ℕ) × (contains (occupants x.ends) q ≡ true) × (contains (numbers_in (boxes q)) m ≡ true) = contains_in_flat_map
-            (λ q. numbers_in (boxes q)) (occupants x.ends) m k in
-          ⊎_elim (λ same. in_first x.loans x.history before m (ap (contains x.loans) same ∙ blocked.is_out))
-            (λ old. in_third x.loans x.history before m (contains-flat_map (λ q. numbers_in (s.mailboxes p q)) (occupants x.ends) at.0 m at.1 old))
-            (in_boxes at.0 m at.2)))
+      (λ k. in_first x.loans x.history before m (still m k)) (in_second x.loans x.history before m)
+      (λ k. let at : (q : ℕ) × (contains (occupants x.ends) q ≡ true) × (contains (numbers_in (boxes q)) m ≡ true) = contains_in_flat_map
+      (λ q. numbers_in (boxes q)) (occupants x.ends) m k in
+      ⊎_elim (λ same. in_first x.loans x.history before m (ap (contains x.loans) same ∙ blocked.is_out))
+      (λ old. in_third x.loans x.history before m (contains-flat_map (λ q. numbers_in (s.mailboxes p q)) (occupants x.ends) at.0 m at.1 old))
+      (in_boxes at.0 m at.2)))
 
   -- a mailbox into which the message was put
   appended_is_well_formed : (x' : Publisher) → x'.ends ≡ x.ends → (q buffer : ℕ) → LeadsTo b.ends q → receiving_buffer s q ≡ Some buffer
       → boxes q ≡ with_appended buffer b.message (s.mailboxes p q)
-    → MailboxIsWellFormed (uniform s x' boxes s.loans s.next_message) p q
+      → MailboxIsWellFormed (uniform s x' boxes s.loans s.next_message) p q
   appended_is_well_formed x' same_ends q buffer end takes put =
       option_and_then_some (λ (y : Subscriber). cond y.is_open (Some y.buffer) None) (s.subscribers q) buffer takes (λ y found is_buffer.
-        let m : MailboxIsWellFormed s p q = w.mailboxes p q in
-        let v : SubscriberIsWellFormed s q y = w.subscribers q y found in
-        let size : y.buffer ≡ buffer = (cond_some y.is_open y.buffer buffer is_buffer).1 in
-        let some : 0 < buffer = omega (arith, v.some_room, size) in
-        let room : waiting_count (s.mailboxes p q) ≤ buffer = omega (arith, m.room y found, size) in
-        record {
-          within = subst (λ (k : Mailbox). IsWithin (buffer_limit s.config) (s.config).subscriber_max_borrowed_samples k) (sym put)
-              (IsWithin-appended (buffer_limit s.config) (s.config).subscriber_max_borrowed_samples buffer b.message (s.mailboxes p q) some
-                (subst (λ i. i ≤ buffer_limit s.config) size v.buffer_bound) room (blocked.unserved q end) m.within);
-          room = λ z e. subst (λ (k : Mailbox). waiting_count k ≤ z.buffer) (sym put)
-              (subst (λ i. waiting_count (with_appended buffer b.message (s.mailboxes p q)) ≤ i)
-                (sym size ∙ ap (λ (o : Subscriber). o.buffer) (same_Some y z (sym found ∙ e)))
-                (waiting_count-appended buffer b.message (s.mailboxes p q) some room));
-          below = λ k h. ⊎_elim (λ same. subst (λ i. i < s.next_message) (sym same) low) (λ old. m.below k old) (in_boxes q k h);
-          known = λ _. (publisher.is_known, v.is_known);
-          sender_end = λ z e _. subst (λ (o : Publisher). LeadsTo o.ends q) (same_Some x' z e) (subst (λ places. LeadsTo places q) (sym same_ends) (leads q end));
-          receiver_end = λ h. m.receiver_end (sym (has_borrows-appended buffer b.message (s.mailboxes p q)) ∙ ap has_borrows (sym put) ∙ h);
-        })
+      let m : MailboxIsWellFormed s p q = w.mailboxes p q in
+      let v : SubscriberIsWellFormed s q y = w.subscribers q y found in
+      let size : y.buffer ≡ buffer = (cond_some y.is_open y.buffer buffer is_buffer).1 in
+      let some : 0 < buffer = omega (arith, v.some_room, size) in
+      let room : waiting_count (s.mailboxes p q) ≤ buffer = omega (arith, m.room y found, size) in
+      record {
+        within = subst (λ (k : Mailbox). IsWithin (buffer_limit s.config) (s.config).subscriber_max_borrowed_samples k) (sym put)
+            (IsWithin-appended (buffer_limit s.config) (s.config).subscriber_max_borrowed_samples buffer b.message (s.mailboxes p q) some
+            (subst (λ i. i ≤ buffer_limit s.config) size v.buffer_bound) room (blocked.unserved q end) m.within);
+        room = λ z e. subst (λ (k : Mailbox). waiting_count k ≤ z.buffer) (sym put)
+            (subst (λ i. waiting_count (with_appended buffer b.message (s.mailboxes p q)) ≤ i)
+            (sym size ∙ ap (λ (o : Subscriber). o.buffer) (same_Some y z (sym found ∙ e)))
+            (waiting_count-appended buffer b.message (s.mailboxes p q) some room));
+        below = λ k h. ⊎_elim (λ same. subst (λ i. i < s.next_message) (sym same) low) (λ old. m.below k old) (in_boxes q k h);
+        known = λ _. (publisher.is_known, v.is_known);
+        sender_end = λ z e _. subst (λ (o : Publisher). LeadsTo o.ends q) (same_Some x' z e) (subst (λ places. LeadsTo places q) (sym same_ends) (leads q end));
+        receiver_end = λ h. m.receiver_end (sym (has_borrows-appended buffer b.message (s.mailboxes p q)) ∙ ap has_borrows (sym put) ∙ h);
+      })
 
   -- whatever becomes of the publisher, which keeps its place, its history and its ends
   concluded_keeps : (x' : Publisher) → x'.place ≡ x.place → x'.ends ≡ x.ends → x'.history ≡ x.history
-    → ((m : ℕ) → eqb m b.message ≡ false → contains x.loans m ≡ true → contains x'.loans m ≡ true)
-    → PublisherIsWellFormed (uniform s x' boxes s.loans s.next_message) p x' → IsWellFormed (altered s p x' boxes s.loans s.next_message)
+      → ((m : ℕ) → eqb m b.message ≡ false → contains x.loans m ≡ true → contains x'.loans m ≡ true)
+      → PublisherIsWellFormed (uniform s x' boxes s.loans s.next_message) p x' → IsWellFormed (altered s p x' boxes s.loans s.next_message)
   concluded_keeps x' place same_ends history out own =
       altered_keeps s p x x' boxes s.loans s.next_message w here place (le_refl s.next_message) own
-        (λ q. ⊎_elim (λ same. mailbox_stays s p x x' boxes s.loans s.next_message here (le_refl s.next_message) q same_ends same (w.mailboxes p q))
-          (λ put. appended_is_well_formed x' same_ends q (put.1).0 (inside q put.0) (put.1).1 (put.1).2) (d.each q))
-        (λ m l e.
-          let apart : eqb m b.message ≡ false = ne_eqb m b.message (λ same. none-some l (sym blocked.unheld ∙ ap s.loans (sym same) ∙ e)) in
-          elim (eqb l.publisher p) as (λ t. eqb l.publisher p ≡ t
-              → ((s.loans m ≡ Some l) × (t ≡ false)) ⊎ ((l.publisher ≡ p) × LoanIsWellFormed (uniform s x' boxes s.loans s.next_message) m l)) [
-            | true ↦ λ same. inr (eqb-true l.publisher p same,
-                loan_stays s p x x' boxes s.loans s.next_message here (le_refl s.next_message) m l (eqb-true l.publisher p same) (out m apart)
-                  (λ h. ap (λ ns. contains ns m) history ∙ h) (λ q. absent_still q m apart) (w.loans m l e))
-            | false ↦ λ _. inl (e, refl)
-          ] refl)
-        (λ m l e _. e) (λ m _ e. e)
+      (λ q. ⊎_elim (λ same. mailbox_stays s p x x' boxes s.loans s.next_message here (le_refl s.next_message) q same_ends same (w.mailboxes p q))
+      (λ put. appended_is_well_formed x' same_ends q (put.1).0 (inside q put.0) (put.1).1 (put.1).2) (d.each q))
+      (λ m l e.
+      let apart : eqb m b.message ≡ false = ne_eqb m b.message (λ same. none-some l (sym blocked.unheld ∙ ap s.loans (sym same) ∙ e)) in
+      elim (eqb l.publisher p) as (λ t. eqb l.publisher p ≡ t
+      → ((s.loans m ≡ Some l) × (t ≡ false)) ⊎ ((l.publisher ≡ p) × LoanIsWellFormed (uniform s x' boxes s.loans s.next_message) m l)) [
+        | true ↦ λ same. inr (
+          eqb-true l.publisher p same,
+          loan_stays s p x x' boxes s.loans s.next_message here (le_refl s.next_message) m l (eqb-true l.publisher p same) (out m apart)
+              (λ h. ap (λ ns. contains ns m) history ∙ h) (λ q. absent_still q m apart) (w.loans m l e),
+        )
+        | false ↦ λ _. inl (e, refl)
+      ] refl)
+      (λ m l e _. e) (λ m _ e. e)
 
   -- the send ends: its message is out no more
   pub ended_keeps : IsWellFormed (altered s p (record x { loans = without b.message x.loans; blocked = None }) boxes s.loans s.next_message)
   ended_keeps = concluded_keeps (record x { loans = without b.message x.loans; blocked = None }) refl refl refl
       (λ m. contains-without_other b.message m x.loans) (record {
-    is_known = publisher.is_known;
-    loans_bound = omega (arith, length-without_le b.message x.loans, publisher.loans_bound);
-    loans_once = IsOnce-without b.message x.loans publisher.loans_once;
-    loans_below = λ m h. publisher.loans_below m (contains_in_without b.message m x.loans h);
-    loans_held = λ m h. ⊎_elim (λ held. inl held)
-        (λ (other : (b' : BlockedSend) × (x.blocked ≡ Some b') × (b'.message ≡ m)). absurd (true≢false (sym h
-          ∙ ap (contains (without b.message x.loans)) (sym other.2 ∙ ap (λ (v : BlockedSend). v.message) (same_Some other.0 b (sym other.1 ∙ waits)))
-              ∙ contains-without_same b.message x.loans)))
-        (publisher.loans_held m (contains_in_without b.message m x.loans h));
-    history_bound = publisher.history_bound; history_once = publisher.history_once; history_below = publisher.history_below;
-    ends_bound = publisher.ends_bound; ends_apart = publisher.ends_apart; ends_known = publisher.ends_known; ends_stand = publisher.ends_stand;
-    slots_bound = λ static. omega (arith, holds_fewer (without b.message x.loans) (λ m h. contains_in_without b.message m x.loans h), publisher.slots_bound static);
-    some_segment = publisher.some_segment; segments_bound = publisher.segments_bound;
-    blocked = λ b' e. absurd (none-some b' e);
-  })
+        is_known = publisher.is_known;
+        loans_bound = omega (arith, length-without_le b.message x.loans, publisher.loans_bound);
+        loans_once = IsOnce-without b.message x.loans publisher.loans_once;
+        loans_below = λ m h. publisher.loans_below m (contains_in_without b.message m x.loans h);
+        loans_held = λ m h. ⊎_elim (λ held. inl held)
+            (λ (other : (b' : BlockedSend) × (x.blocked ≡ Some b') × (b'.message ≡ m)). absurd (true≢false (sym h
+            ∙ ap (contains (without b.message x.loans)) (sym other.2 ∙ ap (λ (v : BlockedSend). v.message) (same_Some other.0 b (sym other.1 ∙ waits)))
+            ∙ contains-without_same b.message x.loans)))
+            (publisher.loans_held m (contains_in_without b.message m x.loans h));
+        history_bound = publisher.history_bound;
+        history_once = publisher.history_once;
+        history_below = publisher.history_below;
+        ends_bound = publisher.ends_bound;
+        ends_apart = publisher.ends_apart;
+        ends_known = publisher.ends_known;
+        ends_stand = publisher.ends_stand;
+        slots_bound = λ static. omega (arith, holds_fewer (without b.message x.loans) (λ m h. contains_in_without b.message m x.loans h), publisher.slots_bound static);
+        some_segment = publisher.some_segment;
+        segments_bound = publisher.segments_bound;
+        blocked = λ b' e. absurd (none-some b' e);
+      })
 
   -- the send waits for a further receiver, or for the same again
   pub blocked_keeps : (b' : BlockedSend) → how ≡ Suspended b' → IsWellFormed (altered s p (record x { blocked = Some b' }) boxes s.loans s.next_message)
   blocked_keeps b' stopped = concluded_keeps (record x { blocked = Some b' }) refl refl refl (λ m _ h. h) (record {
-    is_known = publisher.is_known; loans_bound = publisher.loans_bound; loans_once = publisher.loans_once; loans_below = publisher.loans_below;
+    is_known = publisher.is_known;
+    loans_bound = publisher.loans_bound;
+    loans_once = publisher.loans_once;
+    loans_below = publisher.loans_below;
     loans_held = λ m h. ⊎_elim (λ held. inl held)
         (λ (other : (b2 : BlockedSend) × (x.blocked ≡ Some b2) × (b2.message ≡ m)).
-          inr (b', refl, d.message b' stopped ∙ ap (λ (v : BlockedSend). v.message) (same_Some b other.0 (sym waits ∙ other.1)) ∙ other.2))
+        inr (b', refl, d.message b' stopped ∙ ap (λ (v : BlockedSend). v.message) (same_Some b other.0 (sym waits ∙ other.1)) ∙ other.2))
         (publisher.loans_held m h);
-    history_bound = publisher.history_bound; history_once = publisher.history_once; history_below = publisher.history_below;
-    ends_bound = publisher.ends_bound; ends_apart = publisher.ends_apart; ends_known = publisher.ends_known; ends_stand = publisher.ends_stand;
+    history_bound = publisher.history_bound;
+    history_once = publisher.history_once;
+    history_below = publisher.history_below;
+    ends_bound = publisher.ends_bound;
+    ends_apart = publisher.ends_apart;
+    ends_known = publisher.ends_known;
+    ends_stand = publisher.ends_stand;
     slots_bound = λ static. omega (arith, holds_fewer x.loans (λ m h. h), publisher.slots_bound static);
-    some_segment = publisher.some_segment; segments_bound = publisher.segments_bound;
+    some_segment = publisher.some_segment;
+    segments_bound = publisher.segments_bound;
     blocked = λ b2 e. subst (λ (v : BlockedSend). BlockedIsWellFormed (uniform s (record x { blocked = Some b' }) boxes s.loans s.next_message) p
         (record x { blocked = Some b' }) v) (same_Some b' b2 e) (record {
-      is_out = ap (contains x.loans) (d.message b' stopped) ∙ blocked.is_out;
-      unheld = ap s.loans (d.message b' stopped) ∙ blocked.unheld;
-      ends = d.remain b' stopped;
-      unserved = λ q h. ap (λ (k : Mailbox). contains (numbers_in k) b'.message) (d.unserved b' stopped q h)
-          ∙ ap (contains (numbers_in (s.mailboxes p q))) (d.message b' stopped) ∙ blocked.unserved q (inside q (d.within b' stopped q h));
-    });
+          is_out = ap (contains x.loans) (d.message b' stopped) ∙ blocked.is_out;
+          unheld = ap s.loans (d.message b' stopped) ∙ blocked.unheld;
+          ends = d.remain b' stopped;
+          unserved = λ q h. ap (λ (k : Mailbox). contains (numbers_in k) b'.message) (d.unserved b' stopped q h)
+              ∙ ap (contains (numbers_in (s.mailboxes p q))) (d.message b' stopped) ∙ blocked.unserved q (inside q (d.within b' stopped q h));
+        });
   })

@@ -19,31 +19,31 @@ use Rattle.iox2_laws.proofs.MailboxLemmas.{IsWithin-empty}
 -- no port stands anywhere, and none has a record
 pub PlacesAgree-nothing : (limit : ℕ) → PlacesAgree limit [] (λ _. None)
 PlacesAgree-nothing limit = record {
-    bound = omega arith;
-    stands = λ id place h. absurd (none-some place h);
-    known = λ id place h. absurd (none-some id h);
-  }
+  bound = omega arith;
+  stands = λ id place h. absurd (none-some place h);
+  known = λ id place h. absurd (none-some id h);
+}
 
 fresh_mailbox : {T U : Type 0} (c : ServiceConfig) (p q : ℕ) → MailboxIsWellFormed (fresh {T = T} {U = U} c) p q
 fresh_mailbox c p q = record {
-    within = IsWithin-empty (buffer_limit c) c.subscriber_max_borrowed_samples;
-    room = λ y e. absurd (none-some y e);
-    below = λ n h. absurd (true≢false (sym h));
-    known = λ h. absurd (true≢false (sym h));
-    sender_end = λ x e. absurd (none-some x e);
-    receiver_end = λ h. absurd (true≢false (sym h));
-  }
+  within = IsWithin-empty (buffer_limit c) c.subscriber_max_borrowed_samples;
+  room = λ y e. absurd (none-some y e);
+  below = λ n h. absurd (true≢false (sym h));
+  known = λ h. absurd (true≢false (sym h));
+  sender_end = λ x e. absurd (none-some x e);
+  receiver_end = λ h. absurd (true≢false (sym h));
+}
 
 -- a new domain's state is well-formed
 pub fresh_is_well_formed : {T U : Type 0} (c : ServiceConfig) → IsWellFormed (fresh {T = T} {U = U} c)
 fresh_is_well_formed {T} {U} c = record {
-    publisher_places = PlacesAgree-nothing c.max_publishers;
-    subscriber_places = PlacesAgree-nothing c.max_subscribers;
-    publishers = λ p x e. absurd (none-some x e);
-    subscribers = λ q y e. absurd (none-some y e);
-    mailboxes = λ p q. fresh_mailbox {T = T} {U = U} c p q;
-    loans = λ n l e. absurd (none-some l e);
-  }
+  publisher_places = PlacesAgree-nothing c.max_publishers;
+  subscriber_places = PlacesAgree-nothing c.max_subscribers;
+  publishers = λ p x e. absurd (none-some x e);
+  subscribers = λ q y e. absurd (none-some y e);
+  mailboxes = λ p q. fresh_mailbox {T = T} {U = U} c p q;
+  loans = λ n l e. absurd (none-some l e);
+}
 
 -- ---- enough slots
 
@@ -64,8 +64,13 @@ module _ {T U : Type 0} (s : State T U) (w : IsWellFormed s) where
       let most : ℕ = buffer_limit s.config + (s.config).subscriber_max_borrowed_samples in
       let b : PublisherIsWellFormed s p x = w.publishers p x e in
       let boxes : length (flat_map (λ q. numbers_in (s.mailboxes p q)) (occupants x.ends)) ≤ length (occupants x.ends) * most =
-          length-flat_map (λ q. numbers_in (s.mailboxes p q)) most (length-mailbox_le p) (occupants x.ends) in
+      length-flat_map (λ q. numbers_in (s.mailboxes p q)) most (length-mailbox_le p) (occupants x.ends) in
       let ends : length (occupants x.ends) ≤ (s.config).max_subscribers = omega (arith, length-occupants_le x.ends, b.ends_bound) in
       let times : length (occupants x.ends) * most ≤ (s.config).max_subscribers * most = more_times _ _ _ ends in
-      omega (arith, size_le_length (held s p x), length-append (x.loans ++ x.history) (flat_map (λ q. numbers_in (s.mailboxes p q)) (occupants x.ends)),
-        length-append x.loans x.history, b.history_bound)
+      omega (
+        arith,
+        size_le_length (held s p x),
+        length-append (x.loans ++ x.history) (flat_map (λ q. numbers_in (s.mailboxes p q)) (occupants x.ends)),
+        length-append x.loans x.history,
+        b.history_bound,
+      )

@@ -51,22 +51,32 @@ module _ {T U : Type 0} where
 
   -- other loans alone keep a state well-formed where those of present publishers stay their own and none appears
   pub loans_keep : (s : State T U) (loans : ℕ → Option (Loan T U)) → IsWellFormed s
-    → ((n : ℕ) (l : Loan T U) → loans n ≡ Some l → LoanIsWellFormed s n l)
-    → ((n : ℕ) (l : Loan T U) (x : Publisher) → s.loans n ≡ Some l → s.publishers l.publisher ≡ Some x
-    → (l' : Loan T U) × (loans n ≡ Some l') × (l'.publisher ≡ l.publisher))
-    → ((n : ℕ) → s.loans n ≡ None → loans n ≡ None)
-    → IsWellFormed (record s { loans = loans })
+      → ((n : ℕ) (l : Loan T U) → loans n ≡ Some l → LoanIsWellFormed s n l)
+      → ((n : ℕ) (l : Loan T U) (x : Publisher) → s.loans n ≡ Some l → s.publishers l.publisher ≡ Some x
+      → (l' : Loan T U) × (loans n ≡ Some l') × (l'.publisher ≡ l.publisher))
+      → ((n : ℕ) → s.loans n ≡ None → loans n ≡ None)
+      → IsWellFormed (record s { loans = loans })
   loans_keep s loans w own stays none = record {
-    publisher_places = w.publisher_places; subscriber_places = w.subscriber_places;
+    publisher_places = w.publisher_places;
+    subscriber_places = w.subscriber_places;
     publishers = λ p x e. publisher_moves s s.publishers s.mailboxes loans s.next_message (le_refl s.next_message) p x refl
-      (λ n l h same. let found : (l' : Loan T U) × (loans n ≡ Some l') × (l'.publisher ≡ l.publisher) = stays n l x h (ap s.publishers same ∙ e) in
-          (found.0, found.1, found.2 ∙ same))
-      (λ n _ h. none n h) (w.publishers p x e);
+        (λ n l h same. let found : (l' : Loan T U) × (loans n ≡ Some l') × (l'.publisher ≡ l.publisher) = stays n l x h (ap s.publishers same ∙ e) in
+        (found.0, found.1, found.2 ∙ same))
+        (λ n _ h. none n h) (w.publishers p x e);
     subscribers = λ q y e. let v : SubscriberIsWellFormed s q y = w.subscribers q y e in record {
-      is_known = v.is_known; some_room = v.some_room; buffer_bound = v.buffer_bound; ends_bound = v.ends_bound; ends_apart = v.ends_apart;
+      is_known = v.is_known;
+      some_room = v.some_room;
+      buffer_bound = v.buffer_bound;
+      ends_bound = v.ends_bound;
+      ends_apart = v.ends_apart;
       ends_known = v.ends_known;
-      ends_stand = v.ends_stand; expired_bound = v.expired_bound; expired_once = v.expired_once; expired_apart = v.expired_apart; expired_known = v.expired_known;
-      expired_gone = v.expired_gone; expired_kept = v.expired_kept;
+      ends_stand = v.ends_stand;
+      expired_bound = v.expired_bound;
+      expired_once = v.expired_once;
+      expired_apart = v.expired_apart;
+      expired_known = v.expired_known;
+      expired_gone = v.expired_gone;
+      expired_kept = v.expired_kept;
     };
     mailboxes = λ p q. mailbox_moves s s.publishers s.mailboxes loans s.next_message (le_refl s.next_message) p q refl refl (w.mailboxes p q);
     loans = λ n l e. loan_moves s s.publishers s.mailboxes loans s.next_message (le_refl s.next_message) n l refl refl (own n l e);
@@ -75,7 +85,7 @@ module _ {T U : Type 0} where
   module _ (s : State T U) (w : IsWellFormed s) (n : ℕ) (l : Loan T U) (found : s.loans n ≡ Some l) where
     -- a loan changes in its user header and its cells, and a written one has all of these
     pub with_loan_keeps : (l' : Loan T U) → l'.publisher ≡ l.publisher → l'.header ≡ l.header → length l'.cells ≡ length l.cells
-      → (l'.is_written ≡ true → is_initialized l' ≡ true) → IsWellFormed (with_loan s n (Some l'))
+        → (l'.is_written ≡ true → is_initialized l' ≡ true) → IsWellFormed (with_loan s n (Some l'))
     with_loan_keeps l' same header cells complete =
         let v : LoanIsWellFormed s n l = w.loans n l found in
         let new : LoanIsWellFormed s n l' = record {
@@ -88,21 +98,25 @@ module _ {T U : Type 0} where
           unsent = λ q. ap (λ i. contains (numbers_in (s.mailboxes i q)) n) same ∙ v.unsent q;
         } in
         loans_keep s (put_at s.loans n (Some l')) w
-          (λ i u e. found_put s.loans n l' (LoanIsWellFormed s) i u e (λ _. new) (λ _ e. w.loans i u e))
-          (λ i u x e _. at_each s.loans n (Some l') (λ j o. s.loans j ≡ Some u → (l2 : Loan T U) × (o ≡ Some l2) × (l2.publisher ≡ u.publisher)) i
-            (λ _ e. (l', refl, same ∙ ap (λ (k : Loan T U). k.publisher) (same_Some l u (sym found ∙ e))))
-            (λ _ e. (u, e, refl)) e)
-          (λ i e. at_each s.loans n (Some l') (λ j o. s.loans j ≡ None → o ≡ None) i (λ _ e. absurd (none-some l (sym e ∙ found))) (λ _ e. e) e)
+        (λ i u e. found_put s.loans n l' (LoanIsWellFormed s) i u e (λ _. new) (λ _ e. w.loans i u e))
+        (λ i u x e _. at_each s.loans n (Some l') (λ j o. s.loans j ≡ Some u → (l2 : Loan T U) × (o ≡ Some l2) × (l2.publisher ≡ u.publisher)) i
+        (λ _ e. (l', refl, same ∙ ap (λ (k : Loan T U). k.publisher) (same_Some l u (sym found ∙ e))))
+        (λ _ e. (u, e, refl)) e)
+        (λ i e. at_each s.loans n (Some l') (λ j o. s.loans j ≡ None → o ≡ None) i (λ _ e. absurd (none-some l (sym e ∙ found))) (λ _ e. e) e)
 
     -- a loan of a closed publisher is lost
     pub loan_lost_keeps : s.publishers l.publisher ≡ None → IsWellFormed (with_loan s n None)
     loan_lost_keeps gone =
         loans_keep s (put_at s.loans n None) w
-          (λ i u e. found_removed s.loans n i u (LoanIsWellFormed s i u) e (λ _ e. w.loans i u e))
-          (λ i u x e here. (u, put_at-other s.loans n None i
-            (ne_eqb i n (λ same. none-some x (sym gone ∙ ap (λ (k : Loan T U). s.publishers k.publisher) (same_Some l u (sym found ∙ ap s.loans (sym same) ∙ e))
-                ∙ here))) ∙ e, refl))
-          (λ i e. at_each s.loans n None (λ _ o. o ≡ None) i (λ _. refl) (λ _. e))
+        (λ i u e. found_removed s.loans n i u (LoanIsWellFormed s i u) e (λ _ e. w.loans i u e))
+        (λ i u x e here. (
+          u,
+          put_at-other s.loans n None i
+              (ne_eqb i n (λ same. none-some x (sym gone ∙ ap (λ (k : Loan T U). s.publishers k.publisher) (same_Some l u (sym found ∙ ap s.loans (sym same) ∙ e))
+              ∙ here))) ∙ e,
+          refl,
+        ))
+        (λ i e. at_each s.loans n None (λ _ o. o ≡ None) i (λ _. refl) (λ _. e))
 
     -- one cell is written
     pub cell_written_keeps : (at : ℕ) (value : T) → IsWellFormed (with_loan s n (Some (with_cell l at value)))
@@ -141,7 +155,7 @@ module _ {T U : Type 0} where
 
     -- the state after a loan of a present publisher was given back, part by part
     discarded_is : (x : Publisher) → s.publishers l.publisher ≡ Some x
-      → altered s l.publisher (record x { loans = without n x.loans }) (s.mailboxes l.publisher) (put_at s.loans n None) s.next_message ≡ loan_discarded s n l
+        → altered s l.publisher (record x { loans = without n x.loans }) (s.mailboxes l.publisher) (put_at s.loans n None) s.next_message ≡ loan_discarded s n l
     discarded_is x here = altered_same_row s l.publisher (record x { loans = without n x.loans }) (put_at s.loans n None) s.next_message
         (put_at s.publishers l.publisher (option_map (λ (v : Publisher). record v { loans = without n v.loans }) (s.publishers l.publisher)))
         (λ i. ap (λ o. put_at s.publishers l.publisher o i) (ap (option_map (λ (v : Publisher). record v { loans = without n v.loans })) (sym here)))
@@ -155,8 +169,8 @@ module _ {T U : Type 0} where
     not_this m ns h = ne_eqb m n (λ same. true≢false (sym h ∙ ap (contains (without n ns)) same ∙ contains-without_same n ns))
 
     discarded_publisher : (x : Publisher) → s.publishers l.publisher ≡ Some x
-      → PublisherIsWellFormed (uniform s (record x { loans = without n x.loans }) (s.mailboxes l.publisher) (put_at s.loans n None) s.next_message) l.publisher
-          (record x { loans = without n x.loans })
+        → PublisherIsWellFormed (uniform s (record x { loans = without n x.loans }) (s.mailboxes l.publisher) (put_at s.loans n None) s.next_message) l.publisher
+        (record x { loans = without n x.loans })
     discarded_publisher x here = let v : PublisherIsWellFormed s l.publisher x = w.publishers l.publisher x here in record {
       is_known = v.is_known;
       loans_bound = omega (arith, length-without_le n x.loans, v.loans_bound);
@@ -164,23 +178,29 @@ module _ {T U : Type 0} where
       loans_below = λ m h. v.loans_below m (contains_in_without n m x.loans h);
       loans_held = λ m h. ⊎_elim (λ held. inl (held.0, put_at-other s.loans n None m (not_this m x.loans h) ∙ held.1, held.2)) (λ waits. inr waits)
           (v.loans_held m (contains_in_without n m x.loans h));
-      history_bound = v.history_bound; history_once = v.history_once; history_below = v.history_below;
-      ends_bound = v.ends_bound; ends_apart = v.ends_apart; ends_known = v.ends_known; ends_stand = v.ends_stand;
+      history_bound = v.history_bound;
+      history_once = v.history_once;
+      history_below = v.history_below;
+      ends_bound = v.ends_bound;
+      ends_apart = v.ends_apart;
+      ends_known = v.ends_known;
+      ends_stand = v.ends_stand;
       slots_bound = λ static.
           let boxes : List ℕ = flat_map (λ q. numbers_in (s.mailboxes l.publisher q)) (occupants x.ends) in
           let fewer : size (without n x.loans ++ x.history ++ boxes) ≤ size (x.loans ++ x.history ++ boxes) =
-              size_le (without n x.loans ++ x.history ++ boxes) (x.loans ++ x.history ++ boxes) (λ m h. in_three (without n x.loans) x.history boxes m _ h
-                (λ k. in_first x.loans x.history boxes m (contains_in_without n m x.loans k)) (in_second x.loans x.history boxes m)
-                    (in_third x.loans x.history boxes m)) in
+          size_le (without n x.loans ++ x.history ++ boxes) (x.loans ++ x.history ++ boxes) (λ m h. in_three (without n x.loans) x.history boxes m _ h
+          (λ k. in_first x.loans x.history boxes m (contains_in_without n m x.loans k)) (in_second x.loans x.history boxes m)
+          (in_third x.loans x.history boxes m)) in
           omega (arith, fewer, v.slots_bound static);
-      some_segment = v.some_segment; segments_bound = v.segments_bound;
+      some_segment = v.some_segment;
+      segments_bound = v.segments_bound;
       blocked = λ b e. let u : BlockedIsWellFormed s l.publisher x b = v.blocked b e in
           let apart : eqb b.message n ≡ false = absent_apart s.loans b.message n l u.unheld found in record {
-        is_out = contains-without_other n b.message x.loans apart u.is_out;
-        unheld = put_at-other s.loans n None b.message apart ∙ u.unheld;
-        ends = u.ends;
-        unserved = u.unserved;
-      };
+            is_out = contains-without_other n b.message x.loans apart u.is_out;
+            unheld = put_at-other s.loans n None b.message apart ∙ u.unheld;
+            ends = u.ends;
+            unserved = u.unserved;
+          };
     }
 
     -- a loan is given back
@@ -189,29 +209,31 @@ module _ {T U : Type 0} where
         elim (s.publishers l.publisher) as (λ o. s.publishers l.publisher ≡ o → IsWellFormed (loan_discarded s n l)) [
           | None ↦ λ gone. subst IsWellFormed
               (same_state (with_loan s n None) (loan_discarded s n l) refl refl refl (λ _. refl)
-                (λ i. at_each s.publishers l.publisher (option_map (λ (v : Publisher). record v { loans = without n v.loans }) (s.publishers l.publisher))
-                    (λ j o. s.publishers j ≡ o) i
-                  (λ _. gone ∙ sym (ap (option_map (λ (v : Publisher). record v { loans = without n v.loans })) gone)) (λ _. refl))
-                (λ _. refl) (λ _ _. refl) refl refl refl)
+              (λ i. at_each s.publishers l.publisher (option_map (λ (v : Publisher). record v { loans = without n v.loans }) (s.publishers l.publisher))
+              (λ j o. s.publishers j ≡ o) i
+              (λ _. gone ∙ sym (ap (option_map (λ (v : Publisher). record v { loans = without n v.loans })) gone)) (λ _. refl))
+              (λ _. refl) (λ _ _. refl) refl refl refl)
               (loan_lost_keeps gone)
           | Some x ↦ λ here. subst IsWellFormed (discarded_is x here)
               (altered_keeps s l.publisher x (record x { loans = without n x.loans }) (s.mailboxes l.publisher) (put_at s.loans n None) s.next_message w here
-                  refl (le_refl s.next_message)
-                (discarded_publisher x here)
-                (λ q. mailbox_stays s l.publisher x (record x { loans = without n x.loans }) (s.mailboxes l.publisher) (put_at s.loans n None) s.next_message
-                    here (le_refl s.next_message) q refl refl (w.mailboxes l.publisher q))
-                (λ m u e. found_removed s.loans n m u _ e (λ apart e.
-                  elim (eqb u.publisher l.publisher) as (λ b. eqb u.publisher l.publisher ≡ b → ((s.loans m ≡ Some u) × (b ≡ false)) ⊎ ((u.publisher ≡ l.publisher)
-                      × LoanIsWellFormed (uniform s (record x { loans = without n x.loans }) (s.mailboxes l.publisher) (put_at s.loans n None) s.next_message) m
-                          u)) [
-                    | true ↦ λ same. inr (eqb-true u.publisher l.publisher same,
-                        loan_stays s l.publisher x (record x { loans = without n x.loans }) (s.mailboxes l.publisher) (put_at s.loans n None) s.next_message
-                            here (le_refl s.next_message) m u
-                          (eqb-true u.publisher l.publisher same) (contains-without_other n m x.loans apart) (λ h. h) (λ q h. h) (w.loans m u e))
-                    | false ↦ λ _. inl (e, refl)
-                  ] refl))
-                other_loan
-                (λ i _ e. at_each s.loans n None (λ _ o. o ≡ None) i (λ _. refl) (λ _. e)))
+              refl (le_refl s.next_message)
+              (discarded_publisher x here)
+              (λ q. mailbox_stays s l.publisher x (record x { loans = without n x.loans }) (s.mailboxes l.publisher) (put_at s.loans n None) s.next_message
+              here (le_refl s.next_message) q refl refl (w.mailboxes l.publisher q))
+              (λ m u e. found_removed s.loans n m u _ e (λ apart e.
+              elim (eqb u.publisher l.publisher) as (λ b. eqb u.publisher l.publisher ≡ b → ((s.loans m ≡ Some u) × (b ≡ false)) ⊎ ((u.publisher ≡ l.publisher)
+              × LoanIsWellFormed (uniform s (record x { loans = without n x.loans }) (s.mailboxes l.publisher) (put_at s.loans n None) s.next_message) m
+              u)) [
+                | true ↦ λ same. inr (
+                  eqb-true u.publisher l.publisher same,
+                  loan_stays s l.publisher x (record x { loans = without n x.loans }) (s.mailboxes l.publisher) (put_at s.loans n None) s.next_message
+                      here (le_refl s.next_message) m u
+                      (eqb-true u.publisher l.publisher same) (contains-without_other n m x.loans apart) (λ h. h) (λ q h. h) (w.loans m u e),
+                )
+                | false ↦ λ _. inl (e, refl)
+              ] refl))
+              other_loan
+              (λ i _ e. at_each s.loans n None (λ _ o. o ≡ None) i (λ _. refl) (λ _. e)))
         ] refl
 
   -- ---- a loan is granted
@@ -241,8 +263,8 @@ module _ {T U : Type 0} where
 
     lender_is_well_formed : length x.loans < x.max_loaned_samples → (is_static x.allocation_strategy ≡ true → size (held s p x) < x.slots) → 0 < segments
         → segments ≤ segment_limit
-      → PublisherIsWellFormed (uniform s lender (s.mailboxes p) (put_at s.loans s.next_message (Some (granted default_header s p len))) (s.next_message + 1)) p
-          lender
+        → PublisherIsWellFormed (uniform s lender (s.mailboxes p) (put_at s.loans s.next_message (Some (granted default_header s p len))) (s.next_message + 1)) p
+        lender
     lender_is_well_formed room free some few = let v : PublisherIsWellFormed s p x = w.publishers p x here in record {
       is_known = v.is_known;
       loans_bound = omega (arith, length-append x.loans (s.next_message ∷ []), room);
@@ -253,26 +275,36 @@ module _ {T U : Type 0} where
           (contains_in_append x.loans (s.next_message ∷ []) m h);
       loans_held = λ m h. ⊎_elim
           (λ k. ⊎_elim (λ held. inl (held.0, old_loan m (v.loans_below m k) ∙ held.1, held.2)) (λ waits. inr waits) (v.loans_held m k))
-          (λ k. inl ((granted default_header s p len), ap (put_at s.loans s.next_message (Some (granted default_header s p len)))
-              (sym (contains_one s.next_message m k)) ∙ put_at-same s.loans s.next_message (Some (granted default_header s p len)), refl))
+          (λ k. inl (
+            (granted default_header s p len),
+            ap (put_at s.loans s.next_message (Some (granted default_header s p len)))
+                (sym (contains_one s.next_message m k)) ∙ put_at-same s.loans s.next_message (Some (granted default_header s p len)),
+            refl,
+          ))
           (contains_in_append x.loans (s.next_message ∷ []) m h);
-      history_bound = v.history_bound; history_once = v.history_once;
+      history_bound = v.history_bound;
+      history_once = v.history_once;
       history_below = λ m h. let low : m < s.next_message = v.history_below m h in omega arith;
-      ends_bound = v.ends_bound; ends_apart = v.ends_apart; ends_known = v.ends_known; ends_stand = v.ends_stand;
+      ends_bound = v.ends_bound;
+      ends_apart = v.ends_apart;
+      ends_known = v.ends_known;
+      ends_stand = v.ends_stand;
       slots_bound = λ static.
           let boxes : List ℕ = flat_map (λ q. numbers_in (s.mailboxes p q)) (occupants x.ends) in
           let more : size ((x.loans ++ s.next_message ∷ []) ++ x.history ++ boxes) ≤ size (x.loans ++ x.history ++ boxes) + 1 =
-              size_le_one_more ((x.loans ++ s.next_message ∷ []) ++ x.history ++ boxes) (x.loans ++ x.history ++ boxes) s.next_message (λ m h.
-                in_three (x.loans ++ s.next_message ∷ []) x.history boxes m _ h
-                  (λ k. ⊎_elim (λ old. inr (in_first x.loans x.history boxes m old)) (λ new. inl (sym (contains_one s.next_message m new)))
-                      (contains_in_append x.loans (s.next_message ∷ []) m k))
-                  (λ k. inr (in_second x.loans x.history boxes m k)) (λ k. inr (in_third x.loans x.history boxes m k))) in
+          size_le_one_more ((x.loans ++ s.next_message ∷ []) ++ x.history ++ boxes) (x.loans ++ x.history ++ boxes) s.next_message (λ m h.
+          in_three (x.loans ++ s.next_message ∷ []) x.history boxes m _ h
+          (λ k. ⊎_elim (λ old. inr (in_first x.loans x.history boxes m old)) (λ new. inl (sym (contains_one s.next_message m new)))
+          (contains_in_append x.loans (s.next_message ∷ []) m k))
+          (λ k. inr (in_second x.loans x.history boxes m k)) (λ k. inr (in_third x.loans x.history boxes m k))) in
           omega (arith, more, free static);
-      some_segment = some; segments_bound = few;
+      some_segment = some;
+      segments_bound = few;
       blocked = λ b e. let u : BlockedIsWellFormed s p x b = v.blocked b e in record {
         is_out = contains_left x.loans (s.next_message ∷ []) b.message u.is_out;
         unheld = old_loan b.message (v.loans_below b.message u.is_out) ∙ u.unheld;
-        ends = u.ends; unserved = u.unserved;
+        ends = u.ends;
+        unserved = u.unserved;
       };
     }
 
@@ -280,13 +312,15 @@ module _ {T U : Type 0} where
         (s.next_message + 1)) s.next_message (granted default_header s p len)
     granted_is_well_formed = let v : PublisherIsWellFormed s p x = w.publishers p x here in record {
       below = omega arith;
-      known = v.is_known; origin = refl;
+      known = v.is_known;
+      origin = refl;
       cells = length-replicate (len * (s.config).units_per_element) None;
       complete = λ h. absurd (true≢false (sym h));
-      is_out = λ u e. subst (λ (y : Publisher). (contains y.loans s.next_message ≡ true) × (contains y.history s.next_message ≡ false)) (same_Some lender u e)
-          (contains_right x.loans (s.next_message ∷ []) s.next_message
-              (or_left (eqb s.next_message s.next_message) false (eq-eqb s.next_message s.next_message refl)),
-           absent_from x.history s.next_message (λ h. let low : s.next_message < s.next_message = v.history_below s.next_message h in omega arith));
+      is_out = λ u e. subst (λ (y : Publisher). (contains y.loans s.next_message ≡ true) × (contains y.history s.next_message ≡ false)) (same_Some lender u e) (
+        contains_right x.loans (s.next_message ∷ []) s.next_message
+            (or_left (eqb s.next_message s.next_message) false (eq-eqb s.next_message s.next_message refl)),
+        absent_from x.history s.next_message (λ h. let low : s.next_message < s.next_message = v.history_below s.next_message h in omega arith),
+      );
       unsent = λ q. absent_from (numbers_in (s.mailboxes p q)) s.next_message
           (λ h. let low : s.next_message < s.next_message = (w.mailboxes p q).below s.next_message h in omega arith);
     }
@@ -294,29 +328,31 @@ module _ {T U : Type 0} where
     -- a loan that is granted within the publisher's limits
     loan_granted_keeps : length x.loans < x.max_loaned_samples → (is_static x.allocation_strategy ≡ true → size (held s p x) < x.slots) → 0 < segments
         → segments ≤ segment_limit
-      → IsWellFormed (loan_granted default_header s p x len segments)
+        → IsWellFormed (loan_granted default_header s p x len segments)
     loan_granted_keeps room free some few = subst IsWellFormed granted_is
         (altered_keeps s p x lender (s.mailboxes p) (put_at s.loans s.next_message (Some (granted default_header s p len))) (s.next_message + 1) w here refl
-            (omega arith)
-          (lender_is_well_formed room free some few)
-          (λ q. mailbox_stays s p x lender (s.mailboxes p) (put_at s.loans s.next_message (Some (granted default_header s p len))) (s.next_message + 1) here
-              (omega arith) q refl refl (w.mailboxes p q))
-          (λ m u e. found_put s.loans s.next_message (granted default_header s p len)
-            (λ i l. ((s.loans i ≡ Some l) × (eqb l.publisher p ≡ false))
-                ⊎ ((l.publisher ≡ p) × LoanIsWellFormed
-                    (uniform s lender (s.mailboxes p) (put_at s.loans s.next_message (Some (granted default_header s p len))) (s.next_message + 1)) i l)) m u e
-            (λ _. inr (refl, granted_is_well_formed))
-            (λ _ e. elim (eqb u.publisher p) as (λ b. eqb u.publisher p ≡ b → ((s.loans m ≡ Some u) × (b ≡ false)) ⊎ ((u.publisher ≡ p)
-                × LoanIsWellFormed (uniform s lender (s.mailboxes p) (put_at s.loans s.next_message (Some (granted default_header s p len)))
-                    (s.next_message + 1)) m u)) [
-              | true ↦ λ same. inr (eqb-true u.publisher p same,
-                  loan_stays s p x lender (s.mailboxes p) (put_at s.loans s.next_message (Some (granted default_header s p len))) (s.next_message + 1) here
-                      (omega arith) m u
-                    (eqb-true u.publisher p same) (contains_left x.loans (s.next_message ∷ []) m) (λ h. h) (λ q h. h) (w.loans m u e))
-              | false ↦ λ _. inl (e, refl)
-            ] refl))
-          (λ m u e _. old_loan m ((w.loans m u e).below) ∙ e)
-          (λ m low e. old_loan m low ∙ e))
+        (omega arith)
+        (lender_is_well_formed room free some few)
+        (λ q. mailbox_stays s p x lender (s.mailboxes p) (put_at s.loans s.next_message (Some (granted default_header s p len))) (s.next_message + 1) here
+        (omega arith) q refl refl (w.mailboxes p q))
+        (λ m u e. found_put s.loans s.next_message (granted default_header s p len)
+        (λ i l. ((s.loans i ≡ Some l) × (eqb l.publisher p ≡ false))
+        ⊎ ((l.publisher ≡ p) × LoanIsWellFormed
+        (uniform s lender (s.mailboxes p) (put_at s.loans s.next_message (Some (granted default_header s p len))) (s.next_message + 1)) i l)) m u e
+        (λ _. inr (refl, granted_is_well_formed))
+        (λ _ e. elim (eqb u.publisher p) as (λ b. eqb u.publisher p ≡ b → ((s.loans m ≡ Some u) × (b ≡ false)) ⊎ ((u.publisher ≡ p)
+        × LoanIsWellFormed (uniform s lender (s.mailboxes p) (put_at s.loans s.next_message (Some (granted default_header s p len)))
+        (s.next_message + 1)) m u)) [
+          | true ↦ λ same. inr (
+            eqb-true u.publisher p same,
+            loan_stays s p x lender (s.mailboxes p) (put_at s.loans s.next_message (Some (granted default_header s p len))) (s.next_message + 1) here
+                (omega arith) m u
+                (eqb-true u.publisher p same) (contains_left x.loans (s.next_message ∷ []) m) (λ h. h) (λ q h. h) (w.loans m u e),
+          )
+          | false ↦ λ _. inl (e, refl)
+        ] refl))
+        (λ m u e _. old_loan m ((w.loans m u e).below) ∙ e)
+        (λ m low e. old_loan m low ∙ e))
 
   -- a grant by cases: it is refused and nothing changes, or the publisher is within its limits
   module _ (environment : Environment) (default_header : U) (checks_length : Bool) (len : ℕ) (s : State T U) (p : ℕ) (s' : State T U) where
@@ -327,7 +363,7 @@ module _ {T U : Type 0} where
         × (s' ≡ loan_granted default_header s p x len segments) × (refusal ≡ None)
 
     dynamic_cases : (R : Type 0) (x : Publisher) → is_static x.allocation_strategy ≡ false → length x.loans < x.max_loaned_samples → (refusal : Option LoanError)
-      → DynamicLoan environment default_header s p x len s' refusal → ((e : LoanError) → s' ≡ s → refusal ≡ Some e → R) → (Grants x refusal → R) → R
+        → DynamicLoan environment default_header s p x len s' refusal → ((e : LoanError) → s' ≡ s → refusal ≡ Some e → R) → (Grants x refusal → R) → R
     dynamic_cases R x dynamic room None h refused grants =
         grants (h.2, ⊎_elim (λ same. inl same) (λ more. inr (more.0, more.1)) h.3, room, λ static. absurd (true≢false (sym static ∙ dynamic)), h.4, refl)
     dynamic_cases R x dynamic room (Some OutOfMemory) h refused grants = refused OutOfMemory h.0 refl
@@ -336,30 +372,30 @@ module _ {T U : Type 0} where
     dynamic_cases R x dynamic room (Some ExceedsMaxLoanSize) h refused grants = absurd h
 
     grant_cases : (R : Type 0) (refusal : Option LoanError) → GrantLoan environment default_header checks_length len s p s' refusal
-      → ((e : LoanError) → s' ≡ s → refusal ≡ Some e → R) → ((x : Publisher) → s.publishers p ≡ Some x → Grants x refusal → R) → R
+        → ((e : LoanError) → s' ≡ s → refusal ≡ Some e → R) → ((x : Publisher) → s.publishers p ≡ Some x → Grants x refusal → R) → R
     grant_cases R refusal h refused grants =
         by_option R (s.publishers p) _ _ h (λ _ v. absurd v) (λ x here h.
         by_option R (limit_error checks_length x len) _ _ h
-          (λ free h.
-            let room : length x.loans < x.max_loaned_samples = leb-false x.max_loaned_samples (length x.loans)
-                (no_limit _ (leb x.max_loaned_samples (length x.loans)) _ _ free) in
-            by_bool R (is_static x.allocation_strategy) _ _ h
-              (λ static h. by_bool R (eqb (size (held s p x)) x.slots) _ _ h (λ _ h. refused OutOfMemory h.0 h.1) (λ apart h.
-                by_bool R (eqb s.next_message last_number) _ _ h (λ _ h. refused InternalFailure h.0 h.1)
-                  (λ _ h. grants x here (x.segments, inl refl, room, λ _. apart, h.0, h.1))))
-              (λ dynamic h. dynamic_cases R x dynamic room refusal h refused (grants x here)))
-          (λ limit _ h. refused limit h.0 h.1))
+        (λ free h.
+        let room : length x.loans < x.max_loaned_samples = leb-false x.max_loaned_samples (length x.loans)
+        (no_limit _ (leb x.max_loaned_samples (length x.loans)) _ _ free) in
+        by_bool R (is_static x.allocation_strategy) _ _ h
+        (λ static h. by_bool R (eqb (size (held s p x)) x.slots) _ _ h (λ _ h. refused OutOfMemory h.0 h.1) (λ apart h.
+        by_bool R (eqb s.next_message last_number) _ _ h (λ _ h. refused InternalFailure h.0 h.1)
+        (λ _ h. grants x here (x.segments, inl refl, room, λ _. apart, h.0, h.1))))
+        (λ dynamic h. dynamic_cases R x dynamic room refusal h refused (grants x here)))
+        (λ limit _ h. refused limit h.0 h.1))
 
     -- a grant keeps a state well-formed
     pub grant_loan_keeps : (refusal : Option LoanError) → IsWellFormed s → GrantLoan environment default_header checks_length len s p s' refusal → IsWellFormed s'
     grant_loan_keeps refusal w h = grant_cases (IsWellFormed s') refusal h
         (λ e same _. subst IsWellFormed (sym same) w)
         (λ x here g. let v : PublisherIsWellFormed s p x = w.publishers p x here in
-          subst IsWellFormed (sym g.4) (loan_granted_keeps default_header s w p x here len g.0 g.2
-            (λ static. let bound : size (held s p x) ≤ x.slots = v.slots_bound static in
-              let apart : size (held s p x) ≡ x.slots → ⊥ = eqb-false (size (held s p x)) x.slots (g.3 static) in omega arith)
-            (⊎_elim (λ same. omega (arith, v.some_segment, same)) (λ more. omega (arith, more.0)) g.1)
-            (⊎_elim (λ same. omega (arith, v.segments_bound, same)) (λ more. omega (arith, more.0, more.1)) g.1)))
+        subst IsWellFormed (sym g.4) (loan_granted_keeps default_header s w p x here len g.0 g.2
+        (λ static. let bound : size (held s p x) ≤ x.slots = v.slots_bound static in
+        let apart : size (held s p x) ≡ x.slots → ⊥ = eqb-false (size (held s p x)) x.slots (g.3 static) in omega arith)
+        (⊎_elim (λ same. omega (arith, v.some_segment, same)) (λ more. omega (arith, more.0)) g.1)
+        (⊎_elim (λ same. omega (arith, v.segments_bound, same)) (λ more. omega (arith, more.0, more.1)) g.1)))
 
     -- a grant advances the state
     pub grant_loan_advances : (refusal : Option LoanError) → GrantLoan environment default_header checks_length len s p s' refusal → Advances s s'
@@ -372,31 +408,31 @@ module _ {T U : Type 0} where
     grant_loan_unblocked refusal h unblocked = grant_cases (is_blocked s' p ≡ false) refusal h
         (λ e same _. subst (λ (t : State T U). is_blocked t p ≡ false) (sym same) unblocked)
         (λ x here g. subst (λ (t : State T U). is_blocked t p ≡ false) (sym g.4)
-          (ap (λ (o : Option Publisher). option_map_or (λ (v : Publisher). is_some v.blocked) o false)
-              (put_at-same s.publishers p (Some (record x { loans = x.loans ++ s.next_message ∷ []; longest_granted = max x.longest_granted len; segments = g.0 })))
-            ∙ subst (λ (o : Option Publisher). option_map_or (λ (v : Publisher). is_some v.blocked) o false ≡ false) here unblocked))
+        (ap (λ (o : Option Publisher). option_map_or (λ (v : Publisher). is_some v.blocked) o false)
+        (put_at-same s.publishers p (Some (record x { loans = x.loans ++ s.next_message ∷ []; longest_granted = max x.longest_granted len; segments = g.0 })))
+        ∙ subst (λ (o : Option Publisher). option_map_or (λ (v : Publisher). is_some v.blocked) o false ≡ false) here unblocked))
 
     -- what was granted is there, unwritten, and in its publisher's name
     pub grant_loan_finds : (refusal : Option LoanError) → GrantLoan environment default_header checks_length len s p s' refusal → refusal ≡ None
-      → (l : Loan T U) × (s'.loans s.next_message ≡ Some l) × (l.publisher ≡ p) × (l.is_written ≡ false) × (s.next_message < s'.next_message)
+        → (l : Loan T U) × (s'.loans s.next_message ≡ Some l) × (l.publisher ≡ p) × (l.is_written ≡ false) × (s.next_message < s'.next_message)
     grant_loan_finds refusal h none = grant_cases _ refusal h
         (λ e same some. absurd (none-some e (sym none ∙ some)))
         (λ x here g. subst (λ (t : State T U). (l : Loan T U) × (t.loans s.next_message ≡ Some l) × (l.publisher ≡ p) × (l.is_written ≡ false)
-            × (s.next_message < t.next_message)) (sym g.4)
-          (granted default_header s p len, put_at-same s.loans s.next_message (Some (granted default_header s p len)), refl, refl, omega arith))
+        × (s.next_message < t.next_message)) (sym g.4)
+        (granted default_header s p len, put_at-same s.loans s.next_message (Some (granted default_header s p len)), refl, refl, omega arith))
 
   -- ---- a loan is granted with every cell written
 
   module _ (environment : Environment) (default_value : T) (default_header : U) (checks_length : Bool) (len : ℕ) (s : State T U) (p : ℕ) (s' : State T U) where
     -- a grant with every cell written keeps a state well-formed
     pub grant_written_loan_keeps : (refusal : Option LoanError) → IsWellFormed s
-      → GrantWrittenLoan environment default_value default_header checks_length len s p s' refusal → IsWellFormed s'
+        → GrantWrittenLoan environment default_value default_header checks_length len s p s' refusal → IsWellFormed s'
     grant_written_loan_keeps refusal w h =
         let v : IsWellFormed h.0 = grant_loan_keeps environment default_header checks_length len s p h.0 refusal w h.1 in
         by_option (IsWellFormed s') refusal _ _ h.2
-          (λ _ k. by_option (IsWellFormed s') ((h.0).loans s.next_message) _ _ k (λ _ v. absurd v)
-            (λ l found e. subst IsWellFormed (sym e) (loan_written_keeps h.0 v s.next_message l found default_value)))
-          (λ e _ k. subst IsWellFormed (sym k) v)
+        (λ _ k. by_option (IsWellFormed s') ((h.0).loans s.next_message) _ _ k (λ _ v. absurd v)
+        (λ l found e. subst IsWellFormed (sym e) (loan_written_keeps h.0 v s.next_message l found default_value)))
+        (λ e _ k. subst IsWellFormed (sym k) v)
 
     -- a grant with every cell written advances the state
     pub grant_written_loan_advances : (refusal : Option LoanError) → GrantWrittenLoan environment default_value default_header checks_length len s p s' refusal
@@ -404,32 +440,36 @@ module _ {T U : Type 0} where
     grant_written_loan_advances refusal h =
         let v : Advances s h.0 = grant_loan_advances environment default_header checks_length len s p h.0 refusal h.1 in
         by_option (Advances s s') refusal _ _ h.2
-          (λ _ k. by_option (Advances s s') ((h.0).loans s.next_message) _ _ k (λ _ v. absurd v)
-            (λ l found e. subst (Advances s) (sym e) (record { config = v.config; next_port = v.next_port; next_message = v.next_message })))
-          (λ e _ k. subst (Advances s) (sym k) v)
+        (λ _ k. by_option (Advances s s') ((h.0).loans s.next_message) _ _ k (λ _ v. absurd v)
+        (λ l found e. subst (Advances s) (sym e) (record { config = v.config; next_port = v.next_port; next_message = v.next_message })))
+        (λ e _ k. subst (Advances s) (sym k) v)
 
     -- a loan with every cell written blocks no publisher
     pub grant_written_loan_unblocked : (refusal : Option LoanError) → GrantWrittenLoan environment default_value default_header checks_length len s p s' refusal
-      → is_blocked s p ≡ false → is_blocked s' p ≡ false
+        → is_blocked s p ≡ false → is_blocked s' p ≡ false
     grant_written_loan_unblocked refusal h unblocked =
         let v : is_blocked h.0 p ≡ false = grant_loan_unblocked environment default_header checks_length len s p h.0 refusal h.1 unblocked in
         by_option (is_blocked s' p ≡ false) refusal _ _ h.2
-          (λ _ k. by_option (is_blocked s' p ≡ false) ((h.0).loans s.next_message) _ _ k (λ _ v. absurd v)
-            (λ l found e. subst (λ (t : State T U). is_blocked t p ≡ false) (sym e) v))
-          (λ e _ k. subst (λ (t : State T U). is_blocked t p ≡ false) (sym k) v)
+        (λ _ k. by_option (is_blocked s' p ≡ false) ((h.0).loans s.next_message) _ _ k (λ _ v. absurd v)
+        (λ l found e. subst (λ (t : State T U). is_blocked t p ≡ false) (sym e) v))
+        (λ e _ k. subst (λ (t : State T U). is_blocked t p ≡ false) (sym k) v)
 
     -- what was granted with every cell written is there, written, and in its publisher's name
     pub grant_written_loan_finds : (refusal : Option LoanError) → GrantWrittenLoan environment default_value default_header checks_length len s p s' refusal
         → refusal ≡ None
-      → (l : Loan T U) × (s'.loans s.next_message ≡ Some l) × (l.publisher ≡ p) × (l.is_written ≡ true) × (s.next_message < s'.next_message)
+        → (l : Loan T U) × (s'.loans s.next_message ≡ Some l) × (l.publisher ≡ p) × (l.is_written ≡ true) × (s.next_message < s'.next_message)
     grant_written_loan_finds refusal h none =
         let there : (l : Loan T U) × ((h.0).loans s.next_message ≡ Some l) × (l.publisher ≡ p) × (l.is_written ≡ false) × (s.next_message < (h.0).next_message) =
-            grant_loan_finds environment default_header checks_length len s p h.0 refusal h.1 none in
+        grant_loan_finds environment default_header checks_length len s p h.0 refusal h.1 none in
         by_option _ ((h.0).loans s.next_message) _ _
-          (subst (λ r. MatchOption r (MatchOption ((h.0).loans s.next_message) ⊥ (λ l. s' ≡ with_loan h.0 s.next_message (Some (written l default_value))))
-              (λ _. s' ≡ h.0)) none h.2)
-          (λ _ v. absurd v)
-          (λ l found e. subst (λ (t : State T U). (k : Loan T U) × (t.loans s.next_message ≡ Some k) × (k.publisher ≡ p) × (k.is_written ≡ true)
-              × (s.next_message < t.next_message)) (sym e)
-            (written l default_value, put_at-same (h.0).loans s.next_message (Some (written l default_value)),
-              ap (λ (k : Loan T U). k.publisher) (same_Some l there.0 (sym found ∙ there.1)) ∙ there.2, refl, there.4))
+        (subst (λ r. MatchOption r (MatchOption ((h.0).loans s.next_message) ⊥ (λ l. s' ≡ with_loan h.0 s.next_message (Some (written l default_value))))
+        (λ _. s' ≡ h.0)) none h.2)
+        (λ _ v. absurd v)
+        (λ l found e. subst (λ (t : State T U). (k : Loan T U) × (t.loans s.next_message ≡ Some k) × (k.publisher ≡ p) × (k.is_written ≡ true)
+        × (s.next_message < t.next_message)) (sym e) (
+          written l default_value,
+          put_at-same (h.0).loans s.next_message (Some (written l default_value)),
+          ap (λ (k : Loan T U). k.publisher) (same_Some l there.0 (sym found ∙ there.1)) ∙ there.2,
+          refl,
+          there.4,
+        ))

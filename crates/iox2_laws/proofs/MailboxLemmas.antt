@@ -65,8 +65,8 @@ nothing_borrowed box h = at box.waiting box.borrowed h
 pub IsOnce-between : (ws bs : List ℕ) (n : ℕ) → IsOnce (ws ++ bs) → contains (ws ++ bs) n ≡ false → IsOnce ((ws ++ n ∷ []) ++ bs)
 IsOnce-between ws bs n o absent =
     IsOnce-append (ws ++ n ∷ []) bs (IsOnce-push ws n (IsOnce-left ws bs o) (absent_left ws bs n absent)) (IsOnce-right ws bs o)
-      (λ m h. ⊎_elim (λ there. IsOnce-apart ws bs o m there) (λ here. ap (contains bs) (sym (contains_one n m here)) ∙ absent_right ws bs n absent)
-        (contains_in_append ws (n ∷ []) m h))
+    (λ m h. ⊎_elim (λ there. IsOnce-apart ws bs o m there) (λ here. ap (contains bs) (sym (contains_one n m here)) ∙ absent_right ws bs n absent)
+    (contains_in_append ws (n ∷ []) m h))
 
 -- a list's end before another list has no number more than the whole
 pub contains_in_dropped_part : (k : ℕ) (ws bs : List ℕ) (m : ℕ) → contains (drop k ws ++ bs) m ≡ true → contains (ws ++ bs) m ≡ true
@@ -86,20 +86,20 @@ IsWithin-empty buffer borrow_limit = record { waiting = omega arith; borrowed = 
 appended_count : (buffer n : ℕ) (ws : List ℕ) → 0 < buffer → length ws ≤ buffer → length (cond (ltb (length ws) buffer) ws (drop 1 ws) ++ n ∷ []) ≤ buffer
 appended_count buffer n ws some room =
     cond_both (ltb (length ws) buffer) ws (drop 1 ws) (λ vs. length (vs ++ n ∷ []) ≤ buffer)
-      (λ e. omega (arith, length-append ws (n ∷ []), ltb-true (length ws) buffer e))
-      (λ e. omega (arith, length-append (drop 1 ws) (n ∷ []), length-drop 1 ws))
+    (λ e. omega (arith, length-append ws (n ∷ []), ltb-true (length ws) buffer e))
+    (λ e. omega (arith, length-append (drop 1 ws) (n ∷ []), length-drop 1 ws))
 
 -- a number that is put, which isn't in the mailbox yet, keeps to the receiver's buffer and to the service's limit
 pub IsWithin-appended : (limit borrow_limit buffer n : ℕ) (box : Mailbox) → 0 < buffer → buffer ≤ limit → waiting_count box ≤ buffer → contains (numbers_in box) n ≡ false
-  → IsWithin limit borrow_limit box → IsWithin limit borrow_limit (with_appended buffer n box)
+    → IsWithin limit borrow_limit box → IsWithin limit borrow_limit (with_appended buffer n box)
 IsWithin-appended limit borrow_limit buffer n box some fits room absent w = record {
-    waiting = omega (arith, appended_count buffer n box.waiting some room);
-    borrowed = w.borrowed;
-    once = cond_both (ltb (length box.waiting) buffer) box.waiting (drop 1 box.waiting) (λ ws. IsOnce ((ws ++ n ∷ []) ++ box.borrowed))
+  waiting = omega (arith, appended_count buffer n box.waiting some room);
+  borrowed = w.borrowed;
+  once = cond_both (ltb (length box.waiting) buffer) box.waiting (drop 1 box.waiting) (λ ws. IsOnce ((ws ++ n ∷ []) ++ box.borrowed))
       (λ _. IsOnce-between box.waiting box.borrowed n w.once absent)
       (λ _. IsOnce-between (drop 1 box.waiting) box.borrowed n (IsOnce-dropped_part 1 box.waiting box.borrowed w.once)
-        (absent_from (drop 1 box.waiting ++ box.borrowed) n (λ h. true≢false (sym (contains_in_dropped_part 1 box.waiting box.borrowed n h) ∙ absent))));
-  }
+      (absent_from (drop 1 box.waiting ++ box.borrowed) n (λ h. true≢false (sym (contains_in_dropped_part 1 box.waiting box.borrowed n h) ∙ absent))));
+}
 
 -- after a number was appended, what waits keeps to the receiver's buffer
 pub waiting_count-appended : (buffer n : ℕ) (box : Mailbox) → 0 < buffer → waiting_count box ≤ buffer → waiting_count (with_appended buffer n box) ≤ buffer
@@ -109,17 +109,17 @@ waiting_count-appended buffer n box some room = appended_count buffer n box.wait
 pub contains_in_appended : (buffer n : ℕ) (box : Mailbox) (m : ℕ) → contains (numbers_in (with_appended buffer n box)) m ≡ true → (m ≡ n) ⊎ (contains (numbers_in box) m ≡ true)
 contains_in_appended buffer n box m h =
     cond_both (ltb (length box.waiting) buffer) box.waiting (drop 1 box.waiting)
-      (λ ws. contains ((ws ++ n ∷ []) ++ box.borrowed) m ≡ true → (m ≡ n) ⊎ (contains (box.waiting ++ box.borrowed) m ≡ true))
-      (λ _ h. at box.waiting h (λ k. k))
-      (λ _ h. at (drop 1 box.waiting) h (contains_in_dropped_part 1 box.waiting box.borrowed m)) h
+    (λ ws. contains ((ws ++ n ∷ []) ++ box.borrowed) m ≡ true → (m ≡ n) ⊎ (contains (box.waiting ++ box.borrowed) m ≡ true))
+    (λ _ h. at box.waiting h (λ k. k))
+    (λ _ h. at (drop 1 box.waiting) h (contains_in_dropped_part 1 box.waiting box.borrowed m)) h
   where
     at : (ws : List ℕ) → contains ((ws ++ n ∷ []) ++ box.borrowed) m ≡ true → (contains (ws ++ box.borrowed) m ≡ true → contains (box.waiting ++ box.borrowed) m ≡ true)
-      → (m ≡ n) ⊎ (contains (box.waiting ++ box.borrowed) m ≡ true)
+        → (m ≡ n) ⊎ (contains (box.waiting ++ box.borrowed) m ≡ true)
     at ws h whole =
         ⊎_elim
-          (λ left. ⊎_elim (λ there. inr (whole (contains_left ws box.borrowed m there))) (λ here. inl (sym (contains_one n m here))) (contains_in_append ws (n ∷ []) m left))
-          (λ right. inr (contains_right box.waiting box.borrowed m right))
-          (contains_in_append (ws ++ n ∷ []) box.borrowed m h)
+        (λ left. ⊎_elim (λ there. inr (whole (contains_left ws box.borrowed m there))) (λ here. inl (sym (contains_one n m here))) (contains_in_append ws (n ∷ []) m left))
+        (λ right. inr (contains_right box.waiting box.borrowed m right))
+        (contains_in_append (ws ++ n ∷ []) box.borrowed m h)
 
 -- what is borrowed stays when a number is appended
 pub has_borrows-appended : (buffer n : ℕ) (box : Mailbox) → has_borrows (with_appended buffer n box) ≡ has_borrows box
@@ -135,14 +135,14 @@ contains_in_dropped box m h = contains_right box.waiting box.borrowed m h
 
 -- the end of a history waits in a mailbox in which nothing is
 pub IsWithin-history : (limit borrow_limit buffer : ℕ) (history : List ℕ) (box : Mailbox) → buffer ≤ limit → IsOnce history → has_numbers box ≡ false
-  → IsWithin limit borrow_limit (with_waiting (last_n buffer history) box)
+    → IsWithin limit borrow_limit (with_waiting (last_n buffer history) box)
 IsWithin-history limit borrow_limit buffer history box fits once empty =
     let count : length (last_n buffer history) ≤ buffer = length-last_n buffer history in
     record {
       waiting = omega arith;
       borrowed = omega (arith, ap length (nothing_borrowed box empty));
       once = IsOnce-append (last_n buffer history) box.borrowed (IsOnce-last_n buffer history once) (subst IsOnce (sym (nothing_borrowed box empty)) tt)
-        (λ n _. ap (λ bs. contains bs n) (nothing_borrowed box empty));
+          (λ n _. ap (λ bs. contains bs n) (nothing_borrowed box empty));
     }
 
 -- the end of a history keeps to the receiver's buffer
@@ -151,11 +151,11 @@ waiting_count-history buffer history box = length-last_n buffer history
 
 -- in a mailbox that was filled from a history are numbers of the history alone
 pub contains_in_history : (buffer : ℕ) (history : List ℕ) (box : Mailbox) (m : ℕ) → has_numbers box ≡ false
-  → contains (numbers_in (with_waiting (last_n buffer history) box)) m ≡ true → contains history m ≡ true
+    → contains (numbers_in (with_waiting (last_n buffer history) box)) m ≡ true → contains history m ≡ true
 contains_in_history buffer history box m empty h =
     ⊎_elim (λ left. contains_in_last_n buffer history m left)
-      (λ right. absurd (true≢false (sym right ∙ ap (λ bs. contains bs m) (nothing_borrowed box empty))))
-      (contains_in_append (last_n buffer history) box.borrowed m h)
+    (λ right. absurd (true≢false (sym right ∙ ap (λ bs. contains bs m) (nothing_borrowed box empty))))
+    (contains_in_append (last_n buffer history) box.borrowed m h)
 
 -- what is borrowed stays when other numbers wait
 pub has_borrows-history : (ns : List ℕ) (box : Mailbox) → has_borrows (with_waiting ns box) ≡ has_borrows box
@@ -185,34 +185,35 @@ contains_in_borrowed n box box' m borrows h =
     let rest : List ℕ = borrows.0 in
     let found : contains (rest ++ (box.borrowed ++ n ∷ [])) m ≡ true = subst (λ (b : Mailbox). contains (numbers_in b) m ≡ true) borrows.2 h in
     subst (λ ws. contains (ws ++ box.borrowed) m ≡ true) (sym borrows.1)
-      (⊎_elim (λ left. contains_left (n ∷ rest) box.borrowed m (contains_later n m rest left))
-        (λ right. ⊎_elim (λ there. contains_right (n ∷ rest) box.borrowed m there)
-          (λ here. contains_left (n ∷ rest) box.borrowed m (or_left (eqb n m) (contains rest m) (eq-eqb n m (contains_one n m here))))
-          (contains_in_append box.borrowed (n ∷ []) m right))
-        (contains_in_append rest (box.borrowed ++ n ∷ []) m found))
+    (⊎_elim (λ left. contains_left (n ∷ rest) box.borrowed m (contains_later n m rest left))
+    (λ right. ⊎_elim (λ there. contains_right (n ∷ rest) box.borrowed m there)
+    (λ here. contains_left (n ∷ rest) box.borrowed m (or_left (eqb n m) (contains rest m) (eq-eqb n m (contains_one n m here))))
+    (contains_in_append box.borrowed (n ∷ []) m right))
+    (contains_in_append rest (box.borrowed ++ n ∷ []) m found))
 
 -- a mailbox has numbers before and after its first is borrowed
 pub has_numbers-borrowed : (n : ℕ) (box box' : Mailbox) → BorrowsFirst box n box' → (has_numbers box ≡ true) × (has_numbers box' ≡ true)
 has_numbers-borrowed n box box' borrows = (
-    has_numbers-contains box n (subst (λ ws. contains (ws ++ box.borrowed) n ≡ true) (sym borrows.1) (contains_left (n ∷ borrows.0) box.borrowed n (contains_first n borrows.0))),
-    subst (λ (b : Mailbox). has_numbers b ≡ true) (sym borrows.2)
+  has_numbers-contains box n (subst (λ ws. contains (ws ++ box.borrowed) n ≡ true) (sym borrows.1) (contains_left (n ∷ borrows.0) box.borrowed n (contains_first n borrows.0))),
+  subst (λ (b : Mailbox). has_numbers b ≡ true) (sym borrows.2)
       (has_numbers-contains (record { waiting = borrows.0; borrowed = box.borrowed ++ n ∷ [] }) n
-        (contains_right borrows.0 (box.borrowed ++ n ∷ []) n (contains_right box.borrowed (n ∷ []) n (contains_first n [])))))
+      (contains_right borrows.0 (box.borrowed ++ n ∷ []) n (contains_right box.borrowed (n ∷ []) n (contains_first n [])))),
+)
 
 -- a mailbox keeps its bounds when a number is released
 pub IsWithin-released : (limit borrow_limit n : ℕ) (box : Mailbox) → IsWithin limit borrow_limit box → IsWithin limit borrow_limit (with_released n box)
 IsWithin-released limit borrow_limit n box w = record {
-    waiting = w.waiting;
-    borrowed = omega (arith, length-without_le n box.borrowed, w.borrowed);
-    once = IsOnce-append box.waiting (without n box.borrowed) (IsOnce-left box.waiting box.borrowed w.once) (IsOnce-without n box.borrowed (IsOnce-right box.waiting box.borrowed w.once))
+  waiting = w.waiting;
+  borrowed = omega (arith, length-without_le n box.borrowed, w.borrowed);
+  once = IsOnce-append box.waiting (without n box.borrowed) (IsOnce-left box.waiting box.borrowed w.once) (IsOnce-without n box.borrowed (IsOnce-right box.waiting box.borrowed w.once))
       (λ m h. absent_from (without n box.borrowed) m (λ k. true≢false (sym (contains_in_without n m box.borrowed k) ∙ IsOnce-apart box.waiting box.borrowed w.once m h)));
-  }
+}
 
 -- what is in the mailbox after a release was in it
 pub contains_in_released : (n : ℕ) (box : Mailbox) (m : ℕ) → contains (numbers_in (with_released n box)) m ≡ true → contains (numbers_in box) m ≡ true
 contains_in_released n box m h =
     ⊎_elim (λ left. contains_left box.waiting box.borrowed m left) (λ right. contains_right box.waiting box.borrowed m (contains_in_without n m box.borrowed right))
-      (contains_in_append box.waiting (without n box.borrowed) m h)
+    (contains_in_append box.waiting (without n box.borrowed) m h)
 
 -- where something is borrowed after a release, something was before
 pub has_borrows_before_release : (n : ℕ) (box : Mailbox) → has_borrows (with_released n box) ≡ true → has_borrows box ≡ true

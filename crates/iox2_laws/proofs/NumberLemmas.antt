@@ -209,15 +209,15 @@ length_le [] ys o p each = omega arith
 length_le (x ∷ xs) ys o p each =
     let here : contains ys x ≡ true = each x (contains_first x xs) in
     let less : length xs ≤ length (without x ys) =
-        length_le xs (without x ys) o.1 (IsOnce-without x ys p) (λ m h.
-          contains-without_other x m ys (ne_eqb m x (λ same. true≢false (sym h ∙ ap (contains xs) same ∙ o.0))) (each m (contains_later x m xs h))) in
+    length_le xs (without x ys) o.1 (IsOnce-without x ys p) (λ m h.
+    contains-without_other x m ys (ne_eqb m x (λ same. true≢false (sym h ∙ ap (contains xs) same ∙ o.0))) (each m (contains_later x m xs h))) in
     omega (arith, length-without x ys p here)
 
 -- a list all of whose numbers stand in the other has no more different ones
 pub size_le : (xs ys : List ℕ) → ((n : ℕ) → contains xs n ≡ true → contains ys n ≡ true) → size xs ≤ size ys
 size_le xs ys each =
     length_le (distinct xs) (distinct ys) (IsOnce-distinct xs) (IsOnce-distinct ys)
-      (λ n h. contains-distinct ys n ∙ each n (sym (contains-distinct xs n) ∙ h))
+    (λ n h. contains-distinct ys n ∙ each n (sym (contains-distinct xs n) ∙ h))
 
 -- there are no more different numbers than numbers
 pub size_le_length : (xs : List ℕ) → size xs ≤ length xs
@@ -240,7 +240,7 @@ size_cons_le k ys =
 pub size_le_one_more : (xs ys : List ℕ) (k : ℕ) → ((n : ℕ) → contains xs n ≡ true → (n ≡ k) ⊎ (contains ys n ≡ true)) → size xs ≤ size ys + 1
 size_le_one_more xs ys k each =
     let some : size xs ≤ size (k ∷ ys) = size_le xs (k ∷ ys) (λ n h.
-        ⊎_elim (λ e. or_left (eqb k n) (contains ys n) (eq-eqb k n (sym e))) (λ r. contains_later k n ys r) (each n h)) in
+    ⊎_elim (λ e. or_left (eqb k n) (contains ys n) (eq-eqb k n (sym e))) (λ r. contains_later k n ys r) (each n h)) in
     omega (arith, size_cons_le k ys)
 
 -- a number of a list of lists stands in one of them
@@ -248,17 +248,17 @@ pub contains_in_flat_map : (f : ℕ → List ℕ) (xs : List ℕ) (n : ℕ) → 
 contains_in_flat_map f [] n h = absurd (true≢false (sym h))
 contains_in_flat_map f (x ∷ xs) n h =
     ⊎_elim (λ here. (x, contains_first x xs, here))
-      (λ later. let found : (y : ℕ) × (contains xs y ≡ true) × (contains (f y) n ≡ true) = contains_in_flat_map f xs n later in
-        (found.0, contains_later x found.0 xs found.1, found.2))
-      (contains_in_append (f x) (flat_map f xs) n h)
+    (λ later. let found : (y : ℕ) × (contains xs y ≡ true) × (contains (f y) n ≡ true) = contains_in_flat_map f xs n later in
+    (found.0, contains_later x found.0 xs found.1, found.2))
+    (contains_in_append (f x) (flat_map f xs) n h)
 
 -- a number of one of the lists stands in all of them joined
 pub contains-flat_map : (f : ℕ → List ℕ) (xs : List ℕ) (x n : ℕ) → contains xs x ≡ true → contains (f x) n ≡ true → contains (flat_map f xs) n ≡ true
 contains-flat_map f [] x n here h = absurd (true≢false (sym here))
 contains-flat_map f (y ∷ xs) x n here h =
     ⊎_elim (λ e. contains_left (f y) (flat_map f xs) n (ap (λ z. contains (f z) n) e ∙ h))
-      (λ later. contains_right (f y) (flat_map f xs) n (contains-flat_map f xs x n later h))
-      (contains_in_cons y x xs here)
+    (λ later. contains_right (f y) (flat_map f xs) n (contains-flat_map f xs x n later h))
+    (contains_in_cons y x xs here)
 
 -- lists of at most so many numbers each have at most the product together
 pub length-flat_map : (f : ℕ → List ℕ) (most : ℕ) → ((x : ℕ) → length (f x) ≤ most) → (xs : List ℕ) → length (flat_map f xs) ≤ length xs * most

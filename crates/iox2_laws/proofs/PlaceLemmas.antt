@@ -146,11 +146,12 @@ pub IsOnce-occupants : (xs : List (Option ℕ)) → IsInjective xs → IsOnce (o
 IsOnce-occupants [] apart = tt
 IsOnce-occupants (None ∷ xs) apart = IsOnce-occupants xs (injective_rest None xs apart)
 IsOnce-occupants (Some k ∷ xs) apart = (
-    absent_from (occupants xs) k (λ h.
+  absent_from (occupants xs) k (λ h.
       let rest : LeadsTo xs k = leads_to xs k h in
       let same : zero ≡ suc rest.0 = apart zero (suc rest.0) k refl rest.1 in
       omega arith),
-    IsOnce-occupants xs (injective_rest (Some k) xs apart))
+  IsOnce-occupants xs (injective_rest (Some k) xs apart),
+)
 
 -- what stands in a list's end stands in the list
 pub occupant-drop : (k : ℕ) (xs : List (Option ℕ)) (i : ℕ) → occupant (drop k xs) i ≡ occupant xs (k + i)
@@ -162,7 +163,7 @@ occupant-drop (suc k) (x ∷ xs) i = let e : suc (k + i) ≡ suc k + i = omega a
 
 -- an end found after one was set is the new one, or it was there at another place
 pub found_set : (xs : List (Option ℕ)) (place : ℕ) (x : Option ℕ) (i id : ℕ) → occupant (set_place xs place x) i ≡ Some id
-  → ((i ≡ place) × (x ≡ Some id)) ⊎ ((eqb i place ≡ false) × (occupant xs i ≡ Some id))
+    → ((i ≡ place) × (x ≡ Some id)) ⊎ ((eqb i place ≡ false) × (occupant xs i ≡ Some id))
 found_set xs place x i id h =
     elim (eqb i place) as (λ b. eqb i place ≡ b → cond b x (occupant xs i) ≡ Some id → ((i ≡ place) × (x ≡ Some id)) ⊎ ((eqb i place ≡ false) × (occupant xs i ≡ Some id))) [
       | true ↦ λ e h. inl (eqb-true i place e, h)
@@ -173,22 +174,22 @@ found_set xs place x i id h =
 pub injective_removed : (xs : List (Option ℕ)) (place : ℕ) → IsInjective xs → IsInjective (set_place xs place None)
 injective_removed xs place apart i j id e f =
     ⊎_elim (λ gone. absurd (none-some id gone.1))
-      (λ old. ⊎_elim (λ gone. absurd (none-some id gone.1)) (λ old'. apart i j id old.1 old'.1) (found_set xs place None j id f))
-      (found_set xs place None i id e)
+    (λ old. ⊎_elim (λ gone. absurd (none-some id gone.1)) (λ old'. apart i j id old.1 old'.1) (found_set xs place None j id f))
+    (found_set xs place None i id e)
 
 -- no two ends lead to one port after one was set to a port that stood nowhere else
 pub injective_set : (xs : List (Option ℕ)) (place id : ℕ) → IsInjective xs → ((i : ℕ) → occupant xs i ≡ Some id → i ≡ place) → IsInjective (set_place xs place (Some id))
 injective_set xs place id apart new i j other e f =
     ⊎_elim
-      (λ here. ⊎_elim
-        (λ here'. here.0 ∙ sym here'.0)
-        (λ old'. here.0 ∙ sym (new j (old'.1 ∙ sym here.1)))
-        (found_set xs place (Some id) j other f))
-      (λ old. ⊎_elim
-        (λ here'. new i (old.1 ∙ sym here'.1) ∙ sym here'.0)
-        (λ old'. apart i j other old.1 old'.1)
-        (found_set xs place (Some id) j other f))
-      (found_set xs place (Some id) i other e)
+    (λ here. ⊎_elim
+    (λ here'. here.0 ∙ sym here'.0)
+    (λ old'. here.0 ∙ sym (new j (old'.1 ∙ sym here.1)))
+    (found_set xs place (Some id) j other f))
+    (λ old. ⊎_elim
+    (λ here'. new i (old.1 ∙ sym here'.1) ∙ sym here'.0)
+    (λ old'. apart i j other old.1 old'.1)
+    (found_set xs place (Some id) j other f))
+    (found_set xs place (Some id) i other e)
 
 -- no two ends lead to one port after ports were left out
 pub injective_places_of : (test : ℕ → Bool) (xs : List (Option ℕ)) → IsInjective xs → IsInjective (places_of test xs)

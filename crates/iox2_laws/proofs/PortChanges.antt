@@ -19,7 +19,7 @@ use Rattle.iox2_laws.proofs.NumberLemmas.{contains_in_append, contains_left, con
 
 -- Places agree with any function that has the same values.
 pub places_agree_by : (limit : ℕ) (places : List (Option ℕ)) (f g : ℕ → Option ℕ) → PlacesAgree limit places f → ((id : ℕ) → g id ≡ f id)
-  → PlacesAgree limit places g
+    → PlacesAgree limit places g
 places_agree_by limit places f g w same = record {
   bound = w.bound;
   stands = λ id place e. w.stands id place (sym (same id) ∙ e);
@@ -36,7 +36,7 @@ place_of_subscriber o = option_map (λ (y : Subscriber). y.place) o
 
 -- What an end's place says of its publisher is the same where the publisher's place is.
 at_place : (P : Type 0) (place : ℕ) (o o' : Option Publisher) → place_of_publisher o' ≡ place_of_publisher o → MatchOption o P (λ x. x.place ≡ place)
-  → MatchOption o' P (λ x. x.place ≡ place)
+    → MatchOption o' P (λ x. x.place ≡ place)
 at_place P place None None e h = h
 at_place P place None (Some x') e h = absurd (none-some x'.place (sym e))
 at_place P place (Some x) None e h = absurd (none-some x.place e)
@@ -51,14 +51,14 @@ still_none o (Some x') e h = absurd (none-some x'.place (sym (e ∙ ap place_of_
 
 -- With fewer numbers in its mailboxes a publisher holds no more different ones.
 pub held_le : (front : List ℕ) (f g : ℕ → List ℕ) (ends : List ℕ) → ((q n : ℕ) → contains (f q) n ≡ true → contains (g q) n ≡ true)
-  → size (front ++ flat_map f ends) ≤ size (front ++ flat_map g ends)
+    → size (front ++ flat_map f ends) ≤ size (front ++ flat_map g ends)
 held_le front f g ends each =
     size_le (front ++ flat_map f ends) (front ++ flat_map g ends) (λ n h.
-      ⊎_elim (λ l. contains_left front (flat_map g ends) n l)
-        (λ m. contains_right front (flat_map g ends) n
-          (let found : (x : ℕ) × (contains ends x ≡ true) × (contains (f x) n ≡ true) = contains_in_flat_map f ends n m in
-           contains-flat_map g ends found.0 n found.1 (each found.0 n found.2)))
-        (contains_in_append front (flat_map f ends) n h))
+    ⊎_elim (λ l. contains_left front (flat_map g ends) n l)
+    (λ m. contains_right front (flat_map g ends) n
+    (let found : (x : ℕ) × (contains ends x ≡ true) × (contains (f x) n ≡ true) = contains_in_flat_map f ends n m in
+    contains-flat_map g ends found.0 n found.1 (each found.0 n found.2)))
+    (contains_in_append front (flat_map f ends) n h))
 
 -- ---- ports that are due
 
@@ -88,25 +88,37 @@ module _ {T U : Type 0} where
   FewerNumbers s t p q = (n : ℕ) → contains (numbers_in (t.mailboxes p q)) n ≡ true → contains (numbers_in (s.mailboxes p q)) n ≡ true
 
   fewer_absent : (s t : State T U) (p q n : ℕ) → FewerNumbers s t p q → contains (numbers_in (s.mailboxes p q)) n ≡ false
-    → contains (numbers_in (t.mailboxes p q)) n ≡ false
+      → contains (numbers_in (t.mailboxes p q)) n ≡ false
   fewer_absent s t p q n fewer absent = absent_from (numbers_in (t.mailboxes p q)) n (λ h. true≢false (sym (fewer n h) ∙ absent))
 
   -- A publisher stays well-formed where its mailboxes get no numbers and its ends still stand at their subscribers' places.
   pub publisher_kept : (s t : State T U) (p : ℕ) (x : Publisher) → PublisherIsWellFormed s p x → s.next_port ≤ t.next_port → ((q : ℕ) → FewerNumbers s t p q)
-    → ((place q : ℕ) (y : Subscriber) → occupant x.ends place ≡ Some q → t.subscribers q ≡ Some y → y.place ≡ place)
-    → PublisherIsWellFormed (changed s t) p x
+      → ((place q : ℕ) (y : Subscriber) → occupant x.ends place ≡ Some q → t.subscribers q ≡ Some y → y.place ≡ place)
+      → PublisherIsWellFormed (changed s t) p x
   publisher_kept s t p x w more fewer stand = record {
     is_known = omega (arith, w.is_known);
-    loans_bound = w.loans_bound; loans_once = w.loans_once; loans_below = w.loans_below; loans_held = w.loans_held;
-    history_bound = w.history_bound; history_once = w.history_once; history_below = w.history_below;
-    ends_bound = w.ends_bound; ends_apart = w.ends_apart;
+    loans_bound = w.loans_bound;
+    loans_once = w.loans_once;
+    loans_below = w.loans_below;
+    loans_held = w.loans_held;
+    history_bound = w.history_bound;
+    history_once = w.history_once;
+    history_below = w.history_below;
+    ends_bound = w.ends_bound;
+    ends_apart = w.ends_apart;
     ends_known = λ q h. omega (arith, w.ends_known q h);
     ends_stand = stand;
-    slots_bound = λ h. omega (arith, w.slots_bound h,
-      held_le (x.loans ++ x.history) (λ q. numbers_in (t.mailboxes p q)) (λ q. numbers_in (s.mailboxes p q)) (occupants x.ends) fewer);
-    some_segment = w.some_segment; segments_bound = w.segments_bound;
+    slots_bound = λ h. omega (
+      arith,
+      w.slots_bound h,
+      held_le (x.loans ++ x.history) (λ q. numbers_in (t.mailboxes p q)) (λ q. numbers_in (s.mailboxes p q)) (occupants x.ends) fewer,
+    );
+    some_segment = w.some_segment;
+    segments_bound = w.segments_bound;
     blocked = λ b e. let v : BlockedIsWellFormed s p x b = w.blocked b e in record {
-      is_out = v.is_out; unheld = v.unheld; ends = v.ends;
+      is_out = v.is_out;
+      unheld = v.unheld;
+      ends = v.ends;
       unserved = λ q h. fewer_absent s t p q b.message (fewer q) (v.unserved q h);
     };
   }
@@ -115,33 +127,57 @@ module _ {T U : Type 0} where
   publisher_due : (s : State T U) (p : ℕ) (x : Publisher) → PublisherIsWellFormed s p x → PublisherIsWellFormed s p (record x { is_due = true })
   publisher_due s p x w = record {
     is_known = w.is_known;
-    loans_bound = w.loans_bound; loans_once = w.loans_once; loans_below = w.loans_below; loans_held = w.loans_held;
-    history_bound = w.history_bound; history_once = w.history_once; history_below = w.history_below;
-    ends_bound = w.ends_bound; ends_apart = w.ends_apart; ends_known = w.ends_known; ends_stand = w.ends_stand;
-    slots_bound = w.slots_bound; some_segment = w.some_segment; segments_bound = w.segments_bound;
+    loans_bound = w.loans_bound;
+    loans_once = w.loans_once;
+    loans_below = w.loans_below;
+    loans_held = w.loans_held;
+    history_bound = w.history_bound;
+    history_once = w.history_once;
+    history_below = w.history_below;
+    ends_bound = w.ends_bound;
+    ends_apart = w.ends_apart;
+    ends_known = w.ends_known;
+    ends_stand = w.ends_stand;
+    slots_bound = w.slots_bound;
+    some_segment = w.some_segment;
+    segments_bound = w.segments_bound;
     blocked = λ b e. let v : BlockedIsWellFormed s p x b = w.blocked b e in record { is_out = v.is_out; unheld = v.unheld; ends = v.ends; unserved = v.unserved };
   }
 
   -- A subscriber that is due is as well-formed as before.
   subscriber_due : (s : State T U) (q : ℕ) (y : Subscriber) → SubscriberIsWellFormed s q y → SubscriberIsWellFormed s q (record y { is_due = true })
   subscriber_due s q y w = record {
-    is_known = w.is_known; some_room = w.some_room; buffer_bound = w.buffer_bound;
-    ends_bound = w.ends_bound; ends_apart = w.ends_apart; ends_known = w.ends_known; ends_stand = w.ends_stand;
-    expired_bound = w.expired_bound; expired_once = w.expired_once; expired_apart = w.expired_apart;
-    expired_known = w.expired_known; expired_gone = w.expired_gone; expired_kept = w.expired_kept;
+    is_known = w.is_known;
+    some_room = w.some_room;
+    buffer_bound = w.buffer_bound;
+    ends_bound = w.ends_bound;
+    ends_apart = w.ends_apart;
+    ends_known = w.ends_known;
+    ends_stand = w.ends_stand;
+    expired_bound = w.expired_bound;
+    expired_once = w.expired_once;
+    expired_apart = w.expired_apart;
+    expired_known = w.expired_known;
+    expired_gone = w.expired_gone;
+    expired_kept = w.expired_kept;
   }
 
   -- A subscriber stays well-formed where its mailboxes are the same and the publishers that it knows keep their places.
   pub subscriber_kept : (s t : State T U) (q : ℕ) (y : Subscriber) → SubscriberIsWellFormed s q y → s.next_port ≤ t.next_port
-    → ((p : ℕ) → t.mailboxes p q ≡ s.mailboxes p q) → ((p : ℕ) → p < s.next_port → publisher_place t p ≡ publisher_place s p)
-    → SubscriberIsWellFormed (changed s t) q y
+      → ((p : ℕ) → t.mailboxes p q ≡ s.mailboxes p q) → ((p : ℕ) → p < s.next_port → publisher_place t p ≡ publisher_place s p)
+      → SubscriberIsWellFormed (changed s t) q y
   subscriber_kept s t q y w more same places = record {
-    is_known = omega (arith, w.is_known); some_room = w.some_room; buffer_bound = w.buffer_bound;
-    ends_bound = w.ends_bound; ends_apart = w.ends_apart;
+    is_known = omega (arith, w.is_known);
+    some_room = w.some_room;
+    buffer_bound = w.buffer_bound;
+    ends_bound = w.ends_bound;
+    ends_apart = w.ends_apart;
     ends_known = λ p h. omega (arith, w.ends_known p h);
     ends_stand = λ place p e. at_place (has_numbers (t.mailboxes p q) ≡ true) place (s.publishers p) (t.publishers p) (places p (w.ends_known p (place, e)))
         (subst (λ (box : Mailbox). MatchOption (s.publishers p) (has_numbers box ≡ true) (λ x. x.place ≡ place)) (sym (same p)) (w.ends_stand place p e));
-    expired_bound = w.expired_bound; expired_once = w.expired_once; expired_apart = w.expired_apart;
+    expired_bound = w.expired_bound;
+    expired_once = w.expired_once;
+    expired_apart = w.expired_apart;
     expired_known = λ p h. omega (arith, w.expired_known p h);
     expired_gone = λ p h. still_none (s.publishers p) (t.publishers p) (places p (w.expired_known p h)) (w.expired_gone p h);
     expired_kept = λ p h. subst (λ (box : Mailbox). has_numbers box ≡ true) (sym (same p)) (w.expired_kept p h);
@@ -149,10 +185,15 @@ module _ {T U : Type 0} where
 
   -- A loan stays well-formed where its publisher's mailboxes get no numbers, and where it is still out.
   pub loan_kept : (s t : State T U) (n : ℕ) (l : Loan T U) → LoanIsWellFormed s n l → s.next_port ≤ t.next_port → ((q : ℕ) → FewerNumbers s t l.publisher q)
-    → ((x : Publisher) → t.publishers l.publisher ≡ Some x → (contains x.loans n ≡ true) × (contains x.history n ≡ false))
-    → LoanIsWellFormed (changed s t) n l
+      → ((x : Publisher) → t.publishers l.publisher ≡ Some x → (contains x.loans n ≡ true) × (contains x.history n ≡ false))
+      → LoanIsWellFormed (changed s t) n l
   loan_kept s t n l w more fewer out = record {
-    below = w.below; known = omega (arith, w.known); origin = w.origin; cells = w.cells; complete = w.complete; is_out = out;
+    below = w.below;
+    known = omega (arith, w.known);
+    origin = w.origin;
+    cells = w.cells;
+    complete = w.complete;
+    is_out = out;
     unsent = λ q. fewer_absent s t l.publisher q n (fewer q) (w.unsent q);
   }
 
@@ -161,7 +202,8 @@ module _ {T U : Type 0} where
   -- Warnings don't matter.
   pub with_warning_keeps : (s : State T U) → IsWellFormed s → (ws : List Warning) → IsWellFormed (record s { warnings = ws })
   with_warning_keeps s w ws = record {
-    publisher_places = w.publisher_places; subscriber_places = w.subscriber_places;
+    publisher_places = w.publisher_places;
+    subscriber_places = w.subscriber_places;
     publishers = λ p x e. publisher_kept s s' p x (w.publishers p x e) (omega arith) (λ q n h. h) (w.publishers p x e).ends_stand;
     subscribers = λ q y e. subscriber_kept s s' q y (w.subscribers q y e) (omega arith) (λ p. refl) (λ p _. refl);
     mailboxes = λ p q. let v : MailboxIsWellFormed s p q = w.mailboxes p q in
@@ -180,12 +222,15 @@ module _ {T U : Type 0} where
         (λ q. subscriber_stays (s.subscribers q));
     publishers = λ p x e. publisher_kept s s' p x (w.publishers p x e) (omega arith) (λ q n h. h)
         (λ place q y at found. found_mapped due_subscriber (s.subscribers q) y (y.place ≡ place) found
-          (λ z f g. ap (λ (v : Subscriber). v.place) g ∙ (w.publishers p x e).ends_stand place q z at f));
+        (λ z f g. ap (λ (v : Subscriber). v.place) g ∙ (w.publishers p x e).ends_stand place q z at f));
     subscribers = λ q y e. found_mapped due_subscriber (s.subscribers q) y (SubscriberIsWellFormed s' q y) e (λ z f g.
         subst (SubscriberIsWellFormed s' q) (sym g)
-          (subscriber_due s' q z (subscriber_kept s s' q z (w.subscribers q z f) (omega arith) (λ p. refl) (λ p _. refl))));
+        (subscriber_due s' q z (subscriber_kept s s' q z (w.subscribers q z f) (omega arith) (λ p. refl) (λ p _. refl))));
     mailboxes = λ p q. let v : MailboxIsWellFormed s p q = w.mailboxes p q in record {
-      within = v.within; below = v.below; known = v.known; sender_end = v.sender_end;
+      within = v.within;
+      below = v.below;
+      known = v.known;
+      sender_end = v.sender_end;
       room = λ y e. found_mapped due_subscriber (s.subscribers q) y (waiting_count (s.mailboxes p q) ≤ y.buffer) e
           (λ z f g. subst (λ (u : Subscriber). waiting_count (s.mailboxes p q) ≤ u.buffer) (sym g) (v.room z f));
       receiver_end = λ h. let found : (y : Subscriber) × (s.subscribers q ≡ Some y) × ((contains y.expired p ≡ true) ⊎ LeadsTo y.ends p) = v.receiver_end h in
@@ -205,16 +250,20 @@ module _ {T U : Type 0} where
     subscriber_places = w.subscriber_places;
     publishers = λ p x e. found_mapped due_publisher (s.publishers p) x (PublisherIsWellFormed s' p x) e (λ z f g.
         subst (PublisherIsWellFormed s' p) (sym g)
-          (publisher_due s' p z (publisher_kept s s' p z (w.publishers p z f) (omega arith) (λ q n h. h) (w.publishers p z f).ends_stand)));
+        (publisher_due s' p z (publisher_kept s s' p z (w.publishers p z f) (omega arith) (λ q n h. h) (w.publishers p z f).ends_stand)));
     subscribers = λ q y e. subscriber_kept s s' q y (w.subscribers q y e) (omega arith) (λ p. refl) (λ p _. publisher_stays (s.publishers p));
     mailboxes = λ p q. let v : MailboxIsWellFormed s p q = w.mailboxes p q in record {
-      within = v.within; room = v.room; below = v.below; known = v.known; receiver_end = v.receiver_end;
+      within = v.within;
+      room = v.room;
+      below = v.below;
+      known = v.known;
+      receiver_end = v.receiver_end;
       sender_end = λ x e h. found_mapped due_publisher (s.publishers p) x (LeadsTo x.ends q) e
           (λ z f g. subst (λ (u : Publisher). LeadsTo u.ends q) (sym g) (v.sender_end z f h));
     };
     loans = λ n l e. loan_kept s s' n l (w.loans n l e) (omega arith) (λ q n h. h)
         (λ x found. found_mapped due_publisher (s.publishers l.publisher) x ((contains x.loans n ≡ true) × (contains x.history n ≡ false)) found
-          (λ z f g. subst (λ (u : Publisher). (contains u.loans n ≡ true) × (contains u.history n ≡ false)) (sym g) ((w.loans n l e).is_out z f)));
+        (λ z f g. subst (λ (u : Publisher). (contains u.loans n ≡ true) × (contains u.history n ≡ false)) (sym g) ((w.loans n l e).is_out z f)));
   }
     where
       s' : State T U

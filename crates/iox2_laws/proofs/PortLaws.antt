@@ -33,19 +33,19 @@ pub use Rattle.iox2_laws.proofs.PortChanges.{with_warning_keeps}
 
 -- A new port at a place where nothing stood.
 places_with_new : (limit : ℕ) (places : List (Option ℕ)) (f : ℕ → Option ℕ) (place new : ℕ) → PlacesAgree limit places f → place < limit
-  → occupant places place ≡ None → f new ≡ None
-  → PlacesAgree limit (set_place places place (Some new)) (put_at f new (Some place))
+    → occupant places place ≡ None → f new ≡ None
+    → PlacesAgree limit (set_place places place (Some new)) (put_at f new (Some place))
 places_with_new limit places f place new w low free absent = record {
   bound = length-set_place_le places place (Some new) low w.bound;
   stands = λ id i e. found_put f new place (λ id i. occupant (set_place places place (Some new)) i ≡ Some id) id i e
       (λ _. occupant-set_place places place (Some new) place ∙ rw (eq-eqb place place refl) refl)
       (λ _ old. occupant-set_place places place (Some new) i
-        ∙ rw (ne_eqb i place (λ same. none-some id (sym free ∙ ap (occupant places) (sym same) ∙ w.stands id i old))) (w.stands id i old));
+      ∙ rw (ne_eqb i place (λ same. none-some id (sym free ∙ ap (occupant places) (sym same) ∙ w.stands id i old))) (w.stands id i old));
   known = λ id i e. ⊎_elim
       (λ (h : (i ≡ place) × (Some new ≡ Some id)).
-        rw (eq-eqb id new (sym (same_Some new id h.1))) (ap Some (sym h.0)))
+      rw (eq-eqb id new (sym (same_Some new id h.1))) (ap Some (sym h.0)))
       (λ (h : (eqb i place ≡ false) × (occupant places i ≡ Some id)).
-        put_at-other f new (Some place) id (ne_eqb id new (λ same. none-some i (sym absent ∙ ap f (sym same) ∙ w.known id i h.1))) ∙ w.known id i h.1)
+      put_at-other f new (Some place) id (ne_eqb id new (λ same. none-some i (sym absent ∙ ap f (sym same) ∙ w.known id i h.1))) ∙ w.known id i h.1)
       (found_set places place (Some new) i id e);
 }
 
@@ -85,7 +85,7 @@ module _ {T U : Type 0} where
   }
 
   publisher_place_entered : (s : State T U) (given : PublisherSettings) (place p : ℕ)
-    → publisher_place (publisher_entered s given place) p ≡ put_at (publisher_place s) s.next_port (Some place) p
+      → publisher_place (publisher_entered s given place) p ≡ put_at (publisher_place s) s.next_port (Some place) p
   publisher_place_entered s given place p =
       elim (eqb p s.next_port) as (λ b. place_of_publisher (cond b (Some (new_publisher s given place)) (s.publishers p)) ≡ cond b (Some place) (publisher_place s p)) [
         | true ↦ refl
@@ -94,38 +94,48 @@ module _ {T U : Type 0} where
 
   -- The new publisher alone.
   new_publisher_is : (s : State T U) (given : PublisherSettings) (place : ℕ)
-    → PublisherIsWellFormed (publisher_entered s given place) s.next_port (new_publisher s given place)
+      → PublisherIsWellFormed (publisher_entered s given place) s.next_port (new_publisher s given place)
   new_publisher_is s given place = record {
     is_known = omega arith;
-    loans_bound = omega arith; loans_once = tt; loans_below = λ n h. absurd (true≢false (sym h)); loans_held = λ n h. absurd (true≢false (sym h));
-    history_bound = omega arith; history_once = tt; history_below = λ n h. absurd (true≢false (sym h));
-    ends_bound = omega arith; ends_apart = λ i j id e _. absurd (none-some id e);
+    loans_bound = omega arith;
+    loans_once = tt;
+    loans_below = λ n h. absurd (true≢false (sym h));
+    loans_held = λ n h. absurd (true≢false (sym h));
+    history_bound = omega arith;
+    history_once = tt;
+    history_below = λ n h. absurd (true≢false (sym h));
+    ends_bound = omega arith;
+    ends_apart = λ i j id e _. absurd (none-some id e);
     ends_known = λ q h. absurd (none-some q h.1);
     ends_stand = λ place q y e _. absurd (none-some q e);
     slots_bound = λ _. omega arith;
-    some_segment = omega arith; segments_bound = omega arith;
+    some_segment = omega arith;
+    segments_bound = omega arith;
     blocked = λ b e. absurd (none-some b e);
   }
 
   -- A well-formed state stays so with a new publisher at a free place.
   publisher_entered_keeps : (s : State T U) → IsWellFormed s → (given : PublisherSettings) (place : ℕ) → place < (s.config).max_publishers
-    → occupant s.publisher_places place ≡ None
-    → IsWellFormed (publisher_entered s given place)
+      → occupant s.publisher_places place ≡ None
+      → IsWellFormed (publisher_entered s given place)
   publisher_entered_keeps s w given place low free = record {
     publisher_places = places_agree_by (s.config).max_publishers s'.publisher_places (put_at (publisher_place s) s.next_port (Some place)) (publisher_place s')
         (places_with_new (s.config).max_publishers s.publisher_places (publisher_place s) place s.next_port w.publisher_places low free
-          (ap place_of_publisher (no_publisher_yet s w)))
+        (ap place_of_publisher (no_publisher_yet s w)))
         (publisher_place_entered s given place);
     subscriber_places = w.subscriber_places;
     publishers = λ p x e. found_put s.publishers s.next_port (new_publisher s given place) (λ p x. PublisherIsWellFormed s' p x) p x e
         (λ _. new_publisher_is s given place)
         (λ _ old. publisher_kept s s' p x (w.publishers p x old)
-          (omega arith) (λ q n h. h) (w.publishers p x old).ends_stand);
+        (omega arith) (λ q n h. h) (w.publishers p x old).ends_stand);
     subscribers = λ q y e. subscriber_kept s s' q y (w.subscribers q y e)
         (omega arith) (λ p. refl)
         (λ p known. ap place_of_publisher (put_at-other s.publishers s.next_port (Some (new_publisher s given place)) p (ne_eqb p s.next_port (λ same. omega arith))));
     mailboxes = λ p q. let v : MailboxIsWellFormed s p q = w.mailboxes p q in record {
-      within = v.within; room = v.room; below = v.below; receiver_end = v.receiver_end;
+      within = v.within;
+      room = v.room;
+      below = v.below;
+      receiver_end = v.receiver_end;
       known = λ h. (omega (arith, (v.known h).0), omega (arith, (v.known h).1));
       sender_end = λ x e h. found_put s.publishers s.next_port (new_publisher s given place) (λ p x. LeadsTo x.ends q) p x e
           (λ same. absurd (omega (arith, (v.known h).0)))
@@ -134,7 +144,7 @@ module _ {T U : Type 0} where
     loans = λ n l e. loan_kept s s' n l (w.loans n l e)
         (omega arith) (λ q n h. h)
         (λ x found. (w.loans n l e).is_out x (sym (put_at-other s.publishers s.next_port (Some (new_publisher s given place)) l.publisher
-          (ne_eqb l.publisher s.next_port (λ same. omega (arith, (w.loans n l e).known)))) ∙ found));
+        (ne_eqb l.publisher s.next_port (λ same. omega (arith, (w.loans n l e).known)))) ∙ found));
   }
     where
       s' : State T U
@@ -142,8 +152,8 @@ module _ {T U : Type 0} where
 
   -- A new publisher at a free place, with every subscriber due, leaves the state well-formed.
   pub new_publisher_keeps : (s : State T U) → IsWellFormed s → (given : PublisherSettings) (place : ℕ) → place < (s.config).max_publishers
-    → occupant s.publisher_places place ≡ None
-    → IsWellFormed (with_new_publisher s given place)
+      → occupant s.publisher_places place ≡ None
+      → IsWellFormed (with_new_publisher s given place)
   new_publisher_keeps s w given place low free = subscribers_due_keeps (publisher_entered s given place) (publisher_entered_keeps s w given place low free)
 
   -- A new publisher isn't blocked.
@@ -161,7 +171,7 @@ module _ {T U : Type 0} where
   }
 
   subscriber_place_entered : (s : State T U) (given : SubscriberSettings) (place q : ℕ)
-    → subscriber_place (subscriber_entered s given place) q ≡ put_at (subscriber_place s) s.next_port (Some place) q
+      → subscriber_place (subscriber_entered s given place) q ≡ put_at (subscriber_place s) s.next_port (Some place) q
   subscriber_place_entered s given place q =
       elim (eqb q s.next_port) as (λ b. place_of_subscriber (cond b (Some (new_subscriber given place)) (s.subscribers q)) ≡ cond b (Some place) (subscriber_place s q)) [
         | true ↦ refl
@@ -170,13 +180,17 @@ module _ {T U : Type 0} where
 
   -- The new subscriber alone.
   new_subscriber_is : (s : State T U) (given : SubscriberSettings) (place : ℕ) → buffer_for given ≤ buffer_limit s.config
-    → SubscriberIsWellFormed (subscriber_entered s given place) s.next_port (new_subscriber given place)
+      → SubscriberIsWellFormed (subscriber_entered s given place) s.next_port (new_subscriber given place)
   new_subscriber_is s given place fits = record {
-    is_known = omega arith; some_room = omega arith; buffer_bound = fits;
-    ends_bound = omega arith; ends_apart = λ i j id e _. absurd (none-some id e);
+    is_known = omega arith;
+    some_room = omega arith;
+    buffer_bound = fits;
+    ends_bound = omega arith;
+    ends_apart = λ i j id e _. absurd (none-some id e);
     ends_known = λ p h. absurd (none-some p h.1);
     ends_stand = λ place p e. absurd (none-some p e);
-    expired_bound = omega arith; expired_once = tt;
+    expired_bound = omega arith;
+    expired_once = tt;
     expired_apart = λ p h _. true≢false (sym h);
     expired_known = λ p h. absurd (true≢false (sym h));
     expired_gone = λ p h. absurd (true≢false (sym h));
@@ -185,23 +199,25 @@ module _ {T U : Type 0} where
 
   -- A well-formed state stays so with a new subscriber at a free place.
   subscriber_entered_keeps : (s : State T U) → IsWellFormed s → (given : SubscriberSettings) (place : ℕ) → buffer_for given ≤ buffer_limit s.config
-    → place < (s.config).max_subscribers → occupant s.subscriber_places place ≡ None → IsWellFormed (subscriber_entered s given place)
+      → place < (s.config).max_subscribers → occupant s.subscriber_places place ≡ None → IsWellFormed (subscriber_entered s given place)
   subscriber_entered_keeps s w given place fits low free = record {
     publisher_places = w.publisher_places;
     subscriber_places = places_agree_by (s.config).max_subscribers s'.subscriber_places (put_at (subscriber_place s) s.next_port (Some place)) (subscriber_place s')
         (places_with_new (s.config).max_subscribers s.subscriber_places (subscriber_place s) place s.next_port w.subscriber_places low free
-          (ap place_of_subscriber (no_subscriber_yet s w)))
+        (ap place_of_subscriber (no_subscriber_yet s w)))
         (subscriber_place_entered s given place);
     publishers = λ p x e. publisher_kept s s' p x (w.publishers p x e)
         (omega arith) (λ q n h. h)
         (λ place q y at found. (w.publishers p x e).ends_stand place q y at
-          (old_subscriber q ((w.publishers p x e).ends_known q (place, at)) y found));
+        (old_subscriber q ((w.publishers p x e).ends_known q (place, at)) y found));
     subscribers = λ q y e. found_put s.subscribers s.next_port (new_subscriber given place) (λ q y. SubscriberIsWellFormed s' q y) q y e
         (λ _. new_subscriber_is s given place fits)
         (λ _ old. subscriber_kept s s' q y (w.subscribers q y old)
-          (omega arith) (λ p. refl) (λ p _. refl));
+        (omega arith) (λ p. refl) (λ p _. refl));
     mailboxes = λ p q. let v : MailboxIsWellFormed s p q = w.mailboxes p q in record {
-      within = v.within; below = v.below; sender_end = v.sender_end;
+      within = v.within;
+      below = v.below;
+      sender_end = v.sender_end;
       known = λ h. (omega (arith, (v.known h).0), omega (arith, (v.known h).1));
       room = λ y e. found_put s.subscribers s.next_port (new_subscriber given place) (λ q y. waiting_count (s.mailboxes p q) ≤ y.buffer) q y e
           (λ _. omega (arith, none_waits (s.mailboxes p s.next_port) (nothing_yet p)))
@@ -215,16 +231,19 @@ module _ {T U : Type 0} where
     where
       s' : State T U
       s' = subscriber_entered s given place
+
       nothing_yet : (p : ℕ) → has_numbers (s.mailboxes p s.next_port) ≡ false
       nothing_yet p = false_from_ne_true (has_numbers (s.mailboxes p s.next_port)) (λ h. lt_irrefl s.next_port ((w.mailboxes p s.next_port).known h).1)
+
       old_stays : (q : ℕ) → q < s.next_port → s'.subscribers q ≡ s.subscribers q
       old_stays q known = put_at-other s.subscribers s.next_port (Some (new_subscriber given place)) q (ne_eqb q s.next_port (λ same. omega arith))
+
       old_subscriber : (q : ℕ) → q < s.next_port → (y : Subscriber) → s'.subscribers q ≡ Some y → s.subscribers q ≡ Some y
       old_subscriber q known y found = sym (old_stays q known) ∙ found
 
   -- A new subscriber at a free place, with every publisher due, leaves the state well-formed.
   pub new_subscriber_keeps : (s : State T U) → IsWellFormed s → (given : SubscriberSettings) (place : ℕ) → buffer_for given ≤ buffer_limit s.config
-    → place < (s.config).max_subscribers → occupant s.subscriber_places place ≡ None → IsWellFormed (with_new_subscriber s given place)
+      → place < (s.config).max_subscribers → occupant s.subscriber_places place ≡ None → IsWellFormed (with_new_subscriber s given place)
   new_subscriber_keeps s w given place fits low free =
       publishers_due_keeps (subscriber_entered s given place) (subscriber_entered_keeps s w given place fits low free)
 
@@ -232,7 +251,7 @@ module _ {T U : Type 0} where
 
   -- A failed first update is a warning, and that doesn't matter.
   failure_warning_keeps : (s : State T U) → IsWellFormed s → (warning : ConnectionFailure → Warning) (failure : Option ConnectionFailure)
-    → IsWellFormed (with_failure_warning s warning failure)
+      → IsWellFormed (with_failure_warning s warning failure)
   failure_warning_keeps s w warning None = w
   failure_warning_keeps s w warning (Some failure) = with_warning_keeps s w (with_warning s (warning failure)).warnings
 
@@ -252,91 +271,91 @@ module _ {T U : Type 0} where
   advances_same s s' e = subst (Advances s) (sym e) (advances_refl s)
 
   failure_warning_advances : (s : State T U) (warning : ConnectionFailure → Warning) (failure : Option ConnectionFailure)
-    → Advances s (with_failure_warning s warning failure)
+      → Advances s (with_failure_warning s warning failure)
   failure_warning_advances s warning None = advances_refl s
   failure_warning_advances s warning (Some failure) = record { config = refl; next_port = omega arith; next_message = omega arith }
 
   make_publisher_keeps : (environment : Environment) (s : State T U) (given : PublisherSettings) (place : ℕ)
       (s' : State T U) (refusal : Option PublisherCreateError)
-    → IsWellFormed s → place < (s.config).max_publishers → occupant s.publisher_places place ≡ None → MakePublisher environment s given place s' refusal
-    → IsWellFormed s'
+      → IsWellFormed s → place < (s.config).max_publishers → occupant s.publisher_places place ≡ None → MakePublisher environment s given place s' refusal
+      → IsWellFormed s'
   make_publisher_keeps environment s given place s' None w low free h =
       subst IsWellFormed (sym h.3) (failure_warning_keeps h.0
-        (update_publisher_keeps environment (with_new_publisher s given place) s.next_port h.0 h.1
-          (new_publisher_keeps s w given place low free) (new_publisher_unblocked s given place) h.2)
-        (PublisherPartlyConnected s.next_port) h.1)
+      (update_publisher_keeps environment (with_new_publisher s given place) s.next_port h.0 h.1
+      (new_publisher_keeps s w given place low free) (new_publisher_unblocked s given place) h.2)
+      (PublisherPartlyConnected s.next_port) h.1)
   make_publisher_keeps environment s given place s' (Some e) w low free h = subst IsWellFormed (sym h.1) w
 
   make_publisher_advances : (environment : Environment) (s : State T U) (given : PublisherSettings) (place : ℕ)
       (s' : State T U) (refusal : Option PublisherCreateError)
-    → MakePublisher environment s given place s' refusal → Advances s s'
+      → MakePublisher environment s given place s' refusal → Advances s s'
   make_publisher_advances environment s given place s' None h =
       subst (Advances s) (sym h.3) (advances_trans s h.0 (with_failure_warning h.0 (PublisherPartlyConnected s.next_port) h.1)
-        (advances_trans s (with_new_publisher s given place) h.0 (record { config = refl; next_port = omega arith; next_message = omega arith })
-          (update_publisher_advances environment (with_new_publisher s given place) s.next_port h.0 h.1 h.2))
-        (failure_warning_advances h.0 (PublisherPartlyConnected s.next_port) h.1))
+      (advances_trans s (with_new_publisher s given place) h.0 (record { config = refl; next_port = omega arith; next_message = omega arith })
+      (update_publisher_advances environment (with_new_publisher s given place) s.next_port h.0 h.1 h.2))
+      (failure_warning_advances h.0 (PublisherPartlyConnected s.next_port) h.1))
   make_publisher_advances environment s given place s' (Some e) h = advances_same s s' h.1
 
   make_subscriber_keeps : (environment : Environment) (s : State T U) (given : SubscriberSettings) (place : ℕ)
       (s' : State T U) (refusal : Option SubscriberCreateError)
-    → IsWellFormed s → buffer_for given ≤ buffer_limit s.config → place < (s.config).max_subscribers → occupant s.subscriber_places place ≡ None
-    → MakeSubscriber environment s given place s' refusal → IsWellFormed s'
+      → IsWellFormed s → buffer_for given ≤ buffer_limit s.config → place < (s.config).max_subscribers → occupant s.subscriber_places place ≡ None
+      → MakeSubscriber environment s given place s' refusal → IsWellFormed s'
   make_subscriber_keeps environment s given place s' None w fits low free h =
       subst IsWellFormed (sym h.3) (failure_warning_keeps h.0
-        (update_subscriber_keeps environment (with_new_subscriber s given place) s.next_port h.0 h.1 (new_subscriber_keeps s w given place fits low free) h.2)
-        (SubscriberPartlyConnected s.next_port) h.1)
+      (update_subscriber_keeps environment (with_new_subscriber s given place) s.next_port h.0 h.1 (new_subscriber_keeps s w given place fits low free) h.2)
+      (SubscriberPartlyConnected s.next_port) h.1)
   make_subscriber_keeps environment s given place s' (Some e) w fits low free h = subst IsWellFormed (sym h.1) w
 
   make_subscriber_advances : (environment : Environment) (s : State T U) (given : SubscriberSettings) (place : ℕ)
       (s' : State T U) (refusal : Option SubscriberCreateError)
-    → MakeSubscriber environment s given place s' refusal → Advances s s'
+      → MakeSubscriber environment s given place s' refusal → Advances s s'
   make_subscriber_advances environment s given place s' None h =
       subst (Advances s) (sym h.3) (advances_trans s h.0 (with_failure_warning h.0 (SubscriberPartlyConnected s.next_port) h.1)
-        (advances_trans s (with_new_subscriber s given place) h.0 (record { config = refl; next_port = omega arith; next_message = omega arith })
-          (update_subscriber_advances environment (with_new_subscriber s given place) s.next_port h.0 h.1 h.2))
-        (failure_warning_advances h.0 (SubscriberPartlyConnected s.next_port) h.1))
+      (advances_trans s (with_new_subscriber s given place) h.0 (record { config = refl; next_port = omega arith; next_message = omega arith })
+      (update_subscriber_advances environment (with_new_subscriber s given place) s.next_port h.0 h.1 h.2))
+      (failure_warning_advances h.0 (SubscriberPartlyConnected s.next_port) h.1))
   make_subscriber_advances environment s given place s' (Some e) h = advances_same s s' h.1
 
 -- A publisher that is made, or refused, leaves the state well-formed.
 pub create_publisher_keeps : {T U : Type 0} (environment : Environment) (s : State T U) (given : PublisherSettings)
-      (s' : State T U) (refusal : Option PublisherCreateError)
-  → IsWellFormed s → CreatePublisher environment s given s' refusal → IsWellFormed s'
+    (s' : State T U) (refusal : Option PublisherCreateError)
+    → IsWellFormed s → CreatePublisher environment s given s' refusal → IsWellFormed s'
 create_publisher_keeps environment s given s' refusal w h =
     by_bool (IsWellFormed s') (eqb s.next_port last_number) _ _ h (λ _ h. subst IsWellFormed (sym h.0) w) (λ _ h.
     by_option (IsWellFormed s') (free_place (s.config).max_publishers s.publisher_places) _ _ h (λ _ h. subst IsWellFormed (sym h.0) w) (λ place e h.
     let found : (place < (s.config).max_publishers) × (occupant s.publisher_places place ≡ None) =
-        free_place_is (s.config).max_publishers s.publisher_places place e in
+    free_place_is (s.config).max_publishers s.publisher_places place e in
     by_bool (IsWellFormed s') (first_segment_fits s.config given) _ _ h
-      (λ _ h. make_publisher_keeps environment s given place s' refusal w found.0 found.1 h)
-      (λ _ h. subst IsWellFormed (sym h.0) w)))
+    (λ _ h. make_publisher_keeps environment s given place s' refusal w found.0 found.1 h)
+    (λ _ h. subst IsWellFormed (sym h.0) w)))
 
 -- A publisher that is made, or refused, lets no counter fall.
 pub create_publisher_advances : {T U : Type 0} (environment : Environment) (s : State T U) (given : PublisherSettings)
-      (s' : State T U) (refusal : Option PublisherCreateError)
-  → CreatePublisher environment s given s' refusal → Advances s s'
+    (s' : State T U) (refusal : Option PublisherCreateError)
+    → CreatePublisher environment s given s' refusal → Advances s s'
 create_publisher_advances environment s given s' refusal h =
     by_bool (Advances s s') (eqb s.next_port last_number) _ _ h (λ _ h. advances_same s s' h.0) (λ _ h.
     by_option (Advances s s') (free_place (s.config).max_publishers s.publisher_places) _ _ h (λ _ h. advances_same s s' h.0) (λ place e h.
     by_bool (Advances s s') (first_segment_fits s.config given) _ _ h
-      (λ _ h. make_publisher_advances environment s given place s' refusal h)
-      (λ _ h. advances_same s s' h.0)))
+    (λ _ h. make_publisher_advances environment s given place s' refusal h)
+    (λ _ h. advances_same s s' h.0)))
 
 -- A subscriber that is made, or refused, leaves the state well-formed.
 pub create_subscriber_keeps : {T U : Type 0} (environment : Environment) (s : State T U) (given : SubscriberSettings)
-      (s' : State T U) (refusal : Option SubscriberCreateError)
-  → IsWellFormed s → CreateSubscriber environment s given s' refusal → IsWellFormed s'
+    (s' : State T U) (refusal : Option SubscriberCreateError)
+    → IsWellFormed s → CreateSubscriber environment s given s' refusal → IsWellFormed s'
 create_subscriber_keeps environment s given s' refusal w h =
     by_bool (IsWellFormed s') (eqb s.next_port last_number) _ _ h (λ _ h. subst IsWellFormed (sym h.0) w) (λ _ h.
     by_bool (IsWellFormed s') (ltb (buffer_limit s.config) (buffer_for given)) _ _ h (λ _ h. subst IsWellFormed (sym h.0) w) (λ fits h.
     by_option (IsWellFormed s') (free_place (s.config).max_subscribers s.subscriber_places) _ _ h (λ _ h. subst IsWellFormed (sym h.0) w) (λ place e h.
     let found : (place < (s.config).max_subscribers) × (occupant s.subscriber_places place ≡ None) =
-        free_place_is (s.config).max_subscribers s.subscriber_places place e in
+    free_place_is (s.config).max_subscribers s.subscriber_places place e in
     make_subscriber_keeps environment s given place s' refusal w (ltb-false _ _ fits) found.0 found.1 h)))
 
 -- A subscriber that is made, or refused, lets no counter fall.
 pub create_subscriber_advances : {T U : Type 0} (environment : Environment) (s : State T U) (given : SubscriberSettings)
-      (s' : State T U) (refusal : Option SubscriberCreateError)
-  → CreateSubscriber environment s given s' refusal → Advances s s'
+    (s' : State T U) (refusal : Option SubscriberCreateError)
+    → CreateSubscriber environment s given s' refusal → Advances s s'
 create_subscriber_advances environment s given s' refusal h =
     by_bool (Advances s s') (eqb s.next_port last_number) _ _ h (λ _ h. advances_same s s' h.0) (λ _ h.
     by_bool (Advances s s') (ltb (buffer_limit s.config) (buffer_for given)) _ _ h (λ _ h. advances_same s s' h.0) (λ _ h.

@@ -41,29 +41,39 @@ module _ {T U : Type 0} where
     held_before n h =
         let boxes : List ℕ = flat_map (λ q. numbers_in (s.mailboxes p q)) (occupants x.ends) in
         let sent : contains x.history n ≡ true → contains (held s p x) n ≡ true = λ h.
-            contains_left (x.loans ++ x.history) boxes n (contains_right x.loans x.history n h) in
+        contains_left (x.loans ++ x.history) boxes n (contains_right x.loans x.history n h) in
         ⊎_elim
-          (λ h. contains_left (x.loans ++ x.history) boxes n h)
-          (λ h.
-            let f : (q : ℕ) × (contains (occupants side.ends) q ≡ true) × (contains (numbers_in (after.mailboxes p q)) n ≡ true) =
-                contains_in_flat_map (λ q. numbers_in (after.mailboxes p q)) (occupants side.ends) n h in
-            let g : contains (numbers_in (side.mailboxes f.0)) n ≡ true =
-                subst (λ (m : ℕ → Mailbox). contains (numbers_in (m f.0)) n ≡ true) (put_at-same s.mailboxes p side.mailboxes) f.2 in
-            ⊎_elim
-              (λ old. contains_right (x.loans ++ x.history) boxes n
-                (contains-flat_map (λ q. numbers_in (s.mailboxes p q)) (occupants x.ends) f.0 n
-                  (contains-occupants x.ends f.0 ((w.mailboxes p f.0).sender_end x present (has_numbers-contains (s.mailboxes p f.0) n old))) old))
-              sent (k.comes_from f.0 n g))
-          (contains_in_append (x.loans ++ x.history) (flat_map (λ q. numbers_in (after.mailboxes p q)) (occupants side.ends)) n h)
+        (λ h. contains_left (x.loans ++ x.history) boxes n h)
+        (λ h.
+        let f : (q : ℕ) × (contains (occupants side.ends) q ≡ true) × (contains (numbers_in (after.mailboxes p q)) n ≡ true) =
+        contains_in_flat_map (λ q. numbers_in (after.mailboxes p q)) (occupants side.ends) n h in
+        let g : contains (numbers_in (side.mailboxes f.0)) n ≡ true =
+        subst (λ (m : ℕ → Mailbox). contains (numbers_in (m f.0)) n ≡ true) (put_at-same s.mailboxes p side.mailboxes) f.2 in
+        ⊎_elim
+        (λ old. contains_right (x.loans ++ x.history) boxes n
+        (contains-flat_map (λ q. numbers_in (s.mailboxes p q)) (occupants x.ends) f.0 n
+        (contains-occupants x.ends f.0 ((w.mailboxes p f.0).sender_end x present (has_numbers-contains (s.mailboxes p f.0) n old))) old))
+        sent (k.comes_from f.0 n g))
+        (contains_in_append (x.loans ++ x.history) (flat_map (λ q. numbers_in (after.mailboxes p q)) (occupants side.ends)) n h)
 
     updated_keeps : PublisherIsWellFormed after p updated
     updated_keeps = let u : PublisherIsWellFormed s p x = w.publishers p x present in record {
-      is_known = u.is_known; loans_bound = u.loans_bound; loans_once = u.loans_once; loans_below = u.loans_below; loans_held = u.loans_held;
-      history_bound = u.history_bound; history_once = u.history_once; history_below = u.history_below;
-      ends_bound = k.ends_bound; ends_apart = k.ends_apart; ends_known = k.ends_known; ends_stand = k.ends_stand;
+      is_known = u.is_known;
+      loans_bound = u.loans_bound;
+      loans_once = u.loans_once;
+      loans_below = u.loans_below;
+      loans_held = u.loans_held;
+      history_bound = u.history_bound;
+      history_once = u.history_once;
+      history_below = u.history_below;
+      ends_bound = k.ends_bound;
+      ends_apart = k.ends_apart;
+      ends_known = k.ends_known;
+      ends_stand = k.ends_stand;
       slots_bound = λ static. let old : size (held s p x) ≤ x.slots = u.slots_bound static in
           omega (arith, size_le (held after p updated) (held s p x) held_before);
-      some_segment = u.some_segment; segments_bound = u.segments_bound;
+      some_segment = u.some_segment;
+      segments_bound = u.segments_bound;
       blocked = λ b e. absurd (none-some b (sym unblocked ∙ e));
     }
 
@@ -73,14 +83,26 @@ module _ {T U : Type 0} where
 
     other_publisher_keeps : (p' : ℕ) (z : Publisher) → eqb p' p ≡ false → PublisherIsWellFormed s p' z → PublisherIsWellFormed after p' z
     other_publisher_keeps p' z other u = record {
-      is_known = u.is_known; loans_bound = u.loans_bound; loans_once = u.loans_once; loans_below = u.loans_below; loans_held = u.loans_held;
-      history_bound = u.history_bound; history_once = u.history_once; history_below = u.history_below;
-      ends_bound = u.ends_bound; ends_apart = u.ends_apart; ends_known = u.ends_known; ends_stand = u.ends_stand;
+      is_known = u.is_known;
+      loans_bound = u.loans_bound;
+      loans_once = u.loans_once;
+      loans_below = u.loans_below;
+      loans_held = u.loans_held;
+      history_bound = u.history_bound;
+      history_once = u.history_once;
+      history_below = u.history_below;
+      ends_bound = u.ends_bound;
+      ends_apart = u.ends_apart;
+      ends_known = u.ends_known;
+      ends_stand = u.ends_stand;
       slots_bound = λ static. subst (λ (m : ℕ → Mailbox). size (z.loans ++ z.history ++ flat_map (λ q. numbers_in (m q)) (occupants z.ends)) ≤ z.slots)
           (sym (same_boxes p' other)) (u.slots_bound static);
-      some_segment = u.some_segment; segments_bound = u.segments_bound;
+      some_segment = u.some_segment;
+      segments_bound = u.segments_bound;
       blocked = λ b e. let v : BlockedIsWellFormed s p' z b = u.blocked b e in record {
-        is_out = v.is_out; unheld = v.unheld; ends = v.ends;
+        is_out = v.is_out;
+        unheld = v.unheld;
+        ends = v.ends;
         unserved = λ q l. subst (λ (m : ℕ → Mailbox). contains (numbers_in (m q)) b.message ≡ false) (sym (same_boxes p' other)) (v.unserved q l);
       };
     }
@@ -89,23 +111,31 @@ module _ {T U : Type 0} where
     gone_before : (p' : ℕ) → after.publishers p' ≡ None → (s.publishers p' ≡ None) × (eqb p' p ≡ false)
     gone_before p' h =
         at_each s.publishers p (Some updated) (λ i o. o ≡ None → (s.publishers i ≡ None) × (eqb i p ≡ false)) p'
-          (λ _ e. absurd (none-some updated (sym e))) (λ other e. (e, other)) h
+        (λ _ e. absurd (none-some updated (sym e))) (λ other e. (e, other)) h
 
     still_gone : (p' : ℕ) → s.publishers p' ≡ None → (after.publishers p' ≡ None) × (after.mailboxes p' ≡ s.mailboxes p')
     still_gone p' h = (put_at-other s.publishers p (Some updated) p' (apart p' h) ∙ h, same_boxes p' (apart p' h))
 
     subscriber_keeps : (q : ℕ) (y : Subscriber) → SubscriberIsWellFormed s q y → SubscriberIsWellFormed after q y
     subscriber_keeps q y v = record {
-      is_known = v.is_known; some_room = v.some_room; buffer_bound = v.buffer_bound; ends_bound = v.ends_bound; ends_apart = v.ends_apart; ends_known = v.ends_known;
+      is_known = v.is_known;
+      some_room = v.some_room;
+      buffer_bound = v.buffer_bound;
+      ends_bound = v.ends_bound;
+      ends_apart = v.ends_apart;
+      ends_known = v.ends_known;
       ends_stand = λ place p' h.
-        let old : MatchOption (s.publishers p') (has_numbers (s.mailboxes p' q) ≡ true) (λ (z : Publisher). z.place ≡ place) = v.ends_stand place p' h in
-        at_each s.publishers p (Some updated) (λ i o. MatchOption (s.publishers i) (has_numbers (s.mailboxes i q) ≡ true) (λ (z : Publisher). z.place ≡ place)
-            → MatchOption o (has_numbers (put_at s.mailboxes p side.mailboxes i q) ≡ true) (λ (z : Publisher). z.place ≡ place)) p'
+          let old : MatchOption (s.publishers p') (has_numbers (s.mailboxes p' q) ≡ true) (λ (z : Publisher). z.place ≡ place) = v.ends_stand place p' h in
+          at_each s.publishers p (Some updated) (λ i o. MatchOption (s.publishers i) (has_numbers (s.mailboxes i q) ≡ true) (λ (z : Publisher). z.place ≡ place)
+          → MatchOption o (has_numbers (put_at s.mailboxes p side.mailboxes i q) ≡ true) (λ (z : Publisher). z.place ≡ place)) p'
           (λ _ old. subst (λ (o : Option Publisher). MatchOption o (has_numbers (s.mailboxes p q) ≡ true) (λ (z : Publisher). z.place ≡ place)) present old)
           (λ other old. subst (λ (m : ℕ → Mailbox). MatchOption (s.publishers p') (has_numbers (m q) ≡ true) (λ (z : Publisher). z.place ≡ place))
-            (sym (same_boxes p' other)) old)
+          (sym (same_boxes p' other)) old)
           old;
-      expired_bound = v.expired_bound; expired_once = v.expired_once; expired_apart = v.expired_apart; expired_known = v.expired_known;
+      expired_bound = v.expired_bound;
+      expired_once = v.expired_once;
+      expired_apart = v.expired_apart;
+      expired_known = v.expired_known;
       expired_gone = λ p' h. (still_gone p' (v.expired_gone p' h)).0;
       expired_kept = λ p' h. subst (λ (m : ℕ → Mailbox). has_numbers (m q) ≡ true) (sym (still_gone p' (v.expired_gone p' h)).1) (v.expired_kept p' h);
     }
@@ -132,14 +162,18 @@ module _ {T U : Type 0} where
 
     loan_keeps : (n : ℕ) (l : Loan T U) → LoanIsWellFormed s n l → LoanIsWellFormed after n l
     loan_keeps n l v = record {
-      below = v.below; known = v.known; origin = v.origin; cells = v.cells; complete = v.complete;
+      below = v.below;
+      known = v.known;
+      origin = v.origin;
+      cells = v.cells;
+      complete = v.complete;
       is_out = λ z e. found_put s.publishers p updated (λ i z. i ≡ l.publisher → (contains z.loans n ≡ true) × (contains z.history n ≡ false)) l.publisher z e
           (λ _ same. v.is_out x (ap s.publishers (sym same) ∙ present)) (λ _ e _. v.is_out z e) refl;
       unsent = λ q. at_each s.mailboxes p side.mailboxes (λ i m. i ≡ l.publisher → contains (numbers_in (m q)) n ≡ false) l.publisher
           (λ _ same. absent_from (numbers_in (side.mailboxes q)) n (λ h. ⊎_elim
-            (λ old. true≢false (sym (subst (λ i. contains (numbers_in (s.mailboxes i q)) n ≡ true) same old) ∙ v.unsent q))
-            (λ old. true≢false (sym old ∙ (v.is_out x (ap s.publishers (sym same) ∙ present)).1))
-            (k.comes_from q n h)))
+          (λ old. true≢false (sym (subst (λ i. contains (numbers_in (s.mailboxes i q)) n ≡ true) same old) ∙ v.unsent q))
+          (λ old. true≢false (sym old ∙ (v.is_out x (ap s.publishers (sym same) ∙ present)).1))
+          (k.comes_from q n h)))
           (λ _ _. v.unsent q) refl;
     }
 
@@ -147,7 +181,7 @@ module _ {T U : Type 0} where
     same_place : (p' : ℕ) → publisher_place after p' ≡ publisher_place s p'
     same_place p' =
         at_each s.publishers p (Some updated) (λ i o. option_map {T = Publisher} {U = ℕ} (λ z. z.place) o ≡ publisher_place s i) p'
-          (λ _. ap (option_map {T = Publisher} {U = ℕ} (λ z. z.place)) (sym present)) (λ _. refl)
+        (λ _. ap (option_map {T = Publisher} {U = ℕ} (λ z. z.place)) (sym present)) (λ _. refl)
 
     -- A state in which one publisher has another well-formed side is well-formed.
     pub with_sender_side_keeps : IsWellFormed (with_sender_side s p x side)
@@ -158,7 +192,9 @@ module _ {T U : Type 0} where
         known = λ id place e. same_place id ∙ (w.publisher_places).known id place e;
       };
       subscriber_places = record {
-        bound = (w.subscriber_places).bound; stands = (w.subscriber_places).stands; known = (w.subscriber_places).known;
+        bound = (w.subscriber_places).bound;
+        stands = (w.subscriber_places).stands;
+        known = (w.subscriber_places).known;
       };
       publishers = λ p' z e. found_put s.publishers p updated (λ i z. PublisherIsWellFormed after i z) p' z e
           (λ _. updated_keeps) (λ other e. other_publisher_keeps p' z other (w.publishers p' z e));
@@ -179,22 +215,22 @@ module _ {T U : Type 0} where
 
   -- An update of a publisher that isn't blocked keeps the state well-formed.
   pub update_publisher_keeps : (environment : Environment) (s : State T U) (p : ℕ) (s' : State T U) (failure : Option ConnectionFailure)
-    → IsWellFormed s → is_blocked s p ≡ false → UpdatePublisher environment s p s' failure → IsWellFormed s'
+      → IsWellFormed s → is_blocked s p ≡ false → UpdatePublisher environment s p s' failure → IsWellFormed s'
   update_publisher_keeps environment s p s' failure w free h =
       by_option (IsWellFormed s') (s.publishers p) _ _ h (λ _ v. absurd v) (λ x present h.
       by_bool (IsWellFormed s') x.is_due _ _ h
-        (λ _ h. subst IsWellFormed (sym h.2)
-          (with_sender_side_keeps s w p x present (no_blocked_send s p x present free) h.0 (sender_side_keeps s w p x present environment h.0 failure h.1)))
-        (λ _ h. subst IsWellFormed (sym h.0) w))
+      (λ _ h. subst IsWellFormed (sym h.2)
+      (with_sender_side_keeps s w p x present (no_blocked_send s p x present free) h.0 (sender_side_keeps s w p x present environment h.0 failure h.1)))
+      (λ _ h. subst IsWellFormed (sym h.0) w))
 
   -- A publisher's update leaves the configuration and the counters.
   pub update_publisher_advances : (environment : Environment) (s : State T U) (p : ℕ) (s' : State T U) (failure : Option ConnectionFailure)
-    → UpdatePublisher environment s p s' failure → Advances s s'
+      → UpdatePublisher environment s p s' failure → Advances s s'
   update_publisher_advances environment s p s' failure h =
       by_option (Advances s s') (s.publishers p) _ _ h (λ _ v. absurd v) (λ x present h.
       by_bool (Advances s s') x.is_due _ _ h
-        (λ _ h. subst (Advances s) (sym h.2) (record { config = refl; next_port = omega arith; next_message = omega arith }))
-        (λ _ h. subst (Advances s) (sym h.0) (record { config = refl; next_port = omega arith; next_message = omega arith })))
+      (λ _ h. subst (Advances s) (sym h.2) (record { config = refl; next_port = omega arith; next_message = omega arith }))
+      (λ _ h. subst (Advances s) (sym h.0) (record { config = refl; next_port = omega arith; next_message = omega arith })))
 
   abbrev LeavesPublisher : State T U → (p : ℕ) → Publisher → State T U → Type 0
   LeavesPublisher s p x s' =
@@ -202,31 +238,38 @@ module _ {T U : Type 0} where
 
   -- After its update the publisher is still present, with the same loans, history, blocked send and limits.
   pub update_publisher_leaves : (environment : Environment) (s : State T U) (p : ℕ) (s' : State T U) (failure : Option ConnectionFailure) (x : Publisher)
-    → s.publishers p ≡ Some x → UpdatePublisher environment s p s' failure
-    → (x' : Publisher) × (s'.publishers p ≡ Some x') × (x'.loans ≡ x.loans) × (x'.history ≡ x.history) × (x'.blocked ≡ x.blocked) × (s'.loans ≡ s.loans)
+      → s.publishers p ≡ Some x → UpdatePublisher environment s p s' failure
+      → (x' : Publisher) × (s'.publishers p ≡ Some x') × (x'.loans ≡ x.loans) × (x'.history ≡ x.history) × (x'.blocked ≡ x.blocked) × (s'.loans ≡ s.loans)
   update_publisher_leaves environment s p s' failure x present h =
       by_option (LeavesPublisher s p x s') (s.publishers p) _ _ h (λ _ v. absurd v) (λ z found h.
       let same : z ≡ x = same_Some z x (sym found ∙ present) in
       by_bool (LeavesPublisher s p x s') z.is_due _ _ h
-        (λ _ h.
-          let z' : Publisher = record z { ends = (h.0).ends; is_due = false } in
-          subst (LeavesPublisher s p x) (sym h.2)
-            (z', put_at-same s.publishers p (Some z'),
-             ap (λ (y : Publisher). y.loans) same, ap (λ (y : Publisher). y.history) same, ap (λ (y : Publisher). y.blocked) same, refl))
-        (λ _ h. subst (LeavesPublisher s p x) (sym h.0) (x, present, refl, refl, refl, refl)))
+      (λ _ h.
+      let z' : Publisher = record z { ends = (h.0).ends; is_due = false } in
+      subst (LeavesPublisher s p x) (sym h.2) (
+        z',
+        put_at-same s.publishers p (Some z'),
+        ap (λ (y : Publisher). y.loans) same,
+        ap (λ (y : Publisher). y.history) same,
+        ap (λ (y : Publisher). y.blocked) same,
+        refl,
+      ))
+      (λ _ h. subst (LeavesPublisher s p x) (sym h.0) (x, present, refl, refl, refl, refl)))
 
   abbrev ChangesEnds : (p : ℕ) → Publisher → State T U → Type 0
   ChangesEnds p x s' = (ends : List (Option ℕ)) × (due : Bool) × (s'.publishers p ≡ Some (record x { ends = ends; is_due = due }))
 
   -- A publisher's update changes nothing of it but its ends and whether it is due.
   pub update_publisher_changes : (environment : Environment) (s : State T U) (p : ℕ) (s' : State T U) (failure : Option ConnectionFailure) (x : Publisher)
-    → s.publishers p ≡ Some x → UpdatePublisher environment s p s' failure
-    → (ends : List (Option ℕ)) × (due : Bool) × (s'.publishers p ≡ Some (record x { ends = ends; is_due = due }))
+      → s.publishers p ≡ Some x → UpdatePublisher environment s p s' failure
+      → (ends : List (Option ℕ)) × (due : Bool) × (s'.publishers p ≡ Some (record x { ends = ends; is_due = due }))
   update_publisher_changes environment s p s' failure x present h =
       by_option (ChangesEnds p x s') (s.publishers p) _ _ h (λ _ v. absurd v) (λ z found h.
       by_bool (ChangesEnds p x s') z.is_due _ _ h
-        (λ _ h. subst (ChangesEnds p x) (sym h.2)
-          ((h.0).ends, false,
-           put_at-same s.publishers p (Some (record z { ends = (h.0).ends; is_due = false }))
-           ∙ ap (λ (y : Publisher). Some (record y { ends = (h.0).ends; is_due = false })) (same_Some z x (sym found ∙ present))))
-        (λ _ h. subst (ChangesEnds p x) (sym h.0) (x.ends, x.is_due, present)))
+      (λ _ h. subst (ChangesEnds p x) (sym h.2) (
+        (h.0).ends,
+        false,
+        put_at-same s.publishers p (Some (record z { ends = (h.0).ends; is_due = false }))
+            ∙ ap (λ (y : Publisher). Some (record y { ends = (h.0).ends; is_due = false })) (same_Some z x (sym found ∙ present)),
+      ))
+      (λ _ h. subst (ChangesEnds p x) (sym h.0) (x.ends, x.is_due, present)))

@@ -17,15 +17,15 @@ use Rattle.iox2_store.specs.declared.errors.ConnectionFailure.{ConnectionFailure
 
 -- Whom a message may be received from is a departed publisher that is kept, or one at an end.
 received_from : (borrow_limit : ℕ) (y : Subscriber) (boxes : ℕ → Mailbox) (p : ℕ) → MayReceiveFrom borrow_limit y boxes p
-  → (contains y.expired p ≡ true) ⊎ LeadsTo y.ends p
+    → (contains y.expired p ≡ true) ⊎ LeadsTo y.ends p
 received_from borrow_limit y boxes p may =
     by_bool ((contains y.expired p ≡ true) ⊎ LeadsTo y.ends p) (can_receive_of borrow_limit y boxes y.expired) _ _ may.1
-      (λ _ h. inl h) (λ _ h. inr (leads_to y.ends p h))
+    (λ _ h. inl h) (λ _ h. inr (leads_to y.ends p h))
 
 module _ {T U : Type 0} where
   received_agrees : (s : State T U) → IsWellFormed s → (p q n : ℕ) (y : Subscriber) (box : Mailbox) → s.subscribers q ≡ Some y
-    → MayReceiveFrom (s.config).subscriber_max_borrowed_samples y (λ r. s.mailboxes r q) p → BorrowsFirst (s.mailboxes p q) n box
-    → ReceiversAgree s s.subscribers (put_at s.mailboxes p (put_at (s.mailboxes p) q box)) s.warnings
+      → MayReceiveFrom (s.config).subscriber_max_borrowed_samples y (λ r. s.mailboxes r q) p → BorrowsFirst (s.mailboxes p q) n box
+      → ReceiversAgree s s.subscribers (put_at s.mailboxes p (put_at (s.mailboxes p) q box)) s.warnings
   received_agrees s w p q n y box here may borrows = record {
     places = λ r. refl;
     stays = λ r z e. (z, e, refl, refl);
@@ -39,7 +39,7 @@ module _ {T U : Type 0} where
         (shrinks_same (buffer_limit s.config) (s.config).subscriber_max_borrowed_samples (s.mailboxes i j) (w.mailboxes i j).within);
     receivers = λ r z e. subscriber_keeps s s.subscribers (put_at s.mailboxes p (put_at (s.mailboxes p) q box)) s.warnings r z (w.subscribers r z e)
         (λ i h. at_each_mailbox s.mailboxes p q box (λ i j m. has_numbers (s.mailboxes i j) ≡ true → has_numbers m ≡ true) i r
-          (λ _. (has_numbers-borrowed n (s.mailboxes p q) box borrows).1) (λ k. k) h);
+        (λ _. (has_numbers-borrowed n (s.mailboxes p q) box borrows).1) (λ k. k) h);
     borrowed = λ i j. at_each_mailbox s.mailboxes p q box
         (λ i j m. has_borrows m ≡ true → (z : Subscriber) × (s.subscribers j ≡ Some z) × ((contains z.expired i ≡ true) ⊎ LeadsTo z.ends i)) i j
         (λ _. (y, here, received_from (s.config).subscriber_max_borrowed_samples y (λ r. s.mailboxes r q) p may))
@@ -48,10 +48,10 @@ module _ {T U : Type 0} where
 
   -- Taking a sample keeps a state well-formed.
   pub take_sample_keeps : (s : State T U) → IsWellFormed s → (q : ℕ) (y : Subscriber) (s' : State T U) (result : ReceiveResult) → s.subscribers q ≡ Some y
-    → TakeSample s q y s' result → IsWellFormed s'
+      → TakeSample s q y s' result → IsWellFormed s'
   take_sample_keeps s w q y s' (Got_sample p n) here h =
       subst IsWellFormed (sym h.3) (receivers_keep s s.subscribers (put_at s.mailboxes p (put_at (s.mailboxes p) q h.1)) s.warnings w
-          (received_agrees s w p q n y h.1 here h.0 h.2))
+      (received_agrees s w p q n y h.1 here h.0 h.2))
   take_sample_keeps s w q y s' No_sample here h = subst IsWellFormed (sym h.1) w
   take_sample_keeps s w q y s' (Receive_error e) here h = subst IsWellFormed (sym h.3) w
 
@@ -63,30 +63,30 @@ module _ {T U : Type 0} where
 
   -- A receive keeps a state well-formed.
   pub receive_keeps : (environment : Environment) (s : State T U) (q : ℕ) (s' : State T U) (result : ReceiveResult)
-    → IsWellFormed s → Receive environment s q s' result → IsWellFormed s'
+      → IsWellFormed s → Receive environment s q s' result → IsWellFormed s'
   receive_keeps environment s q s' result w h =
       let mid : IsWellFormed h.0 = update_subscriber_keeps environment s q h.0 h.1 w h.2 in
       by_option (IsWellFormed s') h.1 _ _ h.3
-        (λ _ k. by_option (IsWellFormed s') ((h.0).subscribers q) _ _ k (λ _ v. absurd v) (λ y here k. take_sample_keeps h.0 mid q y s' result here k))
-        (λ e _ k. subst IsWellFormed (sym k.0) mid)
+      (λ _ k. by_option (IsWellFormed s') ((h.0).subscribers q) _ _ k (λ _ v. absurd v) (λ y here k. take_sample_keeps h.0 mid q y s' result here k))
+      (λ e _ k. subst IsWellFormed (sym k.0) mid)
 
   -- No counter falls at a receive.
   pub receive_advances : (environment : Environment) (s : State T U) (q : ℕ) (s' : State T U) (result : ReceiveResult)
-    → Receive environment s q s' result → Advances s s'
+      → Receive environment s q s' result → Advances s s'
   receive_advances environment s q s' result h =
       let mid : Advances s h.0 = update_subscriber_advances environment s q h.0 h.1 h.2 in
       by_option (Advances s s') h.1 _ _ h.3
-        (λ _ k. by_option (Advances s s') ((h.0).subscribers q) _ _ k (λ _ v. absurd v) (λ y here k.
-          let later : Advances h.0 s' = take_sample_advances h.0 q y s' result k in
-          record { config = later.config ∙ mid.config; next_port = le_trans mid.next_port later.next_port; next_message = le_trans mid.next_message later.next_message }))
-        (λ e _ k. subst (Advances s) (sym k.0) mid)
+      (λ _ k. by_option (Advances s s') ((h.0).subscribers q) _ _ k (λ _ v. absurd v) (λ y here k.
+      let later : Advances h.0 s' = take_sample_advances h.0 q y s' result k in
+      record { config = later.config ∙ mid.config; next_port = le_trans mid.next_port later.next_port; next_message = le_trans mid.next_message later.next_message }))
+      (λ e _ k. subst (Advances s) (sym k.0) mid)
 
   -- The question whether anything waits keeps a state well-formed.
   pub has_samples_keeps : (environment : Environment) (s : State T U) (q : ℕ) (s' : State T U) (failure : Option ConnectionFailure) (result : Bool)
-    → IsWellFormed s → HasSamples environment s q s' failure result → IsWellFormed s'
+      → IsWellFormed s → HasSamples environment s q s' failure result → IsWellFormed s'
   has_samples_keeps environment s q s' failure result w h = update_subscriber_keeps environment s q s' failure w h.0
 
   -- No counter falls at the question whether anything waits.
   pub has_samples_advances : (environment : Environment) (s : State T U) (q : ℕ) (s' : State T U) (failure : Option ConnectionFailure) (result : Bool)
-    → HasSamples environment s q s' failure result → Advances s s'
+      → HasSamples environment s q s' failure result → Advances s s'
   has_samples_advances environment s q s' failure result h = update_subscriber_advances environment s q s' failure h.0

@@ -1,8 +1,8 @@
 -- Subscribers and mailboxes in which nothing is new: a released sample, and a closed subscriber that goes, keep a state well-formed.
-use Rattle.std.proofs.Common.{◌≡◌, ℕ, suc, ◌≤◌, Bool, true, false, cond, not, ◌&&◌, ◌||◌, List, [], ◌∷◌, ◌++◌, length, refl, sym, ap, subst, ◌∙◌, arith, eqb, Option, None, Some, ◌⊎◌, inl, inr, ⊎_elim, MatchOption, is_some, le_trans}
+use Rattle.std.proofs.Common.{◌≡◌, ℕ, ◌≤◌, Bool, true, false, cond, not, ◌&&◌, ◌||◌, List, ◌++◌, length, refl, sym, ap, subst, ◌∙◌, arith, eqb, Option, None, Some, ◌⊎◌, inl, inr, ⊎_elim, MatchOption, is_some, le_trans}
 use Rattle.std.specs.List.{flat_map, filter, list_all}
 use Rattle.std.specs.Option.{option_map, option_map_or}
-use Rattle.std.proofs.lemmas.Bool.{true≢false, or_left, or_right, or_cases, eqb-true, eqb-false, and_parts, cond_both}
+use Rattle.std.proofs.lemmas.Bool.{true≢false, or_right, eqb-true, eqb-false, and_parts, cond_both}
 use Rattle.std.proofs.lemmas.Option.{none-some}
 use Rattle.iox2_laws.proofs.Puts.{put_at-other, at_each, found_removed, found_mapped}
 use Rattle.iox2_laws.proofs.NumberLemmas.{contains_in_append, contains_left, contains_right, absent_from, size_le, contains_in_flat_map, contains-flat_map}
@@ -12,11 +12,11 @@ use Rattle.iox2_laws.proofs.PlaceLemmas.{occupant-vacated, vacated_keeps, length
 use Rattle.iox2_laws.proofs.MailboxLemmas.{has_numbers-borrows, IsWithin-released, contains_in_released, has_borrows_before_release, has_numbers_before_release}
 use Rattle.iox2_laws.specs.Laws.{Advances}
 use Rattle.iox2_store.specs.Limits.{buffer_limit, expired_limit}
-use Rattle.iox2_store.specs.Numbers.{put_at, contains, size, IsOnce}
+use Rattle.iox2_store.specs.Numbers.{put_at, contains, size}
 use Rattle.iox2_store.specs.Places.{occupant, occupants, vacated}
 use Rattle.iox2_store.specs.Mailbox.{Mailbox, numbers_in, has_numbers, has_borrows, waiting_count, with_released, IsWithin}
 use Rattle.iox2_store.specs.Records.{Publisher, Subscriber}
-use Rattle.iox2_store.specs.State.{State, held, is_present, connected_publishers, publishers_due}
+use Rattle.iox2_store.specs.State.{State, held, is_present, connected_publishers}
 use Rattle.iox2_store.specs.Releases.{is_connected, pruned, is_unused, place_freed, freed_if_unused, unborrowed, subscriber_pruned, released}
 use Rattle.iox2_store.specs.WellFormed.{LeadsTo, PlacesAgree, subscriber_place, BlockedIsWellFormed, PublisherIsWellFormed, SubscriberIsWellFormed, MailboxIsWellFormed, LoanIsWellFormed, IsWellFormed}
 use Rattle.iox2_store.specs.declared.warning.Warning.{Warning}
@@ -35,14 +35,14 @@ pub shrinks_same : (limit borrow_limit : ℕ) (box : Mailbox) → IsWithin limit
 shrinks_same limit borrow_limit box w = record { within = w; waiting = omega arith; numbers = λ n h. h; some = λ h. h }
 
 held_shrinks : (loans history ids : List ℕ) (f g : ℕ → List ℕ) → ((q n : ℕ) → contains (f q) n ≡ true → contains (g q) n ≡ true)
-  → (n : ℕ) → contains (loans ++ history ++ flat_map f ids) n ≡ true → contains (loans ++ history ++ flat_map g ids) n ≡ true
+    → (n : ℕ) → contains (loans ++ history ++ flat_map f ids) n ≡ true → contains (loans ++ history ++ flat_map g ids) n ≡ true
 held_shrinks loans history ids f g each n h =
     ⊎_elim
-      (λ left. contains_left (loans ++ history) (flat_map g ids) n left)
-      (λ in_boxes.
-        let at : (q : ℕ) × (contains ids q ≡ true) × (contains (f q) n ≡ true) = contains_in_flat_map f ids n in_boxes in
-        contains_right (loans ++ history) (flat_map g ids) n (contains-flat_map g ids at.0 n at.1 (each at.0 n at.2)))
-      (contains_in_append (loans ++ history) (flat_map f ids) n h)
+    (λ left. contains_left (loans ++ history) (flat_map g ids) n left)
+    (λ in_boxes.
+    let at : (q : ℕ) × (contains ids q ≡ true) × (contains (f q) n ≡ true) = contains_in_flat_map f ids n in_boxes in
+    contains_right (loans ++ history) (flat_map g ids) n (contains-flat_map g ids at.0 n at.1 (each at.0 n at.2)))
+    (contains_in_append (loans ++ history) (flat_map f ids) n h)
 
 -- ---- publishers that become due, and what is read of them
 
@@ -52,13 +52,13 @@ stands_with None P P' Q h go = go h
 stands_with (Some x) P P' Q h go = h
 
 connected_stands : (o : Option Publisher) (some : Bool) (P : Type 0) (Q : Publisher → Type 0) → MatchOption o P Q → (is_some o || some) ≡ true
-  → MatchOption o (some ≡ true) Q
+    → MatchOption o (some ≡ true) Q
 connected_stands None some P Q h connected = connected
 connected_stands (Some x) some P Q h connected = h
 
 -- A record found after one was changed is a changed one, or it was there under another key.
 pub found_changed : {A : Type 0} (f : ℕ → Option A) (k : ℕ) (g : A → A) (i : ℕ) (a : A) (R : Type 0) → put_at f k (option_map g (f k)) i ≡ Some a
-  → (i ≡ k → (b : A) → f k ≡ Some b → a ≡ g b → R) → (eqb i k ≡ false → f i ≡ Some a → R) → R
+    → (i ≡ k → (b : A) → f k ≡ Some b → a ≡ g b → R) → (eqb i k ≡ false → f i ≡ Some a → R) → R
 found_changed f k g i a R e new old =
     elim (eqb i k) as (λ b. eqb i k ≡ b → cond b (option_map g (f k)) (f i) ≡ Some a → R) [
       | true ↦ λ same e. found_mapped g (f k) a R e (new (eqb-true i k same))
@@ -67,11 +67,11 @@ found_changed f k g i a R e new old =
 
 -- What holds of one mailbox's new value, and of the others as they were, holds of all.
 pub at_each_mailbox : (f : ℕ → ℕ → Mailbox) (p q : ℕ) (box : Mailbox) (P : ℕ → ℕ → Mailbox → Type 0) (i j : ℕ) → P p q box → P i j (f i j)
-  → P i j (put_at f p (put_at (f p) q box) i j)
+    → P i j (put_at f p (put_at (f p) q box) i j)
 at_each_mailbox f p q box P i j new old =
     at_each f p (put_at (f p) q box) (λ i g. P i j (f i j) → P i j (g j)) i
-      (λ _ old. at_each (f p) q box (λ j m. P p j m) j (λ _. new) (λ _. old))
-      (λ _ old. old) old
+    (λ _ old. at_each (f p) q box (λ j m. P p j m) j (λ _. new) (λ _. old))
+    (λ _ old. old) old
 
 module _ {T U : Type 0} where
   -- The state with these subscribers, mailboxes and warnings.
@@ -85,38 +85,47 @@ module _ {T U : Type 0} where
     pub shrinks : (p q : ℕ) → Shrinks (buffer_limit s.config) (s.config).subscriber_max_borrowed_samples (s.mailboxes p q) (boxes p q)
     pub receivers : (q : ℕ) (y : Subscriber) → subscribers q ≡ Some y → SubscriberIsWellFormed (with_receivers s subscribers boxes warnings) q y
     pub borrowed : (p q : ℕ) → has_borrows (boxes p q) ≡ true
-      → (y : Subscriber) × (subscribers q ≡ Some y) × ((contains y.expired p ≡ true) ⊎ LeadsTo y.ends p)
+        → (y : Subscriber) × (subscribers q ≡ Some y) × ((contains y.expired p ≡ true) ⊎ LeadsTo y.ends p)
 
   absent_still : (s : State T U) (boxes : ℕ → ℕ → Mailbox) (p q n : ℕ)
-    → Shrinks (buffer_limit s.config) (s.config).subscriber_max_borrowed_samples (s.mailboxes p q) (boxes p q)
-    → contains (numbers_in (s.mailboxes p q)) n ≡ false → contains (numbers_in (boxes p q)) n ≡ false
+      → Shrinks (buffer_limit s.config) (s.config).subscriber_max_borrowed_samples (s.mailboxes p q) (boxes p q)
+      → contains (numbers_in (s.mailboxes p q)) n ≡ false → contains (numbers_in (boxes p q)) n ≡ false
   absent_still s boxes p q n a h = absent_from (numbers_in (boxes p q)) n (λ k. true≢false (sym (a.numbers n k) ∙ h))
 
   publisher_agrees : (s : State T U) (subscribers : ℕ → Option Subscriber) (boxes : ℕ → ℕ → Mailbox) (warnings : List Warning)
-    → ReceiversAgree s subscribers boxes warnings
-    → (p : ℕ) (x : Publisher) → PublisherIsWellFormed s p x → PublisherIsWellFormed (with_receivers s subscribers boxes warnings) p x
+      → ReceiversAgree s subscribers boxes warnings
+      → (p : ℕ) (x : Publisher) → PublisherIsWellFormed s p x → PublisherIsWellFormed (with_receivers s subscribers boxes warnings) p x
   publisher_agrees s subscribers boxes warnings a p x b = record {
-    is_known = b.is_known; loans_bound = b.loans_bound; loans_once = b.loans_once; loans_below = b.loans_below; loans_held = b.loans_held;
-    history_bound = b.history_bound; history_once = b.history_once; history_below = b.history_below;
-    ends_bound = b.ends_bound; ends_apart = b.ends_apart; ends_known = b.ends_known;
+    is_known = b.is_known;
+    loans_bound = b.loans_bound;
+    loans_once = b.loans_once;
+    loans_below = b.loans_below;
+    loans_held = b.loans_held;
+    history_bound = b.history_bound;
+    history_once = b.history_once;
+    history_below = b.history_below;
+    ends_bound = b.ends_bound;
+    ends_apart = b.ends_apart;
+    ends_known = b.ends_known;
     ends_stand = λ place q y e f.
         let g : (z : Subscriber) × (s.subscribers q ≡ Some z) × (y.place ≡ z.place) × (y.buffer ≡ z.buffer) = a.stays q y f in
         g.2 ∙ b.ends_stand place q g.0 e g.1;
     slots_bound = λ static.
         let old : size (held s p x) ≤ x.slots = b.slots_bound static in
         let less : size (held (with_receivers s subscribers boxes warnings) p x) ≤ size (held s p x) =
-            size_le (held (with_receivers s subscribers boxes warnings) p x) (held s p x)
-              (held_shrinks x.loans x.history (occupants x.ends) (λ q. numbers_in (boxes p q)) (λ q. numbers_in (s.mailboxes p q))
-                  (λ q n h. (a.shrinks p q).numbers n h)) in
+        size_le (held (with_receivers s subscribers boxes warnings) p x) (held s p x)
+        (held_shrinks x.loans x.history (occupants x.ends) (λ q. numbers_in (boxes p q)) (λ q. numbers_in (s.mailboxes p q))
+        (λ q n h. (a.shrinks p q).numbers n h)) in
         omega arith;
-    some_segment = b.some_segment; segments_bound = b.segments_bound;
+    some_segment = b.some_segment;
+    segments_bound = b.segments_bound;
     blocked = λ c e.
         let old : BlockedIsWellFormed s p x c = b.blocked c e in
         record { is_out = old.is_out; unheld = old.unheld; ends = old.ends; unserved = λ q l. absent_still s boxes p q c.message (a.shrinks p q) (old.unserved q l) };
   }
 
   mailbox_agrees : (s : State T U) (subscribers : ℕ → Option Subscriber) (boxes : ℕ → ℕ → Mailbox) (warnings : List Warning) → ReceiversAgree s subscribers boxes warnings
-    → (p q : ℕ) → MailboxIsWellFormed s p q → MailboxIsWellFormed (with_receivers s subscribers boxes warnings) p q
+      → (p q : ℕ) → MailboxIsWellFormed s p q → MailboxIsWellFormed (with_receivers s subscribers boxes warnings) p q
   mailbox_agrees s subscribers boxes warnings a p q b = record {
     within = (a.shrinks p q).within;
     room = λ y f.
@@ -133,7 +142,7 @@ module _ {T U : Type 0} where
 
   -- What agrees with a well-formed state is well-formed.
   pub receivers_keep : (s : State T U) (subscribers : ℕ → Option Subscriber) (boxes : ℕ → ℕ → Mailbox) (warnings : List Warning)
-    → IsWellFormed s → ReceiversAgree s subscribers boxes warnings → IsWellFormed (with_receivers s subscribers boxes warnings)
+      → IsWellFormed s → ReceiversAgree s subscribers boxes warnings → IsWellFormed (with_receivers s subscribers boxes warnings)
   receivers_keep s subscribers boxes warnings w a = record {
     publisher_places = record { bound = w.publisher_places.bound; stands = w.publisher_places.stands; known = w.publisher_places.known };
     subscriber_places = record {
@@ -147,21 +156,34 @@ module _ {T U : Type 0} where
     loans = λ n l e.
         let b : LoanIsWellFormed s n l = w.loans n l e in
         record {
-          below = b.below; known = b.known; origin = b.origin; cells = b.cells; complete = b.complete; is_out = b.is_out;
+          below = b.below;
+          known = b.known;
+          origin = b.origin;
+          cells = b.cells;
+          complete = b.complete;
+          is_out = b.is_out;
           unsent = λ q. absent_still s boxes l.publisher q n (a.shrinks l.publisher q) (b.unsent q);
         };
   }
 
   -- A subscriber whose mailboxes are left with something where they had it is well-formed.
   pub subscriber_keeps : (s : State T U) (subscribers : ℕ → Option Subscriber) (boxes : ℕ → ℕ → Mailbox) (warnings : List Warning) (q : ℕ) (y : Subscriber)
-    → SubscriberIsWellFormed s q y → ((p : ℕ) → has_numbers (s.mailboxes p q) ≡ true → has_numbers (boxes p q) ≡ true)
-    → SubscriberIsWellFormed (with_receivers s subscribers boxes warnings) q y
+      → SubscriberIsWellFormed s q y → ((p : ℕ) → has_numbers (s.mailboxes p q) ≡ true → has_numbers (boxes p q) ≡ true)
+      → SubscriberIsWellFormed (with_receivers s subscribers boxes warnings) q y
   subscriber_keeps s subscribers boxes warnings q y b left = record {
-    is_known = b.is_known; some_room = b.some_room; buffer_bound = b.buffer_bound;
-    ends_bound = b.ends_bound; ends_apart = b.ends_apart; ends_known = b.ends_known;
+    is_known = b.is_known;
+    some_room = b.some_room;
+    buffer_bound = b.buffer_bound;
+    ends_bound = b.ends_bound;
+    ends_apart = b.ends_apart;
+    ends_known = b.ends_known;
     ends_stand = λ place p h. stands_with (s.publishers p) (has_numbers (s.mailboxes p q) ≡ true) (has_numbers (boxes p q) ≡ true) (λ x. x.place ≡ place)
         (b.ends_stand place p h) (left p);
-    expired_bound = b.expired_bound; expired_once = b.expired_once; expired_apart = b.expired_apart; expired_known = b.expired_known; expired_gone = b.expired_gone;
+    expired_bound = b.expired_bound;
+    expired_once = b.expired_once;
+    expired_apart = b.expired_apart;
+    expired_known = b.expired_known;
+    expired_gone = b.expired_gone;
     expired_kept = λ p h. left p (b.expired_kept p h);
   }
 
@@ -170,12 +192,12 @@ module _ {T U : Type 0} where
   -- ---- a subscriber goes
 
   removed_places : (s : State T U) → IsWellFormed s → (q : ℕ)
-    → PlacesAgree (s.config).max_subscribers (vacated q s.subscriber_places) (λ r. option_map {T = Subscriber} {U = ℕ} (λ y. y.place) (put_at s.subscribers q None r))
+      → PlacesAgree (s.config).max_subscribers (vacated q s.subscriber_places) (λ r. option_map {T = Subscriber} {U = ℕ} (λ y. y.place) (put_at s.subscribers q None r))
   removed_places s w q = record {
     bound = subst (λ n. n ≤ (s.config).max_subscribers) (sym (length-vacated q s.subscriber_places)) w.subscriber_places.bound;
     stands = λ id place e.
         elim (eqb id q) as (λ b. eqb id q ≡ b → option_map {T = Subscriber} {U = ℕ} (λ y. y.place) (cond b None (s.subscribers id)) ≡ Some place
-            → occupant (vacated q s.subscriber_places) place ≡ Some id) [
+        → occupant (vacated q s.subscriber_places) place ≡ Some id) [
           | true ↦ λ _ e. absurd (none-some place e)
           | false ↦ λ apart e. vacated_keeps q s.subscriber_places place id (w.subscriber_places.stands id place e) apart
         ] refl e;
@@ -185,21 +207,34 @@ module _ {T U : Type 0} where
   }
 
   removed_publisher : (s : State T U) (q : ℕ) (places : List (Option ℕ)) (p : ℕ) (x : Publisher) → PublisherIsWellFormed s p x
-    → PublisherIsWellFormed (record s { subscribers = put_at s.subscribers q None; subscriber_places = places }) p x
+      → PublisherIsWellFormed (record s { subscribers = put_at s.subscribers q None; subscriber_places = places }) p x
   removed_publisher s q places p x b = record {
-    is_known = b.is_known; loans_bound = b.loans_bound; loans_once = b.loans_once; loans_below = b.loans_below; loans_held = b.loans_held;
-    history_bound = b.history_bound; history_once = b.history_once; history_below = b.history_below;
-    ends_bound = b.ends_bound; ends_apart = b.ends_apart; ends_known = b.ends_known;
+    is_known = b.is_known;
+    loans_bound = b.loans_bound;
+    loans_once = b.loans_once;
+    loans_below = b.loans_below;
+    loans_held = b.loans_held;
+    history_bound = b.history_bound;
+    history_once = b.history_once;
+    history_below = b.history_below;
+    ends_bound = b.ends_bound;
+    ends_apart = b.ends_apart;
+    ends_known = b.ends_known;
     ends_stand = λ place r y h e. found_removed s.subscribers q r y (y.place ≡ place) e (λ _ f. b.ends_stand place r y h f);
-    slots_bound = b.slots_bound; some_segment = b.some_segment; segments_bound = b.segments_bound;
+    slots_bound = b.slots_bound;
+    some_segment = b.some_segment;
+    segments_bound = b.segments_bound;
     blocked = λ c e. let old : BlockedIsWellFormed s p x c = b.blocked c e in record
         { is_out = old.is_out; unheld = old.unheld; ends = old.ends; unserved = old.unserved };
   }
 
   removed_mailbox : (s : State T U) (q : ℕ) (places : List (Option ℕ)) (p r : ℕ) → (has_borrows (s.mailboxes p q) ≡ true → ⊥) → MailboxIsWellFormed s p r
-    → MailboxIsWellFormed (record s { subscribers = put_at s.subscribers q None; subscriber_places = places }) p r
+      → MailboxIsWellFormed (record s { subscribers = put_at s.subscribers q None; subscriber_places = places }) p r
   removed_mailbox s q places p r nothing b = record {
-    within = b.within; below = b.below; known = b.known; sender_end = b.sender_end;
+    within = b.within;
+    below = b.below;
+    known = b.known;
+    sender_end = b.sender_end;
     room = λ y e. found_removed s.subscribers q r y (waiting_count (s.mailboxes p r) ≤ y.buffer) e (λ _ f. b.room y f);
     receiver_end = λ h.
         elim (eqb r q) as (λ c. eqb r q ≡ c → (y : Subscriber) × (cond c None (s.subscribers r) ≡ Some y) × ((contains y.expired p ≡ true) ⊎ LeadsTo y.ends p)) [
@@ -210,21 +245,30 @@ module _ {T U : Type 0} where
 
   -- A subscriber that has borrowed nothing may go.
   pub subscriber_removed_keeps : (s : State T U) → IsWellFormed s → (q : ℕ) → ((p : ℕ) → has_borrows (s.mailboxes p q) ≡ true → ⊥)
-    → IsWellFormed (record s { subscribers = put_at s.subscribers q None; subscriber_places = vacated q s.subscriber_places })
+      → IsWellFormed (record s { subscribers = put_at s.subscribers q None; subscriber_places = vacated q s.subscriber_places })
   subscriber_removed_keeps s w q nothing = record {
     publisher_places = record { bound = w.publisher_places.bound; stands = w.publisher_places.stands; known = w.publisher_places.known };
     subscriber_places =
         (let a : PlacesAgree (s.config).max_subscribers (vacated q s.subscriber_places)
-            (λ r. option_map {T = Subscriber} {U = ℕ} (λ y. y.place) (put_at s.subscribers q None r)) = removed_places s w q in
+        (λ r. option_map {T = Subscriber} {U = ℕ} (λ y. y.place) (put_at s.subscribers q None r)) = removed_places s w q in
         record { bound = a.bound; stands = a.stands; known = a.known });
     publishers = λ p x e. removed_publisher s q (vacated q s.subscriber_places) p x (w.publishers p x e);
     subscribers = λ r y e.
         let b : SubscriberIsWellFormed s r y = found_removed s.subscribers q r y (SubscriberIsWellFormed s r y) e (λ _ f. w.subscribers r y f) in
         record {
-          is_known = b.is_known; some_room = b.some_room; buffer_bound = b.buffer_bound;
-          ends_bound = b.ends_bound; ends_apart = b.ends_apart; ends_known = b.ends_known; ends_stand = b.ends_stand;
-          expired_bound = b.expired_bound; expired_once = b.expired_once; expired_apart = b.expired_apart; expired_known = b.expired_known;
-          expired_gone = b.expired_gone; expired_kept = b.expired_kept;
+          is_known = b.is_known;
+          some_room = b.some_room;
+          buffer_bound = b.buffer_bound;
+          ends_bound = b.ends_bound;
+          ends_apart = b.ends_apart;
+          ends_known = b.ends_known;
+          ends_stand = b.ends_stand;
+          expired_bound = b.expired_bound;
+          expired_once = b.expired_once;
+          expired_apart = b.expired_apart;
+          expired_known = b.expired_known;
+          expired_gone = b.expired_gone;
+          expired_kept = b.expired_kept;
         };
     mailboxes = λ p r. removed_mailbox s q (vacated q s.subscriber_places) p r (nothing p) (w.mailboxes p r);
     loans = λ n l e.
@@ -237,53 +281,55 @@ module _ {T U : Type 0} where
   unused_borrows_nothing s w q unused p h =
       let at : (y : Subscriber) × (s.subscribers q ≡ Some y) × ((contains y.expired p ≡ true) ⊎ LeadsTo y.ends p) = (w.mailboxes p q).receiver_end h in
       let here : contains (connected_publishers at.0) p ≡ true =
-          ⊎_elim (λ expired. contains_left (at.0).expired (occupants (at.0).ends) p expired)
-            (λ leads. contains_right (at.0).expired (occupants (at.0).ends) p (contains-occupants (at.0).ends p leads)) at.2 in
+      ⊎_elim (λ expired. contains_left (at.0).expired (occupants (at.0).ends) p expired)
+      (λ leads. contains_right (at.0).expired (occupants (at.0).ends) p (contains-occupants (at.0).ends p leads)) at.2 in
       let all : (not (at.0).is_open && list_all (λ r. not (has_borrows (s.mailboxes r q))) (connected_publishers at.0)) ≡ true =
-          subst (λ o. option_map_or (λ (y : Subscriber). not y.is_open && list_all (λ r. not (has_borrows (s.mailboxes r q))) (connected_publishers y)) o
-              false ≡ true) at.1 unused in
+      subst (λ o. option_map_or (λ (y : Subscriber). not y.is_open && list_all (λ r. not (has_borrows (s.mailboxes r q))) (connected_publishers y)) o
+      false ≡ true) at.1 unused in
       let none : not (has_borrows (s.mailboxes p q)) ≡ true =
-          passes_all (λ r. not (has_borrows (s.mailboxes r q))) (connected_publishers at.0) p
-            (and_parts (not (at.0).is_open) (list_all (λ r. not (has_borrows (s.mailboxes r q))) (connected_publishers at.0)) all).1 here in
+      passes_all (λ r. not (has_borrows (s.mailboxes r q))) (connected_publishers at.0) p
+      (and_parts (not (at.0).is_open) (list_all (λ r. not (has_borrows (s.mailboxes r q))) (connected_publishers at.0)) all).1 here in
       true≢false (sym none ∙ ap not h)
 
   -- A closed subscriber that has borrowed nothing goes, and the state stays well-formed.
   pub freed_if_unused_keeps : (s : State T U) → IsWellFormed s → (q : ℕ) → IsWellFormed (freed_if_unused s q)
   freed_if_unused_keeps s w q =
       cond_both (is_unused s q) (place_freed s q) s IsWellFormed
-        (λ unused. publishers_due_keeps (record s { subscribers = put_at s.subscribers q None; subscriber_places = vacated q s.subscriber_places })
-          (subscriber_removed_keeps s w q (unused_borrows_nothing s w q unused)))
-        (λ _. w)
+      (λ unused. publishers_due_keeps (record s { subscribers = put_at s.subscribers q None; subscriber_places = vacated q s.subscriber_places })
+      (subscriber_removed_keeps s w q (unused_borrows_nothing s w q unused)))
+      (λ _. w)
 
   -- No counter falls where a subscriber goes.
   pub freed_if_unused_advances : (s : State T U) → (q : ℕ) → Advances s (freed_if_unused s q)
   freed_if_unused_advances s q =
       cond_both (is_unused s q) (place_freed s q) s (Advances s)
-        (λ _. record { config = refl; next_port = omega arith; next_message = omega arith })
-        (λ _. record { config = refl; next_port = omega arith; next_message = omega arith })
+      (λ _. record { config = refl; next_port = omega arith; next_message = omega arith })
+      (λ _. record { config = refl; next_port = omega arith; next_message = omega arith })
 
   -- ---- a sample is released
 
   pruned_place : (s : State T U) (q : ℕ) (o : Option Subscriber) → option_map {T = Subscriber} {U = ℕ} (λ y. y.place) (option_map (pruned s q) o) ≡ option_map
-    {T = Subscriber} {U = ℕ} (λ y. y.place) o
+      {T = Subscriber} {U = ℕ} (λ y. y.place) o
   pruned_place s q None = refl
   pruned_place s q (Some y) = refl
 
   -- A subscriber that forgets whom it has no message of is well-formed, whatever of its messages went.
   pub pruned_keeps : (s : State T U) (q : ℕ) (y : Subscriber) (subscribers : ℕ → Option Subscriber) (boxes : ℕ → ℕ → Mailbox) (warnings : List Warning)
-    → SubscriberIsWellFormed s q y
-    → SubscriberIsWellFormed (with_receivers s subscribers boxes warnings) q (pruned (with_receivers s subscribers boxes warnings) q y)
+      → SubscriberIsWellFormed s q y
+      → SubscriberIsWellFormed (with_receivers s subscribers boxes warnings) q (pruned (with_receivers s subscribers boxes warnings) q y)
   pruned_keeps s q y subscribers boxes warnings b =
       let test : ℕ → Bool = is_connected (with_receivers s subscribers boxes warnings) q in
       record {
-        is_known = b.is_known; some_room = b.some_room; buffer_bound = b.buffer_bound;
+        is_known = b.is_known;
+        some_room = b.some_room;
+        buffer_bound = b.buffer_bound;
         ends_bound = subst (λ n. n ≤ (s.config).max_publishers) (sym (length-places_of test y.ends)) b.ends_bound;
         ends_apart = injective_places_of test y.ends b.ends_apart;
         ends_known = λ p l. b.ends_known p (l.0, (occupant-places_of test y.ends l.0 p l.1).0);
         ends_stand = λ place p h.
             let found : (occupant y.ends place ≡ Some p) × (test p ≡ true) = occupant-places_of test y.ends place p h in
             connected_stands (s.publishers p) (has_numbers (boxes p q)) (has_numbers (s.mailboxes p q) ≡ true) (λ x. x.place ≡ place)
-                (b.ends_stand place p found.0) found.1;
+            (b.ends_stand place p found.0) found.1;
         expired_bound =
             (let old : length y.expired ≤ expired_limit s.config = b.expired_bound in
             let less : length (filter test y.expired) ≤ length y.expired = length-filter_le test y.expired in
@@ -299,12 +345,12 @@ module _ {T U : Type 0} where
 
   -- A subscriber that forgets whom it has no message of still knows of whom it has borrowed something.
   pub pruned_knows : (s : State T U) (q p : ℕ) (y : Subscriber) → has_borrows (s.mailboxes p q) ≡ true → (contains y.expired p ≡ true) ⊎ LeadsTo y.ends p
-    → (contains (pruned s q y).expired p ≡ true) ⊎ LeadsTo (pruned s q y).ends p
+      → (contains (pruned s q y).expired p ≡ true) ⊎ LeadsTo (pruned s q y).ends p
   pruned_knows s q p y h known =
       let here : is_connected s q p ≡ true = or_right (is_present s p) (has_numbers (s.mailboxes p q)) (has_numbers-borrows (s.mailboxes p q) h) in
       ⊎_elim
-        (λ expired. inl (contains-filter (is_connected s q) y.expired p expired here))
-        (λ leads. inr (leads.0, places_of_keeps (is_connected s q) y.ends leads.0 p leads.1 here)) known
+      (λ expired. inl (contains-filter (is_connected s q) y.expired p expired here))
+      (λ leads. inr (leads.0, places_of_keeps (is_connected s q) y.ends leads.0 p leads.1 here)) known
 
   -- The subscribers and the mailboxes after q has released the message n of p.
   abbrev pub subscribers_after_release : State T U → (p q n : ℕ) → ℕ → Option Subscriber
@@ -314,28 +360,28 @@ module _ {T U : Type 0} where
   mailboxes_after_release s p q n = put_at s.mailboxes p (put_at (s.mailboxes p) q (with_released n (s.mailboxes p q)))
 
   released_shrinks : (s : State T U) → IsWellFormed s → (p q n i j : ℕ)
-    → Shrinks (buffer_limit s.config) (s.config).subscriber_max_borrowed_samples (s.mailboxes i j) (mailboxes_after_release s p q n i j)
+      → Shrinks (buffer_limit s.config) (s.config).subscriber_max_borrowed_samples (s.mailboxes i j) (mailboxes_after_release s p q n i j)
   released_shrinks s w p q n i j =
       at_each_mailbox s.mailboxes p q (with_released n (s.mailboxes p q))
-        (λ i j box. Shrinks (buffer_limit s.config) (s.config).subscriber_max_borrowed_samples (s.mailboxes i j) box) i j
-        (record {
-          within = IsWithin-released (buffer_limit s.config) (s.config).subscriber_max_borrowed_samples n (s.mailboxes p q) (w.mailboxes p q).within;
-          waiting = omega arith;
-          numbers = λ m h. contains_in_released n (s.mailboxes p q) m h;
-          some = has_numbers_before_release n (s.mailboxes p q);
-        })
-        (shrinks_same (buffer_limit s.config) (s.config).subscriber_max_borrowed_samples (s.mailboxes i j) (w.mailboxes i j).within)
+      (λ i j box. Shrinks (buffer_limit s.config) (s.config).subscriber_max_borrowed_samples (s.mailboxes i j) box) i j
+      (record {
+        within = IsWithin-released (buffer_limit s.config) (s.config).subscriber_max_borrowed_samples n (s.mailboxes p q) (w.mailboxes p q).within;
+        waiting = omega arith;
+        numbers = λ m h. contains_in_released n (s.mailboxes p q) m h;
+        some = has_numbers_before_release n (s.mailboxes p q);
+      })
+      (shrinks_same (buffer_limit s.config) (s.config).subscriber_max_borrowed_samples (s.mailboxes i j) (w.mailboxes i j).within)
 
   released_borrows : (s : State T U) (p q n i j : ℕ) → has_borrows (mailboxes_after_release s p q n i j) ≡ true → has_borrows (s.mailboxes i j) ≡ true
   released_borrows s p q n i j =
       at_each_mailbox s.mailboxes p q (with_released n (s.mailboxes p q)) (λ i j box. has_borrows box ≡ true → has_borrows (s.mailboxes i j) ≡ true) i j
-        (has_borrows_before_release n (s.mailboxes p q)) (λ h. h)
+      (has_borrows_before_release n (s.mailboxes p q)) (λ h. h)
 
   -- the mailboxes of other subscribers stay
   released_apart : (s : State T U) (p q n i j : ℕ) → eqb j q ≡ false → mailboxes_after_release s p q n i j ≡ s.mailboxes i j
   released_apart s p q n i j =
       at_each_mailbox s.mailboxes p q (with_released n (s.mailboxes p q)) (λ i j box. eqb j q ≡ false → box ≡ s.mailboxes i j) i j
-        (λ apart. absurd (eqb-false q q apart refl)) (λ _. refl)
+      (λ apart. absurd (eqb-false q q apart refl)) (λ _. refl)
 
   released_agrees : (s : State T U) → IsWellFormed s → (p q n : ℕ) → ReceiversAgree s (subscribers_after_release s p q n) (mailboxes_after_release s p q n) s.warnings
   released_agrees s w p q n = record {
@@ -350,20 +396,21 @@ module _ {T U : Type 0} where
     receivers = λ r y e. found_changed s.subscribers q (pruned (unborrowed s p q n) q) r y
         (SubscriberIsWellFormed (with_receivers s (subscribers_after_release s p q n) (mailboxes_after_release s p q n) s.warnings) r y) e
         (λ same z f g.
-          subst (λ k. SubscriberIsWellFormed (with_receivers s (subscribers_after_release s p q n) (mailboxes_after_release s p q n) s.warnings) k y) (sym same)
-            (subst (SubscriberIsWellFormed (with_receivers s (subscribers_after_release s p q n) (mailboxes_after_release s p q n) s.warnings) q) (sym g)
-              (pruned_keeps s q z (subscribers_after_release s p q n) (mailboxes_after_release s p q n) s.warnings (w.subscribers q z f))))
+        subst (λ k. SubscriberIsWellFormed (with_receivers s (subscribers_after_release s p q n) (mailboxes_after_release s p q n) s.warnings) k y) (sym same)
+        (subst (SubscriberIsWellFormed (with_receivers s (subscribers_after_release s p q n) (mailboxes_after_release s p q n) s.warnings) q) (sym g)
+        (pruned_keeps s q z (subscribers_after_release s p q n) (mailboxes_after_release s p q n) s.warnings (w.subscribers q z f))))
         (λ apart f. subscriber_keeps s (subscribers_after_release s p q n) (mailboxes_after_release s p q n) s.warnings r y (w.subscribers r y f)
-          (λ i h. ap has_numbers (released_apart s p q n i r apart) ∙ h));
+        (λ i h. ap has_numbers (released_apart s p q n i r apart) ∙ h));
     borrowed = λ i j h.
         let old : (y : Subscriber) × (s.subscribers j ≡ Some y) × ((contains y.expired i ≡ true) ⊎ LeadsTo y.ends i) =
-            (w.mailboxes i j).receiver_end (released_borrows s p q n i j h) in
+        (w.mailboxes i j).receiver_end (released_borrows s p q n i j h) in
         elim (eqb j q) as (λ b. eqb j q ≡ b → (y : Subscriber) × (cond b (option_map (pruned (unborrowed s p q n) q) (s.subscribers q)) (s.subscribers j) ≡
-            Some y) × ((contains y.expired i ≡ true) ⊎ LeadsTo y.ends i)) [
+        Some y) × ((contains y.expired i ≡ true) ⊎ LeadsTo y.ends i)) [
           | true ↦ λ same. (
-              pruned (unborrowed s p q n) q old.0,
-              ap (option_map (pruned (unborrowed s p q n) q)) (ap s.subscribers (sym (eqb-true j q same)) ∙ old.1),
-              pruned_knows (unborrowed s p q n) q i old.0 (ap (λ k. has_borrows (mailboxes_after_release s p q n i k)) (sym (eqb-true j q same)) ∙ h) old.2)
+            pruned (unborrowed s p q n) q old.0,
+            ap (option_map (pruned (unborrowed s p q n) q)) (ap s.subscribers (sym (eqb-true j q same)) ∙ old.1),
+            pruned_knows (unborrowed s p q n) q i old.0 (ap (λ k. has_borrows (mailboxes_after_release s p q n i k)) (sym (eqb-true j q same)) ∙ h) old.2,
+          )
           | false ↦ λ _. old
         ] refl;
   }
@@ -372,7 +419,7 @@ module _ {T U : Type 0} where
   pub released_keeps : (s : State T U) → IsWellFormed s → (p q n : ℕ) → IsWellFormed (released s p q n)
   released_keeps s w p q n =
       freed_if_unused_keeps (subscriber_pruned (unborrowed s p q n) q)
-        (receivers_keep s (subscribers_after_release s p q n) (mailboxes_after_release s p q n) s.warnings w (released_agrees s w p q n)) q
+      (receivers_keep s (subscribers_after_release s p q n) (mailboxes_after_release s p q n) s.warnings w (released_agrees s w p q n)) q
 
   -- No counter falls at a release.
   pub released_advances : (s : State T U) (p q n : ℕ) → Advances s (released s p q n)

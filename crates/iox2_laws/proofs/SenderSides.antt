@@ -24,7 +24,7 @@ not_true false h = refl
 
 -- an end at another place stays where one is set
 end_stays : (ends : List (Option ℕ)) (place i r : ℕ) (end : Option ℕ) → (i ≡ place → ⊥) → occupant ends i ≡ Some r
-  → occupant (set_place ends place end) i ≡ Some r
+    → occupant (set_place ends place end) i ≡ Some r
 end_stays ends place i r end apart h =
     let other : eqb i place ≡ false = ne_eqb i place apart in
     occupant-set_place ends place end i ∙ rw other h
@@ -64,17 +64,17 @@ module _ {T U : Type 0} where
   stands_at s w q y e = (w.subscriber_places).stands q y.place (rw e refl)
 
   place_is : (s : State T U) → IsWellFormed s → (q place : ℕ) (y : Subscriber) → s.subscribers q ≡ Some y
-    → occupant s.subscriber_places place ≡ Some q → y.place ≡ place
+      → occupant s.subscriber_places place ≡ Some q → y.place ≡ place
   place_is s w q place y e h =
       let found : subscriber_place s q ≡ Some place = (w.subscriber_places).known q place h in
       same_Some y.place place (rw e at found)
 
   -- a buffer that takes messages is a subscriber's
   buffer_of : (s : State T U) (q buffer : ℕ) → receiving_buffer s q ≡ Some buffer
-    → (y : Subscriber) × (s.subscribers q ≡ Some y) × (y.buffer ≡ buffer)
+      → (y : Subscriber) × (s.subscribers q ≡ Some y) × (y.buffer ≡ buffer)
   buffer_of s q buffer h =
       option_and_then_some (λ (y : Subscriber). cond y.is_open (Some y.buffer) None) (s.subscribers q) buffer h
-        (λ y e f. (y, e, (cond_some y.is_open y.buffer buffer f).1))
+      (λ y e f. (y, e, (cond_some y.is_open y.buffer buffer f).1))
 
   module _ (s : State T U) (w : IsWellFormed s) (p : ℕ) (x : Publisher) (present : s.publishers p ≡ Some x) where
     abbrev Keeps : List (Option ℕ) → (ℕ → Mailbox) → Type 0
@@ -88,24 +88,28 @@ module _ {T U : Type 0} where
     pub sender_side_begins : SenderSideIsWellFormed s p x x.ends (s.mailboxes p)
     sender_side_begins =
         let u : PublisherIsWellFormed s p x = w.publishers p x present in record {
-      ends_bound = u.ends_bound; ends_apart = u.ends_apart; ends_known = u.ends_known; ends_stand = u.ends_stand;
-      within = λ q. (w.mailboxes p q).within;
-      room = λ q. (w.mailboxes p q).room;
-      known = λ q h. ((w.mailboxes p q).known h).1;
-      sender_end = λ q. (w.mailboxes p q).sender_end x present;
-      borrows = λ q h. h;
-      comes_from = λ q n h. inl h;
-    }
+          ends_bound = u.ends_bound;
+          ends_apart = u.ends_apart;
+          ends_known = u.ends_known;
+          ends_stand = u.ends_stand;
+          within = λ q. (w.mailboxes p q).within;
+          room = λ q. (w.mailboxes p q).room;
+          known = λ q h. ((w.mailboxes p q).known h).1;
+          sender_end = λ q. (w.mailboxes p q).sender_end x present;
+          borrows = λ q h. h;
+          comes_from = λ q n h. inl h;
+        }
 
     -- What waits for one receiver is lost; an end to it stays, or nothing of its mailbox is borrowed.
     waiting_lost : (ends ends' : List (Option ℕ)) (boxes : ℕ → Mailbox) (q : ℕ) → Keeps ends boxes
-      → length ends' ≤ (s.config).max_subscribers → IsInjective ends'
-      → ((i r : ℕ) → occupant ends' i ≡ Some r → occupant ends i ≡ Some r)
-      → ((r : ℕ) → eqb r q ≡ false → LeadsTo ends r → LeadsTo ends' r)
-      → (has_borrows (boxes q) ≡ true → LeadsTo ends' q)
-      → Keeps ends' (put_at boxes q (waiting_dropped (boxes q)))
+        → length ends' ≤ (s.config).max_subscribers → IsInjective ends'
+        → ((i r : ℕ) → occupant ends' i ≡ Some r → occupant ends i ≡ Some r)
+        → ((r : ℕ) → eqb r q ≡ false → LeadsTo ends r → LeadsTo ends' r)
+        → (has_borrows (boxes q) ≡ true → LeadsTo ends' q)
+        → Keeps ends' (put_at boxes q (waiting_dropped (boxes q)))
     waiting_lost ends ends' boxes q k bound apart before others left = let new : Mailbox = waiting_dropped (boxes q) in record {
-      ends_bound = bound; ends_apart = apart;
+      ends_bound = bound;
+      ends_apart = apart;
       ends_known = λ r l. k.ends_known r (l.0, before l.0 r l.1);
       ends_stand = λ place r y h. k.ends_stand place r y (before place r h);
       within = λ r. at_each boxes q new (λ _. KeepsLimits s) r
@@ -129,25 +133,28 @@ module _ {T U : Type 0} where
 
     -- nothing is borrowed through an end at a place that another has, or nobody
     borrows_nothing : (side : SenderSide) (place q : ℕ) → SideKeeps side → occupant side.ends place ≡ Some q
-      → (occupant s.subscriber_places place ≡ Some q → ⊥) → has_borrows (side.mailboxes q) ≡ true → ⊥
+        → (occupant s.subscriber_places place ≡ Some q → ⊥) → has_borrows (side.mailboxes q) ≡ true → ⊥
     borrows_nothing side place q k e apart h =
         let r : (y : Subscriber) × (s.subscribers q ≡ Some y) × ((contains y.expired p ≡ true) ⊎ LeadsTo y.ends p) =
-            (w.mailboxes p q).receiver_end (k.borrows q h) in
+        (w.mailboxes p q).receiver_end (k.borrows q h) in
         apart (subst (λ i. occupant s.subscriber_places i ≡ Some q) (k.ends_stand place q r.0 e r.1) (stands_at s w q r.0 r.1))
 
     -- the end at a place goes, and nothing stands there afterwards
     disconnected_keeps : (side : SenderSide) (place : ℕ) (end : Option ℕ) → place < length s.subscriber_places → occupant side.ends place ≡ end
-      → ((q : ℕ) → end ≡ Some q → occupant s.subscriber_places place ≡ Some q → ⊥)
-      → SideKeeps side → SideKeeps (disconnected side place end)
+        → ((q : ℕ) → end ≡ Some q → occupant s.subscriber_places place ≡ Some q → ⊥)
+        → SideKeeps side → SideKeeps (disconnected side place end)
     disconnected_keeps side place None low e apart k = k
     disconnected_keeps side place (Some q) low e apart k =
         waiting_lost side.ends (set_place side.ends place None) side.mailboxes q k
-          (length-set_place_le side.ends place None (omega (arith, (w.subscriber_places).bound)) k.ends_bound)
-          (injective_removed side.ends place k.ends_apart)
-          (λ i r h. ⊎_elim (λ new. absurd (none-some r new.1)) (λ old. old.1) (found_set side.ends place None i r h))
-          (λ r other l. (l.0, end_stays side.ends place l.0 r None
-            (λ same. eqb-false r q other (same_Some r q (sym l.1 ∙ ap (occupant side.ends) same ∙ e))) l.1))
-          (λ h. absurd (borrows_nothing side place q k e (apart q refl) h))
+        (length-set_place_le side.ends place None (omega (arith, (w.subscriber_places).bound)) k.ends_bound)
+        (injective_removed side.ends place k.ends_apart)
+        (λ i r h. ⊎_elim (λ new. absurd (none-some r new.1)) (λ old. old.1) (found_set side.ends place None i r h))
+        (λ r other l. (
+          l.0,
+          end_stays side.ends place l.0 r None
+              (λ same. eqb-false r q other (same_Some r q (sym l.1 ∙ ap (occupant side.ends) same ∙ e))) l.1,
+        ))
+        (λ h. absurd (borrows_nothing side place q k e (apart q refl) h))
 
     nothing_after : (side : SenderSide) (place : ℕ) (end : Option ℕ) → occupant side.ends place ≡ end → occupant (disconnected side place end).ends place ≡ None
     nothing_after side place None e = e
@@ -155,45 +162,45 @@ module _ {T U : Type 0} where
 
     -- An end to the open subscriber at a place is made where none stood.
     connected_keeps : (side : SenderSide) (place q buffer : ℕ) → place < length s.subscriber_places → occupant s.subscriber_places place ≡ Some q
-      → receiving_buffer s q ≡ Some buffer → occupant side.ends place ≡ None
-      → SideKeeps side → SideKeeps (connected x.history side place q buffer)
+        → receiving_buffer s q ≡ Some buffer → occupant side.ends place ≡ None
+        → SideKeeps side → SideKeeps (connected x.history side place q buffer)
     connected_keeps side place q buffer low at opened free k =
         let found : (y : Subscriber) × (s.subscribers q ≡ Some y) × (y.buffer ≡ buffer) = buffer_of s q buffer opened in
         let u : PublisherIsWellFormed s p x = w.publishers p x present in
         let v : SubscriberIsWellFormed s q found.0 = w.subscribers q found.0 found.1 in
         let nowhere : (i : ℕ) → occupant side.ends i ≡ Some q → ⊥ = λ i h.
-            let same : i ≡ place = sym (k.ends_stand i q found.0 h found.1) ∙ place_is s w q place found.0 found.1 at in
-            none-some q (sym free ∙ ap (occupant side.ends) (sym same) ∙ h) in
+        let same : i ≡ place = sym (k.ends_stand i q found.0 h found.1) ∙ place_is s w q place found.0 found.1 at in
+        none-some q (sym free ∙ ap (occupant side.ends) (sym same) ∙ h) in
         let empty : has_numbers (side.mailboxes q) ≡ false = not_true _ (λ h. let l : LeadsTo side.ends q = k.sender_end q h in nowhere l.0 l.1) in
         let new : Mailbox = with_waiting (last_n buffer x.history) (side.mailboxes q) in
         record {
-      ends_bound = length-set_place_le side.ends place (Some q) (omega (arith, (w.subscriber_places).bound)) k.ends_bound;
-      ends_apart = injective_set side.ends place q k.ends_apart (λ i h. absurd (nowhere i h));
-      ends_known = λ r l. ⊎_elim
-          (λ here. subst (λ i. i < s.next_port) (same_Some q r here.1) v.is_known)
-          (λ old. k.ends_known r (l.0, old.1))
-          (found_set side.ends place (Some q) l.0 r l.1);
-      ends_stand = λ i r y h e. ⊎_elim
-          (λ here. place_is s w r i y e (subst (λ j. occupant s.subscriber_places j ≡ Some r) (sym here.0) (at ∙ here.1)))
-          (λ old. k.ends_stand i r y old.1 e)
-          (found_set side.ends place (Some q) i r h);
-      within = λ r. at_each side.mailboxes q new (λ _. KeepsLimits s) r
-          (λ _. IsWithin-history _ _ buffer x.history (side.mailboxes q) (subst (λ b. b ≤ buffer_limit s.config) found.2 v.buffer_bound) u.history_once empty)
-          (λ _. k.within r);
-      room = λ r. at_each side.mailboxes q new (FitsBuffer s) r
-          (λ _ y e. subst (λ b. waiting_count new ≤ b) (sym found.2 ∙ ap (λ (z : Subscriber). z.buffer) (same_Some found.0 y (sym found.1 ∙ e)))
-            (waiting_count-history buffer x.history (side.mailboxes q)))
-          (λ _. k.room r);
-      known = λ r. at_each side.mailboxes q new (λ i box. has_numbers box ≡ true → i < s.next_port) r (λ _ _. v.is_known) (λ _. k.known r);
-      sender_end = λ r. at_each side.mailboxes q new (λ i box. has_numbers box ≡ true → LeadsTo (set_place side.ends place (Some q)) i) r
-          (λ _ _. (place, end_set side.ends place (Some q)))
-          (λ _ h. let l : LeadsTo side.ends r = k.sender_end r h in
-            (l.0, end_stays side.ends place l.0 r (Some q) (λ same. none-some r (sym free ∙ ap (occupant side.ends) (sym same) ∙ l.1)) l.1));
-      borrows = λ r. at_each side.mailboxes q new (λ i box. has_borrows box ≡ true → has_borrows (s.mailboxes p i) ≡ true) r
-          (λ _ h. k.borrows q (sym (has_borrows-history (last_n buffer x.history) (side.mailboxes q)) ∙ h)) (λ _. k.borrows r);
-      comes_from = λ r. at_each side.mailboxes q new (ComesFrom s p x) r
-          (λ _ n h. inr (contains_in_history buffer x.history (side.mailboxes q) n empty h)) (λ _. k.comes_from r);
-    }
+          ends_bound = length-set_place_le side.ends place (Some q) (omega (arith, (w.subscriber_places).bound)) k.ends_bound;
+          ends_apart = injective_set side.ends place q k.ends_apart (λ i h. absurd (nowhere i h));
+          ends_known = λ r l. ⊎_elim
+              (λ here. subst (λ i. i < s.next_port) (same_Some q r here.1) v.is_known)
+              (λ old. k.ends_known r (l.0, old.1))
+              (found_set side.ends place (Some q) l.0 r l.1);
+          ends_stand = λ i r y h e. ⊎_elim
+              (λ here. place_is s w r i y e (subst (λ j. occupant s.subscriber_places j ≡ Some r) (sym here.0) (at ∙ here.1)))
+              (λ old. k.ends_stand i r y old.1 e)
+              (found_set side.ends place (Some q) i r h);
+          within = λ r. at_each side.mailboxes q new (λ _. KeepsLimits s) r
+              (λ _. IsWithin-history _ _ buffer x.history (side.mailboxes q) (subst (λ b. b ≤ buffer_limit s.config) found.2 v.buffer_bound) u.history_once empty)
+              (λ _. k.within r);
+          room = λ r. at_each side.mailboxes q new (FitsBuffer s) r
+              (λ _ y e. subst (λ b. waiting_count new ≤ b) (sym found.2 ∙ ap (λ (z : Subscriber). z.buffer) (same_Some found.0 y (sym found.1 ∙ e)))
+              (waiting_count-history buffer x.history (side.mailboxes q)))
+              (λ _. k.room r);
+          known = λ r. at_each side.mailboxes q new (λ i box. has_numbers box ≡ true → i < s.next_port) r (λ _ _. v.is_known) (λ _. k.known r);
+          sender_end = λ r. at_each side.mailboxes q new (λ i box. has_numbers box ≡ true → LeadsTo (set_place side.ends place (Some q)) i) r
+              (λ _ _. (place, end_set side.ends place (Some q)))
+              (λ _ h. let l : LeadsTo side.ends r = k.sender_end r h in
+              (l.0, end_stays side.ends place l.0 r (Some q) (λ same. none-some r (sym free ∙ ap (occupant side.ends) (sym same) ∙ l.1)) l.1));
+          borrows = λ r. at_each side.mailboxes q new (λ i box. has_borrows box ≡ true → has_borrows (s.mailboxes p i) ≡ true) r
+              (λ _ h. k.borrows q (sym (has_borrows-history (last_n buffer x.history) (side.mailboxes q)) ∙ h)) (λ _. k.borrows r);
+          comes_from = λ r. at_each side.mailboxes q new (ComesFrom s p x) r
+              (λ _ n h. inr (contains_in_history buffer x.history (side.mailboxes q) n empty h)) (λ _. k.comes_from r);
+        }
 
     module _ (environment : Environment) where
       abbrev Does : SenderAction → (place : ℕ) → SenderSide → SenderSide → Option ConnectionFailure → Type 0
@@ -201,45 +208,45 @@ module _ {T U : Type 0} where
 
       -- what is done at a place keeps it
       performed_keeps : (place : ℕ) (at end : Option ℕ) (side side' : SenderSide) (failure : Option ConnectionFailure) → place < length s.subscriber_places
-        → occupant s.subscriber_places place ≡ at → occupant side.ends place ≡ end → SideKeeps side
-        → Does (sender_action (receiving_buffer s) at end) place side side' failure → SideKeeps side'
+          → occupant s.subscriber_places place ≡ at → occupant side.ends place ≡ end → SideKeeps side
+          → Does (sender_action (receiving_buffer s) at end) place side side' failure → SideKeeps side'
       performed_keeps place None end side side' failure low a e k h =
           subst SideKeeps (sym h.0)
-            (disconnected_keeps side place (occupant side.ends place) low refl (λ q _ b. none-some q (sym a ∙ b)) k)
+          (disconnected_keeps side place (occupant side.ends place) low refl (λ q _ b. none-some q (sym a ∙ b)) k)
       performed_keeps place (Some q) end side side' failure low a e k h =
           let gone : is_port end q ≡ false → (r : ℕ) → occupant side.ends place ≡ Some r → occupant s.subscriber_places place ≡ Some r → ⊥ = λ other r f b.
-              is_port-false end q other (sym e ∙ f ∙ sym b ∙ a) in
+          is_port-false end q other (sym e ∙ f ∙ sym b ∙ a) in
           elim (receiving_buffer s q) as (λ o. receiving_buffer s q ≡ o
-              → Does (elim o [ None ↦ cond (is_port end q) (Drop_waiting q) Disconnect | Some buffer ↦ cond (is_port end q) Keep_end (Connect q buffer) ])
-                  place side side' failure
-              → SideKeeps side') [
+          → Does (elim o [ None ↦ cond (is_port end q) (Drop_waiting q) Disconnect | Some buffer ↦ cond (is_port end q) Keep_end (Connect q buffer) ])
+          place side side' failure
+          → SideKeeps side') [
             | None ↦ λ _. elim (is_port end q) as (λ b.
                 is_port end q ≡ b → Does (cond b (Drop_waiting q) Disconnect) place side side' failure → SideKeeps side') [
-                | true ↦ λ same h. subst SideKeeps (sym h.0) (dropped_keeps side place q (e ∙ is_port-true end q same) k)
-                | false ↦ λ other h. subst SideKeeps (sym h.0)
-                    (disconnected_keeps side place (occupant side.ends place) low refl (gone other) k)
-              ] refl
+                  | true ↦ λ same h. subst SideKeeps (sym h.0) (dropped_keeps side place q (e ∙ is_port-true end q same) k)
+                  | false ↦ λ other h. subst SideKeeps (sym h.0)
+                      (disconnected_keeps side place (occupant side.ends place) low refl (gone other) k)
+                ] refl
             | Some buffer ↦ λ opened. elim (is_port end q) as (λ b.
                 is_port end q ≡ b → Does (cond b Keep_end (Connect q buffer)) place side side' failure → SideKeeps side') [
-                | true ↦ λ _ h. subst SideKeeps (sym h.0) k
-                | false ↦ λ other h.
-                    let mid : SenderSide = disconnected side place (occupant side.ends place) in
-                    let k' : SideKeeps mid = disconnected_keeps side place (occupant side.ends place) low refl (gone other) k in
-                    ⊎_elim
+                  | true ↦ λ _ h. subst SideKeeps (sym h.0) k
+                  | false ↦ λ other h.
+                      let mid : SenderSide = disconnected side place (occupant side.ends place) in
+                      let k' : SideKeeps mid = disconnected_keeps side place (occupant side.ends place) low refl (gone other) k in
+                      ⊎_elim
                       (λ made. subst SideKeeps (sym made.0)
-                        (connected_keeps mid place q buffer low a opened (nothing_after side place (occupant side.ends place) refl) k'))
+                      (connected_keeps mid place q buffer low a opened (nothing_after side place (occupant side.ends place) refl) k'))
                       (λ refused. subst SideKeeps (sym refused.3) k') h
-              ] refl
+                ] refl
           ] refl h
 
       -- It holds when the update ends.
       pub sender_side_keeps : (side : SenderSide) (failure : Option ConnectionFailure)
-        → ForEachPlace (UpdateSenderPlace environment (s.config).service_id p x.degradation_handler x.history (receiving_buffer s) (has_receiver_end s p))
-            0 s.subscriber_places (sender_side s p x) side failure
-        → SenderSideIsWellFormed s p x side.ends side.mailboxes
+          → ForEachPlace (UpdateSenderPlace environment (s.config).service_id p x.degradation_handler x.history (receiving_buffer s) (has_receiver_end s p))
+          0 s.subscriber_places (sender_side s p x) side failure
+          → SenderSideIsWellFormed s p x side.ends side.mailboxes
       sender_side_keeps side failure h =
           for_each_place_keeps
-            (UpdateSenderPlace environment (s.config).service_id p x.degradation_handler x.history (receiving_buffer s) (has_receiver_end s p))
-            SideKeeps s.subscriber_places
-            (λ i side side' failure low k h. performed_keeps i (occupant s.subscriber_places i) (occupant side.ends i) side side' failure low refl refl k h)
-            (sender_side s p x) side failure sender_side_begins h
+          (UpdateSenderPlace environment (s.config).service_id p x.degradation_handler x.history (receiving_buffer s) (has_receiver_end s p))
+          SideKeeps s.subscriber_places
+          (λ i side side' failure low k h. performed_keeps i (occupant s.subscriber_places i) (occupant side.ends i) side side' failure low refl refl k h)
+          (sender_side s p x) side failure sender_side_begins h

@@ -34,52 +34,60 @@ subscriber_with y side = record y { ends = side.ends; expired = side.expired; is
 module _ {T U : Type 0} where
   -- Both walks keep a subscriber's side well-formed.
   pub update_receiver_side_keeps : (environment : Environment) (s : State T U) → IsWellFormed s → (q : ℕ) (handler : Handler DegradationAction) (has_end : ℕ → Bool)
-    (side side' : ReceiverSide) (failure : Option ConnectionFailure) → ReceiverSideIsWellFormed s q side
-    → UpdateReceiverSide environment (s.config).service_id q handler (expired_limit s.config) has_end s.publisher_places side side' failure
-    → ReceiverSideIsWellFormed s q side'
+      (side side' : ReceiverSide) (failure : Option ConnectionFailure) → ReceiverSideIsWellFormed s q side
+      → UpdateReceiverSide environment (s.config).service_id q handler (expired_limit s.config) has_end s.publisher_places side side' failure
+      → ReceiverSideIsWellFormed s q side'
   update_receiver_side_keeps environment s w q handler has_end side side' failure b h =
       for_each_place_keeps (DisconnectAtPlace environment (s.config).service_id q handler (expired_limit s.config) has_end) (ReceiverSideIsWellFormed s q)
-          s.publisher_places
-        (λ place from to failed _ b k. disconnect_at_place_keeps environment s w q handler has_end place from to failed b k)
-        h.0 side' h.2
-        (for_each_place_keeps (ConnectAtPlace environment (s.config).service_id q handler (expired_limit s.config) has_end) (ReceiverSideIsWellFormed s q)
-            s.publisher_places
-          (λ place from to failed _ b k. connect_at_place_keeps environment s w q handler has_end place from to failed b k)
-          side h.0 h.1 b h.3)
-        h.4
+      s.publisher_places
+      (λ place from to failed _ b k. disconnect_at_place_keeps environment s w q handler has_end place from to failed b k)
+      h.0 side' h.2
+      (for_each_place_keeps (ConnectAtPlace environment (s.config).service_id q handler (expired_limit s.config) has_end) (ReceiverSideIsWellFormed s q)
+      s.publisher_places
+      (λ place from to failed _ b k. connect_at_place_keeps environment s w q handler has_end place from to failed b k)
+      side h.0 h.1 b h.3)
+      h.4
 
   -- The mailboxes with this side.
   abbrev mailboxes_with : State T U → (q : ℕ) → ReceiverSide → ℕ → ℕ → Mailbox
   mailboxes_with s q side = λ p. put_at (s.mailboxes p) q (side.mailboxes p)
 
   side_shrinks : (s : State T U) → IsWellFormed s → (q : ℕ) (side : ReceiverSide) → ReceiverSideIsWellFormed s q side → (i j : ℕ)
-    → Shrinks (buffer_limit s.config) (s.config).subscriber_max_borrowed_samples (s.mailboxes i j) (mailboxes_with s q side i j)
+      → Shrinks (buffer_limit s.config) (s.config).subscriber_max_borrowed_samples (s.mailboxes i j) (mailboxes_with s q side i j)
   side_shrinks s w q side b i j =
       at_each (s.mailboxes i) q (side.mailboxes i) (λ k m. Shrinks (buffer_limit s.config) (s.config).subscriber_max_borrowed_samples (s.mailboxes i k) m) j
-        (λ _. ⊎_elim
-          (λ same. subst (Shrinks (buffer_limit s.config) (s.config).subscriber_max_borrowed_samples (s.mailboxes i q)) (sym same)
-              (shrinks_same _ _ (s.mailboxes i q) (w.mailboxes i q).within))
-          (λ dropped. subst (Shrinks (buffer_limit s.config) (s.config).subscriber_max_borrowed_samples (s.mailboxes i q)) (sym dropped.0)
-              (shrinks_dropped _ _ (s.mailboxes i q) (w.mailboxes i q).within))
-          (b.boxes i))
-        (λ _. shrinks_same _ _ (s.mailboxes i j) (w.mailboxes i j).within)
+      (λ _. ⊎_elim
+      (λ same. subst (Shrinks (buffer_limit s.config) (s.config).subscriber_max_borrowed_samples (s.mailboxes i q)) (sym same)
+      (shrinks_same _ _ (s.mailboxes i q) (w.mailboxes i q).within))
+      (λ dropped. subst (Shrinks (buffer_limit s.config) (s.config).subscriber_max_borrowed_samples (s.mailboxes i q)) (sym dropped.0)
+      (shrinks_dropped _ _ (s.mailboxes i q) (w.mailboxes i q).within))
+      (b.boxes i))
+      (λ _. shrinks_same _ _ (s.mailboxes i j) (w.mailboxes i j).within)
 
   own_side : (s : State T U) (q : ℕ) (side : ReceiverSide) (i : ℕ) → mailboxes_with s q side i q ≡ side.mailboxes i
   own_side s q side i = put_at-same (s.mailboxes i) q (side.mailboxes i)
 
   updated_subscriber : (s : State T U) (q : ℕ) (y : Subscriber) (side : ReceiverSide) → ReceiverSideIsWellFormed s q side → SubscriberIsWellFormed s q y
-    → SubscriberIsWellFormed (with_receiver_side s q y side) q (subscriber_with y side)
+      → SubscriberIsWellFormed (with_receiver_side s q y side) q (subscriber_with y side)
   updated_subscriber s q y side b old = record {
-    is_known = old.is_known; some_room = old.some_room; buffer_bound = old.buffer_bound;
-    ends_bound = b.ends_bound; ends_apart = b.ends_apart; ends_known = b.ends_known;
+    is_known = old.is_known;
+    some_room = old.some_room;
+    buffer_bound = old.buffer_bound;
+    ends_bound = b.ends_bound;
+    ends_apart = b.ends_apart;
+    ends_known = b.ends_known;
     ends_stand = λ place p h. subst (λ m. MatchOption (s.publishers p) (has_numbers m ≡ true) (λ x. x.place ≡ place)) (sym (own_side s q side p))
         (b.ends_stand place p h);
-    expired_bound = b.expired_bound; expired_once = b.expired_once; expired_apart = b.expired_apart; expired_known = b.expired_known; expired_gone = b.expired_gone;
+    expired_bound = b.expired_bound;
+    expired_once = b.expired_once;
+    expired_apart = b.expired_apart;
+    expired_known = b.expired_known;
+    expired_gone = b.expired_gone;
     expired_kept = λ p h. ap has_numbers (own_side s q side p) ∙ b.expired_kept p h;
   }
 
   updated_agrees : (s : State T U) → IsWellFormed s → (q : ℕ) (y : Subscriber) (side : ReceiverSide) → s.subscribers q ≡ Some y → ReceiverSideIsWellFormed s q side
-    → ReceiversAgree s (put_at s.subscribers q (Some (subscriber_with y side))) (mailboxes_with s q side) side.warnings
+      → ReceiversAgree s (put_at s.subscribers q (Some (subscriber_with y side))) (mailboxes_with s q side) side.warnings
   updated_agrees s w q y side here b = record {
     places = λ r. at_each s.subscribers q (Some (subscriber_with y side)) (λ i o. option_map {T = Subscriber} {U = ℕ} (λ z. z.place) o ≡ subscriber_place s i) r
         (λ _. ap (option_map {T = Subscriber} {U = ℕ} (λ z. z.place)) (sym here)) (λ _. refl);
@@ -90,35 +98,35 @@ module _ {T U : Type 0} where
     receivers = λ r z e. found_put s.subscribers q (subscriber_with y side) (SubscriberIsWellFormed (with_receiver_side s q y side)) r z e
         (λ _. updated_subscriber s q y side b (w.subscribers q y here))
         (λ apart f. subscriber_keeps s (put_at s.subscribers q (Some (subscriber_with y side))) (mailboxes_with s q side) side.warnings r z (w.subscribers r z f)
-          (λ p h. ap has_numbers (put_at-other (s.mailboxes p) q (side.mailboxes p) r apart) ∙ h));
+        (λ p h. ap has_numbers (put_at-other (s.mailboxes p) q (side.mailboxes p) r apart) ∙ h));
     borrowed = λ i j.
         at_each (s.mailboxes i) q (side.mailboxes i)
-          (λ k m. has_borrows m ≡ true → (z : Subscriber) × (put_at s.subscribers q (Some (subscriber_with y side)) k ≡ Some z) ×
-              ((contains z.expired i ≡ true) ⊎ LeadsTo z.ends i)) j
-          (λ _ h. (subscriber_with y side, put_at-same s.subscribers q (Some (subscriber_with y side)), b.borrows i h))
-          (λ apart h.
-            let old : (z : Subscriber) × (s.subscribers j ≡ Some z) × ((contains z.expired i ≡ true) ⊎ LeadsTo z.ends i) = (w.mailboxes i j).receiver_end h in
-            (old.0, put_at-other s.subscribers q (Some (subscriber_with y side)) j apart ∙ old.1, old.2));
+        (λ k m. has_borrows m ≡ true → (z : Subscriber) × (put_at s.subscribers q (Some (subscriber_with y side)) k ≡ Some z) ×
+        ((contains z.expired i ≡ true) ⊎ LeadsTo z.ends i)) j
+        (λ _ h. (subscriber_with y side, put_at-same s.subscribers q (Some (subscriber_with y side)), b.borrows i h))
+        (λ apart h.
+        let old : (z : Subscriber) × (s.subscribers j ≡ Some z) × ((contains z.expired i ≡ true) ⊎ LeadsTo z.ends i) = (w.mailboxes i j).receiver_end h in
+        (old.0, put_at-other s.subscribers q (Some (subscriber_with y side)) j apart ∙ old.1, old.2));
   }
 
   -- A subscriber's update keeps a state well-formed.
   pub update_subscriber_keeps : (environment : Environment) (s : State T U) (q : ℕ) (s' : State T U) (failure : Option ConnectionFailure)
-    → IsWellFormed s → UpdateSubscriber environment s q s' failure → IsWellFormed s'
+      → IsWellFormed s → UpdateSubscriber environment s q s' failure → IsWellFormed s'
   update_subscriber_keeps environment s q s' failure w h =
       by_option (IsWellFormed s') (s.subscribers q) _ _ h (λ _ v. absurd v) (λ y here h.
       by_bool (IsWellFormed s') y.is_due _ _ h
-        (λ _ h. subst IsWellFormed (sym h.2)
-          (receivers_keep s (put_at s.subscribers q (Some (subscriber_with y h.0))) (mailboxes_with s q h.0) (h.0).warnings w
-            (updated_agrees s w q y h.0 here
-              (update_receiver_side_keeps environment s w q y.degradation_handler (λ p. has_sender_end s p q) (receiver_side s q y) h.0 failure
-                (receiver_side_begins s w q y here) h.1))))
-        (λ _ h. subst IsWellFormed (sym h.0) w))
+      (λ _ h. subst IsWellFormed (sym h.2)
+      (receivers_keep s (put_at s.subscribers q (Some (subscriber_with y h.0))) (mailboxes_with s q h.0) (h.0).warnings w
+      (updated_agrees s w q y h.0 here
+      (update_receiver_side_keeps environment s w q y.degradation_handler (λ p. has_sender_end s p q) (receiver_side s q y) h.0 failure
+      (receiver_side_begins s w q y here) h.1))))
+      (λ _ h. subst IsWellFormed (sym h.0) w))
 
   -- No counter falls at a subscriber's update.
   pub update_subscriber_advances : (environment : Environment) (s : State T U) (q : ℕ) (s' : State T U) (failure : Option ConnectionFailure)
-    → UpdateSubscriber environment s q s' failure → Advances s s'
+      → UpdateSubscriber environment s q s' failure → Advances s s'
   update_subscriber_advances environment s q s' failure h =
       by_option (Advances s s') (s.subscribers q) _ _ h (λ _ v. absurd v) (λ y here h.
       by_bool (Advances s s') y.is_due _ _ h
-        (λ _ h. subst (Advances s) (sym h.2) (record { config = refl; next_port = omega arith; next_message = omega arith }))
-        (λ _ h. subst (Advances s) (sym h.0) (record { config = refl; next_port = omega arith; next_message = omega arith })))
+      (λ _ h. subst (Advances s) (sym h.2) (record { config = refl; next_port = omega arith; next_message = omega arith }))
+      (λ _ h. subst (Advances s) (sym h.0) (record { config = refl; next_port = omega arith; next_message = omega arith })))

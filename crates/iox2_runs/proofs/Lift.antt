@@ -1,11 +1,9 @@
 -- A step on what is kept is a step on each state that is shown.
-use Rattle.std.proofs.Common.{◌≡◌, ◌⊎◌, ℕ, ◌≤◌, ◌<◌, Bool, true, false, cond, List, refl, sym, ap, subst, ◌∙◌, arith, eqb, ⊎_elim, Option, None, Some}
+use Rattle.std.proofs.Common.{◌≡◌, ◌⊎◌, ℕ, ◌≤◌, ◌<◌, true, false, cond, List, refl, sym, ap, subst, arith, eqb, ⊎_elim, Option, None, Some}
 use Rattle.std.specs.Option.{MatchOption}
 use Rattle.std.proofs.lemmas.Bool.{eqb-true, eq-eqb, ne_eqb}
-use Rattle.std.proofs.lemmas.Option.{none-some}
 use Rattle.iox2_store.specs.Records.{Entry, Environment}
 use Rattle.iox2_store.specs.State.{State, Messages}
-use Rattle.iox2_store.specs.WellFormed.{IsWellFormed}
 use Rattle.iox2_runs.specs.Outcomes.{Handle, Outcome, Event, No_event, Message_sent, Message_received, messages_after}
 use Rattle.iox2_runs.specs.Step.{Step, sample_at}
 use Rattle.iox2_runs.specs.Shows.{Stored, Shows, StoredStep, IsNewEntry}

@@ -1,5 +1,5 @@
 -- What a position names is in the state.
-use Rattle.std.proofs.Common.{◌≡◌, ℕ, Bool, true, false, cond, List, refl, sym, ap, subst, ◌∙◌, Option, None, Some, length, is_none, is_some, ltb}
+use Rattle.std.proofs.Common.{◌≡◌, ℕ, Bool, true, false, cond, List, refl, sym, subst, Option, None, Some, is_none, is_some}
 use Rattle.std.specs.Prelude.{slice_get, ◌==◌}
 use Rattle.std.specs.Option.{option_and_then, option_map, option_map_or}
 use Rattle.std.proofs.lemmas.Option.{none-some, same_Some}
@@ -7,8 +7,8 @@ use Rattle.iox2_store.specs.Records.{Loan, Publisher, Subscriber, BlockedSend}
 use Rattle.iox2_store.specs.State.{State, is_blocked}
 use Rattle.iox2_store.specs.declared.service_config.TypeVariant.{TypeVariant}
 use Rattle.iox2_store.specs.declared.service_config.TypeVariant.TheVariants.{FixedSize, Dynamic}
-use Rattle.iox2_runs.specs.Outcomes.{Handle, No_handle, Publisher_handle, Subscriber_handle, Loan_handle, Blocked_handle, Sample_handle}
-use Rattle.iox2_runs.specs.Step.{publisher_at, unblocked_at, subscriber_at, loan_at, unwritten_at, written_at, with_cell_at, sendable_at, blocked_at, if_single_units, if_fixed_size, if_dynamic}
+use Rattle.iox2_runs.specs.Outcomes.{Handle, Publisher_handle, Subscriber_handle, Loan_handle, Blocked_handle}
+use Rattle.iox2_runs.specs.Step.{publisher_at, unblocked_at, subscriber_at, loan_at, unwritten_at, written_at, sendable_at, blocked_at, if_single_units, if_fixed_size, if_dynamic}
 
 -- what passes a test is there, and passes it
 pub passes : {A : Type 0} (test : A → Bool) (o : Option A) (a : A) → option_and_then (λ v. cond (test v) (Some v) None) o ≡ Some a → (o ≡ Some a) × (test a ≡ true)

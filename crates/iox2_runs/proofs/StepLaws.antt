@@ -1,27 +1,23 @@
 -- Each step keeps a well-formed state so, and no counter falls.
-use Rattle.std.proofs.Common.{◌≡◌, ℕ, ◌≤◌, ◌<◌, ◌+◌, Bool, true, false, cond, List, length, ltb, refl, sym, ap, subst, ◌∙◌, arith, Option, None, Some, is_some, is_none, replicate}
+use Rattle.std.proofs.Common.{◌≡◌, ℕ, ◌<◌, Bool, true, false, List, length, ltb, refl, sym, ap, subst, ◌∙◌, arith, Option, None, Some, is_none}
 use Rattle.std.specs.Prelude.{MatchOption, slice_get}
-use Rattle.std.specs.List.{list_all}
-use Rattle.std.specs.declared.time.Duration.{Duration}
-use Rattle.std.proofs.lemmas.Option.{none-some, same_Some}
-use Rattle.std.proofs.lemmas.Bool.{true≢false, cond_both}
-use Rattle.iox2_store.specs.Records.{Entry, Loan, Publisher, Subscriber, BlockedSend, Environment}
+use Rattle.std.proofs.lemmas.Option.{same_Some}
+use Rattle.std.proofs.lemmas.Bool.{cond_both}
+use Rattle.iox2_store.specs.Records.{Entry, Loan, Publisher, Environment}
 use Rattle.iox2_store.specs.State.{State, Messages, with_loan, is_blocked}
 use Rattle.iox2_store.specs.Loans.{GrantLoan, written, with_cell, is_initialized, initialized, loan_discarded, entry_of}
 use Rattle.iox2_store.specs.Sends.{Send, SendResult, Delivered_to, Blocked_send, Send_error}
 use Rattle.iox2_store.specs.Receives.{ReceiveResult, Got_sample, No_sample, Receive_error}
-use Rattle.iox2_store.specs.SingleCalls.{GrantWrittenLoan}
 use Rattle.iox2_store.specs.Releases.{released}
 use Rattle.iox2_store.specs.Ports.{publisher_closed, subscriber_closed}
-use Rattle.iox2_store.specs.WellFormed.{IsWellFormed, LoanIsWellFormed}
+use Rattle.iox2_store.specs.WellFormed.{IsWellFormed}
 use Rattle.iox2_store.specs.declared.errors.ConnectionFailure.{ConnectionFailure}
 use Rattle.iox2_store.specs.declared.errors.LoanError.{LoanError}
-use Rattle.iox2_store.specs.declared.errors.SendError.{SendError}
 use Rattle.iox2_store.specs.declared.errors.SendError.TheVariants.{ConnectionBrokenSinceSenderNoLongerExists, ConnectionCorrupted, LoanError as NotLoaned, ConnectionError, UnableToDeliver, InternalError}
 use Rattle.iox2_store.specs.declared.errors.PublisherCreateError.{PublisherCreateError}
 use Rattle.iox2_store.specs.declared.errors.SubscriberCreateError.{SubscriberCreateError}
 use Rattle.iox2_laws.specs.Laws.{Advances}
-use Rattle.iox2_laws.proofs.Cases.{by_option, by_bool}
+use Rattle.iox2_laws.proofs.Cases.{by_option}
 use Rattle.iox2_laws.proofs.PublisherUpdates.{update_publisher_keeps, update_publisher_advances}
 use Rattle.iox2_laws.proofs.SubscriberUpdates.{update_subscriber_keeps, update_subscriber_advances}
 use Rattle.iox2_laws.proofs.ReceiveLaws.{receive_keeps, receive_advances, has_samples_keeps, has_samples_advances}
@@ -30,12 +26,12 @@ use Rattle.iox2_laws.proofs.LoanLaws.{grant_loan_keeps, grant_loan_advances, gra
 use Rattle.iox2_laws.proofs.SendLaws.{send_keeps, send_advances, retry_keeps, retry_advances, give_up_keeps, give_up_advances}
 use Rattle.iox2_laws.proofs.PortLaws.{create_publisher_keeps, create_publisher_advances, create_subscriber_keeps, create_subscriber_advances}
 use Rattle.iox2_laws.proofs.CloseLaws.{publisher_closed_keeps, publisher_closed_advances, subscriber_closed_keeps, subscriber_closed_advances}
-use Rattle.iox2_runs.specs.Outcomes.{Handle, Event, No_event, Message_sent, Outcome, outcome, replied, done, skipped}
-use Rattle.iox2_runs.specs.Step.{Step, after_publisher, after_subscriber, after_loan, after_send, after_retry, after_update, after_receive, after_question, publisher_at, unblocked_at, subscriber_at, loan_at, unwritten_at, written_at, with_cell_at, sendable_at, blocked_at, sample_at, if_single_units, if_fixed_size, if_dynamic}
+use Rattle.iox2_runs.specs.Outcomes.{Handle, No_event, Message_sent, Outcome, replied, done, skipped}
+use Rattle.iox2_runs.specs.Step.{Step, after_publisher, after_subscriber, after_loan, after_send, after_retry, after_update, after_receive, after_question, unblocked_at, subscriber_at, loan_at, unwritten_at, written_at, with_cell_at, sendable_at, blocked_at, sample_at, if_single_units, if_fixed_size, if_dynamic}
 use Rattle.iox2_runs.specs.declared.command.Command.{Command}
 use Rattle.iox2_runs.specs.declared.command.Command.TheVariants.{Nothing, CreatePublisher, CreateSubscriber, LoanUninit, Loan as LoanDefault, LoanSlice, WriteCell, WriteAll, AssumeInit, WriteHeader, SetPayload, Send as SendLoan, SendCopy, Discard, Retry as RetrySend, GiveUp as GiveUpSend, Update, Receive, HasSamples, Read, ReadHeader, ReadUserHeader, Release, Close}
 use Rattle.iox2_runs.specs.declared.reply.Reply.TheVariants.{Unwritten, SendRefused, Cell, Header, UserHeader}
-use Rattle.iox2_runs.proofs.Named.{publisher_is, unblocked_is, subscriber_is, loan_is, unwritten_is, written_is, sendable_is, blocked_is, passes, in_single_units, in_fixed_size, in_dynamic, not_blocked}
+use Rattle.iox2_runs.proofs.Named.{unblocked_is, subscriber_is, loan_is, unwritten_is, written_is, sendable_is, blocked_is, passes, in_single_units, in_fixed_size, not_blocked}
 
 -- The outcome's state is well-formed, no counter fell, and a message that was sent has a number that was given out.
 pub record IsSound {T U : Type 0} (s : State T U) (o : Outcome T U) : Type 0 where

@@ -1,7 +1,6 @@
 -- What a step comes to: a reply, a handle for later commands, an event, and the state afterwards.
-use Rattle.std.specs.Prelude.{ℕ, Bool, List, ◌+◌}
-use Rattle.std.specs.declared.option.Option.{Option}
-use Rattle.std.specs.declared.option.Option.TheVariants.{None, Some}
+use Rattle.std.specs.Prelude.{ℕ}
+use Rattle.std.specs.declared.option.Option.TheVariants.{Some}
 use Rattle.iox2_store.specs.Numbers.{put_at}
 use Rattle.iox2_store.specs.Records.{Entry}
 use Rattle.iox2_store.specs.State.{State, Messages}

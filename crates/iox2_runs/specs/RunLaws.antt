@@ -1,11 +1,11 @@
 -- The laws of whole runs: order, what is read, and enough slots.
-use Rattle.std.specs.Prelude.{ℕ, Bool, true, false, List, length, ◌≡◌, ◌<◌, ◌≤◌, slice_get}
+use Rattle.std.specs.Prelude.{ℕ, Bool, true, List, length, ◌≡◌, ◌<◌, ◌≤◌, slice_get}
 use Rattle.std.specs.Option.{option_map_or}
 use Rattle.std.specs.declared.option.Option.{Option}
 use Rattle.std.specs.declared.option.Option.TheVariants.{None, Some}
 use Rattle.iox2_store.specs.Limits.{worst_case, last_number}
 use Rattle.iox2_store.specs.Numbers.{IsOnce}
-use Rattle.iox2_store.specs.Records.{Entry, Publisher, Environment}
+use Rattle.iox2_store.specs.Records.{Entry, Publisher}
 use Rattle.iox2_store.specs.State.{State, Messages, fresh, no_messages}
 use Rattle.iox2_store.specs.Loans.{GrantLoan, is_static}
 use Rattle.iox2_store.specs.WellFormed.{IsWellFormed, HoldsAtMostWorstCase}

@@ -1,5 +1,5 @@
 -- What a domain keeps, and which states it shows. This is a draft until a domain exists: `Stored` stands for what it keeps.
-use Rattle.std.specs.Prelude.{ℕ, List, true, ◌≡◌, ◌⊎◌, ◌<◌, ◌≤◌}
+use Rattle.std.specs.Prelude.{ℕ, List, true, ◌≡◌, ◌⊎◌, ◌≤◌}
 use Rattle.std.specs.declared.option.Option.TheVariants.{None, Some}
 use Rattle.iox2_store.specs.Numbers.{contains}
 use Rattle.iox2_store.specs.Mailbox.{numbers_in}

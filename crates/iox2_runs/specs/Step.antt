@@ -1,11 +1,11 @@
 -- One command of a run: its reply, and the state after it.
-use Rattle.std.specs.Prelude.{ℕ, Bool, true, false, cond, not, List, [], ◌∷◌, length, ◌≡◌, ◌==◌, nat_lt, MatchOption, slice_get, is_none}
+use Rattle.std.specs.Prelude.{ℕ, Bool, true, false, cond, List, length, ◌≡◌, ◌==◌, nat_lt, MatchOption, slice_get, is_none}
 use Rattle.std.specs.Option.{option_and_then, option_map}
 use Rattle.std.specs.declared.option.Option.{Option}
 use Rattle.std.specs.declared.option.Option.TheVariants.{None, Some}
 use Rattle.iox2_store.specs.Limits.{buffer_limit}
 use Rattle.iox2_store.specs.Mailbox.{is_borrowed}
-use Rattle.iox2_store.specs.Records.{Entry, Loan, Publisher, Subscriber, PublisherSettings, SubscriberSettings, Environment, BlockedSend, Handler, Fixed}
+use Rattle.iox2_store.specs.Records.{Entry, Loan, Publisher, Subscriber, PublisherSettings, Environment, BlockedSend, Handler, Fixed}
 use Rattle.iox2_store.specs.State.{State, Messages, with_loan, is_blocked}
 use Rattle.iox2_store.specs.PublisherUpdate.{UpdatePublisher}
 use Rattle.iox2_store.specs.SubscriberUpdate.{UpdateSubscriber}
@@ -26,10 +26,9 @@ use Rattle.iox2_store.specs.declared.errors.LoanError.{LoanError}
 use Rattle.iox2_store.specs.declared.errors.SendError.TheVariants.{LoanError as NotLoaned, UnableToDeliver}
 use Rattle.iox2_store.specs.declared.errors.PublisherCreateError.{PublisherCreateError}
 use Rattle.iox2_store.specs.declared.errors.SubscriberCreateError.{SubscriberCreateError}
-use Rattle.iox2_runs.specs.Outcomes.{Handle, No_handle, Publisher_handle, Subscriber_handle, Loan_handle, Blocked_handle, Sample_handle, Event, No_event, Message_sent, Message_received, Outcome, outcome, replied, done, skipped}
+use Rattle.iox2_runs.specs.Outcomes.{Handle, No_handle, Publisher_handle, Subscriber_handle, Loan_handle, Blocked_handle, Sample_handle, Message_sent, Message_received, Outcome, outcome, replied, done, skipped}
 use Rattle.iox2_runs.specs.declared.command.Command.{Command}
 use Rattle.iox2_runs.specs.declared.command.Command.TheVariants.{Nothing, CreatePublisher as PublisherCommand, CreateSubscriber as SubscriberCommand, LoanUninit, Loan as LoanDefault, LoanSlice, WriteCell, WriteAll, AssumeInit, WriteHeader, SetPayload, Send as SendLoan, SendCopy, Discard, Retry as RetrySend, GiveUp as GiveUpSend, Update, Receive as ReceiveSample, HasSamples as AskForSamples, Read, ReadHeader, ReadUserHeader, Release, Close}
-use Rattle.iox2_runs.specs.declared.reply.Reply.{Reply}
 use Rattle.iox2_runs.specs.declared.reply.Reply.TheVariants.{PublisherMade, PublisherRefused, SubscriberMade, SubscriberRefused, Loaned, LoanRefused, Unwritten, Delivered, Blocked, SendRefused, UpdateRefused, Sample, NoSample, ReceiveRefused, Has, Cell, Header as HeaderRead, UserHeader}
 
 module _ {T U : Type 0} where

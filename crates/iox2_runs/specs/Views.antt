@@ -1,7 +1,7 @@
 -- What one subscriber sees of a state, and lists of commands that differ only in what the other subscribers do.
-use Rattle.std.specs.Prelude.{ℕ, Bool, true, false, cond, not, ◌&&◌, List, [], ◌∷◌, map, ◌≡◌, ◌⊎◌, ◌==◌, slice_get, IsTrue}
+use Rattle.std.specs.Prelude.{ℕ, Bool, true, false, cond, not, List, [], ◌∷◌, map, ◌≡◌, ◌⊎◌, ◌==◌, slice_get}
 use Rattle.std.specs.declared.option.Option.{Option}
-use Rattle.std.specs.declared.option.Option.TheVariants.{None, Some}
+use Rattle.std.specs.declared.option.Option.TheVariants.{Some}
 use Rattle.std.specs.Option.{option_map}
 use Rattle.iox2_store.specs.Records.{Subscriber}
 use Rattle.iox2_store.specs.State.{State, Messages}
