@@ -1,3 +1,12 @@
 pub mod Named
 pub mod StepLaws
 pub mod Lift
+pub mod RowDomains
+pub mod RowsOfBuffers
+pub mod RowsOfSends
+pub mod RowsOfDepartures
+pub mod RowsOfCloses
+pub mod RowsOfNeighbours
+pub mod RowsOfWarnings
+pub mod RowsOfSlices
+pub mod RowsOfRefusals
