@@ -13,7 +13,8 @@ use Rattle.iox2_runs.specs.Step.{Step}
 use Rattle.iox2_runs.specs.Shows.{Stored, Shows, StoredStep}
 use Rattle.iox2_runs.specs.declared.command.Command.{Command}
 
--- An environment whose boxed handlers may give each answer that passes a test.
+-- An environment whose boxed handlers may give each answer that passes a test. A clause can range over tests alone; the
+-- lemmas behind the laws hold of every environment.
 abbrev pub tested_environment : (may_refuse_memory : Bool) → (ℕ → BackpressureInfo → BackpressureAction → Bool) → (ℕ → DegradationCause → DegradationInfo → DegradationAction → Bool) → Environment
 tested_environment may_refuse_memory backpressure degradation = record {
   may_refuse_memory = IsTrue may_refuse_memory;

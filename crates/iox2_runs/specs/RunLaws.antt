@@ -76,13 +76,13 @@ OfEachReachedState T U Holds =
 abbrev pub ReachedStatesHoldFew : Type 0 → Type 0 → Type 0
 ReachedStatesHoldFew T U = OfEachReachedState T U (λ c s. (s.config ≡ c) × IsWellFormed s × HoldsAtMostWorstCase s)
 
--- In every state that is reached, a static publisher with the worst case of slots grants every loan of permitted length
--- while fewer than its limit are out and the message counter isn't at its end.
+-- In every well-formed state, a static publisher with the worst case of slots grants every loan of permitted length while
+-- fewer than its limit are out and the message counter isn't at its end.
 abbrev pub WorstCaseOfSlotsGrants : Type 0 → Type 0 → Type 0
-WorstCaseOfSlotsGrants T U = OfEachReachedState T U (λ c s.
+WorstCaseOfSlotsGrants T U =
     (may_refuse_memory : Bool) (backpressure : ℕ → BackpressureInfo → BackpressureAction → Bool) (degradation : ℕ → DegradationCause → DegradationInfo → DegradationAction → Bool)
-    (default_header : U) (p : ℕ) (x : Publisher) (checks_length : Bool) (len : ℕ) (s' : State T U) (refusal : Option LoanError)
-    → s.publishers p ≡ Some x → is_static x.allocation_strategy ≡ true → x.slots ≡ worst_case c x.max_loaned_samples
+    (default_header : U) (s s' : State T U) (p : ℕ) (x : Publisher) (checks_length : Bool) (len : ℕ) (refusal : Option LoanError)
+    → IsWellFormed s → s.publishers p ≡ Some x → is_static x.allocation_strategy ≡ true → x.slots ≡ worst_case s.config x.max_loaned_samples
     → length x.loans < x.max_loaned_samples → s.next_message < last_number → (checks_length ≡ true → len ≤ x.initial_max_slice_len)
     → GrantLoan (tested_environment may_refuse_memory backpressure degradation) default_header checks_length len s p s' refusal
-    → refusal ≡ None)
+    → refusal ≡ None

@@ -3,6 +3,7 @@ use Rattle.std.specs.Prelude.{ℕ, Bool, true, false, cond, List, length, ◌≡
 use Rattle.std.specs.Option.{option_and_then, option_map}
 use Rattle.std.specs.declared.option.Option.{Option}
 use Rattle.std.specs.declared.option.Option.TheVariants.{None, Some}
+use Rattle.std.specs.declared.time.Duration.{Duration}
 use Rattle.iox2_store.specs.Limits.{buffer_limit}
 use Rattle.iox2_store.specs.Mailbox.{is_borrowed}
 use Rattle.iox2_store.specs.Records.{Entry, Loan, Publisher, Subscriber, PublisherSettings, Environment, BlockedSend, Handler, Fixed}
@@ -59,9 +60,11 @@ module _ {T U : Type 0} where
     | _ ↦ None
   ]
 
+  -- A loan that is a `SampleMutUninit`.
   abbrev pub unwritten_at : State T U → List Handle → (of : ℕ) → Option (ℕ × Loan T U)
   unwritten_at s handles of = option_and_then (λ named. cond named.1.is_written None (Some named)) (loan_at s handles of)
 
+  -- A loan that is a `SampleMut`.
   abbrev pub written_at : State T U → List Handle → (of : ℕ) → Option (ℕ × Loan T U)
   written_at s handles of = option_and_then (λ named. cond named.1.is_written (Some named) None) (loan_at s handles of)
 
@@ -159,20 +162,71 @@ module _ {T U : Type 0} (environment : Environment) (default_value : T) (default
   abbrev IfLive : {A : Type 0} → Outcome T U → Option A → (Then : A → Type 0) → Type 0
   IfLive o named Then = MatchOption named (o ≡ skipped s) Then
 
-  -- A loan as an outcome.
-  abbrev Loans : (checks_length : Bool) → (len : ℕ) → Option (ℕ × Publisher) → Outcome T U → Type 0
-  Loans checks_length len named o =
-      IfLive o (if_single_units s named) (λ (publisher : ℕ × Publisher).
+  -- A loan of that length is asked of the publisher.
+  abbrev Loans : (checks_length : Bool) → (len : ℕ) → (p : ℕ) → Outcome T U → Type 0
+  Loans checks_length len p o =
       (s' : State T U) × (refusal : Option LoanError)
-      × GrantLoan environment default_header checks_length len s publisher.0 s' refusal
-      × (o ≡ after_loan s' s.next_message refusal))
+      × GrantLoan environment default_header checks_length len s p s' refusal
+      × (o ≡ after_loan s' s.next_message refusal)
 
-  -- A written loan is sent.
+  -- A loan with one default value is asked of the publisher.
+  abbrev LoansDefault : (p : ℕ) → Outcome T U → Type 0
+  LoansDefault p o =
+      (s' : State T U) × (refusal : Option LoanError)
+      × GrantWrittenLoan environment default_value default_header false 1 s p s' refusal
+      × (o ≡ after_loan s' s.next_message refusal)
+
+  -- A written loan is sent, from the state in which it was written.
   abbrev SendsLoan : State T U → (n : ℕ) → Loan T U → Outcome T U → Type 0
   SendsLoan from n l o =
       (s' : State T U) × (result : SendResult) × Send environment from n l s' result
       × (o ≡ after_send s' l.publisher n (entry_of l) result)
 
+  -- The loan that was granted just now is sent.
+  abbrev SendsGranted : State T U → Outcome T U → Type 0
+  SendsGranted mid o = MatchOption (mid.loans s.next_message) ⊥ (λ l. SendsLoan mid s.next_message l o)
+
+  -- A loan with that value is asked of the publisher and sent; a refused loan refuses the send.
+  abbrev SendsCopy : (value : T) → (p : ℕ) → Outcome T U → Type 0
+  SendsCopy value p o =
+      (mid : State T U) × (refusal : Option LoanError)
+      × GrantWrittenLoan environment value default_header false 1 s p mid refusal
+      × MatchOption refusal (SendsGranted mid o) (λ e. o ≡ replied (SendRefused (NotLoaned e)) mid)
+
+  abbrev Retries : (p : ℕ) → BlockedSend → Duration → Outcome T U → Type 0
+  Retries p b elapsed o =
+      (s' : State T U) × (result : SendResult) × Retry environment s p b elapsed s' result × (o ≡ after_retry s' result)
+
+  abbrev GivesUp : (p : ℕ) → BlockedSend → Outcome T U → Type 0
+  GivesUp p b o =
+      (s' : State T U) × (result : SendResult) × GiveUp environment s p b s' result × (o ≡ after_retry s' result)
+
+  abbrev UpdatesPublisher : (p : ℕ) → Outcome T U → Type 0
+  UpdatesPublisher p o =
+      (s' : State T U) × (failure : Option ConnectionFailure) × UpdatePublisher environment s p s' failure × (o ≡ after_update s' failure)
+
+  abbrev UpdatesSubscriber : (q : ℕ) → Outcome T U → Type 0
+  UpdatesSubscriber q o =
+      (s' : State T U) × (failure : Option ConnectionFailure) × UpdateSubscriber environment s q s' failure × (o ≡ after_update s' failure)
+
+  abbrev Receives : (q : ℕ) → Outcome T U → Type 0
+  Receives q o =
+      (s' : State T U) × (result : ReceiveResult) × Receive environment s q s' result × (o ≡ after_receive s' q result)
+
+  abbrev AsksForSamples : (q : ℕ) → Outcome T U → Type 0
+  AsksForSamples q o =
+      (s' : State T U) × (failure : Option ConnectionFailure) × (has_samples : Bool)
+      × HasSamples environment s q s' failure has_samples × (o ≡ after_question s' failure has_samples)
+
+  -- A cell of a loan is read as it is.
+  abbrev ReadsCell : Option (ℕ × Loan T U) → (at : ℕ) → Outcome T U → Type 0
+  ReadsCell named at o = IfLive o named (λ loan. MatchOption (slice_get (loan.1).cells at) ⊥ (λ cell. o ≡ replied (Cell cell) s))
+
+  -- A value of a message that was sent is read; past its end the command is skipped.
+  abbrev ReadsValue : (n : ℕ) → (at : ℕ) → Outcome T U → Type 0
+  ReadsValue n at o = MatchOption (messages n) ⊥ (λ entry. IfLive o (slice_get entry.values at) (λ value. o ≡ replied (Cell (Some value)) s))
+
+  -- What a command comes to.
   abbrev pub Step : Command T U → Outcome T U → Type 0
   Step Nothing o = o ≡ done s
   Step (PublisherCommand loans strategy allocation len override_slots degradation backpressure) o =
@@ -183,58 +237,33 @@ module _ {T U : Type 0} (environment : Environment) (default_value : T) (default
       (s' : State T U) × (refusal : Option SubscriberCreateError)
       × CreateSubscriber environment s (record { buffer_size = elim buffer [ None ↦ buffer_limit s.config | Some size ↦ size ]; degradation_handler = Fixed degradation }) s' refusal
       × (o ≡ after_subscriber s' s.next_port refusal)
-  Step (LoanUninit of) o = Loans false 1 (if_fixed_size s (unblocked_at s handles of)) o
-  Step (LoanDefault of) o =
-      IfLive o (if_single_units s (if_fixed_size s (unblocked_at s handles of))) (λ publisher.
-      (s' : State T U) × (refusal : Option LoanError)
-      × GrantWrittenLoan environment default_value default_header false 1 s publisher.0 s' refusal
-      × (o ≡ after_loan s' s.next_message refusal))
-  Step (LoanSlice of len) o = Loans true len (if_dynamic s (unblocked_at s handles of)) o
+  Step (LoanUninit of) o = IfLive o (if_single_units s (if_fixed_size s (unblocked_at s handles of))) (λ publisher. Loans false 1 publisher.0 o)
+  Step (LoanDefault of) o = IfLive o (if_single_units s (if_fixed_size s (unblocked_at s handles of))) (λ publisher. LoansDefault publisher.0 o)
+  Step (LoanSlice of len) o = IfLive o (if_single_units s (if_dynamic s (unblocked_at s handles of))) (λ publisher. Loans true len publisher.0 o)
   Step (WriteCell of at value) o =
       IfLive o (with_cell_at at (unwritten_at s handles of)) (λ loan. o ≡ done (with_loan s loan.0 (Some (with_cell loan.1 at value))))
-  Step (WriteAll of value) o =
-      IfLive o (unwritten_at s handles of) (λ loan. o ≡ done (with_loan s loan.0 (Some (written loan.1 value))))
+  Step (WriteAll of value) o = IfLive o (unwritten_at s handles of) (λ loan. o ≡ done (with_loan s loan.0 (Some (written loan.1 value))))
   Step (AssumeInit of) o =
-      IfLive o (unwritten_at s handles of) (λ loan.
-      o ≡ cond (is_initialized loan.1) (done (initialized s loan.0 loan.1)) (replied Unwritten s))
+      IfLive o (unwritten_at s handles of) (λ loan. o ≡ cond (is_initialized loan.1) (done (initialized s loan.0 loan.1)) (replied Unwritten s))
   Step (WriteHeader of value) o =
       IfLive o (loan_at s handles of) (λ loan. o ≡ done (with_loan s loan.0 (Some (record (loan.1) { user_header = value }))))
   Step (SetPayload of at value) o =
       IfLive o (with_cell_at at (written_at s handles of)) (λ loan. o ≡ done (with_loan s loan.0 (Some (with_cell loan.1 at value))))
   Step (SendLoan of) o = IfLive o (sendable_at s handles of) (λ loan. SendsLoan s loan.0 loan.1 o)
-  Step (SendCopy of value) o =
-      IfLive o (if_single_units s (if_fixed_size s (unblocked_at s handles of))) (λ publisher.
-      (mid : State T U) × (refusal : Option LoanError)
-      × GrantWrittenLoan environment value default_header false 1 s publisher.0 mid refusal
-      × MatchOption refusal
-      (MatchOption (mid.loans s.next_message) ⊥ (λ l. SendsLoan mid s.next_message l o))
-      (λ e. o ≡ replied (SendRefused (NotLoaned e)) mid))
+  Step (SendCopy of value) o = IfLive o (if_single_units s (if_fixed_size s (unblocked_at s handles of))) (λ publisher. SendsCopy value publisher.0 o)
   Step (Discard of) o = IfLive o (loan_at s handles of) (λ loan. o ≡ done (loan_discarded s loan.0 loan.1))
-  Step (RetrySend of elapsed) o =
-      IfLive o (blocked_at s handles of) (λ blocked.
-      (s' : State T U) × (result : SendResult) × Retry environment s blocked.0 blocked.1 elapsed s' result × (o ≡ after_retry s' result))
-  Step (GiveUpSend of) o =
-      IfLive o (blocked_at s handles of) (λ blocked.
-      (s' : State T U) × (result : SendResult) × GiveUp environment s blocked.0 blocked.1 s' result × (o ≡ after_retry s' result))
+  Step (RetrySend of elapsed) o = IfLive o (blocked_at s handles of) (λ blocked. Retries blocked.0 blocked.1 elapsed o)
+  Step (GiveUpSend of) o = IfLive o (blocked_at s handles of) (λ blocked. GivesUp blocked.0 blocked.1 o)
   Step (Update of) o =
       MatchOption (unblocked_at s handles of)
-      (IfLive o (subscriber_at s handles of) (λ subscriber.
-      (s' : State T U) × (failure : Option ConnectionFailure) × UpdateSubscriber environment s subscriber.0 s' failure × (o ≡ after_update s' failure)))
-      (λ publisher. (s' : State T U) × (failure : Option ConnectionFailure) × UpdatePublisher environment s publisher.0 s' failure × (o ≡ after_update s' failure))
-  Step (ReceiveSample of) o =
-      IfLive o (if_single_units s (subscriber_at s handles of)) (λ subscriber.
-      (s' : State T U) × (result : ReceiveResult) × Receive environment s subscriber.0 s' result × (o ≡ after_receive s' subscriber.0 result))
-  Step (AskForSamples of) o =
-      IfLive o (subscriber_at s handles of) (λ subscriber.
-      (s' : State T U) × (failure : Option ConnectionFailure) × (has_samples : Bool)
-      × HasSamples environment s subscriber.0 s' failure has_samples
-      × (o ≡ after_question s' failure has_samples))
+      (IfLive o (subscriber_at s handles of) (λ subscriber. UpdatesSubscriber subscriber.0 o))
+      (λ publisher. UpdatesPublisher publisher.0 o)
+  Step (ReceiveSample of) o = IfLive o (if_single_units s (subscriber_at s handles of)) (λ subscriber. Receives subscriber.0 o)
+  Step (AskForSamples of) o = IfLive o (subscriber_at s handles of) (λ subscriber. AsksForSamples subscriber.0 o)
   Step (Read of at) o =
       MatchOption (sample_at s handles of)
-      (IfLive o (with_cell_at at (loan_at s handles of)) (λ loan.
-      MatchOption (slice_get (loan.1).cells at) ⊥ (λ cell. o ≡ replied (Cell cell) s)))
-      (λ sample. MatchOption (messages sample.2) ⊥ (λ entry.
-      IfLive o (slice_get entry.values at) (λ value. o ≡ replied (Cell (Some value)) s)))
+      (ReadsCell (with_cell_at at (loan_at s handles of)) at o)
+      (λ sample. ReadsValue sample.2 at o)
   Step (ReadHeader of) o =
       MatchOption (sample_at s handles of)
       (IfLive o (loan_at s handles of) (λ loan. o ≡ replied (HeaderRead (loan.1).header) s))
@@ -243,8 +272,7 @@ module _ {T U : Type 0} (environment : Environment) (default_value : T) (default
       MatchOption (sample_at s handles of)
       (IfLive o (loan_at s handles of) (λ loan. o ≡ replied (UserHeader (loan.1).user_header) s))
       (λ sample. MatchOption (messages sample.2) ⊥ (λ entry. o ≡ replied (UserHeader entry.user_header) s))
-  Step (Release of) o =
-      IfLive o (sample_at s handles of) (λ sample. o ≡ done (released s sample.0 sample.1 sample.2))
+  Step (Release of) o = IfLive o (sample_at s handles of) (λ sample. o ≡ done (released s sample.0 sample.1 sample.2))
   Step (Close of) o =
       MatchOption (unblocked_at s handles of)
       (IfLive o (subscriber_at s handles of) (λ subscriber. o ≡ done (subscriber_closed s subscriber.0 subscriber.1)))

@@ -48,7 +48,7 @@ warnings_after p q Warn warnings = warned warnings (ConnectionNotMade p q)
 warnings_after p q DegradeAndFail warnings = warnings
 
 -- Memory for the connection of p and q is refused to a port, which asks its degradation handler.
--- (iceoryx2: `port/publisher.rs` and `port/subscriber.rs`, `force_update_connections`.)
+-- (iceoryx2: `port/details/sender.rs` and `port/details/receiver.rs`, `update_connection`.)
 abbrev pub ConnectionRefused : Environment → (service_id p q port : ℕ) → Handler DegradationAction → List Warning → List Warning → Option ConnectionFailure → Type 0
 ConnectionRefused environment service_id p q port handler warnings warnings' failure =
     (action : DegradationAction)

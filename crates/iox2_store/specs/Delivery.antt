@@ -16,10 +16,10 @@ use Rattle.iox2_store.specs.declared.backpressure.BackpressureInfo.{Backpressure
 
 -- What became of a message at one receiver.
 pub data PutResult : Type 0 where
-  Accepted : PutResult         -- it waits there, and is counted
-  Skipped : PutResult          -- it went past this receiver
-  Failed : PutResult           -- it went past this receiver, and the send has failed
-  Would_block : PutResult      -- the send waits for this receiver
+  Accepted : PutResult  -- it waits there, and is counted
+  Skipped : PutResult  -- it went past this receiver
+  Failed : PutResult  -- it went past this receiver, and the send has failed
+  Would_block : PutResult  -- the send waits for this receiver
 
 abbrev pub accepted_count : PutResult → ℕ
 accepted_count Accepted = 1
@@ -73,7 +73,11 @@ module _ (environment : Environment) (c : ServiceConfig) (p : ℕ) (strategy : B
   -- What the handler is told of the receiver q.
   abbrev pub info_of : (q retries : ℕ) → Duration → BackpressureInfo
   info_of q retries elapsed = record {
-    service_id = c.service_id; sender_port_id = p; receiver_port_id = q; retries = retries; elapsed_time = elapsed;
+    service_id = c.service_id;
+    sender_port_id = p;
+    receiver_port_id = q;
+    retries = retries;
+    elapsed_time = elapsed;
   }
 
   -- A closed receiver is skipped. One with room, and with safe overflow each, takes the message. For any other the
@@ -82,15 +86,15 @@ module _ (environment : Environment) (c : ServiceConfig) (p : ℕ) (strategy : B
   Put q retries elapsed None box result box' = (result ≡ Skipped) × (box' ≡ box)
   Put q retries elapsed (Some buffer) box result box' =
       MatchBool (has_room buffer box || c.enable_safe_overflow)
-        ((result ≡ Accepted) × (box' ≡ with_appended buffer n box))
-        (Decides environment p handler strategy (info_of q retries elapsed) result × (box' ≡ box))
+      ((result ≡ Accepted) × (box' ≡ with_appended buffer n box))
+      (Decides environment p handler strategy (info_of q retries elapsed) result × (box' ≡ box))
 
   -- The message is put into the mailbox to which the end leads; where there is none nothing happens.
   abbrev pub PutAtEnd : (retries : ℕ) → Duration → (end : Option ℕ) → (ℕ → Mailbox) → PutResult → (ℕ → Mailbox) → Type 0
   PutAtEnd retries elapsed end boxes result boxes' =
       MatchOption end
-        ((result ≡ Skipped) × (boxes' ≡ boxes))
-        (λ q. (box : Mailbox) × Put q retries elapsed (buffers q) (boxes q) result box × (boxes' ≡ put_at boxes q box))
+      ((result ≡ Skipped) × (boxes' ≡ boxes))
+      (λ q. (box : Mailbox) × Put q retries elapsed (buffers q) (boxes q) result box × (boxes' ≡ put_at boxes q box))
 
   -- The message is put at each of these ends in turn, which stand from that place on, until a receiver blocks it. The
   -- first is asked with these retries and this elapsed time, the others anew.
@@ -100,5 +104,5 @@ module _ (environment : Environment) (c : ServiceConfig) (p : ℕ) (strategy : B
   Deliver retries elapsed place (end ∷ rest) count has_failed boxes how boxes' =
       (result : PutResult) × (mid : ℕ → Mailbox) × PutAtEnd retries elapsed end boxes result mid
       × MatchBool (is_blocking result)
-          ((how ≡ Suspended (record { message = n; place = place; ends = end ∷ rest; retries = retries; count = count; has_failed = has_failed })) × (boxes' ≡ mid))
-          (Deliver 0 no_time (place + 1) rest (count + accepted_count result) (has_failed || is_failed result) mid how boxes')
+      ((how ≡ Suspended (record { message = n; place = place; ends = end ∷ rest; retries = retries; count = count; has_failed = has_failed })) × (boxes' ≡ mid))
+      (Deliver 0 no_time (place + 1) rest (count + accepted_count result) (has_failed || is_failed result) mid how boxes')

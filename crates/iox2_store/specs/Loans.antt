@@ -1,5 +1,5 @@
 -- A loan is granted, changed and given back.
-use Rattle.std.specs.Prelude.{ℕ, Bool, true, false, cond, ◌&&◌, List, [], ◌∷◌, ◌++◌, length, replicate, ◌≡◌, ◌⊎◌, ◌+◌, ◌*◌, ◌^◌, ◌<◌, ◌≤◌, ◌==◌, max, nat_lt, nat_le, MatchOption, slice_set, is_some}
+use Rattle.std.specs.Prelude.{ℕ, Bool, true, false, cond, ◌&&◌, [], ◌∷◌, ◌++◌, length, replicate, ◌≡◌, ◌⊎◌, ◌+◌, ◌*◌, ◌^◌, ◌<◌, ◌≤◌, ◌==◌, max, nat_lt, nat_le, MatchOption, slice_set, is_some}
 use Rattle.std.specs.Bool.{MatchBool}
 use Rattle.std.specs.List.{list_all, filter_map}
 use Rattle.std.specs.declared.option.Option.{Option}
@@ -7,7 +7,7 @@ use Rattle.std.specs.declared.option.Option.TheVariants.{None, Some}
 use Rattle.iox2_store.specs.Limits.{last_number, segment_limit, segment_fits}
 use Rattle.iox2_store.specs.Numbers.{put_at, without, size}
 use Rattle.iox2_store.specs.Records.{Entry, Loan, Publisher, Environment}
-use Rattle.iox2_store.specs.State.{State, held, with_publisher, with_loan, publisher_changed}
+use Rattle.iox2_store.specs.State.{State, held, with_loan, publisher_changed}
 use Rattle.iox2_store.specs.declared.service_config.ServiceConfig.{ServiceConfig}
 use Rattle.iox2_store.specs.declared.allocation.AllocationStrategy.{AllocationStrategy}
 use Rattle.iox2_store.specs.declared.allocation.AllocationStrategy.TheVariants.{Static, BestFit, PowerOfTwo}
@@ -25,14 +25,14 @@ is_static PowerOfTwo = false
 abbrev pub limit_error : (checks_length : Bool) → Publisher → (len : ℕ) → Option LoanError
 limit_error checks_length x len =
     cond (checks_length && is_static x.allocation_strategy && nat_lt x.initial_max_slice_len len) (Some ExceedsMaxLoanSize)
-      (cond (nat_le x.max_loaned_samples (length x.loans)) (Some ExceedsMaxLoans) None)
+    (cond (nat_le x.max_loaned_samples (length x.loans)) (Some ExceedsMaxLoans) None)
 
 -- The longest length that the publisher's segments are known to have.
 abbrev pub known_length : Publisher → ℕ
 known_length x = max x.initial_max_slice_len x.longest_granted
 
 -- No segment that a dynamic publisher would make for a loan of that length fits a machine word. A best-fit segment has
--- the longest length so far, the other the next power of two.
+-- the longest length so far, this loan's included, the other the next power of two.
 abbrev pub NoSegmentFits : ServiceConfig → Publisher → (len : ℕ) → Type 0
 NoSegmentFits c x len = by (x.allocation_strategy)
   where
@@ -48,7 +48,9 @@ module _ {T U : Type 0} where
   loan_granted default_header s p x len segments = record s {
     next_message = s.next_message + 1;
     publishers = put_at s.publishers p (Some (record x {
-      loans = x.loans ++ s.next_message ∷ []; longest_granted = max x.longest_granted len; segments = segments;
+      loans = x.loans ++ s.next_message ∷ [];
+      longest_granted = max x.longest_granted len;
+      segments = segments;
     }));
     loans = put_at s.loans s.next_message (Some (record {
       publisher = p;
@@ -59,26 +61,26 @@ module _ {T U : Type 0} where
     }));
   }
 
-  -- Past the limits, a static publisher's loan is refused exactly where it holds as many messages and loans as it has
-  -- slots, or where the message counter is at its end.
+  -- Past the limits, a static publisher's loan is refused exactly where it holds as many different messages and loans as
+  -- it has slots, or where the message counter is at its end.
   abbrev pub StaticLoan : (default_header : U) → State T U → (p : ℕ) → Publisher → (len : ℕ) → State T U → Option LoanError → Type 0
   StaticLoan default_header s p x len s' refusal =
       MatchBool (size (held s p x) == x.slots)
-        ((s' ≡ s) × (refusal ≡ Some OutOfMemory))
-        (MatchBool (s.next_message == last_number)
-          ((s' ≡ s) × (refusal ≡ Some InternalFailure))
-          ((s' ≡ loan_granted default_header s p x len x.segments) × (refusal ≡ None)))
+      ((s' ≡ s) × (refusal ≡ Some OutOfMemory))
+      (MatchBool (s.next_message == last_number)
+      ((s' ≡ s) × (refusal ≡ Some InternalFailure))
+      ((s' ≡ loan_granted default_header s p x len x.segments) × (refusal ≡ None)))
 
-  -- A dynamic publisher grants a loan of that length without growing.
+  -- A dynamic publisher has a free slot that is known to be long enough.
   abbrev pub IsGuaranteed : State T U → (p : ℕ) → Publisher → (len : ℕ) → Type 0
   IsGuaranteed s p x len = (size (held s p x) < x.slots) × (len ≤ known_length x)
 
-  -- Past the limits, a dynamic publisher's loan adds at most one segment, and none where it is guaranteed. It is refused
-  -- as out of memory only with all segments made, and as an internal failure only where memory is refused or no segment
-  -- fits; a guaranteed one only at the end of the message counter.
+  -- Past the limits, a dynamic publisher's loan adds at most one segment, and none where it is guaranteed; any other has
+  -- to fit. It is refused as out of memory only with all segments made, and as an internal failure only where memory is
+  -- refused, no segment fits or the message counter is at its end; a guaranteed one only at the end of the counter.
   abbrev pub DynamicLoan : Environment → (default_header : U) → State T U → (p : ℕ) → Publisher → (len : ℕ) → State T U → Option LoanError → Type 0
   DynamicLoan environment default_header s p x len s' None =
-      (s.next_message < last_number) × (segment_fits s.config x.slots len ≡ true) × (segments : ℕ)
+      (s.next_message < last_number) × (IsGuaranteed s p x len ⊎ (segment_fits s.config x.slots len ≡ true)) × (segments : ℕ)
       × ((segments ≡ x.segments) ⊎ ((segments ≡ x.segments + 1) × (x.segments < segment_limit) × ¬ (IsGuaranteed s p x len)))
       × (s' ≡ loan_granted default_header s p x len segments)
   DynamicLoan environment default_header s p x len s' (Some OutOfMemory) =
@@ -92,11 +94,11 @@ module _ {T U : Type 0} where
   abbrev pub GrantLoan : Environment → (default_header : U) → (checks_length : Bool) → (len : ℕ) → State T U → (p : ℕ) → State T U → Option LoanError → Type 0
   GrantLoan environment default_header checks_length len s p s' refusal =
       MatchOption (s.publishers p) ⊥ (λ x.
-        MatchOption (limit_error checks_length x len)
-          (MatchBool (is_static x.allocation_strategy)
-            (StaticLoan default_header s p x len s' refusal)
-            (DynamicLoan environment default_header s p x len s' refusal))
-          (λ limit. (s' ≡ s) × (refusal ≡ Some limit)))
+      MatchOption (limit_error checks_length x len)
+      (MatchBool (is_static x.allocation_strategy)
+      (StaticLoan default_header s p x len s' refusal)
+      (DynamicLoan environment default_header s p x len s' refusal))
+      (λ limit. (s' ≡ s) × (refusal ≡ Some limit)))
 
   -- ---- a loan is changed
 

@@ -1,10 +1,10 @@
 -- What lies between one publisher and one subscriber: numbers of messages. Only this file looks into a mailbox.
-use Rattle.std.specs.Prelude.{ℕ, Bool, not, ◌&&◌, ◌||◌, List, [], ◌∷◌, ◌++◌, length, drop, cond, ◌≡◌, ◌≤◌, nat_lt}
+use Rattle.std.specs.Prelude.{ℕ, Bool, not, ◌&&◌, List, [], ◌∷◌, ◌++◌, length, drop, cond, ◌≡◌, ◌≤◌, nat_lt}
 use Rattle.iox2_store.specs.Numbers.{contains, without, is_nil, IsOnce}
 
 pub record Mailbox : Type 0 where
-  pub waiting : List ℕ       -- delivered and not yet received, oldest first
-  pub borrowed : List ℕ      -- received and not yet released, in the order of receipt
+  pub waiting : List ℕ  -- delivered and not yet received, oldest first
+  pub borrowed : List ℕ  -- received and not yet released, in the order of receipt
 
 -- Nothing waits and nothing is borrowed.
 abbrev pub empty_mailbox : Mailbox
@@ -61,7 +61,7 @@ waiting_dropped box = record box { waiting = [] }
 -- The first number that waits becomes borrowed.
 abbrev pub BorrowsFirst : Mailbox → (n : ℕ) → Mailbox → Type 0
 BorrowsFirst box n box' =
-    (rest : List ℕ) × (box.waiting ≡ n ∷ rest) × (box' ≡ record { waiting = rest; borrowed = box.borrowed ++ n ∷ [] })
+    (rest : List ℕ) × (box.waiting ≡ n ∷ rest) × (box' ≡ record box { waiting = rest; borrowed = box.borrowed ++ n ∷ [] })
 
 -- The number is no longer borrowed.
 abbrev pub with_released : ℕ → Mailbox → Mailbox

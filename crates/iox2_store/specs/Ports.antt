@@ -43,7 +43,7 @@ default_subscriber_settings c = record { buffer_size = buffer_limit c; degradati
 
 -- A publisher has the worst case of slots, or fewer where the override of the preallocation asks for fewer, but at least
 -- one where the worst case isn't none.
--- (iceoryx2: `port/publisher.rs`, `Publisher::new`.)
+-- (iceoryx2: `service/port_factory/publisher.rs`, `override_sample_preallocation`.)
 abbrev pub slots_for : ServiceConfig → PublisherSettings → ℕ
 slots_for c given = option_map_or (λ asked. min (worst_case c given.max_loaned_samples) (max 1 asked)) given.asked_slots (worst_case c given.max_loaned_samples)
 
@@ -58,18 +58,34 @@ buffer_for given = max 1 given.buffer_size
 -- A subscriber that was just made.
 abbrev pub new_subscriber : SubscriberSettings → (place : ℕ) → Subscriber
 new_subscriber given place = record {
-  is_open = true; place = place; buffer = buffer_for given; degradation_handler = given.degradation_handler;
-  ends = []; expired = []; is_due = true;
+  is_open = true;
+  place = place;
+  buffer = buffer_for given;
+  degradation_handler = given.degradation_handler;
+  ends = [];
+  expired = [];
+  is_due = true;
 }
 
 module _ {T U : Type 0} where
   -- A publisher that was just made.
   abbrev pub new_publisher : State T U → PublisherSettings → (place : ℕ) → Publisher
   new_publisher s given place = record {
-    place = place; slots = slots_for s.config given; max_loaned_samples = given.max_loaned_samples;
-    allocation_strategy = given.allocation_strategy; initial_max_slice_len = given.initial_max_slice_len; longest_granted = 0; segments = 1;
-    backpressure_strategy = given.backpressure_strategy; backpressure_handler = given.backpressure_handler; degradation_handler = given.degradation_handler;
-    loans = []; history = []; ends = []; is_due = true; blocked = None;
+    place = place;
+    slots = slots_for s.config given;
+    max_loaned_samples = given.max_loaned_samples;
+    allocation_strategy = given.allocation_strategy;
+    initial_max_slice_len = given.initial_max_slice_len;
+    longest_granted = 0;
+    segments = 1;
+    backpressure_strategy = given.backpressure_strategy;
+    backpressure_handler = given.backpressure_handler;
+    degradation_handler = given.degradation_handler;
+    loans = [];
+    history = [];
+    ends = [];
+    is_due = true;
+    blocked = None;
   }
 
   -- A publisher with the next id stands at the place, and every port of the other side is due.
@@ -83,8 +99,10 @@ module _ {T U : Type 0} where
   -- It is warned where the service's setting for expired publishers is too small for the borrowed messages.
   abbrev pub with_buffer_warning : State T U → (q : ℕ) → State T U
   with_buffer_warning s q =
-      record s { warnings = cond (nat_lt (s.config).subscriber_expired_connection_buffer (s.config).subscriber_max_borrowed_samples)
-        ((with_warning s (ExpiredBufferRaised q)).warnings) s.warnings }
+      record s {
+        warnings = cond (nat_lt (s.config).subscriber_expired_connection_buffer (s.config).subscriber_max_borrowed_samples)
+            ((with_warning s (ExpiredBufferRaised q)).warnings) s.warnings;
+      }
 
   -- A subscriber with the next id stands at the place, and every port of the other side is due.
   abbrev pub with_new_subscriber : State T U → SubscriberSettings → (place : ℕ) → State T U
@@ -106,7 +124,7 @@ module _ {T U : Type 0} where
   abbrev pub mailbox_after_publisher : State T U → (p : ℕ) → Publisher → (q : ℕ) → Mailbox
   mailbox_after_publisher s p x q =
       cond (option_map_or (λ (y : Subscriber). y.is_open && is_port (occupant y.ends x.place) p) (s.subscribers q) false)
-        (s.mailboxes p q) (waiting_dropped (s.mailboxes p q))
+      (s.mailboxes p q) (waiting_dropped (s.mailboxes p q))
 
   -- The publisher p is gone, its place is free, and what waits from it for nobody is lost.
   abbrev pub publisher_gone : State T U → (p : ℕ) → Publisher → State T U
@@ -149,6 +167,7 @@ module _ {T U : Type 0} (environment : Environment) where
       × UpdatePublisher environment s p mid failure
       × (s' ≡ with_failure_warning mid (PublisherPartlyConnected p) failure)
 
+  -- The first update of a new subscriber, whose failure is a warning.
   abbrev pub FirstSubscriberUpdate : State T U → (q : ℕ) → State T U → Type 0
   FirstSubscriberUpdate s q s' =
       (mid : State T U) × (failure : Option ConnectionFailure)
@@ -167,10 +186,10 @@ module _ {T U : Type 0} (environment : Environment) where
   abbrev pub CreatePublisher : State T U → PublisherSettings → State T U → Option PublisherCreateError → Type 0
   CreatePublisher s given s' refusal =
       MatchBool (s.next_port == last_number) ((s' ≡ s) × (refusal ≡ Some NoPublisherTag))
-        (MatchOption (free_place (s.config).max_publishers s.publisher_places) ((s' ≡ s) × (refusal ≡ Some ExceedsMaxSupportedPublishers)) (λ place.
-          MatchBool (first_segment_fits s.config given)
-            (MakePublisher s given place s' refusal)
-            ((s' ≡ s) × (refusal ≡ Some UnableToCreateDataSegment))))
+      (MatchOption (free_place (s.config).max_publishers s.publisher_places) ((s' ≡ s) × (refusal ≡ Some ExceedsMaxSupportedPublishers)) (λ place.
+      MatchBool (first_segment_fits s.config given)
+      (MakePublisher s given place s' refusal)
+      ((s' ≡ s) × (refusal ≡ Some UnableToCreateDataSegment))))
 
   -- Past the other refusals, a subscriber is made at the place; or memory is refused for its state.
   abbrev pub MakeSubscriber : State T U → SubscriberSettings → (place : ℕ) → State T U → Option SubscriberCreateError → Type 0
@@ -183,6 +202,6 @@ module _ {T U : Type 0} (environment : Environment) where
   abbrev pub CreateSubscriber : State T U → SubscriberSettings → State T U → Option SubscriberCreateError → Type 0
   CreateSubscriber s given s' refusal =
       MatchBool (s.next_port == last_number) ((s' ≡ s) × (refusal ≡ Some NoSubscriberTag))
-        (MatchBool (nat_lt (buffer_limit s.config) (buffer_for given)) ((s' ≡ s) × (refusal ≡ Some BufferSizeExceedsMaxSupportedBufferSizeOfService))
-          (MatchOption (free_place (s.config).max_subscribers s.subscriber_places) ((s' ≡ s) × (refusal ≡ Some ExceedsMaxSupportedSubscribers)) (λ place.
-            MakeSubscriber s given place s' refusal)))
+      (MatchBool (nat_lt (buffer_limit s.config) (buffer_for given)) ((s' ≡ s) × (refusal ≡ Some BufferSizeExceedsMaxSupportedBufferSizeOfService))
+      (MatchOption (free_place (s.config).max_subscribers s.subscriber_places) ((s' ≡ s) × (refusal ≡ Some ExceedsMaxSupportedSubscribers)) (λ place.
+      MakeSubscriber s given place s' refusal)))

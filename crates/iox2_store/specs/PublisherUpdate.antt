@@ -1,6 +1,6 @@
 -- A publisher's update: it goes over the subscribers that are listed now.
 -- (iceoryx2: `port/publisher.rs`, `force_update_connections`, and `port/details/sender.rs`.)
-use Rattle.std.specs.Prelude.{ℕ, Bool, true, false, cond, List, ◌≡◌, ◌⊎◌, MatchOption}
+use Rattle.std.specs.Prelude.{ℕ, Bool, false, cond, List, ◌≡◌, ◌⊎◌, MatchOption}
 use Rattle.std.specs.Bool.{MatchBool}
 use Rattle.std.specs.declared.option.Option.{Option}
 use Rattle.std.specs.declared.option.Option.TheVariants.{None, Some}
@@ -17,15 +17,15 @@ use Rattle.iox2_store.specs.declared.warning.Warning.{Warning}
 -- What a publisher's update changes.
 pub record SenderSide : Type 0 where
   pub ends : List (Option ℕ)
-  pub mailboxes : ℕ → Mailbox      -- the publisher's, by the subscriber's id
+  pub mailboxes : ℕ → Mailbox  -- the publisher's, by the subscriber's id
   pub warnings : List Warning
 
 -- What is to be done at a subscriber's place.
 pub data SenderAction : Type 0 where
-  Keep_end : SenderAction                          -- the end stays, and so does its mailbox
-  Drop_waiting : (q : ℕ) → SenderAction            -- the end stays, and what waits for the closed subscriber q is lost
-  Disconnect : SenderAction                        -- the end goes, if there is one
-  Connect : (q buffer : ℕ) → SenderAction          -- the end goes, if there is one, and one to q is made
+  Keep_end : SenderAction  -- the end stays, and so does its mailbox
+  Drop_waiting : (q : ℕ) → SenderAction  -- the end stays, and what waits for the closed subscriber q is lost
+  Disconnect : SenderAction  -- the end goes, if there is one
+  Connect : (q buffer : ℕ) → SenderAction  -- the end goes, if there is one, and one to q is made
 
 -- An end to the subscriber that stands at the place stays, and what waits for it is lost where it is closed. Any other
 -- end goes, and one to an open subscriber is made.
@@ -62,9 +62,10 @@ module _ (environment : Environment) (service_id p : ℕ) (handler : Handler Deg
   ConnectSender side place q buffer side' failure =
       ((side' ≡ connected history side place q buffer) × (failure ≡ None))
       ⊎ ((has_receiver_end q ≡ false) × (warnings : List Warning)
-          × ConnectionRefused environment service_id p q p handler side.warnings warnings failure
-          × (side' ≡ record side { warnings = warnings }))
+      × ConnectionRefused environment service_id p q p handler side.warnings warnings failure
+      × (side' ≡ record side { warnings = warnings }))
 
+  -- The action is done at the place; only making an end can fail.
   abbrev pub Performs : SenderAction → (place : ℕ) → SenderSide → SenderSide → Option ConnectionFailure → Type 0
   Performs Keep_end place side side' failure = (side' ≡ side) × (failure ≡ None)
   Performs (Drop_waiting q) place side side' failure = (side' ≡ dropped side q) × (failure ≡ None)
@@ -78,6 +79,7 @@ module _ (environment : Environment) (service_id p : ℕ) (handler : Handler Deg
       Performs (sender_action buffers at (occupant side.ends place)) place side side' failure
 
 module _ {T U : Type 0} where
+  -- What the publisher p's update starts from.
   abbrev pub sender_side : State T U → (p : ℕ) → Publisher → SenderSide
   sender_side s p x = record { ends = x.ends; mailboxes = s.mailboxes p; warnings = s.warnings }
 
@@ -93,9 +95,9 @@ module _ {T U : Type 0} where
   abbrev pub UpdatePublisher : Environment → State T U → (p : ℕ) → State T U → Option ConnectionFailure → Type 0
   UpdatePublisher environment s p s' failure =
       MatchOption (s.publishers p) ⊥ (λ x.
-        MatchBool x.is_due
-          ((side : SenderSide)
-            × ForEachPlace (UpdateSenderPlace environment (s.config).service_id p x.degradation_handler x.history (receiving_buffer s) (has_receiver_end s p))
-                0 s.subscriber_places (sender_side s p x) side failure
-            × (s' ≡ with_sender_side s p x side))
-          ((s' ≡ s) × (failure ≡ None)))
+      MatchBool x.is_due
+      ((side : SenderSide)
+      × ForEachPlace (UpdateSenderPlace environment (s.config).service_id p x.degradation_handler x.history (receiving_buffer s) (has_receiver_end s p))
+      0 s.subscriber_places (sender_side s p x) side failure
+      × (s' ≡ with_sender_side s p x side))
+      ((s' ≡ s) × (failure ≡ None)))

@@ -1,6 +1,6 @@
 -- A subscriber receives.
 -- (iceoryx2: `port/details/receiver.rs`, `receive` and `has_samples`.)
-use Rattle.std.specs.Prelude.{ℕ, Bool, true, false, List, ◌++◌, ◌≡◌, IsTrue, MatchOption}
+use Rattle.std.specs.Prelude.{ℕ, Bool, true, false, List, ◌≡◌, IsTrue, MatchOption}
 use Rattle.std.specs.Bool.{MatchBool}
 use Rattle.std.specs.List.{list_any}
 use Rattle.std.specs.declared.option.Option.{Option}
@@ -58,12 +58,12 @@ module _ {T U : Type 0} (environment : Environment) where
       (mid : State T U) × (failure : Option ConnectionFailure)
       × UpdateSubscriber environment s q mid failure
       × MatchOption failure
-          (MatchOption (mid.subscribers q) ⊥ (λ y. TakeSample mid q y s' result))
-          (λ e. (s' ≡ mid) × (result ≡ Receive_error (CouldNotConnect e)))
+      (MatchOption (mid.subscribers q) ⊥ (λ y. TakeSample mid q y s' result))
+      (λ e. (s' ≡ mid) × (result ≡ Receive_error (CouldNotConnect e)))
 
   -- Connections are updated; then it is told whether anything waits.
   abbrev pub HasSamples : State T U → (q : ℕ) → State T U → Option ConnectionFailure → (result : Bool) → Type 0
   HasSamples s q s' failure result =
       UpdateSubscriber environment s q s' failure
       × MatchOption (s'.subscribers q) ⊥ (λ y.
-          result ≡ has_any_data (s.config).subscriber_max_borrowed_samples y (λ p. s'.mailboxes p q))
+      result ≡ has_any_data (s.config).subscriber_max_borrowed_samples y (λ p. s'.mailboxes p q))

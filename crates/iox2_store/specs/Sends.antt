@@ -1,11 +1,11 @@
 -- A loan is sent; a send that is blocked is tried again or given up.
-use Rattle.std.specs.Prelude.{ℕ, Bool, true, false, cond, List, [], ◌∷◌, ◌++◌, drop, ◌≡◌, ◌+◌, ◌-◌, ◌^◌, nat_lt, MatchOption}
+use Rattle.std.specs.Prelude.{ℕ, Bool, false, cond, List, [], ◌∷◌, ◌++◌, drop, ◌≡◌, ◌+◌, ◌-◌, ◌^◌, nat_lt, MatchOption}
 use Rattle.std.specs.declared.option.Option.{Option}
 use Rattle.std.specs.declared.option.Option.TheVariants.{None, Some}
 use Rattle.std.specs.declared.time.Duration.{Duration}
 use Rattle.iox2_store.specs.Numbers.{put_at, without, last_n}
 use Rattle.iox2_store.specs.Mailbox.{Mailbox}
-use Rattle.iox2_store.specs.Records.{Loan, Publisher, Environment, BlockedSend}
+use Rattle.iox2_store.specs.Records.{Loan, Environment, BlockedSend}
 use Rattle.iox2_store.specs.State.{State, receiving_buffer, with_loan, publisher_changed}
 use Rattle.iox2_store.specs.Delivery.{Deliver, DeliveryEnd, Complete, Suspended, no_time}
 use Rattle.iox2_store.specs.PublisherUpdate.{UpdatePublisher}
@@ -30,7 +30,7 @@ module _ {T U : Type 0} where
   abbrev pub with_history : State T U → (p n : ℕ) → State T U
   with_history s p n = publisher_changed s p (λ x. record x { history = last_n (s.config).history_size (x.history ++ n ∷ []) })
 
-  -- The loan n is a message from now on: it leaves its user's hands, and enters the history of p.
+  -- The loan n is a message from now on: it leaves its user's hands, and enters the history of p, where one is kept.
   abbrev pub published : State T U → (p n : ℕ) → State T U
   published s p n = with_history (with_loan s n None) p n
 
@@ -57,16 +57,16 @@ module _ {T U : Type 0} (environment : Environment) where
   abbrev pub DeliverAndConclude : State T U → (p n retries : ℕ) → Duration → (place : ℕ) → List (Option ℕ) → (count : ℕ) → (has_failed : Bool) → State T U → SendResult → Type 0
   DeliverAndConclude s p n retries elapsed place ends count has_failed s' result =
       MatchOption (s.publishers p) ⊥ (λ x.
-        (how : DeliveryEnd) × (boxes : ℕ → Mailbox)
-        × Deliver environment s.config p x.backpressure_strategy x.backpressure_handler (receiving_buffer s) n
-            retries elapsed place ends count has_failed (s.mailboxes p) how boxes
-        × ConcludeSend (with_mailboxes s p boxes) p n how s' result)
+      (how : DeliveryEnd) × (boxes : ℕ → Mailbox)
+      × Deliver environment s.config p x.backpressure_strategy x.backpressure_handler (receiving_buffer s) n
+      retries elapsed place ends count has_failed (s.mailboxes p) how boxes
+      × ConcludeSend (with_mailboxes s p boxes) p n how s' result)
 
   -- The message n of p is published and delivered to all its receivers.
   abbrev pub Publish : State T U → (p n : ℕ) → State T U → SendResult → Type 0
   Publish s p n s' result =
       MatchOption (s.publishers p) ⊥ (λ x.
-        DeliverAndConclude (published s p n) p n 0 no_time 0 x.ends 0 false s' result)
+      DeliverAndConclude (published s p n) p n 0 no_time 0 x.ends 0 false s' result)
 
   -- The loan n is sent. Of a closed publisher it is lost. Else connections are updated first: where that fails the loan is
   -- given back, and no message was sent.
@@ -74,12 +74,12 @@ module _ {T U : Type 0} (environment : Environment) where
   abbrev pub Send : State T U → (n : ℕ) → Loan T U → State T U → SendResult → Type 0
   Send s n l s' result =
       MatchOption (s.publishers l.publisher)
-        ((s' ≡ with_loan s n None) × (result ≡ Send_error ConnectionBrokenSinceSenderNoLongerExists))
-        (λ x. (mid : State T U) × (failure : Option ConnectionFailure)
-          × UpdatePublisher environment s l.publisher mid failure
-          × MatchOption failure
-              (Publish mid l.publisher n s' result)
-              (λ e. (s' ≡ loan_discarded mid n l) × (result ≡ Send_error (ConnectionError e))))
+      ((s' ≡ with_loan s n None) × (result ≡ Send_error ConnectionBrokenSinceSenderNoLongerExists))
+      (λ x. (mid : State T U) × (failure : Option ConnectionFailure)
+      × UpdatePublisher environment s l.publisher mid failure
+      × MatchOption failure
+      (Publish mid l.publisher n s' result)
+      (λ e. (s' ≡ loan_discarded mid n l) × (result ≡ Send_error (ConnectionError e))))
 
   -- The blocked send of p is tried again from the receiver that it waits for. Connections aren't updated.
   abbrev pub Retry : State T U → (p : ℕ) → BlockedSend → (elapsed : Duration) → State T U → SendResult → Type 0

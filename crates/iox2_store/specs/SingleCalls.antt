@@ -1,7 +1,7 @@
 -- Calls that aren't a command of a run: writes through a reference, loans with default values, and the tests of handles.
-use Rattle.std.specs.Prelude.{ℕ, Bool, true, List, [], ◌∷◌, map, length, replicate, ◌≡◌, ◌*◌, ◌==◌, MatchOption, IsTrue}
+use Rattle.std.specs.Prelude.{ℕ, Bool, true, List, map, length, ◌≡◌, MatchOption, IsTrue}
 use Rattle.std.specs.declared.option.Option.{Option}
-use Rattle.std.specs.declared.option.Option.TheVariants.{None, Some}
+use Rattle.std.specs.declared.option.Option.TheVariants.{Some}
 use Rattle.iox2_store.specs.Mailbox.{is_borrowed}
 use Rattle.iox2_store.specs.Records.{Loan, Publisher, Subscriber, BlockedSend, Environment}
 use Rattle.iox2_store.specs.State.{State, with_loan}
@@ -15,8 +15,8 @@ module _ {T U : Type 0} where
   GrantWrittenLoan environment default_value default_header checks_length len s p s' refusal =
       (mid : State T U) × GrantLoan environment default_header checks_length len s p mid refusal
       × MatchOption refusal
-          (MatchOption (mid.loans s.next_message) ⊥ (λ l. s' ≡ with_loan mid s.next_message (Some (written l default_value))))
-          (λ e. s' ≡ mid)
+      (MatchOption (mid.loans s.next_message) ⊥ (λ l. s' ≡ with_loan mid s.next_message (Some (written l default_value))))
+      (λ e. s' ≡ mid)
 
   -- `write_from_fn` and `write_from_slice`: every cell of the loan n is written, in order, and it is a `SampleMut` now.
   abbrev pub WriteAllFrom : State T U → (n : ℕ) → Loan T U → (values : List T) → State T U → Type 0

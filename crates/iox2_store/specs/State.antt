@@ -1,5 +1,5 @@
 -- The machine's state, and how it is read and written.
-use Rattle.std.specs.Prelude.{ℕ, Bool, true, false, cond, not, ◌&&◌, ◌||◌, List, [], ◌∷◌, ◌++◌, is_some, is_none}
+use Rattle.std.specs.Prelude.{ℕ, Bool, true, false, cond, List, [], ◌∷◌, ◌++◌, is_some}
 use Rattle.std.specs.declared.option.Option.{Option}
 use Rattle.std.specs.declared.option.Option.TheVariants.{None, Some}
 use Rattle.std.specs.List.{flat_map}
@@ -15,15 +15,15 @@ use Rattle.iox2_store.specs.declared.warning.Warning.{Warning}
 -- All but the messages that were sent. A port that is gone has no record: ids are never used again.
 pub record State (T U : Type 0) : Type 0 where
   pub config : ServiceConfig
-  pub next_port : ℕ                              -- the id of the next port
-  pub next_message : ℕ                           -- the number of the next loan
-  pub loans : ℕ → Option (Loan T U)              -- by number: those in a user's hands
-  pub publishers : ℕ → Option Publisher          -- by id
-  pub subscribers : ℕ → Option Subscriber        -- by id
-  pub mailboxes : ℕ → ℕ → Mailbox                -- by the publisher's id, then the subscriber's
+  pub next_port : ℕ  -- the id of the next port
+  pub next_message : ℕ  -- the number of the next loan
+  pub loans : ℕ → Option (Loan T U)  -- by number: those in a user's hands
+  pub publishers : ℕ → Option Publisher  -- by id
+  pub subscribers : ℕ → Option Subscriber  -- by id
+  pub mailboxes : ℕ → ℕ → Mailbox  -- by the publisher's id, then the subscriber's
   pub publisher_places : List (Option ℕ)
   pub subscriber_places : List (Option ℕ)
-  pub warnings : List Warning                    -- oldest first
+  pub warnings : List Warning  -- oldest first
 
 -- The messages that were ever sent, by number. Each of these stays as it was sent.
 abbrev pub Messages : Type 0 → Type 0 → Type 0
@@ -32,10 +32,15 @@ Messages T U = ℕ → Option (Entry T U)
 -- A new domain: no port, loan, message, mailbox or warning, and both counters are at 1.
 abbrev pub fresh : {T U : Type 0} → ServiceConfig → State T U
 fresh c = record {
-  config = c; next_port = 1; next_message = 1;
-  loans = λ _. None; publishers = λ _. None; subscribers = λ _. None;
+  config = c;
+  next_port = 1;
+  next_message = 1;
+  loans = λ _. None;
+  publishers = λ _. None;
+  subscribers = λ _. None;
   mailboxes = λ _ _. empty_mailbox;
-  publisher_places = []; subscriber_places = [];
+  publisher_places = [];
+  subscriber_places = [];
   warnings = [];
 }
 
@@ -85,12 +90,6 @@ module _ {T U : Type 0} where
   is_blocked s p = option_map_or (λ (x : Publisher). is_some x.blocked) (s.publishers p) false
 
   -- ---- writing
-
-  abbrev pub with_publisher : State T U → (p : ℕ) → Publisher → State T U
-  with_publisher s p x = record s { publishers = put_at s.publishers p (Some x) }
-
-  abbrev pub with_subscriber : State T U → (q : ℕ) → Subscriber → State T U
-  with_subscriber s q y = record s { subscribers = put_at s.subscribers q (Some y) }
 
   abbrev pub with_mailbox : State T U → (p q : ℕ) → Mailbox → State T U
   with_mailbox s p q box = record s { mailboxes = put_at s.mailboxes p (put_at (s.mailboxes p) q box) }

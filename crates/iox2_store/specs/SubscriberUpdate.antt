@@ -21,21 +21,22 @@ pub record ReceiverSide : Type 0 where
   pub ends : List (Option ℕ)
   pub expired : List ℕ
   pub is_due : Bool
-  pub mailboxes : ℕ → Mailbox      -- the subscriber's, by the publisher's id
+  pub mailboxes : ℕ → Mailbox  -- the subscriber's, by the publisher's id
   pub warnings : List Warning
 
 -- What becomes of a departed publisher, which still has messages for the subscriber.
 pub data Retirement : Type 0 where
-  Keep_expired : Retirement               -- it is kept among the expired ones
-  Evict : (first : ℕ) → Retirement        -- the same, and that one leaves in its place
-  Discard_data : Retirement               -- what waits from it is lost
-  Refuse : Retirement                     -- it stays where it is, and the update fails
+  Keep_expired : Retirement  -- it is kept among the expired ones
+  Evict : (first : ℕ) → Retirement  -- the same, and that one leaves in its place
+  Discard_data : Retirement  -- what waits from it is lost
+  Refuse : Retirement  -- it stays where it is, and the update fails
 
 -- The first of these publishers of which nothing is borrowed.
 abbrev pub first_without_borrows : (ℕ → Mailbox) → List ℕ → Option ℕ
 first_without_borrows boxes [] = None
 first_without_borrows boxes (p ∷ ps) = cond (has_borrows (boxes p)) (first_without_borrows boxes ps) (Some p)
 
+-- With somebody to evict it is done, else the retirement is refused.
 abbrev pub evict_or_refuse : Option ℕ → Retirement
 evict_or_refuse None = Refuse
 evict_or_refuse (Some first) = Evict first
@@ -46,7 +47,7 @@ evict_or_refuse (Some first) = Evict first
 abbrev pub retirement_of : (limit : ℕ) → (boxes : ℕ → Mailbox) → (expired : List ℕ) → (p : ℕ) → Retirement
 retirement_of limit boxes expired p =
     cond (nat_lt (length expired) limit) Keep_expired
-      (cond (has_borrows (boxes p)) (evict_or_refuse (first_without_borrows boxes expired)) Discard_data)
+    (cond (has_borrows (boxes p)) (evict_or_refuse (first_without_borrows boxes expired)) Discard_data)
 
 -- What waits from the departed publisher p is lost, with a warning.
 abbrev pub data_discarded : (q : ℕ) → ReceiverSide → (p : ℕ) → ReceiverSide
@@ -62,6 +63,7 @@ after_retirement q side p (Evict first) = record (data_discarded q side first) {
 after_retirement q side p Discard_data = data_discarded q side p
 after_retirement q side p Refuse = record side { is_due = true }
 
+-- The retirement is refused.
 abbrev pub is_refused : Retirement → Bool
 is_refused Keep_expired = false
 is_refused (Evict first) = false
@@ -80,36 +82,36 @@ module _ (environment : Environment) (service_id q : ℕ) (handler : Handler Deg
   ConnectReceiver side place p side' failure =
       ((side' ≡ with_end side place (Some p)) × (failure ≡ None))
       ⊎ ((has_sender_end p ≡ false) × (warnings : List Warning)
-          × ConnectionRefused environment service_id p q q handler side.warnings warnings failure
-          × (side' ≡ record side { warnings = warnings }))
+      × ConnectionRefused environment service_id p q q handler side.warnings warnings failure
+      × (side' ≡ record side { warnings = warnings }))
 
   -- The departed publisher `old` is retired from the place, and then comes what `Then` says; or the retirement is refused.
   abbrev pub Retire : ReceiverSide → (place old : ℕ) → ReceiverSide → Option ConnectionFailure → (Then : ReceiverSide → Type 0) → Type 0
   Retire side place old side' failure Then =
       let how = retirement_of limit side.mailboxes side.expired old in
       MatchBool (is_refused how)
-        ((side' ≡ after_retirement q side old how) × (failure ≡ Some expired_buffer_full))
-        (Then (with_end (after_retirement q side old how) place None))
+      ((side' ≡ after_retirement q side old how) × (failure ≡ Some expired_buffer_full))
+      (Then (with_end (after_retirement q side old how) place None))
 
   -- At a place where a publisher stands, an end to it stays or is made, after the one that stood there was retired.
   abbrev pub ConnectAtPlace : (place : ℕ) → (at : Option ℕ) → ReceiverSide → ReceiverSide → Option ConnectionFailure → Type 0
   ConnectAtPlace place at side side' failure =
       MatchOption at
-        ((side' ≡ side) × (failure ≡ None))
-        (λ p. MatchOption (occupant side.ends place)
-          (ConnectReceiver side place p side' failure)
-          (λ old. MatchBool (old == p)
-            ((side' ≡ side) × (failure ≡ None))
-            (Retire side place old side' failure (λ mid. ConnectReceiver mid place p side' failure))))
+      ((side' ≡ side) × (failure ≡ None))
+      (λ p. MatchOption (occupant side.ends place)
+      (ConnectReceiver side place p side' failure)
+      (λ old. MatchBool (old == p)
+      ((side' ≡ side) × (failure ≡ None))
+      (Retire side place old side' failure (λ mid. ConnectReceiver mid place p side' failure))))
 
   -- At an empty place, the publisher that stood there is retired.
   abbrev pub DisconnectAtPlace : (place : ℕ) → (at : Option ℕ) → ReceiverSide → ReceiverSide → Option ConnectionFailure → Type 0
   DisconnectAtPlace place at side side' failure =
       MatchOption at
-        (MatchOption (occupant side.ends place)
-          ((side' ≡ side) × (failure ≡ None))
-          (λ old. Retire side place old side' failure (λ mid. (side' ≡ mid) × (failure ≡ None))))
-        (λ p. (side' ≡ side) × (failure ≡ None))
+      (MatchOption (occupant side.ends place)
+      ((side' ≡ side) × (failure ≡ None))
+      (λ old. Retire side place old side' failure (λ mid. (side' ≡ mid) × (failure ≡ None))))
+      (λ p. (side' ≡ side) × (failure ≡ None))
 
   -- Both walks over the publishers' places, one after the other.
   abbrev pub UpdateReceiverSide : List (Option ℕ) → ReceiverSide → ReceiverSide → Option ConnectionFailure → Type 0
@@ -136,9 +138,9 @@ module _ {T U : Type 0} where
   abbrev pub UpdateSubscriber : Environment → State T U → (q : ℕ) → State T U → Option ConnectionFailure → Type 0
   UpdateSubscriber environment s q s' failure =
       MatchOption (s.subscribers q) ⊥ (λ y.
-        MatchBool y.is_due
-          ((side : ReceiverSide)
-            × UpdateReceiverSide environment (s.config).service_id q y.degradation_handler (expired_limit s.config) (λ p. has_sender_end s p q)
-                s.publisher_places (receiver_side s q y) side failure
-            × (s' ≡ with_receiver_side s q y side))
-          ((s' ≡ s) × (failure ≡ None)))
+      MatchBool y.is_due
+      ((side : ReceiverSide)
+      × UpdateReceiverSide environment (s.config).service_id q y.degradation_handler (expired_limit s.config) (λ p. has_sender_end s p q)
+      s.publisher_places (receiver_side s q y) side failure
+      × (s' ≡ with_receiver_side s q y side))
+      ((s' ≡ s) × (failure ≡ None)))

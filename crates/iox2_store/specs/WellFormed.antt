@@ -1,14 +1,14 @@
--- What holds of every state that a run reaches.
-use Rattle.std.specs.Prelude.{ℕ, Bool, true, false, List, length, ◌≡◌, ◌⊎◌, ◌*◌, ◌<◌, ◌≤◌, drop, MatchOption}
+-- What holds of every state that calls and runs reach.
+use Rattle.std.specs.Prelude.{ℕ, true, false, List, length, ◌≡◌, ◌⊎◌, ◌*◌, ◌<◌, ◌≤◌, drop, MatchOption}
 use Rattle.std.specs.Option.{option_map}
 use Rattle.std.specs.declared.option.Option.{Option}
 use Rattle.std.specs.declared.option.Option.TheVariants.{None, Some}
 use Rattle.iox2_store.specs.Limits.{buffer_limit, expired_limit, worst_case, segment_limit}
 use Rattle.iox2_store.specs.Numbers.{contains, size, IsOnce}
-use Rattle.iox2_store.specs.Places.{occupant, occupants}
-use Rattle.iox2_store.specs.Mailbox.{Mailbox, numbers_in, has_numbers, has_borrows, has_data, IsWithin, waiting_count}
+use Rattle.iox2_store.specs.Places.{occupant}
+use Rattle.iox2_store.specs.Mailbox.{numbers_in, has_numbers, has_borrows, IsWithin, waiting_count}
 use Rattle.iox2_store.specs.Records.{Loan, Publisher, Subscriber, BlockedSend}
-use Rattle.iox2_store.specs.State.{State, held, is_present}
+use Rattle.iox2_store.specs.State.{State, held}
 use Rattle.iox2_store.specs.Loans.{is_static, is_initialized}
 
 -- An end leads to this port.
@@ -26,9 +26,11 @@ pub record PlacesAgree (limit : ℕ) (places : List (Option ℕ)) (place_of : �
   pub known : (id place : ℕ) → occupant places place ≡ Some id → place_of id ≡ Some place
 
 module _ {T U : Type 0} where
+  -- The place that a publisher's record names.
   abbrev pub publisher_place : State T U → (p : ℕ) → Option ℕ
   publisher_place s p = option_map {T = Publisher} {U = ℕ} (λ x. x.place) (s.publishers p)
 
+  -- The place that a subscriber's record names.
   abbrev pub subscriber_place : State T U → (q : ℕ) → Option ℕ
   subscriber_place s q = option_map {T = Subscriber} {U = ℕ} (λ y. y.place) (s.subscribers q)
 
@@ -49,7 +51,7 @@ module _ {T U : Type 0} where
     pub loans_below : (n : ℕ) → contains x.loans n ≡ true → n < s.next_message
     -- A loan that is out is in its user's hands, or it is the blocked send's.
     pub loans_held : (n : ℕ) → contains x.loans n ≡ true
-      → ((l : Loan T U) × (s.loans n ≡ Some l) × (l.publisher ≡ p)) ⊎ ((b : BlockedSend) × (x.blocked ≡ Some b) × (b.message ≡ n))
+        → ((l : Loan T U) × (s.loans n ≡ Some l) × (l.publisher ≡ p)) ⊎ ((b : BlockedSend) × (x.blocked ≡ Some b) × (b.message ≡ n))
     pub history_bound : length x.history ≤ (s.config).history_size
     pub history_once : IsOnce x.history
     pub history_below : (n : ℕ) → contains x.history n ≡ true → n < s.next_message
@@ -74,7 +76,7 @@ module _ {T U : Type 0} where
     pub ends_known : (p : ℕ) → LeadsTo y.ends p → p < s.next_port
     -- At an end stands a publisher that has that place, or a departed one with some message left.
     pub ends_stand : (place p : ℕ) → occupant y.ends place ≡ Some p
-      → MatchOption (s.publishers p) (has_numbers (s.mailboxes p q) ≡ true) (λ x. x.place ≡ place)
+        → MatchOption (s.publishers p) (has_numbers (s.mailboxes p q) ≡ true) (λ x. x.place ≡ place)
     pub expired_bound : length y.expired ≤ expired_limit s.config
     pub expired_once : IsOnce y.expired
     pub expired_apart : (p : ℕ) → contains y.expired p ≡ true → LeadsTo y.ends p → ⊥
@@ -82,8 +84,8 @@ module _ {T U : Type 0} where
     pub expired_gone : (p : ℕ) → contains y.expired p ≡ true → s.publishers p ≡ None
     pub expired_kept : (p : ℕ) → contains y.expired p ≡ true → has_numbers (s.mailboxes p q) ≡ true
 
-  -- A mailbox keeps its bounds; what is in it was sent; and while its publisher is present, that has its end where
-  -- anything is in it, while what is borrowed is borrowed by a subscriber that knows the publisher.
+  -- A mailbox keeps its bounds; its numbers were given out; while its publisher is present, that has its end where
+  -- anything is in it; and what is borrowed is borrowed by a subscriber that knows the publisher.
   pub record MailboxIsWellFormed (s : State T U) (p q : ℕ) : Type 0 where
     pub within : IsWithin (buffer_limit s.config) (s.config).subscriber_max_borrowed_samples (s.mailboxes p q)
     pub room : (y : Subscriber) → s.subscribers q ≡ Some y → waiting_count (s.mailboxes p q) ≤ y.buffer
@@ -91,9 +93,9 @@ module _ {T U : Type 0} where
     pub known : has_numbers (s.mailboxes p q) ≡ true → (p < s.next_port) × (q < s.next_port)
     pub sender_end : (x : Publisher) → s.publishers p ≡ Some x → has_numbers (s.mailboxes p q) ≡ true → LeadsTo x.ends q
     pub receiver_end : has_borrows (s.mailboxes p q) ≡ true
-      → (y : Subscriber) × (s.subscribers q ≡ Some y) × ((contains y.expired p ≡ true) ⊎ LeadsTo y.ends p)
+        → (y : Subscriber) × (s.subscribers q ≡ Some y) × ((contains y.expired p ≡ true) ⊎ LeadsTo y.ends p)
 
-  -- A loan's number was given out, and nobody has its message: it isn't sent yet. Its header names its publisher and
+  -- A loan's number was given out, and its publisher has sent no message under it. Its header names its publisher and
   -- counts its cells, and a written loan has all of them.
   pub record LoanIsWellFormed (s : State T U) (n : ℕ) (l : Loan T U) : Type 0 where
     pub below : n < s.next_message
