@@ -8,11 +8,20 @@ use Rattle.iox2_store.specs.declared.backpressure.BackpressureStrategy.TheVarian
 -- A service for single values, with these limits.
 abbrev pub domain : (publishers subscribers buffer borrows history expired : ℕ) → (overflow : Bool) → ServiceConfig
 domain publishers subscribers buffer borrows history expired overflow = record {
-  service_id = 1; node_id = 1; variant = FixedSize; units_per_element = 1;
-  max_publishers = publishers; max_subscribers = subscribers;
-  subscriber_max_buffer_size = buffer; subscriber_max_borrowed_samples = borrows; history_size = history;
-  enable_safe_overflow = overflow; subscriber_expired_connection_buffer = expired;
-  publisher_max_loaned_samples = 1; backpressure_strategy = DiscardData; publisher_allocation_strategy = Static;
+  service_id = 1;
+  node_id = 1;
+  variant = FixedSize;
+  units_per_element = 1;
+  max_publishers = publishers;
+  max_subscribers = subscribers;
+  subscriber_max_buffer_size = buffer;
+  subscriber_max_borrowed_samples = borrows;
+  history_size = history;
+  enable_safe_overflow = overflow;
+  subscriber_expired_connection_buffer = expired;
+  publisher_max_loaned_samples = 1;
+  backpressure_strategy = DiscardData;
+  publisher_allocation_strategy = Static;
 }
 
 -- A service for slices, with these limits, whose messages come from that node.
