@@ -1,6 +1,7 @@
 pub mod Named
 pub mod StepLaws
 pub mod Lift
+pub mod EnoughRuns
 pub mod RowDomains
 pub mod RowsOfBuffers
 pub mod RowsOfSends

@@ -1,12 +1,29 @@
 ghost use Rattle.iox2_runs.specs.Laws.{StepsKeepWellFormed, StepsLift};
+ghost use Rattle.iox2_runs.specs.RunLaws.{ReachedStatesHoldFew, WorstCaseOfSlotsGrants};
 
 /// Every step from a well-formed state ends in a well-formed one, whatever handlers answer and whether or not memory is
 /// refused.
 pub fn steps_keep_well_formed<T, U>()
     ensures { StepsKeepWellFormed T U }
-{}
+{
+}
 
 /// A step on what a domain keeps is a step from each state that it shows, to a state that it shows afterwards.
 pub fn steps_lift<T, U>()
     ensures { StepsLift T U }
-{}
+{
+}
+
+/// In every state that a run from a new domain reaches, each publisher holds at most the worst case of different messages
+/// and loans for the loans that it has out.
+pub fn reached_states_hold_few<T, U>()
+    ensures { ReachedStatesHoldFew T U }
+{
+}
+
+/// A static publisher with the worst case of slots grants every loan of permitted length while fewer than its limit are
+/// out and the message counter isn't at its end.
+pub fn worst_case_of_slots_grants<T, U>()
+    ensures { WorstCaseOfSlotsGrants T U }
+{
+}

@@ -1,4 +1,6 @@
-use crate::{Command, Reply, steps_keep_well_formed, steps_lift};
+use crate::{
+    Command, Reply, reached_states_hold_few, steps_keep_well_formed, steps_lift, worst_case_of_slots_grants,
+};
 use iox2_store::{LoanError, UniquePublisherId};
 
 type Commands = Command<u64, u8>;
@@ -33,4 +35,6 @@ fn replies_compare_by_their_fields(rt: HostRuntime) {
 fn laws_stand_at_concrete_types() {
     steps_keep_well_formed::<u64, u8>();
     steps_lift::<u64, u8>();
+    reached_states_hold_few::<u64, u8>();
+    worst_case_of_slots_grants::<u64, u8>();
 }
