@@ -2,6 +2,13 @@ pub mod Named
 pub mod StepLaws
 pub mod Lift
 pub mod EnoughRuns
+pub mod Traces
+pub mod Follows
+pub mod Owned
+pub mod ReadSteps
+pub mod Reached
+pub mod ReadRuns
+pub mod ReadLaws
 pub mod RowDomains
 pub mod RowsOfBuffers
 pub mod RowsOfSends

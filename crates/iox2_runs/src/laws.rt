@@ -1,5 +1,5 @@
 ghost use Rattle.iox2_runs.specs.Laws.{StepsKeepWellFormed, StepsLift};
-ghost use Rattle.iox2_runs.specs.RunLaws.{ReachedStatesHoldFew, WorstCaseOfSlotsGrants};
+ghost use Rattle.iox2_runs.specs.RunLaws.{ReachedStatesHoldFew, WorstCaseOfSlotsGrants, SamplesNameTheirPublisher};
 
 /// Every step from a well-formed state ends in a well-formed one, whatever handlers answer and whether or not memory is
 /// refused.
@@ -25,5 +25,11 @@ pub fn reached_states_hold_few<T, U>()
 /// out and the message counter isn't at its end.
 pub fn worst_case_of_slots_grants<T, U>()
     ensures { WorstCaseOfSlotsGrants T U }
+{
+}
+
+/// The reply to a receive names the publisher that sent the message, and so does the message's header.
+pub fn samples_name_their_publisher<T, U>()
+    ensures { SamplesNameTheirPublisher T U }
 {
 }

@@ -1,5 +1,5 @@
 use crate::{
-    Command, Reply, reached_states_hold_few, steps_keep_well_formed, steps_lift, worst_case_of_slots_grants,
+    Command, Reply, reached_states_hold_few, samples_name_their_publisher, steps_keep_well_formed, steps_lift, worst_case_of_slots_grants,
 };
 use iox2_store::{LoanError, UniquePublisherId};
 
@@ -36,5 +36,6 @@ fn laws_stand_at_concrete_types() {
     steps_keep_well_formed::<u64, u8>();
     steps_lift::<u64, u8>();
     reached_states_hold_few::<u64, u8>();
+    samples_name_their_publisher::<u64, u8>();
     worst_case_of_slots_grants::<u64, u8>();
 }
