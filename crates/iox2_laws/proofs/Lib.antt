@@ -20,3 +20,4 @@ pub mod Altered
 pub mod LoanLaws
 pub mod DeliveryLaws
 pub mod SendLaws
+pub mod LoanKeeping

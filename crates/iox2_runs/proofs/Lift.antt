@@ -1,9 +1,11 @@
 -- A step on what is kept is a step on each state that is shown.
-use Rattle.std.proofs.Common.{◌≡◌, ◌⊎◌, ℕ, ◌≤◌, ◌<◌, true, false, cond, List, refl, sym, ap, subst, arith, eqb, ⊎_elim, Option, None, Some}
+use Rattle.std.proofs.Common.{◌≡◌, ◌⊎◌, ℕ, ◌≤◌, ◌<◌, true, false, cond, List, refl, sym, ap, subst, ◌∙◌, arith, eqb, ⊎_elim, Option, None, Some}
 use Rattle.std.specs.Option.{MatchOption}
 use Rattle.std.proofs.lemmas.Bool.{eqb-true, eq-eqb, ne_eqb}
-use Rattle.iox2_store.specs.Records.{Entry, Environment}
+use Rattle.std.proofs.lemmas.Option.{none-some}
+use Rattle.iox2_store.specs.Records.{Entry, Loan, Environment}
 use Rattle.iox2_store.specs.State.{State, Messages}
+use Rattle.iox2_laws.proofs.LoanKeeping.{LoansFollow}
 use Rattle.iox2_runs.specs.Outcomes.{Handle, Outcome, Event, No_event, Message_sent, Message_received, messages_after}
 use Rattle.iox2_runs.specs.Step.{Step, sample_at}
 use Rattle.iox2_runs.specs.Shows.{Stored, Shows, StoredStep, IsNewEntry}
@@ -55,6 +57,22 @@ module _ {T U : Type 0} where
         | false ↦ λ _. below n (omega arith)
       ] refl
 
+  -- no message is known under the number of a loan: it was one before, or its number wasn't given out, and it isn't the one that was sent
+  unsent_after : (event : Event T U) (m : Messages T U) (s s' : State T U) → LoansFollow s s'
+      → ((n : ℕ) → s.next_message ≤ n → m n ≡ None) → ((n : ℕ) (l : Loan T U) → s.loans n ≡ Some l → m n ≡ None)
+      → ((p n : ℕ) (entry : Entry T U) → event ≡ Message_sent p n entry → s'.loans n ≡ None)
+      → (n : ℕ) (l' : Loan T U) → s'.loans n ≡ Some l' → messages_after event m n ≡ None
+  unsent_after event m s s' follows below unsent unheld n l' e = at event unheld
+    where
+      before : m n ≡ None
+      before = ⊎_elim (λ (old : (l : Loan T U) × (s.loans n ≡ Some l)). unsent n old.0 old.1) (λ (new : s.next_message ≤ n). below n new) (follows n l' e)
+
+      at : (event : Event T U) → ((p n : ℕ) (entry : Entry T U) → event ≡ Message_sent p n entry → s'.loans n ≡ None) → messages_after event m n ≡ None
+      at No_event unheld = before
+      at (Message_received p q n') unheld = before
+      at (Message_sent p n' entry) unheld =
+          rw (ne_eqb n n' (λ same. none-some l' (sym (unheld p n' entry refl) ∙ ap s'.loans (sym same) ∙ e))) before
+
   pub lift : (environment : Environment) (default_value : T) (default_header : U) (old new : Stored T U) (handles : List Handle) (command : Command T U) (o : Outcome T U)
       → StoredStep environment default_value default_header old handles command o new
       → (m : Messages T U) (s : State T U) → Shows old m s
@@ -73,6 +91,7 @@ module _ {T U : Type 0} where
           entries = λ n entry e. entries_after o.event old.entries m shown.entries n entry (moves.entries_kept n entry e);
           complete = moves.complete;
           below = below_after o.event m s.next_message (o.state).next_message (sound.advances).next_message shown.below sound.sent_below;
+          unsent = unsent_after o.event m s o.state sound.loans_follow shown.below shown.unsent sound.sent_unheld;
         },
         step,
         refl,

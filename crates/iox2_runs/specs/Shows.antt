@@ -3,7 +3,7 @@ use Rattle.std.specs.Prelude.{ℕ, List, true, ◌≡◌, ◌⊎◌, ◌≤◌}
 use Rattle.std.specs.declared.option.Option.TheVariants.{None, Some}
 use Rattle.iox2_store.specs.Numbers.{contains}
 use Rattle.iox2_store.specs.Mailbox.{numbers_in}
-use Rattle.iox2_store.specs.Records.{Entry, Publisher, BlockedSend, Environment}
+use Rattle.iox2_store.specs.Records.{Entry, Loan, Publisher, BlockedSend, Environment}
 use Rattle.iox2_store.specs.State.{State, Messages}
 use Rattle.iox2_store.specs.WellFormed.{IsWellFormed}
 use Rattle.iox2_runs.specs.Outcomes.{Handle, Event, No_event, Message_sent, Message_received, Outcome}
@@ -15,15 +15,16 @@ pub record Stored (T U : Type 0) : Type 0 where
   pub state : State T U
   pub entries : Messages T U
 
--- Somebody holds the message: it is in a history, in a mailbox, or a send of it is blocked.
-pub data IsHeldMessage {T U : Type 0} (s : State T U) (n : ℕ) : Type 0 where
-  In_history : (p : ℕ) (x : Publisher) → s.publishers p ≡ Some x → contains x.history n ≡ true → IsHeldMessage s n
-  In_mailbox : (p q : ℕ) → contains (numbers_in (s.mailboxes p q)) n ≡ true → IsHeldMessage s n
-  In_blocked_send : (p : ℕ) (x : Publisher) (b : BlockedSend) → s.publishers p ≡ Some x → x.blocked ≡ Some b → b.message ≡ n → IsHeldMessage s n
+-- Somebody holds the message n of p: it is in the history of p, in a mailbox with messages of p, or a send of it is blocked.
+pub data IsHeldMessage {T U : Type 0} (s : State T U) (p n : ℕ) : Type 0 where
+  In_history : (x : Publisher) → s.publishers p ≡ Some x → contains x.history n ≡ true → IsHeldMessage s p n
+  In_mailbox : (q : ℕ) → contains (numbers_in (s.mailboxes p q)) n ≡ true → IsHeldMessage s p n
+  In_blocked_send : (x : Publisher) (b : BlockedSend) → s.publishers p ≡ Some x → x.blocked ≡ Some b → b.message ≡ n → IsHeldMessage s p n
 
--- Each message that somebody holds has its entry.
+-- Each message of a publisher that somebody holds has its entry, whose header names that publisher.
 abbrev pub KeepsEntries : {T U : Type 0} → Stored T U → Type 0
-KeepsEntries {T} {U} stored = (n : ℕ) → IsHeldMessage stored.state n → (entry : Entry T U) × (stored.entries n ≡ Some entry)
+KeepsEntries {T} {U} stored = (p n : ℕ) → IsHeldMessage stored.state p n
+    → (entry : Entry T U) × (stored.entries n ≡ Some entry) × ((entry.header).publisher_id ≡ p)
 
 -- What is kept is this state, with these messages where an entry is kept, and one is kept of each message that somebody
 -- holds. The state is well-formed, and no message was sent under a number that wasn't given out. Of messages that nobody
@@ -34,6 +35,8 @@ pub record Shows {T U : Type 0} (stored : Stored T U) (messages : Messages T U) 
   pub entries : (n : ℕ) (entry : Entry T U) → stored.entries n ≡ Some entry → messages n ≡ Some entry
   pub complete : KeepsEntries stored
   pub below : (n : ℕ) → s.next_message ≤ n → messages n ≡ None
+  -- A loan isn't sent yet: there is no message under its number.
+  pub unsent : (n : ℕ) (l : Loan T U) → s.loans n ≡ Some l → messages n ≡ None
 
 -- The entry is that of the message that was sent just now.
 abbrev pub IsNewEntry : {T U : Type 0} → Event T U → (n : ℕ) → Entry T U → Type 0
