@@ -473,3 +473,12 @@ module _ {T U : Type 0} where
           refl,
           there.4,
         ))
+
+    -- the loan that is found under the number granted is that publisher's
+    pub grant_written_loan_publisher : (refusal : Option LoanError) (l : Loan T U) → refusal ≡ None → s'.loans s.next_message ≡ Some l
+        → GrantWrittenLoan environment default_value default_header checks_length len s p s' refusal
+        → l.publisher ≡ p
+    grant_written_loan_publisher refusal l none found h =
+        let there : (k : Loan T U) × (s'.loans s.next_message ≡ Some k) × (k.publisher ≡ p) × (k.is_written ≡ true) × (s.next_message < s'.next_message) =
+            grant_written_loan_finds refusal h none in
+        ap (λ (k : Loan T U). k.publisher) (same_Some l there.0 (sym found ∙ there.1)) ∙ there.2

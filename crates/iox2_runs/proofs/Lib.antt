@@ -2,6 +2,16 @@ pub mod Named
 pub mod StepLaws
 pub mod Lift
 pub mod EnoughRuns
+pub mod RunInduction
+pub mod Subsequences
+pub mod Ordered
+pub mod OrderSteps
+pub mod OrderUpdates
+pub mod OrderSends
+pub mod OrderStates
+pub mod OrderReceives
+pub mod OrderCommands
+pub mod Order
 pub mod Traces
 pub mod Follows
 pub mod Owned

@@ -22,7 +22,7 @@ use Rattle.iox2_laws.proofs.PublisherUpdates.{update_publisher_keeps, update_pub
 use Rattle.iox2_laws.proofs.SubscriberUpdates.{update_subscriber_keeps, update_subscriber_advances}
 use Rattle.iox2_laws.proofs.ReceiveLaws.{receive_keeps, receive_advances, has_samples_keeps, has_samples_advances}
 use Rattle.iox2_laws.proofs.ReleaseLaws.{released_keeps, released_advances}
-use Rattle.iox2_laws.proofs.LoanLaws.{grant_loan_keeps, grant_loan_advances, grant_written_loan_keeps, grant_written_loan_advances, grant_written_loan_finds, grant_written_loan_unblocked, cell_written_keeps, loan_written_keeps, user_header_keeps, initialized_keeps, loan_discarded_keeps}
+use Rattle.iox2_laws.proofs.LoanLaws.{grant_loan_keeps, grant_loan_advances, grant_written_loan_keeps, grant_written_loan_advances, grant_written_loan_publisher, grant_written_loan_unblocked, cell_written_keeps, loan_written_keeps, user_header_keeps, initialized_keeps, loan_discarded_keeps}
 use Rattle.iox2_laws.proofs.SendLaws.{send_keeps, send_advances, retry_keeps, retry_advances, give_up_keeps, give_up_advances}
 use Rattle.iox2_laws.proofs.PortLaws.{create_publisher_keeps, create_publisher_advances, create_subscriber_keeps, create_subscriber_advances}
 use Rattle.iox2_laws.proofs.CloseLaws.{publisher_closed_keeps, publisher_closed_advances, subscriber_closed_keeps, subscriber_closed_advances}
@@ -141,11 +141,6 @@ module _ {T U : Type 0} where
   changed_sound s n old l o found w h = by_equal s o _ h
       (quiet s (with_loan s n (Some l)) (done (with_loan s n (Some l))) refl refl w (loan_changed s n (Some l)) (with_loan_follows s n old l found))
 
-  -- the loan that was granted is that publisher's
-  granted_by : (p : ℕ) (s' : State T U) (n : ℕ) (l : Loan T U) {next : ℕ} → s'.loans n ≡ Some l
-      → ((k : Loan T U) × (s'.loans n ≡ Some k) × (k.publisher ≡ p) × (k.is_written ≡ true) × (n < next)) → l.publisher ≡ p
-  granted_by p s' n l found there = ap (λ (k : Loan T U). k.publisher) (same_Some l there.0 (sym found ∙ there.1)) ∙ there.2
-
   -- a loan that is sent, from a state that is no earlier
   send_sound : (environment : Environment) (s from : State T U) (n : ℕ) (l : Loan T U) (o : Outcome T U) → IsWellFormed from → Advances s from → LoansFollow s from → from.loans n ≡ Some l → is_blocked from l.publisher ≡ false
       → ((s' : State T U) × (result : SendResult) × Send environment from n l s' result × (o ≡ after_send s' l.publisher n (entry_of l) result)) → IsSound s o
@@ -223,7 +218,7 @@ module _ {T U : Type 0} (environment : Environment) (default_value : T) (default
       by_option (IsSound s o) k.1 _ _ k.3
       (λ none j. by_option (IsSound s o) ((k.0).loans s.next_message) _ _ j (λ _ v. absurd v) (λ l f sends.
       send_sound environment s k.0 s.next_message l o mid_keeps mid_advances mid_follows f
-      (subst (λ i. is_blocked k.0 i ≡ false) (sym (granted_by publisher.0 k.0 s.next_message l f (grant_written_loan_finds environment value default_header false 1 s publisher.0 k.0 k.1 k.2 none)))
+      (subst (λ i. is_blocked k.0 i ≡ false) (sym (grant_written_loan_publisher environment value default_header false 1 s publisher.0 k.0 k.1 l none f k.2))
       (grant_written_loan_unblocked environment value default_header false 1 s publisher.0 k.0 k.1 k.2 (not_blocked s publisher.0 publisher.1 is.0 is.1)))
       sends))
       (λ e _ j. by_equal s o _ j (quiet s k.0 (replied (SendRefused (NotLoaned e)) k.0) refl refl mid_keeps mid_advances mid_follows)))

@@ -1,5 +1,5 @@
 ghost use Rattle.iox2_runs.specs.Laws.{StepsKeepWellFormed, StepsLift};
-ghost use Rattle.iox2_runs.specs.RunLaws.{ReachedStatesHoldFew, WorstCaseOfSlotsGrants, SamplesNameTheirPublisher};
+ghost use Rattle.iox2_runs.specs.RunLaws.{ReachedStatesHoldFew, WorstCaseOfSlotsGrants, SamplesNameTheirPublisher, ReceivesInOrder, ReadsGiveWhatWasSent};
 
 /// Every step from a well-formed state ends in a well-formed one, whatever handlers answer and whether or not memory is
 /// refused.
@@ -31,5 +31,18 @@ pub fn worst_case_of_slots_grants<T, U>()
 /// The reply to a receive names the publisher that sent the message, and so does the message's header.
 pub fn samples_name_their_publisher<T, U>()
     ensures { SamplesNameTheirPublisher T U }
+{
+}
+
+/// What a subscriber receives from a publisher in a run is a part of what that publisher sent, in the same order, each
+/// message at most once.
+pub fn receives_in_order<T, U>()
+    ensures { ReceivesInOrder T U }
+{
+}
+
+/// Every read through a sample gives the message as it was sent, until the sample is released.
+pub fn reads_give_what_was_sent<T, U>()
+    ensures { ReadsGiveWhatWasSent T U }
 {
 }

@@ -1,5 +1,5 @@
 use crate::{
-    Command, Reply, reached_states_hold_few, samples_name_their_publisher, steps_keep_well_formed, steps_lift, worst_case_of_slots_grants,
+    Command, Reply, reached_states_hold_few, reads_give_what_was_sent, receives_in_order, samples_name_their_publisher, steps_keep_well_formed, steps_lift, worst_case_of_slots_grants,
 };
 use iox2_store::{LoanError, UniquePublisherId};
 
@@ -37,5 +37,7 @@ fn laws_stand_at_concrete_types() {
     steps_lift::<u64, u8>();
     reached_states_hold_few::<u64, u8>();
     samples_name_their_publisher::<u64, u8>();
+    receives_in_order::<u64, u8>();
+    reads_give_what_was_sent::<u64, u8>();
     worst_case_of_slots_grants::<u64, u8>();
 }
