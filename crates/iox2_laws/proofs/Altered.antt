@@ -7,7 +7,7 @@ use Rattle.std.proofs.lemmas.Option.{none-some, same_Some}
 use Rattle.iox2_store.specs.Limits.{buffer_limit}
 use Rattle.iox2_store.specs.Numbers.{put_at, contains, size}
 use Rattle.iox2_store.specs.Places.{occupants}
-use Rattle.iox2_store.specs.Mailbox.{Mailbox, numbers_in, has_numbers, has_borrows, waiting_count, IsWithin}
+use Rattle.iox2_store.specs.Mailbox.{Mailbox, numbers_in, has_numbers, has_borrows, has_data, waiting_count, IsWithin}
 use Rattle.iox2_store.specs.Records.{Loan, Publisher}
 use Rattle.iox2_store.specs.State.{State}
 use Rattle.iox2_store.specs.WellFormed.{LeadsTo, publisher_place, BlockedIsWellFormed, PublisherIsWellFormed, SubscriberIsWellFormed, MailboxIsWellFormed, LoanIsWellFormed, IsWellFormed}
@@ -78,6 +78,7 @@ module _ {T U : Type 0} where
       known = λ h. w.known (ap has_numbers (sym box) ∙ h);
       sender_end = λ x e h. w.sender_end x (sym same ∙ e) (ap has_numbers (sym box) ∙ h);
       receiver_end = λ h. w.receiver_end (ap has_borrows (sym box) ∙ h);
+      departed = λ gone h. w.departed (sym same ∙ gone) (ap has_data (sym box) ∙ h);
     }
 
     -- a loan stays well-formed where its publisher and that one's mailboxes stay the same
@@ -121,6 +122,8 @@ module _ {T U : Type 0} where
         unheld = none b.message (w.loans_below b.message v.is_out) v.unheld;
         ends = v.ends;
         unserved = λ q leads. ap (λ (m : ℕ → Mailbox). contains (numbers_in (m q)) b.message) row ∙ v.unserved q leads;
+        waits = v.waits;
+        count_bound = v.count_bound;
       };
     }
 
@@ -147,12 +150,13 @@ module _ {T U : Type 0} where
     pub altered_keeps : IsWellFormed s → s.publishers p ≡ Some x → x'.place ≡ x.place → s.next_message ≤ next
         → PublisherIsWellFormed (uniform s x' boxes loans next) p x'
         → ((q : ℕ) → MailboxIsWellFormed (uniform s x' boxes loans next) p q)
+        → ((q : ℕ) → has_borrows (s.mailboxes p q) ≡ true → has_borrows (boxes q) ≡ true)
         → ((n : ℕ) (l : Loan T U) → loans n ≡ Some l → ((s.loans n ≡ Some l) × (eqb l.publisher p ≡ false))
         ⊎ ((l.publisher ≡ p) × LoanIsWellFormed (uniform s x' boxes loans next) n l))
         → ((n : ℕ) (l : Loan T U) → s.loans n ≡ Some l → eqb l.publisher p ≡ false → loans n ≡ Some l)
         → ((n : ℕ) → n < s.next_message → s.loans n ≡ None → loans n ≡ None)
         → IsWellFormed (altered s p x' boxes loans next)
-    altered_keeps w here place more own row own_loans other_loans none = record {
+    altered_keeps w here place more own row still own_loans other_loans none = record {
       publisher_places = record {
         bound = (w.publisher_places).bound;
         stands = λ i at e. (w.publisher_places).stands i at (sym (place_alike here place i) ∙ e);
@@ -180,6 +184,11 @@ module _ {T U : Type 0} where
         expired_gone = λ i h. put_at-other s.publishers p (Some x') i (absent_apart s.publishers i p x (v.expired_gone i h) here) ∙ v.expired_gone i h;
         expired_kept = λ i h. ap (λ (m : ℕ → Mailbox). has_numbers (m q))
             (put_at-other s.mailboxes p boxes i (absent_apart s.publishers i p x (v.expired_gone i h) here)) ∙ v.expired_kept i h;
+        is_used = λ closed. let used : (i : ℕ) × (has_borrows (s.mailboxes i q) ≡ true) = v.is_used closed in (
+          used.0,
+          at_each s.mailboxes p boxes (λ i (m : ℕ → Mailbox). has_borrows (s.mailboxes i q) ≡ true → has_borrows (m q) ≡ true) used.0
+              (λ _. still q) (λ _ h. h) used.1,
+        );
       };
       mailboxes = λ i q.
           elim (eqb i p) as (λ b. eqb i p ≡ b → MailboxIsWellFormed (altered s p x' boxes loans next) i q) [
@@ -212,6 +221,7 @@ module _ {T U : Type 0} where
       sender_end = λ v e h. subst (λ (u : Publisher). LeadsTo u.ends q) (same_Some x' v e)
           (subst (λ places. LeadsTo places q) (sym ends) (w.sender_end x here (ap has_numbers (sym box) ∙ h)));
       receiver_end = λ h. w.receiver_end (ap has_borrows (sym box) ∙ h);
+      departed = λ gone _. absurd (none-some x' (sym gone));
     }
 
     -- a loan of the publisher stays well-formed where it stays out, and enters neither the history nor a mailbox

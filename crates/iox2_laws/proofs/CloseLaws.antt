@@ -1,15 +1,15 @@
 -- What closing a port keeps.
 use mathlib.Core.Path.{fun_ext}
-use Rattle.std.proofs.Common.{◌≡◌, ℕ, ◌≤◌, ◌<◌, Bool, true, false, cond, ◌||◌, List, refl, sym, ap, subst, ◌∙◌, arith, eqb, is_some, Option}
+use Rattle.std.proofs.Common.{◌≡◌, ℕ, ◌≤◌, ◌<◌, Bool, true, false, cond, ◌&&◌, ◌||◌, List, refl, sym, ap, subst, ◌∙◌, arith, eqb, is_some, Option}
 use Rattle.std.proofs.Common.{None, Some, ◌⊎◌, inl, inr, ⊎_elim}
 use Rattle.std.specs.List.{filter}
-use Rattle.std.specs.Option.{MatchOption, option_map}
-use Rattle.std.proofs.lemmas.Bool.{eqb-true, or_right}
+use Rattle.std.specs.Option.{MatchOption, option_map, option_map_or}
+use Rattle.std.proofs.lemmas.Bool.{true≢false, eqb-true, or_right, and_parts}
 use Rattle.std.proofs.lemmas.Option.{none-some, same_Some}
 use Rattle.iox2_store.specs.Limits.{buffer_limit}
 use Rattle.iox2_store.specs.Numbers.{contains, put_at}
-use Rattle.iox2_store.specs.Places.{occupant, vacated, places_of}
-use Rattle.iox2_store.specs.Mailbox.{Mailbox, numbers_in, has_numbers, has_borrows, waiting_count, waiting_dropped, IsWithin}
+use Rattle.iox2_store.specs.Places.{occupant, vacated, places_of, is_port}
+use Rattle.iox2_store.specs.Mailbox.{Mailbox, numbers_in, has_numbers, has_borrows, has_data, waiting_count, waiting_dropped, IsWithin}
 use Rattle.iox2_store.specs.Records.{Publisher, Subscriber}
 use Rattle.iox2_store.specs.State.{State, publishers_due}
 use Rattle.iox2_store.specs.Releases.{is_connected, pruned, subscriber_pruned}
@@ -21,11 +21,11 @@ use Rattle.iox2_laws.specs.Laws.{Advances}
 use Rattle.iox2_laws.proofs.Puts.{put_at-same, put_at-other, found_put, found_removed, found_mapped}
 use Rattle.iox2_laws.proofs.FilterLemmas.{contains_in_filter, contains-filter, IsOnce-filter, length-filter_le}
 use Rattle.iox2_laws.proofs.PlaceLemmas.{occupant-vacated, vacated_keeps, length-vacated, occupant-places_of, places_of_keeps, length-places_of}
-use Rattle.iox2_laws.proofs.PlaceLemmas.{injective_places_of}
-use Rattle.iox2_laws.proofs.MailboxLemmas.{has_numbers-borrows, has_numbers_dropped, IsWithin-dropped, contains_in_dropped}
-use Rattle.iox2_laws.proofs.ReleaseLaws.{freed_if_unused_keeps, freed_if_unused_advances}
+use Rattle.iox2_laws.proofs.PlaceLemmas.{injective_places_of, is_port-true}
+use Rattle.iox2_laws.proofs.MailboxLemmas.{has_numbers-borrows, has_numbers-data, has_numbers_dropped, IsWithin-dropped, contains_in_dropped}
+use Rattle.iox2_laws.proofs.Freed.{freed_if_unused_keeps, freed_if_unused_advances}
 use Rattle.iox2_laws.proofs.PortChanges.{changed, places_agree_by, place_of_publisher, place_of_subscriber, publisher_kept, subscriber_kept, loan_kept}
-use Rattle.iox2_laws.proofs.PortChanges.{publishers_due_keeps, subscribers_due_keeps}
+use Rattle.iox2_laws.proofs.PortChanges.{RestIsWellFormed, IsNearlyWellFormed, publishers_due_nearly, subscribers_due_keeps}
 use Rattle.iox2_laws.proofs.PortLaws.{advances_trans}
 
 -- ---- mailboxes that lose what waits
@@ -56,10 +56,10 @@ left_of_absent : (o : Option Publisher) (box : Mailbox) (b : Bool) → StillConn
 left_of_absent None box b e h absent = sym e ∙ h
 left_of_absent (Some x) box b e h absent = absurd (none-some x (sym absent))
 
-connected_by_borrows : (o : Option Publisher) (box : Mailbox) (b : Bool) → StillConnected o box b → has_borrows box ≡ true → b ≡ true
-connected_by_borrows o box b e h = e ∙ or_right (is_some o) (has_numbers box) (has_numbers-borrows box h)
+connected_by_numbers : (o : Option Publisher) (box : Mailbox) (b : Bool) → StillConnected o box b → has_numbers box ≡ true → b ≡ true
+connected_by_numbers o box b e h = e ∙ or_right (is_some o) (has_numbers box) h
 
--- The receiver's end stays where a message is borrowed.
+-- The receiver's end stays where there is a message.
 receiver_end_left : (test : ℕ → Bool) (expired : List ℕ) (ends : List (Option ℕ)) (p : ℕ) → test p ≡ true → (contains expired p ≡ true) ⊎ LeadsTo ends p
     → (contains (filter test expired) p ≡ true) ⊎ LeadsTo (places_of test ends) p
 receiver_end_left test expired ends p passes h =
@@ -97,8 +97,9 @@ module _ {T U : Type 0} where
   -- A subscriber that forgets the departed publishers of which it has nothing is well-formed.
   pruned_is : (s t : State T U) (test : ℕ → Bool) (q : ℕ) (y : Subscriber) → SubscriberIsWellFormed s q y
       → s.next_port ≤ t.next_port → FewerPublishers s.publishers t.publishers → ((p : ℕ) → StillConnected (t.publishers p) (t.mailboxes p q) (test p))
+      → (y.is_open ≡ false → (p : ℕ) × (has_borrows (t.mailboxes p q) ≡ true))
       → SubscriberIsWellFormed (changed s t) q (record y { ends = places_of test y.ends; expired = filter test y.expired })
-  pruned_is s t test q y w more fewer connected = record {
+  pruned_is s t test q y w more fewer connected used = record {
     is_known = omega (arith, w.is_known);
     some_room = w.some_room;
     buffer_bound = w.buffer_bound;
@@ -114,16 +115,20 @@ module _ {T U : Type 0} where
     expired_gone = λ p h. none_if_none (s.publishers p) (t.publishers p) (fewer p) (w.expired_gone p (contains_in_filter test y.expired p h).0);
     expired_kept = λ p h. left_of_absent (t.publishers p) (t.mailboxes p q) (test p) (connected p) (contains_in_filter test y.expired p h).1
         (none_if_none (s.publishers p) (t.publishers p) (fewer p) (w.expired_gone p (contains_in_filter test y.expired p h).0));
+    is_used = used;
   }
 
-  -- A mailbox that loses what waits, or doesn't, is well-formed where what is borrowed is still borrowed by somebody.
+  -- A mailbox that loses what waits, or doesn't, is well-formed where what is borrowed is still borrowed by somebody, and where
+  -- what waits from a departed publisher waits for somebody.
   mailbox_kept : (s t : State T U) (p q : ℕ) → MailboxIsWellFormed s p q
       → s.next_port ≤ t.next_port → FewerPublishers s.publishers t.publishers → LosesWaiting (s.mailboxes p q) (t.mailboxes p q)
       → ((y : Subscriber) → t.subscribers q ≡ Some y → waiting_count (s.mailboxes p q) ≤ y.buffer)
       → (has_borrows (t.mailboxes p q) ≡ true → has_borrows (s.mailboxes p q) ≡ true
       → (y : Subscriber) × (t.subscribers q ≡ Some y) × ((contains y.expired p ≡ true) ⊎ LeadsTo y.ends p))
+      → (t.publishers p ≡ None → has_data (t.mailboxes p q) ≡ true
+      → (y : Subscriber) × (t.subscribers q ≡ Some y) × (y.is_open ≡ true) × ((contains y.expired p ≡ true) ⊎ LeadsTo y.ends p))
       → MailboxIsWellFormed (changed s t) p q
-  mailbox_kept s t p q w more fewer loses room ends = record {
+  mailbox_kept s t p q w more fewer loses room ends departed = record {
     within = after_loss (λ v. IsWithin (buffer_limit s.config) (s.config).subscriber_max_borrowed_samples v) box (t.mailboxes p q) loses w.within
         (IsWithin-dropped (buffer_limit s.config) (s.config).subscriber_max_borrowed_samples box w.within);
     room = λ y e. after_loss (λ v. waiting_count v ≤ y.buffer) box (t.mailboxes p q) loses (room y e) (omega arith);
@@ -131,6 +136,7 @@ module _ {T U : Type 0} where
     known = λ h. let old : (p < s.next_port) × (q < s.next_port) = w.known (numbers_before h) in (omega (arith, old.0), omega (arith, old.1));
     sender_end = λ x e h. w.sender_end x (fewer p x e) (numbers_before h);
     receiver_end = λ h. ends h (after_loss (λ v. has_borrows v ≡ true → has_borrows box ≡ true) box (t.mailboxes p q) loses (λ k. k) (λ k. k) h);
+    departed = departed;
   }
     where
       box : Mailbox
@@ -150,6 +156,38 @@ module _ {T U : Type 0} where
         | false ↦ λ _. inl refl
       ] refl
 
+  -- What waits from a publisher that is gone waits for an open subscriber that has its end.
+  gone_waits : (s : State T U) → IsWellFormed s → (p : ℕ) (x : Publisher) (i q : ℕ) → (publisher_gone s p x).publishers i ≡ None
+      → has_data ((publisher_gone s p x).mailboxes i q) ≡ true
+      → (y : Subscriber) × (s.subscribers q ≡ Some y) × (y.is_open ≡ true) × ((contains y.expired i ≡ true) ⊎ LeadsTo y.ends i)
+  gone_waits s w p x i q gone h =
+      elim (eqb i p) as (λ b. eqb i p ≡ b → cond b None (s.publishers i) ≡ None → has_data (cond b (mailbox_after_publisher s p x) (s.mailboxes i) q) ≡ true
+      → (y : Subscriber) × (s.subscribers q ≡ Some y) × (y.is_open ≡ true) × ((contains y.expired i ≡ true) ⊎ LeadsTo y.ends i)) [
+        | true ↦ λ same _ h. subst (λ j. (y : Subscriber) × (s.subscribers q ≡ Some y) × (y.is_open ≡ true) × ((contains y.expired j ≡ true) ⊎ LeadsTo y.ends j))
+            (sym (eqb-true i p same)) (own_waits h)
+        | false ↦ λ _ gone h. (w.mailboxes i q).departed gone h
+      ] refl gone h
+    where
+      has_end : Subscriber → Bool
+      has_end y = y.is_open && is_port (occupant y.ends x.place) p
+
+      open_with_end : (o : Option Subscriber) → option_map_or has_end o false ≡ true
+          → (y : Subscriber) × (o ≡ Some y) × (y.is_open ≡ true) × ((contains y.expired p ≡ true) ⊎ LeadsTo y.ends p)
+      open_with_end None e = absurd (true≢false (sym e))
+      open_with_end (Some y) e =
+          let parts : (y.is_open ≡ true) × (is_port (occupant y.ends x.place) p ≡ true) = and_parts y.is_open (is_port (occupant y.ends x.place) p) e in
+          (y, refl, parts.0, inr (x.place, is_port-true (occupant y.ends x.place) p parts.1))
+
+      own_waits : has_data (mailbox_after_publisher s p x q) ≡ true
+          → (y : Subscriber) × (s.subscribers q ≡ Some y) × (y.is_open ≡ true) × ((contains y.expired p ≡ true) ⊎ LeadsTo y.ends p)
+      own_waits =
+          elim (option_map_or has_end (s.subscribers q) false) as (λ b. option_map_or has_end (s.subscribers q) false ≡ b
+          → has_data (cond b (s.mailboxes p q) (waiting_dropped (s.mailboxes p q))) ≡ true
+          → (y : Subscriber) × (s.subscribers q ≡ Some y) × (y.is_open ≡ true) × ((contains y.expired p ≡ true) ⊎ LeadsTo y.ends p)) [
+            | true ↦ λ e _. open_with_end (s.subscribers q) e
+            | false ↦ λ _ h. absurd (true≢false (sym h))
+          ] refl
+
   -- A publisher that is gone, and subscribers that forgot what departed, leave the state well-formed.
   publisher_gone_keeps : (s : State T U) → IsWellFormed s → (p : ℕ) (x : Publisher) → IsWellFormed (subscribers_pruned (publisher_gone s p x))
   publisher_gone_keeps s w p x = record {
@@ -163,7 +201,8 @@ module _ {T U : Type 0} where
         (λ v g k. ap (λ (u : Subscriber). u.place) k ∙ (w.publishers i z old).ends_stand place q v at g)));
     subscribers = λ q y e. found_mapped (pruned t q) (s.subscribers q) y (SubscriberIsWellFormed s' q y) e (λ v g k.
         subst (SubscriberIsWellFormed s' q) (sym k)
-        (pruned_is s s' (is_connected t q) q v (w.subscribers q v g) (omega arith) fewer (λ i. refl)));
+        (pruned_is s s' (is_connected t q) q v (w.subscribers q v g) (omega arith) fewer (λ i. refl)
+        (λ closed. let used : (i : ℕ) × (has_borrows (s.mailboxes i q) ≡ true) = (w.subscribers q v g).is_used closed in (used.0, borrowed_still used.0 q used.1))));
     mailboxes = λ i q. mailbox_kept s s' i q (w.mailboxes i q) (omega arith) fewer (gone_loses s p x i q)
         (λ y e. found_mapped (pruned t q) (s.subscribers q) y (waiting_count (s.mailboxes i q) ≤ y.buffer) e (λ v g k.
         subst (λ (u : Subscriber). waiting_count (s.mailboxes i q) ≤ u.buffer) (sym k) ((w.mailboxes i q).room v g)))
@@ -172,7 +211,15 @@ module _ {T U : Type 0} where
           pruned t q found.0,
           ap (λ o. option_map (pruned t q) o) found.1,
           receiver_end_left (is_connected t q) (found.0).expired (found.0).ends i
-              (connected_by_borrows (t.publishers i) (t.mailboxes i q) (is_connected t q i) refl h) found.2,
+              (connected_by_numbers (t.publishers i) (t.mailboxes i q) (is_connected t q i) refl (has_numbers-borrows (t.mailboxes i q) h)) found.2,
+        ))
+        (λ gone h. let found : (y : Subscriber) × (s.subscribers q ≡ Some y) × (y.is_open ≡ true) × ((contains y.expired i ≡ true) ⊎ LeadsTo y.ends i) =
+        gone_waits s w p x i q gone h in (
+          pruned t q found.0,
+          ap (λ o. option_map (pruned t q) o) found.1,
+          found.2,
+          receiver_end_left (is_connected t q) (found.0).expired (found.0).ends i
+              (connected_by_numbers (t.publishers i) (t.mailboxes i q) (is_connected t q i) refl (has_numbers-data (t.mailboxes i q) h)) found.3,
         ));
     loans = λ n l e. loan_kept s s' n l (w.loans n l e)
         (omega arith) (λ q. loss_has_fewer (s.mailboxes l.publisher q) (s'.mailboxes l.publisher q) (gone_loses s p x l.publisher q))
@@ -187,6 +234,10 @@ module _ {T U : Type 0} where
 
       fewer : FewerPublishers s.publishers s'.publishers
       fewer i z e = found_removed s.publishers p i z (s.publishers i ≡ Some z) e (λ _ old. old)
+
+      borrowed_still : (i q : ℕ) → has_borrows (s.mailboxes i q) ≡ true → has_borrows (s'.mailboxes i q) ≡ true
+      borrowed_still i q = after_loss (λ v. has_borrows (s.mailboxes i q) ≡ true → has_borrows v ≡ true) (s.mailboxes i q) (s'.mailboxes i q)
+          (gone_loses s p x i q) (λ h. h) (λ h. h)
 
       subscriber_stays : (q : ℕ) (o : Option Subscriber) → place_of_subscriber (option_map (pruned t q) o) ≡ place_of_subscriber o
       subscriber_stays q None = refl
@@ -210,8 +261,9 @@ module _ {T U : Type 0} where
         | false ↦ λ _. inl refl
       ] refl
 
-  shut_is : (s : State T U) (q : ℕ) (y : Subscriber) → SubscriberIsWellFormed s q y → SubscriberIsWellFormed s q (record y { is_open = false })
-  shut_is s q y w = record {
+  -- A subscriber would be well-formed if it were open.
+  opened_is : (s : State T U) (q : ℕ) (y : Subscriber) → SubscriberIsWellFormed s q y → SubscriberIsWellFormed s q (record y { is_open = true })
+  opened_is s q y w = record {
     is_known = w.is_known;
     some_room = w.some_room;
     buffer_bound = w.buffer_bound;
@@ -225,6 +277,7 @@ module _ {T U : Type 0} where
     expired_known = w.expired_known;
     expired_gone = w.expired_gone;
     expired_kept = w.expired_kept;
+    is_used = λ closed. absurd (true≢false closed);
   }
 
   -- The subscriber q is closed and has forgotten what departed; nobody is due for it yet.
@@ -234,8 +287,18 @@ module _ {T U : Type 0} where
     mailboxes = (subscriber_shut s q y).mailboxes;
   }
 
-  shut_and_pruned_keeps : (s : State T U) → IsWellFormed s → (q : ℕ) (y : Subscriber) → s.subscribers q ≡ Some y → IsWellFormed (shut_and_pruned s q y)
-  shut_and_pruned_keeps s w q y here = record {
+  -- Whoever is connected when the publishers are due is so before.
+  shut_connected : (s : State T U) (q : ℕ) (y : Subscriber) (p : ℕ)
+      → StillConnected (s.publishers p) ((shut_and_pruned s q y).mailboxes p q) (is_connected (subscriber_shut s q y) q p)
+  shut_connected s q y p = present (s.publishers p) (has_numbers ((shut_and_pruned s q y).mailboxes p q))
+    where
+      present : (o : Option Publisher) (b : Bool)
+          → (is_some (option_map {T = Publisher} {U = Publisher} (λ x. record x { is_due = true }) o) || b) ≡ (is_some o || b)
+      present None b = refl
+      present (Some x) b = refl
+
+  shut_and_pruned_rest : (s : State T U) → IsWellFormed s → (q : ℕ) (y : Subscriber) → s.subscribers q ≡ Some y → RestIsWellFormed (shut_and_pruned s q y)
+  shut_and_pruned_rest s w q y here = record {
     publisher_places = w.publisher_places;
     subscriber_places = places_agree_by (s.config).max_subscribers s.subscriber_places (subscriber_place s) (subscriber_place s') w.subscriber_places place_stays;
     publishers = λ p x e. publisher_kept s s' p x (w.publishers p x e)
@@ -243,16 +306,12 @@ module _ {T U : Type 0} where
         (λ place r v at found. found_put s.subscribers q new (λ r v. occupant x.ends place ≡ Some r → v.place ≡ place) r v found
         (λ _ at. (w.publishers p x e).ends_stand place q y at here)
         (λ _ old at. (w.publishers p x e).ends_stand place r v at old) at);
-    subscribers = λ r v e. found_put s.subscribers q new (λ r v. SubscriberIsWellFormed s' r v) r v e
-        (λ _. pruned_is s s' (is_connected t q) q (record y { is_open = false })
-        (shut_is s q y (w.subscribers q y here)) (omega arith) (λ p x e. e) connected)
-        (λ apart old. subscriber_kept s s' r v (w.subscribers r v old)
-        (omega arith) (λ p. put_at-other (s.mailboxes p) q (mailbox_after_subscriber s q p) r apart) (λ p _. refl));
     mailboxes = λ p r. mailbox_kept s s' p r (w.mailboxes p r)
         (omega arith) (λ p x e. e) (shut_loses s q p r)
         (λ v e. found_put s.subscribers q new (λ r v. waiting_count (s.mailboxes p r) ≤ v.buffer) r v e
         (λ _. (w.mailboxes p q).room y here) (λ _ old. (w.mailboxes p r).room v old))
-        (λ h before. receiver_end_stays p r h ((w.mailboxes p r).receiver_end before));
+        (λ h before. receiver_end_stays p r h ((w.mailboxes p r).receiver_end before))
+        (departed_waits p r);
     loans = λ n l e. loan_kept s s' n l (w.loans n l e)
         (omega arith) (λ r. loss_has_fewer (s.mailboxes l.publisher r) (s'.mailboxes l.publisher r) (shut_loses s q l.publisher r)) (w.loans n l e).is_out;
   }
@@ -273,14 +332,6 @@ module _ {T U : Type 0} where
             | false ↦ λ _. refl
           ] refl
 
-      present : (o : Option Publisher) (b : Bool)
-          → (is_some (option_map {T = Publisher} {U = Publisher} (λ x. record x { is_due = true }) o) || b) ≡ (is_some o || b)
-      present None b = refl
-      present (Some x) b = refl
-
-      connected : (p : ℕ) → StillConnected (s.publishers p) (s'.mailboxes p q) (is_connected t q p)
-      connected p = present (s.publishers p) (has_numbers (s'.mailboxes p q))
-
       receiver_end_stays : (p r : ℕ) → has_borrows (s'.mailboxes p r) ≡ true
           → (v : Subscriber) × (s.subscribers r ≡ Some v) × ((contains v.expired p ≡ true) ⊎ LeadsTo v.ends p)
           → (v : Subscriber) × (s'.subscribers r ≡ Some v) × ((contains v.expired p ≡ true) ⊎ LeadsTo v.ends p)
@@ -290,13 +341,45 @@ module _ {T U : Type 0} where
               new,
               refl,
               receiver_end_left (is_connected t q) y.expired y.ends p
-                  (connected_by_borrows (s.publishers p) (s'.mailboxes p q) (is_connected t q p) (connected p)
-                  (subst (λ j. has_borrows (s'.mailboxes p j) ≡ true) (eqb-true r q same) h))
+                  (connected_by_numbers (s.publishers p) (s'.mailboxes p q) (is_connected t q p) (shut_connected s q y p)
+                  (has_numbers-borrows (s'.mailboxes p q) (subst (λ j. has_borrows (s'.mailboxes p j) ≡ true) (eqb-true r q same) h)))
                   (subst (λ (u : Subscriber). (contains u.expired p ≡ true) ⊎ LeadsTo u.ends p)
                   (same_Some found.0 y (sym found.1 ∙ ap s.subscribers (eqb-true r q same) ∙ here)) found.2),
             )
             | false ↦ λ _. found
           ] refl
+
+      -- what waits from a departed publisher waits for another subscriber
+      departed_waits : (p r : ℕ) → s.publishers p ≡ None → has_data (s'.mailboxes p r) ≡ true
+          → (v : Subscriber) × (s'.subscribers r ≡ Some v) × (v.is_open ≡ true) × ((contains v.expired p ≡ true) ⊎ LeadsTo v.ends p)
+      departed_waits p r gone h =
+          elim (eqb r q) as (λ b. eqb r q ≡ b → has_data (cond b (mailbox_after_subscriber s q p) (s.mailboxes p r)) ≡ true
+          → (v : Subscriber) × (cond b (Some new) (s.subscribers r) ≡ Some v) × (v.is_open ≡ true) × ((contains v.expired p ≡ true) ⊎ LeadsTo v.ends p)) [
+            | true ↦ λ _ h. absurd (true≢false (sym h
+                ∙ ap (λ (o : Option Publisher). has_data (cond (is_some o) (s.mailboxes p q) (waiting_dropped (s.mailboxes p q)))) gone))
+            | false ↦ λ _ h. (w.mailboxes p r).departed gone h
+          ] refl h
+
+  -- A subscriber that is closed and has forgotten what departed leaves the state nearly well-formed.
+  shut_and_pruned_nearly : (s : State T U) → IsWellFormed s → (q : ℕ) (y : Subscriber) → s.subscribers q ≡ Some y → IsNearlyWellFormed (shut_and_pruned s q y) q
+  shut_and_pruned_nearly s w q y here = record {
+    rest = shut_and_pruned_rest s w q y here;
+    others = λ r v apart e. subscriber_kept s s' r v (w.subscribers r v (sym (put_at-other s.subscribers q (Some new) r apart) ∙ e))
+        (omega arith) (λ p. put_at-other (s.mailboxes p) q (mailbox_after_subscriber s q p) r apart) (λ p _. refl);
+    own = λ v e. subst (λ (u : Subscriber). SubscriberIsWellFormed s' q (record u { is_open = true }))
+        (same_Some new v (sym (put_at-same s.subscribers q (Some new)) ∙ e))
+        (pruned_is s s' (is_connected t q) q (record y { is_open = true }) (opened_is s q y (w.subscribers q y here)) (omega arith) (λ p x e. e)
+        (shut_connected s q y) (λ closed. absurd (true≢false closed)));
+  }
+    where
+      t : State T U
+      t = subscriber_shut s q y
+
+      s' : State T U
+      s' = shut_and_pruned s q y
+
+      new : Subscriber
+      new = pruned t q (record y { is_open = false })
 
   -- It is the same whether the publishers are due before the subscriber forgets, or after.
   shut_then_pruned : (s : State T U) (q : ℕ) (y : Subscriber) → publishers_due (shut_and_pruned s q y) ≡ subscriber_pruned (subscriber_shut s q y) q
@@ -316,8 +399,8 @@ module _ {T U : Type 0} where
   -- A subscriber that is closed leaves the state well-formed.
   pub subscriber_closed_keeps : (s : State T U) → IsWellFormed s → (q : ℕ) (y : Subscriber) → s.subscribers q ≡ Some y → IsWellFormed (subscriber_closed s q y)
   subscriber_closed_keeps s w q y here =
-      freed_if_unused_keeps (subscriber_pruned (subscriber_shut s q y) q)
-      (subst IsWellFormed (shut_then_pruned s q y) (publishers_due_keeps (shut_and_pruned s q y) (shut_and_pruned_keeps s w q y here))) q
+      freed_if_unused_keeps (subscriber_pruned (subscriber_shut s q y) q) q
+      (subst (λ t. IsNearlyWellFormed t q) (shut_then_pruned s q y) (publishers_due_nearly (shut_and_pruned s q y) q (shut_and_pruned_nearly s w q y here)))
 
   -- A subscriber that is closed lets no counter fall.
   pub subscriber_closed_advances : (s : State T U) (q : ℕ) (y : Subscriber) → Advances s (subscriber_closed s q y)

@@ -32,6 +32,7 @@ fresh_mailbox c p q = record {
   known = λ h. absurd (true≢false (sym h));
   sender_end = λ x e. absurd (none-some x e);
   receiver_end = λ h. absurd (true≢false (sym h));
+  departed = λ _ h. absurd (true≢false (sym h));
 }
 
 -- a new domain's state is well-formed

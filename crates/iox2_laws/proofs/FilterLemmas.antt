@@ -1,5 +1,5 @@
 -- Lists of which some elements stay.
-use Rattle.std.proofs.Common.{◌≡◌, ℕ, suc, ◌≤◌, Bool, true, false, cond, List, [], ◌∷◌, length, refl, sym, ap, ◌∙◌, arith, eqb, ⊎_elim}
+use Rattle.std.proofs.Common.{◌≡◌, ℕ, suc, ◌≤◌, Bool, true, false, cond, ◌&&◌, List, [], ◌∷◌, length, refl, sym, ap, ◌∙◌, arith, eqb, ⊎_elim}
 use Rattle.std.specs.List.{filter, list_all}
 use Rattle.std.proofs.lemmas.Bool.{true≢false, or_left, or_right, or_cases, eqb-true, and_parts}
 use Rattle.iox2_laws.proofs.NumberLemmas.{absent_from}
@@ -56,3 +56,12 @@ passes_all test [] n all h = absurd (true≢false (sym h))
 passes_all test (k ∷ ns) n all h =
     let parts : (test k ≡ true) × (list_all test ns ≡ true) = and_parts (test k) (list_all test ns) all in
     ⊎_elim (λ kn. ap test (sym (eqb-true k n kn)) ∙ parts.0) (λ r. passes_all test ns n parts.1 r) (or_cases (eqb k n) (contains ns n) h)
+
+-- A test that not each number of a list passes fails at one of them.
+pub some_fails : (test : ℕ → Bool) (ns : List ℕ) → list_all test ns ≡ false → (n : ℕ) × (test n ≡ false)
+some_fails test [] h = absurd (true≢false h)
+some_fails test (k ∷ ns) h =
+    elim (test k) as (λ b. test k ≡ b → (b && list_all test ns) ≡ false → (n : ℕ) × (test n ≡ false)) [
+      | true ↦ λ _ h. some_fails test ns h
+      | false ↦ λ fails _. (k, fails)
+    ] refl h

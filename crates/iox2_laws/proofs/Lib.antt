@@ -9,6 +9,7 @@ pub mod Walks
 pub mod SenderSides
 pub mod PublisherUpdates
 pub mod FilterLemmas
+pub mod Freed
 pub mod ReleaseLaws
 pub mod ReceiverSides
 pub mod SubscriberUpdates

@@ -77,6 +77,7 @@ module _ {T U : Type 0} where
       expired_known = v.expired_known;
       expired_gone = v.expired_gone;
       expired_kept = v.expired_kept;
+      is_used = v.is_used;
     };
     mailboxes = λ p q. mailbox_moves s s.publishers s.mailboxes loans s.next_message (le_refl s.next_message) p q refl refl (w.mailboxes p q);
     loans = λ n l e. loan_moves s s.publishers s.mailboxes loans s.next_message (le_refl s.next_message) n l refl refl (own n l e);
@@ -200,6 +201,8 @@ module _ {T U : Type 0} where
             unheld = put_at-other s.loans n None b.message apart ∙ u.unheld;
             ends = u.ends;
             unserved = u.unserved;
+            waits = u.waits;
+            count_bound = u.count_bound;
           };
     }
 
@@ -220,6 +223,7 @@ module _ {T U : Type 0} where
               (discarded_publisher x here)
               (λ q. mailbox_stays s l.publisher x (record x { loans = without n x.loans }) (s.mailboxes l.publisher) (put_at s.loans n None) s.next_message
               here (le_refl s.next_message) q refl refl (w.mailboxes l.publisher q))
+              (λ q h. h)
               (λ m u e. found_removed s.loans n m u _ e (λ apart e.
               elim (eqb u.publisher l.publisher) as (λ b. eqb u.publisher l.publisher ≡ b → ((s.loans m ≡ Some u) × (b ≡ false)) ⊎ ((u.publisher ≡ l.publisher)
               × LoanIsWellFormed (uniform s (record x { loans = without n x.loans }) (s.mailboxes l.publisher) (put_at s.loans n None) s.next_message) m
@@ -305,6 +309,8 @@ module _ {T U : Type 0} where
         unheld = old_loan b.message (v.loans_below b.message u.is_out) ∙ u.unheld;
         ends = u.ends;
         unserved = u.unserved;
+        waits = u.waits;
+        count_bound = u.count_bound;
       };
     }
 
@@ -335,6 +341,7 @@ module _ {T U : Type 0} where
         (lender_is_well_formed room free some few)
         (λ q. mailbox_stays s p x lender (s.mailboxes p) (put_at s.loans s.next_message (Some (granted default_header s p len))) (s.next_message + 1) here
         (omega arith) q refl refl (w.mailboxes p q))
+        (λ q h. h)
         (λ m u e. found_put s.loans s.next_message (granted default_header s p len)
         (λ i l. ((s.loans i ≡ Some l) × (eqb l.publisher p ≡ false))
         ⊎ ((l.publisher ≡ p) × LoanIsWellFormed
@@ -480,5 +487,5 @@ module _ {T U : Type 0} where
         → l.publisher ≡ p
     grant_written_loan_publisher refusal l none found h =
         let there : (k : Loan T U) × (s'.loans s.next_message ≡ Some k) × (k.publisher ≡ p) × (k.is_written ≡ true) × (s.next_message < s'.next_message) =
-            grant_written_loan_finds refusal h none in
+        grant_written_loan_finds refusal h none in
         ap (λ (k : Loan T U). k.publisher) (same_Some l there.0 (sym found ∙ there.1)) ∙ there.2

@@ -200,6 +200,18 @@ has_numbers-borrowed n box box' borrows = (
       (contains_right borrows.0 (box.borrowed ++ n ∷ []) n (contains_right box.borrowed (n ∷ []) n (contains_first n [])))),
 )
 
+-- something waits where a message is received
+pub has_data-borrowed : (n : ℕ) (box box' : Mailbox) → BorrowsFirst box n box' → has_data box ≡ true
+has_data-borrowed n box box' borrows = ap (λ ws. not (is_nil ws)) borrows.1
+
+-- something is borrowed after a message was received
+pub has_borrows-borrowed : (n : ℕ) (box box' : Mailbox) → BorrowsFirst box n box' → has_borrows box' ≡ true
+has_borrows-borrowed n box box' borrows = ap has_borrows borrows.2 ∙ some_with_last box.borrowed n
+  where
+    some_with_last : (ns : List ℕ) (n : ℕ) → not (is_nil (ns ++ n ∷ [])) ≡ true
+    some_with_last [] n = refl
+    some_with_last (m ∷ ns) n = refl
+
 -- a mailbox keeps its bounds when a number is released
 pub IsWithin-released : (limit borrow_limit n : ℕ) (box : Mailbox) → IsWithin limit borrow_limit box → IsWithin limit borrow_limit (with_released n box)
 IsWithin-released limit borrow_limit n box w = record {

@@ -1,12 +1,12 @@
 -- What every change of ports, mailboxes and places keeps; ports that become due; warnings.
-use Rattle.std.proofs.Common.{◌≡◌, ℕ, ◌≤◌, ◌<◌, true, false, List, ◌++◌, refl, sym, ap, subst, ◌∙◌, arith, Option, None, Some, ◌⊎◌, ⊎_elim}
+use Rattle.std.proofs.Common.{◌≡◌, ℕ, ◌≤◌, ◌<◌, true, false, eqb, List, ◌++◌, refl, sym, ap, subst, ◌∙◌, arith, Option, None, Some, ◌⊎◌, ⊎_elim}
 use Rattle.std.specs.List.{flat_map}
 use Rattle.std.specs.Option.{MatchOption, option_map}
 use Rattle.std.proofs.lemmas.Bool.{true≢false}
 use Rattle.std.proofs.lemmas.Option.{none-some, same_Some}
 use Rattle.iox2_store.specs.Numbers.{contains, size}
 use Rattle.iox2_store.specs.Places.{occupant, occupants}
-use Rattle.iox2_store.specs.Mailbox.{Mailbox, numbers_in, has_numbers, waiting_count}
+use Rattle.iox2_store.specs.Mailbox.{Mailbox, numbers_in, has_numbers, has_borrows, waiting_count}
 use Rattle.iox2_store.specs.Records.{Loan, Publisher, Subscriber}
 use Rattle.iox2_store.specs.State.{State, publishers_due, subscribers_due}
 use Rattle.iox2_store.specs.WellFormed.{LeadsTo, PlacesAgree, publisher_place, subscriber_place, BlockedIsWellFormed, PublisherIsWellFormed}
@@ -72,6 +72,10 @@ publisher_stays : (o : Option Publisher) → place_of_publisher (option_map due_
 publisher_stays None = refl
 publisher_stays (Some x) = refl
 
+none_before : (o : Option Publisher) → option_map due_publisher o ≡ None → o ≡ None
+none_before None e = refl
+none_before (Some x) e = absurd (none-some (due_publisher x) (sym e))
+
 subscriber_stays : (o : Option Subscriber) → place_of_subscriber (option_map due_subscriber o) ≡ place_of_subscriber o
 subscriber_stays None = refl
 subscriber_stays (Some y) = refl
@@ -120,6 +124,8 @@ module _ {T U : Type 0} where
       unheld = v.unheld;
       ends = v.ends;
       unserved = λ q h. fewer_absent s t p q b.message (fewer q) (v.unserved q h);
+      waits = v.waits;
+      count_bound = v.count_bound;
     };
   }
 
@@ -141,7 +147,8 @@ module _ {T U : Type 0} where
     slots_bound = w.slots_bound;
     some_segment = w.some_segment;
     segments_bound = w.segments_bound;
-    blocked = λ b e. let v : BlockedIsWellFormed s p x b = w.blocked b e in record { is_out = v.is_out; unheld = v.unheld; ends = v.ends; unserved = v.unserved };
+    blocked = λ b e. let v : BlockedIsWellFormed s p x b = w.blocked b e in
+        record { is_out = v.is_out; unheld = v.unheld; ends = v.ends; unserved = v.unserved; waits = v.waits; count_bound = v.count_bound };
   }
 
   -- A subscriber that is due is as well-formed as before.
@@ -160,6 +167,7 @@ module _ {T U : Type 0} where
     expired_known = w.expired_known;
     expired_gone = w.expired_gone;
     expired_kept = w.expired_kept;
+    is_used = w.is_used;
   }
 
   -- A subscriber stays well-formed where its mailboxes are the same and the publishers that it knows keep their places.
@@ -181,6 +189,7 @@ module _ {T U : Type 0} where
     expired_known = λ p h. omega (arith, w.expired_known p h);
     expired_gone = λ p h. still_none (s.publishers p) (t.publishers p) (places p (w.expired_known p h)) (w.expired_gone p h);
     expired_kept = λ p h. subst (λ (box : Mailbox). has_numbers box ≡ true) (sym (same p)) (w.expired_kept p h);
+    is_used = λ closed. let used : (p : ℕ) × (has_borrows (s.mailboxes p q) ≡ true) = w.is_used closed in (used.0, ap has_borrows (same used.0) ∙ used.1);
   }
 
   -- A loan stays well-formed where its publisher's mailboxes get no numbers, and where it is still out.
@@ -197,6 +206,43 @@ module _ {T U : Type 0} where
     unsent = λ q. fewer_absent s t l.publisher q n (fewer q) (w.unsent q);
   }
 
+  -- ---- all but the subscribers
+
+  -- What makes a state well-formed, but for what it says of the subscribers.
+  pub record RestIsWellFormed (s : State T U) : Type 0 where
+    pub publisher_places : PlacesAgree (s.config).max_publishers s.publisher_places (publisher_place s)
+    pub subscriber_places : PlacesAgree (s.config).max_subscribers s.subscriber_places (subscriber_place s)
+    pub publishers : (p : ℕ) (x : Publisher) → s.publishers p ≡ Some x → PublisherIsWellFormed s p x
+    pub mailboxes : (p q : ℕ) → MailboxIsWellFormed s p q
+    pub loans : (n : ℕ) (l : Loan T U) → s.loans n ≡ Some l → LoanIsWellFormed s n l
+
+  -- A state that is well-formed, but that the subscriber q may be closed and have nothing borrowed: it would be fine if it were open.
+  pub record IsNearlyWellFormed (s : State T U) (q : ℕ) : Type 0 where
+    pub rest : RestIsWellFormed s
+    pub others : (r : ℕ) (y : Subscriber) → eqb r q ≡ false → s.subscribers r ≡ Some y → SubscriberIsWellFormed s r y
+    pub own : (y : Subscriber) → s.subscribers q ≡ Some y → SubscriberIsWellFormed s q (record y { is_open = true })
+
+  -- A well-formed state without what it says of the subscribers.
+  pub rest_of : (s : State T U) → IsWellFormed s → RestIsWellFormed s
+  rest_of s w = record {
+    publisher_places = w.publisher_places;
+    subscriber_places = w.subscriber_places;
+    publishers = w.publishers;
+    mailboxes = w.mailboxes;
+    loans = w.loans;
+  }
+
+  -- With well-formed subscribers the state is well-formed.
+  pub with_rest : (s : State T U) → RestIsWellFormed s → ((q : ℕ) (y : Subscriber) → s.subscribers q ≡ Some y → SubscriberIsWellFormed s q y) → IsWellFormed s
+  with_rest s w subscribers = record {
+    publisher_places = w.publisher_places;
+    subscriber_places = w.subscriber_places;
+    publishers = w.publishers;
+    subscribers = subscribers;
+    mailboxes = w.mailboxes;
+    loans = w.loans;
+  }
+
   -- ---- warnings, and ports that become due
 
   -- Warnings don't matter.
@@ -206,8 +252,15 @@ module _ {T U : Type 0} where
     subscriber_places = w.subscriber_places;
     publishers = λ p x e. publisher_kept s s' p x (w.publishers p x e) (omega arith) (λ q n h. h) (w.publishers p x e).ends_stand;
     subscribers = λ q y e. subscriber_kept s s' q y (w.subscribers q y e) (omega arith) (λ p. refl) (λ p _. refl);
-    mailboxes = λ p q. let v : MailboxIsWellFormed s p q = w.mailboxes p q in
-        record { within = v.within; room = v.room; below = v.below; known = v.known; sender_end = v.sender_end; receiver_end = v.receiver_end };
+    mailboxes = λ p q. let v : MailboxIsWellFormed s p q = w.mailboxes p q in record {
+      within = v.within;
+      room = v.room;
+      below = v.below;
+      known = v.known;
+      sender_end = v.sender_end;
+      receiver_end = v.receiver_end;
+      departed = v.departed;
+    };
     loans = λ n l e. loan_kept s s' n l (w.loans n l e) (omega arith) (λ q n h. h) (w.loans n l e).is_out;
   }
     where
@@ -235,6 +288,10 @@ module _ {T U : Type 0} where
           (λ z f g. subst (λ (u : Subscriber). waiting_count (s.mailboxes p q) ≤ u.buffer) (sym g) (v.room z f));
       receiver_end = λ h. let found : (y : Subscriber) × (s.subscribers q ≡ Some y) × ((contains y.expired p ≡ true) ⊎ LeadsTo y.ends p) = v.receiver_end h in
           (due_subscriber found.0, ap (λ o. option_map due_subscriber o) found.1, found.2);
+      departed = λ gone h.
+          let found : (y : Subscriber) × (s.subscribers q ≡ Some y) × (y.is_open ≡ true) × ((contains y.expired p ≡ true) ⊎ LeadsTo y.ends p) =
+          v.departed gone h in
+          (due_subscriber found.0, ap (λ o. option_map due_subscriber o) found.1, found.2, found.3);
     };
     loans = λ n l e. loan_kept s s' n l (w.loans n l e) (omega arith) (λ q n h. h) (w.loans n l e).is_out;
   }
@@ -242,16 +299,14 @@ module _ {T U : Type 0} where
       s' : State T U
       s' = subscribers_due s
 
-  -- A state whose publishers are due is as well-formed as before.
-  pub publishers_due_keeps : (s : State T U) → IsWellFormed s → IsWellFormed (publishers_due s)
-  publishers_due_keeps s w = record {
+  publishers_due_rest : (s : State T U) → RestIsWellFormed s → RestIsWellFormed (publishers_due s)
+  publishers_due_rest s w = record {
     publisher_places = places_agree_by (s.config).max_publishers s.publisher_places (publisher_place s) (publisher_place s') w.publisher_places
         (λ p. publisher_stays (s.publishers p));
     subscriber_places = w.subscriber_places;
     publishers = λ p x e. found_mapped due_publisher (s.publishers p) x (PublisherIsWellFormed s' p x) e (λ z f g.
         subst (PublisherIsWellFormed s' p) (sym g)
         (publisher_due s' p z (publisher_kept s s' p z (w.publishers p z f) (omega arith) (λ q n h. h) (w.publishers p z f).ends_stand)));
-    subscribers = λ q y e. subscriber_kept s s' q y (w.subscribers q y e) (omega arith) (λ p. refl) (λ p _. publisher_stays (s.publishers p));
     mailboxes = λ p q. let v : MailboxIsWellFormed s p q = w.mailboxes p q in record {
       within = v.within;
       room = v.room;
@@ -260,6 +315,7 @@ module _ {T U : Type 0} where
       receiver_end = v.receiver_end;
       sender_end = λ x e h. found_mapped due_publisher (s.publishers p) x (LeadsTo x.ends q) e
           (λ z f g. subst (λ (u : Publisher). LeadsTo u.ends q) (sym g) (v.sender_end z f h));
+      departed = λ gone h. v.departed (none_before (s.publishers p) gone) h;
     };
     loans = λ n l e. loan_kept s s' n l (w.loans n l e) (omega arith) (λ q n h. h)
         (λ x found. found_mapped due_publisher (s.publishers l.publisher) x ((contains x.loans n ≡ true) × (contains x.history n ≡ false)) found
@@ -268,3 +324,19 @@ module _ {T U : Type 0} where
     where
       s' : State T U
       s' = publishers_due s
+
+  due_publishers_leave : (s : State T U) (q : ℕ) (y : Subscriber) → SubscriberIsWellFormed s q y → SubscriberIsWellFormed (publishers_due s) q y
+  due_publishers_leave s q y w = subscriber_kept s (publishers_due s) q y w (omega arith) (λ p. refl) (λ p _. publisher_stays (s.publishers p))
+
+  -- A state whose publishers are due is as well-formed as before.
+  pub publishers_due_keeps : (s : State T U) → IsWellFormed s → IsWellFormed (publishers_due s)
+  publishers_due_keeps s w =
+      with_rest (publishers_due s) (publishers_due_rest s (rest_of s w)) (λ q y e. due_publishers_leave s q y (w.subscribers q y e))
+
+  -- The same for a state that is nearly well-formed.
+  pub publishers_due_nearly : (s : State T U) (q : ℕ) → IsNearlyWellFormed s q → IsNearlyWellFormed (publishers_due s) q
+  publishers_due_nearly s q w = record {
+    rest = publishers_due_rest s w.rest;
+    others = λ r y apart e. due_publishers_leave s r y (w.others r y apart e);
+    own = λ y e. due_publishers_leave s q (record y { is_open = true }) (w.own y e);
+  }

@@ -20,9 +20,9 @@ use Rattle.iox2_store.specs.declared.warning.Warning.{Warning}
 use Rattle.iox2_store.specs.declared.warning.Warning.TheVariants.{PublisherPartlyConnected, SubscriberPartlyConnected}
 use Rattle.iox2_laws.specs.Laws.{Advances}
 use Rattle.iox2_laws.proofs.Cases.{by_option, by_bool}
-use Rattle.iox2_laws.proofs.Puts.{put_at-other, found_put}
+use Rattle.iox2_laws.proofs.Puts.{put_at-other, at_each, found_put}
 use Rattle.iox2_laws.proofs.PlaceLemmas.{occupant-set_place, length-set_place_le, found_set, free_place_is}
-use Rattle.iox2_laws.proofs.MailboxLemmas.{has_numbers-borrows}
+use Rattle.iox2_laws.proofs.MailboxLemmas.{has_numbers-borrows, has_numbers-data}
 use Rattle.iox2_laws.proofs.PublisherUpdates.{update_publisher_keeps, update_publisher_advances}
 use Rattle.iox2_laws.proofs.SubscriberUpdates.{update_subscriber_keeps, update_subscriber_advances}
 use Rattle.iox2_laws.proofs.PortChanges.{places_agree_by, place_of_publisher, place_of_subscriber, publisher_kept, subscriber_kept, loan_kept}
@@ -140,6 +140,9 @@ module _ {T U : Type 0} where
       sender_end = λ x e h. found_put s.publishers s.next_port (new_publisher s given place) (λ p x. LeadsTo x.ends q) p x e
           (λ same. absurd (omega (arith, (v.known h).0)))
           (λ _ old. v.sender_end x old h);
+      departed = λ gone h. v.departed
+          (at_each s.publishers s.next_port (Some (new_publisher s given place)) (λ i o. o ≡ None → s.publishers i ≡ None) p
+          (λ _ e. absurd (none-some (new_publisher s given place) (sym e))) (λ _ e. e) gone) h;
     };
     loans = λ n l e. loan_kept s s' n l (w.loans n l e)
         (omega arith) (λ q n h. h)
@@ -195,6 +198,7 @@ module _ {T U : Type 0} where
     expired_known = λ p h. absurd (true≢false (sym h));
     expired_gone = λ p h. absurd (true≢false (sym h));
     expired_kept = λ p h. absurd (true≢false (sym h));
+    is_used = λ closed. absurd (true≢false closed);
   }
 
   -- A well-formed state stays so with a new subscriber at a free place.
@@ -224,6 +228,10 @@ module _ {T U : Type 0} where
           (λ _ old. v.room y old);
       receiver_end = λ h. let found : (y : Subscriber) × (s.subscribers q ≡ Some y) × ((contains y.expired p ≡ true) ⊎ LeadsTo y.ends p) = v.receiver_end h in
           (found.0, old_stays q (v.known (has_numbers-borrows (s.mailboxes p q) h)).1 ∙ found.1, found.2);
+      departed = λ gone h.
+          let found : (y : Subscriber) × (s.subscribers q ≡ Some y) × (y.is_open ≡ true) × ((contains y.expired p ≡ true) ⊎ LeadsTo y.ends p) =
+          v.departed gone h in
+          (found.0, old_stays q (v.known (has_numbers-data (s.mailboxes p q) h)).1 ∙ found.1, found.2, found.3);
     };
     loans = λ n l e. loan_kept s s' n l (w.loans n l e)
         (omega arith) (λ q n h. h) (w.loans n l e).is_out;

@@ -6,7 +6,7 @@ use Rattle.std.proofs.lemmas.Bool.{true≢false, ne_eqb}
 use Rattle.std.proofs.lemmas.Option.{none-some, same_Some}
 use Rattle.iox2_store.specs.Numbers.{put_at, contains, size}
 use Rattle.iox2_store.specs.Places.{occupants}
-use Rattle.iox2_store.specs.Mailbox.{Mailbox, numbers_in, has_numbers, has_borrows}
+use Rattle.iox2_store.specs.Mailbox.{Mailbox, numbers_in, has_numbers, has_borrows, has_data}
 use Rattle.iox2_store.specs.Records.{Publisher, Subscriber, BlockedSend, Loan, Environment}
 use Rattle.iox2_store.specs.State.{State, held, is_blocked}
 use Rattle.iox2_store.specs.PublisherUpdate.{SenderSide, with_sender_side, UpdatePublisher}
@@ -104,6 +104,8 @@ module _ {T U : Type 0} where
         unheld = v.unheld;
         ends = v.ends;
         unserved = λ q l. subst (λ (m : ℕ → Mailbox). contains (numbers_in (m q)) b.message ≡ false) (sym (same_boxes p' other)) (v.unserved q l);
+        waits = v.waits;
+        count_bound = v.count_bound;
       };
     }
 
@@ -138,6 +140,11 @@ module _ {T U : Type 0} where
       expired_known = v.expired_known;
       expired_gone = λ p' h. (still_gone p' (v.expired_gone p' h)).0;
       expired_kept = λ p' h. subst (λ (m : ℕ → Mailbox). has_numbers (m q) ≡ true) (sym (still_gone p' (v.expired_gone p' h)).1) (v.expired_kept p' h);
+      is_used = λ closed. let used : (i : ℕ) × (has_borrows (s.mailboxes i q) ≡ true) = v.is_used closed in (
+        used.0,
+        at_each s.mailboxes p side.mailboxes (λ i (m : ℕ → Mailbox). has_borrows (s.mailboxes i q) ≡ true → has_borrows (m q) ≡ true) used.0
+            (λ _. k.borrowed q) (λ _ h. h) used.1,
+      );
     }
 
     -- a number in a mailbox of p was given out
@@ -158,6 +165,8 @@ module _ {T U : Type 0} where
       receiver_end = at_each s.mailboxes p side.mailboxes
           (λ i m. has_borrows (m q) ≡ true → (y : Subscriber) × (s.subscribers q ≡ Some y) × ((contains y.expired i ≡ true) ⊎ LeadsTo y.ends i)) p'
           (λ _ h. (w.mailboxes p q).receiver_end (k.borrows q h)) (λ _. (w.mailboxes p' q).receiver_end);
+      departed = λ gone h. let before : (s.publishers p' ≡ None) × (eqb p' p ≡ false) = gone_before p' gone in
+          (w.mailboxes p' q).departed before.0 (subst (λ (m : ℕ → Mailbox). has_data (m q) ≡ true) (same_boxes p' before.1) h);
     }
 
     loan_keeps : (n : ℕ) (l : Loan T U) → LoanIsWellFormed s n l → LoanIsWellFormed after n l

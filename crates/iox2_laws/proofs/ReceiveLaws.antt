@@ -1,18 +1,18 @@
 -- A receive, and the question whether anything waits, keep a state well-formed.
-use Rattle.std.proofs.Common.{◌≡◌, ℕ, Bool, true, refl, sym, subst, ◌∙◌, arith, Option, Some, ◌⊎◌, inl, inr, le_trans}
+use Rattle.std.proofs.Common.{◌≡◌, ℕ, Bool, true, refl, sym, subst, ◌∙◌, arith, Option, None, Some, ◌⊎◌, inl, inr, le_trans}
 use Rattle.iox2_laws.proofs.Cases.{by_option, by_bool}
-use Rattle.iox2_laws.proofs.MailboxLemmas.{IsWithin-borrowed, waiting_count-borrowed, contains_in_borrowed, has_numbers-borrowed}
+use Rattle.iox2_laws.proofs.MailboxLemmas.{IsWithin-borrowed, waiting_count-borrowed, contains_in_borrowed, has_numbers-borrowed, has_data-borrowed, has_borrows-borrowed}
 use Rattle.iox2_laws.proofs.PlaceLemmas.{leads_to}
-use Rattle.iox2_laws.proofs.ReleaseLaws.{Shrinks, shrinks_same, ReceiversAgree, receivers_keep, subscriber_keeps, at_each_mailbox}
+use Rattle.iox2_laws.proofs.ReleaseLaws.{Shrinks, shrinks_same, with_receivers, ReceiversAgree, receivers_keep, subscriber_keeps, at_each_mailbox}
 use Rattle.iox2_laws.proofs.SubscriberUpdates.{update_subscriber_keeps, update_subscriber_advances}
 use Rattle.iox2_laws.specs.Laws.{Advances}
 use Rattle.iox2_store.specs.Limits.{buffer_limit}
 use Rattle.iox2_store.specs.Numbers.{put_at, contains}
-use Rattle.iox2_store.specs.Mailbox.{Mailbox, has_numbers, has_borrows, BorrowsFirst}
+use Rattle.iox2_store.specs.Mailbox.{Mailbox, has_numbers, has_borrows, has_data, BorrowsFirst}
 use Rattle.iox2_store.specs.Records.{Subscriber, Environment}
 use Rattle.iox2_store.specs.State.{State}
 use Rattle.iox2_store.specs.Receives.{ReceiveResult, Got_sample, No_sample, Receive_error, can_receive_of, MayReceiveFrom, TakeSample, Receive, HasSamples}
-use Rattle.iox2_store.specs.WellFormed.{LeadsTo, IsWellFormed}
+use Rattle.iox2_store.specs.WellFormed.{LeadsTo, SubscriberIsWellFormed, IsWellFormed}
 use Rattle.iox2_store.specs.declared.errors.ConnectionFailure.{ConnectionFailure}
 
 -- Whom a message may be received from is a departed publisher that is kept, or one at an end.
@@ -37,21 +37,33 @@ module _ {T U : Type 0} where
           some = λ _. (has_numbers-borrowed n (s.mailboxes p q) box borrows).0;
         })
         (shrinks_same (buffer_limit s.config) (s.config).subscriber_max_borrowed_samples (s.mailboxes i j) (w.mailboxes i j).within);
-    receivers = λ r z e. subscriber_keeps s s.subscribers (put_at s.mailboxes p (put_at (s.mailboxes p) q box)) s.warnings r z (w.subscribers r z e)
-        (λ i h. at_each_mailbox s.mailboxes p q box (λ i j m. has_numbers (s.mailboxes i j) ≡ true → has_numbers m ≡ true) i r
-        (λ _. (has_numbers-borrowed n (s.mailboxes p q) box borrows).1) (λ k. k) h);
     borrowed = λ i j. at_each_mailbox s.mailboxes p q box
         (λ i j m. has_borrows m ≡ true → (z : Subscriber) × (s.subscribers j ≡ Some z) × ((contains z.expired i ≡ true) ⊎ LeadsTo z.ends i)) i j
         (λ _. (y, here, received_from (s.config).subscriber_max_borrowed_samples y (λ r. s.mailboxes r q) p may))
         (w.mailboxes i j).receiver_end;
+    departed = λ i j. at_each_mailbox s.mailboxes p q box
+        (λ i j m. s.publishers i ≡ None → has_data m ≡ true
+        → (z : Subscriber) × (s.subscribers j ≡ Some z) × (z.is_open ≡ true) × ((contains z.expired i ≡ true) ⊎ LeadsTo z.ends i)) i j
+        (λ gone _. (w.mailboxes p q).departed gone (has_data-borrowed n (s.mailboxes p q) box borrows))
+        (w.mailboxes i j).departed;
   }
+
+  received_receivers : (s : State T U) → IsWellFormed s → (p q n : ℕ) (box : Mailbox) → BorrowsFirst (s.mailboxes p q) n box
+      → (r : ℕ) (z : Subscriber) → s.subscribers r ≡ Some z
+      → SubscriberIsWellFormed (with_receivers s s.subscribers (put_at s.mailboxes p (put_at (s.mailboxes p) q box)) s.warnings) r z
+  received_receivers s w p q n box borrows r z e =
+      subscriber_keeps s s.subscribers (put_at s.mailboxes p (put_at (s.mailboxes p) q box)) s.warnings r z (w.subscribers r z e)
+      (λ i. at_each_mailbox s.mailboxes p q box (λ i j m. has_numbers (s.mailboxes i j) ≡ true → has_numbers m ≡ true) i r
+      (λ _. (has_numbers-borrowed n (s.mailboxes p q) box borrows).1) (λ k. k))
+      (λ i. at_each_mailbox s.mailboxes p q box (λ i j m. has_borrows (s.mailboxes i j) ≡ true → has_borrows m ≡ true) i r
+      (λ _. has_borrows-borrowed n (s.mailboxes p q) box borrows) (λ k. k))
 
   -- Taking a sample keeps a state well-formed.
   pub take_sample_keeps : (s : State T U) → IsWellFormed s → (q : ℕ) (y : Subscriber) (s' : State T U) (result : ReceiveResult) → s.subscribers q ≡ Some y
       → TakeSample s q y s' result → IsWellFormed s'
   take_sample_keeps s w q y s' (Got_sample p n) here h =
       subst IsWellFormed (sym h.3) (receivers_keep s s.subscribers (put_at s.mailboxes p (put_at (s.mailboxes p) q h.1)) s.warnings w
-      (received_agrees s w p q n y h.1 here h.0 h.2))
+      (received_agrees s w p q n y h.1 here h.0 h.2) (received_receivers s w p q n h.1 h.2))
   take_sample_keeps s w q y s' No_sample here h = subst IsWellFormed (sym h.1) w
   take_sample_keeps s w q y s' (Receive_error e) here h = subst IsWellFormed (sym h.3) w
 

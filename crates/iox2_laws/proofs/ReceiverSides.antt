@@ -13,7 +13,7 @@ use Rattle.iox2_laws.proofs.ReleaseLaws.{stands_with}
 use Rattle.iox2_store.specs.Limits.{expired_limit}
 use Rattle.iox2_store.specs.Numbers.{put_at, contains, without, IsOnce}
 use Rattle.iox2_store.specs.Places.{occupant, set_place}
-use Rattle.iox2_store.specs.Mailbox.{Mailbox, has_numbers, has_borrows, waiting_dropped}
+use Rattle.iox2_store.specs.Mailbox.{Mailbox, has_numbers, has_borrows, has_data, waiting_dropped}
 use Rattle.iox2_store.specs.Records.{Publisher, Subscriber, Handler, Environment}
 use Rattle.iox2_store.specs.State.{State, warned}
 use Rattle.iox2_store.specs.Connections.{expired_buffer_full}
@@ -90,8 +90,16 @@ last_there : (ns : List ℕ) (n : ℕ) → contains (ns ++ n ∷ []) n ≡ true
 last_there ns n = contains_right ns (n ∷ []) n (or_left (eqb n n) false (eq-eqb n n refl))
 
 module _ {T U : Type 0} where
+  -- The subscriber has to know p: something of it is borrowed, or waits although p departed.
+  abbrev pub HasToKnow : State T U → (p : ℕ) → Mailbox → Type 0
+  HasToKnow s p box = (has_borrows box ≡ true) ⊎ ((s.publishers p ≡ None) × (has_data box ≡ true))
+
+  -- Nobody has to know a publisher of which nothing is borrowed and nothing waits.
+  nothing_left : (s : State T U) (p : ℕ) (box : Mailbox) → has_borrows box ≡ false → HasToKnow s p (waiting_dropped box) → ⊥
+  nothing_left s p box unborrowed h = ⊎_elim (λ some. true≢false (sym some ∙ unborrowed)) (λ waits. true≢false (sym waits.1)) h
+
   -- A subscriber's side on its way through an update: what `IsWellFormed` asks of the subscriber, with each mailbox as it
-  -- was or, of a departed publisher, without what waited; and whom it has borrowed something of it knows.
+  -- was or, of a departed publisher, without what waited; and whom it has to know it knows.
   pub record ReceiverSideIsWellFormed (s : State T U) (q : ℕ) (side : ReceiverSide) : Type 0 where
     pub ends_bound : length side.ends ≤ (s.config).max_publishers
     pub ends_apart : IsInjective side.ends
@@ -104,7 +112,7 @@ module _ {T U : Type 0} where
     pub expired_gone : (p : ℕ) → contains side.expired p ≡ true → s.publishers p ≡ None
     pub expired_kept : (p : ℕ) → contains side.expired p ≡ true → has_numbers (side.mailboxes p) ≡ true
     pub boxes : (p : ℕ) → (side.mailboxes p ≡ s.mailboxes p q) ⊎ ((side.mailboxes p ≡ waiting_dropped (s.mailboxes p q)) × (s.publishers p ≡ None))
-    pub borrows : (p : ℕ) → has_borrows (side.mailboxes p) ≡ true → (contains side.expired p ≡ true) ⊎ LeadsTo side.ends p
+    pub knows : (p : ℕ) → HasToKnow s p (side.mailboxes p) → (contains side.expired p ≡ true) ⊎ LeadsTo side.ends p
 
   -- It holds where the update begins.
   pub receiver_side_begins : (s : State T U) → IsWellFormed s → (q : ℕ) (y : Subscriber) → s.subscribers q ≡ Some y → ReceiverSideIsWellFormed s q (receiver_side s q y)
@@ -122,8 +130,11 @@ module _ {T U : Type 0} where
         expired_gone = b.expired_gone;
         expired_kept = b.expired_kept;
         boxes = λ p. inl refl;
-        borrows = λ p h.
-            let at : (z : Subscriber) × (s.subscribers q ≡ Some z) × ((contains z.expired p ≡ true) ⊎ LeadsTo z.ends p) = (w.mailboxes p q).receiver_end h in
+        knows = λ p h.
+            let at : (z : Subscriber) × (s.subscribers q ≡ Some z) × ((contains z.expired p ≡ true) ⊎ LeadsTo z.ends p) =
+            ⊎_elim (w.mailboxes p q).receiver_end
+            (λ waits. let found : (z : Subscriber) × (s.subscribers q ≡ Some z) × (z.is_open ≡ true) × ((contains z.expired p ≡ true) ⊎ LeadsTo z.ends p) =
+            (w.mailboxes p q).departed waits.0 waits.1 in (found.0, found.1, found.3)) h in
             subst (λ (z : Subscriber). (contains z.expired p ≡ true) ⊎ LeadsTo z.ends p) (same_Some at.0 y (sym at.1 ∙ e)) at.2;
       }
 
@@ -142,7 +153,7 @@ module _ {T U : Type 0} where
     expired_gone = b.expired_gone;
     expired_kept = b.expired_kept;
     boxes = b.boxes;
-    borrows = b.borrows;
+    knows = b.knows;
   }
 
   -- An end is made at a place where nothing stands, to the publisher that has that place.
@@ -175,9 +186,9 @@ module _ {T U : Type 0} where
         expired_gone = b.expired_gone;
         expired_kept = b.expired_kept;
         boxes = b.boxes;
-        borrows = λ r h. ⊎_elim inl
+        knows = λ r h. ⊎_elim inl
             (λ l. inr (l.0, end_stays side.ends place (Some p) l.0 r l.1 (λ same. none-some r (sym free ∙ ap (occupant side.ends) (sym same) ∙ l.1))))
-            (b.borrows r h);
+            (b.knows r h);
       }
 
   -- A departed publisher leaves its end: it may become expired, another expired one may go, and what waits may be lost,
@@ -190,9 +201,9 @@ module _ {T U : Type 0} where
       → ((r : ℕ) → contains expired r ≡ true → boxes r ≡ side.mailboxes r)
       → ((r : ℕ) → LeadsTo side.ends r → (r ≡ old → ⊥) → boxes r ≡ side.mailboxes r)
       → ((r : ℕ) → (boxes r ≡ side.mailboxes r) ⊎ ((boxes r ≡ waiting_dropped (side.mailboxes r)) × (s.publishers r ≡ None)))
-      → ((r : ℕ) → has_borrows (boxes r) ≡ true → (contains expired r ≡ true) ⊎ (LeadsTo side.ends r × (r ≡ old → ⊥)))
+      → ((r : ℕ) → HasToKnow s r (boxes r) → (contains expired r ≡ true) ⊎ (LeadsTo side.ends r × (r ≡ old → ⊥)))
       → ReceiverSideIsWellFormed s q (record side { ends = set_place side.ends place None; expired = expired; mailboxes = boxes; warnings = warnings })
-  left_end_keeps s q side place old b here gone expired boxes warnings bound once from kept at_ends each borrows =
+  left_end_keeps s q side place old b here gone expired boxes warnings bound once from kept at_ends each knows =
       let within : place < length side.ends = occupied_within side.ends place old here in
       let low : place < (s.config).max_publishers = lt_of_lt_of_le within b.ends_bound in
       let some : has_numbers (side.mailboxes old) ≡ true =
@@ -217,13 +228,13 @@ module _ {T U : Type 0} where
             (λ e. ⊎_elim (λ f. inl (e ∙ f)) (λ f. inr (e ∙ f.0, f.1)) (b.boxes r))
             (λ e. inr (e.0 ∙ ⊎_elim (λ f. ap waiting_dropped f) (λ f. ap waiting_dropped f.0) (b.boxes r), e.1))
             (each r);
-        borrows = λ r h. ⊎_elim inl
+        knows = λ r h. ⊎_elim inl
             (λ l. inr (
               (l.0).0,
               end_stays side.ends place None (l.0).0 r (l.0).1
                   (λ same. l.1 (same_Some r old (sym (l.0).1 ∙ ap (occupant side.ends) same ∙ here))),
             ))
-            (borrows r h);
+            (knows r h);
       }
 
   kept_expired_keeps : (s : State T U) (q : ℕ) (side : ReceiverSide) (place old : ℕ) → ReceiverSideIsWellFormed s q side
@@ -238,7 +249,7 @@ module _ {T U : Type 0} where
       (λ r l apart. refl)
       (λ r. inl refl)
       (λ r h. ⊎_elim (λ k. inl (contains_left side.expired (old ∷ []) r k))
-      (or_another side.ends (side.expired ++ old ∷ []) old r (last_there side.expired old)) (b.borrows r h))
+      (or_another side.ends (side.expired ++ old ∷ []) old r (last_there side.expired old)) (b.knows r h))
 
   evicted_keeps : (s : State T U) (q : ℕ) (side : ReceiverSide) (place old : ℕ) → ReceiverSideIsWellFormed s q side
       → occupant side.ends place ≡ Some old → s.publishers old ≡ None
@@ -265,11 +276,11 @@ module _ {T U : Type 0} where
       (λ i m. (m ≡ side.mailboxes i) ⊎ ((m ≡ waiting_dropped (side.mailboxes i)) × (s.publishers i ≡ None))) r
       (λ _. inr (refl, b.expired_gone first member)) (λ _. inl refl))
       (λ r. at_each side.mailboxes first (waiting_dropped (side.mailboxes first))
-      (λ i m. has_borrows m ≡ true → (contains expired i ≡ true) ⊎ (LeadsTo side.ends i × (i ≡ old → ⊥))) r
-      (λ _ h. absurd (true≢false (sym h ∙ unborrowed)))
+      (λ i m. HasToKnow s i m → (contains expired i ≡ true) ⊎ (LeadsTo side.ends i × (i ≡ old → ⊥))) r
+      (λ _ h. absurd (nothing_left s first (side.mailboxes first) unborrowed h))
       (λ apart h. ⊎_elim
       (λ k. inl (contains_left (without first side.expired) (old ∷ []) r (contains-without_other first r side.expired apart k)))
-      (or_another side.ends expired old r (last_there (without first side.expired) old)) (b.borrows r h)))
+      (or_another side.ends expired old r (last_there (without first side.expired) old)) (b.knows r h)))
 
   discarded_keeps : (s : State T U) (q : ℕ) (side : ReceiverSide) (place old : ℕ) → ReceiverSideIsWellFormed s q side
       → occupant side.ends place ≡ Some old → s.publishers old ≡ None → has_borrows (side.mailboxes old) ≡ false
@@ -287,9 +298,9 @@ module _ {T U : Type 0} where
       (λ i m. (m ≡ side.mailboxes i) ⊎ ((m ≡ waiting_dropped (side.mailboxes i)) × (s.publishers i ≡ None))) r
       (λ _. inr (refl, gone)) (λ _. inl refl))
       (λ r. at_each side.mailboxes old (waiting_dropped (side.mailboxes old))
-      (λ i m. has_borrows m ≡ true → (contains side.expired i ≡ true) ⊎ (LeadsTo side.ends i × (i ≡ old → ⊥))) r
-      (λ _ h. absurd (true≢false (sym h ∙ unborrowed)))
-      (λ apart h. ⊎_elim inl (λ l. inr (l, eqb-false r old apart)) (b.borrows r h)))
+      (λ i m. HasToKnow s i m → (contains side.expired i ≡ true) ⊎ (LeadsTo side.ends i × (i ≡ old → ⊥))) r
+      (λ _ h. absurd (nothing_left s old (side.mailboxes old) unborrowed h))
+      (λ apart h. ⊎_elim inl (λ l. inr (l, eqb-false r old apart)) (b.knows r h)))
 
   -- ---- the steps of an update
 

@@ -1,24 +1,24 @@
--- Subscribers and mailboxes in which nothing is new: a released sample, and a closed subscriber that goes, keep a state well-formed.
-use Rattle.std.proofs.Common.{◌≡◌, ℕ, ◌≤◌, Bool, true, false, cond, not, ◌&&◌, ◌||◌, List, ◌++◌, length, refl, sym, ap, subst, ◌∙◌, arith, eqb, Option, None, Some, ◌⊎◌, inl, inr, ⊎_elim, MatchOption, is_some, le_trans}
-use Rattle.std.specs.List.{flat_map, filter, list_all}
-use Rattle.std.specs.Option.{option_map, option_map_or}
-use Rattle.std.proofs.lemmas.Bool.{true≢false, or_right, eqb-true, eqb-false, and_parts, cond_both}
-use Rattle.std.proofs.lemmas.Option.{none-some}
-use Rattle.iox2_laws.proofs.Puts.{put_at-other, at_each, found_removed, found_mapped}
+-- Subscribers and mailboxes in which nothing is new: a released sample keeps a state well-formed.
+use Rattle.std.proofs.Common.{◌≡◌, ℕ, ◌≤◌, Bool, true, false, cond, ◌||◌, List, ◌++◌, length, refl, sym, ap, subst, ◌∙◌, arith, eqb, Option, None, Some, ◌⊎◌, inl, inr, ⊎_elim, MatchOption, is_some, le_trans}
+use Rattle.std.specs.List.{flat_map, filter}
+use Rattle.std.specs.Option.{option_map}
+use Rattle.std.proofs.lemmas.Bool.{true≢false, or_right, eqb-true, eqb-false}
+use Rattle.iox2_laws.proofs.Puts.{put_at-other, at_each, found_mapped}
 use Rattle.iox2_laws.proofs.NumberLemmas.{contains_in_append, contains_left, contains_right, absent_from, size_le, contains_in_flat_map, contains-flat_map}
-use Rattle.iox2_laws.proofs.PortChanges.{publishers_due_keeps}
-use Rattle.iox2_laws.proofs.FilterLemmas.{contains_in_filter, contains-filter, IsOnce-filter, length-filter_le, passes_all}
-use Rattle.iox2_laws.proofs.PlaceLemmas.{occupant-vacated, vacated_keeps, length-vacated, occupant-places_of, places_of_keeps, length-places_of, contains-occupants, injective_places_of}
-use Rattle.iox2_laws.proofs.MailboxLemmas.{has_numbers-borrows, IsWithin-released, contains_in_released, has_borrows_before_release, has_numbers_before_release}
+use Rattle.iox2_laws.proofs.PortChanges.{RestIsWellFormed, IsNearlyWellFormed, with_rest}
+use Rattle.iox2_laws.proofs.Freed.{freed_if_unused_keeps, freed_if_unused_advances}
+use Rattle.iox2_laws.proofs.FilterLemmas.{contains_in_filter, contains-filter, IsOnce-filter, length-filter_le}
+use Rattle.iox2_laws.proofs.PlaceLemmas.{occupant-places_of, places_of_keeps, length-places_of, injective_places_of}
+use Rattle.iox2_laws.proofs.MailboxLemmas.{has_numbers-borrows, has_numbers-data, IsWithin-released, contains_in_released, has_borrows_before_release, has_numbers_before_release}
 use Rattle.iox2_laws.specs.Laws.{Advances}
 use Rattle.iox2_store.specs.Limits.{buffer_limit, expired_limit}
 use Rattle.iox2_store.specs.Numbers.{put_at, contains, size}
-use Rattle.iox2_store.specs.Places.{occupant, occupants, vacated}
-use Rattle.iox2_store.specs.Mailbox.{Mailbox, numbers_in, has_numbers, has_borrows, waiting_count, with_released, IsWithin}
+use Rattle.iox2_store.specs.Places.{occupant, occupants}
+use Rattle.iox2_store.specs.Mailbox.{Mailbox, numbers_in, has_numbers, has_borrows, has_data, waiting_count, with_released, IsWithin}
 use Rattle.iox2_store.specs.Records.{Publisher, Subscriber}
-use Rattle.iox2_store.specs.State.{State, held, is_present, connected_publishers}
-use Rattle.iox2_store.specs.Releases.{is_connected, pruned, is_unused, place_freed, freed_if_unused, unborrowed, subscriber_pruned, released}
-use Rattle.iox2_store.specs.WellFormed.{LeadsTo, PlacesAgree, subscriber_place, BlockedIsWellFormed, PublisherIsWellFormed, SubscriberIsWellFormed, MailboxIsWellFormed, LoanIsWellFormed, IsWellFormed}
+use Rattle.iox2_store.specs.State.{State, held, is_present}
+use Rattle.iox2_store.specs.Releases.{is_connected, pruned, unborrowed, subscriber_pruned, released}
+use Rattle.iox2_store.specs.WellFormed.{LeadsTo, subscriber_place, BlockedIsWellFormed, PublisherIsWellFormed, SubscriberIsWellFormed, MailboxIsWellFormed, LoanIsWellFormed, IsWellFormed}
 use Rattle.iox2_store.specs.declared.warning.Warning.{Warning}
 
 -- ---- less in the mailboxes
@@ -78,14 +78,16 @@ module _ {T U : Type 0} where
   abbrev pub with_receivers : State T U → (ℕ → Option Subscriber) → (ℕ → ℕ → Mailbox) → List Warning → State T U
   with_receivers s subscribers boxes warnings = record s { subscribers = subscribers; mailboxes = boxes; warnings = warnings }
 
-  -- The subscribers keep their places and buffers, nothing is new in a mailbox, and who has borrowed something knows of whom.
+  -- The subscribers keep their places and buffers, nothing is new in a mailbox, who has borrowed something knows of whom, and so
+  -- does an open subscriber for which something waits from a departed publisher.
   pub record ReceiversAgree (s : State T U) (subscribers : ℕ → Option Subscriber) (boxes : ℕ → ℕ → Mailbox) (warnings : List Warning) : Type 0 where
     pub places : (q : ℕ) → subscriber_place (with_receivers s subscribers boxes warnings) q ≡ subscriber_place s q
     pub stays : (q : ℕ) (y : Subscriber) → subscribers q ≡ Some y → (z : Subscriber) × (s.subscribers q ≡ Some z) × (y.place ≡ z.place) × (y.buffer ≡ z.buffer)
     pub shrinks : (p q : ℕ) → Shrinks (buffer_limit s.config) (s.config).subscriber_max_borrowed_samples (s.mailboxes p q) (boxes p q)
-    pub receivers : (q : ℕ) (y : Subscriber) → subscribers q ≡ Some y → SubscriberIsWellFormed (with_receivers s subscribers boxes warnings) q y
     pub borrowed : (p q : ℕ) → has_borrows (boxes p q) ≡ true
         → (y : Subscriber) × (subscribers q ≡ Some y) × ((contains y.expired p ≡ true) ⊎ LeadsTo y.ends p)
+    pub departed : (p q : ℕ) → s.publishers p ≡ None → has_data (boxes p q) ≡ true
+        → (y : Subscriber) × (subscribers q ≡ Some y) × (y.is_open ≡ true) × ((contains y.expired p ≡ true) ⊎ LeadsTo y.ends p)
 
   absent_still : (s : State T U) (boxes : ℕ → ℕ → Mailbox) (p q n : ℕ)
       → Shrinks (buffer_limit s.config) (s.config).subscriber_max_borrowed_samples (s.mailboxes p q) (boxes p q)
@@ -121,7 +123,14 @@ module _ {T U : Type 0} where
     segments_bound = b.segments_bound;
     blocked = λ c e.
         let old : BlockedIsWellFormed s p x c = b.blocked c e in
-        record { is_out = old.is_out; unheld = old.unheld; ends = old.ends; unserved = λ q l. absent_still s boxes p q c.message (a.shrinks p q) (old.unserved q l) };
+        record {
+          is_out = old.is_out;
+          unheld = old.unheld;
+          ends = old.ends;
+          unserved = λ q l. absent_still s boxes p q c.message (a.shrinks p q) (old.unserved q l);
+          waits = old.waits;
+          count_bound = old.count_bound;
+        };
   }
 
   mailbox_agrees : (s : State T U) (subscribers : ℕ → Option Subscriber) (boxes : ℕ → ℕ → Mailbox) (warnings : List Warning) → ReceiversAgree s subscribers boxes warnings
@@ -138,12 +147,13 @@ module _ {T U : Type 0} where
     known = λ h. b.known ((a.shrinks p q).some h);
     sender_end = λ x e h. b.sender_end x e ((a.shrinks p q).some h);
     receiver_end = a.borrowed p q;
+    departed = a.departed p q;
   }
 
-  -- What agrees with a well-formed state is well-formed.
-  pub receivers_keep : (s : State T U) (subscribers : ℕ → Option Subscriber) (boxes : ℕ → ℕ → Mailbox) (warnings : List Warning)
-      → IsWellFormed s → ReceiversAgree s subscribers boxes warnings → IsWellFormed (with_receivers s subscribers boxes warnings)
-  receivers_keep s subscribers boxes warnings w a = record {
+  -- What agrees with a well-formed state is well-formed, but for its subscribers.
+  pub receivers_agree : (s : State T U) (subscribers : ℕ → Option Subscriber) (boxes : ℕ → ℕ → Mailbox) (warnings : List Warning)
+      → IsWellFormed s → ReceiversAgree s subscribers boxes warnings → RestIsWellFormed (with_receivers s subscribers boxes warnings)
+  receivers_agree s subscribers boxes warnings w a = record {
     publisher_places = record { bound = w.publisher_places.bound; stands = w.publisher_places.stands; known = w.publisher_places.known };
     subscriber_places = record {
       bound = w.subscriber_places.bound;
@@ -151,7 +161,6 @@ module _ {T U : Type 0} where
       known = λ id place e. a.places id ∙ w.subscriber_places.known id place e;
     };
     publishers = λ p x e. publisher_agrees s subscribers boxes warnings a p x (w.publishers p x e);
-    subscribers = a.receivers;
     mailboxes = λ p q. mailbox_agrees s subscribers boxes warnings a p q (w.mailboxes p q);
     loans = λ n l e.
         let b : LoanIsWellFormed s n l = w.loans n l e in
@@ -166,11 +175,20 @@ module _ {T U : Type 0} where
         };
   }
 
-  -- A subscriber whose mailboxes are left with something where they had it is well-formed.
+  -- What agrees with a well-formed state is well-formed where its subscribers are.
+  pub receivers_keep : (s : State T U) (subscribers : ℕ → Option Subscriber) (boxes : ℕ → ℕ → Mailbox) (warnings : List Warning)
+      → IsWellFormed s → ReceiversAgree s subscribers boxes warnings
+      → ((q : ℕ) (y : Subscriber) → subscribers q ≡ Some y → SubscriberIsWellFormed (with_receivers s subscribers boxes warnings) q y)
+      → IsWellFormed (with_receivers s subscribers boxes warnings)
+  receivers_keep s subscribers boxes warnings w a =
+      with_rest (with_receivers s subscribers boxes warnings) (receivers_agree s subscribers boxes warnings w a)
+
+  -- A subscriber whose mailboxes are left with something where they had it, and with something borrowed, is well-formed.
   pub subscriber_keeps : (s : State T U) (subscribers : ℕ → Option Subscriber) (boxes : ℕ → ℕ → Mailbox) (warnings : List Warning) (q : ℕ) (y : Subscriber)
       → SubscriberIsWellFormed s q y → ((p : ℕ) → has_numbers (s.mailboxes p q) ≡ true → has_numbers (boxes p q) ≡ true)
+      → ((p : ℕ) → has_borrows (s.mailboxes p q) ≡ true → has_borrows (boxes p q) ≡ true)
       → SubscriberIsWellFormed (with_receivers s subscribers boxes warnings) q y
-  subscriber_keeps s subscribers boxes warnings q y b left = record {
+  subscriber_keeps s subscribers boxes warnings q y b left borrowed = record {
     is_known = b.is_known;
     some_room = b.some_room;
     buffer_bound = b.buffer_bound;
@@ -185,126 +203,8 @@ module _ {T U : Type 0} where
     expired_known = b.expired_known;
     expired_gone = b.expired_gone;
     expired_kept = λ p h. left p (b.expired_kept p h);
+    is_used = λ closed. let used : (p : ℕ) × (has_borrows (s.mailboxes p q) ≡ true) = b.is_used closed in (used.0, borrowed used.0 used.1);
   }
-
-  -- ---- every publisher becomes due
-
-  -- ---- a subscriber goes
-
-  removed_places : (s : State T U) → IsWellFormed s → (q : ℕ)
-      → PlacesAgree (s.config).max_subscribers (vacated q s.subscriber_places) (λ r. option_map {T = Subscriber} {U = ℕ} (λ y. y.place) (put_at s.subscribers q None r))
-  removed_places s w q = record {
-    bound = subst (λ n. n ≤ (s.config).max_subscribers) (sym (length-vacated q s.subscriber_places)) w.subscriber_places.bound;
-    stands = λ id place e.
-        elim (eqb id q) as (λ b. eqb id q ≡ b → option_map {T = Subscriber} {U = ℕ} (λ y. y.place) (cond b None (s.subscribers id)) ≡ Some place
-        → occupant (vacated q s.subscriber_places) place ≡ Some id) [
-          | true ↦ λ _ e. absurd (none-some place e)
-          | false ↦ λ apart e. vacated_keeps q s.subscriber_places place id (w.subscriber_places.stands id place e) apart
-        ] refl e;
-    known = λ id place e.
-        let old : (occupant s.subscriber_places place ≡ Some id) × (eqb id q ≡ false) = occupant-vacated q s.subscriber_places place id e in
-        ap (option_map {T = Subscriber} {U = ℕ} (λ y. y.place)) (put_at-other s.subscribers q None id old.1) ∙ w.subscriber_places.known id place old.0;
-  }
-
-  removed_publisher : (s : State T U) (q : ℕ) (places : List (Option ℕ)) (p : ℕ) (x : Publisher) → PublisherIsWellFormed s p x
-      → PublisherIsWellFormed (record s { subscribers = put_at s.subscribers q None; subscriber_places = places }) p x
-  removed_publisher s q places p x b = record {
-    is_known = b.is_known;
-    loans_bound = b.loans_bound;
-    loans_once = b.loans_once;
-    loans_below = b.loans_below;
-    loans_held = b.loans_held;
-    history_bound = b.history_bound;
-    history_once = b.history_once;
-    history_below = b.history_below;
-    ends_bound = b.ends_bound;
-    ends_apart = b.ends_apart;
-    ends_known = b.ends_known;
-    ends_stand = λ place r y h e. found_removed s.subscribers q r y (y.place ≡ place) e (λ _ f. b.ends_stand place r y h f);
-    slots_bound = b.slots_bound;
-    some_segment = b.some_segment;
-    segments_bound = b.segments_bound;
-    blocked = λ c e. let old : BlockedIsWellFormed s p x c = b.blocked c e in record
-        { is_out = old.is_out; unheld = old.unheld; ends = old.ends; unserved = old.unserved };
-  }
-
-  removed_mailbox : (s : State T U) (q : ℕ) (places : List (Option ℕ)) (p r : ℕ) → (has_borrows (s.mailboxes p q) ≡ true → ⊥) → MailboxIsWellFormed s p r
-      → MailboxIsWellFormed (record s { subscribers = put_at s.subscribers q None; subscriber_places = places }) p r
-  removed_mailbox s q places p r nothing b = record {
-    within = b.within;
-    below = b.below;
-    known = b.known;
-    sender_end = b.sender_end;
-    room = λ y e. found_removed s.subscribers q r y (waiting_count (s.mailboxes p r) ≤ y.buffer) e (λ _ f. b.room y f);
-    receiver_end = λ h.
-        elim (eqb r q) as (λ c. eqb r q ≡ c → (y : Subscriber) × (cond c None (s.subscribers r) ≡ Some y) × ((contains y.expired p ≡ true) ⊎ LeadsTo y.ends p)) [
-          | true ↦ λ same. absurd (nothing (ap (λ k. has_borrows (s.mailboxes p k)) (sym (eqb-true r q same)) ∙ h))
-          | false ↦ λ _. b.receiver_end h
-        ] refl;
-  }
-
-  -- A subscriber that has borrowed nothing may go.
-  pub subscriber_removed_keeps : (s : State T U) → IsWellFormed s → (q : ℕ) → ((p : ℕ) → has_borrows (s.mailboxes p q) ≡ true → ⊥)
-      → IsWellFormed (record s { subscribers = put_at s.subscribers q None; subscriber_places = vacated q s.subscriber_places })
-  subscriber_removed_keeps s w q nothing = record {
-    publisher_places = record { bound = w.publisher_places.bound; stands = w.publisher_places.stands; known = w.publisher_places.known };
-    subscriber_places =
-        (let a : PlacesAgree (s.config).max_subscribers (vacated q s.subscriber_places)
-        (λ r. option_map {T = Subscriber} {U = ℕ} (λ y. y.place) (put_at s.subscribers q None r)) = removed_places s w q in
-        record { bound = a.bound; stands = a.stands; known = a.known });
-    publishers = λ p x e. removed_publisher s q (vacated q s.subscriber_places) p x (w.publishers p x e);
-    subscribers = λ r y e.
-        let b : SubscriberIsWellFormed s r y = found_removed s.subscribers q r y (SubscriberIsWellFormed s r y) e (λ _ f. w.subscribers r y f) in
-        record {
-          is_known = b.is_known;
-          some_room = b.some_room;
-          buffer_bound = b.buffer_bound;
-          ends_bound = b.ends_bound;
-          ends_apart = b.ends_apart;
-          ends_known = b.ends_known;
-          ends_stand = b.ends_stand;
-          expired_bound = b.expired_bound;
-          expired_once = b.expired_once;
-          expired_apart = b.expired_apart;
-          expired_known = b.expired_known;
-          expired_gone = b.expired_gone;
-          expired_kept = b.expired_kept;
-        };
-    mailboxes = λ p r. removed_mailbox s q (vacated q s.subscriber_places) p r (nothing p) (w.mailboxes p r);
-    loans = λ n l e.
-        let b : LoanIsWellFormed s n l = w.loans n l e in
-        record { below = b.below; known = b.known; origin = b.origin; cells = b.cells; complete = b.complete; is_out = b.is_out; unsent = b.unsent };
-  }
-
-  -- Nobody that is unused has borrowed anything.
-  pub unused_borrows_nothing : (s : State T U) → IsWellFormed s → (q : ℕ) → is_unused s q ≡ true → (p : ℕ) → has_borrows (s.mailboxes p q) ≡ true → ⊥
-  unused_borrows_nothing s w q unused p h =
-      let at : (y : Subscriber) × (s.subscribers q ≡ Some y) × ((contains y.expired p ≡ true) ⊎ LeadsTo y.ends p) = (w.mailboxes p q).receiver_end h in
-      let here : contains (connected_publishers at.0) p ≡ true =
-      ⊎_elim (λ expired. contains_left (at.0).expired (occupants (at.0).ends) p expired)
-      (λ leads. contains_right (at.0).expired (occupants (at.0).ends) p (contains-occupants (at.0).ends p leads)) at.2 in
-      let all : (not (at.0).is_open && list_all (λ r. not (has_borrows (s.mailboxes r q))) (connected_publishers at.0)) ≡ true =
-      subst (λ o. option_map_or (λ (y : Subscriber). not y.is_open && list_all (λ r. not (has_borrows (s.mailboxes r q))) (connected_publishers y)) o
-      false ≡ true) at.1 unused in
-      let none : not (has_borrows (s.mailboxes p q)) ≡ true =
-      passes_all (λ r. not (has_borrows (s.mailboxes r q))) (connected_publishers at.0) p
-      (and_parts (not (at.0).is_open) (list_all (λ r. not (has_borrows (s.mailboxes r q))) (connected_publishers at.0)) all).1 here in
-      true≢false (sym none ∙ ap not h)
-
-  -- A closed subscriber that has borrowed nothing goes, and the state stays well-formed.
-  pub freed_if_unused_keeps : (s : State T U) → IsWellFormed s → (q : ℕ) → IsWellFormed (freed_if_unused s q)
-  freed_if_unused_keeps s w q =
-      cond_both (is_unused s q) (place_freed s q) s IsWellFormed
-      (λ unused. publishers_due_keeps (record s { subscribers = put_at s.subscribers q None; subscriber_places = vacated q s.subscriber_places })
-      (subscriber_removed_keeps s w q (unused_borrows_nothing s w q unused)))
-      (λ _. w)
-
-  -- No counter falls where a subscriber goes.
-  pub freed_if_unused_advances : (s : State T U) → (q : ℕ) → Advances s (freed_if_unused s q)
-  freed_if_unused_advances s q =
-      cond_both (is_unused s q) (place_freed s q) s (Advances s)
-      (λ _. record { config = refl; next_port = omega arith; next_message = omega arith })
-      (λ _. record { config = refl; next_port = omega arith; next_message = omega arith })
 
   -- ---- a sample is released
 
@@ -313,10 +213,10 @@ module _ {T U : Type 0} where
   pruned_place s q None = refl
   pruned_place s q (Some y) = refl
 
-  -- A subscriber that forgets whom it has no message of is well-formed, whatever of its messages went.
+  -- A subscriber that forgets whom it has no message of would be well-formed if it were open, whatever of its messages went.
   pub pruned_keeps : (s : State T U) (q : ℕ) (y : Subscriber) (subscribers : ℕ → Option Subscriber) (boxes : ℕ → ℕ → Mailbox) (warnings : List Warning)
       → SubscriberIsWellFormed s q y
-      → SubscriberIsWellFormed (with_receivers s subscribers boxes warnings) q (pruned (with_receivers s subscribers boxes warnings) q y)
+      → SubscriberIsWellFormed (with_receivers s subscribers boxes warnings) q (record (pruned (with_receivers s subscribers boxes warnings) q y) { is_open = true })
   pruned_keeps s q y subscribers boxes warnings b =
       let test : ℕ → Bool = is_connected (with_receivers s subscribers boxes warnings) q in
       record {
@@ -341,13 +241,14 @@ module _ {T U : Type 0} where
         expired_kept = λ p h.
             let found : (contains y.expired p ≡ true) × (test p ≡ true) = contains_in_filter test y.expired p h in
             subst (λ (o : Option Publisher). (is_some o || has_numbers (boxes p q)) ≡ true) (b.expired_gone p found.0) found.1;
+        is_used = λ closed. absurd (true≢false closed);
       }
 
-  -- A subscriber that forgets whom it has no message of still knows of whom it has borrowed something.
-  pub pruned_knows : (s : State T U) (q p : ℕ) (y : Subscriber) → has_borrows (s.mailboxes p q) ≡ true → (contains y.expired p ≡ true) ⊎ LeadsTo y.ends p
+  -- A subscriber that forgets whom it has no message of still knows whom it has one of.
+  pub pruned_knows : (s : State T U) (q p : ℕ) (y : Subscriber) → has_numbers (s.mailboxes p q) ≡ true → (contains y.expired p ≡ true) ⊎ LeadsTo y.ends p
       → (contains (pruned s q y).expired p ≡ true) ⊎ LeadsTo (pruned s q y).ends p
   pruned_knows s q p y h known =
-      let here : is_connected s q p ≡ true = or_right (is_present s p) (has_numbers (s.mailboxes p q)) (has_numbers-borrows (s.mailboxes p q) h) in
+      let here : is_connected s q p ≡ true = or_right (is_present s p) (has_numbers (s.mailboxes p q)) h in
       ⊎_elim
       (λ expired. inl (contains-filter (is_connected s q) y.expired p expired here))
       (λ leads. inr (leads.0, places_of_keeps (is_connected s q) y.ends leads.0 p leads.1 here)) known
@@ -377,6 +278,11 @@ module _ {T U : Type 0} where
       at_each_mailbox s.mailboxes p q (with_released n (s.mailboxes p q)) (λ i j box. has_borrows box ≡ true → has_borrows (s.mailboxes i j) ≡ true) i j
       (has_borrows_before_release n (s.mailboxes p q)) (λ h. h)
 
+  released_data : (s : State T U) (p q n i j : ℕ) → has_data (mailboxes_after_release s p q n i j) ≡ true → has_data (s.mailboxes i j) ≡ true
+  released_data s p q n i j =
+      at_each_mailbox s.mailboxes p q (with_released n (s.mailboxes p q)) (λ i j box. has_data box ≡ true → has_data (s.mailboxes i j) ≡ true) i j
+      (λ h. h) (λ h. h)
+
   -- the mailboxes of other subscribers stay
   released_apart : (s : State T U) (p q n i j : ℕ) → eqb j q ≡ false → mailboxes_after_release s p q n i j ≡ s.mailboxes i j
   released_apart s p q n i j =
@@ -393,14 +299,6 @@ module _ {T U : Type 0} where
         (λ same z f g. (z, ap s.subscribers same ∙ f, ap (λ (v : Subscriber). v.place) g, ap (λ (v : Subscriber). v.buffer) g))
         (λ _ f. (y, f, refl, refl));
     shrinks = released_shrinks s w p q n;
-    receivers = λ r y e. found_changed s.subscribers q (pruned (unborrowed s p q n) q) r y
-        (SubscriberIsWellFormed (with_receivers s (subscribers_after_release s p q n) (mailboxes_after_release s p q n) s.warnings) r y) e
-        (λ same z f g.
-        subst (λ k. SubscriberIsWellFormed (with_receivers s (subscribers_after_release s p q n) (mailboxes_after_release s p q n) s.warnings) k y) (sym same)
-        (subst (SubscriberIsWellFormed (with_receivers s (subscribers_after_release s p q n) (mailboxes_after_release s p q n) s.warnings) q) (sym g)
-        (pruned_keeps s q z (subscribers_after_release s p q n) (mailboxes_after_release s p q n) s.warnings (w.subscribers q z f))))
-        (λ apart f. subscriber_keeps s (subscribers_after_release s p q n) (mailboxes_after_release s p q n) s.warnings r y (w.subscribers r y f)
-        (λ i h. ap has_numbers (released_apart s p q n i r apart) ∙ h));
     borrowed = λ i j h.
         let old : (y : Subscriber) × (s.subscribers j ≡ Some y) × ((contains y.expired i ≡ true) ⊎ LeadsTo y.ends i) =
         (w.mailboxes i j).receiver_end (released_borrows s p q n i j h) in
@@ -409,17 +307,49 @@ module _ {T U : Type 0} where
           | true ↦ λ same. (
             pruned (unborrowed s p q n) q old.0,
             ap (option_map (pruned (unborrowed s p q n) q)) (ap s.subscribers (sym (eqb-true j q same)) ∙ old.1),
-            pruned_knows (unborrowed s p q n) q i old.0 (ap (λ k. has_borrows (mailboxes_after_release s p q n i k)) (sym (eqb-true j q same)) ∙ h) old.2,
+            pruned_knows (unborrowed s p q n) q i old.0 (ap (λ k. has_numbers (mailboxes_after_release s p q n i k)) (sym (eqb-true j q same))
+                ∙ has_numbers-borrows (mailboxes_after_release s p q n i j) h) old.2,
+          )
+          | false ↦ λ _. old
+        ] refl;
+    departed = λ i j gone h.
+        let old : (y : Subscriber) × (s.subscribers j ≡ Some y) × (y.is_open ≡ true) × ((contains y.expired i ≡ true) ⊎ LeadsTo y.ends i) =
+        (w.mailboxes i j).departed gone (released_data s p q n i j h) in
+        elim (eqb j q) as (λ b. eqb j q ≡ b → (y : Subscriber) × (cond b (option_map (pruned (unborrowed s p q n) q) (s.subscribers q)) (s.subscribers j) ≡
+        Some y) × (y.is_open ≡ true) × ((contains y.expired i ≡ true) ⊎ LeadsTo y.ends i)) [
+          | true ↦ λ same. (
+            pruned (unborrowed s p q n) q old.0,
+            ap (option_map (pruned (unborrowed s p q n) q)) (ap s.subscribers (sym (eqb-true j q same)) ∙ old.1),
+            old.2,
+            pruned_knows (unborrowed s p q n) q i old.0 (ap (λ k. has_numbers (mailboxes_after_release s p q n i k)) (sym (eqb-true j q same))
+                ∙ has_numbers-data (mailboxes_after_release s p q n i j) h) old.3,
           )
           | false ↦ λ _. old
         ] refl;
   }
 
+  -- The state after a release, before a closed subscriber that has borrowed nothing more goes.
+  released_nearly : (s : State T U) → IsWellFormed s → (p q n : ℕ)
+      → IsNearlyWellFormed (with_receivers s (subscribers_after_release s p q n) (mailboxes_after_release s p q n) s.warnings) q
+  released_nearly s w p q n = record {
+    rest = receivers_agree s (subscribers_after_release s p q n) (mailboxes_after_release s p q n) s.warnings w (released_agrees s w p q n);
+    others = λ r y apart e. subscriber_keeps s (subscribers_after_release s p q n) (mailboxes_after_release s p q n) s.warnings r y
+        (w.subscribers r y (sym (put_at-other s.subscribers q (option_map (pruned (unborrowed s p q n) q) (s.subscribers q)) r apart) ∙ e))
+        (λ i h. ap has_numbers (released_apart s p q n i r apart) ∙ h)
+        (λ i h. ap has_borrows (released_apart s p q n i r apart) ∙ h);
+    own = λ y e. found_changed s.subscribers q (pruned (unborrowed s p q n) q) q y
+        (SubscriberIsWellFormed (with_receivers s (subscribers_after_release s p q n) (mailboxes_after_release s p q n) s.warnings) q (record y { is_open = true })) e
+        (λ _ z f g.
+        subst (λ (v : Subscriber). SubscriberIsWellFormed (with_receivers s (subscribers_after_release s p q n) (mailboxes_after_release s p q n) s.warnings) q
+        (record v { is_open = true })) (sym g)
+        (pruned_keeps s q z (subscribers_after_release s p q n) (mailboxes_after_release s p q n) s.warnings (w.subscribers q z f)))
+        (λ apart _. absurd (eqb-false q q apart refl));
+  }
+
   -- A release keeps a state well-formed.
   pub released_keeps : (s : State T U) → IsWellFormed s → (p q n : ℕ) → IsWellFormed (released s p q n)
   released_keeps s w p q n =
-      freed_if_unused_keeps (subscriber_pruned (unborrowed s p q n) q)
-      (receivers_keep s (subscribers_after_release s p q n) (mailboxes_after_release s p q n) s.warnings w (released_agrees s w p q n)) q
+      freed_if_unused_keeps (subscriber_pruned (unborrowed s p q n) q) q (released_nearly s w p q n)
 
   -- No counter falls at a release.
   pub released_advances : (s : State T U) (p q n : ℕ) → Advances s (released s p q n)

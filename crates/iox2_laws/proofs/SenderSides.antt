@@ -57,6 +57,7 @@ module _ {T U : Type 0} where
     pub known : (q : ℕ) → has_numbers (boxes q) ≡ true → q < s.next_port
     pub sender_end : (q : ℕ) → has_numbers (boxes q) ≡ true → LeadsTo ends q
     pub borrows : (q : ℕ) → has_borrows (boxes q) ≡ true → has_borrows (s.mailboxes p q) ≡ true
+    pub borrowed : (q : ℕ) → has_borrows (s.mailboxes p q) ≡ true → has_borrows (boxes q) ≡ true
     pub comes_from : (q : ℕ) → ComesFrom s p x q (boxes q)
 
   -- a subscriber stands at its place, and at no other
@@ -97,6 +98,7 @@ module _ {T U : Type 0} where
           known = λ q h. ((w.mailboxes p q).known h).1;
           sender_end = λ q. (w.mailboxes p q).sender_end x present;
           borrows = λ q h. h;
+          borrowed = λ q h. h;
           comes_from = λ q n h. inl h;
         }
 
@@ -122,6 +124,8 @@ module _ {T U : Type 0} where
           (λ _ h. left (sym (has_numbers_dropped (boxes q)) ∙ h)) (λ other h. others r other (k.sender_end r h));
       borrows = λ r. at_each boxes q new (λ i box. has_borrows box ≡ true → has_borrows (s.mailboxes p i) ≡ true) r
           (λ _. k.borrows q) (λ _. k.borrows r);
+      borrowed = λ r. at_each boxes q new (λ i box. has_borrows (s.mailboxes p i) ≡ true → has_borrows box ≡ true) r
+          (λ _. k.borrowed q) (λ _. k.borrowed r);
       comes_from = λ r. at_each boxes q new (ComesFrom s p x) r
           (λ _ n h. k.comes_from q n (contains_in_dropped (boxes q) n h)) (λ _. k.comes_from r);
     }
@@ -198,6 +202,8 @@ module _ {T U : Type 0} where
               (l.0, end_stays side.ends place l.0 r (Some q) (λ same. none-some r (sym free ∙ ap (occupant side.ends) (sym same) ∙ l.1)) l.1));
           borrows = λ r. at_each side.mailboxes q new (λ i box. has_borrows box ≡ true → has_borrows (s.mailboxes p i) ≡ true) r
               (λ _ h. k.borrows q (sym (has_borrows-history (last_n buffer x.history) (side.mailboxes q)) ∙ h)) (λ _. k.borrows r);
+          borrowed = λ r. at_each side.mailboxes q new (λ i box. has_borrows (s.mailboxes p i) ≡ true → has_borrows box ≡ true) r
+              (λ _ h. has_borrows-history (last_n buffer x.history) (side.mailboxes q) ∙ k.borrowed q h) (λ _. k.borrowed r);
           comes_from = λ r. at_each side.mailboxes q new (ComesFrom s p x) r
               (λ _ n h. inr (contains_in_history buffer x.history (side.mailboxes q) n empty h)) (λ _. k.comes_from r);
         }

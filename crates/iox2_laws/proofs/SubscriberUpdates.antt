@@ -1,5 +1,7 @@
 -- A subscriber's update keeps a state well-formed.
-use Rattle.std.proofs.Common.{◌≡◌, ℕ, Bool, true, refl, sym, ap, subst, ◌∙◌, arith, Option, Some, ◌⊎◌, ⊎_elim, MatchOption}
+use Rattle.std.proofs.Common.{◌≡◌, ℕ, Bool, true, refl, sym, ap, subst, ◌∙◌, arith, Option, Some, ◌⊎◌, inl, inr, ⊎_elim, MatchOption}
+use Rattle.std.proofs.lemmas.Bool.{true≢false}
+use Rattle.std.proofs.lemmas.Option.{same_Some}
 use Rattle.std.specs.Option.{option_map}
 use Rattle.iox2_laws.proofs.Cases.{by_option, by_bool}
 use Rattle.iox2_laws.proofs.Puts.{put_at-same, put_at-other, at_each, found_put}
@@ -10,7 +12,7 @@ use Rattle.iox2_laws.proofs.Walks.{for_each_place_keeps}
 use Rattle.iox2_laws.specs.Laws.{Advances}
 use Rattle.iox2_store.specs.Limits.{buffer_limit, expired_limit}
 use Rattle.iox2_store.specs.Numbers.{put_at, contains}
-use Rattle.iox2_store.specs.Mailbox.{Mailbox, has_numbers, has_borrows, waiting_dropped, IsWithin}
+use Rattle.iox2_store.specs.Mailbox.{Mailbox, has_numbers, has_borrows, has_data, waiting_dropped, IsWithin}
 use Rattle.iox2_store.specs.Records.{Subscriber, Handler, Environment}
 use Rattle.iox2_store.specs.State.{State, has_sender_end}
 use Rattle.iox2_store.specs.SubscriberUpdate.{ReceiverSide, ConnectAtPlace, DisconnectAtPlace, UpdateReceiverSide, receiver_side, with_receiver_side, UpdateSubscriber}
@@ -84,7 +86,15 @@ module _ {T U : Type 0} where
     expired_known = b.expired_known;
     expired_gone = b.expired_gone;
     expired_kept = λ p h. ap has_numbers (own_side s q side p) ∙ b.expired_kept p h;
+    is_used = λ closed. let used : (p : ℕ) × (has_borrows (s.mailboxes p q) ≡ true) = old.is_used closed in
+        (used.0, ap has_borrows (own_side s q side used.0) ∙ ⊎_elim (λ same. ap has_borrows same) (λ dropped. ap has_borrows dropped.0) (b.boxes used.0) ∙ used.1);
   }
+
+  -- What waits in a mailbox of the side waited before.
+  waited_before : (s : State T U) (q : ℕ) (side : ReceiverSide) → ReceiverSideIsWellFormed s q side → (p : ℕ) → has_data (side.mailboxes p) ≡ true
+      → has_data (s.mailboxes p q) ≡ true
+  waited_before s q side b p h =
+      ⊎_elim (λ same. ap has_data (sym same) ∙ h) (λ dropped. absurd (true≢false (sym h ∙ ap has_data dropped.0))) (b.boxes p)
 
   updated_agrees : (s : State T U) → IsWellFormed s → (q : ℕ) (y : Subscriber) (side : ReceiverSide) → s.subscribers q ≡ Some y → ReceiverSideIsWellFormed s q side
       → ReceiversAgree s (put_at s.subscribers q (Some (subscriber_with y side))) (mailboxes_with s q side) side.warnings
@@ -95,19 +105,40 @@ module _ {T U : Type 0} where
         (λ i z. (v : Subscriber) × (s.subscribers i ≡ Some v) × (z.place ≡ v.place) × (z.buffer ≡ v.buffer)) r z e
         (λ _. (y, here, refl, refl)) (λ _ f. (z, f, refl, refl));
     shrinks = side_shrinks s w q side b;
-    receivers = λ r z e. found_put s.subscribers q (subscriber_with y side) (SubscriberIsWellFormed (with_receiver_side s q y side)) r z e
-        (λ _. updated_subscriber s q y side b (w.subscribers q y here))
-        (λ apart f. subscriber_keeps s (put_at s.subscribers q (Some (subscriber_with y side))) (mailboxes_with s q side) side.warnings r z (w.subscribers r z f)
-        (λ p h. ap has_numbers (put_at-other (s.mailboxes p) q (side.mailboxes p) r apart) ∙ h));
     borrowed = λ i j.
         at_each (s.mailboxes i) q (side.mailboxes i)
         (λ k m. has_borrows m ≡ true → (z : Subscriber) × (put_at s.subscribers q (Some (subscriber_with y side)) k ≡ Some z) ×
         ((contains z.expired i ≡ true) ⊎ LeadsTo z.ends i)) j
-        (λ _ h. (subscriber_with y side, put_at-same s.subscribers q (Some (subscriber_with y side)), b.borrows i h))
+        (λ _ h. (subscriber_with y side, put_at-same s.subscribers q (Some (subscriber_with y side)), b.knows i (inl h)))
         (λ apart h.
         let old : (z : Subscriber) × (s.subscribers j ≡ Some z) × ((contains z.expired i ≡ true) ⊎ LeadsTo z.ends i) = (w.mailboxes i j).receiver_end h in
         (old.0, put_at-other s.subscribers q (Some (subscriber_with y side)) j apart ∙ old.1, old.2));
+    departed = λ i j gone.
+        at_each (s.mailboxes i) q (side.mailboxes i)
+        (λ k m. has_data m ≡ true → (z : Subscriber) × (put_at s.subscribers q (Some (subscriber_with y side)) k ≡ Some z) × (z.is_open ≡ true) ×
+        ((contains z.expired i ≡ true) ⊎ LeadsTo z.ends i)) j
+        (λ _ h.
+        let old : (z : Subscriber) × (s.subscribers q ≡ Some z) × (z.is_open ≡ true) × ((contains z.expired i ≡ true) ⊎ LeadsTo z.ends i) =
+        (w.mailboxes i q).departed gone (waited_before s q side b i h) in (
+          subscriber_with y side,
+          put_at-same s.subscribers q (Some (subscriber_with y side)),
+          ap (λ (z : Subscriber). z.is_open) (same_Some y old.0 (sym here ∙ old.1)) ∙ old.2,
+          b.knows i (inr (gone, h)),
+        ))
+        (λ apart h.
+        let old : (z : Subscriber) × (s.subscribers j ≡ Some z) × (z.is_open ≡ true) × ((contains z.expired i ≡ true) ⊎ LeadsTo z.ends i) =
+        (w.mailboxes i j).departed gone h in
+        (old.0, put_at-other s.subscribers q (Some (subscriber_with y side)) j apart ∙ old.1, old.2, old.3));
   }
+
+  updated_receivers : (s : State T U) → IsWellFormed s → (q : ℕ) (y : Subscriber) (side : ReceiverSide) → s.subscribers q ≡ Some y → ReceiverSideIsWellFormed s q side
+      → (r : ℕ) (z : Subscriber) → put_at s.subscribers q (Some (subscriber_with y side)) r ≡ Some z → SubscriberIsWellFormed (with_receiver_side s q y side) r z
+  updated_receivers s w q y side here b r z e =
+      found_put s.subscribers q (subscriber_with y side) (SubscriberIsWellFormed (with_receiver_side s q y side)) r z e
+      (λ _. updated_subscriber s q y side b (w.subscribers q y here))
+      (λ apart f. subscriber_keeps s (put_at s.subscribers q (Some (subscriber_with y side))) (mailboxes_with s q side) side.warnings r z (w.subscribers r z f)
+      (λ p h. ap has_numbers (put_at-other (s.mailboxes p) q (side.mailboxes p) r apart) ∙ h)
+      (λ p h. ap has_borrows (put_at-other (s.mailboxes p) q (side.mailboxes p) r apart) ∙ h))
 
   -- A subscriber's update keeps a state well-formed.
   pub update_subscriber_keeps : (environment : Environment) (s : State T U) (q : ℕ) (s' : State T U) (failure : Option ConnectionFailure)
@@ -115,11 +146,13 @@ module _ {T U : Type 0} where
   update_subscriber_keeps environment s q s' failure w h =
       by_option (IsWellFormed s') (s.subscribers q) _ _ h (λ _ v. absurd v) (λ y here h.
       by_bool (IsWellFormed s') y.is_due _ _ h
-      (λ _ h. subst IsWellFormed (sym h.2)
+      (λ _ h.
+      let b : ReceiverSideIsWellFormed s q h.0 =
+      update_receiver_side_keeps environment s w q y.degradation_handler (λ p. has_sender_end s p q) (receiver_side s q y) h.0 failure
+      (receiver_side_begins s w q y here) h.1 in
+      subst IsWellFormed (sym h.2)
       (receivers_keep s (put_at s.subscribers q (Some (subscriber_with y h.0))) (mailboxes_with s q h.0) (h.0).warnings w
-      (updated_agrees s w q y h.0 here
-      (update_receiver_side_keeps environment s w q y.degradation_handler (λ p. has_sender_end s p q) (receiver_side s q y) h.0 failure
-      (receiver_side_begins s w q y here) h.1))))
+      (updated_agrees s w q y h.0 here b) (updated_receivers s w q y h.0 here b)))
       (λ _ h. subst IsWellFormed (sym h.0) w))
 
   -- No counter falls at a subscriber's update.

@@ -37,6 +37,7 @@ no_limit checks_length x len some fits =
   where
     after : Option LoanError
     after = cond (nat_le x.max_loaned_samples (length x.loans)) (Some ExceedsMaxLoans) None
+
     at : (checks static : Bool) → (checks ≡ true → nat_lt x.initial_max_slice_len len ≡ false) → cond (checks && static && nat_lt x.initial_max_slice_len len) (Some ExceedsMaxLoanSize) after ≡ after
     at true true short = rw (short refl) refl
     at true false short = refl
@@ -45,53 +46,53 @@ no_limit checks_length x len some fits =
 module _ {T U : Type 0} where
   -- A run from a well-formed state ends in one, and no counter falls.
   pub run_sound : (environment : Environment) (defaults : Defaults T U) (m : Messages T U) (s : State T U) (handles : List Handle)
-    (commands : List (Command T U)) (replies : List (Reply T U)) (events : List (Event T U)) (m' : Messages T U) (s' : State T U)
-    → IsWellFormed s → RunFrom environment defaults m s handles commands replies events m' s' → IsWellFormed s' × Advances s s'
+      (commands : List (Command T U)) (replies : List (Reply T U)) (events : List (Event T U)) (m' : Messages T U) (s' : State T U)
+      → IsWellFormed s → RunFrom environment defaults m s handles commands replies events m' s' → IsWellFormed s' × Advances s s'
   run_sound environment defaults m s handles [] [] [] m' s' w h =
       (subst IsWellFormed (sym h.1) w, subst (Advances s) (sym h.1) (stays s))
   run_sound environment defaults m s handles (command ∷ commands) (reply ∷ replies) (event ∷ events) m' s' w h =
       let sound : IsSound s h.4 = step_sound environment h.0 h.1 m s handles w command h.4 h.5 in
       let rest : IsWellFormed s' × Advances (h.4).state s' =
-          run_sound environment defaults (messages_after (h.4).event m) (h.4).state (handles ++ (h.4).handle ∷ []) commands replies events m' s' sound.well_formed h.8 in
+      run_sound environment defaults (messages_after (h.4).event m) (h.4).state (handles ++ (h.4).handle ∷ []) commands replies events m' s' sound.well_formed h.8 in
       (rest.0, advances_trans s (h.4).state s' sound.advances rest.1)
   run_sound environment defaults m s handles _ _ _ m' s' w h = absurd h
 
   -- In every state that is reached from a new domain, no publisher holds more than the worst case.
   pub reached_states_hold_few : (environment : Environment) (defaults : Defaults T U) (c : ServiceConfig)
-    (m' : Messages T U) (s' : State T U) (commands : List (Command T U)) (replies : List (Reply T U)) (events : List (Event T U))
-    → Run environment defaults no_messages (fresh c) commands replies events m' s'
-    → (s'.config ≡ c) × IsWellFormed s' × HoldsAtMostWorstCase s'
+      (m' : Messages T U) (s' : State T U) (commands : List (Command T U)) (replies : List (Reply T U)) (events : List (Event T U))
+      → Run environment defaults no_messages (fresh c) commands replies events m' s'
+      → (s'.config ≡ c) × IsWellFormed s' × HoldsAtMostWorstCase s'
   reached_states_hold_few environment defaults c m' s' commands replies events h =
       let sound : IsWellFormed s' × Advances (fresh {T = T} {U = U} c) s' =
-          run_sound environment defaults no_messages (fresh c) [] commands replies events m' s' (fresh_is_well_formed c) h in
+      run_sound environment defaults no_messages (fresh c) [] commands replies events m' s' (fresh_is_well_formed c) h in
       ((sound.1).config, sound.0, holds_at_most_worst_case s' sound.0)
 
   -- A static publisher that holds fewer messages and loans than it has slots grants a loan within its limits.
   static_loan_granted : (environment : Environment) (default_header : U) (checks_length : Bool) (len : ℕ) (s : State T U) (p : ℕ) (x : Publisher) (s' : State T U) (refusal : Option LoanError)
-    → size (held s p x) < x.slots → s.publishers p ≡ Some x → is_static x.allocation_strategy ≡ true
-    → length x.loans < x.max_loaned_samples → s.next_message < last_number → (checks_length ≡ true → len ≤ x.initial_max_slice_len)
-    → GrantLoan environment default_header checks_length len s p s' refusal → refusal ≡ None
+      → size (held s p x) < x.slots → s.publishers p ≡ Some x → is_static x.allocation_strategy ≡ true
+      → length x.loans < x.max_loaned_samples → s.next_message < last_number → (checks_length ≡ true → len ≤ x.initial_max_slice_len)
+      → GrantLoan environment default_header checks_length len s p s' refusal → refusal ≡ None
   static_loan_granted environment default_header checks_length len s p x s' refusal few present static some below fits h =
       let k : MatchOption (limit_error checks_length x len)
-            (MatchBool (is_static x.allocation_strategy) (StaticLoan default_header s p x len s' refusal) (DynamicLoan environment default_header s p x len s' refusal))
-            (λ limit. (s' ≡ s) × (refusal ≡ Some limit)) = rw present at h in
+      (MatchBool (is_static x.allocation_strategy) (StaticLoan default_header s p x len s' refusal) (DynamicLoan environment default_header s p x len s' refusal))
+      (λ limit. (s' ≡ s) × (refusal ≡ Some limit)) = rw present at h in
       by_option (refusal ≡ None) (limit_error checks_length x len) _ _ k
-        (λ _ j. by_bool (refusal ≡ None) (is_static x.allocation_strategy) _ _ j
-          (λ _ i. by_bool (refusal ≡ None) (size (held s p x) == x.slots) _ _ i
-            (λ full _. let same : size (held s p x) ≡ x.slots = eqb-true (size (held s p x)) x.slots full in absurd (omega arith))
-            (λ _ g. by_bool (refusal ≡ None) (s.next_message == last_number) _ _ g
-              (λ last _. absurd (at_end s.next_message last_number (eqb-true s.next_message last_number last) below))
-              (λ _ f. f.1)))
-          (λ dynamic _. absurd (true≢false (sym static ∙ dynamic))))
-        (λ limit e _. absurd (none-some limit (sym (no_limit checks_length x len some fits) ∙ e)))
+      (λ _ j. by_bool (refusal ≡ None) (is_static x.allocation_strategy) _ _ j
+      (λ _ i. by_bool (refusal ≡ None) (size (held s p x) == x.slots) _ _ i
+      (λ full _. let same : size (held s p x) ≡ x.slots = eqb-true (size (held s p x)) x.slots full in absurd (omega arith))
+      (λ _ g. by_bool (refusal ≡ None) (s.next_message == last_number) _ _ g
+      (λ last _. absurd (at_end s.next_message last_number (eqb-true s.next_message last_number last) below))
+      (λ _ f. f.1)))
+      (λ dynamic _. absurd (true≢false (sym static ∙ dynamic))))
+      (λ limit e _. absurd (none-some limit (sym (no_limit checks_length x len some fits) ∙ e)))
 
   -- A static publisher with the worst case of slots grants a loan of permitted length while fewer are out than may be.
   pub worst_case_of_slots_grants : (environment : Environment) (default_header : U) (s s' : State T U) (p : ℕ) (x : Publisher) (checks_length : Bool) (len : ℕ) (refusal : Option LoanError)
-    → IsWellFormed s → s.publishers p ≡ Some x → is_static x.allocation_strategy ≡ true → x.slots ≡ worst_case s.config x.max_loaned_samples
-    → length x.loans < x.max_loaned_samples → s.next_message < last_number → (checks_length ≡ true → len ≤ x.initial_max_slice_len)
-    → GrantLoan environment default_header checks_length len s p s' refusal → refusal ≡ None
+      → IsWellFormed s → s.publishers p ≡ Some x → is_static x.allocation_strategy ≡ true → x.slots ≡ worst_case s.config x.max_loaned_samples
+      → length x.loans < x.max_loaned_samples → s.next_message < last_number → (checks_length ≡ true → len ≤ x.initial_max_slice_len)
+      → GrantLoan environment default_header checks_length len s p s' refusal → refusal ≡ None
   worst_case_of_slots_grants environment default_header s s' p x checks_length len refusal w present static slots some below fits h =
       static_loan_granted environment default_header checks_length len s p x s' refusal
-        (fewer (size (held s p x)) ((s.config).max_subscribers * (buffer_limit s.config + (s.config).subscriber_max_borrowed_samples) + (s.config).history_size)
-          (length x.loans) x.max_loaned_samples x.slots (holds_at_most_worst_case s w p x present) slots some)
-        present static some below fits h
+      (fewer (size (held s p x)) ((s.config).max_subscribers * (buffer_limit s.config + (s.config).subscriber_max_borrowed_samples) + (s.config).history_size)
+      (length x.loans) x.max_loaned_samples x.slots (holds_at_most_worst_case s w p x present) slots some)
+      present static some below fits h

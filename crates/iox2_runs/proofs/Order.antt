@@ -27,7 +27,7 @@ use Rattle.iox2_runs.proofs.OrderCommands.{IsNew, AllNew, out_after, got_then, G
 
 -- a further element of a list is the last, or it was there before
 found_last : {A : Type 0} (xs : List A) (x : A) (P : A → Type 0) → ((i : ℕ) (a : A) → slice_get xs i ≡ Some a → P a) → P x → (i : ℕ) (a : A)
-  → slice_get (xs ++ x ∷ []) i ≡ Some a → P a
+    → slice_get (xs ++ x ∷ []) i ≡ Some a → P a
 found_last [] x P old new zero a e = subst P (same_Some x a e) new
 found_last [] x P old new (suc i) a e = absurd (none-some a e)
 found_last (y ∷ xs) x P old new zero a e = old zero a e
@@ -86,16 +86,16 @@ module _ {T U : Type 0} where
   received_after events (Message_received p' q' n) p q =
       received-append p q events (Message_received p' q' n ∷ [])
       ∙ elim (eqb p p') as (λ b. eqb p p' ≡ b → received p q events ++ cond (eqb p' p && eqb q' q) (n ∷ []) []
-            ≡ cond b (put_at (λ j. received p' j events) q' (received p' q' events ++ n ∷ [])) (λ j. received p j events) q) [
-          | true ↦ λ e. let same : p ≡ p' = eqb-true p p' e in
-              ap (λ b. received p q events ++ cond (b && eqb q' q) (n ∷ []) []) (eq-eqb p' p (sym same))
-              ∙ ap (λ i. received i q events ++ cond (eqb q' q) (n ∷ []) []) same ∙ grows (λ j. received p' j events) q' n q
-          | false ↦ λ e. ap (λ b. received p q events ++ cond (b && eqb q' q) (n ∷ []) []) (ne_eqb p' p (λ same. true≢false (sym (eq-eqb p p' (sym same)) ∙ e))) ∙ append-nil (received p q events)
-        ] refl
+      ≡ cond b (put_at (λ j. received p' j events) q' (received p' q' events ++ n ∷ [])) (λ j. received p j events) q) [
+        | true ↦ λ e. let same : p ≡ p' = eqb-true p p' e in
+            ap (λ b. received p q events ++ cond (b && eqb q' q) (n ∷ []) []) (eq-eqb p' p (sym same))
+            ∙ ap (λ i. received i q events ++ cond (eqb q' q) (n ∷ []) []) same ∙ grows (λ j. received p' j events) q' n q
+        | false ↦ λ e. ap (λ b. received p q events ++ cond (b && eqb q' q) (n ∷ []) []) (ne_eqb p' p (λ same. true≢false (sym (eq-eqb p p' (sym same)) ∙ e))) ∙ append-nil (received p q events)
+      ] refl
 
   -- what holds of lists holds of the same lists
   ordered_same : (p0 n0 : ℕ) (out out' : ℕ → List ℕ) (got got' : ℕ → ℕ → List ℕ) (s : State T U) → ((p : ℕ) → out' p ≡ out p) → ((p q : ℕ) → got' p q ≡ got p q)
-    → Ordered p0 n0 out got s → Ordered p0 n0 out' got' s
+      → Ordered p0 n0 out got s → Ordered p0 n0 out' got' s
   ordered_same p0 n0 out out' got got' s e f w =
       let same_out : out ≡ out' = λ i p. sym (e p) i in
       let same_got : got ≡ got' = λ i p q. sym (f p q) i in
@@ -115,7 +115,8 @@ module _ {T U : Type 0} where
     well_formed = w;
     handles_new = λ i handle e. absurd (none-some handle e);
     ordered = record {
-      ports = omega arith; numbers = omega arith;
+      ports = omega arith;
+      numbers = omega arith;
       loans = λ n l e high. let low : n < s.next_message = (w.loans n l e).below in absurd (omega arith);
       order = λ p q high. IsSubsequence-same (nothing_waits (s.mailboxes p q) (false_from (has_numbers (s.mailboxes p q)) (λ some.
           let low : q < s.next_port = ((w.mailboxes p q).known some).1 in absurd (omega arith))));
@@ -134,11 +135,11 @@ module _ {T U : Type 0} where
   module _ (environment : Environment) (defaults : Defaults T U) where
     -- Each step keeps it.
     keeps_in_order : (p0 n0 : ℕ) (past : Past T U) (m : Messages T U) (s : State T U) (default_value : T) (default_header : U) (command : Command T U) (o : Outcome T U)
-      → IsInOrder p0 n0 past m s → Step environment default_value default_header m s past.handles command o
-      → IsInOrder p0 n0 (past_with past command o) (messages_after o.event m) o.state
+        → IsInOrder p0 n0 past m s → Step environment default_value default_header m s past.handles command o
+        → IsInOrder p0 n0 (past_with past command o) (messages_after o.event m) o.state
     keeps_in_order p0 n0 past m s default_value default_header command o k h =
         let goes : Goes p0 n0 (λ p. sent p past.events) (λ p q. received p q past.events) o =
-            command_goes p0 n0 (λ p. sent p past.events) (λ p q. received p q past.events) environment default_value default_header m s past.handles k.well_formed k.ordered k.handles_new command o h in
+        command_goes p0 n0 (λ p. sent p past.events) (λ p q. received p q past.events) environment default_value default_header m s past.handles k.well_formed k.ordered k.handles_new command o h in
         let sound : IsSound s o = step_sound environment default_value default_header m s past.handles k.well_formed command o h in
         record {
           well_formed = sound.well_formed;
@@ -159,17 +160,17 @@ module _ {T U : Type 0} where
     -- In a run from any well-formed state, what a subscriber receives from a publisher is a part of what that publisher
     -- sent, in the same order, each message at most once.
     pub receives_in_order : (m m' : Messages T U) (s s' : State T U) (commands : List (Command T U)) (replies : List (Reply T U)) (events : List (Event T U))
-      → IsWellFormed s → Run environment defaults m s commands replies events m' s' → (p q : ℕ)
-      → IsSubsequence (received p q events) (sent p events) × IsOnce (received p q events)
+        → IsWellFormed s → Run environment defaults m s commands replies events m' s' → (p q : ℕ)
+        → IsSubsequence (received p q events) (sent p events) × IsOnce (received p q events)
     receives_in_order m m' s s' commands replies events w h p q =
         let p0 : ℕ = s.next_port in
         let n0 : ℕ = s.next_message in
         let k : (past : Past T U) × (past.commands ≡ commands) × (past.replies ≡ replies) × (past.events ≡ events) × IsInOrder p0 n0 past m' s' =
-            run_induction environment defaults (IsInOrder p0 n0)
-              (λ past m s default_value default_header command o _ _ v step. keeps_in_order p0 n0 past m s default_value default_header command o v step)
-              no_past m m' s s' commands replies events (begins_in_order m s w) h in
+        run_induction environment defaults (IsInOrder p0 n0)
+        (λ past m s default_value default_header command o _ _ v step. keeps_in_order p0 n0 past m s default_value default_header command o v step)
+        no_past m m' s s' commands replies events (begins_in_order m s w) h in
         let end : Ordered p0 n0 (λ p. sent p events) (λ p q. received p q events) s' =
-            subst (λ (es : List (Event T U)). Ordered p0 n0 (λ p. sent p es) (λ p q. received p q es) s') k.3 (k.4).ordered in
+        subst (λ (es : List (Event T U)). Ordered p0 n0 (λ p. sent p es) (λ p q. received p q es) s') k.3 (k.4).ordered in
         let part : IsSubsequence (received p q events) (sent p events) = in_order p0 n0 (λ p. sent p events) (λ p q. received p q events) s' end p q in
         (part, once_part part (end.once p))
 

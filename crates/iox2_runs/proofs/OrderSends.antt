@@ -21,14 +21,14 @@ use Rattle.iox2_runs.proofs.Subsequences.{IsSubsequence-refl, IsSubsequence-tran
 
 -- a number that is appended comes behind what was there
 appended_in_order : (buffer n : ℕ) (box : Mailbox) (got before : List ℕ) → IsSubsequence (got ++ box.waiting) before
-  → IsSubsequence (got ++ (with_appended buffer n box).waiting) (before ++ n ∷ [])
+    → IsSubsequence (got ++ (with_appended buffer n box).waiting) (before ++ n ∷ [])
 appended_in_order buffer n box got before h =
     let behind : (ws : List ℕ) → IsSubsequence ws box.waiting → IsSubsequence (got ++ (ws ++ n ∷ [])) (before ++ n ∷ []) =
-        λ ws part. subst (λ xs. IsSubsequence xs (before ++ n ∷ [])) (append_assoc got ws (n ∷ []))
-          (IsSubsequence-push (IsSubsequence-trans (IsSubsequence-append (IsSubsequence-refl got) ws box.waiting part) h) n) in
+    λ ws part. subst (λ xs. IsSubsequence xs (before ++ n ∷ [])) (append_assoc got ws (n ∷ []))
+    (IsSubsequence-push (IsSubsequence-trans (IsSubsequence-append (IsSubsequence-refl got) ws box.waiting part) h) n) in
     cond_both (ltb (length box.waiting) buffer) box.waiting (drop 1 box.waiting) (λ ws. IsSubsequence (got ++ (ws ++ n ∷ [])) (before ++ n ∷ []))
-      (λ _. behind box.waiting (IsSubsequence-refl box.waiting))
-      (λ _. behind (drop 1 box.waiting) (IsSubsequence-drop 1 box.waiting))
+    (λ _. behind box.waiting (IsSubsequence-refl box.waiting))
+    (λ _. behind (drop 1 box.waiting) (IsSubsequence-drop 1 box.waiting))
 
 -- an end behind the first is an end
 later_end : (end : Option ℕ) (rest : List (Option ℕ)) (q : ℕ) → LeadsTo rest q → LeadsTo (end ∷ rest) q
@@ -60,11 +60,11 @@ module _ (p0 : ℕ) (got : ℕ → List ℕ) (before : List ℕ) (n : ℕ) where
 
   -- the first of the ends gets the message
   served : (q : ℕ) (rest : List (Option ℕ)) (boxes : ℕ → Mailbox) (buffer : ℕ) (box : Mailbox) → IsInjective (Some q ∷ rest) → box ≡ with_appended buffer n (boxes q)
-    → Serving (Some q ∷ rest) boxes → Serving rest (put_at boxes q box)
+      → Serving (Some q ∷ rest) boxes → Serving rest (put_at boxes q box)
   served q rest boxes buffer box apart e v = record {
     whole = λ r. at_each boxes q box (λ r b. p0 ≤ r → IsSubsequence (got r ++ b.waiting) (before ++ n ∷ [])) r
         (λ _ new. subst (λ (b : Mailbox). IsSubsequence (got q ++ b.waiting) (before ++ n ∷ [])) (sym e)
-          (appended_in_order buffer n (boxes q) (got q) before (v.unserved q new (0, refl)))) (λ _. v.whole r);
+        (appended_in_order buffer n (boxes q) (got q) before (v.unserved q new (0, refl)))) (λ _. v.whole r);
     unserved = λ r. at_each boxes q box (λ r b. p0 ≤ r → LeadsTo rest r → IsSubsequence (got r ++ b.waiting) before) r
         (λ _ new l. let same : 0 ≡ suc l.0 = apart 0 (suc l.0) q refl l.1 in absurd (omega arith))
         (λ _ new l. v.unserved r new (later_end (Some q) rest r l));
@@ -79,18 +79,18 @@ module _ (p0 : ℕ) (got : ℕ → List ℕ) (before : List ℕ) (n : ℕ) where
     left_out end rest boxes mid result v = (one_fewer end rest mid v, λ _. v)
 
     put_in_order : (q : ℕ) (rest : List (Option ℕ)) (retries : ℕ) (elapsed : Duration) (buffer : Option ℕ) (boxes : ℕ → Mailbox) (result : PutResult) (box : Mailbox)
-      → IsInjective (Some q ∷ rest) → Serving (Some q ∷ rest) boxes
-      → Put environment c p strategy handler buffers n q retries elapsed buffer (boxes q) result box → AfterEnd (Some q) rest result (put_at boxes q box)
+        → IsInjective (Some q ∷ rest) → Serving (Some q ∷ rest) boxes
+        → Put environment c p strategy handler buffers n q retries elapsed buffer (boxes q) result box → AfterEnd (Some q) rest result (put_at boxes q box)
     put_in_order q rest retries elapsed None boxes result box apart v h =
         left_out (Some q) rest boxes (put_at boxes q box) result (rewritten (Some q ∷ rest) boxes q box h.1 v)
     put_in_order q rest retries elapsed (Some buffer) boxes result box apart v h =
         by_bool (AfterEnd (Some q) rest result (put_at boxes q box)) (has_room buffer (boxes q) || c.enable_safe_overflow) _ _ h
-          (λ _ h. (served q rest boxes buffer box apart h.1 v, λ blocks. absurd (true≢false (sym blocks ∙ ap is_blocking h.0))))
-          (λ _ h. left_out (Some q) rest boxes (put_at boxes q box) result (rewritten (Some q ∷ rest) boxes q box h.1 v))
+        (λ _ h. (served q rest boxes buffer box apart h.1 v, λ blocks. absurd (true≢false (sym blocks ∙ ap is_blocking h.0))))
+        (λ _ h. left_out (Some q) rest boxes (put_at boxes q box) result (rewritten (Some q ∷ rest) boxes q box h.1 v))
 
     put_at_end_in_order : (end : Option ℕ) (rest : List (Option ℕ)) (retries : ℕ) (elapsed : Duration) (boxes : ℕ → Mailbox) (result : PutResult) (mid : ℕ → Mailbox)
-      → IsInjective (end ∷ rest) → Serving (end ∷ rest) boxes → PutAtEnd environment c p strategy handler buffers n retries elapsed end boxes result mid
-      → AfterEnd end rest result mid
+        → IsInjective (end ∷ rest) → Serving (end ∷ rest) boxes → PutAtEnd environment c p strategy handler buffers n retries elapsed end boxes result mid
+        → AfterEnd end rest result mid
     put_at_end_in_order None rest retries elapsed boxes result mid apart v h =
         left_out None rest boxes mid result (subst (Serving (None ∷ rest)) (sym h.1) v)
     put_at_end_in_order (Some q) rest retries elapsed boxes result mid apart v h =
@@ -98,12 +98,12 @@ module _ (p0 : ℕ) (got : ℕ → List ℕ) (before : List ℕ) (n : ℕ) where
 
     -- A delivery leaves each receiver with what it had, or with the message behind all that was sent before.
     pub deliver_in_order : (retries : ℕ) (elapsed : Duration) (place : ℕ) (ends : List (Option ℕ)) (count : ℕ) (has_failed : Bool) (boxes : ℕ → Mailbox) (how : DeliveryEnd) (boxes' : ℕ → Mailbox)
-      → IsInjective ends → Serving ends boxes → Deliver environment c p strategy handler buffers n retries elapsed place ends count has_failed boxes how boxes'
-      → LeftSo how boxes'
+        → IsInjective ends → Serving ends boxes → Deliver environment c p strategy handler buffers n retries elapsed place ends count has_failed boxes how boxes'
+        → LeftSo how boxes'
     deliver_in_order retries elapsed place [] count has_failed boxes how boxes' apart v h =
         subst (λ (d : DeliveryEnd). LeftSo d boxes') (sym h.0) (subst (Serving []) (sym h.1) v)
     deliver_in_order retries elapsed place (end ∷ rest) count has_failed boxes how boxes' apart v h =
         let k : AfterEnd end rest h.0 h.1 = put_at_end_in_order end rest retries elapsed boxes h.0 h.1 apart v h.2 in
         by_bool (LeftSo how boxes') (is_blocking h.0) _ _ h.3
-          (λ blocks j. subst (λ (d : DeliveryEnd). LeftSo d boxes') (sym j.0) (refl, subst (Serving (end ∷ rest)) (sym j.1) (k.1 blocks)))
-          (λ _ j. deliver_in_order 0 no_time (place + 1) rest (count + accepted_count h.0) (has_failed || is_failed h.0) h.1 how boxes' (injective_rest end rest apart) k.0 j)
+        (λ blocks j. subst (λ (d : DeliveryEnd). LeftSo d boxes') (sym j.0) (refl, subst (Serving (end ∷ rest)) (sym j.1) (k.1 blocks)))
+        (λ _ j. deliver_in_order 0 no_time (place + 1) rest (count + accepted_count h.0) (has_failed || is_failed h.0) h.1 how boxes' (injective_rest end rest apart) k.0 j)

@@ -84,55 +84,56 @@ module _ {T U : Type 0} where
     still_in_order : (p q : ℕ) → p0 ≤ q → Waited p0 s p q (s'.mailboxes p q) → IsSubsequence (got p q ++ (s'.mailboxes p q).waiting) (out p)
     still_in_order p q new waited =
         ⊎_elim
-          (λ fewer. IsSubsequence-behind (got p q) (s'.mailboxes p q).waiting (s.mailboxes p q).waiting (out p) fewer (w.order p q new))
-          (λ (from : FromHistory p0 s p q (s'.mailboxes p q).waiting).
-            let nothing : got p q ≡ [] = w.unconnected p q from.publisher from.is_new new from.present from.opened from.no_end in
-            subst (λ g. IsSubsequence (g ++ (s'.mailboxes p q).waiting) (out p)) (sym nothing)
-              (IsSubsequence-trans from.tail (w.history p from.publisher from.is_new from.present)))
-          waited
+        (λ fewer. IsSubsequence-behind (got p q) (s'.mailboxes p q).waiting (s.mailboxes p q).waiting (out p) fewer (w.order p q new))
+        (λ (from : FromHistory p0 s p q (s'.mailboxes p q).waiting).
+        let nothing : got p q ≡ [] = w.unconnected p q from.publisher from.is_new new from.present from.opened from.no_end in
+        subst (λ g. IsSubsequence (g ++ (s'.mailboxes p q).waiting) (out p)) (sym nothing)
+        (IsSubsequence-trans from.tail (w.history p from.publisher from.is_new from.present)))
+        waited
 
     still_history : (p : ℕ) (x' : Publisher) → p0 ≤ p → WasPublisher s s' p x' → IsSubsequence x'.history (out p)
     still_history p x' new was =
         ⊎_elim
-          (λ (old : (x : Publisher) × (s.publishers p ≡ Some x) × SamePublisher s' x x').
-            subst (λ h. IsSubsequence h (out p)) (sym (old.2).history) (w.history p old.0 new old.1))
-          (λ (fresh : NewPublisher s p x'). subst (λ h. IsSubsequence h (out p)) (sym fresh.history) (IsSubsequence-nil (out p)))
-          was
+        (λ (old : (x : Publisher) × (s.publishers p ≡ Some x) × SamePublisher s' x x').
+        subst (λ h. IsSubsequence h (out p)) (sym (old.2).history) (w.history p old.0 new old.1))
+        (λ (fresh : NewPublisher s p x'). subst (λ h. IsSubsequence h (out p)) (sym fresh.history) (IsSubsequence-nil (out p)))
+        was
 
     -- a publisher that wasn't there had nothing that could be received
     nothing_from_new : (p q : ℕ) → s.next_port ≤ p → p0 ≤ q → got p q ≡ []
     nothing_from_new p q above new =
         nil_front (got p q) (s.mailboxes p q).waiting
-          (nil_part _ (subst (IsSubsequence (got p q ++ (s.mailboxes p q).waiting)) (w.unmade p above) (w.order p q new)))
+        (nil_part _ (subst (IsSubsequence (got p q ++ (s.mailboxes p q).waiting)) (w.unmade p above) (w.order p q new)))
 
     still_unconnected : (p q : ℕ) (x' : Publisher) → p0 ≤ p → p0 ≤ q → WasPublisher s s' p x' → is_open s' q ≡ true → (LeadsTo x'.ends q → ⊥) → got p q ≡ []
     still_unconnected p q x' new new_q was opened no_end =
         ⊎_elim
-          (λ (old : (x : Publisher) × (s.publishers p ≡ Some x) × SamePublisher s' x x').
-            ⊎_elim
-              (λ was_open. w.unconnected p q old.0 new new_q old.1 was_open (λ l. no_end ((old.2).ends q opened l)))
-              (λ made. w.unmade_receiver p q made)
-              (k.subscribers q opened))
-          (λ (fresh : NewPublisher s p x'). nothing_from_new p q fresh.above new_q)
-          was
+        (λ (old : (x : Publisher) × (s.publishers p ≡ Some x) × SamePublisher s' x x').
+        ⊎_elim
+        (λ was_open. w.unconnected p q old.0 new new_q old.1 was_open (λ l. no_end ((old.2).ends q opened l)))
+        (λ made. w.unmade_receiver p q made)
+        (k.subscribers q opened))
+        (λ (fresh : NewPublisher s p x'). nothing_from_new p q fresh.above new_q)
+        was
 
     still_blocked : (p : ℕ) (x' : Publisher) (b : BlockedSend) → p0 ≤ p → WasPublisher s s' p x' → x'.blocked ≡ Some b → BlockedInOrder p0 out got s' p b
     still_blocked p x' b new was e =
         ⊎_elim
-          (λ (old : (x : Publisher) × (s.publishers p ≡ Some x) × SamePublisher s' x x').
-            let was_blocked : (old.0).blocked ≡ Some b = (old.2).blocked b e in
-            let v : BlockedInOrder p0 out got s p b = w.blocked p old.0 b new old.1 was_blocked in
-            record {
-              before = v.before; last = v.last;
-              unserved = λ q new_q l. ⊎_elim
-                (λ fewer. IsSubsequence-behind (got p q) (s'.mailboxes p q).waiting (s.mailboxes p q).waiting v.before fewer (v.unserved q new_q l))
-                (λ (from : FromHistory p0 s p q (s'.mailboxes p q).waiting).
-                  let same : from.publisher ≡ old.0 = same_Some from.publisher old.0 (sym from.present ∙ old.1) in
-                  absurd (none-some b (sym from.unblocked ∙ ap (λ (x : Publisher). x.blocked) same ∙ was_blocked)))
-                (k.mailboxes p q new_q);
-            })
-          (λ (fresh : NewPublisher s p x'). absurd (none-some b (sym fresh.blocked ∙ e)))
-          was
+        (λ (old : (x : Publisher) × (s.publishers p ≡ Some x) × SamePublisher s' x x').
+        let was_blocked : (old.0).blocked ≡ Some b = (old.2).blocked b e in
+        let v : BlockedInOrder p0 out got s p b = w.blocked p old.0 b new old.1 was_blocked in
+        record {
+          before = v.before;
+          last = v.last;
+          unserved = λ q new_q l. ⊎_elim
+              (λ fewer. IsSubsequence-behind (got p q) (s'.mailboxes p q).waiting (s.mailboxes p q).waiting v.before fewer (v.unserved q new_q l))
+              (λ (from : FromHistory p0 s p q (s'.mailboxes p q).waiting).
+              let same : from.publisher ≡ old.0 = same_Some from.publisher old.0 (sym from.present ∙ old.1) in
+              absurd (none-some b (sym from.unblocked ∙ ap (λ (x : Publisher). x.blocked) same ∙ was_blocked)))
+              (k.mailboxes p q new_q);
+        })
+        (λ (fresh : NewPublisher s p x'). absurd (none-some b (sym fresh.blocked ∙ e)))
+        was
 
     -- What holds before a step in which nothing is sent or received holds after it.
     pub quiet_keeps : Ordered p0 n0 out got s'
@@ -152,8 +153,8 @@ module _ {T U : Type 0} where
       unsent = λ p n l e. ⊎_elim
           (λ (old : (l₀ : Loan T U) × (s.loans n ≡ Some l₀) × (l₀.publisher ≡ l.publisher)). w.unsent p n old.0 old.1)
           (λ (new : (s.next_message ≤ n) × (p0 ≤ l.publisher)). absent_from (out p) n (λ h.
-            let low : n < s.next_message = w.below p n h in
-            let high : s.next_message ≤ n = new.0 in absurd (omega arith)))
+          let low : n < s.next_message = w.below p n h in
+          let high : s.next_message ≤ n = new.0 in absurd (omega arith)))
           (k.loans n l e);
       below = λ p n h. omega (arith, w.below p n h, k.next_message);
       blocked = λ p x b new e. still_blocked p x b new (k.publishers p x e);
@@ -167,7 +168,7 @@ module _ {T U : Type 0} where
 
   -- A publisher that changes neither its history nor its blocked send nor its ends.
   pub alike_publisher : (s s' : State T U) (p : ℕ) (x x' : Publisher) → s.publishers p ≡ Some x → x'.history ≡ x.history → x'.blocked ≡ x.blocked
-    → x'.ends ≡ x.ends → WasPublisher s s' p x'
+      → x'.ends ≡ x.ends → WasPublisher s s' p x'
   alike_publisher s s' p x x' e history blocked ends =
       inl (x, e, record { history = history; blocked = λ b f. sym blocked ∙ f; ends = λ q _ l. subst (λ v. LeadsTo v q) (sym ends) l })
 

@@ -33,7 +33,7 @@ module _ {T U : Type 0} (s : State T U) (handles : List Handle) (first_port firs
   publisher_own named e = at (slice_get handles of) refl e
     where
       at : (v : Option Handle) → slice_get handles of ≡ v
-        → elim v [ | Some (Publisher_handle p) ↦ option_map {U = ℕ × Publisher} (λ x. (p, x)) (s.publishers p) | _ ↦ None ] ≡ Some named → first_port ≤ named.0
+          → elim v [ Some (Publisher_handle p) ↦ option_map {U = ℕ × Publisher} (λ x. (p, x)) (s.publishers p) | _ ↦ None ] ≡ Some named → first_port ≤ named.0
       at (Some (Publisher_handle p)) f e = subst (λ i. first_port ≤ i) (paired_with p (s.publishers p) named e) (own of (Publisher_handle p) f)
       at _ f e = absurd (none-some named e)
 
@@ -48,9 +48,13 @@ module _ {T U : Type 0} (s : State T U) (handles : List Handle) (first_port firs
       open_one : (q : ℕ) (v : Option Subscriber) → option_and_then {U = ℕ × Subscriber} (λ y. cond y.is_open (Some (q, y)) None) v ≡ Some named → q ≡ named.0
       open_one q None e = absurd (none-some named e)
       open_one q (Some y) e = ap (λ (v : ℕ × Subscriber). v.0) (same_Some (q, y) named (kept_if y.is_open (Some (q, y)) named e))
+
       at : (v : Option Handle) → slice_get handles of ≡ v
-        → elim v [ | Some (Subscriber_handle q) ↦ option_and_then {U = ℕ × Subscriber} (λ y. cond y.is_open (Some (q, y)) None)
-          (s.subscribers q) | _ ↦ None ] ≡ Some named → first_port ≤ named.0
+          → elim v [
+            | Some (Subscriber_handle q) ↦ option_and_then {U = ℕ × Subscriber} (λ y. cond y.is_open (Some (q, y)) None)
+                (s.subscribers q)
+            | _ ↦ None
+          ] ≡ Some named → first_port ≤ named.0
       at (Some (Subscriber_handle q)) f e = subst (λ i. first_port ≤ i) (open_one q (s.subscribers q) e) (own of (Subscriber_handle q) f)
       at _ f e = absurd (none-some named e)
 
@@ -59,7 +63,7 @@ module _ {T U : Type 0} (s : State T U) (handles : List Handle) (first_port firs
   loan_own named e = at (slice_get handles of) refl e
     where
       at : (v : Option Handle) → slice_get handles of ≡ v
-        → elim v [ | Some (Loan_handle n) ↦ option_map {U = ℕ × Loan T U} (λ l. (n, l)) (s.loans n) | _ ↦ None ] ≡ Some named → first_message ≤ named.0
+          → elim v [ Some (Loan_handle n) ↦ option_map {U = ℕ × Loan T U} (λ l. (n, l)) (s.loans n) | _ ↦ None ] ≡ Some named → first_message ≤ named.0
       at (Some (Loan_handle n)) f e = subst (λ i. first_message ≤ i) (paired_with n (s.loans n) named e) (own of (Loan_handle n) f)
       at _ f e = absurd (none-some named e)
 
@@ -67,7 +71,7 @@ module _ {T U : Type 0} (s : State T U) (handles : List Handle) (first_port firs
   pub sendable_own : (named : ℕ × Loan T U) → sendable_at s handles of ≡ Some named → first_message ≤ named.0
   sendable_own named e =
       let free : (written_at s handles of ≡ Some named) × (is_blocked s named.1.publisher ≡ false) = fails (λ (n : ℕ × Loan T U). is_blocked s n.1.publisher)
-          (written_at s handles of) named e in
+      (written_at s handles of) named e in
       loan_own named (passes (λ (n : ℕ × Loan T U). n.1.is_written) (loan_at s handles of) named free.0).0
 
   -- a blocked send that is named
@@ -75,14 +79,16 @@ module _ {T U : Type 0} (s : State T U) (handles : List Handle) (first_port firs
   blocked_own named e = at (slice_get handles of) refl e
     where
       send_of : (p n : ℕ) (b : Option BlockedSend) → option_and_then {U = ℕ × BlockedSend} (λ b. cond (b.message == n) (Some (p, b)) None) b ≡ Some named
-        → p ≡ named.0
+          → p ≡ named.0
       send_of p n None e = absurd (none-some named e)
       send_of p n (Some b) e = ap (λ (v : ℕ × BlockedSend). v.0) (same_Some (p, b) named (kept_if _ (Some (p, b)) named e))
+
       present : (p n : ℕ) (v : Option Publisher)
-        → option_and_then {U = ℕ × BlockedSend} (λ x. option_and_then {U = ℕ × BlockedSend}
+          → option_and_then {U = ℕ × BlockedSend} (λ x. option_and_then {U = ℕ × BlockedSend}
           (λ b. cond (b.message == n) (Some (p, b)) None) x.blocked) v ≡ Some named → p ≡ named.0
       present p n None e = absurd (none-some named e)
       present p n (Some x) e = send_of p n x.blocked e
+
       at : (v : Option Handle) → slice_get handles of ≡ v → elim v [
         | Some (Blocked_handle p n) ↦ option_and_then {U = ℕ × BlockedSend} (λ x. option_and_then {U = ℕ × BlockedSend}
             (λ b. cond (b.message == n) (Some (p, b)) None) x.blocked) (s.publishers p)
@@ -96,8 +102,8 @@ module _ {T U : Type 0} (s : State T U) (handles : List Handle) (first_port firs
   sample_is named e = at (slice_get handles of) refl e
     where
       at : (v : Option Handle) → slice_get handles of ≡ v
-        → elim v [ | Some (Sample_handle p q n) ↦ cond (is_borrowed n (s.mailboxes p q)) (Some (p, q, n)) None | _ ↦ None ] ≡ Some named
-        → slice_get handles of ≡ Some (Sample_handle named.0 named.1 named.2)
+          → elim v [ Some (Sample_handle p q n) ↦ cond (is_borrowed n (s.mailboxes p q)) (Some (p, q, n)) None | _ ↦ None ] ≡ Some named
+          → slice_get handles of ≡ Some (Sample_handle named.0 named.1 named.2)
       at (Some (Sample_handle p q n)) f e =
           let same : (p, q, n) ≡ named = same_Some (p, q, n) named (kept_if (is_borrowed n (s.mailboxes p q)) (Some (p, q, n)) named e) in
           f ∙ ap (λ (v : ℕ × ℕ × ℕ). Some (Sample_handle v.0 v.1 v.2)) same

@@ -24,7 +24,7 @@ use Rattle.iox2_runs.proofs.ReadSteps.{Past, scope_of, past_after, IsTold, step_
 
 -- what is found in the longer list was there, or it is the last
 pub found_in_longer : {A : Type 0} (xs : List A) (x : A) (k : ℕ) (a : A) → slice_get (xs ++ x ∷ []) k ≡ Some a
-  → (slice_get xs k ≡ Some a) ⊎ ((k ≡ length xs) × (x ≡ a))
+    → (slice_get xs k ≡ Some a) ⊎ ((k ≡ length xs) × (x ≡ a))
 found_in_longer [] x zero a e = inr (refl, same_Some x a e)
 found_in_longer [] x (suc k) a e = absurd (none-some a e)
 found_in_longer (y ∷ xs) x zero a e = inl e
@@ -55,7 +55,7 @@ module _ {T U : Type 0} where
 
   -- a number that isn't received in a list of events isn't in the rest of it
   pub rest_absent : (p q n : ℕ) (event : Event T U) (events : List (Event T U)) → contains (received p q (event ∷ events)) n ≡ false
-    → contains (received p q events) n ≡ false
+      → contains (received p q events) n ≡ false
   rest_absent p q n No_event events h = h
   rest_absent p q n (Message_sent p' n' entry) events h = h
   rest_absent p q n (Message_received p' q' n') events h = at (p' == p && q' == q) h
@@ -93,17 +93,17 @@ module _ {T U : Type 0} where
 
   -- what was sent is kept when another message is sent
   kept_after : (past : Past T U) (m : Messages T U) (event : Event T U) → ((p n : ℕ) (entry : Entry T U) → past.WasSent p n entry → m n ≡ Some entry)
-    → ((p n : ℕ) (entry : Entry T U) → event ≡ Message_sent p n entry → (p' : ℕ) (entry' : Entry T U) → past.WasSent p' n entry' → ⊥)
-    → (p n : ℕ) (entry : Entry T U) → (past.WasSent p n entry ⊎ (event ≡ Message_sent p n entry)) → messages_after event m n ≡ Some entry
+      → ((p n : ℕ) (entry : Entry T U) → event ≡ Message_sent p n entry → (p' : ℕ) (entry' : Entry T U) → past.WasSent p' n entry' → ⊥)
+      → (p n : ℕ) (entry : Entry T U) → (past.WasSent p n entry ⊎ (event ≡ Message_sent p n entry)) → messages_after event m n ≡ Some entry
   kept_after past m No_event kept apart p n entry h = ⊎_elim (λ old. kept p n entry old) (λ new. absurd (cc)) h
   kept_after past m (Message_received p' q n') kept apart p n entry h = ⊎_elim (λ old. kept p n entry old) (λ new. absurd (cc)) h
   kept_after past m (Message_sent p' n' entry') kept apart p n entry h =
       ⊎_elim
-        (λ old. at_each m n' (Some entry') (λ i v. past.WasSent p i entry → v ≡ Some entry) n (λ _ w. absurd (apart p' n' entry' refl p entry w))
-            (λ _ w. kept p n entry w) old)
-        (λ new.
-          let a : n' ≡ n = cc in let b : entry' ≡ entry = cc in
-          subst (λ i. put_at m n' (Some entry') i ≡ Some entry) a (put_at-same m n' (Some entry') ∙ ap (λ (e : Entry T U). Some e) b)) h
+      (λ old. at_each m n' (Some entry') (λ i v. past.WasSent p i entry → v ≡ Some entry) n (λ _ w. absurd (apart p' n' entry' refl p entry w))
+      (λ _ w. kept p n entry w) old)
+      (λ new.
+      let a : n' ≡ n = cc in let b : entry' ≡ entry = cc in
+      subst (λ i. put_at m n' (Some entry') i ≡ Some entry) a (put_at-same m n' (Some entry') ∙ ap (λ (e : Entry T U). Some e) b)) h
 
   -- a run begins so
   abbrev pub started : State T U → Past T U
@@ -118,7 +118,8 @@ module _ {T U : Type 0} where
     traced = (
       λ p q k h low. absurd (not_below low ((w.mailboxes p q).known (has_numbers-contains (s.mailboxes p q) k h)).1),
       λ p x e low. absurd (not_below low (w.publishers p x e).is_known),
-      λ n l e. (λ p entry v. v, λ low. absurd (not_below low (w.loans n l e).below)));
+      λ n l e. (λ p entry v. v, λ low. absurd (not_below low (w.loans n l e).below)),
+    );
     own = λ k handle e. absurd (none-some handle e);
     below = λ p n entry v. absurd v;
     kept = λ p n entry v. absurd v;
@@ -135,7 +136,7 @@ module _ {T U : Type 0} where
     pub told : IsTold past s handles command o
     told =
         step_told environment default_value default_header m s handles reached.well_formed past reached.traced reached.own reached.ports reached.messages
-          (λ p entry w. let low : s.next_message < s.next_message = reached.below p s.next_message entry w in omega arith) command o step
+        (λ p entry w. let low : s.next_message < s.next_message = reached.below p s.next_message entry w in omega arith) command o step
 
     -- Each step goes on so.
     pub goes_on : HasReached (past_after past o.event) (messages_after o.event m) o.state (handles ++ o.handle ∷ [])
@@ -153,6 +154,6 @@ module _ {T U : Type 0} where
 
   -- what was sent before or in the rest of the events was sent before or in all of them
   pub sent_in_all : (past : Past T U) (p n : ℕ) (entry : Entry T U) (now event : Event T U) (events : List (Event T U)) → now ≡ event
-    → ((past_after past now).WasSent p n entry ⊎ WasSent p n entry events) → (past.WasSent p n entry ⊎ WasSent p n entry (event ∷ events))
+      → ((past_after past now).WasSent p n entry ⊎ WasSent p n entry events) → (past.WasSent p n entry ⊎ WasSent p n entry (event ∷ events))
   sent_in_all past p n entry now event events same h =
       ⊎_elim (λ before. ⊎_elim (λ old. inl old) (λ new. inr (0, ap (λ (e : Event T U). Some e) (sym same ∙ new))) before) (λ later. inr (suc later.0, later.1)) h

@@ -28,12 +28,12 @@ module _ {T U : Type 0} where
   abbrev NamesPublisher : Past T U → List (Event T U) → (i origin : ℕ) → Type 0
   NamesPublisher past events i origin =
       (q n : ℕ) × (entry : Entry T U) × (slice_get events i ≡ Some (Message_received origin q n))
-          × (past.WasSent origin n entry ⊎ WasSent origin n entry events) × ((entry.header).publisher_id ≡ origin)
+      × (past.WasSent origin n entry ⊎ WasSent origin n entry events) × ((entry.header).publisher_id ≡ origin)
 
   samples_from : (environment : Environment) (defaults : Defaults T U) (past : Past T U) (m : Messages T U) (s : State T U) (handles : List Handle)
-    (commands : List (Command T U)) (replies : List (Reply T U)) (events : List (Event T U)) (m' : Messages T U) (s' : State T U)
-    → HasReached past m s handles → RunFrom environment defaults m s handles commands replies events m' s'
-    → (i origin : ℕ) → slice_get replies i ≡ Some (Sample origin) → NamesPublisher past events i origin
+      (commands : List (Command T U)) (replies : List (Reply T U)) (events : List (Event T U)) (m' : Messages T U) (s' : State T U)
+      → HasReached past m s handles → RunFrom environment defaults m s handles commands replies events m' s'
+      → (i origin : ℕ) → slice_get replies i ≡ Some (Sample origin) → NamesPublisher past events i origin
   samples_from environment defaults past m s handles [] [] [] m' s' reached h i origin e = absurd (none-some _ e)
   samples_from environment defaults past m s handles (command ∷ commands) (reply ∷ replies) (event ∷ events) m' s' reached h zero origin e =
       let tells : IsTold past s handles command h.4 = told environment h.0 h.1 past m s handles reached command h.4 h.5 in
@@ -42,22 +42,22 @@ module _ {T U : Type 0} where
       (found.0, found.1, sent.0, ap (λ (v : Event T U). Some v) (sym h.7 ∙ found.2), inl sent.1, sent.2)
   samples_from environment defaults past m s handles (command ∷ commands) (reply ∷ replies) (event ∷ events) m' s' reached h (suc i) origin e =
       let rest : NamesPublisher (past_after past (h.4).event) events i origin =
-          samples_from environment defaults (past_after past (h.4).event) (messages_after (h.4).event m) (h.4).state
-              (handles ++ (h.4).handle ∷ []) commands replies events m' s'
-            (goes_on environment h.0 h.1 past m s handles reached command h.4 h.5) h.8 i origin e in
+      samples_from environment defaults (past_after past (h.4).event) (messages_after (h.4).event m) (h.4).state
+      (handles ++ (h.4).handle ∷ []) commands replies events m' s'
+      (goes_on environment h.0 h.1 past m s handles reached command h.4 h.5) h.8 i origin e in
       (rest.0, rest.1, rest.2, rest.3, sent_in_all past origin rest.1 rest.2 (h.4).event event events h.7 rest.4, rest.5)
   samples_from environment defaults past m s handles _ _ _ m' s' reached h i origin e = absurd h
 
   -- The reply to a receive names the publisher that sent the message, and so does the message's header.
   pub samples_name_their_publisher : (environment : Environment) (defaults : Defaults T U) (m m' : Messages T U) (s s' : State T U)
-    (commands : List (Command T U)) (replies : List (Reply T U)) (events : List (Event T U)) → IsWellFormed s
-        → Run environment defaults m s commands replies events m' s'
-    → (i origin : ℕ) → slice_get replies i ≡ Some (Sample origin)
-    → (q n : ℕ) × (entry : Entry T U) × (slice_get events i ≡ Some (Message_received origin q n)) × WasSent origin n entry events
+      (commands : List (Command T U)) (replies : List (Reply T U)) (events : List (Event T U)) → IsWellFormed s
+      → Run environment defaults m s commands replies events m' s'
+      → (i origin : ℕ) → slice_get replies i ≡ Some (Sample origin)
+      → (q n : ℕ) × (entry : Entry T U) × (slice_get events i ≡ Some (Message_received origin q n)) × WasSent origin n entry events
       × ((entry.header).publisher_id ≡ origin)
   samples_name_their_publisher environment defaults m m' s s' commands replies events w h i origin e =
       let found : NamesPublisher (started s) events i origin = samples_from environment defaults (started s) m s [] commands replies events m' s'
-          (start m s w) h i origin e in
+      (start m s w) h i origin e in
       (found.0, found.1, found.2, found.3, ⊎_elim (λ v. absurd v) (λ sent. sent) found.4, found.5)
 
   -- ---- reads
@@ -67,7 +67,7 @@ module _ {T U : Type 0} where
       (named : slice_get handles at ≡ Some (Sample_handle p q n)) (held : is_borrowed n (s.mailboxes p q) ≡ true) (kept : m n ≡ Some entry) (o : Outcome T U) where
     -- the sample of a handle
     abbrev sample_of : Option Handle → Option (ℕ × ℕ × ℕ)
-    sample_of v = elim v [ | Some (Sample_handle p q n) ↦ cond (is_borrowed n (s.mailboxes p q)) (Some (p, q, n)) None | _ ↦ None ]
+    sample_of v = elim v [ Some (Sample_handle p q n) ↦ cond (is_borrowed n (s.mailboxes p q)) (Some (p, q, n)) None | _ ↦ None ]
 
     -- the handle names the sample
     found : sample_at s handles at ≡ Some (p, q, n)
@@ -75,14 +75,14 @@ module _ {T U : Type 0} where
 
     -- a read gives the value
     read_gives : (index : ℕ) → Step environment default_value default_header m s handles (Read at index) o
-      → o.reply ≡ option_map_or (λ value. Cell (Some value)) (slice_get entry.values index) Skipped
+        → o.reply ≡ option_map_or (λ value. Cell (Some value)) (slice_get entry.values index) Skipped
     read_gives index h =
         let k : MatchOption (m n) ⊥ (λ (entry : Entry T U). MatchOption (slice_get entry.values index) (o ≡ skipped s)
-            (λ value. o ≡ replied (Cell (Some value)) s)) = rw found at h in
+        (λ value. o ≡ replied (Cell (Some value)) s)) = rw found at h in
         let j : MatchOption (slice_get entry.values index) (o ≡ skipped s) (λ value. o ≡ replied (Cell (Some value)) s) = rw kept at k in
         by_option (o.reply ≡ option_map_or (λ value. Cell (Some value)) (slice_get entry.values index) Skipped) (slice_get entry.values index) _ _ j
-          (λ none e. ap (λ (o : Outcome T U). o.reply) e ∙ rw none refl)
-          (λ value some e. ap (λ (o : Outcome T U). o.reply) e ∙ rw some refl)
+        (λ none e. ap (λ (o : Outcome T U). o.reply) e ∙ rw none refl)
+        (λ value some e. ap (λ (o : Outcome T U). o.reply) e ∙ rw some refl)
 
     header_gives : Step environment default_value default_header m s handles (ReadHeader at) o → o.reply ≡ Header entry.header
     header_gives h =
@@ -103,7 +103,7 @@ module _ {T U : Type 0} where
       true≢false (sym (contains_first n (received p q events)) ∙ ap (λ ns. contains ns n) (sym first) ∙ absent)
 
   once_only : (p q n : ℕ) (event : Event T U) (events : List (Event T U)) → event ≡ Message_received p q n → IsOnce (received p q (event ∷ events))
-    → contains (received p q events) n ≡ false
+      → contains (received p q events) n ≡ false
   once_only p q n event events e once =
       let first : received p q (event ∷ events) ≡ n ∷ received p q events = ap (λ (v : Event T U). received p q (v ∷ events)) e ∙ received_first p q n events in
       (subst IsOnce first once).0
@@ -112,40 +112,41 @@ module _ {T U : Type 0} where
   abbrev Gives : (at : ℕ) → Entry T U → List (Command T U) → List (Reply T U) → (i : ℕ) → Type 0
   Gives at entry commands replies i =
       ((index : ℕ) → slice_get commands i ≡ Some (Read at index) → slice_get replies i ≡ Some
-          (option_map_or (λ value. Cell (Some value)) (slice_get entry.values index) Skipped))
+      (option_map_or (λ value. Cell (Some value)) (slice_get entry.values index) Skipped))
       × (slice_get commands i ≡ Some (ReadHeader at) → slice_get replies i ≡ Some (Header entry.header))
       × (slice_get commands i ≡ Some (ReadUserHeader at) → slice_get replies i ≡ Some (UserHeader entry.user_header))
 
   -- reads while the sample is borrowed
   held_reads : (environment : Environment) (defaults : Defaults T U) (past : Past T U) (m : Messages T U) (s : State T U) (handles : List Handle)
-    (commands : List (Command T U)) (replies : List (Reply T U)) (events : List (Event T U)) (m' : Messages T U) (s' : State T U)
-    → HasReached past m s handles → RunFrom environment defaults m s handles commands replies events m' s'
-    → (at p q n : ℕ) (entry : Entry T U) → past.WasSent p n entry
-    → slice_get handles at ≡ Some (Sample_handle p q n) → ((k : ℕ) → slice_get handles k ≡ Some (Sample_handle p q n) → k ≡ at)
-    → contains (received p q events) n ≡ false → is_borrowed n (s.mailboxes p q) ≡ true
-    → (i : ℕ) → ((j : ℕ) → j < i → slice_get commands j ≡ Some (Release at) → ⊥) → Gives at entry commands replies i
+      (commands : List (Command T U)) (replies : List (Reply T U)) (events : List (Event T U)) (m' : Messages T U) (s' : State T U)
+      → HasReached past m s handles → RunFrom environment defaults m s handles commands replies events m' s'
+      → (at p q n : ℕ) (entry : Entry T U) → past.WasSent p n entry
+      → slice_get handles at ≡ Some (Sample_handle p q n) → ((k : ℕ) → slice_get handles k ≡ Some (Sample_handle p q n) → k ≡ at)
+      → contains (received p q events) n ≡ false → is_borrowed n (s.mailboxes p q) ≡ true
+      → (i : ℕ) → ((j : ℕ) → j < i → slice_get commands j ≡ Some (Release at) → ⊥) → Gives at entry commands replies i
   held_reads environment defaults past m s handles [] [] [] m' s' reached h at p q n entry sent named only never held i unreleased =
       (λ index e. absurd (none-some _ e), λ e. absurd (none-some _ e), λ e. absurd (none-some _ e))
   held_reads environment defaults past m s handles (command ∷ commands) (reply ∷ replies) (event ∷ events) m' s' reached h at p q n entry sent named only never held zero unreleased =
       let kept : m n ≡ Some entry = reached.kept p n entry sent in
       let is : (wanted : Command T U) → Some command ≡ Some wanted → Step environment h.0 h.1 m s handles wanted h.4 = λ wanted e.
-          subst (λ (c : Command T U). Step environment h.0 h.1 m s handles c h.4) (same_Some command wanted e) h.5 in
-      let answer : (r : Reply T U) → (h.4).reply ≡ r → Some reply ≡ Some r = λ r e. ap (λ (r : Reply T U). Some r) (sym h.6 ∙ e) in
-      (λ index e. answer _ (read_gives environment h.0 h.1 m s handles at p q n entry named held kept h.4 index (is (Read at index) e)),
-       λ e. answer _ (header_gives environment h.0 h.1 m s handles at p q n entry named held kept h.4 (is (ReadHeader at) e)),
-       λ e. answer _ (user_header_gives environment h.0 h.1 m s handles at p q n entry named held kept h.4 (is (ReadUserHeader at) e)))
+      subst (λ (c : Command T U). Step environment h.0 h.1 m s handles c h.4) (same_Some command wanted e) h.5 in
+      let answer : (r : Reply T U) → (h.4).reply ≡ r → Some reply ≡ Some r = λ r e. ap (λ (r : Reply T U). Some r) (sym h.6 ∙ e) in (
+        λ index e. answer _ (read_gives environment h.0 h.1 m s handles at p q n entry named held kept h.4 index (is (Read at index) e)),
+        λ e. answer _ (header_gives environment h.0 h.1 m s handles at p q n entry named held kept h.4 (is (ReadHeader at) e)),
+        λ e. answer _ (user_header_gives environment h.0 h.1 m s handles at p q n entry named held kept h.4 (is (ReadUserHeader at) e)),
+      )
   held_reads environment defaults past m s handles (command ∷ commands) (reply ∷ replies) (event ∷ events) m' s' reached h at p q n entry sent named only never held (suc i) unreleased =
       let tells : IsTold past s handles command h.4 = told environment h.0 h.1 past m s handles reached command h.4 h.5 in
       let spared : IsSpared handles command p q n = λ of e f.
-          unreleased 0 (omega arith) (ap (λ (c : Command T U). Some c) (e ∙ ap (λ k. Release k) (only of f))) in
+      unreleased 0 (omega arith) (ap (λ (c : Command T U). Some c) (e ∙ ap (λ k. Release k) (only of f))) in
       held_reads environment defaults (past_after past (h.4).event) (messages_after (h.4).event m) (h.4).state
-          (handles ++ (h.4).handle ∷ []) commands replies events m' s'
-        (goes_on environment h.0 h.1 past m s handles reached command h.4 h.5) h.8 at p q n entry (inl sent)
-        (found_earlier handles (h.4).handle at (Sample_handle p q n) named)
-        (λ k e. ⊎_elim (λ old. only k old)
-          (λ new. absurd (again p q n event events (sym h.7 ∙ tells.sampled p q n new.1) never)) (found_in_longer handles (h.4).handle k (Sample_handle p q n) e))
-        (rest_absent p q n event events never) (tells.borrowed p q n spared held)
-        i (λ j low e. unreleased (suc j) (omega arith) e)
+      (handles ++ (h.4).handle ∷ []) commands replies events m' s'
+      (goes_on environment h.0 h.1 past m s handles reached command h.4 h.5) h.8 at p q n entry (inl sent)
+      (found_earlier handles (h.4).handle at (Sample_handle p q n) named)
+      (λ k e. ⊎_elim (λ old. only k old)
+      (λ new. absurd (again p q n event events (sym h.7 ∙ tells.sampled p q n new.1) never)) (found_in_longer handles (h.4).handle k (Sample_handle p q n) e))
+      (rest_absent p q n event events never) (tells.borrowed p q n spared held)
+      i (λ j low e. unreleased (suc j) (omega arith) e)
   held_reads environment defaults past m s handles _ _ _ m' s' reached h at p q n entry sent named only never held i unreleased = absurd h
 
   abbrev ReadsSo : Past T U → List (Command T U) → List (Reply T U) → List (Event T U) → (at p n i : ℕ) → Type 0
@@ -156,11 +157,11 @@ module _ {T U : Type 0} where
   NeverAgain handles events = (p q n k : ℕ) → slice_get handles k ≡ Some (Sample_handle p q n) → contains (received p q events) n ≡ false
 
   reads_from : (environment : Environment) (defaults : Defaults T U) (past : Past T U) (m : Messages T U) (s : State T U) (handles : List Handle)
-    (commands : List (Command T U)) (replies : List (Reply T U)) (events : List (Event T U)) (m' : Messages T U) (s' : State T U)
-    → HasReached past m s handles → RunFrom environment defaults m s handles commands replies events m' s'
-    → NeverAgain handles events → ((p q : ℕ) → IsOnce (received p q events))
-    → (i of at p q n : ℕ) → at ≡ length handles + of → of < i → slice_get events of ≡ Some (Message_received p q n)
-    → ((j : ℕ) → of < j → j < i → slice_get commands j ≡ Some (Release at) → ⊥) → ReadsSo past commands replies events at p n i
+      (commands : List (Command T U)) (replies : List (Reply T U)) (events : List (Event T U)) (m' : Messages T U) (s' : State T U)
+      → HasReached past m s handles → RunFrom environment defaults m s handles commands replies events m' s'
+      → NeverAgain handles events → ((p q : ℕ) → IsOnce (received p q events))
+      → (i of at p q n : ℕ) → at ≡ length handles + of → of < i → slice_get events of ≡ Some (Message_received p q n)
+      → ((j : ℕ) → of < j → j < i → slice_get commands j ≡ Some (Release at) → ⊥) → ReadsSo past commands replies events at p n i
   reads_from environment defaults past m s handles [] [] [] m' s' reached h never once i of at p q n place low e unreleased = absurd (none-some _ e)
   reads_from environment defaults past m s handles (command ∷ commands) (reply ∷ replies) (event ∷ events) m' s' reached h never once zero of at p q n place low e unreleased = absurd (omega arith)
   reads_from environment defaults past m s handles (command ∷ commands) (reply ∷ replies) (event ∷ events) m' s' reached h never once
@@ -168,45 +169,47 @@ module _ {T U : Type 0} where
       let tells : IsTold past s handles command h.4 = told environment h.0 h.1 past m s handles reached command h.4 h.5 in
       let this : event ≡ Message_received p q n = same_Some event (Message_received p q n) e in
       let got : ((entry : Entry T U) × past.WasSent p n entry × ((entry.header).publisher_id ≡ p)) × ((h.4).handle ≡ Sample_handle p q n)
-          × (is_borrowed n (((h.4).state).mailboxes p q) ≡ true) =
-          tells.received p q n (h.7 ∙ this) in
+      × (is_borrowed n (((h.4).state).mailboxes p q) ≡ true) =
+      tells.received p q n (h.7 ∙ this) in
       let here : at ≡ length handles = omega arith in
       let last : slice_get (handles ++ (h.4).handle ∷ []) at ≡ Some (Sample_handle p q n) =
-          ap (slice_get (handles ++ (h.4).handle ∷ [])) here ∙ found_last handles (h.4).handle ∙ ap (λ (v : Handle). Some v) got.1 in
-      ((got.0).0, inl (got.0).1,
+      ap (slice_get (handles ++ (h.4).handle ∷ [])) here ∙ found_last handles (h.4).handle ∙ ap (λ (v : Handle). Some v) got.1 in (
+        (got.0).0,
+        inl (got.0).1,
         held_reads environment defaults (past_after past (h.4).event) (messages_after (h.4).event m) (h.4).state
             (handles ++ (h.4).handle ∷ []) commands replies events m' s'
-          (goes_on environment h.0 h.1 past m s handles reached command h.4 h.5) h.8 at p q n (got.0).0 (inl (got.0).1) last
-          (λ k f. ⊎_elim (λ old. absurd (again p q n event events this (never p q n k old))) (λ new. new.0 ∙ sym here)
-              (found_in_longer handles (h.4).handle k (Sample_handle p q n) f))
-          (once_only p q n event events this (once p q)) got.2
-          i (λ j below f. unreleased (suc j) (omega arith) (omega arith) f))
+            (goes_on environment h.0 h.1 past m s handles reached command h.4 h.5) h.8 at p q n (got.0).0 (inl (got.0).1) last
+            (λ k f. ⊎_elim (λ old. absurd (again p q n event events this (never p q n k old))) (λ new. new.0 ∙ sym here)
+            (found_in_longer handles (h.4).handle k (Sample_handle p q n) f))
+            (once_only p q n event events this (once p q)) got.2
+            i (λ j below f. unreleased (suc j) (omega arith) (omega arith) f),
+      )
   reads_from environment defaults past m s handles (command ∷ commands) (reply ∷ replies) (event ∷ events) m' s' reached h never once (suc i)
       (suc of) at p q n place low e unreleased =
       let tells : IsTold past s handles command h.4 = told environment h.0 h.1 past m s handles reached command h.4 h.5 in
       let rest : ReadsSo (past_after past (h.4).event) commands replies events at p n i =
-          reads_from environment defaults (past_after past (h.4).event) (messages_after (h.4).event m) (h.4).state
-              (handles ++ (h.4).handle ∷ []) commands replies events m' s'
-            (goes_on environment h.0 h.1 past m s handles reached command h.4 h.5) h.8
-            (λ p q n k f. ⊎_elim (λ old. rest_absent p q n event events (never p q n k old))
-              (λ new. once_only p q n event events (sym h.7 ∙ tells.sampled p q n new.1) (once p q)) (found_in_longer handles (h.4).handle k (Sample_handle p q n) f))
-            (λ p q. rest_once p q event events (once p q))
-            i of at p q n (omega (arith, longer handles (h.4).handle)) (omega arith) e (λ j above below f. unreleased (suc j) (omega arith) (omega arith) f) in
+      reads_from environment defaults (past_after past (h.4).event) (messages_after (h.4).event m) (h.4).state
+      (handles ++ (h.4).handle ∷ []) commands replies events m' s'
+      (goes_on environment h.0 h.1 past m s handles reached command h.4 h.5) h.8
+      (λ p q n k f. ⊎_elim (λ old. rest_absent p q n event events (never p q n k old))
+      (λ new. once_only p q n event events (sym h.7 ∙ tells.sampled p q n new.1) (once p q)) (found_in_longer handles (h.4).handle k (Sample_handle p q n) f))
+      (λ p q. rest_once p q event events (once p q))
+      i of at p q n (omega (arith, longer handles (h.4).handle)) (omega arith) e (λ j above below f. unreleased (suc j) (omega arith) (omega arith) f) in
       (rest.0, sent_in_all past p n rest.0 (h.4).event event events h.7 rest.1, rest.2)
   reads_from environment defaults past m s handles _ _ _ m' s' reached h never once i of at p q n place low e unreleased = absurd h
 
   -- Every read through a sample that isn't released gives the message as it was sent, where no message is received twice.
   pub reads_give_what_was_sent : (environment : Environment) (defaults : Defaults T U) (m m' : Messages T U) (s s' : State T U)
-    (commands : List (Command T U)) (replies : List (Reply T U)) (events : List (Event T U)) → ((p q : ℕ) → IsOnce (received p q events))
-    → IsWellFormed s → Run environment defaults m s commands replies events m' s'
-    → (i of p q n : ℕ) → of < i → slice_get events of ≡ Some (Message_received p q n) → IsUnreleased commands of i
-    → (entry : Entry T U) × WasSent p n entry events
+      (commands : List (Command T U)) (replies : List (Reply T U)) (events : List (Event T U)) → ((p q : ℕ) → IsOnce (received p q events))
+      → IsWellFormed s → Run environment defaults m s commands replies events m' s'
+      → (i of p q n : ℕ) → of < i → slice_get events of ≡ Some (Message_received p q n) → IsUnreleased commands of i
+      → (entry : Entry T U) × WasSent p n entry events
       × ((at : ℕ) → slice_get commands i ≡ Some (Read of at) → slice_get replies i ≡ Some (option_map_or (λ value. Cell (Some value))
-          (slice_get entry.values at) Skipped))
+      (slice_get entry.values at) Skipped))
       × (slice_get commands i ≡ Some (ReadHeader of) → slice_get replies i ≡ Some (Header entry.header))
       × (slice_get commands i ≡ Some (ReadUserHeader of) → slice_get replies i ≡ Some (UserHeader entry.user_header))
   reads_give_what_was_sent environment defaults m m' s s' commands replies events once w h i of p q n low e unreleased =
       let gives : ReadsSo (started s) commands replies events of p n i =
-          reads_from environment defaults (started s) m s [] commands replies events m' s' (start m s w) h
-              (λ p q n k f. absurd (none-some _ f)) once i of of p q n (omega arith) low e unreleased in
+      reads_from environment defaults (started s) m s [] commands replies events m' s' (start m s w) h
+      (λ p q n k f. absurd (none-some _ f)) once i of of p q n (omega arith) low e unreleased in
       (gives.0, ⊎_elim (λ v. absurd v) (λ sent. sent) gives.1, (gives.2).0, (gives.2).1, (gives.2).2)

@@ -42,21 +42,22 @@ module _ {T U : Type 0} (environment : Environment) (defaults : Defaults T U) (I
 
   -- A run after what happened so far leads to where it holds, with all that happened.
   pub run_induction : StepsKeep
-    → (past : Past T U) (m m' : Messages T U) (s s' : State T U) (commands : List (Command T U)) (replies : List (Reply T U)) (events : List (Event T U))
-    → Inv past m s → RunFrom environment defaults m s past.handles commands replies events m' s'
-    → (past' : Past T U) × (past'.commands ≡ past.commands ++ commands) × (past'.replies ≡ past.replies ++ replies) × (past'.events ≡ past.events ++ events) × Inv past' m' s'
+      → (past : Past T U) (m m' : Messages T U) (s s' : State T U) (commands : List (Command T U)) (replies : List (Reply T U)) (events : List (Event T U))
+      → Inv past m s → RunFrom environment defaults m s past.handles commands replies events m' s'
+      → (past' : Past T U) × (past'.commands ≡ past.commands ++ commands) × (past'.replies ≡ past.replies ++ replies) × (past'.events ≡ past.events ++ events) × Inv past' m' s'
   run_induction keep past m m' s s' [] [] [] v h =
       (past, sym (append-nil past.commands), sym (append-nil past.replies), sym (append-nil past.events), subst (λ (n : Messages T U). Inv past n s') (sym h.0) (subst (Inv past m) (sym h.1) v))
   run_induction keep past m m' s s' (command ∷ commands) (reply ∷ replies) (event ∷ events) v h =
       let o : Outcome T U = h.4 in
       let k : (past' : Past T U) × (past'.commands ≡ (past_with past command o).commands ++ commands) × (past'.replies ≡ (past_with past command o).replies ++ replies)
-            × (past'.events ≡ (past_with past command o).events ++ events) × Inv past' m' s' =
-          run_induction keep (past_with past command o) (messages_after o.event m) m' o.state s' commands replies events (keep past m s h.0 h.1 command o h.2 h.3 v h.5) h.8 in
-      (k.0,
-       k.1 ∙ append_assoc past.commands (command ∷ []) commands,
-       k.2 ∙ append_assoc past.replies (o.reply ∷ []) replies ∙ ap (λ r. past.replies ++ r ∷ replies) h.6,
-       k.3 ∙ append_assoc past.events (o.event ∷ []) events ∙ ap (λ e. past.events ++ e ∷ events) h.7,
-       k.4)
+      × (past'.events ≡ (past_with past command o).events ++ events) × Inv past' m' s' =
+      run_induction keep (past_with past command o) (messages_after o.event m) m' o.state s' commands replies events (keep past m s h.0 h.1 command o h.2 h.3 v h.5) h.8 in (
+        k.0,
+        k.1 ∙ append_assoc past.commands (command ∷ []) commands,
+        k.2 ∙ append_assoc past.replies (o.reply ∷ []) replies ∙ ap (λ r. past.replies ++ r ∷ replies) h.6,
+        k.3 ∙ append_assoc past.events (o.event ∷ []) events ∙ ap (λ e. past.events ++ e ∷ events) h.7,
+        k.4,
+      )
   run_induction keep past m m' s s' _ _ _ v h = absurd h
 
   -- The step at a position of a run: where it began, what it came to, and that this stands there in what happened.
@@ -79,31 +80,48 @@ module _ {T U : Type 0} (environment : Environment) (defaults : Defaults T U) (I
 
   -- Before each step of a run it holds.
   pub step_at : StepsKeep
-    → (past : Past T U) (m m' : Messages T U) (s s' : State T U) (commands : List (Command T U)) (replies : List (Reply T U)) (events : List (Event T U))
-    → Inv past m s → RunFrom environment defaults m s past.handles commands replies events m' s'
-    → (i : ℕ) (command : Command T U) → slice_get commands i ≡ Some command → StepAt past commands replies events i command
+      → (past : Past T U) (m m' : Messages T U) (s s' : State T U) (commands : List (Command T U)) (replies : List (Reply T U)) (events : List (Event T U))
+      → Inv past m s → RunFrom environment defaults m s past.handles commands replies events m' s'
+      → (i : ℕ) (command : Command T U) → slice_get commands i ≡ Some command → StepAt past commands replies events i command
   step_at keep past m m' s s' [] [] [] v h i command e = absurd (none-some command e)
   step_at keep past m m' s s' (first ∷ commands) (reply ∷ replies) (event ∷ events) v h zero command e =
       let o : Outcome T U = h.4 in record {
-    past = past; messages = m; state = s; default_value = h.0; default_header = h.1; o = o; holds = v;
-    step = subst (λ (c : Command T U). Step environment h.0 h.1 m s past.handles c o) (same_Some first command e) h.5;
-    count = omega arith;
-    later_commands = commands; later_replies = replies; later_events = events;
-    commands_there = ap (λ (c : Command T U). past.commands ++ c ∷ commands) (same_Some first command e);
-    replies_there = ap (λ r. past.replies ++ r ∷ replies) (sym h.6);
-    events_there = ap (λ w. past.events ++ w ∷ events) (sym h.7);
-  }
+        past = past;
+        messages = m;
+        state = s;
+        default_value = h.0;
+        default_header = h.1;
+        o = o;
+        holds = v;
+        step = subst (λ (c : Command T U). Step environment h.0 h.1 m s past.handles c o) (same_Some first command e) h.5;
+        count = omega arith;
+        later_commands = commands;
+        later_replies = replies;
+        later_events = events;
+        commands_there = ap (λ (c : Command T U). past.commands ++ c ∷ commands) (same_Some first command e);
+        replies_there = ap (λ r. past.replies ++ r ∷ replies) (sym h.6);
+        events_there = ap (λ w. past.events ++ w ∷ events) (sym h.7);
+      }
   step_at keep past m m' s s' (first ∷ commands) (reply ∷ replies) (event ∷ events) v h (suc i) command e =
       let o : Outcome T U = h.4 in
       let k : StepAt (past_with past first o) commands replies events i command =
-          step_at keep (past_with past first o) (messages_after o.event m) m' o.state s' commands replies events (keep past m s h.0 h.1 first o h.2 h.3 v h.5) h.8 i command e in
+      step_at keep (past_with past first o) (messages_after o.event m) m' o.state s' commands replies events (keep past m s h.0 h.1 first o h.2 h.3 v h.5) h.8 i command e in
       let more : length (past.commands ++ first ∷ []) ≡ length past.commands + 1 = length-append past.commands (first ∷ []) in
       let count : length (k.past).commands ≡ length (past.commands ++ first ∷ []) + i = k.count in record {
-    past = k.past; messages = k.messages; state = k.state; default_value = k.default_value; default_header = k.default_header; o = k.o; holds = k.holds; step = k.step;
-    count = omega arith;
-    later_commands = k.later_commands; later_replies = k.later_replies; later_events = k.later_events;
-    commands_there = sym (append_assoc past.commands (first ∷ []) commands) ∙ k.commands_there;
-    replies_there = ap (λ r. past.replies ++ r ∷ replies) (sym h.6) ∙ sym (append_assoc past.replies (o.reply ∷ []) replies) ∙ k.replies_there;
-    events_there = ap (λ w. past.events ++ w ∷ events) (sym h.7) ∙ sym (append_assoc past.events (o.event ∷ []) events) ∙ k.events_there;
-  }
+        past = k.past;
+        messages = k.messages;
+        state = k.state;
+        default_value = k.default_value;
+        default_header = k.default_header;
+        o = k.o;
+        holds = k.holds;
+        step = k.step;
+        count = omega arith;
+        later_commands = k.later_commands;
+        later_replies = k.later_replies;
+        later_events = k.later_events;
+        commands_there = sym (append_assoc past.commands (first ∷ []) commands) ∙ k.commands_there;
+        replies_there = ap (λ r. past.replies ++ r ∷ replies) (sym h.6) ∙ sym (append_assoc past.replies (o.reply ∷ []) replies) ∙ k.replies_there;
+        events_there = ap (λ w. past.events ++ w ∷ events) (sym h.7) ∙ sym (append_assoc past.events (o.event ∷ []) events) ∙ k.events_there;
+      }
   step_at keep past m m' s s' _ _ _ v h i command e = absurd h

@@ -39,15 +39,17 @@ module _ (Ok : ℕ → Type 0) (old new : Mailbox) (good : IsGood Ok old new) wh
   -- the end of a history comes in
   pub good_history : (buffer : ℕ) (history : List ℕ) → ((k : ℕ) → contains history k ≡ true → Ok k) → IsGood Ok old (with_waiting (last_n buffer history) new)
   good_history buffer history ok = (
-      λ k h. ⊎_elim (λ left. ok k (contains_in_last_n buffer history k left)) (λ right. good.0 k (contains_right new.waiting new.borrowed k right))
+    λ k h. ⊎_elim (λ left. ok k (contains_in_last_n buffer history k left)) (λ right. good.0 k (contains_right new.waiting new.borrowed k right))
         (contains_in_append (last_n buffer history) new.borrowed k h),
-      good.1)
+    good.1,
+  )
 
   -- the first that waits becomes borrowed
   pub good_borrowed : (n : ℕ) (box : Mailbox) → BorrowsFirst new n box → IsGood Ok old box
   good_borrowed n box b = (
-      λ k h. good.0 k (contains_in_borrowed n new box k b h),
-      λ k h. subst (λ (m : Mailbox). is_borrowed k m ≡ true) (sym b.2) (contains_left new.borrowed (n ∷ []) k (good.1 k h)))
+    λ k h. good.0 k (contains_in_borrowed n new box k b h),
+    λ k h. subst (λ (m : Mailbox). is_borrowed k m ≡ true) (sym b.2) (contains_left new.borrowed (n ∷ []) k (good.1 k h)),
+  )
 
 -- ---- the mailboxes of one port
 
@@ -73,7 +75,7 @@ module _ (Ok : ℕ → ℕ → Type 0) (old : ℕ → Mailbox) where
   module _ (environment : Environment) (service_id p : ℕ) (handler : Handler DegradationAction) (history : List ℕ) (buffers : ℕ → Option ℕ) (has_end : ℕ → Bool)
       (ok : (i k : ℕ) → contains history k ≡ true → Ok i k) where
     performed_good : (action : SenderAction) (place : ℕ) (side side' : SenderSide) (failure : Option ConnectionFailure) → AreGood side.mailboxes
-      → Performs environment service_id p handler history buffers has_end action place side side' failure → AreGood side'.mailboxes
+        → Performs environment service_id p handler history buffers has_end action place side side' failure → AreGood side'.mailboxes
     performed_good Keep_end place side side' failure are h = subst (λ (sd : SenderSide). AreGood sd.mailboxes) (sym h.0) are
     performed_good (Drop_waiting q) place side side' failure are h = subst (λ (sd : SenderSide). AreGood sd.mailboxes) (sym h.0) (drop_good side.mailboxes q are)
     performed_good Disconnect place side side' failure are h =
@@ -82,18 +84,18 @@ module _ (Ok : ℕ → ℕ → Type 0) (old : ℕ → Mailbox) where
         let mid : SenderSide = disconnected side place (occupant side.ends place) in
         let mid_good : AreGood mid.mailboxes = disconnected_good side place (occupant side.ends place) are in
         ⊎_elim
-          (λ made. subst (λ (sd : SenderSide). AreGood sd.mailboxes) (sym made.0)
-            (put_good mid.mailboxes q (with_waiting (last_n buffer history) (mid.mailboxes q)) mid_good
-              (good_history (Ok q) (old q) (mid.mailboxes q) (mid_good q) buffer history (ok q))))
-          (λ refused. subst (λ (sd : SenderSide). AreGood sd.mailboxes) (sym refused.3) mid_good) h
+        (λ made. subst (λ (sd : SenderSide). AreGood sd.mailboxes) (sym made.0)
+        (put_good mid.mailboxes q (with_waiting (last_n buffer history) (mid.mailboxes q)) mid_good
+        (good_history (Ok q) (old q) (mid.mailboxes q) (mid_good q) buffer history (ok q))))
+        (λ refused. subst (λ (sd : SenderSide). AreGood sd.mailboxes) (sym refused.3) mid_good) h
 
     -- A publisher's update puts numbers of its history alone into its mailboxes, and keeps what is borrowed.
     pub sender_side_good : (places : List (Option ℕ)) (side side' : SenderSide) (failure : Option ConnectionFailure) → AreGood side.mailboxes
-      → ForEachPlace (UpdateSenderPlace environment service_id p handler history buffers has_end) 0 places side side' failure → AreGood side'.mailboxes
+        → ForEachPlace (UpdateSenderPlace environment service_id p handler history buffers has_end) 0 places side side' failure → AreGood side'.mailboxes
     sender_side_good places side side' failure are h =
         for_each_place_keeps (UpdateSenderPlace environment service_id p handler history buffers has_end) (λ (sd : SenderSide). AreGood sd.mailboxes) places
-          (λ i side side' failure _ are h. performed_good (sender_action buffers (occupant places i) (occupant side.ends i)) i side side' failure are h)
-          side side' failure are h
+        (λ i side side' failure _ are h. performed_good (sender_action buffers (occupant places i) (occupant side.ends i)) i side side' failure are h)
+        side side' failure are h
 
   -- ---- a subscriber's update
 
@@ -108,21 +110,21 @@ module _ (Ok : ℕ → ℕ → Type 0) (old : ℕ → Mailbox) where
     SideIsGood side = AreGood side.mailboxes
 
     connect_good : (side : ReceiverSide) (place p : ℕ) (side' : ReceiverSide) (failure : Option ConnectionFailure) → SideIsGood side
-      → ConnectReceiver environment service_id q handler limit has_end side place p side' failure → SideIsGood side'
+        → ConnectReceiver environment service_id q handler limit has_end side place p side' failure → SideIsGood side'
     connect_good side place p side' failure are h =
         ⊎_elim (λ made. subst SideIsGood (sym made.0) are) (λ refused. subst SideIsGood (sym refused.3) are) h
 
     retire_good : (side : ReceiverSide) (place p : ℕ) (side' : ReceiverSide) (failure : Option ConnectionFailure) (Then : ReceiverSide → Type 0) → SideIsGood side
-      → ((mid : ReceiverSide) → SideIsGood mid → Then mid → SideIsGood side')
-      → Retire environment service_id q handler limit has_end side place p side' failure Then → SideIsGood side'
+        → ((mid : ReceiverSide) → SideIsGood mid → Then mid → SideIsGood side')
+        → Retire environment service_id q handler limit has_end side place p side' failure Then → SideIsGood side'
     retire_good side place p side' failure Then are go h =
         let how : Retirement = retirement_of limit side.mailboxes side.expired p in
         by_bool (SideIsGood side') (is_refused how) _ _ h
-          (λ _ k. subst SideIsGood (sym k.0) (retired_good q side p how are))
-          (λ _ k. go (with_end (after_retirement q side p how) place None) (retired_good q side p how are) k)
+        (λ _ k. subst SideIsGood (sym k.0) (retired_good q side p how are))
+        (λ _ k. go (with_end (after_retirement q side p how) place None) (retired_good q side p how are) k)
 
     at_place_good : (place : ℕ) (at : Option ℕ) (side side' : ReceiverSide) (failure : Option ConnectionFailure) → SideIsGood side
-      → ConnectAtPlace environment service_id q handler limit has_end place at side side' failure → SideIsGood side'
+        → ConnectAtPlace environment service_id q handler limit has_end place at side side' failure → SideIsGood side'
     at_place_good place at side side' failure are h =
         by_option (SideIsGood side') at _ _ h (λ _ k. subst SideIsGood (sym k.0) are) (λ p _ k.
         by_option (SideIsGood side') (occupant side.ends place) _ _ k (λ _ j. connect_good side place p side' failure are j) (λ before _ j.
@@ -130,23 +132,23 @@ module _ (Ok : ℕ → ℕ → Type 0) (old : ℕ → Mailbox) where
         retire_good side place before side' failure _ are (λ mid mid_good f. connect_good mid place p side' failure mid_good f) i)))
 
     at_empty_good : (place : ℕ) (at : Option ℕ) (side side' : ReceiverSide) (failure : Option ConnectionFailure) → SideIsGood side
-      → DisconnectAtPlace environment service_id q handler limit has_end place at side side' failure → SideIsGood side'
+        → DisconnectAtPlace environment service_id q handler limit has_end place at side side' failure → SideIsGood side'
     at_empty_good place at side side' failure are h =
         by_option (SideIsGood side') at _ _ h
-          (λ _ k. by_option (SideIsGood side') (occupant side.ends place) _ _ k (λ _ j. subst SideIsGood (sym j.0) are) (λ before _ j.
-            retire_good side place before side' failure (λ (mid : ReceiverSide). (side' ≡ mid) × (failure ≡ None)) are
-                (λ mid mid_good f. subst SideIsGood (sym f.0) mid_good) j))
-          (λ p _ k. subst SideIsGood (sym k.0) are)
+        (λ _ k. by_option (SideIsGood side') (occupant side.ends place) _ _ k (λ _ j. subst SideIsGood (sym j.0) are) (λ before _ j.
+        retire_good side place before side' failure (λ (mid : ReceiverSide). (side' ≡ mid) × (failure ≡ None)) are
+        (λ mid mid_good f. subst SideIsGood (sym f.0) mid_good) j))
+        (λ p _ k. subst SideIsGood (sym k.0) are)
 
     -- A subscriber's update puts nothing into its mailboxes, and keeps what is borrowed.
     pub receiver_side_good : (places : List (Option ℕ)) (side side' : ReceiverSide) (failure : Option ConnectionFailure) → SideIsGood side
-      → UpdateReceiverSide environment service_id q handler limit has_end places side side' failure → SideIsGood side'
+        → UpdateReceiverSide environment service_id q handler limit has_end places side side' failure → SideIsGood side'
     receiver_side_good places side side' failure are h =
         for_each_place_keeps (DisconnectAtPlace environment service_id q handler limit has_end) SideIsGood places
-          (λ i side side' failure _ are h. at_empty_good i (occupant places i) side side' failure are h) h.0 side' h.2
-          (for_each_place_keeps (ConnectAtPlace environment service_id q handler limit has_end) SideIsGood places
-            (λ i side side' failure _ are h. at_place_good i (occupant places i) side side' failure are h) side h.0 h.1 are h.3)
-          h.4
+        (λ i side side' failure _ are h. at_empty_good i (occupant places i) side side' failure are h) h.0 side' h.2
+        (for_each_place_keeps (ConnectAtPlace environment service_id q handler limit has_end) SideIsGood places
+        (λ i side side' failure _ are h. at_place_good i (occupant places i) side side' failure are h) side h.0 h.1 are h.3)
+        h.4
 
   -- ---- a delivery
 
@@ -154,31 +156,34 @@ module _ (Ok : ℕ → ℕ → Type 0) (old : ℕ → Mailbox) where
       (buffers : ℕ → Option ℕ) (n : ℕ)
       (ok : (i : ℕ) → Ok i n) where
     put_is_good : (q retries : ℕ) (elapsed : Duration) (buffer : Option ℕ) (box : Mailbox) (result : PutResult) (box' : Mailbox) → IsGood (Ok q) (old q) box
-      → Put environment c p strategy handler buffers n q retries elapsed buffer box result box' → IsGood (Ok q) (old q) box'
+        → Put environment c p strategy handler buffers n q retries elapsed buffer box result box' → IsGood (Ok q) (old q) box'
     put_is_good q retries elapsed None box result box' is h = subst (IsGood (Ok q) (old q)) (sym h.1) is
     put_is_good q retries elapsed (Some buffer) box result box' is h =
         by_bool (IsGood (Ok q) (old q) box') (has_room buffer box || c.enable_safe_overflow) _ _ h
-          (λ _ k. subst (IsGood (Ok q) (old q)) (sym k.1) (good_appended (Ok q) (old q) box is buffer n (ok q)))
-          (λ _ k. subst (IsGood (Ok q) (old q)) (sym k.1) is)
+        (λ _ k. subst (IsGood (Ok q) (old q)) (sym k.1) (good_appended (Ok q) (old q) box is buffer n (ok q)))
+        (λ _ k. subst (IsGood (Ok q) (old q)) (sym k.1) is)
 
     end_good : (retries : ℕ) (elapsed : Duration) (end : Option ℕ) (boxes : ℕ → Mailbox) (result : PutResult) (boxes' : ℕ → Mailbox) → AreGood boxes
-      → PutAtEnd environment c p strategy handler buffers n retries elapsed end boxes result boxes' → AreGood boxes'
+        → PutAtEnd environment c p strategy handler buffers n retries elapsed end boxes result boxes' → AreGood boxes'
     end_good retries elapsed None boxes result boxes' are h = subst AreGood (sym h.1) are
     end_good retries elapsed (Some q) boxes result boxes' are h =
         subst AreGood (sym h.2) (put_good boxes q h.0 are (put_is_good q retries elapsed (buffers q) (boxes q) result h.0 (are q) h.1))
 
     -- A delivery puts its message alone into mailboxes, and keeps what is borrowed; where it is suspended, it is with that message.
     pub deliver_good : (retries : ℕ) (elapsed : Duration) (place : ℕ) (ends : List (Option ℕ)) (count : ℕ) (has_failed : Bool) (boxes : ℕ → Mailbox)
-      (how : DeliveryEnd) (boxes' : ℕ → Mailbox)
-      → AreGood boxes → Deliver environment c p strategy handler buffers n retries elapsed place ends count has_failed boxes how boxes'
-      → AreGood boxes' × ((b : BlockedSend) → how ≡ Suspended b → b.message ≡ n)
+        (how : DeliveryEnd) (boxes' : ℕ → Mailbox)
+        → AreGood boxes → Deliver environment c p strategy handler buffers n retries elapsed place ends count has_failed boxes how boxes'
+        → AreGood boxes' × ((b : BlockedSend) → how ≡ Suspended b → b.message ≡ n)
     deliver_good retries elapsed place [] count has_failed boxes how boxes' are h =
         (subst AreGood (sym h.1) are, λ b e. let clash : Complete count has_failed ≡ Suspended b = sym h.0 ∙ e in absurd (cc))
     deliver_good retries elapsed place (end ∷ rest) count has_failed boxes how boxes' are h =
         let mid_good : AreGood h.1 = end_good retries elapsed end boxes h.0 h.1 are h.2 in
         by_bool (AreGood boxes' × ((b : BlockedSend) → how ≡ Suspended b → b.message ≡ n)) (is_blocking h.0) _ _ h.3
-          (λ _ k. (subst AreGood (sym k.1) mid_good, λ b e.
-            let same : Suspended (record { message = n; place = place; ends = end ∷ rest; retries = retries; count = count; has_failed = has_failed }) ≡ Suspended b = sym k.0 ∙ e in
-            let inner : record { message = n; place = place; ends = end ∷ rest; retries = retries; count = count; has_failed = has_failed } ≡ b = cc in
-            ap (λ (b : BlockedSend). b.message) (sym inner)))
-          (λ _ k. deliver_good 0 no_time (place + 1) rest (count + accepted_count h.0) (has_failed || is_failed h.0) h.1 how boxes' mid_good k)
+        (λ _ k. (
+          subst AreGood (sym k.1) mid_good,
+          λ b e.
+              let same : Suspended (record { message = n; place = place; ends = end ∷ rest; retries = retries; count = count; has_failed = has_failed }) ≡ Suspended b = sym k.0 ∙ e in
+              let inner : record { message = n; place = place; ends = end ∷ rest; retries = retries; count = count; has_failed = has_failed } ≡ b = cc in
+              ap (λ (b : BlockedSend). b.message) (sym inner),
+        ))
+        (λ _ k. deliver_good 0 no_time (place + 1) rest (count + accepted_count h.0) (has_failed || is_failed h.0) h.1 how boxes' mid_good k)

@@ -5,44 +5,37 @@ ghost use Rattle.iox2_runs.specs.RunLaws.{ReachedStatesHoldFew, WorstCaseOfSlots
 /// refused.
 pub fn steps_keep_well_formed<T, U>()
     ensures { StepsKeepWellFormed T U }
-{
-}
+{}
 
 /// A step on what a domain keeps is a step from each state that it shows, to a state that it shows afterwards.
 pub fn steps_lift<T, U>()
     ensures { StepsLift T U }
-{
-}
+{}
 
 /// In every state that a run from a new domain reaches, each publisher holds at most the worst case of different messages
 /// and loans for the loans that it has out.
 pub fn reached_states_hold_few<T, U>()
     ensures { ReachedStatesHoldFew T U }
-{
-}
+{}
 
 /// A static publisher with the worst case of slots grants every loan of permitted length while fewer than its limit are
 /// out and the message counter isn't at its end.
 pub fn worst_case_of_slots_grants<T, U>()
     ensures { WorstCaseOfSlotsGrants T U }
-{
-}
+{}
 
 /// The reply to a receive names the publisher that sent the message, and so does the message's header.
 pub fn samples_name_their_publisher<T, U>()
     ensures { SamplesNameTheirPublisher T U }
-{
-}
+{}
 
 /// What a subscriber receives from a publisher in a run is a part of what that publisher sent, in the same order, each
 /// message at most once.
 pub fn receives_in_order<T, U>()
     ensures { ReceivesInOrder T U }
-{
-}
+{}
 
 /// Every read through a sample gives the message as it was sent, until the sample is released.
 pub fn reads_give_what_was_sent<T, U>()
     ensures { ReadsGiveWhatWasSent T U }
-{
-}
+{}

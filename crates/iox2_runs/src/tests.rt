@@ -1,5 +1,6 @@
 use crate::{
-    Command, Reply, reached_states_hold_few, reads_give_what_was_sent, receives_in_order, samples_name_their_publisher, steps_keep_well_formed, steps_lift, worst_case_of_slots_grants,
+    Command, Reply, reached_states_hold_few, reads_give_what_was_sent, receives_in_order,
+    samples_name_their_publisher, steps_keep_well_formed, steps_lift, worst_case_of_slots_grants,
 };
 use iox2_store::{LoanError, UniquePublisherId};
 

@@ -6,7 +6,7 @@ use Rattle.std.specs.declared.option.Option.TheVariants.{None, Some}
 use Rattle.iox2_store.specs.Limits.{buffer_limit, expired_limit, worst_case, segment_limit}
 use Rattle.iox2_store.specs.Numbers.{contains, size, IsOnce}
 use Rattle.iox2_store.specs.Places.{occupant}
-use Rattle.iox2_store.specs.Mailbox.{numbers_in, has_numbers, has_borrows, IsWithin, waiting_count}
+use Rattle.iox2_store.specs.Mailbox.{numbers_in, has_numbers, has_borrows, has_data, IsWithin, waiting_count}
 use Rattle.iox2_store.specs.Records.{Loan, Publisher, Subscriber, BlockedSend}
 use Rattle.iox2_store.specs.State.{State, held}
 use Rattle.iox2_store.specs.Loans.{is_static, is_initialized}
@@ -41,6 +41,9 @@ module _ {T U : Type 0} where
     pub unheld : s.loans b.message ≡ None
     pub ends : b.ends ≡ drop b.place x.ends
     pub unserved : (q : ℕ) → LeadsTo b.ends q → contains (numbers_in (s.mailboxes p q)) b.message ≡ false
+    -- The place has a receiver, and whoever took the message stands before it.
+    pub waits : (q : ℕ) × (occupant x.ends b.place ≡ Some q)
+    pub count_bound : b.count ≤ b.place
 
   -- Loans, history and ends are within their bounds, each number and each receiver stands there once, and a static
   -- publisher holds no more messages and loans than it has slots.
@@ -66,7 +69,7 @@ module _ {T U : Type 0} where
     pub blocked : (b : BlockedSend) → x.blocked ≡ Some b → BlockedIsWellFormed s p x b
 
   -- Ends and expired publishers are within their bounds and all different, and each is a present publisher at its place
-  -- or a departed one with some message left.
+  -- or a departed one with some message left. A closed subscriber has some message borrowed.
   pub record SubscriberIsWellFormed (s : State T U) (q : ℕ) (y : Subscriber) : Type 0 where
     pub is_known : q < s.next_port
     pub some_room : 0 < y.buffer
@@ -83,9 +86,12 @@ module _ {T U : Type 0} where
     pub expired_known : (p : ℕ) → contains y.expired p ≡ true → p < s.next_port
     pub expired_gone : (p : ℕ) → contains y.expired p ≡ true → s.publishers p ≡ None
     pub expired_kept : (p : ℕ) → contains y.expired p ≡ true → has_numbers (s.mailboxes p q) ≡ true
+    -- A closed subscriber has some message borrowed; else it is gone.
+    pub is_used : y.is_open ≡ false → (p : ℕ) × (has_borrows (s.mailboxes p q) ≡ true)
 
   -- A mailbox keeps its bounds; its numbers were given out; while its publisher is present, that has its end where
-  -- anything is in it; and what is borrowed is borrowed by a subscriber that knows the publisher.
+  -- anything is in it; what is borrowed is borrowed by a subscriber that knows the publisher; and nothing waits from a
+  -- departed publisher but for an open one.
   pub record MailboxIsWellFormed (s : State T U) (p q : ℕ) : Type 0 where
     pub within : IsWithin (buffer_limit s.config) (s.config).subscriber_max_borrowed_samples (s.mailboxes p q)
     pub room : (y : Subscriber) → s.subscribers q ≡ Some y → waiting_count (s.mailboxes p q) ≤ y.buffer
@@ -94,6 +100,9 @@ module _ {T U : Type 0} where
     pub sender_end : (x : Publisher) → s.publishers p ≡ Some x → has_numbers (s.mailboxes p q) ≡ true → LeadsTo x.ends q
     pub receiver_end : has_borrows (s.mailboxes p q) ≡ true
         → (y : Subscriber) × (s.subscribers q ≡ Some y) × ((contains y.expired p ≡ true) ⊎ LeadsTo y.ends p)
+    -- What waits from a departed publisher waits for an open subscriber that knows it.
+    pub departed : s.publishers p ≡ None → has_data (s.mailboxes p q) ≡ true
+        → (y : Subscriber) × (s.subscribers q ≡ Some y) × (y.is_open ≡ true) × ((contains y.expired p ≡ true) ⊎ LeadsTo y.ends p)
 
   -- A loan's number was given out, and its publisher has sent no message under it. Its header names its publisher and
   -- counts its cells, and a written loan has all of them.

@@ -1,0 +1,200 @@
+-- A closed subscriber that has borrowed nothing goes.
+use Rattle.std.proofs.Common.{◌≡◌, ℕ, ◌≤◌, Bool, true, false, cond, not, ◌&&◌, List, refl, sym, ap, subst, ◌∙◌, arith, eqb, Option, None, Some, ◌⊎◌, ⊎_elim}
+use Rattle.std.specs.List.{list_all}
+use Rattle.std.specs.Option.{option_map, option_map_or}
+use Rattle.std.proofs.lemmas.Bool.{true≢false, eqb-true, and_parts, and_cases, cond_both, not-false, not-true}
+use Rattle.std.proofs.lemmas.Option.{none-some}
+use Rattle.iox2_laws.proofs.Puts.{put_at-other, found_removed}
+use Rattle.iox2_laws.proofs.NumberLemmas.{contains_left, contains_right}
+use Rattle.iox2_laws.proofs.FilterLemmas.{passes_all, some_fails}
+use Rattle.iox2_laws.proofs.PlaceLemmas.{occupant-vacated, vacated_keeps, length-vacated, contains-occupants}
+use Rattle.iox2_laws.proofs.PortChanges.{RestIsWellFormed, IsNearlyWellFormed, with_rest, publishers_due_keeps}
+use Rattle.iox2_laws.specs.Laws.{Advances}
+use Rattle.iox2_store.specs.Numbers.{put_at, contains}
+use Rattle.iox2_store.specs.Places.{occupant, occupants, vacated}
+use Rattle.iox2_store.specs.Mailbox.{has_borrows, has_data, waiting_count}
+use Rattle.iox2_store.specs.Records.{Publisher, Subscriber}
+use Rattle.iox2_store.specs.State.{State, connected_publishers}
+use Rattle.iox2_store.specs.Releases.{is_unused, place_freed, freed_if_unused}
+use Rattle.iox2_store.specs.WellFormed.{LeadsTo, PlacesAgree, BlockedIsWellFormed, PublisherIsWellFormed, SubscriberIsWellFormed, MailboxIsWellFormed, LoanIsWellFormed, IsWellFormed}
+
+module _ {T U : Type 0} where
+  removed_places : (s : State T U) → RestIsWellFormed s → (q : ℕ)
+      → PlacesAgree (s.config).max_subscribers (vacated q s.subscriber_places) (λ r. option_map {T = Subscriber} {U = ℕ} (λ y. y.place) (put_at s.subscribers q None r))
+  removed_places s w q = record {
+    bound = subst (λ n. n ≤ (s.config).max_subscribers) (sym (length-vacated q s.subscriber_places)) w.subscriber_places.bound;
+    stands = λ id place e.
+        elim (eqb id q) as (λ b. eqb id q ≡ b → option_map {T = Subscriber} {U = ℕ} (λ y. y.place) (cond b None (s.subscribers id)) ≡ Some place
+        → occupant (vacated q s.subscriber_places) place ≡ Some id) [
+          | true ↦ λ _ e. absurd (none-some place e)
+          | false ↦ λ apart e. vacated_keeps q s.subscriber_places place id (w.subscriber_places.stands id place e) apart
+        ] refl e;
+    known = λ id place e.
+        let old : (occupant s.subscriber_places place ≡ Some id) × (eqb id q ≡ false) = occupant-vacated q s.subscriber_places place id e in
+        ap (option_map {T = Subscriber} {U = ℕ} (λ y. y.place)) (put_at-other s.subscribers q None id old.1) ∙ w.subscriber_places.known id place old.0;
+  }
+
+  removed_publisher : (s : State T U) (q : ℕ) (places : List (Option ℕ)) (p : ℕ) (x : Publisher) → PublisherIsWellFormed s p x
+      → PublisherIsWellFormed (record s { subscribers = put_at s.subscribers q None; subscriber_places = places }) p x
+  removed_publisher s q places p x b = record {
+    is_known = b.is_known;
+    loans_bound = b.loans_bound;
+    loans_once = b.loans_once;
+    loans_below = b.loans_below;
+    loans_held = b.loans_held;
+    history_bound = b.history_bound;
+    history_once = b.history_once;
+    history_below = b.history_below;
+    ends_bound = b.ends_bound;
+    ends_apart = b.ends_apart;
+    ends_known = b.ends_known;
+    ends_stand = λ place r y h e. found_removed s.subscribers q r y (y.place ≡ place) e (λ _ f. b.ends_stand place r y h f);
+    slots_bound = b.slots_bound;
+    some_segment = b.some_segment;
+    segments_bound = b.segments_bound;
+    blocked = λ c e. let old : BlockedIsWellFormed s p x c = b.blocked c e in record {
+      is_out = old.is_out;
+      unheld = old.unheld;
+      ends = old.ends;
+      unserved = old.unserved;
+      waits = old.waits;
+      count_bound = old.count_bound;
+    };
+  }
+
+  removed_mailbox : (s : State T U) (q : ℕ) (places : List (Option ℕ)) (p r : ℕ) → (has_borrows (s.mailboxes p q) ≡ true → ⊥)
+      → (s.publishers p ≡ None → has_data (s.mailboxes p q) ≡ true → ⊥) → MailboxIsWellFormed s p r
+      → MailboxIsWellFormed (record s { subscribers = put_at s.subscribers q None; subscriber_places = places }) p r
+  removed_mailbox s q places p r nothing lost b = record {
+    within = b.within;
+    below = b.below;
+    known = b.known;
+    sender_end = b.sender_end;
+    room = λ y e. found_removed s.subscribers q r y (waiting_count (s.mailboxes p r) ≤ y.buffer) e (λ _ f. b.room y f);
+    receiver_end = λ h.
+        elim (eqb r q) as (λ c. eqb r q ≡ c → (y : Subscriber) × (cond c None (s.subscribers r) ≡ Some y) × ((contains y.expired p ≡ true) ⊎ LeadsTo y.ends p)) [
+          | true ↦ λ same. absurd (nothing (ap (λ k. has_borrows (s.mailboxes p k)) (sym (eqb-true r q same)) ∙ h))
+          | false ↦ λ _. b.receiver_end h
+        ] refl;
+    departed = λ gone h.
+        elim (eqb r q) as (λ c. eqb r q ≡ c
+        → (y : Subscriber) × (cond c None (s.subscribers r) ≡ Some y) × (y.is_open ≡ true) × ((contains y.expired p ≡ true) ⊎ LeadsTo y.ends p)) [
+          | true ↦ λ same. absurd (lost gone (ap (λ k. has_data (s.mailboxes p k)) (sym (eqb-true r q same)) ∙ h))
+          | false ↦ λ _. b.departed gone h
+        ] refl;
+  }
+
+  -- A subscriber that has borrowed nothing, and for which nothing waits from departed publishers, may go.
+  pub subscriber_removed_keeps : (s : State T U) (q : ℕ) → IsNearlyWellFormed s q → ((p : ℕ) → has_borrows (s.mailboxes p q) ≡ true → ⊥)
+      → ((p : ℕ) → s.publishers p ≡ None → has_data (s.mailboxes p q) ≡ true → ⊥)
+      → IsWellFormed (record s { subscribers = put_at s.subscribers q None; subscriber_places = vacated q s.subscriber_places })
+  subscriber_removed_keeps s q nearly nothing lost = let w : RestIsWellFormed s = nearly.rest in record {
+    publisher_places = record { bound = w.publisher_places.bound; stands = w.publisher_places.stands; known = w.publisher_places.known };
+    subscriber_places =
+        (let a : PlacesAgree (s.config).max_subscribers (vacated q s.subscriber_places)
+        (λ r. option_map {T = Subscriber} {U = ℕ} (λ y. y.place) (put_at s.subscribers q None r)) = removed_places s w q in
+        record { bound = a.bound; stands = a.stands; known = a.known });
+    publishers = λ p x e. removed_publisher s q (vacated q s.subscriber_places) p x (w.publishers p x e);
+    subscribers = λ r y e.
+        let b : SubscriberIsWellFormed s r y = found_removed s.subscribers q r y (SubscriberIsWellFormed s r y) e (λ apart f. nearly.others r y apart f) in
+        record {
+          is_known = b.is_known;
+          some_room = b.some_room;
+          buffer_bound = b.buffer_bound;
+          ends_bound = b.ends_bound;
+          ends_apart = b.ends_apart;
+          ends_known = b.ends_known;
+          ends_stand = b.ends_stand;
+          expired_bound = b.expired_bound;
+          expired_once = b.expired_once;
+          expired_apart = b.expired_apart;
+          expired_known = b.expired_known;
+          expired_gone = b.expired_gone;
+          expired_kept = b.expired_kept;
+          is_used = b.is_used;
+        };
+    mailboxes = λ p r. removed_mailbox s q (vacated q s.subscriber_places) p r (nothing p) (lost p) (w.mailboxes p r);
+    loans = λ n l e.
+        let b : LoanIsWellFormed s n l = w.loans n l e in
+        record { below = b.below; known = b.known; origin = b.origin; cells = b.cells; complete = b.complete; is_out = b.is_out; unsent = b.unsent };
+  }
+
+  -- Nothing of a subscriber's publishers is borrowed, and it is closed.
+  abbrev closed_without_borrows : State T U → (q : ℕ) → Subscriber → Bool
+  closed_without_borrows s q y = not y.is_open && list_all (λ p. not (has_borrows (s.mailboxes p q))) (connected_publishers y)
+
+  unused_is : (s : State T U) (q : ℕ) (y : Subscriber) → s.subscribers q ≡ Some y → closed_without_borrows s q y ≡ is_unused s q
+  unused_is s q y here = ap (λ o. option_map_or (λ (z : Subscriber). closed_without_borrows s q z) o false) (sym here)
+
+  -- Nobody that is unused has borrowed anything.
+  unused_borrows_nothing : (s : State T U) → RestIsWellFormed s → (q : ℕ) → is_unused s q ≡ true → (p : ℕ) → has_borrows (s.mailboxes p q) ≡ true → ⊥
+  unused_borrows_nothing s w q unused p h =
+      let at : (y : Subscriber) × (s.subscribers q ≡ Some y) × ((contains y.expired p ≡ true) ⊎ LeadsTo y.ends p) = (w.mailboxes p q).receiver_end h in
+      let here : contains (connected_publishers at.0) p ≡ true =
+      ⊎_elim (λ expired. contains_left (at.0).expired (occupants (at.0).ends) p expired)
+      (λ leads. contains_right (at.0).expired (occupants (at.0).ends) p (contains-occupants (at.0).ends p leads)) at.2 in
+      let parts : (not (at.0).is_open ≡ true) × (list_all (λ r. not (has_borrows (s.mailboxes r q))) (connected_publishers at.0) ≡ true) =
+      and_parts (not (at.0).is_open) (list_all (λ r. not (has_borrows (s.mailboxes r q))) (connected_publishers at.0)) (unused_is s q at.0 at.1 ∙ unused) in
+      let none : not (has_borrows (s.mailboxes p q)) ≡ true =
+      passes_all (λ r. not (has_borrows (s.mailboxes r q))) (connected_publishers at.0) p parts.1 here in
+      true≢false (sym none ∙ ap not h)
+
+  -- For nobody that is unused something waits from a departed publisher.
+  unused_waits_for_nothing : (s : State T U) → RestIsWellFormed s → (q : ℕ) → is_unused s q ≡ true
+      → (p : ℕ) → s.publishers p ≡ None → has_data (s.mailboxes p q) ≡ true → ⊥
+  unused_waits_for_nothing s w q unused p gone h =
+      let at : (y : Subscriber) × (s.subscribers q ≡ Some y) × (y.is_open ≡ true) × ((contains y.expired p ≡ true) ⊎ LeadsTo y.ends p) =
+      (w.mailboxes p q).departed gone h in
+      let parts : (not (at.0).is_open ≡ true) × (list_all (λ r. not (has_borrows (s.mailboxes r q))) (connected_publishers at.0) ≡ true) =
+      and_parts (not (at.0).is_open) (list_all (λ r. not (has_borrows (s.mailboxes r q))) (connected_publishers at.0)) (unused_is s q at.0 at.1 ∙ unused) in
+      true≢false (sym at.2 ∙ not-true (at.0).is_open parts.0)
+
+  -- A closed subscriber that isn't unused has some message borrowed.
+  borrows_of_used : (s : State T U) (q : ℕ) (y : Subscriber) → s.subscribers q ≡ Some y → is_unused s q ≡ false → y.is_open ≡ false
+      → (p : ℕ) × (has_borrows (s.mailboxes p q) ≡ true)
+  borrows_of_used s q y here used closed =
+      ⊎_elim
+      (λ opened. absurd (true≢false (sym (not-false y.is_open opened) ∙ closed)))
+      (λ (some : list_all (λ r. not (has_borrows (s.mailboxes r q))) (connected_publishers y) ≡ false).
+      let at : (p : ℕ) × (not (has_borrows (s.mailboxes p q)) ≡ false) = some_fails (λ r. not (has_borrows (s.mailboxes r q))) (connected_publishers y) some in
+      (at.0, not-false (has_borrows (s.mailboxes at.0 q)) at.1))
+      (and_cases (not y.is_open) (list_all (λ r. not (has_borrows (s.mailboxes r q))) (connected_publishers y)) (unused_is s q y here ∙ used))
+
+  used_subscriber : (s : State T U) (q : ℕ) (y : Subscriber) → SubscriberIsWellFormed s q (record y { is_open = true })
+      → (y.is_open ≡ false → (p : ℕ) × (has_borrows (s.mailboxes p q) ≡ true)) → SubscriberIsWellFormed s q y
+  used_subscriber s q y b used = record {
+    is_known = b.is_known;
+    some_room = b.some_room;
+    buffer_bound = b.buffer_bound;
+    ends_bound = b.ends_bound;
+    ends_apart = b.ends_apart;
+    ends_known = b.ends_known;
+    ends_stand = b.ends_stand;
+    expired_bound = b.expired_bound;
+    expired_once = b.expired_once;
+    expired_apart = b.expired_apart;
+    expired_known = b.expired_known;
+    expired_gone = b.expired_gone;
+    expired_kept = b.expired_kept;
+    is_used = used;
+  }
+
+  -- A closed subscriber that has borrowed nothing goes, and the state is well-formed.
+  pub freed_if_unused_keeps : (s : State T U) (q : ℕ) → IsNearlyWellFormed s q → IsWellFormed (freed_if_unused s q)
+  freed_if_unused_keeps s q w =
+      cond_both (is_unused s q) (place_freed s q) s IsWellFormed
+      (λ unused. publishers_due_keeps (record s { subscribers = put_at s.subscribers q None; subscriber_places = vacated q s.subscriber_places })
+      (subscriber_removed_keeps s q w (unused_borrows_nothing s w.rest q unused) (unused_waits_for_nothing s w.rest q unused)))
+      (λ used. with_rest s w.rest (λ r y e. elim (eqb r q) as (λ b. eqb r q ≡ b → SubscriberIsWellFormed s r y) [
+        | true ↦ λ same. subst (λ k. SubscriberIsWellFormed s k y) (sym (eqb-true r q same))
+            (let here : s.subscribers q ≡ Some y = ap s.subscribers (sym (eqb-true r q same)) ∙ e in
+            used_subscriber s q y (w.own y here) (borrows_of_used s q y here used))
+        | false ↦ λ apart. w.others r y apart e
+      ] refl))
+
+  -- No counter falls where a subscriber goes.
+  pub freed_if_unused_advances : (s : State T U) → (q : ℕ) → Advances s (freed_if_unused s q)
+  freed_if_unused_advances s q =
+      cond_both (is_unused s q) (place_freed s q) s (Advances s)
+      (λ _. record { config = refl; next_port = omega arith; next_message = omega arith })
+      (λ _. record { config = refl; next_port = omega arith; next_message = omega arith })
