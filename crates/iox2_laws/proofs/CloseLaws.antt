@@ -8,7 +8,7 @@ use Rattle.std.proofs.lemmas.Bool.{true≢false, eqb-true, or_right, and_parts}
 use Rattle.std.proofs.lemmas.Option.{none-some, same_Some}
 use Rattle.iox2_store.specs.Limits.{buffer_limit}
 use Rattle.iox2_store.specs.Numbers.{contains, put_at}
-use Rattle.iox2_store.specs.Places.{occupant, vacated, places_of, is_port}
+use Rattle.iox2_store.specs.Places.{occupant, vacated, places_kept, is_port}
 use Rattle.iox2_store.specs.Mailbox.{Mailbox, numbers_in, has_numbers, has_borrows, has_data, waiting_count, waiting_dropped, IsWithin}
 use Rattle.iox2_store.specs.Records.{Publisher, Subscriber}
 use Rattle.iox2_store.specs.State.{State, publishers_due}
@@ -20,8 +20,8 @@ use Rattle.iox2_store.specs.WellFormed.{IsWellFormed}
 use Rattle.iox2_laws.specs.Laws.{Advances}
 use Rattle.iox2_laws.proofs.Puts.{put_at-same, put_at-other, found_put, found_removed, found_mapped}
 use Rattle.iox2_laws.proofs.FilterLemmas.{contains_in_filter, contains-filter, IsOnce-filter, length-filter_le}
-use Rattle.iox2_laws.proofs.PlaceLemmas.{occupant-vacated, vacated_keeps, length-vacated, occupant-places_of, places_of_keeps, length-places_of}
-use Rattle.iox2_laws.proofs.PlaceLemmas.{injective_places_of, is_port-true}
+use Rattle.iox2_laws.proofs.PlaceLemmas.{occupant-vacated, vacated_keeps, length-vacated, occupant-places_kept, places_kept_keeps, length-places_kept}
+use Rattle.iox2_laws.proofs.PlaceLemmas.{injective_places_kept, is_port-true}
 use Rattle.iox2_laws.proofs.MailboxLemmas.{has_numbers-borrows, has_numbers-data, has_numbers_dropped, IsWithin-dropped, contains_in_dropped}
 use Rattle.iox2_laws.proofs.Freed.{freed_if_unused_keeps, freed_if_unused_advances}
 use Rattle.iox2_laws.proofs.PortChanges.{changed, places_agree_by, place_of_publisher, place_of_subscriber, publisher_kept, subscriber_kept, loan_kept}
@@ -61,9 +61,9 @@ connected_by_numbers o box b e h = e ∙ or_right (is_some o) (has_numbers box) 
 
 -- The receiver's end stays where there is a message.
 receiver_end_left : (test : ℕ → Bool) (expired : List ℕ) (ends : List (Option ℕ)) (p : ℕ) → test p ≡ true → (contains expired p ≡ true) ⊎ LeadsTo ends p
-    → (contains (filter test expired) p ≡ true) ⊎ LeadsTo (places_of test ends) p
+    → (contains (filter test expired) p ≡ true) ⊎ LeadsTo (places_kept test ends) p
 receiver_end_left test expired ends p passes h =
-    ⊎_elim (λ l. inl (contains-filter test expired p l passes)) (λ r. inr (r.0, places_of_keeps test ends r.0 p r.1 passes)) h
+    ⊎_elim (λ l. inl (contains-filter test expired p l passes)) (λ r. inr (r.0, places_kept_keeps test ends r.0 p r.1 passes)) h
 
 -- No publisher is there that wasn't there before.
 abbrev pub FewerPublishers : (f f' : ℕ → Option Publisher) → Type 0
@@ -98,19 +98,19 @@ module _ {T U : Type 0} where
   pruned_is : (s t : State T U) (test : ℕ → Bool) (q : ℕ) (y : Subscriber) → SubscriberIsWellFormed s q y
       → s.next_port ≤ t.next_port → FewerPublishers s.publishers t.publishers → ((p : ℕ) → StillConnected (t.publishers p) (t.mailboxes p q) (test p))
       → (y.is_open ≡ false → (p : ℕ) × (has_borrows (t.mailboxes p q) ≡ true))
-      → SubscriberIsWellFormed (changed s t) q (record y { ends = places_of test y.ends; expired = filter test y.expired })
+      → SubscriberIsWellFormed (changed s t) q (record y { ends = places_kept test y.ends; expired = filter test y.expired })
   pruned_is s t test q y w more fewer connected used = record {
     is_known = omega (arith, w.is_known);
     some_room = w.some_room;
     buffer_bound = w.buffer_bound;
-    ends_bound = omega (arith, w.ends_bound, length-places_of test y.ends);
-    ends_apart = injective_places_of test y.ends w.ends_apart;
-    ends_known = λ p h. omega (arith, w.ends_known p (h.0, (occupant-places_of test y.ends h.0 p h.1).0));
-    ends_stand = λ place p e. let old : (occupant y.ends place ≡ Some p) × (test p ≡ true) = occupant-places_of test y.ends place p e in
+    ends_bound = omega (arith, w.ends_bound, length-places_kept test y.ends);
+    ends_apart = injective_places_kept test y.ends w.ends_apart;
+    ends_known = λ p h. omega (arith, w.ends_known p (h.0, (occupant-places_kept test y.ends h.0 p h.1).0));
+    ends_stand = λ place p e. let old : (occupant y.ends place ≡ Some p) × (test p ≡ true) = occupant-places_kept test y.ends place p e in
         stands_or_left place (s.publishers p) (t.publishers p) (s.mailboxes p q) (t.mailboxes p q) (test p) (fewer p) (connected p) old.1 (w.ends_stand place p old.0);
     expired_bound = omega (arith, w.expired_bound, length-filter_le test y.expired);
     expired_once = IsOnce-filter test y.expired w.expired_once;
-    expired_apart = λ p h k. w.expired_apart p (contains_in_filter test y.expired p h).0 (k.0, (occupant-places_of test y.ends k.0 p k.1).0);
+    expired_apart = λ p h k. w.expired_apart p (contains_in_filter test y.expired p h).0 (k.0, (occupant-places_kept test y.ends k.0 p k.1).0);
     expired_known = λ p h. omega (arith, w.expired_known p (contains_in_filter test y.expired p h).0);
     expired_gone = λ p h. none_if_none (s.publishers p) (t.publishers p) (fewer p) (w.expired_gone p (contains_in_filter test y.expired p h).0);
     expired_kept = λ p h. left_of_absent (t.publishers p) (t.mailboxes p q) (test p) (connected p) (contains_in_filter test y.expired p h).1

@@ -6,7 +6,7 @@ use Rattle.std.proofs.lemmas.Option.{none-some, same_Some, cond_some}
 use Rattle.std.proofs.lemmas.List.{length-map}
 use Rattle.iox2_laws.proofs.NumberLemmas.{absent_from, contains_in_cons, contains_later}
 use Rattle.iox2_store.specs.Numbers.{contains, IsOnce}
-use Rattle.iox2_store.specs.Places.{occupant, occupants, is_port, lowest_free, free_place, set_place, vacated, places_of}
+use Rattle.iox2_store.specs.Places.{occupant, occupants, is_port, lowest_free, free_place, set_place, vacated, places_kept}
 use Rattle.iox2_store.specs.WellFormed.{LeadsTo, IsInjective}
 
 -- after a place was set, that place has the new value and each other its old one
@@ -67,26 +67,26 @@ place_of : (test : ℕ → Bool) (k id : ℕ) → cond (test k) (Some k) None �
 place_of test k id h = let parts : (test k ≡ true) × (k ≡ id) = cond_some (test k) k id h in (ap (λ j. Some j) parts.1, ap test (sym parts.1) ∙ parts.0)
 
 -- who is kept stood there before, and passes the test
-pub occupant-places_of : (test : ℕ → Bool) (xs : List (Option ℕ)) (i id : ℕ) → occupant (places_of test xs) i ≡ Some id → (occupant xs i ≡ Some id) × (test id ≡ true)
-occupant-places_of test [] i id h = absurd (none-some id h)
-occupant-places_of test (None ∷ xs) zero id h = absurd (none-some id h)
-occupant-places_of test (None ∷ xs) (suc i) id h = occupant-places_of test xs i id h
-occupant-places_of test (Some k ∷ xs) zero id h = place_of test k id h
-occupant-places_of test (Some k ∷ xs) (suc i) id h = occupant-places_of test xs i id h
+pub occupant-places_kept : (test : ℕ → Bool) (xs : List (Option ℕ)) (i id : ℕ) → occupant (places_kept test xs) i ≡ Some id → (occupant xs i ≡ Some id) × (test id ≡ true)
+occupant-places_kept test [] i id h = absurd (none-some id h)
+occupant-places_kept test (None ∷ xs) zero id h = absurd (none-some id h)
+occupant-places_kept test (None ∷ xs) (suc i) id h = occupant-places_kept test xs i id h
+occupant-places_kept test (Some k ∷ xs) zero id h = place_of test k id h
+occupant-places_kept test (Some k ∷ xs) (suc i) id h = occupant-places_kept test xs i id h
 
 -- who passes the test stays where it stands
-pub places_of_keeps : (test : ℕ → Bool) (xs : List (Option ℕ)) (i id : ℕ) → occupant xs i ≡ Some id → test id ≡ true → occupant (places_of test xs) i ≡ Some id
-places_of_keeps test [] i id h k = h
-places_of_keeps test (None ∷ xs) zero id h k = h
-places_of_keeps test (None ∷ xs) (suc i) id h k = places_of_keeps test xs i id h k
-places_of_keeps test (Some j ∷ xs) zero id h k = rw (ap test (same_Some j id h) ∙ k) h
-places_of_keeps test (Some j ∷ xs) (suc i) id h k = places_of_keeps test xs i id h k
+pub places_kept_keeps : (test : ℕ → Bool) (xs : List (Option ℕ)) (i id : ℕ) → occupant xs i ≡ Some id → test id ≡ true → occupant (places_kept test xs) i ≡ Some id
+places_kept_keeps test [] i id h k = h
+places_kept_keeps test (None ∷ xs) zero id h k = h
+places_kept_keeps test (None ∷ xs) (suc i) id h k = places_kept_keeps test xs i id h k
+places_kept_keeps test (Some j ∷ xs) zero id h k = rw (ap test (same_Some j id h) ∙ k) h
+places_kept_keeps test (Some j ∷ xs) (suc i) id h k = places_kept_keeps test xs i id h k
 
 -- the list is as long as before ports were left out
-pub length-places_of : (test : ℕ → Bool) (xs : List (Option ℕ)) → length (places_of test xs) ≡ length xs
-length-places_of test [] = refl
-length-places_of test (None ∷ xs) = ap suc (length-places_of test xs)
-length-places_of test (Some k ∷ xs) = ap suc (length-places_of test xs)
+pub length-places_kept : (test : ℕ → Bool) (xs : List (Option ℕ)) → length (places_kept test xs) ≡ length xs
+length-places_kept test [] = refl
+length-places_kept test (None ∷ xs) = ap suc (length-places_kept test xs)
+length-places_kept test (Some k ∷ xs) = ap suc (length-places_kept test xs)
 
 -- at the lowest free place nothing stands
 pub nothing_at_lowest_free : (xs : List (Option ℕ)) → occupant xs (lowest_free xs) ≡ None
@@ -192,5 +192,5 @@ injective_set xs place id apart new i j other e f =
     (found_set xs place (Some id) i other e)
 
 -- no two ends lead to one port after ports were left out
-pub injective_places_of : (test : ℕ → Bool) (xs : List (Option ℕ)) → IsInjective xs → IsInjective (places_of test xs)
-injective_places_of test xs apart i j id e f = apart i j id (occupant-places_of test xs i id e).0 (occupant-places_of test xs j id f).0
+pub injective_places_kept : (test : ℕ → Bool) (xs : List (Option ℕ)) → IsInjective xs → IsInjective (places_kept test xs)
+injective_places_kept test xs apart i j id e f = apart i j id (occupant-places_kept test xs i id e).0 (occupant-places_kept test xs j id f).0

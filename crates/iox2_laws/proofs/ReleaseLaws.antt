@@ -8,7 +8,7 @@ use Rattle.iox2_laws.proofs.NumberLemmas.{contains_in_append, contains_left, con
 use Rattle.iox2_laws.proofs.PortChanges.{RestIsWellFormed, IsNearlyWellFormed, with_rest}
 use Rattle.iox2_laws.proofs.Freed.{freed_if_unused_keeps, freed_if_unused_advances}
 use Rattle.iox2_laws.proofs.FilterLemmas.{contains_in_filter, contains-filter, IsOnce-filter, length-filter_le}
-use Rattle.iox2_laws.proofs.PlaceLemmas.{occupant-places_of, places_of_keeps, length-places_of, injective_places_of}
+use Rattle.iox2_laws.proofs.PlaceLemmas.{occupant-places_kept, places_kept_keeps, length-places_kept, injective_places_kept}
 use Rattle.iox2_laws.proofs.MailboxLemmas.{has_numbers-borrows, has_numbers-data, IsWithin-released, contains_in_released, has_borrows_before_release, has_numbers_before_release}
 use Rattle.iox2_laws.specs.Laws.{Advances}
 use Rattle.iox2_store.specs.Limits.{buffer_limit, expired_limit}
@@ -223,11 +223,11 @@ module _ {T U : Type 0} where
         is_known = b.is_known;
         some_room = b.some_room;
         buffer_bound = b.buffer_bound;
-        ends_bound = subst (λ n. n ≤ (s.config).max_publishers) (sym (length-places_of test y.ends)) b.ends_bound;
-        ends_apart = injective_places_of test y.ends b.ends_apart;
-        ends_known = λ p l. b.ends_known p (l.0, (occupant-places_of test y.ends l.0 p l.1).0);
+        ends_bound = subst (λ n. n ≤ (s.config).max_publishers) (sym (length-places_kept test y.ends)) b.ends_bound;
+        ends_apart = injective_places_kept test y.ends b.ends_apart;
+        ends_known = λ p l. b.ends_known p (l.0, (occupant-places_kept test y.ends l.0 p l.1).0);
         ends_stand = λ place p h.
-            let found : (occupant y.ends place ≡ Some p) × (test p ≡ true) = occupant-places_of test y.ends place p h in
+            let found : (occupant y.ends place ≡ Some p) × (test p ≡ true) = occupant-places_kept test y.ends place p h in
             connected_stands (s.publishers p) (has_numbers (boxes p q)) (has_numbers (s.mailboxes p q) ≡ true) (λ x. x.place ≡ place)
             (b.ends_stand place p found.0) found.1;
         expired_bound =
@@ -235,7 +235,7 @@ module _ {T U : Type 0} where
             let less : length (filter test y.expired) ≤ length y.expired = length-filter_le test y.expired in
             le_trans less old);
         expired_once = IsOnce-filter test y.expired b.expired_once;
-        expired_apart = λ p h l. b.expired_apart p (contains_in_filter test y.expired p h).0 (l.0, (occupant-places_of test y.ends l.0 p l.1).0);
+        expired_apart = λ p h l. b.expired_apart p (contains_in_filter test y.expired p h).0 (l.0, (occupant-places_kept test y.ends l.0 p l.1).0);
         expired_known = λ p h. b.expired_known p (contains_in_filter test y.expired p h).0;
         expired_gone = λ p h. b.expired_gone p (contains_in_filter test y.expired p h).0;
         expired_kept = λ p h.
@@ -251,7 +251,7 @@ module _ {T U : Type 0} where
       let here : is_connected s q p ≡ true = or_right (is_present s p) (has_numbers (s.mailboxes p q)) h in
       ⊎_elim
       (λ expired. inl (contains-filter (is_connected s q) y.expired p expired here))
-      (λ leads. inr (leads.0, places_of_keeps (is_connected s q) y.ends leads.0 p leads.1 here)) known
+      (λ leads. inr (leads.0, places_kept_keeps (is_connected s q) y.ends leads.0 p leads.1 here)) known
 
   -- The subscribers and the mailboxes after q has released the message n of p.
   abbrev pub subscribers_after_release : State T U → (p q n : ℕ) → ℕ → Option Subscriber

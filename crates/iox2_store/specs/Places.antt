@@ -42,7 +42,7 @@ abbrev pub vacated : ℕ → List (Option ℕ) → List (Option ℕ)
 vacated id places = map (λ x. cond (is_port x id) None x) places
 
 -- The list with each place free whose port fails the test.
-abbrev pub places_of : (ℕ → Bool) → List (Option ℕ) → List (Option ℕ)
-places_of test [] = []
-places_of test (None ∷ xs) = None ∷ places_of test xs
-places_of test (Some id ∷ xs) = cond (test id) (Some id) None ∷ places_of test xs
+abbrev pub places_kept : (ℕ → Bool) → List (Option ℕ) → List (Option ℕ)
+places_kept test [] = []
+places_kept test (None ∷ xs) = None ∷ places_kept test xs
+places_kept test (Some id ∷ xs) = cond (test id) (Some id) None ∷ places_kept test xs

@@ -4,7 +4,7 @@ use Rattle.std.specs.List.{filter, list_all}
 use Rattle.std.specs.Option.{option_map_or}
 use Rattle.std.specs.declared.option.Option.TheVariants.{None}
 use Rattle.iox2_store.specs.Numbers.{put_at}
-use Rattle.iox2_store.specs.Places.{places_of, vacated}
+use Rattle.iox2_store.specs.Places.{places_kept, vacated}
 use Rattle.iox2_store.specs.Mailbox.{has_numbers, has_borrows, with_released}
 use Rattle.iox2_store.specs.Records.{Subscriber}
 use Rattle.iox2_store.specs.State.{State, is_present, connected_publishers, with_mailbox, subscriber_changed, publishers_due}
@@ -16,7 +16,7 @@ module _ {T U : Type 0} where
 
   -- The subscriber q without the departed publishers of which it has no message any more.
   abbrev pub pruned : State T U → (q : ℕ) → Subscriber → Subscriber
-  pruned s q y = record y { ends = places_of (is_connected s q) y.ends; expired = filter (is_connected s q) y.expired }
+  pruned s q y = record y { ends = places_kept (is_connected s q) y.ends; expired = filter (is_connected s q) y.expired }
 
   -- The subscriber q was closed, and has borrowed nothing.
   abbrev pub is_unused : State T U → (q : ℕ) → Bool
