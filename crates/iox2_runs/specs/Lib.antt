@@ -3,6 +3,8 @@ pub mod Step
 pub mod Runs
 pub mod Shows
 pub mod Fills
+pub mod FillingCommands
 pub mod Views
+pub mod Isolation
 pub mod Laws
 pub mod RunLaws

@@ -40,7 +40,7 @@ pub record SameView {T U : Type 0} (q : ℕ) (m : Messages T U) (s : State T U) 
   pub messages : (n : ℕ) → m n ≡ m' n
   pub handles : map (seen_handle q) named ≡ map (seen_handle q) named'
 
--- ---- quieter lists
+-- ---- fewer lists
 
 module _ {T U : Type 0} where
   -- At that position a subscriber is made, and it isn't this one.
@@ -59,24 +59,24 @@ module _ {T U : Type 0} where
 
   -- The command is one that another subscriber may leave out: a receive, a question, an update, or a read or release of a
   -- sample of its own.
-  abbrev pub may_be_left_out : (position : ℕ) → List (Command T U) → Command T U → Bool
-  may_be_left_out position commands (Receive of) = makes_other_subscriber position commands of
-  may_be_left_out position commands (HasSamples of) = makes_other_subscriber position commands of
-  may_be_left_out position commands (Update of) = makes_other_subscriber position commands of
-  may_be_left_out position commands (Release of) = receives_for_other position commands of
-  may_be_left_out position commands (Read of at) = receives_for_other position commands of
-  may_be_left_out position commands (ReadHeader of) = receives_for_other position commands of
-  may_be_left_out position commands (ReadUserHeader of) = receives_for_other position commands of
-  may_be_left_out position commands _ = false
+  abbrev pub may_be_omitted : (position : ℕ) → List (Command T U) → Command T U → Bool
+  may_be_omitted position commands (Receive of) = makes_other_subscriber position commands of
+  may_be_omitted position commands (HasSamples of) = makes_other_subscriber position commands of
+  may_be_omitted position commands (Update of) = makes_other_subscriber position commands of
+  may_be_omitted position commands (Release of) = receives_for_other position commands of
+  may_be_omitted position commands (Read of at) = receives_for_other position commands of
+  may_be_omitted position commands (ReadHeader of) = receives_for_other position commands of
+  may_be_omitted position commands (ReadUserHeader of) = receives_for_other position commands of
+  may_be_omitted position commands _ = false
 
-  abbrev pub IsQuieterFrom : (position : ℕ) → (whole : List (Command T U)) → List (Command T U) → List (Command T U) → Type 0
-  IsQuieterFrom position whole [] [] = Unit {0}
-  IsQuieterFrom position whole (command ∷ commands) (quieter ∷ others) =
-      ((quieter ≡ command) ⊎ ((quieter ≡ Nothing) × (may_be_left_out position whole command ≡ true)))
-      × IsQuieterFrom position whole commands others
-  IsQuieterFrom position whole _ _ = ⊥
+  abbrev pub OmitsOthersFrom : (position : ℕ) → (whole : List (Command T U)) → List (Command T U) → List (Command T U) → Type 0
+  OmitsOthersFrom position whole [] [] = Unit {0}
+  OmitsOthersFrom position whole (command ∷ commands) (fewer ∷ others) =
+      ((fewer ≡ command) ⊎ ((fewer ≡ Nothing) × (may_be_omitted position whole command ≡ true)))
+      × OmitsOthersFrom position whole commands others
+  OmitsOthersFrom position whole _ _ = ⊥
 
   -- The second list is the first with nothing in place of some commands of other subscribers than the one that is made at
   -- that position.
-  abbrev pub IsQuieter : (position : ℕ) → List (Command T U) → List (Command T U) → Type 0
-  IsQuieter position commands quieter = IsQuieterFrom position commands commands quieter
+  abbrev pub OmitsOthers : (position : ℕ) → List (Command T U) → List (Command T U) → Type 0
+  OmitsOthers position commands fewer = OmitsOthersFrom position commands commands fewer

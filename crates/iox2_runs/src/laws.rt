@@ -1,4 +1,6 @@
 ghost use Rattle.iox2_runs.specs.Laws.{StepsKeepWellFormed, StepsLift};
+ghost use Rattle.iox2_runs.specs.FillingCommands.{WorstCaseIsReached, WorstCaseIsLeast};
+ghost use Rattle.iox2_runs.specs.Isolation.{OthersAreUnseen, StepsLookAlike, SubscribersAreIsolated};
 ghost use Rattle.iox2_runs.specs.RunLaws.{ReachedStatesHoldFew, WorstCaseOfSlotsGrants, SamplesNameTheirPublisher, ReceivesInOrder, ReadsGiveWhatWasSent};
 
 /// Every step from a well-formed state ends in a well-formed one, whatever handlers answer and whether or not memory is
@@ -38,4 +40,30 @@ pub fn receives_in_order<T, U>()
 /// Every read through a sample gives the message as it was sent, until the sample is released.
 pub fn reads_give_what_was_sent<T, U>()
     ensures { ReadsGiveWhatWasSent T U }
+{}
+
+/// A list of commands makes a publisher need every slot of the worst case, and no run of it skips or refuses a command.
+pub fn worst_case_is_reached<T, U>()
+    ensures { WorstCaseIsReached T U }
+{}
+
+/// With one slot fewer, each run of that list refuses a loan for want of slots while fewer than the publisher's limit are
+/// out.
+pub fn worst_case_is_least<T, U>()
+    ensures { WorstCaseIsLeast T U }
+{}
+
+/// What a subscriber does leaves the view of each other subscriber as it was.
+pub fn others_are_unseen<T, U>()
+    ensures { OthersAreUnseen T U }
+{}
+
+/// One command from two states that look alike to a subscriber ends in states that look alike to it.
+pub fn steps_look_alike<T, U>()
+    ensures { StepsLookAlike T U }
+{}
+
+/// What a subscriber sees of a run doesn't depend on which receives, updates and releases the other subscribers leave out.
+pub fn subscribers_are_isolated<T, U>()
+    ensures { SubscribersAreIsolated T U }
 {}

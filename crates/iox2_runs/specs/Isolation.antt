@@ -1,0 +1,146 @@
+-- What one subscriber sees doesn't depend on how fast the others are.
+use Rattle.std.specs.Prelude.{ℕ, Bool, true, false, not, ◌&&◌, ◌||◌, List, [], ◌∷◌, ◌++◌, ◌≡◌, ◌==◌, slice_get, is_none}
+use Rattle.std.specs.List.{list_all}
+use Rattle.std.specs.declared.option.Option.{Option}
+use Rattle.std.specs.declared.option.Option.TheVariants.{None, Some}
+use Rattle.iox2_store.specs.Limits.{worst_case}
+use Rattle.iox2_store.specs.Records.{Publisher, Subscriber, Environment}
+use Rattle.iox2_store.specs.State.{State, Messages, fresh, no_messages}
+use Rattle.iox2_store.specs.Loans.{is_static}
+use Rattle.iox2_store.specs.WellFormed.{IsWellFormed}
+use Rattle.iox2_store.specs.declared.service_config.ServiceConfig.{ServiceConfig}
+use Rattle.iox2_store.specs.declared.backpressure.BackpressureStrategy.{BackpressureStrategy}
+use Rattle.iox2_store.specs.declared.backpressure.BackpressureStrategy.TheVariants.{RetryUntilDelivered, DiscardData}
+use Rattle.iox2_runs.specs.Outcomes.{Handle, No_handle, Subscriber_handle, Sample_handle, Event, Outcome, messages_after}
+use Rattle.iox2_runs.specs.Step.{Step}
+use Rattle.iox2_runs.specs.Runs.{ample_memory, Defaults, only_defaults}
+use Rattle.iox2_runs.specs.Views.{SameView, OmitsOthersFrom}
+use Rattle.iox2_runs.specs.declared.command.Command.{Command}
+use Rattle.iox2_runs.specs.declared.command.Command.TheVariants.{CreatePublisher, CreateSubscriber, Receive, HasSamples, Update, Release, Read, ReadHeader, ReadUserHeader, Close}
+use Rattle.iox2_runs.specs.declared.reply.Reply.{Reply}
+use Rattle.iox2_runs.specs.declared.reply.Reply.TheVariants.{SubscriberMade}
+
+-- ---- services in which nobody waits for a subscriber
+
+-- A full receiver is skipped.
+abbrev pub is_discarding : BackpressureStrategy → Bool
+is_discarding RetryUntilDelivered = false
+is_discarding DiscardData = true
+
+-- Deliveries never wait for a receiver: each takes the message, or it is skipped.
+abbrev pub never_waits : ServiceConfig → BackpressureStrategy → (has_handler : Bool) → Bool
+never_waits c strategy has_handler = c.enable_safe_overflow || (is_discarding strategy && not has_handler)
+
+-- A publisher has the worst case of slots in its one segment, and waits for no receiver.
+pub record IsIndependentPublisher (c : ServiceConfig) (x : Publisher) : Type 0 where
+  pub static : is_static x.allocation_strategy ≡ true
+  pub slots : x.slots ≡ worst_case c x.max_loaned_samples
+  pub unblocked : x.blocked ≡ None
+  pub never_waits : never_waits c x.backpressure_strategy (not (is_none x.backpressure_handler)) ≡ true
+
+-- All publishers are so, and no subscriber was closed.
+pub record IsIndependent {T U : Type 0} (s : State T U) : Type 0 where
+  pub well_formed : IsWellFormed s
+  pub publishers : (p : ℕ) (x : Publisher) → s.publishers p ≡ Some x → IsIndependentPublisher s.config x
+  pub all_open : (r : ℕ) (y : Subscriber) → s.subscribers r ≡ Some y → y.is_open ≡ true
+
+module _ {T U : Type 0} where
+  -- The publisher that is made, if the command makes one, is independent.
+  abbrev pub makes_independent_publisher : ServiceConfig → Command T U → Bool
+  makes_independent_publisher c (CreatePublisher loans strategy allocation len override_slots degradation backpressure) =
+      is_static allocation && is_none override_slots && never_waits c strategy (not (is_none backpressure))
+  makes_independent_publisher c _ = true
+
+  -- At that position a subscriber is made.
+  abbrev pub makes_subscriber : List (Command T U) → (of : ℕ) → Bool
+  makes_subscriber commands of = elim (slice_get commands of) [
+    | Some (CreateSubscriber buffer degradation) ↦ true
+    | _ ↦ false
+  ]
+
+  -- The command closes no subscriber.
+  abbrev pub closes_no_subscriber : List (Command T U) → Command T U → Bool
+  closes_no_subscriber commands (Close of) = not (makes_subscriber commands of)
+  closes_no_subscriber commands _ = true
+
+  -- Every publisher that is made is independent, and no subscriber is closed.
+  abbrev pub are_independent : ServiceConfig → List (Command T U) → Bool
+  are_independent c commands = list_all (λ command. makes_independent_publisher c command && closes_no_subscriber commands command) commands
+
+-- ---- the laws of one step
+
+-- The handle is another subscriber's or of its sample, or there is none.
+abbrev pub is_of_others : (q : ℕ) → Option Handle → Bool
+is_of_others q None = true
+is_of_others q (Some No_handle) = true
+is_of_others q (Some (Subscriber_handle r)) = not (r == q)
+is_of_others q (Some (Sample_handle p r n)) = not (r == q)
+is_of_others q (Some _) = false
+
+module _ {T U : Type 0} where
+  -- The position that a subscriber's call names: the subscriber, or a sample of it.
+  abbrev pub subscriber_call : Command T U → Option ℕ
+  subscriber_call (Receive of) = Some of
+  subscriber_call (HasSamples of) = Some of
+  subscriber_call (Update of) = Some of
+  subscriber_call (Release of) = Some of
+  subscriber_call (Read of at) = Some of
+  subscriber_call (ReadHeader of) = Some of
+  subscriber_call (ReadUserHeader of) = Some of
+  subscriber_call _ = None
+
+  -- The views after two outcomes are the same.
+  abbrev pub SameViewAfter : (q : ℕ) → Messages T U → List Handle → Outcome T U → Messages T U → List Handle → Outcome T U → Type 0
+  SameViewAfter q m handles o m' handles' o' =
+      SameView q (messages_after o.event m) o.state (handles ++ o.handle ∷ []) (messages_after o'.event m') o'.state (handles' ++ o'.handle ∷ [])
+
+  -- The command closes no subscriber that a handle names.
+  abbrev pub ClosesNoSubscriber : List Handle → Command T U → Type 0
+  ClosesNoSubscriber handles command = (of r : ℕ) → command ≡ Close of → slice_get handles of ≡ Some (Subscriber_handle r) → ⊥
+
+-- A subscriber's call leaves the view of each other subscriber as it was, while no subscriber is closed.
+abbrev pub OthersAreUnseen : Type 0 → Type 0 → Type 0
+OthersAreUnseen T U =
+    (default_value : T) (default_header : U) (q : ℕ) (m : Messages T U) (s : State T U) (handles : List Handle) (command : Command T U) (of : ℕ) (o : Outcome T U)
+    → ((r : ℕ) (y : Subscriber) → s.subscribers r ≡ Some y → y.is_open ≡ true)
+    → subscriber_call command ≡ Some of → is_of_others q (slice_get handles of) ≡ true
+    → Step ample_memory default_value default_header m s handles command o
+    → SameView q m s (handles ++ No_handle ∷ []) (messages_after o.event m) o.state (handles ++ o.handle ∷ [])
+
+-- One command from two independent states that look alike to a subscriber ends in states that do, where it closes no subscriber,
+-- and where the replies are alike if it is a receive of that subscriber.
+abbrev pub StepsLookAlike : Type 0 → Type 0 → Type 0
+StepsLookAlike T U =
+    (default_value : T) (default_header : U) (q : ℕ) (m m' : Messages T U) (s s' : State T U) (handles handles' : List Handle) (command : Command T U) (o o' : Outcome T U)
+    → IsIndependent s → IsIndependent s' → SameView q m s handles m' s' handles' → ClosesNoSubscriber handles command
+    → Step ample_memory default_value default_header m s handles command o
+    → Step ample_memory default_value default_header m' s' handles' command o'
+    → ((of : ℕ) → command ≡ Receive of → slice_get handles of ≡ Some (Subscriber_handle q) → o.reply ≡ o'.reply)
+    → SameViewAfter q m handles o m' handles' o'
+
+-- ---- whole runs
+
+-- A run as `RunFrom` has it, that ends with these handles.
+abbrev pub RunTo : {T U : Type 0} → Environment → Defaults T U → Messages T U → State T U → List Handle → List (Command T U) → List (Reply T U)
+    → List (Event T U) → Messages T U → State T U → List Handle → Type 0
+RunTo environment defaults m s handles [] [] [] m' s' handles' = (m' ≡ m) × (s' ≡ s) × (handles' ≡ handles)
+RunTo {T} {U} environment defaults m s handles (command ∷ commands) (reply ∷ replies) (event ∷ events) m' s' handles' =
+    (default_value : T) × (default_header : U) × defaults.IsDefaultValue default_value × defaults.IsDefaultHeader default_header
+    × (o : Outcome T U) × Step environment default_value default_header m s handles command o × (o.reply ≡ reply) × (o.event ≡ event)
+    × RunTo environment defaults (messages_after o.event m) o.state (handles ++ o.handle ∷ []) commands replies events m' s' handles'
+RunTo environment defaults m s handles _ _ _ m' s' handles' = ⊥
+
+-- The view of the subscriber that is made at a position is the same after the beginning of a list and after that of a
+-- fewer one, where publishers are independent, no subscriber is closed, memory is ample, and the subscriber's own receives get
+-- the same replies in both runs. The whole list is the beginning and what comes after it.
+abbrev pub SubscribersAreIsolated : Type 0 → Type 0 → Type 0
+SubscribersAreIsolated T U =
+    (default_value : T) (default_header : U) (c : ServiceConfig) (position q : ℕ) (commands fewer later : List (Command T U))
+    (replies replies' : List (Reply T U)) (events events' : List (Event T U)) (m m' : Messages T U) (s s' : State T U) (handles handles' : List Handle)
+    → OmitsOthersFrom position (commands ++ later) commands fewer
+    → are_independent c (commands ++ later) ≡ true
+    → RunTo ample_memory (only_defaults default_value default_header) no_messages (fresh c) [] commands replies events m s handles
+    → RunTo ample_memory (only_defaults default_value default_header) no_messages (fresh c) [] fewer replies' events' m' s' handles'
+    → slice_get replies position ≡ Some (SubscriberMade q)
+    → ((i : ℕ) → slice_get commands i ≡ Some (Receive position) → slice_get replies i ≡ slice_get replies' i)
+    → SameView q m s handles m' s' handles'
