@@ -13,9 +13,9 @@ use Rattle.iox2_store.specs.declared.service_config.ServiceConfig.{ServiceConfig
 use Rattle.iox2_laws.proofs.Enough.{fresh_is_well_formed}
 use Rattle.iox2_runs.specs.Outcomes.{Handle, Event, No_event, Message_sent, Message_received, Outcome, done, messages_after}
 use Rattle.iox2_runs.specs.Step.{Step}
-use Rattle.iox2_runs.specs.Runs.{ample_memory, Defaults, only_defaults, RunFrom}
+use Rattle.iox2_runs.specs.Runs.{RunTo, ample_memory, Defaults, only_defaults, RunFrom}
 use Rattle.iox2_runs.specs.Views.{PublicPart, public_part, seen_handle, SameView, may_be_omitted, OmitsOthersFrom}
-use Rattle.iox2_runs.specs.Isolation.{IsIndependent, makes_independent_publisher, closes_no_subscriber, makes_subscriber, are_independent, is_of_others, subscriber_call, SameViewAfter, ClosesNoSubscriber, OthersAreUnseen, StepsLookAlike, RunTo, SubscribersAreIsolated, IsIndependentPublisher}
+use Rattle.iox2_runs.specs.Isolation.{IsIndependent, makes_independent_publisher, closes_no_subscriber, makes_subscriber, are_independent, is_of_others, subscriber_call, SameViewAfter, ClosesNoSubscriber, OthersAreUnseen, StepsLookAlike, SubscribersAreIsolated, IsIndependentPublisher}
 use Rattle.iox2_runs.specs.declared.command.Command.{Command}
 use Rattle.iox2_runs.specs.declared.command.Command.TheVariants.{Nothing, Receive, HasSamples, Update, Release, Read, ReadHeader, ReadUserHeader}
 use Rattle.iox2_runs.specs.declared.reply.Reply.{Reply}

@@ -4,7 +4,7 @@ use Rattle.std.specs.List.{list_all}
 use Rattle.std.specs.declared.option.Option.{Option}
 use Rattle.std.specs.declared.option.Option.TheVariants.{None, Some}
 use Rattle.iox2_store.specs.Limits.{worst_case}
-use Rattle.iox2_store.specs.Records.{Publisher, Subscriber, Environment}
+use Rattle.iox2_store.specs.Records.{Publisher, Subscriber}
 use Rattle.iox2_store.specs.State.{State, Messages, fresh, no_messages}
 use Rattle.iox2_store.specs.Loans.{is_static}
 use Rattle.iox2_store.specs.WellFormed.{IsWellFormed}
@@ -13,7 +13,7 @@ use Rattle.iox2_store.specs.declared.backpressure.BackpressureStrategy.{Backpres
 use Rattle.iox2_store.specs.declared.backpressure.BackpressureStrategy.TheVariants.{RetryUntilDelivered, DiscardData}
 use Rattle.iox2_runs.specs.Outcomes.{Handle, No_handle, Subscriber_handle, Sample_handle, Event, Outcome, messages_after}
 use Rattle.iox2_runs.specs.Step.{Step}
-use Rattle.iox2_runs.specs.Runs.{ample_memory, Defaults, only_defaults}
+use Rattle.iox2_runs.specs.Runs.{ample_memory, only_defaults, RunTo}
 use Rattle.iox2_runs.specs.Views.{SameView, OmitsOthersFrom}
 use Rattle.iox2_runs.specs.declared.command.Command.{Command}
 use Rattle.iox2_runs.specs.declared.command.Command.TheVariants.{CreatePublisher, CreateSubscriber, Receive, HasSamples, Update, Release, Read, ReadHeader, ReadUserHeader, Close}
@@ -119,16 +119,6 @@ StepsLookAlike T U =
     → SameViewAfter q m handles o m' handles' o'
 
 -- ---- whole runs
-
--- A run as `RunFrom` has it, that ends with these handles.
-abbrev pub RunTo : {T U : Type 0} → Environment → Defaults T U → Messages T U → State T U → List Handle → List (Command T U) → List (Reply T U)
-    → List (Event T U) → Messages T U → State T U → List Handle → Type 0
-RunTo environment defaults m s handles [] [] [] m' s' handles' = (m' ≡ m) × (s' ≡ s) × (handles' ≡ handles)
-RunTo {T} {U} environment defaults m s handles (command ∷ commands) (reply ∷ replies) (event ∷ events) m' s' handles' =
-    (default_value : T) × (default_header : U) × defaults.IsDefaultValue default_value × defaults.IsDefaultHeader default_header
-    × (o : Outcome T U) × Step environment default_value default_header m s handles command o × (o.reply ≡ reply) × (o.event ≡ event)
-    × RunTo environment defaults (messages_after o.event m) o.state (handles ++ o.handle ∷ []) commands replies events m' s' handles'
-RunTo environment defaults m s handles _ _ _ m' s' handles' = ⊥
 
 -- The view of the subscriber that is made at a position is the same after the beginning of a list and after that of a
 -- fewer one, where publishers are independent, no subscriber is closed, memory is ample, and the subscriber's own receives get

@@ -38,6 +38,16 @@ RunFrom {T} {U} environment defaults m s handles (command ∷ commands) (reply �
     × RunFrom environment defaults (messages_after o.event m) o.state (handles ++ o.handle ∷ []) commands replies events m' s'
 RunFrom environment defaults m s handles _ _ _ m' s' = ⊥
 
+-- A run as `RunFrom` has it, that ends with these handles.
+abbrev pub RunTo : {T U : Type 0} → Environment → Defaults T U → Messages T U → State T U → List Handle → List (Command T U) → List (Reply T U)
+    → List (Event T U) → Messages T U → State T U → List Handle → Type 0
+RunTo environment defaults m s handles [] [] [] m' s' handles' = (m' ≡ m) × (s' ≡ s) × (handles' ≡ handles)
+RunTo {T} {U} environment defaults m s handles (command ∷ commands) (reply ∷ replies) (event ∷ events) m' s' handles' =
+    (default_value : T) × (default_header : U) × defaults.IsDefaultValue default_value × defaults.IsDefaultHeader default_header
+    × (o : Outcome T U) × Step environment default_value default_header m s handles command o × (o.reply ≡ reply) × (o.event ≡ event)
+    × RunTo environment defaults (messages_after o.event m) o.state (handles ++ o.handle ∷ []) commands replies events m' s' handles'
+RunTo environment defaults m s handles _ _ _ m' s' handles' = ⊥
+
 -- A run begins with no handles: its commands name only what it made itself.
 abbrev pub Run : {T U : Type 0} → Environment → Defaults T U → Messages T U → State T U → List (Command T U) → List (Reply T U) → List (Event T U) → Messages T U → State T U → Type 0
 Run environment defaults m s commands replies events m' s' =
