@@ -18,7 +18,7 @@ use Rattle.iox2_runs.specs.Runs.{Run, ample_memory, fixed_handlers, only_default
 use Rattle.iox2_runs.specs.declared.command.Command.TheVariants.{CreatePublisher, CreateSubscriber, LoanUninit, SendCopy, Receive, Read, Release, Close}
 use Rattle.iox2_runs.specs.declared.reply.Reply.TheVariants.{Done, PublisherMade, PublisherRefused, SubscriberMade, Loaned, LoanRefused, Delivered, SendRefused}
 use Rattle.iox2_runs.specs.declared.reply.Reply.TheVariants.{Sample, NoSample, Cell}
-use Rattle.iox2_runs.proofs.RowDomains.{domain}
+use Rattle.iox2_runs.proofs.WorkedRunDomains.{domain}
 
 -- A second publisher is refused because of their number, before its size counts; the same request is refused because of
 -- its size when there is room. A refusal uses up no id.

@@ -7,7 +7,7 @@ use Rattle.iox2_runs.specs.Outcomes.{Event}
 use Rattle.iox2_runs.specs.Runs.{Run, ample_memory, only_defaults}
 use Rattle.iox2_runs.specs.declared.command.Command.TheVariants.{CreateSubscriber, Close}
 use Rattle.iox2_runs.specs.declared.reply.Reply.TheVariants.{Done, SubscriberMade}
-use Rattle.iox2_runs.proofs.RowDomains.{domain}
+use Rattle.iox2_runs.proofs.WorkedRunDomains.{domain}
 
 -- Each of 33 subscribers in turn is made with a warning and closed at once. The domain keeps the last 32 warnings.
 pub only_the_last_warnings_stay : (events : List (Event ℕ ℕ)) × (m : Messages ℕ ℕ) × (s : State ℕ ℕ)

@@ -1,4 +1,4 @@
--- The services of the worked rows.
+-- The services of the worked runs.
 use Rattle.std.proofs.Common.{ℕ, Bool}
 use Rattle.iox2_store.specs.declared.service_config.ServiceConfig.{ServiceConfig}
 use Rattle.iox2_store.specs.declared.service_config.TypeVariant.TheVariants.{FixedSize, Dynamic}

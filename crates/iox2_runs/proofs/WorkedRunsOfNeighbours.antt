@@ -12,7 +12,7 @@ use Rattle.iox2_runs.specs.Outcomes.{Event}
 use Rattle.iox2_runs.specs.Runs.{Run, ample_memory, only_defaults}
 use Rattle.iox2_runs.specs.declared.command.Command.TheVariants.{Nothing, CreatePublisher, CreateSubscriber, SendCopy, Receive, Read}
 use Rattle.iox2_runs.specs.declared.reply.Reply.TheVariants.{Done, PublisherMade, SubscriberMade, Delivered, Sample, NoSample, Cell}
-use Rattle.iox2_runs.proofs.RowDomains.{domain}
+use Rattle.iox2_runs.proofs.WorkedRunDomains.{domain}
 
 -- Of two subscribers the first receives between two sends. The second receives the first message, and its full buffer
 -- passes the second message.

@@ -15,7 +15,7 @@ use Rattle.iox2_runs.specs.declared.command.Command.TheVariants.{CreatePublisher
 use Rattle.iox2_runs.specs.declared.command.Command.TheVariants.{Receive, Read, ReadHeader}
 use Rattle.iox2_runs.specs.declared.reply.Reply.TheVariants.{Done, Skipped, PublisherMade, SubscriberMade, Loaned, LoanRefused, Unwritten, Delivered, Sample}
 use Rattle.iox2_runs.specs.declared.reply.Reply.TheVariants.{Cell, Header as HeaderRead}
-use Rattle.iox2_runs.proofs.RowDomains.{slice_domain}
+use Rattle.iox2_runs.proofs.WorkedRunDomains.{slice_domain}
 
 not_below : (a b : ℕ) → b ≤ a → a < b → ⊥
 not_below a b le lt = omega (arith, le, lt)
