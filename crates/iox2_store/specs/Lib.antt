@@ -16,3 +16,6 @@ pub mod Ports
 pub mod SingleCalls
 pub mod WellFormed
 pub mod Backpressure
+pub mod SlotFree
+pub mod SlotBook
+pub mod SlotContents

@@ -1,5 +1,5 @@
-//! The plain types of publish-subscribe delivery: ids, headers, settings, answers of handlers,
-//! errors and warnings.
+//! The plain types of publish-subscribe delivery (ids, headers, settings, answers of handlers,
+//! errors and warnings), and the slots of a publisher.
 #![tactic(auto)]
 
 mod allocation;
@@ -10,6 +10,7 @@ mod header;
 mod ids;
 mod key;
 mod service_config;
+mod slots;
 #[cfg(test)]
 mod tests;
 mod warning;
@@ -27,4 +28,5 @@ pub use header::Header;
 pub use ids::{UniqueNodeId, UniquePublisherId, UniqueSubscriberId};
 pub use key::Key;
 pub use service_config::{ServiceConfig, TypeVariant};
+pub use slots::{Contents, SlotBook, SlotMark};
 pub use warning::Warning;

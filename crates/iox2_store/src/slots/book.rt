@@ -1,0 +1,209 @@
+//! The book of a publisher's slots.
+ghost use Rattle.std.specs.Prelude.{◌≡◌, ◌+◌, ◌-◌, ◌<◌, ◌≤◌, ◌^◌, ◌↔◌, length, slice_get, slice_set, replicate, vec_capacity, Some, IsTrue, IsNone, IfSome, IfNone, IfOk};
+ghost use Rattle.std.specs.List.{All};
+ghost use Rattle.iox2_store.specs.SlotFree.{HasFree};
+
+use crate::header::Header;
+use crate::ids::{UniqueNodeId, UniquePublisherId};
+use crate::slots::mark::SlotMark;
+use std::alloc::{AllocError, Global};
+use std::marker::Model;
+
+/// What is known of a publisher's slots beside their contents: who lent them, which message lies in
+/// each, how far it has come, and how many hold it.
+///
+/// A slot's holders are the user who has it as a loan, the publisher's history, and each connection
+/// in which it waits or is borrowed. A slot without holders is free: its number, header and mark
+/// mean nothing.
+///
+/// iceoryx2's `SegmentState` (`src/port/details/segment_state.rs`), which has the counters of
+/// holders. There the headers lie in shared memory, and an allocator has the list of free slots.
+#[derive(Drop)]
+pub struct SlotBook {
+    publisher: UniquePublisherId,
+    numbers: Vec<u128>,
+    headers: Vec<Header>,
+    marks: Vec<SlotMark>,
+    holders: Vec<u128>,
+    // The slots without holders, each once. There is room for all.
+    free: Vec<usize>,
+}
+
+impl Model for SlotBook {
+    ghost use Rattle.std.specs.Prelude.{◌≡◌, ◌≤◌, length, vec_capacity};
+    ghost use Rattle.iox2_store.specs.SlotBook.{Book};
+    ghost use Rattle.iox2_store.specs.SlotFree.{HasFree};
+
+    ghost Value = { Book };
+
+    ghost view = { λ book. record {
+      publisher = book.publisher;
+      numbers = book.numbers.items;
+      headers = book.headers.items;
+      marks = book.marks.items;
+      holders = book.holders.items;
+    } };
+
+    ghost invariant = { λ book. record {
+      numbers : length book.numbers.items ≡ length book.holders.items;
+      headers : length book.headers.items ≡ length book.holders.items;
+      marks : length book.marks.items ≡ length book.holders.items;
+      exact : HasFree book.holders.items book.free.items;
+      room : length book.holders.items ≤ vec_capacity book.free;
+    } };
+}
+
+impl SlotBook {
+    ghost use Rattle.iox2_store.specs.SlotBook.{IsAligned, IsHeld, TakesSlot, holders_at, with_holders};
+
+    /// The book of a new publisher, with so many slots, all of them free. Fails where memory runs
+    /// out; no other call on a book takes memory.
+    pub fn new(
+        alloc: Global,
+        publisher: UniquePublisherId,
+        slots: usize,
+    ) -> Result<Self, AllocError>
+        ensures publisher { IfOk result (λ book. book.publisher ≡ publisher) }
+        ensures unused { IfOk result (λ book. book.holders ≡ replicate slots 0) }
+        ensures aligned { IfOk result IsAligned }
+    {
+        let header = Header {
+            node_id: UniqueNodeId::new(0),
+            publisher_id: publisher,
+            number_of_elements: 0,
+        };
+        let numbers = vec![in alloc; 0; slots]?;
+        let headers = vec![in alloc; header; slots]?;
+        let marks = vec![in alloc; SlotMark::Unwritten; slots]?;
+        let holders = vec![in alloc; 0; slots]?;
+        let free = all_slots(alloc, slots)?;
+        Ok(SlotBook {
+            publisher,
+            numbers,
+            headers,
+            marks,
+            holders,
+            free,
+        })
+    }
+
+    /// Gives a free slot to the message with this number and header, and one holder. `None` if
+    /// every slot has a holder; the book then stays as it is.
+    #[tactic(auto, using(crate::proofs::FreeSlots::taking))]
+    pub fn take(&mut self, number: u128, header: Header) -> Option<usize>
+        ensures none { IsNone result ↔ All (λ n. 0 < n) self.old.holders }
+        ensures refused { IfNone result (self.new ≡ self.old) }
+        ensures taken { IfSome result (λ slot. TakesSlot self.old self.new slot number header) }
+        ensures aligned { IsAligned self.new }
+    {
+        let slot = self.free.pop()?;
+        self.numbers[slot] = number;
+        self.headers[slot] = header;
+        self.marks[slot] = SlotMark::Unwritten;
+        self.holders[slot] = 1;
+        Some(slot)
+    }
+
+    /// Counts one holder more of a slot that has one.
+    #[tactic(auto, using(crate::proofs::FreeSlots::free_kept))]
+    pub fn hold(&mut self, slot: usize)
+        requires held { IsHeld self.old slot }
+        requires fits { holders_at self.old slot + 1 < 2 ^ 128 }
+        ensures { self.new ≡ with_holders self.old slot (holders_at self.old slot + 1) }
+    {
+        self.holders[slot] += 1;
+    }
+
+    /// Counts one holder less of a slot that has one, and answers whether it was the last. The slot
+    /// is then free.
+    #[tactic(auto, using(crate::proofs::FreeSlots::releasing))]
+    pub fn release(&mut self, slot: usize) -> bool
+        requires { IsHeld self.old slot }
+        ensures released { self.new ≡ with_holders self.old slot (holders_at self.old slot - 1) }
+        ensures last { IsTrue result ↔ (holders_at self.old slot ≡ 1) }
+    {
+        let left = self.holders[slot] - 1;
+        self.holders[slot] = left;
+        if left == 0 {
+            self.free.push_reserved(slot);
+            return true;
+        }
+        false
+    }
+
+    /// Says how far the slot's message has come.
+    pub fn set_mark(&mut self, slot: usize, mark: SlotMark)
+        requires { slot < length self.old.holders }
+        ensures { self.new ≡ record self.old { marks = slice_set self.old.marks slot mark } }
+    {
+        self.marks[slot] = mark;
+    }
+
+    /// The publisher whose slots these are.
+    pub fn publisher(&self) -> UniquePublisherId
+        ensures { result ≡ self.now.publisher }
+    {
+        self.publisher
+    }
+
+    /// The number of the message in the slot.
+    pub fn number(&self, slot: usize) -> u128
+        requires { slot < length self.now.holders }
+        ensures { slice_get self.now.numbers slot ≡ Some result }
+    {
+        self.numbers[slot]
+    }
+
+    /// The header of the message in the slot.
+    pub fn header(&self, slot: usize) -> &Header
+        requires { slot < length self.now.holders }
+        ensures { slice_get self.now.headers slot ≡ Some result.now }
+    {
+        &self.headers[slot]
+    }
+
+    /// How far the message in the slot has come.
+    pub fn mark(&self, slot: usize) -> SlotMark
+        requires { slot < length self.now.holders }
+        ensures { slice_get self.now.marks slot ≡ Some result }
+    {
+        self.marks[slot]
+    }
+
+    /// How many hold the slot.
+    pub fn holders(&self, slot: usize) -> u128
+        requires { slot < length self.now.holders }
+        ensures { result ≡ holders_at self.now slot }
+    {
+        self.holders[slot]
+    }
+
+    /// How many slots there are.
+    pub fn len(&self) -> usize
+        ensures len { result ≡ length self.now.holders }
+        ensures aligned { IsAligned self.now }
+    {
+        self.holders.len()
+    }
+
+    /// Whether no slot has a holder, so that the book may go.
+    #[tactic(auto, using(crate::proofs::FreeSlots::counting_free))]
+    pub fn is_unused(&self) -> bool
+        ensures { IsTrue result ↔ All (λ n. n ≡ 0) self.now.holders }
+    {
+        self.free.len() == self.holders.len()
+    }
+}
+
+// The free slots where nothing holds one of so many.
+#[tactic(auto, using(crate::proofs::FreeSlots::free_next))]
+fn all_slots(alloc: Global, slots: usize) -> Result<Vec<usize>, AllocError>
+    ensures exact { IfOk result (λ free. HasFree (replicate slots 0) free.items) }
+    ensures room { IfOk result (λ free. slots ≤ vec_capacity free) }
+{
+    let mut free = Vec::with_capacity(alloc, slots)?;
+    for slot in 0..slots {
+        free.push_reserved(slot);
+    }
+    Ok(free)
+}
