@@ -28,6 +28,7 @@ messages_after No_event messages = messages
 messages_after (Message_sent p n entry) messages = put_at messages n (Some entry)
 messages_after (Message_received p q n) messages = messages
 
+-- All that a step comes to.
 pub record Outcome (T U : Type 0) : Type 0 where
   pub reply : Reply T U
   pub handle : Handle
@@ -43,8 +44,10 @@ module _ {T U : Type 0} where
   abbrev pub replied : Reply T U → State T U → Outcome T U
   replied reply s = outcome reply No_handle s
 
+  -- The command is done and makes nothing.
   abbrev pub done : State T U → Outcome T U
   done s = replied Done s
 
+  -- The command is skipped and makes nothing.
   abbrev pub skipped : State T U → Outcome T U
   skipped s = replied Skipped s

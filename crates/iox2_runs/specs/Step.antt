@@ -98,22 +98,27 @@ module _ {T U : Type 0} where
   abbrev pub if_single_units : {A : Type 0} → State T U → Option A → Option A
   if_single_units s named = cond ((s.config).units_per_element == 1) named None
 
+  -- What is named counts in a service for single values only.
   abbrev pub if_fixed_size : {A : Type 0} → State T U → Option A → Option A
   if_fixed_size s named = elim (s.config).variant [ FixedSize ↦ named | Dynamic ↦ None ]
 
+  -- What is named counts in a service for slices only.
   abbrev pub if_dynamic : {A : Type 0} → State T U → Option A → Option A
   if_dynamic s named = elim (s.config).variant [ FixedSize ↦ None | Dynamic ↦ named ]
 
   -- ---- what is replied
 
+  -- A publisher was made, or refused.
   abbrev pub after_publisher : State T U → (id : ℕ) → Option PublisherCreateError → Outcome T U
   after_publisher s id None = outcome (PublisherMade id) (Publisher_handle id) s
   after_publisher s id (Some e) = replied (PublisherRefused e) s
 
+  -- A subscriber was made, or refused.
   abbrev pub after_subscriber : State T U → (id : ℕ) → Option SubscriberCreateError → Outcome T U
   after_subscriber s id None = outcome (SubscriberMade id) (Subscriber_handle id) s
   after_subscriber s id (Some e) = replied (SubscriberRefused e) s
 
+  -- A loan was granted, or refused.
   abbrev pub after_loan : State T U → (n : ℕ) → Option LoanError → Outcome T U
   after_loan s n None = outcome Loaned (Loan_handle n) s
   after_loan s n (Some e) = replied (LoanRefused e) s
@@ -131,15 +136,18 @@ module _ {T U : Type 0} where
   after_retry s Blocked_send = replied Blocked s
   after_retry s (Send_error e) = replied (SendRefused e) s
 
+  -- An update is done, or it failed.
   abbrev pub after_update : State T U → Option ConnectionFailure → Outcome T U
   after_update s None = done s
   after_update s (Some e) = replied (UpdateRefused e) s
 
+  -- A message was received, or there was none, or the receive failed.
   abbrev pub after_receive : State T U → (q : ℕ) → ReceiveResult → Outcome T U
   after_receive s q (Got_sample p n) = record { reply = Sample p; handle = Sample_handle p q n; event = Message_received p q n; state = s }
   after_receive s q No_sample = replied NoSample s
   after_receive s q (Receive_error e) = replied (ReceiveRefused e) s
 
+  -- Whether samples wait, or the failure of the update before the question.
   abbrev pub after_question : State T U → Option ConnectionFailure → (has_samples : Bool) → Outcome T U
   after_question s None has_samples = replied (Has has_samples) s
   after_question s (Some e) has_samples = replied (UpdateRefused e) s
@@ -193,26 +201,32 @@ module _ {T U : Type 0} (environment : Environment) (default_value : T) (default
       × GrantWrittenLoan environment value default_header false 1 s p mid refusal
       × MatchOption refusal (SendsGranted mid o) (λ e. o ≡ replied (SendRefused (NotLoaned e)) mid)
 
+  -- The blocked send is tried again, after that time.
   abbrev Retries : (p : ℕ) → BlockedSend → Duration → Outcome T U → Type 0
   Retries p b elapsed o =
       (s' : State T U) × (result : SendResult) × Retry environment s p b elapsed s' result × (o ≡ after_retry s' result)
 
+  -- The blocked send passes its receiver over and goes on.
   abbrev GivesUp : (p : ℕ) → BlockedSend → Outcome T U → Type 0
   GivesUp p b o =
       (s' : State T U) × (result : SendResult) × GiveUp environment s p b s' result × (o ≡ after_retry s' result)
 
+  -- The publisher updates its connections.
   abbrev UpdatesPublisher : (p : ℕ) → Outcome T U → Type 0
   UpdatesPublisher p o =
       (s' : State T U) × (failure : Option ConnectionFailure) × UpdatePublisher environment s p s' failure × (o ≡ after_update s' failure)
 
+  -- The subscriber updates its connections.
   abbrev UpdatesSubscriber : (q : ℕ) → Outcome T U → Type 0
   UpdatesSubscriber q o =
       (s' : State T U) × (failure : Option ConnectionFailure) × UpdateSubscriber environment s q s' failure × (o ≡ after_update s' failure)
 
+  -- The subscriber receives a message, if there is one.
   abbrev Receives : (q : ℕ) → Outcome T U → Type 0
   Receives q o =
       (s' : State T U) × (result : ReceiveResult) × Receive environment s q s' result × (o ≡ after_receive s' q result)
 
+  -- The subscriber is asked whether samples wait.
   abbrev AsksForSamples : (q : ℕ) → Outcome T U → Type 0
   AsksForSamples q o =
       (s' : State T U) × (failure : Option ConnectionFailure) × (has_samples : Bool)

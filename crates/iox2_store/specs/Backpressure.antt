@@ -2,7 +2,7 @@
 use Rattle.iox2_store.specs.declared.backpressure.BackpressureAction.{BackpressureAction}
 use Rattle.iox2_store.specs.declared.backpressure.BackpressureToReceiverAction.{BackpressureToReceiverAction}
 
--- what a sender's end does with one receiver, for the action that a handler chose
+-- What a sender's end does with one receiver, for the action that a handler chose.
 abbrev pub to_receiver_action : BackpressureAction → BackpressureToReceiverAction
 to_receiver_action BackpressureAction.FollowBackpressureyStrategy = BackpressureToReceiverAction.FollowBackpressureyStrategy
 to_receiver_action BackpressureAction.Retry = BackpressureToReceiverAction.Retry

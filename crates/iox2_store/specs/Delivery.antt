@@ -21,18 +21,21 @@ pub data PutResult : Type 0 where
   Failed : PutResult  -- it went past this receiver, and the send has failed
   Would_block : PutResult  -- the send waits for this receiver
 
+-- A receiver that takes the message counts as one.
 abbrev pub accepted_count : PutResult → ℕ
 accepted_count Accepted = 1
 accepted_count Skipped = 0
 accepted_count Failed = 0
 accepted_count Would_block = 0
 
+-- The send has failed at this receiver.
 abbrev pub is_failed : PutResult → Bool
 is_failed Accepted = false
 is_failed Skipped = false
 is_failed Failed = true
 is_failed Would_block = false
 
+-- The send waits for this receiver.
 abbrev pub is_blocking : PutResult → Bool
 is_blocking Accepted = false
 is_blocking Skipped = false

@@ -6,12 +6,13 @@ use Rattle.iox2_store.specs.declared.service_config.ServiceConfig.{ServiceConfig
 abbrev pub buffer_limit : ServiceConfig → ℕ
 buffer_limit c = max 1 c.subscriber_max_buffer_size
 
--- A subscriber keeps at least as many departed publishers as it may borrow messages of one.
+-- The limit of the departed publishers that a subscriber keeps: it is at least the number of messages that may be borrowed of
+-- one publisher.
 -- (iceoryx2: `port/subscriber.rs`, `Subscriber::new`, which raises the setting and warns.)
 abbrev pub expired_limit : ServiceConfig → ℕ
 expired_limit c = max c.subscriber_expired_connection_buffer c.subscriber_max_borrowed_samples
 
--- With so many slots a publisher with that many loans never runs out of them.
+-- For each subscriber its buffer and what it may borrow; then the history; then the loans.
 abbrev pub worst_case : ServiceConfig → (loans : ℕ) → ℕ
 worst_case c loans = c.max_subscribers * (buffer_limit c + c.subscriber_max_borrowed_samples) + c.history_size + loans
 

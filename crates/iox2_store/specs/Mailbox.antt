@@ -2,6 +2,7 @@
 use Rattle.std.specs.Prelude.{ℕ, Bool, not, ◌&&◌, List, [], ◌∷◌, ◌++◌, length, drop, cond, ◌≡◌, ◌≤◌, nat_lt}
 use Rattle.iox2_store.specs.Numbers.{contains, without, is_nil, IsOnce}
 
+-- The numbers of one publisher's messages that one subscriber may receive, and that it has.
 pub record Mailbox : Type 0 where
   pub waiting : List ℕ  -- delivered and not yet received, oldest first
   pub borrowed : List ℕ  -- received and not yet released, in the order of receipt

@@ -1,4 +1,5 @@
--- Calls that aren't a command of a run: writes through a reference, loans with default values, and the tests of handles.
+-- What no command does as it stands: loans of slices with default values, writes through a reference, and the tests of
+-- handles.
 use Rattle.std.specs.Prelude.{ℕ, Bool, true, List, map, length, ◌≡◌, MatchOption, IsTrue}
 use Rattle.std.specs.declared.option.Option.{Option}
 use Rattle.std.specs.declared.option.Option.TheVariants.{Some}

@@ -91,12 +91,15 @@ module _ {T U : Type 0} where
 
   -- ---- writing
 
+  -- The mailbox between p and q is this one now.
   abbrev pub with_mailbox : State T U → (p q : ℕ) → Mailbox → State T U
   with_mailbox s p q box = record s { mailboxes = put_at s.mailboxes p (put_at (s.mailboxes p) q box) }
 
+  -- The loan n has these contents now, or none.
   abbrev pub with_loan : State T U → (n : ℕ) → Option (Loan T U) → State T U
   with_loan s n loan = record s { loans = put_at s.loans n loan }
 
+  -- The warning is the last one now; past the limit the oldest is forgotten.
   abbrev pub with_warning : State T U → Warning → State T U
   with_warning s w = record s { warnings = warned s.warnings w }
 

@@ -36,7 +36,7 @@ abbrev pub first_without_borrows : (ℕ → Mailbox) → List ℕ → Option ℕ
 first_without_borrows boxes [] = None
 first_without_borrows boxes (p ∷ ps) = cond (has_borrows (boxes p)) (first_without_borrows boxes ps) (Some p)
 
--- With somebody to evict it is done, else the retirement is refused.
+-- The first one is evicted; where there is none, the retirement is refused.
 abbrev pub evict_or_refuse : Option ℕ → Retirement
 evict_or_refuse None = Refuse
 evict_or_refuse (Some first) = Evict first
@@ -70,7 +70,7 @@ is_refused (Evict first) = false
 is_refused Discard_data = false
 is_refused Refuse = true
 
--- The end at the place leads nowhere, or to p.
+-- The end at the place is this one now, or none.
 abbrev pub with_end : ReceiverSide → (place : ℕ) → (end : Option ℕ) → ReceiverSide
 with_end side place end = record side { ends = set_place side.ends place end }
 
@@ -122,7 +122,7 @@ module _ (environment : Environment) (service_id q : ℕ) (handler : Handler Deg
       × (failure ≡ first_failure first later)
 
 module _ {T U : Type 0} where
-  -- The subscriber, due no more unless a retirement is refused.
+  -- What the subscriber's update begins with: it isn't due any more.
   abbrev pub receiver_side : State T U → (q : ℕ) → Subscriber → ReceiverSide
   receiver_side s q y = record { ends = y.ends; expired = y.expired; is_due = false; mailboxes = λ p. s.mailboxes p q; warnings = s.warnings }
 
