@@ -177,10 +177,10 @@ module _ {T U : Type 0} where
       (grants.0, (1, full.0, full.1, full.2)))
       (runs_so c loans value None able replies events m s run)
 
-  -- with one slot fewer a loan is refused early
+  -- with fewer slots a loan is refused early
   pub worst_case_is_least : WorstCaseIsLeast T U
-  worst_case_is_least c loans value able replies events m s run =
-      let fewer : Option ℕ = Some (worst_case c loans - 1) in
+  worst_case_is_least c loans slots value able below replies events m s run =
+      let fewer : Option ℕ = Some slots in
       ⊎_elim
       (λ (refuses : Refuses c loans value fewer able replies events).
       let r : IsRefused c loans (given_slots c loans fewer) refuses.6 refuses.1 refuses.2 = refuses.8 in (
@@ -199,5 +199,5 @@ module _ {T U : Type 0} where
       (λ (grants : Grants c loans value fewer able replies s).
       let full : (x : Publisher) × (s.publishers 1 ≡ Some x) × (size (held s 1 x) ≡ worst_case c loans) × (size (held s 1 x) ≤ given_slots c loans fewer) =
       publisher_full c loans value fewer able replies s grants in
-      absurd (omega (arith, full.2, full.3, able.some_loans, some_subscribers c loans able, able.subscribers)))
+      absurd (omega (arith, below, full.2, full.3, able.some_loans, some_subscribers c loans able, able.subscribers)))
       (runs_so c loans value fewer able replies events m s run)
