@@ -1,5 +1,5 @@
 -- A list of commands with which a publisher comes to need every slot of the worst case.
-use Rattle.std.specs.Prelude.{ℕ, zero, suc, List, [], ◌∷◌, ◌++◌, length, take, replicate, ◌≡◌, false, ◌+◌, ◌*◌, ◌^◌, ◌<◌, slice_get}
+use Rattle.std.specs.Prelude.{ℕ, zero, suc, List, [], ◌∷◌, ◌++◌, length, take, drop, replicate, ◌≡◌, false, ◌+◌, ◌*◌, ◌^◌, ◌<◌, slice_get}
 use Rattle.std.specs.declared.option.Option.{Option}
 use Rattle.std.specs.declared.option.Option.TheVariants.{None, Some}
 use Rattle.iox2_store.specs.Limits.{buffer_limit, worst_case}
@@ -12,8 +12,8 @@ use Rattle.iox2_store.specs.declared.allocation.AllocationStrategy.TheVariants.{
 use Rattle.iox2_store.specs.declared.backpressure.BackpressureStrategy.TheVariants.{DiscardData}
 use Rattle.iox2_store.specs.declared.degradation.DegradationAction.TheVariants.{Warn}
 use Rattle.iox2_store.specs.declared.errors.LoanError.TheVariants.{OutOfMemory}
-use Rattle.iox2_runs.specs.Outcomes.{Event}
-use Rattle.iox2_runs.specs.Runs.{Run, ample_memory, any_defaults}
+use Rattle.iox2_runs.specs.Outcomes.{Handle, Event}
+use Rattle.iox2_runs.specs.Runs.{Run, RunFrom, RunTo, ample_memory, any_defaults}
 use Rattle.iox2_runs.specs.Fills.{Fills}
 use Rattle.iox2_runs.specs.declared.command.Command.{Command}
 use Rattle.iox2_runs.specs.declared.command.Command.TheVariants.{CreatePublisher, CreateSubscriber, LoanUninit, LoanSlice, WriteAll, Send, Update, Receive}
@@ -80,14 +80,16 @@ pub record IsFillable (c : ServiceConfig) (loans : ℕ) : Type 0 where
   pub sum : worst_case c loans < 2 ^ 64
 
 -- In every run of the list on a new domain, with ample memory, a loan from the publisher that the first command made is
--- refused as out of memory while fewer than so many of its loans are out.
+-- refused as out of memory, in a state in which fewer than `loans` of its loans are out. The run goes to that state with
+-- the commands before the loan and goes on from there with the loan and the commands after it.
 abbrev pub RefusesForWantOfSlots : {T U : Type 0} → ServiceConfig → (loans : ℕ) → List (Command T U) → Type 0
 RefusesForWantOfSlots {T} {U} c loans commands =
     (replies : List (Reply T U)) (events : List (Event T U)) (m : Messages T U) (s : State T U)
     → Run ample_memory any_defaults no_messages (fresh c) commands replies events m s
     → (i : ℕ) × (slice_get commands i ≡ Some (loan_command c.variant)) × (slice_get replies i ≡ Some (LoanRefused OutOfMemory))
-    × (m' : Messages T U) × (s' : State T U)
-    × Run ample_memory any_defaults no_messages (fresh c) (take i commands) (take i replies) (take i events) m' s'
+    × (m' : Messages T U) × (s' : State T U) × (handles' : List Handle)
+    × RunTo ample_memory any_defaults no_messages (fresh c) [] (take i commands) (take i replies) (take i events) m' s' handles'
+    × RunFrom ample_memory any_defaults m' s' handles' (drop i commands) (drop i replies) (drop i events) m s
     × (p : ℕ) × (x : Publisher) × (slice_get replies 0 ≡ Some (PublisherMade p)) × (s'.publishers p ≡ Some x) × (length x.loans < loans)
 
 -- Without an override of its slots, the list skips and refuses nothing and ends with a publisher that holds the worst case.
