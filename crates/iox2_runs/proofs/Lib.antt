@@ -48,6 +48,7 @@ pub mod AlikeHandles
 pub mod AlikePositions
 pub mod Isolation
 pub mod RowDomains
+pub mod WorkedRunsOfFilling
 pub mod RowsOfBuffers
 pub mod RowsOfSends
 pub mod RowsOfDepartures
