@@ -119,9 +119,9 @@ module _ {T U : Type 0} (c : ServiceConfig) (most : ℕ) (value : T) (slots : Op
       )
 
   -- A loan is refused early.
-  abbrev Refuses : List (Reply T U) → List (Event T U) → Type 0
-  Refuses replies events =
-      RefusesAt c most (given_slots c most slots) any_defaults no_messages (fresh c) [] (filling_commands c most value slots) replies events
+  abbrev Refuses : List (Reply T U) → List (Event T U) → Messages T U → State T U → Type 0
+  Refuses replies events m s =
+      RefusesAt c most (given_slots c most slots) any_defaults no_messages (fresh c) [] (filling_commands c most value slots) replies events m s
 
   -- Nothing is refused, and all loans are out in the end.
   abbrev Grants : List (Reply T U) → State T U → Type 0
@@ -129,7 +129,7 @@ module _ {T U : Type 0} (c : ServiceConfig) (most : ℕ) (value : T) (slots : Op
 
   -- a run does one or the other
   runs_so : (replies : List (Reply T U)) (events : List (Event T U)) (m : Messages T U) (s : State T U)
-      → Run ample_memory any_defaults no_messages (fresh c) (filling_commands c most value slots) replies events m s → Refuses replies events ⊎ Grants replies s
+      → Run ample_memory any_defaults no_messages (fresh c) (filling_commands c most value slots) replies events m s → Refuses replies events m s ⊎ Grants replies s
   runs_so replies events m s run =
       run_leads c most (given_slots c most slots) Ends any_defaults no_messages m (fresh c) s [] (filling_commands c most value slots) replies events
       (fresh_is_well_formed c) leads_all run
@@ -164,9 +164,9 @@ module _ {T U : Type 0} where
   pub worst_case_is_reached : WorstCaseIsReached T U
   worst_case_is_reached c loans value able replies events m s run =
       ⊎_elim
-      (λ (refuses : Refuses c loans value None able replies events).
+      (λ (refuses : Refuses c loans value None able replies events m s).
       let s' : State T U = refuses.6 in
-      let r : IsRefused c loans (given_slots c loans None) s' refuses.1 refuses.2 = refuses.8 in
+      let r : IsRefused c loans (given_slots c loans None) s' refuses.1 refuses.2 = refuses.10 in
       let some : size (held s' 1 r.publisher) ≤ worst_case c (length (r.publisher).loans) =
       subst (λ (v : ServiceConfig). size (held s' 1 r.publisher) ≤ worst_case v (length (r.publisher).loans)) r.config
       (holds_at_most_worst_case s' r.well_formed 1 r.publisher r.present) in
@@ -177,19 +177,21 @@ module _ {T U : Type 0} where
       (grants.0, (1, full.0, full.1, full.2)))
       (runs_so c loans value None able replies events m s run)
 
-  -- with one slot fewer a loan is refused early
+  -- with fewer slots a loan is refused early
   pub worst_case_is_least : WorstCaseIsLeast T U
-  worst_case_is_least c loans value able replies events m s run =
-      let fewer : Option ℕ = Some (worst_case c loans - 1) in
+  worst_case_is_least c loans slots value able below replies events m s run =
+      let fewer : Option ℕ = Some slots in
       ⊎_elim
-      (λ (refuses : Refuses c loans value fewer able replies events).
-      let r : IsRefused c loans (given_slots c loans fewer) refuses.6 refuses.1 refuses.2 = refuses.8 in (
+      (λ (refuses : Refuses c loans value fewer able replies events m s).
+      let r : IsRefused c loans (given_slots c loans fewer) refuses.6 refuses.1 refuses.2 = refuses.10 in (
         refuses.0,
         refuses.3 ∙ ap (λ (e : Command T U). Some e) r.asks,
         refuses.4 ∙ ap (λ (e : Reply T U). Some e) r.refused,
         refuses.5,
         refuses.6,
         refuses.7,
+        refuses.8,
+        refuses.9,
         1,
         r.publisher,
         first_reply c loans value fewer able replies events m s run,
@@ -199,5 +201,5 @@ module _ {T U : Type 0} where
       (λ (grants : Grants c loans value fewer able replies s).
       let full : (x : Publisher) × (s.publishers 1 ≡ Some x) × (size (held s 1 x) ≡ worst_case c loans) × (size (held s 1 x) ≤ given_slots c loans fewer) =
       publisher_full c loans value fewer able replies s grants in
-      absurd (omega (arith, full.2, full.3, able.some_loans, some_subscribers c loans able, able.subscribers)))
+      absurd (omega (arith, below, full.2, full.3, able.some_loans, some_subscribers c loans able, able.subscribers)))
       (runs_so c loans value fewer able replies events m s run)

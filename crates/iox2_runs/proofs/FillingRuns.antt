@@ -1,5 +1,5 @@
 -- Every run of a list of commands grants each and comes to some end, or a loan is refused early.
-use Rattle.std.proofs.Common.{◌≡◌, ℕ, suc, ◌+◌, ◌<◌, Bool, true, false, ◌&&◌, List, [], ◌∷◌, ◌++◌, length, take, refl, sym, ap, subst, ◌∙◌, Some, ◌⊎◌, inl, inr, ⊎_elim}
+use Rattle.std.proofs.Common.{◌≡◌, ℕ, suc, ◌<◌, Bool, true, false, ◌&&◌, List, [], ◌∷◌, ◌++◌, length, take, drop, refl, sym, ap, subst, ◌∙◌, Some, ◌⊎◌, inl, inr, ⊎_elim}
 use Rattle.std.specs.Prelude.{slice_get}
 use Rattle.std.specs.List.{list_all}
 use Rattle.iox2_store.specs.Numbers.{size}
@@ -10,7 +10,7 @@ use Rattle.iox2_store.specs.declared.service_config.ServiceConfig.{ServiceConfig
 use Rattle.iox2_store.specs.declared.errors.LoanError.TheVariants.{OutOfMemory}
 use Rattle.iox2_runs.specs.Outcomes.{Handle, Event, Outcome, messages_after}
 use Rattle.iox2_runs.specs.Step.{Step}
-use Rattle.iox2_runs.specs.Runs.{RunFrom, Defaults, ample_memory}
+use Rattle.iox2_runs.specs.Runs.{RunFrom, RunTo, Defaults, ample_memory}
 use Rattle.iox2_runs.specs.Fills.{is_granted}
 use Rattle.iox2_runs.specs.FillingCommands.{loan_command}
 use Rattle.iox2_runs.specs.declared.command.Command.{Command}
@@ -53,11 +53,12 @@ module _ {T U : Type 0} (c : ServiceConfig) (most slots : ℕ) where
       ⊎_elim (λ r. inl r) (λ g. inr (g.0, leads_further Post Post' further xs o.state (handles ++ o.handle ∷ []) g.1)) (h default_value default_header m o step w)
 
   -- A loan is refused so at some command of the run.
-  abbrev pub RefusesAt : Defaults T U → Messages T U → State T U → List Handle → List (Command T U) → List (Reply T U) → List (Event T U) → Type 0
-  RefusesAt defaults m s handles commands replies events =
+  abbrev pub RefusesAt : Defaults T U → Messages T U → State T U → List Handle → List (Command T U) → List (Reply T U) → List (Event T U) → Messages T U → State T U → Type 0
+  RefusesAt defaults m s handles commands replies events last_messages last =
       (i : ℕ) × (command : Command T U) × (reply : Reply T U) × (slice_get commands i ≡ Some command) × (slice_get replies i ≡ Some reply)
-      × (m' : Messages T U) × (s' : State T U)
-      × RunFrom ample_memory defaults m s handles (take i commands) (take i replies) (take i events) m' s'
+      × (m' : Messages T U) × (s' : State T U) × (handles' : List Handle)
+      × RunTo ample_memory defaults m s handles (take i commands) (take i replies) (take i events) m' s' handles'
+      × RunFrom ample_memory defaults m' s' handles' (drop i commands) (drop i replies) (drop i events) last_messages last
       × IsRefused c most slots s' command reply
 
   -- Every reply is granted, and the run ends so.
@@ -68,13 +69,13 @@ module _ {T U : Type 0} (c : ServiceConfig) (most slots : ℕ) where
   pub run_leads : (Post : State T U → List Handle → Type 0) (defaults : Defaults T U) (m m' : Messages T U) (s s' : State T U) (handles : List Handle)
       (commands : List (Command T U)) (replies : List (Reply T U)) (events : List (Event T U))
       → IsWellFormed s → Leads Post s handles commands → RunFrom ample_memory defaults m s handles commands replies events m' s'
-      → RefusesAt defaults m s handles commands replies events ⊎ GrantsAll Post replies s'
+      → RefusesAt defaults m s handles commands replies events m' s' ⊎ GrantsAll Post replies s'
   run_leads Post defaults m m' s s' handles [] [] [] w h run = inr (refl, handles, subst (λ (v : State T U). Post v handles) (sym run.1) h)
   run_leads Post defaults m m' s s' handles (command ∷ commands) (reply ∷ replies) (event ∷ events) w h run =
       let o : Outcome T U = run.4 in
       let sound : IsSound s o = step_sound ample_memory run.0 run.1 m s handles w command o run.5 in
       ⊎_elim
-      (λ refused. inl (0, command, o.reply, refl, ap (λ r. Some r) (sym run.6), m, s, (refl, refl), refused))
+      (λ refused. inl (0, command, o.reply, refl, ap (λ r. Some r) (sym run.6), m, s, handles, (refl, refl, refl), run, refused))
       (λ granted. ⊎_elim
       (λ later. inl (
         suc later.0,
@@ -84,8 +85,10 @@ module _ {T U : Type 0} (c : ServiceConfig) (most slots : ℕ) where
         later.4,
         later.5,
         later.6,
-        (run.0, run.1, run.2, run.3, o, run.5, run.6, run.7, later.7),
-        later.8,
+        later.7,
+        (run.0, run.1, run.2, run.3, o, run.5, run.6, run.7, later.8),
+        later.9,
+        later.10,
       ))
       (λ all. inr (both (is_granted reply) (list_all is_granted replies) (ap is_granted (sym run.6) ∙ granted.0) all.0, all.1, all.2))
       (run_leads Post defaults (messages_after o.event m) m' o.state s' (handles ++ o.handle ∷ []) commands replies events sound.well_formed granted.1 run.8))

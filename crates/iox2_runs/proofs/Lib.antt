@@ -48,6 +48,7 @@ pub mod AlikeHandles
 pub mod AlikePositions
 pub mod Isolation
 pub mod WorkedRunDomains
+pub mod WorkedRunsOfFilling
 pub mod WorkedRunsOfBuffers
 pub mod WorkedRunsOfHistories
 pub mod WorkedRunsOfBlockedSends

@@ -1,5 +1,5 @@
 -- A list of commands with which a publisher comes to need every slot of the worst case.
-use Rattle.std.specs.Prelude.{ℕ, zero, suc, List, [], ◌∷◌, ◌++◌, length, take, replicate, ◌≡◌, false, ◌+◌, ◌-◌, ◌*◌, ◌^◌, ◌<◌, slice_get}
+use Rattle.std.specs.Prelude.{ℕ, zero, suc, List, [], ◌∷◌, ◌++◌, length, take, drop, replicate, ◌≡◌, false, ◌+◌, ◌*◌, ◌^◌, ◌<◌, slice_get}
 use Rattle.std.specs.declared.option.Option.{Option}
 use Rattle.std.specs.declared.option.Option.TheVariants.{None, Some}
 use Rattle.iox2_store.specs.Limits.{buffer_limit, worst_case}
@@ -12,8 +12,8 @@ use Rattle.iox2_store.specs.declared.allocation.AllocationStrategy.TheVariants.{
 use Rattle.iox2_store.specs.declared.backpressure.BackpressureStrategy.TheVariants.{DiscardData}
 use Rattle.iox2_store.specs.declared.degradation.DegradationAction.TheVariants.{Warn}
 use Rattle.iox2_store.specs.declared.errors.LoanError.TheVariants.{OutOfMemory}
-use Rattle.iox2_runs.specs.Outcomes.{Event}
-use Rattle.iox2_runs.specs.Runs.{Run, ample_memory, any_defaults}
+use Rattle.iox2_runs.specs.Outcomes.{Handle, Event}
+use Rattle.iox2_runs.specs.Runs.{Run, RunFrom, RunTo, ample_memory, any_defaults}
 use Rattle.iox2_runs.specs.Fills.{Fills}
 use Rattle.iox2_runs.specs.declared.command.Command.{Command}
 use Rattle.iox2_runs.specs.declared.command.Command.TheVariants.{CreatePublisher, CreateSubscriber, LoanUninit, LoanSlice, WriteAll, Send, Update, Receive}
@@ -29,13 +29,14 @@ abbrev pub loan_command : {T U : Type 0} → TypeVariant → Command T U
 loan_command FixedSize = LoanUninit 0
 loan_command Dynamic = LoanSlice 0 1
 
--- So many messages are sent, by commands that stand from that position on.
+-- `count` messages are loaned, written and sent; the commands stand from `position` on.
 abbrev pub sends : {T U : Type 0} → TypeVariant → (value : T) → (position count : ℕ) → List (Command T U)
 sends variant value position zero = []
 sends variant value position (suc count) =
     loan_command variant ∷ WriteAll position value ∷ Send position ∷ sends variant value (position + 3) count
 
--- So often a message is sent and the subscriber made at the other position receives one.
+-- `count` times a message is loaned, written and sent, and the subscriber made at `subscriber` receives one; the commands
+-- stand from `position` on.
 abbrev pub rounds : {T U : Type 0} → TypeVariant → (value : T) → (subscriber position count : ℕ) → List (Command T U)
 rounds variant value subscriber position zero = []
 rounds variant value subscriber position (suc count) =
@@ -68,8 +69,8 @@ filling_commands c loans value slots =
     ∷ subscribers_filled c value 1 c.max_subscribers
     ++ replicate loans (loan_command c.variant)
 
--- Such a list can be made: messages aren't overwritten, there may be ports and loans at all, each element is one unit, and
--- the worst case fits a machine word.
+-- The service doesn't overwrite messages, allows a publisher and a subscriber and has elements of one unit; the limit of
+-- loans is positive, and the worst case is smaller than 2 ^ 64.
 pub record IsFillable (c : ServiceConfig) (loans : ℕ) : Type 0 where
   pub overflow : c.enable_safe_overflow ≡ false
   pub publishers : 0 < c.max_publishers
@@ -79,21 +80,25 @@ pub record IsFillable (c : ServiceConfig) (loans : ℕ) : Type 0 where
   pub sum : worst_case c loans < 2 ^ 64
 
 -- In every run of the list on a new domain, with ample memory, a loan from the publisher that the first command made is
--- refused as out of memory while fewer than so many of its loans are out.
-abbrev pub RunsOut : {T U : Type 0} → ServiceConfig → (loans : ℕ) → List (Command T U) → Type 0
-RunsOut {T} {U} c loans commands =
+-- refused as out of memory, in a state in which fewer than `loans` of its loans are out. The run goes to that state with
+-- the commands before the loan and goes on from there with the loan and the commands after it.
+abbrev pub RefusesForWantOfSlots : {T U : Type 0} → ServiceConfig → (loans : ℕ) → List (Command T U) → Type 0
+RefusesForWantOfSlots {T} {U} c loans commands =
     (replies : List (Reply T U)) (events : List (Event T U)) (m : Messages T U) (s : State T U)
     → Run ample_memory any_defaults no_messages (fresh c) commands replies events m s
     → (i : ℕ) × (slice_get commands i ≡ Some (loan_command c.variant)) × (slice_get replies i ≡ Some (LoanRefused OutOfMemory))
-    × (m' : Messages T U) × (s' : State T U)
-    × Run ample_memory any_defaults no_messages (fresh c) (take i commands) (take i replies) (take i events) m' s'
+    × (m' : Messages T U) × (s' : State T U) × (handles' : List Handle)
+    × RunTo ample_memory any_defaults no_messages (fresh c) [] (take i commands) (take i replies) (take i events) m' s' handles'
+    × RunFrom ample_memory any_defaults m' s' handles' (drop i commands) (drop i replies) (drop i events) m s
     × (p : ℕ) × (x : Publisher) × (slice_get replies 0 ≡ Some (PublisherMade p)) × (s'.publishers p ≡ Some x) × (length x.loans < loans)
 
--- The worst case is reached: with an override of none the list makes its publisher hold that many messages and loans.
+-- Without an override of its slots, the list skips and refuses nothing and ends with a publisher that holds the worst case.
 abbrev pub WorstCaseIsReached : Type 0 → Type 0 → Type 0
 WorstCaseIsReached T U = (c : ServiceConfig) (loans : ℕ) (value : T) → IsFillable c loans → Fills {T = T} {U = U} c loans (filling_commands c loans value None)
 
--- The worst case is the least number of slots: with one fewer the same list runs out of them.
+-- The worst case is the least number of slots: with any smaller number some loan of the list is refused. An override of 0
+-- gives one slot, which is fewer than the worst case of every such service.
 abbrev pub WorstCaseIsLeast : Type 0 → Type 0 → Type 0
 WorstCaseIsLeast T U =
-    (c : ServiceConfig) (loans : ℕ) (value : T) → IsFillable c loans → RunsOut {T = T} {U = U} c loans (filling_commands c loans value (Some (worst_case c loans - 1)))
+    (c : ServiceConfig) (loans slots : ℕ) (value : T) → IsFillable c loans → slots < worst_case c loans
+    → RefusesForWantOfSlots {T = T} {U = U} c loans (filling_commands c loans value (Some slots))

@@ -7,11 +7,11 @@ use Rattle.iox2_runs.specs.Step.{Step}
 use Rattle.iox2_runs.specs.declared.command.Command.{Command}
 use Rattle.iox2_runs.specs.declared.reply.Reply.{Reply}
 
--- The environment of a run: no port has a boxed handler.
+-- No port has a boxed handler, and memory may be refused.
 abbrev pub fixed_handlers : Environment
 fixed_handlers = record { may_refuse_memory = Unit {0}; backpressure_answers = λ port info action. ⊥; degradation_answers = λ port cause info action. ⊥ }
 
--- The same, and memory is never refused.
+-- No port has a boxed handler, and memory is never refused.
 abbrev pub ample_memory : Environment
 ample_memory = record { may_refuse_memory = ⊥; backpressure_answers = λ port info action. ⊥; degradation_answers = λ port cause info action. ⊥ }
 
@@ -29,7 +29,7 @@ abbrev pub only_defaults : {T U : Type 0} → (default_value : T) → (default_h
 only_defaults default_value default_header = record { IsDefaultValue = λ value. value ≡ default_value; IsDefaultHeader = λ header. header ≡ default_header }
 
 -- These commands get these replies, one step after another, with these events, and the messages and the state end so.
--- Where a step needs a default value, it has some.
+-- Each step may use any value that counts as a default.
 abbrev pub RunFrom : {T U : Type 0} → Environment → Defaults T U → Messages T U → State T U → List Handle → List (Command T U) → List (Reply T U) → List (Event T U) → Messages T U → State T U → Type 0
 RunFrom environment defaults m s handles [] [] [] m' s' = (m' ≡ m) × (s' ≡ s)
 RunFrom {T} {U} environment defaults m s handles (command ∷ commands) (reply ∷ replies) (event ∷ events) m' s' =
@@ -67,7 +67,7 @@ received p q (No_event ∷ events) = received p q events
 received p q (Message_sent p' n entry ∷ events) = received p q events
 received p q (Message_received p' q' n ∷ events) = cond (p' == p && q' == q) (n ∷ received p q events) (received p q events)
 
--- The one list is a part of the other, in the same order.
+-- The first list is the second with some elements left out.
 pub data IsSubsequence : List ℕ → List ℕ → Type 0 where
   Empty : IsSubsequence [] []
   Left_out : {n : ℕ} {ns ms : List ℕ} → IsSubsequence ns ms → IsSubsequence ns (n ∷ ms)

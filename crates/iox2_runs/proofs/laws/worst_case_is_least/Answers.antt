@@ -2,4 +2,4 @@ use Rattle.iox2_runs.proofs.FillingLaws.{worst_case_is_least as lemma}
 use Rattle.iox2_runs.proofs.laws.worst_case_is_least.Goals as goal
 
 pub returns : goal.returns
-returns g c = λ config loans value able. lemma config loans value able
+returns g c = λ config loans slots value able below. lemma config loans slots value able below
