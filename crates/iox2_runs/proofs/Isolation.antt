@@ -2,20 +2,21 @@
 use Rattle.std.proofs.Common.{◌≡◌, ◌⊎◌, inl, ⊎_elim, ℕ, zero, suc, ◌+◌, ◌≤◌, Bool, true, false, not, ◌&&◌, List, [], ◌∷◌, ◌++◌, length, refl, sym, ap, subst, ◌∙◌, arith, Option, None, Some}
 use Rattle.std.specs.Prelude.{slice_get, map}
 use Rattle.std.specs.List.{list_all}
+use Rattle.std.specs.Option.{option_map}
 use Rattle.std.proofs.Math.Path.{fun_ext}
 use Rattle.std.proofs.lemmas.Bool.{true≢false}
 use Rattle.std.proofs.lemmas.Option.{none-some, same_Some}
-use Rattle.std.proofs.lemmas.List.{map-append, length-append}
+use Rattle.std.proofs.lemmas.List.{map-append, length-append, length-map}
 use Rattle.iox2_store.specs.Records.{Environment, Subscriber}
 use Rattle.iox2_store.specs.State.{State, Messages, fresh, no_messages}
 use Rattle.iox2_store.specs.WellFormed.{IsWellFormed}
 use Rattle.iox2_store.specs.declared.service_config.ServiceConfig.{ServiceConfig}
 use Rattle.iox2_laws.proofs.Enough.{fresh_is_well_formed}
-use Rattle.iox2_runs.specs.Outcomes.{Handle, Event, No_event, Message_sent, Message_received, Outcome, done, messages_after}
+use Rattle.iox2_runs.specs.Outcomes.{Handle, Subscriber_handle, Sample_handle, Event, No_event, Message_sent, Message_received, Outcome, done, messages_after}
 use Rattle.iox2_runs.specs.Step.{Step}
 use Rattle.iox2_runs.specs.Runs.{RunTo, ample_memory, Defaults, only_defaults, RunFrom}
 use Rattle.iox2_runs.specs.Views.{PublicPart, public_part, seen_handle, SameView, may_be_omitted, OmitsOthersFrom}
-use Rattle.iox2_runs.specs.Isolation.{IsIndependent, makes_independent_publisher, closes_no_subscriber, makes_subscriber, are_independent, is_of_others, subscriber_call, SameViewAfter, ClosesNoSubscriber, OthersAreUnseen, StepsLookAlike, SubscribersAreIsolated, IsIndependentPublisher}
+use Rattle.iox2_runs.specs.Isolation.{IsIndependent, makes_independent_publisher, closes_no_subscriber, makes_subscriber, are_independent, is_of_others, subscriber_call, SameViewAfter, ClosesNoSubscriber, OthersAreUnseen, StepsLookAlike, SubscribersAreIsolated, IsIndependentPublisher, reads_at}
 use Rattle.iox2_runs.specs.declared.command.Command.{Command}
 use Rattle.iox2_runs.specs.declared.command.Command.TheVariants.{Nothing, Receive, HasSamples, Update, Release, Read, ReadHeader, ReadUserHeader}
 use Rattle.iox2_runs.specs.declared.reply.Reply.{Reply}
@@ -24,10 +25,11 @@ use Rattle.iox2_runs.proofs.StepLaws.{IsSound, step_sound}
 use Rattle.iox2_runs.proofs.AlikeViews.{View, view_of}
 use Rattle.iox2_runs.proofs.AlikeReceives.{sent_part, IsAlike, alike_equal, alike_sym, alike_trans}
 use Rattle.iox2_runs.proofs.AlikeIndependent.{StaysOpen}
-use Rattle.iox2_runs.proofs.AlikeSteps.{step_alike}
+use Rattle.iox2_runs.proofs.AlikeSteps.{step_alike, read_same}
 use Rattle.iox2_runs.proofs.AlikeOpen.{step_open}
 use Rattle.iox2_runs.proofs.AlikeHandles.{Fits, step_fits}
-use Rattle.iox2_runs.proofs.AlikePositions.{HandlesFit, none_fit, more_fit, told, Awaits, awaits_more, awaits_apart}
+use Rattle.iox2_runs.proofs.AlikePositions.{HandlesFit, none_fit, more_fit, told, Awaits, awaits_more, awaits_apart, MadeAt, made_more, ReceivesOwn, received_more, receive_kept, read_kept}
+use Rattle.iox2_runs.proofs.AlikeNamed.{seen_subscriber, looked_up}
 use Rattle.iox2_runs.proofs.ApartCalls.{others_alike}
 
 -- ---- views
@@ -293,6 +295,9 @@ module _ {T U : Type 0} (default_value : T) (default_header : U) (c : ServiceCon
     pub comes : (i : ℕ) (command : Command T U) → slice_get commands i ≡ Some command → slice_get whole (length handles + i) ≡ Some command
     pub fit : HandlesFit position q whole handles
     pub awaits : Awaits position q (length handles) replies a.next_port
+    pub made : MadeAt position q handles
+    pub received : ReceivesOwn position q whole handles
+    pub received' : ReceivesOwn position q whole handles'
     pub config : a.config ≡ c
     pub independent : IsIndependent a
     pub independent' : IsIndependent b
@@ -324,11 +329,12 @@ module _ {T U : Type 0} (default_value : T) (default_header : U) (c : ServiceCon
 
   -- one command later both stand alike
   later_alike : (command other : Command T U) (commands : List (Command T U)) (replies later : List (Reply T U)) (m m' : Messages T U) (a b : State T U) (handles handles' : List Handle) (o o' : Outcome T U)
-      → StandAlike (command ∷ commands) replies m m' a b handles handles' → makes_independent_publisher c command ≡ true → ClosesNoSubscriber handles command
+      → StandAlike (command ∷ commands) replies m m' a b handles handles' → ((other ≡ command) ⊎ ((other ≡ Nothing) × (may_be_omitted position whole command ≡ true)))
+      → makes_independent_publisher c command ≡ true → ClosesNoSubscriber handles command
       → Step ample_memory default_value default_header m a handles command o → Step ample_memory default_value default_header m' b handles' other o'
       → replies ≡ o.reply ∷ later → ((j : ℕ) → slice_get later j ≡ Some (SubscriberMade q) → (o.state).next_port ≤ q) → IsAlike q o o'
       → StandAlike commands later (messages_after o.event m) (messages_after o'.event m') o.state o'.state (handles ++ o.handle ∷ []) (handles' ++ o'.handle ∷ [])
-  later_alike command other commands replies later m m' a b handles handles' o o' stand makes closes h k are below alike =
+  later_alike command other commands replies later m m' a b handles handles' o o' stand fewer makes closes h k are below alike =
       let sound : IsSound a o = step_sound ample_memory default_value default_header m a handles (stand.independent).well_formed command o h in
       let sound' : IsSound b o' = step_sound ample_memory default_value default_header m' b handles' (stand.independent').well_formed other o' k in
       let kept : StaysOpen o.state = step_open default_value default_header m a handles stand.independent command o
@@ -337,9 +343,20 @@ module _ {T U : Type 0} (default_value : T) (default_header : U) (c : ServiceCon
       let awaits : Awaits position q (length handles) (o.reply ∷ later) a.next_port = subst (λ (v : List (Reply T U)). Awaits position q (length handles) v a.next_port) are stand.awaits in
       let one_more : length (handles ++ o.handle ∷ []) ≡ length handles + 1 = length-append handles (o.handle ∷ []) in
       let here : slice_get whole (length handles) ≡ Some command = subst (λ (n : ℕ). slice_get whole n ≡ Some command) (plus_zero (length handles)) (stand.comes 0 command refl) in
+      let fits' : Fits b handles' other o' = step_fits default_value default_header m' b handles' other o' k in
+      let receives : slice_get whole (length handles) ≡ Some (Receive position) → command ≡ Receive position = λ e. same_Some command (Receive position) (sym here ∙ e) in
+      let same_length : length handles' ≡ length handles = sym (length-map handles' (seen_handle q)) ∙ ap length (sym stand.handles_seen) ∙ length-map handles (seen_handle q) in
+      let made' : MadeAt position q handles' = λ r e. stand.made r
+      (seen_subscriber q r (slice_get handles position) (looked_up q a b handles handles' stand.views stand.handles_seen position ∙ ap (option_map (seen_handle q)) e)) in
       record {
         comes = λ i next e. subst (λ (n : ℕ). slice_get whole n ≡ Some next) (shifted (length handles) (length (handles ++ o.handle ∷ [])) i one_more) (stand.comes (suc i) next e);
         fit = more_fit position q whole a handles o command here stand.fit fits (awaits_apart position q a handles o later below awaits);
+        made = made_more position q a handles command o later fits awaits stand.made;
+        received = received_more position q whole a handles command o fits receives stand.made stand.received;
+        received' = received_more position q whole b handles' other o' fits'
+            (λ e. let is : command ≡ Receive position = receives (subst (λ (n : ℕ). slice_get whole n ≡ Some (Receive position)) same_length e) in
+            ⊎_elim (λ same. same ∙ is) (λ out. absurd (receive_kept position whole command is out.1)) fewer)
+            made' stand.received';
         awaits = awaits_more position q (length handles) (length (handles ++ o.handle ∷ [])) a handles command o later one_more (sound.advances).next_port fits awaits;
         config = (sound.advances).config ∙ stand.config;
         independent = independent_of o.state sound.well_formed kept;
@@ -355,20 +372,37 @@ module _ {T U : Type 0} (default_value : T) (default_header : U) (c : ServiceCon
       shifted : (n n' i : ℕ) → n' ≡ n + 1 → n + suc i ≡ n' + i
       shifted n n' i e = omega arith
 
-  -- Both runs end alike.
+  -- a read of the subscriber's own sample replies the same in both
+  read_alike : (command other : Command T U) (commands : List (Command T U)) (replies : List (Reply T U)) (m m' : Messages T U) (a b : State T U) (handles handles' : List Handle) (o o' : Outcome T U) (of : ℕ)
+      → StandAlike (command ∷ commands) replies m m' a b handles handles' → ((other ≡ command) ⊎ ((other ≡ Nothing) × (may_be_omitted position whole command ≡ true)))
+      → Step ample_memory default_value default_header m a handles command o → Step ample_memory default_value default_header m' b handles' other o'
+      → slice_get whole of ≡ Some (Receive position) → reads_at of command ≡ true → o.reply ≡ o'.reply
+  read_alike command other commands replies m m' a b handles handles' o o' of stand fewer h k here t =
+      ⊎_elim
+      (λ same. read_same q default_value default_header m m' a b handles handles' stand.views stand.handles_seen stand.independent stand.independent' of command o o' stand.messages
+      (λ p r n e. stand.received of p r n here e) (λ p r n e. stand.received' of p r n here e) t h
+      (subst (λ v. Step ample_memory default_value default_header m' b handles' v o') same k))
+      (λ out. absurd (read_kept position of whole command here t out.1))
+      fewer
+
+  -- Both runs end alike, and reads of the subscriber's own samples get the same replies.
   runs_alike : (commands others : List (Command T U)) (replies replies' : List (Reply T U)) (events events' : List (Event T U)) (m m' n n' : Messages T U) (a b a' b' : State T U) (handles handles' ends ends' : List Handle)
       → OmitsOthersFrom position whole commands others → StandAlike commands replies m m' a b handles handles'
       → RunsTo default_value default_header m a handles commands replies events n a' ends
       → RunsTo default_value default_header m' b handles' others replies' events' n' b' ends'
       → ((i : ℕ) → slice_get commands i ≡ Some (Receive position) → slice_get replies i ≡ slice_get replies' i)
       → SameView q n a' ends n' b' ends'
+      × ((i of : ℕ) (read : Command T U) → slice_get whole of ≡ Some (Receive position)
+      → slice_get commands i ≡ Some read → reads_at of read ≡ true → slice_get replies i ≡ slice_get replies' i)
   runs_alike [] [] replies replies' events events' m m' n n' a b a' b' handles handles' ends ends' fewer stand h k agree =
       let x : (n ≡ m) × (a' ≡ a) × (ends ≡ handles) × (replies ≡ []) = ended default_value default_header m a handles replies events n a' ends h in
-      let y : (n' ≡ m') × (b' ≡ b) × (ends' ≡ handles') × (replies' ≡ []) = ended default_value default_header m' b handles' replies' events' n' b' ends' k in
-      same_view q n n' a' b' ends ends'
-      (ap (view_of q) x.1 ∙ stand.views ∙ sym (ap (view_of q) y.1))
-      (x.0 ∙ stand.messages ∙ sym y.0)
-      (ap (map (seen_handle q)) x.2 ∙ stand.handles_seen ∙ sym (ap (map (seen_handle q)) y.2))
+      let y : (n' ≡ m') × (b' ≡ b) × (ends' ≡ handles') × (replies' ≡ []) = ended default_value default_header m' b handles' replies' events' n' b' ends' k in (
+        same_view q n n' a' b' ends ends'
+            (ap (view_of q) x.1 ∙ stand.views ∙ sym (ap (view_of q) y.1))
+            (x.0 ∙ stand.messages ∙ sym y.0)
+            (ap (map (seen_handle q)) x.2 ∙ stand.handles_seen ∙ sym (ap (map (seen_handle q)) y.2)),
+        λ i of read here e t. absurd (none-some read e),
+      )
   runs_alike [] (other ∷ others) replies replies' events events' m m' n n' a b a' b' handles handles' ends ends' fewer stand h k agree = absurd fewer
   runs_alike (command ∷ commands) [] replies replies' events events' m m' n n' a b a' b' handles handles' ends ends' fewer stand h k agree = absurd fewer
   runs_alike (command ∷ commands) (other ∷ others) replies replies' events events' m m' n n' a b a' b' handles handles' ends ends' fewer stand h k agree =
@@ -386,19 +420,45 @@ module _ {T U : Type 0} (default_value : T) (default_header : U) (c : ServiceCon
       (λ e. same_Some o.reply o'.reply (agreed 0 (ap Some e))) in
       let sound : IsSound a o = step_sound ample_memory default_value default_header m a handles (stand.independent).well_formed command o x.step in
       let next : StandAlike commands x.later (messages_after o.event m) (messages_after o'.event m') o.state o'.state (handles ++ o.handle ∷ []) (handles' ++ o'.handle ∷ []) =
-      later_alike command other commands replies x.later m m' a b handles handles' o o' stand parts.0 closes x.step y.step x.replies_are
+      later_alike command other commands replies x.later m m' a b handles handles' o o' stand fewer.0 parts.0 closes x.step y.step x.replies_are
       (λ j f. made_later default_value default_header commands (messages_after o.event m) o.state (handles ++ o.handle ∷ []) x.later x.events n a' ends q j sound.well_formed x.rest f) alike in
+      let rest : SameView q n a' ends n' b' ends'
+      × ((i of : ℕ) (read : Command T U) → slice_get whole of ≡ Some (Receive position)
+      → slice_get commands i ≡ Some read → reads_at of read ≡ true → slice_get x.later i ≡ slice_get y.later i) =
       runs_alike commands others x.later y.later x.events y.events (messages_after o.event m) (messages_after o'.event m') n n' o.state o'.state a' b' (handles ++ o.handle ∷ []) (handles' ++ o'.handle ∷ []) ends ends'
-      fewer.1 next x.rest y.rest (λ i e. agreed (suc i) e)
+      fewer.1 next x.rest y.rest (λ i e. agreed (suc i) e) in
+      let told_here : (i of : ℕ) (read : Command T U) → slice_get whole of ≡ Some (Receive position)
+      → slice_get (command ∷ commands) i ≡ Some read → reads_at of read ≡ true → slice_get (o.reply ∷ x.later) i ≡ slice_get (o'.reply ∷ y.later) i =
+      both_told command commands whole o o' x.later y.later
+      (λ of here t. read_alike command other commands replies m m' a b handles handles' o o' of stand fewer.0 x.step y.step here t) rest.1 in (
+        rest.0,
+        λ i of read here e t. ap (λ (v : List (Reply T U)). slice_get v i) x.replies_are ∙ told_here i of read here e t ∙ sym (ap (λ (v : List (Reply T U)). slice_get v i) y.replies_are),
+      )
+    where
+      both_told : (command : Command T U) (commands whole : List (Command T U)) (o o' : Outcome T U) (later later' : List (Reply T U))
+          → ((of : ℕ) → slice_get whole of ≡ Some (Receive position) → reads_at of command ≡ true → o.reply ≡ o'.reply)
+          → ((i of : ℕ) (read : Command T U) → slice_get whole of ≡ Some (Receive position) → slice_get commands i ≡ Some read → reads_at of read ≡ true
+          → slice_get later i ≡ slice_get later' i)
+          → (i of : ℕ) (read : Command T U) → slice_get whole of ≡ Some (Receive position) → slice_get (command ∷ commands) i ≡ Some read → reads_at of read ≡ true
+          → slice_get (o.reply ∷ later) i ≡ slice_get (o'.reply ∷ later') i
+      both_told command commands whole o o' later later' first rest zero of read here e t =
+          ap Some (first of here (ap (reads_at of) (same_Some command read e) ∙ t))
+      both_told command commands whole o o' later later' first rest (suc i) of read here e t = rest i of read here e t
 
 -- The view of a subscriber is the same after two lists of which one is fewer.
 pub subscribers_are_isolated : {T U : Type 0} → SubscribersAreIsolated T U
 subscribers_are_isolated {T} {U} default_value default_header c position q commands fewer later replies replies' events events' m m' s s' handles handles' quiet independent h k made agree =
+    let ends : SameView q m s handles m' s' handles'
+    × ((i of : ℕ) (read : Command T U) → slice_get (commands ++ later) of ≡ Some (Receive position)
+    → slice_get commands i ≡ Some read → reads_at of read ≡ true → slice_get replies i ≡ slice_get replies' i) =
     runs_alike default_value default_header c position q (commands ++ later) independent commands fewer replies replies' events events' no_messages no_messages m m' (fresh c) (fresh c) s s' [] [] handles handles' quiet
     (record {
       comes = λ i command e. subst (λ (n : ℕ). slice_get (commands ++ later) n ≡ Some command) (zero_plus i) (front commands later i command e);
       fit = none_fit position q (commands ++ later);
       awaits = inl (position, zero_plus position, made);
+      made = λ r e. absurd (none-some (Subscriber_handle r) e);
+      received = λ i p r n here e. absurd (none-some (Sample_handle p r n) e);
+      received' = λ i p r n here e. absurd (none-some (Sample_handle p r n) e);
       config = refl;
       independent = new;
       independent' = new;
@@ -406,7 +466,8 @@ subscribers_are_isolated {T} {U} default_value default_header c position q comma
       messages = refl;
       handles_seen = refl;
     })
-    h k agree
+    h k agree in
+    (ends.0, λ i of command here e t. ends.1 i of command (front commands later of (Receive position) here) e t)
   where
     zero_plus : (n : ℕ) → n ≡ 0 + n
     zero_plus n = omega arith

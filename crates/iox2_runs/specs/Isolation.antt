@@ -120,6 +120,14 @@ StepsLookAlike T U =
 
 -- ---- whole runs
 
+module _ {T U : Type 0} where
+  -- The command reads what was made at that position.
+  abbrev pub reads_at : (of : ℕ) → Command T U → Bool
+  reads_at of (Read named at) = named == of
+  reads_at of (ReadHeader named) = named == of
+  reads_at of (ReadUserHeader named) = named == of
+  reads_at of _ = false
+
 -- The view of the subscriber that is made at a position is the same after the beginning of a list and after that of a
 -- fewer one, where publishers are independent, no subscriber is closed, memory is ample, and the subscriber's own receives get
 -- the same replies in both runs. The whole list is the beginning and what comes after it.
@@ -134,3 +142,5 @@ SubscribersAreIsolated T U =
     → slice_get replies position ≡ Some (SubscriberMade q)
     → ((i : ℕ) → slice_get commands i ≡ Some (Receive position) → slice_get replies i ≡ slice_get replies' i)
     → SameView q m s handles m' s' handles'
+    × ((i of : ℕ) (command : Command T U) → slice_get commands of ≡ Some (Receive position)
+    → slice_get commands i ≡ Some command → reads_at of command ≡ true → slice_get replies i ≡ slice_get replies' i)
