@@ -6,7 +6,7 @@ use Rattle.std.proofs.lemmas.Option.{none-some, same_Some}
 use Rattle.iox2_store.specs.State.{State}
 use Rattle.iox2_runs.specs.Outcomes.{Handle, No_handle, Subscriber_handle, Sample_handle, Outcome}
 use Rattle.iox2_runs.specs.Views.{makes_other_subscriber, receives_for_other, may_be_omitted}
-use Rattle.iox2_runs.specs.Isolation.{is_of_others, makes_subscriber, reads_at}
+use Rattle.iox2_runs.specs.Isolation.{is_of_others, reads_at}
 use Rattle.iox2_runs.specs.declared.command.Command.{Command}
 use Rattle.iox2_runs.specs.declared.command.Command.TheVariants.{CreateSubscriber, Receive, Read, ReadHeader, ReadUserHeader}
 use Rattle.iox2_runs.specs.declared.reply.Reply.{Reply}
@@ -49,27 +49,24 @@ module _ {T U : Type 0} where
   abbrev receives_other_in : (position : ℕ) → List (Command T U) → Option (Command T U) → Bool
   receives_other_in position whole v = elim v [ Some (Receive subscriber) ↦ makes_other_subscriber position whole subscriber | _ ↦ false ]
 
-  abbrev makes_in : Option (Command T U) → Bool
-  makes_in v = elim v [ Some (CreateSubscriber buffer degradation) ↦ true | _ ↦ false ]
-
-  -- Handles that fit the list of commands: where others are made stands none of q's, a subscriber's handle stands where
-  -- one is made, and that of q at its position.
-  pub record HandlesFit (position q : ℕ) (whole : List (Command T U)) (handles : List Handle) : Type 0 where
+  -- Handles that fit the list of commands and its replies: where others are made stands none of q's, a subscriber's
+  -- handle stands where the replies tell of it, and that of q at its position.
+  pub record HandlesFit (position q : ℕ) (whole : List (Command T U)) (replies : List (Reply T U)) (handles : List Handle) : Type 0 where
     pub others : (i : ℕ) → makes_other_subscriber position whole i ≡ true → is_of_others q (slice_get handles i) ≡ true
     pub samples : (i : ℕ) → receives_for_other position whole i ≡ true → is_of_others q (slice_get handles i) ≡ true
-    pub subscribers : (i r : ℕ) → slice_get handles i ≡ Some (Subscriber_handle r) → makes_subscriber whole i ≡ true
+    pub subscribers : (i r : ℕ) → slice_get handles i ≡ Some (Subscriber_handle r) → slice_get replies i ≡ Some (SubscriberMade r)
     pub own : (i : ℕ) → slice_get handles i ≡ Some (Subscriber_handle q) → i ≡ position
 
   -- no handles fit every list
-  pub none_fit : (position q : ℕ) (whole : List (Command T U)) → HandlesFit position q whole []
-  none_fit position q whole = record {
+  pub none_fit : (position q : ℕ) (whole : List (Command T U)) (replies : List (Reply T U)) → HandlesFit position q whole replies []
+  none_fit position q whole replies = record {
     others = λ i _. refl;
     samples = λ i _. refl;
     subscribers = λ i r e. absurd (none-some (Subscriber_handle r) e);
     own = λ i e. absurd (none-some (Subscriber_handle q) e);
   }
 
-  module _ (position q : ℕ) (whole : List (Command T U)) (s : State T U) (handles : List Handle) (o : Outcome T U) where
+  module _ (position q : ℕ) (whole : List (Command T U)) (replies : List (Reply T U)) (s : State T U) (handles : List Handle) (o : Outcome T U) where
     -- The id that comes next isn't q, away from its position.
     abbrev pub Apart : Type 0
     Apart = (o.state).next_port ≡ s.next_port + 1 → (length handles ≡ position → ⊥) → s.next_port ≡ q → ⊥
@@ -84,7 +81,7 @@ module _ {T U : Type 0} where
         fits
     new_other _ h fits apart = absurd (true≢false (sym h))
 
-    new_sample : (command : Command T U) → receives_other_in position whole (Some command) ≡ true → HandlesFit position q whole handles
+    new_sample : (command : Command T U) → receives_other_in position whole (Some command) ≡ true → HandlesFit position q whole replies handles
         → Fits s handles command o → is_of_others q (Some o.handle) ≡ true
     new_sample (Receive of) h before fits =
         ⊎_elim
@@ -93,8 +90,9 @@ module _ {T U : Type 0} where
         fits.1
     new_sample _ h before fits = absurd (true≢false (sym h))
 
-    new_subscriber : (command : Command T U) (r : ℕ) → Fits s handles command o → o.handle ≡ Subscriber_handle r → makes_in (Some command) ≡ true
-    new_subscriber (CreateSubscriber buffer degradation) r fits e = refl
+    new_subscriber : (command : Command T U) (r : ℕ) → Fits s handles command o → o.handle ≡ Subscriber_handle r → o.reply ≡ SubscriberMade r
+    new_subscriber (CreateSubscriber buffer degradation) r fits e =
+        ⊎_elim (λ none. absurd (clash r (sym none.0 ∙ e))) (λ made. made.1 ∙ ap (λ k. SubscriberMade k) (same_id s.next_port r (sym made.0 ∙ e))) fits
     new_subscriber (Receive of) r fits e = ⊎_elim (λ none. absurd (clash r (sym none ∙ e))) (λ got. absurd (clash_sample got.0 got.1 got.2 r (sym got.3 ∙ e))) fits.1
     new_subscriber _ r fits e = absurd (true≢false (sym fits.0 ∙ ap is_plain e))
 
@@ -111,15 +109,15 @@ module _ {T U : Type 0} where
     new_own _ fits apart e = absurd (true≢false (sym fits.0 ∙ ap is_plain e))
 
     -- One more handle fits.
-    pub more_fit : (command : Command T U) → slice_get whole (length handles) ≡ Some command → HandlesFit position q whole handles → Fits s handles command o
-        → Apart → HandlesFit position q whole (handles ++ o.handle ∷ [])
-    more_fit command here before fits apart = record {
+    pub more_fit : (command : Command T U) → slice_get whole (length handles) ≡ Some command → slice_get replies (length handles) ≡ Some o.reply
+        → HandlesFit position q whole replies handles → Fits s handles command o → Apart → HandlesFit position q whole replies (handles ++ o.handle ∷ [])
+    more_fit command here replied before fits apart = record {
       others = λ i h. at_appended (λ v. is_of_others q v ≡ true) handles o.handle i (before.others i h)
           (λ e. new_other command (subst (λ v. makes_other_in position (length handles) v ≡ true) here (subst (λ k. makes_other_subscriber position whole k ≡ true) e h)) fits apart);
       samples = λ i h. at_appended (λ v. is_of_others q v ≡ true) handles o.handle i (before.samples i h)
           (λ e. new_sample command (subst (λ v. receives_other_in position whole v ≡ true) here (subst (λ k. receives_for_other position whole k ≡ true) e h)) before fits);
-      subscribers = λ i r. at_appended (λ v. v ≡ Some (Subscriber_handle r) → makes_subscriber whole i ≡ true) handles o.handle i (before.subscribers i r)
-          (λ e f. subst (λ k. makes_subscriber whole k ≡ true) (sym e) (subst (λ v. makes_in v ≡ true) (sym here) (new_subscriber command r fits (same_Some o.handle (Subscriber_handle r) f))));
+      subscribers = λ i r. at_appended (λ v. v ≡ Some (Subscriber_handle r) → slice_get replies i ≡ Some (SubscriberMade r)) handles o.handle i (before.subscribers i r)
+          (λ e f. subst (λ k. slice_get replies k ≡ Some (SubscriberMade r)) (sym e) (replied ∙ ap Some (new_subscriber command r fits (same_Some o.handle (Subscriber_handle r) f))));
       own = λ i. at_appended (λ v. v ≡ Some (Subscriber_handle q) → i ≡ position) handles o.handle i (before.own i)
           (λ e f. e ∙ new_own command fits apart (same_Some o.handle (Subscriber_handle q) f));
     }

@@ -1,7 +1,6 @@
 -- A slow subscriber isn't felt by another.
-use Rattle.std.proofs.Common.{◌≡◌, ◌⊎◌, inl, ⊎_elim, ℕ, zero, suc, ◌+◌, ◌≤◌, Bool, true, false, not, ◌&&◌, List, [], ◌∷◌, ◌++◌, length, refl, sym, ap, subst, ◌∙◌, arith, Option, None, Some}
+use Rattle.std.proofs.Common.{◌≡◌, ◌⊎◌, inl, ⊎_elim, ℕ, zero, suc, ◌+◌, ◌≤◌, true, false, List, [], ◌∷◌, ◌++◌, length, refl, sym, ap, subst, ◌∙◌, arith, Option, None, Some}
 use Rattle.std.specs.Prelude.{slice_get, map}
-use Rattle.std.specs.List.{list_all}
 use Rattle.std.specs.Option.{option_map}
 use Rattle.std.proofs.Math.Path.{fun_ext}
 use Rattle.std.proofs.lemmas.Bool.{true≢false}
@@ -16,11 +15,11 @@ use Rattle.iox2_runs.specs.Outcomes.{Handle, Subscriber_handle, Sample_handle, E
 use Rattle.iox2_runs.specs.Step.{Step}
 use Rattle.iox2_runs.specs.Runs.{RunTo, ample_memory, Defaults, only_defaults, RunFrom}
 use Rattle.iox2_runs.specs.Views.{PublicPart, public_part, seen_handle, SameView, may_be_omitted, OmitsOthersFrom}
-use Rattle.iox2_runs.specs.Isolation.{IsIndependent, makes_independent_publisher, closes_no_subscriber, makes_subscriber, are_independent, is_of_others, subscriber_call, SameViewAfter, ClosesNoSubscriber, OthersAreUnseen, StepsLookAlike, SubscribersAreIsolated, IsIndependentPublisher, reads_at}
+use Rattle.iox2_runs.specs.Isolation.{IsIndependent, makes_independent_publisher, AreIndependent, is_of_others, subscriber_call, SameViewAfter, ClosesNoSubscriber, OthersAreUnseen, StepsLookAlike, SubscribersAreIsolated, IsIndependentPublisher, reads_at}
 use Rattle.iox2_runs.specs.declared.command.Command.{Command}
-use Rattle.iox2_runs.specs.declared.command.Command.TheVariants.{Nothing, Receive, HasSamples, Update, Release, Read, ReadHeader, ReadUserHeader}
+use Rattle.iox2_runs.specs.declared.command.Command.TheVariants.{Nothing, Receive, HasSamples, Update, Release, Read, ReadHeader, ReadUserHeader, Close}
 use Rattle.iox2_runs.specs.declared.reply.Reply.{Reply}
-use Rattle.iox2_runs.specs.declared.reply.Reply.TheVariants.{SubscriberMade}
+use Rattle.iox2_runs.specs.declared.reply.Reply.TheVariants.{PublisherMade, SubscriberMade}
 use Rattle.iox2_runs.proofs.StepLaws.{IsSound, step_sound}
 use Rattle.iox2_runs.proofs.AlikeViews.{View, view_of}
 use Rattle.iox2_runs.proofs.AlikeReceives.{sent_part, IsAlike, alike_equal, alike_sym, alike_trans}
@@ -249,17 +248,6 @@ module _ {T U : Type 0} (default_value : T) (default_header : U) where
 
 -- ---- lists of commands
 
-both : (x y : Bool) → (x && y) ≡ true → (x ≡ true) × (y ≡ true)
-both true true h = (refl, refl)
-both true false h = absurd (true≢false (sym h))
-both false y h = absurd (true≢false (sym h))
-
--- what holds of each element holds of one
-all_at : {X : Type 0} (test : X → Bool) (xs : List X) (i : ℕ) (x : X) → list_all test xs ≡ true → slice_get xs i ≡ Some x → test x ≡ true
-all_at test [] i x h e = absurd (none-some x e)
-all_at test (y ∷ ys) zero x h e = ap test (sym (same_Some y x e)) ∙ (both (test y) (list_all test ys) h).0
-all_at test (y ∷ ys) (suc i) x h e = all_at test ys i x (both (test y) (list_all test ys) h).1 e
-
 -- the beginning of a list
 front : {X : Type 0} (xs ys : List X) (i : ℕ) (x : X) → slice_get xs i ≡ Some x → slice_get (xs ++ ys) i ≡ Some x
 front [] ys i x e = absurd (none-some x e)
@@ -268,32 +256,30 @@ front (y ∷ xs) ys (suc i) x e = front xs ys i x e
 
 module _ {T U : Type 0} where
   -- a command that may be left out is a call of others
-  left_out : (position q : ℕ) (whole : List (Command T U)) (handles : List Handle) (command : Command T U) → HandlesFit position q whole handles
+  left_out : (position q : ℕ) (whole : List (Command T U)) (replies : List (Reply T U)) (handles : List Handle) (command : Command T U) → HandlesFit position q whole replies handles
       → may_be_omitted position whole command ≡ true
       → (of : ℕ) × (subscriber_call command ≡ Some of) × (is_of_others q (slice_get handles of) ≡ true)
-  left_out position q whole handles (Receive of) fit h = (of, refl, fit.others of h)
-  left_out position q whole handles (HasSamples of) fit h = (of, refl, fit.others of h)
-  left_out position q whole handles (Update of) fit h = (of, refl, fit.others of h)
-  left_out position q whole handles (Release of) fit h = (of, refl, fit.samples of h)
-  left_out position q whole handles (Read of at) fit h = (of, refl, fit.samples of h)
-  left_out position q whole handles (ReadHeader of) fit h = (of, refl, fit.samples of h)
-  left_out position q whole handles (ReadUserHeader of) fit h = (of, refl, fit.samples of h)
-  left_out position q whole handles _ fit h = absurd (true≢false (sym h))
-
-  -- a command that closes no subscriber of the list closes none that a handle names
-  closes_none : (position q : ℕ) (whole : List (Command T U)) (handles : List Handle) (command : Command T U) → HandlesFit position q whole handles
-      → closes_no_subscriber whole command ≡ true → ClosesNoSubscriber handles command
-  closes_none position q whole handles command fit h of r e f =
-      let here : not (makes_subscriber whole of) ≡ true = subst (λ (v : Command T U). closes_no_subscriber whole v ≡ true) e h in
-      true≢false (sym here ∙ ap not (fit.subscribers of r f))
+  left_out position q whole replies handles (Receive of) fit h = (of, refl, fit.others of h)
+  left_out position q whole replies handles (HasSamples of) fit h = (of, refl, fit.others of h)
+  left_out position q whole replies handles (Update of) fit h = (of, refl, fit.others of h)
+  left_out position q whole replies handles (Release of) fit h = (of, refl, fit.samples of h)
+  left_out position q whole replies handles (Read of at) fit h = (of, refl, fit.samples of h)
+  left_out position q whole replies handles (ReadHeader of) fit h = (of, refl, fit.samples of h)
+  left_out position q whole replies handles (ReadUserHeader of) fit h = (of, refl, fit.samples of h)
+  left_out position q whole replies handles _ fit h = absurd (true≢false (sym h))
 
 -- ---- two runs
 
-module _ {T U : Type 0} (default_value : T) (default_header : U) (c : ServiceConfig) (position q : ℕ) (whole : List (Command T U)) (all_independent : are_independent c whole ≡ true) where
+module _ {T U : Type 0} (default_value : T) (default_header : U) (c : ServiceConfig) (position q : ℕ) (beginning after : List (Command T U)) (all_replies : List (Reply T U)) (all_independent : AreIndependent c beginning all_replies) where
+  -- The commands and what comes after them.
+  abbrev whole : List (Command T U)
+  whole = beginning ++ after
+
   -- What holds of both runs after the same number of commands.
   pub record StandAlike (commands : List (Command T U)) (replies : List (Reply T U)) (m m' : Messages T U) (a b : State T U) (handles handles' : List Handle) : Type 0 where
-    pub comes : (i : ℕ) (command : Command T U) → slice_get commands i ≡ Some command → slice_get whole (length handles + i) ≡ Some command
-    pub fit : HandlesFit position q whole handles
+    pub comes : (i : ℕ) (command : Command T U) → slice_get commands i ≡ Some command → slice_get beginning (length handles + i) ≡ Some command
+    pub replied : (i : ℕ) (reply : Reply T U) → slice_get replies i ≡ Some reply → slice_get all_replies (length handles + i) ≡ Some reply
+    pub fit : HandlesFit position q whole all_replies handles
     pub awaits : Awaits position q (length handles) replies a.next_port
     pub made : MadeAt position q handles
     pub received : ReceivesOwn position q whole handles
@@ -320,7 +306,7 @@ module _ {T U : Type 0} (default_value : T) (default_header : U) (c : ServiceCon
       (subst (λ v. Step ample_memory default_value default_header m' b handles' v o') same k)
       (λ of e f. agree (e ∙ ap (λ i. Receive i) ((stand.fit).own of f))))
       (λ out.
-      let named : (of : ℕ) × (subscriber_call command ≡ Some of) × (is_of_others q (slice_get handles of) ≡ true) = left_out position q whole handles command stand.fit out.1 in
+      let named : (of : ℕ) × (subscriber_call command ≡ Some of) × (is_of_others q (slice_get handles of) ≡ true) = left_out position q whole all_replies handles command stand.fit out.1 in
       let nothing : o' ≡ done b = subst (λ v. Step ample_memory default_value default_header m' b handles' v o') out.0 k in
       alike_trans q o (done a) o'
       (others_alike q default_value default_header m a handles command named.0 o (stand.independent).all_open named.1 named.2 h)
@@ -330,7 +316,7 @@ module _ {T U : Type 0} (default_value : T) (default_header : U) (c : ServiceCon
   -- one command later both stand alike
   later_alike : (command other : Command T U) (commands : List (Command T U)) (replies later : List (Reply T U)) (m m' : Messages T U) (a b : State T U) (handles handles' : List Handle) (o o' : Outcome T U)
       → StandAlike (command ∷ commands) replies m m' a b handles handles' → ((other ≡ command) ⊎ ((other ≡ Nothing) × (may_be_omitted position whole command ≡ true)))
-      → makes_independent_publisher c command ≡ true → ClosesNoSubscriber handles command
+      → ((p : ℕ) → o.reply ≡ PublisherMade p → makes_independent_publisher c command ≡ true) → ClosesNoSubscriber handles command
       → Step ample_memory default_value default_header m a handles command o → Step ample_memory default_value default_header m' b handles' other o'
       → replies ≡ o.reply ∷ later → ((j : ℕ) → slice_get later j ≡ Some (SubscriberMade q) → (o.state).next_port ≤ q) → IsAlike q o o'
       → StandAlike commands later (messages_after o.event m) (messages_after o'.event m') o.state o'.state (handles ++ o.handle ∷ []) (handles' ++ o'.handle ∷ [])
@@ -338,19 +324,23 @@ module _ {T U : Type 0} (default_value : T) (default_header : U) (c : ServiceCon
       let sound : IsSound a o = step_sound ample_memory default_value default_header m a handles (stand.independent).well_formed command o h in
       let sound' : IsSound b o' = step_sound ample_memory default_value default_header m' b handles' (stand.independent').well_formed other o' k in
       let kept : StaysOpen o.state = step_open default_value default_header m a handles stand.independent command o
-      (subst (λ (v : ServiceConfig). makes_independent_publisher v command ≡ true) (sym stand.config) makes) closes h in
+      (λ p e. subst (λ (v : ServiceConfig). makes_independent_publisher v command ≡ true) (sym stand.config) (makes p e)) closes h in
       let fits : Fits a handles command o = step_fits default_value default_header m a handles command o h in
       let awaits : Awaits position q (length handles) (o.reply ∷ later) a.next_port = subst (λ (v : List (Reply T U)). Awaits position q (length handles) v a.next_port) are stand.awaits in
       let one_more : length (handles ++ o.handle ∷ []) ≡ length handles + 1 = length-append handles (o.handle ∷ []) in
-      let here : slice_get whole (length handles) ≡ Some command = subst (λ (n : ℕ). slice_get whole n ≡ Some command) (plus_zero (length handles)) (stand.comes 0 command refl) in
+      let here : slice_get whole (length handles) ≡ Some command =
+      front beginning after (length handles) command (subst (λ (n : ℕ). slice_get beginning n ≡ Some command) (plus_zero (length handles)) (stand.comes 0 command refl)) in
+      let replied : (i : ℕ) (reply : Reply T U) → slice_get (o.reply ∷ later) i ≡ Some reply → slice_get all_replies (length handles + i) ≡ Some reply =
+      λ i reply e. stand.replied i reply (ap (λ (v : List (Reply T U)). slice_get v i) are ∙ e) in
       let fits' : Fits b handles' other o' = step_fits default_value default_header m' b handles' other o' k in
       let receives : slice_get whole (length handles) ≡ Some (Receive position) → command ≡ Receive position = λ e. same_Some command (Receive position) (sym here ∙ e) in
       let same_length : length handles' ≡ length handles = sym (length-map handles' (seen_handle q)) ∙ ap length (sym stand.handles_seen) ∙ length-map handles (seen_handle q) in
       let made' : MadeAt position q handles' = λ r e. stand.made r
       (seen_subscriber q r (slice_get handles position) (looked_up q a b handles handles' stand.views stand.handles_seen position ∙ ap (option_map (seen_handle q)) e)) in
       record {
-        comes = λ i next e. subst (λ (n : ℕ). slice_get whole n ≡ Some next) (shifted (length handles) (length (handles ++ o.handle ∷ [])) i one_more) (stand.comes (suc i) next e);
-        fit = more_fit position q whole a handles o command here stand.fit fits (awaits_apart position q a handles o later below awaits);
+        comes = λ i next e. subst (λ (n : ℕ). slice_get beginning n ≡ Some next) (shifted (length handles) (length (handles ++ o.handle ∷ [])) i one_more) (stand.comes (suc i) next e);
+        replied = λ i reply e. subst (λ (n : ℕ). slice_get all_replies n ≡ Some reply) (shifted (length handles) (length (handles ++ o.handle ∷ [])) i one_more) (replied (suc i) reply e);
+        fit = more_fit position q whole all_replies a handles o command here (subst (λ (n : ℕ). slice_get all_replies n ≡ Some o.reply) (plus_zero (length handles)) (replied 0 o.reply refl)) stand.fit fits (awaits_apart position q a handles o later below awaits);
         made = made_more position q a handles command o later fits awaits stand.made;
         received = received_more position q whole a handles command o fits receives stand.made stand.received;
         received' = received_more position q whole b handles' other o' fits'
@@ -412,15 +402,16 @@ module _ {T U : Type 0} (default_value : T) (default_header : U) (c : ServiceCon
       let o' : Outcome T U = y.outcome in
       let agreed : (i : ℕ) → slice_get (command ∷ commands) i ≡ Some (Receive position) → slice_get (o.reply ∷ x.later) i ≡ slice_get (o'.reply ∷ y.later) i =
       λ i e. sym (ap (λ (v : List (Reply T U)). slice_get v i) x.replies_are) ∙ agree i e ∙ ap (λ (v : List (Reply T U)). slice_get v i) y.replies_are in
-      let good : (makes_independent_publisher c command && closes_no_subscriber whole command) ≡ true =
-      all_at (λ (v : Command T U). makes_independent_publisher c v && closes_no_subscriber whole v) whole (length handles + 0) command all_independent (stand.comes 0 command refl) in
-      let parts : (makes_independent_publisher c command ≡ true) × (closes_no_subscriber whole command ≡ true) = both (makes_independent_publisher c command) (closes_no_subscriber whole command) good in
-      let closes : ClosesNoSubscriber handles command = closes_none position q whole handles command stand.fit parts.1 in
+      let makes : (p : ℕ) → o.reply ≡ PublisherMade p → makes_independent_publisher c command ≡ true =
+      λ p e. all_independent.publishers (length handles + 0) p command (stand.comes 0 command refl)
+      (stand.replied 0 (PublisherMade p) (ap (λ (v : List (Reply T U)). slice_get v 0) x.replies_are ∙ ap Some e)) in
+      let closes : ClosesNoSubscriber handles command =
+      λ of r e f. all_independent.closes (length handles + 0) of r (stand.comes 0 (Close of) (ap Some e)) ((stand.fit).subscribers of r f) in
       let alike : IsAlike q o o' = one_alike command other commands replies m m' a b handles handles' o o' stand fewer.0 closes x.step y.step
       (λ e. same_Some o.reply o'.reply (agreed 0 (ap Some e))) in
       let sound : IsSound a o = step_sound ample_memory default_value default_header m a handles (stand.independent).well_formed command o x.step in
       let next : StandAlike commands x.later (messages_after o.event m) (messages_after o'.event m') o.state o'.state (handles ++ o.handle ∷ []) (handles' ++ o'.handle ∷ []) =
-      later_alike command other commands replies x.later m m' a b handles handles' o o' stand fewer.0 parts.0 closes x.step y.step x.replies_are
+      later_alike command other commands replies x.later m m' a b handles handles' o o' stand fewer.0 makes closes x.step y.step x.replies_are
       (λ j f. made_later default_value default_header commands (messages_after o.event m) o.state (handles ++ o.handle ∷ []) x.later x.events n a' ends q j sound.well_formed x.rest f) alike in
       let rest : SameView q n a' ends n' b' ends'
       × ((i of : ℕ) (read : Command T U) → slice_get whole of ≡ Some (Receive position)
@@ -429,21 +420,21 @@ module _ {T U : Type 0} (default_value : T) (default_header : U) (c : ServiceCon
       fewer.1 next x.rest y.rest (λ i e. agreed (suc i) e) in
       let told_here : (i of : ℕ) (read : Command T U) → slice_get whole of ≡ Some (Receive position)
       → slice_get (command ∷ commands) i ≡ Some read → reads_at of read ≡ true → slice_get (o.reply ∷ x.later) i ≡ slice_get (o'.reply ∷ y.later) i =
-      both_told command commands whole o o' x.later y.later
+      both_told command commands o o' x.later y.later
       (λ of here t. read_alike command other commands replies m m' a b handles handles' o o' of stand fewer.0 x.step y.step here t) rest.1 in (
         rest.0,
         λ i of read here e t. ap (λ (v : List (Reply T U)). slice_get v i) x.replies_are ∙ told_here i of read here e t ∙ sym (ap (λ (v : List (Reply T U)). slice_get v i) y.replies_are),
       )
     where
-      both_told : (command : Command T U) (commands whole : List (Command T U)) (o o' : Outcome T U) (later later' : List (Reply T U))
+      both_told : (command : Command T U) (commands : List (Command T U)) (o o' : Outcome T U) (later later' : List (Reply T U))
           → ((of : ℕ) → slice_get whole of ≡ Some (Receive position) → reads_at of command ≡ true → o.reply ≡ o'.reply)
           → ((i of : ℕ) (read : Command T U) → slice_get whole of ≡ Some (Receive position) → slice_get commands i ≡ Some read → reads_at of read ≡ true
           → slice_get later i ≡ slice_get later' i)
           → (i of : ℕ) (read : Command T U) → slice_get whole of ≡ Some (Receive position) → slice_get (command ∷ commands) i ≡ Some read → reads_at of read ≡ true
           → slice_get (o.reply ∷ later) i ≡ slice_get (o'.reply ∷ later') i
-      both_told command commands whole o o' later later' first rest zero of read here e t =
+      both_told command commands o o' later later' first rest zero of read here e t =
           ap Some (first of here (ap (reads_at of) (same_Some command read e) ∙ t))
-      both_told command commands whole o o' later later' first rest (suc i) of read here e t = rest i of read here e t
+      both_told command commands o o' later later' first rest (suc i) of read here e t = rest i of read here e t
 
 -- The view of a subscriber is the same after two lists of which one is fewer.
 pub subscribers_are_isolated : {T U : Type 0} → SubscribersAreIsolated T U
@@ -451,10 +442,11 @@ subscribers_are_isolated {T} {U} default_value default_header c position q comma
     let ends : SameView q m s handles m' s' handles'
     × ((i of : ℕ) (read : Command T U) → slice_get (commands ++ later) of ≡ Some (Receive position)
     → slice_get commands i ≡ Some read → reads_at of read ≡ true → slice_get replies i ≡ slice_get replies' i) =
-    runs_alike default_value default_header c position q (commands ++ later) independent commands fewer replies replies' events events' no_messages no_messages m m' (fresh c) (fresh c) s s' [] [] handles handles' quiet
+    runs_alike default_value default_header c position q commands later replies independent commands fewer replies replies' events events' no_messages no_messages m m' (fresh c) (fresh c) s s' [] [] handles handles' quiet
     (record {
-      comes = λ i command e. subst (λ (n : ℕ). slice_get (commands ++ later) n ≡ Some command) (zero_plus i) (front commands later i command e);
-      fit = none_fit position q (commands ++ later);
+      comes = λ i command e. subst (λ (n : ℕ). slice_get commands n ≡ Some command) (zero_plus i) e;
+      replied = λ i reply e. subst (λ (n : ℕ). slice_get replies n ≡ Some reply) (zero_plus i) e;
+      fit = none_fit position q (commands ++ later) replies;
       awaits = inl (position, zero_plus position, made);
       made = λ r e. absurd (none-some (Subscriber_handle r) e);
       received = λ i p r n here e. absurd (none-some (Sample_handle p r n) e);

@@ -1,24 +1,24 @@
 -- What one subscriber sees doesn't depend on how fast the others are.
 use Rattle.std.specs.Prelude.{ℕ, Bool, true, false, not, ◌&&◌, ◌||◌, List, [], ◌∷◌, ◌++◌, ◌≡◌, ◌==◌, slice_get, is_none}
-use Rattle.std.specs.List.{list_all}
 use Rattle.std.specs.declared.option.Option.{Option}
 use Rattle.std.specs.declared.option.Option.TheVariants.{None, Some}
 use Rattle.iox2_store.specs.Limits.{worst_case}
 use Rattle.iox2_store.specs.Records.{Publisher, Subscriber}
 use Rattle.iox2_store.specs.State.{State, Messages, fresh, no_messages}
 use Rattle.iox2_store.specs.Loans.{is_static}
+use Rattle.iox2_store.specs.Ports.{slots_for}
 use Rattle.iox2_store.specs.WellFormed.{IsWellFormed}
 use Rattle.iox2_store.specs.declared.service_config.ServiceConfig.{ServiceConfig}
 use Rattle.iox2_store.specs.declared.backpressure.BackpressureStrategy.{BackpressureStrategy}
 use Rattle.iox2_store.specs.declared.backpressure.BackpressureStrategy.TheVariants.{RetryUntilDelivered, DiscardData}
 use Rattle.iox2_runs.specs.Outcomes.{Handle, No_handle, Subscriber_handle, Sample_handle, Event, Outcome, messages_after}
-use Rattle.iox2_runs.specs.Step.{Step}
+use Rattle.iox2_runs.specs.Step.{Step, publisher_settings}
 use Rattle.iox2_runs.specs.Runs.{ample_memory, only_defaults, RunTo}
 use Rattle.iox2_runs.specs.Views.{SameView, OmitsOthersFrom}
 use Rattle.iox2_runs.specs.declared.command.Command.{Command}
-use Rattle.iox2_runs.specs.declared.command.Command.TheVariants.{CreatePublisher, CreateSubscriber, Receive, HasSamples, Update, Release, Read, ReadHeader, ReadUserHeader, Close}
+use Rattle.iox2_runs.specs.declared.command.Command.TheVariants.{CreatePublisher, Receive, HasSamples, Update, Release, Read, ReadHeader, ReadUserHeader, Close}
 use Rattle.iox2_runs.specs.declared.reply.Reply.{Reply}
-use Rattle.iox2_runs.specs.declared.reply.Reply.TheVariants.{SubscriberMade}
+use Rattle.iox2_runs.specs.declared.reply.Reply.TheVariants.{PublisherMade, SubscriberMade}
 
 -- ---- services in which nobody waits for a subscriber
 
@@ -44,28 +44,19 @@ pub record IsIndependent {T U : Type 0} (s : State T U) : Type 0 where
   pub publishers : (p : ℕ) (x : Publisher) → s.publishers p ≡ Some x → IsIndependentPublisher s.config x
   pub all_open : (r : ℕ) (y : Subscriber) → s.subscribers r ≡ Some y → y.is_open ≡ true
 
-module _ {T U : Type 0} where
-  -- The publisher that is made, if the command makes one, is independent.
-  abbrev pub makes_independent_publisher : ServiceConfig → Command T U → Bool
-  makes_independent_publisher c (CreatePublisher loans strategy allocation len override_slots degradation backpressure) =
-      is_static allocation && is_none override_slots && never_waits c strategy (not (is_none backpressure))
-  makes_independent_publisher c _ = true
+-- The publisher that the command makes, if it makes one, is independent.
+abbrev pub makes_independent_publisher : {T U : Type 0} → ServiceConfig → Command T U → Bool
+makes_independent_publisher c (CreatePublisher loans strategy allocation len override_slots degradation backpressure) =
+    is_static allocation
+    && slots_for c (publisher_settings c.variant loans strategy allocation len override_slots degradation backpressure) == worst_case c loans
+    && never_waits c strategy (not (is_none backpressure))
+makes_independent_publisher c _ = true
 
-  -- At that position a subscriber is made.
-  abbrev pub makes_subscriber : List (Command T U) → (of : ℕ) → Bool
-  makes_subscriber commands of = elim (slice_get commands of) [
-    | Some (CreateSubscriber buffer degradation) ↦ true
-    | _ ↦ false
-  ]
-
-  -- The command closes no subscriber.
-  abbrev pub closes_no_subscriber : List (Command T U) → Command T U → Bool
-  closes_no_subscriber commands (Close of) = not (makes_subscriber commands of)
-  closes_no_subscriber commands _ = true
-
-  -- Every publisher that is made is independent, and no subscriber is closed.
-  abbrev pub are_independent : ServiceConfig → List (Command T U) → Bool
-  are_independent c commands = list_all (λ command. makes_independent_publisher c command && closes_no_subscriber commands command) commands
+-- Each publisher that was made is independent, and no subscriber was closed.
+pub record AreIndependent {T U : Type 0} (c : ServiceConfig) (commands : List (Command T U)) (replies : List (Reply T U)) : Type 0 where
+  pub publishers : (i p : ℕ) (command : Command T U) → slice_get commands i ≡ Some command → slice_get replies i ≡ Some (PublisherMade p)
+      → makes_independent_publisher c command ≡ true
+  pub closes : (i of r : ℕ) → slice_get commands i ≡ Some (Close of) → slice_get replies of ≡ Some (SubscriberMade r) → ⊥
 
 -- ---- the laws of one step
 
@@ -136,7 +127,7 @@ SubscribersAreIsolated T U =
     (default_value : T) (default_header : U) (c : ServiceConfig) (position q : ℕ) (commands fewer later : List (Command T U))
     (replies replies' : List (Reply T U)) (events events' : List (Event T U)) (m m' : Messages T U) (s s' : State T U) (handles handles' : List Handle)
     → OmitsOthersFrom position (commands ++ later) commands fewer
-    → are_independent c (commands ++ later) ≡ true
+    → AreIndependent c commands replies
     → RunTo ample_memory (only_defaults default_value default_header) no_messages (fresh c) [] commands replies events m s handles
     → RunTo ample_memory (only_defaults default_value default_header) no_messages (fresh c) [] fewer replies' events' m' s' handles'
     → slice_get replies position ≡ Some (SubscriberMade q)
