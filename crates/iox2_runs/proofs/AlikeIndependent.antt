@@ -1,4 +1,4 @@
--- A independent state stays independent.
+-- An independent state stays independent.
 use Rattle.std.proofs.Common.{◌≡◌, ℕ, Bool, true, false, not, List, [], ◌∷◌, ◌++◌, refl, sym, ap, subst, ◌∙◌, Option, None, Some, is_none, eqb}
 use Rattle.std.specs.Prelude.{nat_lt}
 use Rattle.std.specs.Option.{option_map}
@@ -201,7 +201,7 @@ module _ {T U : Type 0} where
   warning_open s warning None k = k
   warning_open s warning (Some e) k = record { publishers = k.publishers; all_open = k.all_open }
 
-  -- a independent publisher that is made or refused
+  -- an independent publisher that is made or refused
   pub create_publisher_open : (s s' : State T U) (given : PublisherSettings) (refusal : Option PublisherCreateError) → (refusal ≡ None → AreIndependentSettings s.config given)
       → CreatePublisher ample_memory s given s' refusal → StaysOpen s → StaysOpen s'
   create_publisher_open s s' given refusal settings h k =

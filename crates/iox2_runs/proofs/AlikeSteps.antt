@@ -48,11 +48,11 @@ own_id q None named e = absurd (none-some named e)
 own_id q (Some y) named e = sym (ap (λ (n : ℕ × Subscriber). n.0) (same_Some (q, y) named (kept_if y.is_open (Some (q, y)) named e)))
 
 module _ {T U : Type 0} where
-  -- a independent state's parts
+  -- an independent state's parts
   pub open_of : (s : State T U) → IsIndependent s → StaysOpen s
   open_of s k = record { publishers = k.publishers; all_open = k.all_open }
 
-  -- in a independent state no send is blocked
+  -- in an independent state no send is blocked
   pub none_blocked : (s : State T U) (handles : List Handle) (of : ℕ) (named : ℕ × BlockedSend) → IsIndependent s → blocked_at s handles of ≡ Some named → ⊥
   none_blocked s handles of named k e =
       let is : (x : Publisher) × (s.publishers named.0 ≡ Some x) × (x.blocked ≡ Some named.1) = blocked_is s handles of named e in

@@ -85,7 +85,7 @@ module _ {T U : Type 0} (q : ℕ) where
       same_view (messages_after o.event m) (messages_after o'.event m') o.state o'.state (named ++ o.handle ∷ []) (named' ++ o'.handle ∷ []) a.state
       (messages_alike o o' m m' a e) (handles_alike q o.handle o'.handle named named' f a.handle)
 
-  -- a state with the view of a independent one is so too, its well-formedness apart
+  -- a state with the view of an independent one is so too, its well-formedness apart
   open_seen : (a b : State T U) → view_of q a ≡ view_of q b → StaysOpen a → StaysOpen b
   open_seen a b e k = record {
     publishers = λ p x f. subst (λ (v : View T U). (p : ℕ) (x : _) → v.publishers p ≡ Some x → IsIndependentPublisher v.config x) e k.publishers p x f;
@@ -300,7 +300,7 @@ module _ {T U : Type 0} (default_value : T) (default_header : U) (c : ServiceCon
       → ClosesNoSubscriber handles command
       → Step ample_memory default_value default_header m a handles command o → Step ample_memory default_value default_header m' b handles' other o'
       → (command ≡ Receive position → o.reply ≡ o'.reply) → IsAlike q o o'
-  one_alike command other commands replies m m' a b handles handles' o o' stand fewer closes h k agree =
+  one_alike command other commands replies m m' a b handles handles' o o' stand reduced closes h k agree =
       ⊎_elim
       (λ same. step_alike q default_value default_header m m' a b handles handles' stand.views stand.handles_seen stand.independent stand.independent' command o o' closes h
       (subst (λ v. Step ample_memory default_value default_header m' b handles' v o') same k)
@@ -311,7 +311,7 @@ module _ {T U : Type 0} (default_value : T) (default_header : U) (c : ServiceCon
       alike_trans q o (done a) o'
       (others_alike q default_value default_header m a handles command named.0 o (stand.independent).all_open named.1 named.2 h)
       (alike_equal q (done a) (done a) o' (done b) refl nothing (record { state = stand.views; event = refl; handle = refl })))
-      fewer
+      reduced
 
   -- one command later both stand alike
   later_alike : (command other : Command T U) (commands : List (Command T U)) (replies later : List (Reply T U)) (m m' : Messages T U) (a b : State T U) (handles handles' : List Handle) (o o' : Outcome T U)
@@ -320,7 +320,7 @@ module _ {T U : Type 0} (default_value : T) (default_header : U) (c : ServiceCon
       → Step ample_memory default_value default_header m a handles command o → Step ample_memory default_value default_header m' b handles' other o'
       → replies ≡ o.reply ∷ later → ((j : ℕ) → slice_get later j ≡ Some (SubscriberMade q) → (o.state).next_port ≤ q) → IsAlike q o o'
       → StandAlike commands later (messages_after o.event m) (messages_after o'.event m') o.state o'.state (handles ++ o.handle ∷ []) (handles' ++ o'.handle ∷ [])
-  later_alike command other commands replies later m m' a b handles handles' o o' stand fewer makes closes h k are below alike =
+  later_alike command other commands replies later m m' a b handles handles' o o' stand reduced makes closes h k are below alike =
       let sound : IsSound a o = step_sound ample_memory default_value default_header m a handles (stand.independent).well_formed command o h in
       let sound' : IsSound b o' = step_sound ample_memory default_value default_header m' b handles' (stand.independent').well_formed other o' k in
       let kept : StaysOpen o.state = step_open default_value default_header m a handles stand.independent command o
@@ -345,7 +345,7 @@ module _ {T U : Type 0} (default_value : T) (default_header : U) (c : ServiceCon
         received = received_more position q whole a handles command o fits receives stand.made stand.received;
         received' = received_more position q whole b handles' other o' fits'
             (λ e. let is : command ≡ Receive position = receives (subst (λ (n : ℕ). slice_get whole n ≡ Some (Receive position)) same_length e) in
-            ⊎_elim (λ same. same ∙ is) (λ out. absurd (receive_kept position whole command is out.1)) fewer)
+            ⊎_elim (λ same. same ∙ is) (λ out. absurd (receive_kept position whole command is out.1)) reduced)
             made' stand.received';
         awaits = awaits_more position q (length handles) (length (handles ++ o.handle ∷ [])) a handles command o later one_more (sound.advances).next_port fits awaits;
         config = (sound.advances).config ∙ stand.config;
@@ -367,13 +367,13 @@ module _ {T U : Type 0} (default_value : T) (default_header : U) (c : ServiceCon
       → StandAlike (command ∷ commands) replies m m' a b handles handles' → ((other ≡ command) ⊎ ((other ≡ Nothing) × (may_be_omitted position whole command ≡ true)))
       → Step ample_memory default_value default_header m a handles command o → Step ample_memory default_value default_header m' b handles' other o'
       → slice_get whole of ≡ Some (Receive position) → reads_at of command ≡ true → o.reply ≡ o'.reply
-  read_alike command other commands replies m m' a b handles handles' o o' of stand fewer h k here t =
+  read_alike command other commands replies m m' a b handles handles' o o' of stand reduced h k here t =
       ⊎_elim
       (λ same. read_same q default_value default_header m m' a b handles handles' stand.views stand.handles_seen stand.independent stand.independent' of command o o' stand.messages
       (λ p r n e. stand.received of p r n here e) (λ p r n e. stand.received' of p r n here e) t h
       (subst (λ v. Step ample_memory default_value default_header m' b handles' v o') same k))
       (λ out. absurd (read_kept position of whole command here t out.1))
-      fewer
+      reduced
 
   -- Both runs end alike, and reads of the subscriber's own samples get the same replies.
   runs_alike : (commands others : List (Command T U)) (replies replies' : List (Reply T U)) (events events' : List (Event T U)) (m m' n n' : Messages T U) (a b a' b' : State T U) (handles handles' ends ends' : List Handle)
@@ -384,7 +384,7 @@ module _ {T U : Type 0} (default_value : T) (default_header : U) (c : ServiceCon
       → SameView q n a' ends n' b' ends'
       × ((i of : ℕ) (read : Command T U) → slice_get whole of ≡ Some (Receive position)
       → slice_get commands i ≡ Some read → reads_at of read ≡ true → slice_get replies i ≡ slice_get replies' i)
-  runs_alike [] [] replies replies' events events' m m' n n' a b a' b' handles handles' ends ends' fewer stand h k agree =
+  runs_alike [] [] replies replies' events events' m m' n n' a b a' b' handles handles' ends ends' reduced stand h k agree =
       let x : (n ≡ m) × (a' ≡ a) × (ends ≡ handles) × (replies ≡ []) = ended default_value default_header m a handles replies events n a' ends h in
       let y : (n' ≡ m') × (b' ≡ b) × (ends' ≡ handles') × (replies' ≡ []) = ended default_value default_header m' b handles' replies' events' n' b' ends' k in (
         same_view q n n' a' b' ends ends'
@@ -393,9 +393,9 @@ module _ {T U : Type 0} (default_value : T) (default_header : U) (c : ServiceCon
             (ap (map (seen_handle q)) x.2 ∙ stand.handles_seen ∙ sym (ap (map (seen_handle q)) y.2)),
         λ i of read here e t. absurd (none-some read e),
       )
-  runs_alike [] (other ∷ others) replies replies' events events' m m' n n' a b a' b' handles handles' ends ends' fewer stand h k agree = absurd fewer
-  runs_alike (command ∷ commands) [] replies replies' events events' m m' n n' a b a' b' handles handles' ends ends' fewer stand h k agree = absurd fewer
-  runs_alike (command ∷ commands) (other ∷ others) replies replies' events events' m m' n n' a b a' b' handles handles' ends ends' fewer stand h k agree =
+  runs_alike [] (other ∷ others) replies replies' events events' m m' n n' a b a' b' handles handles' ends ends' reduced stand h k agree = absurd reduced
+  runs_alike (command ∷ commands) [] replies replies' events events' m m' n n' a b a' b' handles handles' ends ends' reduced stand h k agree = absurd reduced
+  runs_alike (command ∷ commands) (other ∷ others) replies replies' events events' m m' n n' a b a' b' handles handles' ends ends' reduced stand h k agree =
       let x : Begun default_value default_header m a handles command commands replies n a' ends = begun default_value default_header m a handles command commands replies events n a' ends h in
       let y : Begun default_value default_header m' b handles' other others replies' n' b' ends' = begun default_value default_header m' b handles' other others replies' events' n' b' ends' k in
       let o : Outcome T U = x.outcome in
@@ -407,21 +407,21 @@ module _ {T U : Type 0} (default_value : T) (default_header : U) (c : ServiceCon
       (stand.replied 0 (PublisherMade p) (ap (λ (v : List (Reply T U)). slice_get v 0) x.replies_are ∙ ap Some e)) in
       let closes : ClosesNoSubscriber handles command =
       λ of r e f. all_independent.closes (length handles + 0) of r (stand.comes 0 (Close of) (ap Some e)) ((stand.fit).subscribers of r f) in
-      let alike : IsAlike q o o' = one_alike command other commands replies m m' a b handles handles' o o' stand fewer.0 closes x.step y.step
+      let alike : IsAlike q o o' = one_alike command other commands replies m m' a b handles handles' o o' stand reduced.0 closes x.step y.step
       (λ e. same_Some o.reply o'.reply (agreed 0 (ap Some e))) in
       let sound : IsSound a o = step_sound ample_memory default_value default_header m a handles (stand.independent).well_formed command o x.step in
       let next : StandAlike commands x.later (messages_after o.event m) (messages_after o'.event m') o.state o'.state (handles ++ o.handle ∷ []) (handles' ++ o'.handle ∷ []) =
-      later_alike command other commands replies x.later m m' a b handles handles' o o' stand fewer.0 makes closes x.step y.step x.replies_are
+      later_alike command other commands replies x.later m m' a b handles handles' o o' stand reduced.0 makes closes x.step y.step x.replies_are
       (λ j f. made_later default_value default_header commands (messages_after o.event m) o.state (handles ++ o.handle ∷ []) x.later x.events n a' ends q j sound.well_formed x.rest f) alike in
       let rest : SameView q n a' ends n' b' ends'
       × ((i of : ℕ) (read : Command T U) → slice_get whole of ≡ Some (Receive position)
       → slice_get commands i ≡ Some read → reads_at of read ≡ true → slice_get x.later i ≡ slice_get y.later i) =
       runs_alike commands others x.later y.later x.events y.events (messages_after o.event m) (messages_after o'.event m') n n' o.state o'.state a' b' (handles ++ o.handle ∷ []) (handles' ++ o'.handle ∷ []) ends ends'
-      fewer.1 next x.rest y.rest (λ i e. agreed (suc i) e) in
+      reduced.1 next x.rest y.rest (λ i e. agreed (suc i) e) in
       let told_here : (i of : ℕ) (read : Command T U) → slice_get whole of ≡ Some (Receive position)
       → slice_get (command ∷ commands) i ≡ Some read → reads_at of read ≡ true → slice_get (o.reply ∷ x.later) i ≡ slice_get (o'.reply ∷ y.later) i =
       both_told command commands o o' x.later y.later
-      (λ of here t. read_alike command other commands replies m m' a b handles handles' o o' of stand fewer.0 x.step y.step here t) rest.1 in (
+      (λ of here t. read_alike command other commands replies m m' a b handles handles' o o' of stand reduced.0 x.step y.step here t) rest.1 in (
         rest.0,
         λ i of read here e t. ap (λ (v : List (Reply T U)). slice_get v i) x.replies_are ∙ told_here i of read here e t ∙ sym (ap (λ (v : List (Reply T U)). slice_get v i) y.replies_are),
       )
@@ -436,13 +436,13 @@ module _ {T U : Type 0} (default_value : T) (default_header : U) (c : ServiceCon
           ap Some (first of here (ap (reads_at of) (same_Some command read e) ∙ t))
       both_told command commands o o' later later' first rest (suc i) of read here e t = rest i of read here e t
 
--- The view of a subscriber is the same after two lists of which one is fewer.
+-- The view of a subscriber is the same after a list and a reduced one, and reads of its samples reply the same.
 pub subscribers_are_isolated : {T U : Type 0} → SubscribersAreIsolated T U
-subscribers_are_isolated {T} {U} default_value default_header c position q commands fewer later replies replies' events events' m m' s s' handles handles' quiet independent h k made agree =
+subscribers_are_isolated {T} {U} default_value default_header c position q commands reduced later replies replies' events events' m m' s s' handles handles' quiet independent h k made agree =
     let ends : SameView q m s handles m' s' handles'
     × ((i of : ℕ) (read : Command T U) → slice_get (commands ++ later) of ≡ Some (Receive position)
     → slice_get commands i ≡ Some read → reads_at of read ≡ true → slice_get replies i ≡ slice_get replies' i) =
-    runs_alike default_value default_header c position q commands later replies independent commands fewer replies replies' events events' no_messages no_messages m m' (fresh c) (fresh c) s s' [] [] handles handles' quiet
+    runs_alike default_value default_header c position q commands later replies independent commands reduced replies replies' events events' no_messages no_messages m m' (fresh c) (fresh c) s s' [] [] handles handles' quiet
     (record {
       comes = λ i command e. subst (λ (n : ℕ). slice_get commands n ≡ Some command) (zero_plus i) e;
       replied = λ i reply e. subst (λ (n : ℕ). slice_get replies n ≡ Some reply) (zero_plus i) e;

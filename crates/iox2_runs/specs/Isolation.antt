@@ -38,7 +38,7 @@ pub record IsIndependentPublisher (c : ServiceConfig) (x : Publisher) : Type 0 w
   pub unblocked : x.blocked ≡ None
   pub never_waits : never_waits c x.backpressure_strategy (not (is_none x.backpressure_handler)) ≡ true
 
--- All publishers are so, and no subscriber was closed.
+-- The state is well-formed, all publishers are independent, and no closed subscriber is left.
 pub record IsIndependent {T U : Type 0} (s : State T U) : Type 0 where
   pub well_formed : IsWellFormed s
   pub publishers : (p : ℕ) (x : Publisher) → s.publishers p ≡ Some x → IsIndependentPublisher s.config x
@@ -69,7 +69,7 @@ is_of_others q (Some (Sample_handle p r n)) = not (r == q)
 is_of_others q (Some _) = false
 
 module _ {T U : Type 0} where
-  -- The position that a subscriber's call names: the subscriber, or a sample of it.
+  -- The position that a receive, `HasSamples`, update, release or read names.
   abbrev pub subscriber_call : Command T U → Option ℕ
   subscriber_call (Receive of) = Some of
   subscriber_call (HasSamples of) = Some of
@@ -89,7 +89,7 @@ module _ {T U : Type 0} where
   abbrev pub ClosesNoSubscriber : List Handle → Command T U → Type 0
   ClosesNoSubscriber handles command = (of r : ℕ) → command ≡ Close of → slice_get handles of ≡ Some (Subscriber_handle r) → ⊥
 
--- A subscriber's call leaves the view of each other subscriber as it was, while no subscriber is closed.
+-- A subscriber's call leaves the view of each other subscriber as it was, while no closed subscriber is left.
 abbrev pub OthersAreUnseen : Type 0 → Type 0 → Type 0
 OthersAreUnseen T U =
     (default_value : T) (default_header : U) (q : ℕ) (m : Messages T U) (s : State T U) (handles : List Handle) (command : Command T U) (of : ℕ) (o : Outcome T U)
@@ -119,17 +119,20 @@ module _ {T U : Type 0} where
   reads_at of (ReadUserHeader named) = named == of
   reads_at of _ = false
 
--- The view of the subscriber that is made at a position is the same after the beginning of a list and after that of a
--- fewer one, where publishers are independent, no subscriber is closed, memory is ample, and the subscriber's own receives get
--- the same replies in both runs. The whole list is the beginning and what comes after it.
+-- One run is of some commands in a new domain, and the other is of a reduced list, in which `Nothing` stands in place of
+-- some calls of subscribers other than the one made at `position`. Positions are looked up in the commands and what may
+-- come later. Memory is ample in both runs, and both have the same default values. In the first run each publisher that was
+-- made is independent, no subscriber was closed, and q is the subscriber made at `position`. The receives of that subscriber
+-- get the same replies in both runs. Then its view is the same at the end of both, and reads of what its receives made get
+-- the same replies in both.
 abbrev pub SubscribersAreIsolated : Type 0 → Type 0 → Type 0
 SubscribersAreIsolated T U =
-    (default_value : T) (default_header : U) (c : ServiceConfig) (position q : ℕ) (commands fewer later : List (Command T U))
+    (default_value : T) (default_header : U) (c : ServiceConfig) (position q : ℕ) (commands reduced later : List (Command T U))
     (replies replies' : List (Reply T U)) (events events' : List (Event T U)) (m m' : Messages T U) (s s' : State T U) (handles handles' : List Handle)
-    → OmitsOthersFrom position (commands ++ later) commands fewer
+    → OmitsOthersFrom position (commands ++ later) commands reduced
     → AreIndependent c commands replies
     → RunTo ample_memory (only_defaults default_value default_header) no_messages (fresh c) [] commands replies events m s handles
-    → RunTo ample_memory (only_defaults default_value default_header) no_messages (fresh c) [] fewer replies' events' m' s' handles'
+    → RunTo ample_memory (only_defaults default_value default_header) no_messages (fresh c) [] reduced replies' events' m' s' handles'
     → slice_get replies position ≡ Some (SubscriberMade q)
     → ((i : ℕ) → slice_get commands i ≡ Some (Receive position) → slice_get replies i ≡ slice_get replies' i)
     → SameView q m s handles m' s' handles'
