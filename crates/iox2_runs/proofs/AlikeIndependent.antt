@@ -1,7 +1,7 @@
--- A independent state stays independent.
-use Rattle.std.proofs.Common.{◌≡◌, ℕ, ◌+◌, Bool, true, false, not, List, [], ◌∷◌, ◌++◌, refl, sym, ap, subst, ◌∙◌, Option, None, Some, is_none, eqb}
-use Rattle.std.specs.Prelude.{nat_lt, max, min}
-use Rattle.std.specs.Option.{option_map, option_map_or}
+-- An independent state stays independent.
+use Rattle.std.proofs.Common.{◌≡◌, ℕ, Bool, true, false, not, List, [], ◌∷◌, ◌++◌, refl, sym, ap, subst, ◌∙◌, Option, None, Some, is_none, eqb}
+use Rattle.std.specs.Prelude.{nat_lt}
+use Rattle.std.specs.Option.{option_map}
 use Rattle.std.proofs.lemmas.Bool.{true≢false}
 use Rattle.iox2_store.specs.Limits.{worst_case, buffer_limit, last_number}
 use Rattle.iox2_store.specs.Places.{free_place}
@@ -69,11 +69,8 @@ each_independent c publishers change all go i z e = found_mapped change (publish
 -- What is told a publisher's factory makes it independent.
 pub record AreIndependentSettings (c : ServiceConfig) (given : PublisherSettings) : Type 0 where
   pub static : is_static given.allocation_strategy ≡ true
-  pub no_override : given.asked_slots ≡ None
+  pub slots : slots_for c given ≡ worst_case c given.max_loaned_samples
   pub never_waits : never_waits c given.backpressure_strategy (not (is_none given.backpressure_handler)) ≡ true
-
-made_independent : (c : ServiceConfig) (given : PublisherSettings) → given.asked_slots ≡ None → slots_for c given ≡ worst_case c given.max_loaned_samples
-made_independent c given e = ap (λ (o : Option ℕ). option_map_or (λ asked. min (worst_case c given.max_loaned_samples) (max 1 asked)) o (worst_case c given.max_loaned_samples)) e
 
 module _ {T U : Type 0} where
   -- Publishers are independent, and subscribers open.
@@ -204,28 +201,29 @@ module _ {T U : Type 0} where
   warning_open s warning None k = k
   warning_open s warning (Some e) k = record { publishers = k.publishers; all_open = k.all_open }
 
-  -- a independent publisher that is made or refused
-  pub create_publisher_open : (s s' : State T U) (given : PublisherSettings) (refusal : Option PublisherCreateError) → AreIndependentSettings s.config given
+  -- an independent publisher that is made or refused
+  pub create_publisher_open : (s s' : State T U) (given : PublisherSettings) (refusal : Option PublisherCreateError) → (refusal ≡ None → AreIndependentSettings s.config given)
       → CreatePublisher ample_memory s given s' refusal → StaysOpen s → StaysOpen s'
   create_publisher_open s s' given refusal settings h k =
       by_bool (StaysOpen s') (eqb s.next_port last_number) _ _ h (λ _ h. subst StaysOpen (sym h.0) k) (λ _ h.
       by_option (StaysOpen s') (free_place (s.config).max_publishers s.publisher_places) _ _ h (λ _ h. subst StaysOpen (sym h.0) k) (λ place _ h.
-      by_bool (StaysOpen s') (first_segment_fits s.config given) _ _ h (λ _ h. make refusal place h) (λ _ h. subst StaysOpen (sym h.0) k)))
+      by_bool (StaysOpen s') (first_segment_fits s.config given) _ _ h (λ _ h. make refusal settings place h) (λ _ h. subst StaysOpen (sym h.0) k)))
     where
-      new : (place : ℕ) → StaysOpen (with_new_publisher s given place)
-      new place = record {
+      new : (place : ℕ) → AreIndependentSettings s.config given → StaysOpen (with_new_publisher s given place)
+      new place settings = record {
         publishers = put_independent s.config s.publishers s.next_port (new_publisher s given place) k.publishers (record {
           static = settings.static;
-          slots = made_independent s.config given settings.no_override;
+          slots = settings.slots;
           unblocked = refl;
           never_waits = settings.never_waits;
         });
         all_open = each_open s (λ r y. record y { is_due = true }) (λ r y. refl) k.all_open;
       }
 
-      make : (refusal : Option PublisherCreateError) (place : ℕ) → MakePublisher ample_memory s given place s' refusal → StaysOpen s'
-      make None place h = subst StaysOpen (sym h.3) (warning_open h.0 _ h.1 (update_publisher_open (with_new_publisher s given place) h.0 s.next_port h.1 h.2 (new place)))
-      make (Some e) place h = absurd h.0
+      make : (refusal : Option PublisherCreateError) → (refusal ≡ None → AreIndependentSettings s.config given) → (place : ℕ)
+          → MakePublisher ample_memory s given place s' refusal → StaysOpen s'
+      make None settings place h = subst StaysOpen (sym h.3) (warning_open h.0 _ h.1 (update_publisher_open (with_new_publisher s given place) h.0 s.next_port h.1 h.2 (new place (settings refl))))
+      make (Some e) settings place h = absurd h.0
 
   -- a subscriber that is made or refused
   pub create_subscriber_open : (s s' : State T U) (given : SubscriberSettings) (refusal : Option SubscriberCreateError)

@@ -38,7 +38,7 @@ below_limit checks_length x len h =
     at false false e h = leb-false x.max_loaned_samples (length x.loans) e
 
 module _ {T U : Type 0} where
-  -- a independent publisher below its limit isn't full
+  -- an independent publisher below its limit isn't full
   not_full : (s : State T U) → IsWellFormed s → (p : ℕ) (x : Publisher) → s.publishers p ≡ Some x → IsIndependentPublisher s.config x
       → length x.loans < x.max_loaned_samples → eqb (size (held s p x)) x.slots ≡ false
   not_full s w p x e independent low =

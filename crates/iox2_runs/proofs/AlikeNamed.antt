@@ -156,6 +156,17 @@ sample_apart_in q boxes (Some (Subscriber_handle r)) sample h e = absurd (none-s
 sample_apart_in q boxes (Some (Loan_handle n)) sample h e = absurd (none-some sample e)
 sample_apart_in q boxes (Some (Blocked_handle p n)) sample h e = absurd (none-some sample e)
 
+-- where no sample of q is named, and q's alone may be, none is
+no_sample_in : (q : ℕ) (boxes : ℕ → ℕ → Mailbox) (o : Option Handle) → ((p r n : ℕ) → o ≡ Some (Sample_handle p r n) → r ≡ q) → names_sample q o ≡ false
+    → sample_in boxes o ≡ None
+no_sample_in q boxes (Some (Sample_handle p r n)) own h = absurd (eqb-false r q h (own p r n refl))
+no_sample_in q boxes None own h = refl
+no_sample_in q boxes (Some No_handle) own h = refl
+no_sample_in q boxes (Some (Publisher_handle p)) own h = refl
+no_sample_in q boxes (Some (Subscriber_handle r)) own h = refl
+no_sample_in q boxes (Some (Loan_handle n)) own h = refl
+no_sample_in q boxes (Some (Blocked_handle p n)) own h = refl
+
 -- ---- positions in one state
 
 module _ {T U : Type 0} (q : ℕ) (s : State T U) (handles : List Handle) (of : ℕ) where
@@ -174,6 +185,10 @@ module _ {T U : Type 0} (q : ℕ) (s : State T U) (handles : List Handle) (of : 
   -- a sample that is named where none of q is, is another's
   pub sample_apart : (sample : ℕ × ℕ × ℕ) → names_sample q (slice_get handles of) ≡ false → sample_at s handles of ≡ Some sample → eqb q sample.1 ≡ false
   sample_apart sample h e = sample_apart_in q s.mailboxes (slice_get handles of) sample h e
+
+  -- where no sample of q is named, and q's alone may be, none is
+  pub no_sample_at : ((p r n : ℕ) → slice_get handles of ≡ Some (Sample_handle p r n) → r ≡ q) → names_sample q (slice_get handles of) ≡ false → sample_at s handles of ≡ None
+  no_sample_at own h = no_sample_in q s.mailboxes (slice_get handles of) own h
 
   -- the subscriber q, where its handle is
   pub own_at : slice_get handles of ≡ Some (Subscriber_handle q)

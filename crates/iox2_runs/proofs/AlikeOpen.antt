@@ -1,9 +1,11 @@
 -- One command keeps publishers independent and subscribers open.
-use Rattle.std.proofs.Common.{◌≡◌, ℕ, Bool, true, false, cond, ◌&&◌, List, refl, sym, ap, subst, ◌∙◌, Option, None, Some, is_none}
+use Rattle.std.proofs.Common.{◌≡◌, ℕ, Bool, true, false, cond, ◌&&◌, List, refl, sym, ap, subst, ◌∙◌, Option, None, Some, is_none, eqb}
 use Rattle.std.specs.Prelude.{slice_get, not}
 use Rattle.std.specs.Option.{MatchOption, option_map}
-use Rattle.std.proofs.lemmas.Bool.{true≢false}
-use Rattle.iox2_store.specs.Records.{Entry, Publisher, Handler, Fixed}
+use Rattle.std.proofs.lemmas.Bool.{eqb-true, true≢false}
+use Rattle.iox2_store.specs.Limits.{worst_case}
+use Rattle.iox2_store.specs.Ports.{slots_for}
+use Rattle.iox2_store.specs.Records.{Entry, Publisher, PublisherSettings, Handler, Fixed}
 use Rattle.iox2_store.specs.State.{State, Messages}
 use Rattle.iox2_store.specs.Loans.{GrantLoan, is_static, is_initialized, initialized}
 use Rattle.iox2_store.specs.Sends.{SendResult, Delivered_to, Blocked_send, Send_error}
@@ -25,28 +27,27 @@ use Rattle.iox2_runs.specs.Outcomes.{Handle, Outcome, replied, done, skipped}
 use Rattle.iox2_runs.specs.Step.{Step, after_publisher, after_subscriber, after_loan, after_send, after_receive, after_update, after_question, publisher_settings, unblocked_at, subscriber_at, loan_at, unwritten_at, written_at, with_cell_at, sendable_at, blocked_at, sample_at, if_single_units, if_fixed_size, if_dynamic}
 use Rattle.iox2_runs.specs.declared.command.Command.{Command}
 use Rattle.iox2_runs.specs.declared.command.Command.TheVariants.{Nothing, CreatePublisher as PublisherCommand, CreateSubscriber as SubscriberCommand, LoanUninit, Loan as LoanDefault, LoanSlice, WriteCell, WriteAll, AssumeInit, WriteHeader, SetPayload, Send as SendLoan, SendCopy, Discard, Retry, GiveUp, Update, Receive, HasSamples, Read, ReadHeader, ReadUserHeader, Release, Close}
-use Rattle.iox2_runs.specs.declared.reply.Reply.TheVariants.{Unwritten}
+use Rattle.iox2_runs.specs.declared.reply.Reply.TheVariants.{PublisherMade, Unwritten}
 use Rattle.iox2_runs.proofs.AlikeNamed.{subscriber_handle_at}
 use Rattle.iox2_runs.proofs.AlikeIndependent.{StaysOpen, AreIndependentSettings, update_publisher_open, update_subscriber_open, receive_open, released_open, with_loan_open, grant_loan_open, grant_written_loan_open, loan_discarded_open, send_open, create_publisher_open, create_subscriber_open, publisher_closed_open}
 use Rattle.iox2_runs.proofs.AlikeSteps.{open_of, none_blocked}
 
--- what a command says of a independent publisher
+-- what a command says of an independent publisher
 independent_settings : (c : ServiceConfig) (loans : ℕ) (strategy : BackpressureStrategy) (allocation : AllocationStrategy) (len : ℕ) (override_slots : Option ℕ) (degradation : DegradationAction) (backpressure : Option BackpressureAction)
-    → (is_static allocation && is_none override_slots && never_waits c strategy (not (is_none backpressure))) ≡ true
+    → (is_static allocation
+    && eqb (slots_for c (publisher_settings c.variant loans strategy allocation len override_slots degradation backpressure)) (worst_case c loans)
+    && never_waits c strategy (not (is_none backpressure))) ≡ true
     → AreIndependentSettings c (publisher_settings c.variant loans strategy allocation len override_slots degradation backpressure)
 independent_settings c loans strategy allocation len override_slots degradation backpressure h =
-    let parts : (is_static allocation ≡ true) × (is_none override_slots ≡ true) × (never_waits c strategy (not (is_none backpressure)) ≡ true) = three _ _ _ h in
-    record { static = parts.0; no_override = nothing override_slots parts.1; never_waits = handler backpressure parts.2 }
+    let given : PublisherSettings = publisher_settings c.variant loans strategy allocation len override_slots degradation backpressure in
+    let parts : (is_static allocation ≡ true) × (eqb (slots_for c given) (worst_case c loans) ≡ true) × (never_waits c strategy (not (is_none backpressure)) ≡ true) = three _ _ _ h in
+    record { static = parts.0; slots = eqb-true (slots_for c given) (worst_case c loans) parts.1; never_waits = handler backpressure parts.2 }
   where
     three : (x y z : Bool) → (x && y && z) ≡ true → (x ≡ true) × (y ≡ true) × (z ≡ true)
     three true true true h = (refl, refl, refl)
     three true true false h = absurd (true≢false (sym h))
     three true false z h = absurd (true≢false (sym h))
     three false y z h = absurd (true≢false (sym h))
-
-    nothing : (o : Option ℕ) → is_none o ≡ true → o ≡ None
-    nothing None h = refl
-    nothing (Some x) h = absurd (true≢false (sym h))
 
     handler : (o : Option BackpressureAction) → never_waits c strategy (not (is_none o)) ≡ true
         → never_waits c strategy (not (is_none (option_map {U = Handler BackpressureAction} (λ action. Fixed action) o))) ≡ true
@@ -113,11 +114,14 @@ module _ {T U : Type 0} where
         by o _ k.0 k.3 (state_loan k.0 s.next_message k.1) (grant_loan_open default_header checks_length len s k.0 publisher.0 k.1 k.2 kept))
 
     -- The state after a command is independent, its well-formedness apart.
-    pub step_open : (command : Command T U) (o : Outcome T U) → makes_independent_publisher s.config command ≡ true → ClosesNoSubscriber handles command
-        → Steps command o → StaysOpen o.state
+    pub step_open : (command : Command T U) (o : Outcome T U) → ((p : ℕ) → o.reply ≡ PublisherMade p → makes_independent_publisher s.config command ≡ true)
+        → ClosesNoSubscriber handles command → Steps command o → StaysOpen o.state
     step_open Nothing o makes closes h = by o (done s) s h refl kept
     step_open (PublisherCommand loans strategy allocation len override_slots degradation backpressure) o makes closes h =
-        by o _ h.0 h.3 (state_publisher h.0 s.next_port h.1) (create_publisher_open s h.0 _ h.1 (independent_settings s.config loans strategy allocation len override_slots degradation backpressure makes) h.2 kept)
+        by o _ h.0 h.3 (state_publisher h.0 s.next_port h.1) (create_publisher_open s h.0 _ h.1
+        (λ e. independent_settings s.config loans strategy allocation len override_slots degradation backpressure
+        (makes s.next_port (ap (λ (v : Outcome T U). v.reply) h.3 ∙ ap (λ (v : Option PublisherCreateError). (after_publisher h.0 s.next_port v).reply) e)))
+        h.2 kept)
     step_open (SubscriberCommand buffer degradation) o makes closes h =
         by o _ h.0 h.3 (state_subscriber h.0 s.next_port h.1) (create_subscriber_open s h.0 _ h.1 h.2 kept)
     step_open (LoanUninit of) o makes closes h = loan_open false 1 (if_fixed_size s (unblocked_at s handles of)) o h

@@ -2,6 +2,7 @@
 use Rattle.std.proofs.Common.{◌≡◌, ℕ, Bool, true, false, cond, List, refl, sym, ap, subst, ◌∙◌, Option, None, Some}
 use Rattle.std.specs.Prelude.{slice_get, map}
 use Rattle.std.specs.Option.{MatchOption, option_and_then, option_map}
+use Rattle.std.proofs.lemmas.Bool.{eqb-true, true≢false}
 use Rattle.std.proofs.lemmas.Option.{none-some, same_Some}
 use Rattle.iox2_store.specs.Limits.{buffer_limit}
 use Rattle.iox2_store.specs.Numbers.{put_at}
@@ -22,12 +23,12 @@ use Rattle.iox2_store.specs.declared.errors.SubscriberCreateError.{SubscriberCre
 use Rattle.iox2_laws.proofs.Cases.{by_option, by_options}
 use Rattle.iox2_runs.specs.Runs.{ample_memory}
 use Rattle.iox2_runs.specs.Views.{seen_handle}
-use Rattle.iox2_runs.specs.Isolation.{IsIndependent, IsIndependentPublisher, ClosesNoSubscriber}
+use Rattle.iox2_runs.specs.Isolation.{IsIndependent, IsIndependentPublisher, ClosesNoSubscriber, reads_at}
 use Rattle.iox2_runs.specs.Outcomes.{Handle, Publisher_handle, Subscriber_handle, Loan_handle, Sample_handle, Outcome, replied, done, skipped}
 use Rattle.iox2_runs.specs.Step.{Step, after_publisher, after_subscriber, after_loan, after_send, after_receive, after_update, publisher_settings, unblocked_at, subscriber_at, loan_at, unwritten_at, written_at, with_cell_at, sendable_at, blocked_at, sample_at, if_single_units, if_fixed_size, if_dynamic}
 use Rattle.iox2_runs.specs.declared.command.Command.{Command}
 use Rattle.iox2_runs.specs.declared.command.Command.TheVariants.{Nothing, CreatePublisher as PublisherCommand, CreateSubscriber as SubscriberCommand, LoanUninit, Loan as LoanDefault, LoanSlice, WriteCell, WriteAll, AssumeInit, WriteHeader, SetPayload, Send as SendLoan, SendCopy, Discard, Retry, GiveUp, Update, Receive, HasSamples, Read, ReadHeader, ReadUserHeader, Release, Close}
-use Rattle.iox2_runs.specs.declared.reply.Reply.TheVariants.{Unwritten, SendRefused}
+use Rattle.iox2_runs.specs.declared.reply.Reply.TheVariants.{Unwritten, SendRefused, Cell, Header, UserHeader}
 use Rattle.iox2_runs.proofs.Named.{blocked_is, kept_if, in_single_units}
 use Rattle.iox2_runs.proofs.AlikeViews.{View, view_of}
 use Rattle.iox2_runs.proofs.AlikeUpdates.{update_publisher_alike}
@@ -35,7 +36,7 @@ use Rattle.iox2_runs.proofs.AlikeReceives.{IsAlike, alike_equal, alike_sym, alik
 use Rattle.iox2_runs.proofs.AlikeSends.{send_alike, loan_discarded_alike}
 use Rattle.iox2_runs.proofs.AlikeLoans.{grant_loan_alike, grant_written_loan_alike}
 use Rattle.iox2_runs.proofs.AlikePorts.{create_publisher_alike, create_subscriber_alike, publisher_closed_alike, released_alike}
-use Rattle.iox2_runs.proofs.AlikeNamed.{names_subscriber, names_sample, is_subscriber, is_sample, seen_subscriber, same_sample, subscriber_handle_at, own_at, own_sample_at, looked_up, names_subscriber_same, names_sample_same, unblocked_at_same, loan_at_same, unwritten_at_same, written_at_same, sendable_at_same, single_same, fixed_size_same, dynamic_same}
+use Rattle.iox2_runs.proofs.AlikeNamed.{names_subscriber, names_sample, is_subscriber, is_sample, seen_subscriber, same_sample, subscriber_handle_at, own_at, own_sample_at, no_sample_at, looked_up, names_subscriber_same, names_sample_same, unblocked_at_same, loan_at_same, unwritten_at_same, written_at_same, sendable_at_same, single_same, fixed_size_same, dynamic_same}
 use Rattle.iox2_runs.proofs.AlikeIndependent.{StaysOpen, grant_written_loan_open}
 use Rattle.iox2_store.specs.Receives.{Receive as Receives}
 use Rattle.iox2_runs.proofs.ApartCalls.{read_quiet, read_header_quiet, read_user_header_quiet, receive_of_other, question_of_other, update_of_other, release_of_other}
@@ -47,11 +48,11 @@ own_id q None named e = absurd (none-some named e)
 own_id q (Some y) named e = sym (ap (λ (n : ℕ × Subscriber). n.0) (same_Some (q, y) named (kept_if y.is_open (Some (q, y)) named e)))
 
 module _ {T U : Type 0} where
-  -- a independent state's parts
+  -- an independent state's parts
   pub open_of : (s : State T U) → IsIndependent s → StaysOpen s
   open_of s k = record { publishers = k.publishers; all_open = k.all_open }
 
-  -- in a independent state no send is blocked
+  -- in an independent state no send is blocked
   pub none_blocked : (s : State T U) (handles : List Handle) (of : ℕ) (named : ℕ × BlockedSend) → IsIndependent s → blocked_at s handles of ≡ Some named → ⊥
   none_blocked s handles of named k e =
       let is : (x : Publisher) × (s.publishers named.0 ≡ Some x) × (x.blocked ≡ Some named.1) = blocked_is s handles of named e in
@@ -173,18 +174,22 @@ module _ {T U : Type 0} where
           update_subscriber_alike q a b h.0 k.0 h.1 k.1 e (subst (λ i. UpdateSubscriber ample_memory a i h.0 h.1) is h.2) (subst (λ i. UpdateSubscriber ample_memory b i k.0 k.1) is k.2) in
           alike_equal q o _ o' _ h.3 k.3 (after_update_alike q h.0 k.0 h.1 k.1 updated.0)
 
-      release_own : (of : ℕ) (o o' : Outcome T U) → names_sample q (slice_get handles of) ≡ true → StepA (Release of) o → StepB (Release of) o' → IsAlike q o o'
-      release_own of o o' t h k =
+      -- a sample of q is the same in both, where its handle is
+      own_sample_same : (of : ℕ) → names_sample q (slice_get handles of) ≡ true → sample_at a handles of ≡ sample_at b handles' of
+      own_sample_same of t =
           let here : (p : ℕ) × (n : ℕ) × (slice_get handles of ≡ Some (Sample_handle p q n)) = is_sample q (slice_get handles of) t in
           let there : (p : ℕ) × (n : ℕ) × (slice_get handles' of ≡ Some (Sample_handle p q n)) =
           is_sample q (slice_get handles' of) (sym (names_sample_same q a b handles handles' e same of) ∙ t) in
           let numbers : (here.0 ≡ there.0) × (here.1 ≡ there.1) = same_sample q here.0 there.0 here.1 there.1
           (ap (option_map (seen_handle q)) (sym here.2) ∙ looked_up q a b handles handles' e same of ∙ ap (option_map (seen_handle q)) there.2) in
-          let named : sample_at a handles of ≡ sample_at b handles' of =
           own_sample_at q a handles of here.0 here.1 here.2
           ∙ (λ i. cond (is_borrowed (numbers.1 i) ((e i).mailboxes (numbers.0 i))) (Some (numbers.0 i, q, numbers.1 i)) None)
-          ∙ sym (own_sample_at q b handles' of there.0 there.1 there.2) in
-          live o o' (sample_at a handles of) (sample_at b handles' of) _ _ named h k (λ sample f j l.
+          ∙ sym (own_sample_at q b handles' of there.0 there.1 there.2)
+
+      release_own : (of : ℕ) (o o' : Outcome T U) → names_sample q (slice_get handles of) ≡ true → StepA (Release of) o → StepB (Release of) o' → IsAlike q o o'
+      release_own of o o' t h k =
+          let here : (p : ℕ) × (n : ℕ) × (slice_get handles of ≡ Some (Sample_handle p q n)) = is_sample q (slice_get handles of) t in
+          live o o' (sample_at a handles of) (sample_at b handles' of) _ _ (own_sample_same of t) h k (λ sample f j l.
           let is : sample.1 ≡ q = sym (ap (λ (s : ℕ × ℕ × ℕ). s.1)
           (same_Some (here.0, q, here.1) sample (kept_if (is_borrowed here.1 (a.mailboxes here.0 q)) (Some (here.0, q, here.1)) sample (sym (own_sample_at q a handles of here.0 here.1 here.2) ∙ f)))) in
           alike_equal q o _ o' _
@@ -307,3 +312,55 @@ module _ {T U : Type 0} where
           (looked_up q a b handles handles' e same of ∙ ap (option_map (seen_handle q)) (subscriber_handle_at q b handles' of named f))))))
           (λ named f _. absurd (closes of named.0 refl (subscriber_handle_at q a handles of named f))))
           (λ publisher _ j l. alike_equal q o _ o' _ j l (done_alike _ _ (publisher_closed_alike q a b publisher.0 publisher.1 e)))
+
+      -- ---- reads
+
+      -- All samples that are named there are of the subscriber itself.
+      abbrev pub NamesOwn : List Handle → (of : ℕ) → Type 0
+      NamesOwn named of = (p r n : ℕ) → slice_get named of ≡ Some (Sample_handle p r n) → r ≡ q
+
+      -- the sample is the same in both
+      sample_same : (of : ℕ) → NamesOwn handles of → NamesOwn handles' of → sample_at a handles of ≡ sample_at b handles' of
+      sample_same of own own' =
+          by_sample of (sample_at a handles of ≡ sample_at b handles' of)
+          (own_sample_same of)
+          (λ f g. no_sample_at q a handles of own f ∙ sym (no_sample_at q b handles' of own' g))
+
+      reply_of : (o o' x x' : Outcome T U) → o ≡ x → o' ≡ x' → x.reply ≡ x'.reply → o.reply ≡ o'.reply
+      reply_of o o' x x' h k f = ap (λ (v : Outcome T U). v.reply) h ∙ f ∙ sym (ap (λ (v : Outcome T U). v.reply) k)
+
+      -- A read where the subscriber's own samples alone are named replies the same in both.
+      pub read_same : (of : ℕ) (command : Command T U) (o o' : Outcome T U) → m ≡ m' → NamesOwn handles of → NamesOwn handles' of → reads_at of command ≡ true
+          → StepA command o → StepB command o' → o.reply ≡ o'.reply
+      read_same of (Read named at) o o' f own own' t h k =
+          let is : named ≡ of = eqb-true named of t in
+          by_options (o.reply ≡ o'.reply) (sample_at a handles named) (sample_at b handles' named) _ _ _ _
+          (subst (λ i. sample_at a handles i ≡ sample_at b handles' i) (sym is) (sample_same of own own')) h k
+          (λ _ j l. by_options (o.reply ≡ o'.reply) (with_cell_at at (loan_at a handles named)) (with_cell_at at (loan_at b handles' named)) _ _ _ _
+          (ap (with_cell_at at) (loan_at_same q a b handles handles' e same named)) j l
+          (λ _ x y. reply_of o o' (skipped a) (skipped b) x y refl)
+          (λ loan _ x y. by_options (o.reply ≡ o'.reply) (slice_get (loan.1).cells at) (slice_get (loan.1).cells at) _ _ _ _ refl x y (λ _ v _. absurd v)
+          (λ cell _ v w. reply_of o o' (replied (Cell cell) a) (replied (Cell cell) b) v w refl)))
+          (λ sample _ j l. by_options (o.reply ≡ o'.reply) (m sample.2) (m' sample.2) _ _ _ _ (ap (λ (h : Messages T U). h sample.2) f) j l (λ _ v _. absurd v)
+          (λ entry _ x y. by_options (o.reply ≡ o'.reply) (slice_get entry.values at) (slice_get entry.values at) _ _ _ _ refl x y
+          (λ _ v w. reply_of o o' (skipped a) (skipped b) v w refl)
+          (λ value _ v w. reply_of o o' (replied (Cell (Some value)) a) (replied (Cell (Some value)) b) v w refl)))
+      read_same of (ReadHeader named) o o' f own own' t h k =
+          let is : named ≡ of = eqb-true named of t in
+          by_options (o.reply ≡ o'.reply) (sample_at a handles named) (sample_at b handles' named) _ _ _ _
+          (subst (λ i. sample_at a handles i ≡ sample_at b handles' i) (sym is) (sample_same of own own')) h k
+          (λ _ j l. by_options (o.reply ≡ o'.reply) (loan_at a handles named) (loan_at b handles' named) _ _ _ _ (loan_at_same q a b handles handles' e same named) j l
+          (λ _ x y. reply_of o o' (skipped a) (skipped b) x y refl)
+          (λ loan _ x y. reply_of o o' (replied (Header (loan.1).header) a) (replied (Header (loan.1).header) b) x y refl))
+          (λ sample _ j l. by_options (o.reply ≡ o'.reply) (m sample.2) (m' sample.2) _ _ _ _ (ap (λ (h : Messages T U). h sample.2) f) j l (λ _ v _. absurd v)
+          (λ entry _ x y. reply_of o o' (replied (Header entry.header) a) (replied (Header entry.header) b) x y refl))
+      read_same of (ReadUserHeader named) o o' f own own' t h k =
+          let is : named ≡ of = eqb-true named of t in
+          by_options (o.reply ≡ o'.reply) (sample_at a handles named) (sample_at b handles' named) _ _ _ _
+          (subst (λ i. sample_at a handles i ≡ sample_at b handles' i) (sym is) (sample_same of own own')) h k
+          (λ _ j l. by_options (o.reply ≡ o'.reply) (loan_at a handles named) (loan_at b handles' named) _ _ _ _ (loan_at_same q a b handles handles' e same named) j l
+          (λ _ x y. reply_of o o' (skipped a) (skipped b) x y refl)
+          (λ loan _ x y. reply_of o o' (replied (UserHeader (loan.1).user_header) a) (replied (UserHeader (loan.1).user_header) b) x y refl))
+          (λ sample _ j l. by_options (o.reply ≡ o'.reply) (m sample.2) (m' sample.2) _ _ _ _ (ap (λ (h : Messages T U). h sample.2) f) j l (λ _ v _. absurd v)
+          (λ entry _ x y. reply_of o o' (replied (UserHeader entry.user_header) a) (replied (UserHeader entry.user_header) b) x y refl))
+      read_same of _ o o' f own own' t h k = absurd (true≢false (sym t))

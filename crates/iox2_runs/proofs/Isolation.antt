@@ -1,33 +1,34 @@
 -- A slow subscriber isn't felt by another.
-use Rattle.std.proofs.Common.{◌≡◌, ◌⊎◌, inl, ⊎_elim, ℕ, zero, suc, ◌+◌, ◌≤◌, Bool, true, false, not, ◌&&◌, List, [], ◌∷◌, ◌++◌, length, refl, sym, ap, subst, ◌∙◌, arith, Option, None, Some}
+use Rattle.std.proofs.Common.{◌≡◌, ◌⊎◌, inl, ⊎_elim, ℕ, zero, suc, ◌+◌, ◌≤◌, true, false, List, [], ◌∷◌, ◌++◌, length, refl, sym, ap, subst, ◌∙◌, arith, Option, None, Some}
 use Rattle.std.specs.Prelude.{slice_get, map}
-use Rattle.std.specs.List.{list_all}
+use Rattle.std.specs.Option.{option_map}
 use Rattle.std.proofs.Math.Path.{fun_ext}
 use Rattle.std.proofs.lemmas.Bool.{true≢false}
 use Rattle.std.proofs.lemmas.Option.{none-some, same_Some}
-use Rattle.std.proofs.lemmas.List.{map-append, length-append}
+use Rattle.std.proofs.lemmas.List.{map-append, length-append, length-map}
 use Rattle.iox2_store.specs.Records.{Environment, Subscriber}
 use Rattle.iox2_store.specs.State.{State, Messages, fresh, no_messages}
 use Rattle.iox2_store.specs.WellFormed.{IsWellFormed}
 use Rattle.iox2_store.specs.declared.service_config.ServiceConfig.{ServiceConfig}
 use Rattle.iox2_laws.proofs.Enough.{fresh_is_well_formed}
-use Rattle.iox2_runs.specs.Outcomes.{Handle, Event, No_event, Message_sent, Message_received, Outcome, done, messages_after}
+use Rattle.iox2_runs.specs.Outcomes.{Handle, Subscriber_handle, Sample_handle, Event, No_event, Message_sent, Message_received, Outcome, done, messages_after}
 use Rattle.iox2_runs.specs.Step.{Step}
 use Rattle.iox2_runs.specs.Runs.{RunTo, ample_memory, Defaults, only_defaults, RunFrom}
 use Rattle.iox2_runs.specs.Views.{PublicPart, public_part, seen_handle, SameView, may_be_omitted, OmitsOthersFrom}
-use Rattle.iox2_runs.specs.Isolation.{IsIndependent, makes_independent_publisher, closes_no_subscriber, makes_subscriber, are_independent, is_of_others, subscriber_call, SameViewAfter, ClosesNoSubscriber, OthersAreUnseen, StepsLookAlike, SubscribersAreIsolated, IsIndependentPublisher}
+use Rattle.iox2_runs.specs.Isolation.{IsIndependent, makes_independent_publisher, AreIndependent, is_of_others, subscriber_call, SameViewAfter, ClosesNoSubscriber, OthersAreUnseen, StepsLookAlike, SubscribersAreIsolated, IsIndependentPublisher, reads_at}
 use Rattle.iox2_runs.specs.declared.command.Command.{Command}
-use Rattle.iox2_runs.specs.declared.command.Command.TheVariants.{Nothing, Receive, HasSamples, Update, Release, Read, ReadHeader, ReadUserHeader}
+use Rattle.iox2_runs.specs.declared.command.Command.TheVariants.{Nothing, Receive, HasSamples, Update, Release, Read, ReadHeader, ReadUserHeader, Close}
 use Rattle.iox2_runs.specs.declared.reply.Reply.{Reply}
-use Rattle.iox2_runs.specs.declared.reply.Reply.TheVariants.{SubscriberMade}
+use Rattle.iox2_runs.specs.declared.reply.Reply.TheVariants.{PublisherMade, SubscriberMade}
 use Rattle.iox2_runs.proofs.StepLaws.{IsSound, step_sound}
 use Rattle.iox2_runs.proofs.AlikeViews.{View, view_of}
 use Rattle.iox2_runs.proofs.AlikeReceives.{sent_part, IsAlike, alike_equal, alike_sym, alike_trans}
 use Rattle.iox2_runs.proofs.AlikeIndependent.{StaysOpen}
-use Rattle.iox2_runs.proofs.AlikeSteps.{step_alike}
+use Rattle.iox2_runs.proofs.AlikeSteps.{step_alike, read_same}
 use Rattle.iox2_runs.proofs.AlikeOpen.{step_open}
 use Rattle.iox2_runs.proofs.AlikeHandles.{Fits, step_fits}
-use Rattle.iox2_runs.proofs.AlikePositions.{HandlesFit, none_fit, more_fit, told, Awaits, awaits_more, awaits_apart}
+use Rattle.iox2_runs.proofs.AlikePositions.{HandlesFit, none_fit, more_fit, told, Awaits, awaits_more, awaits_apart, MadeAt, made_more, ReceivesOwn, received_more, receive_kept, read_kept}
+use Rattle.iox2_runs.proofs.AlikeNamed.{seen_subscriber, looked_up}
 use Rattle.iox2_runs.proofs.ApartCalls.{others_alike}
 
 -- ---- views
@@ -84,7 +85,7 @@ module _ {T U : Type 0} (q : ℕ) where
       same_view (messages_after o.event m) (messages_after o'.event m') o.state o'.state (named ++ o.handle ∷ []) (named' ++ o'.handle ∷ []) a.state
       (messages_alike o o' m m' a e) (handles_alike q o.handle o'.handle named named' f a.handle)
 
-  -- a state with the view of a independent one is so too, its well-formedness apart
+  -- a state with the view of an independent one is so too, its well-formedness apart
   open_seen : (a b : State T U) → view_of q a ≡ view_of q b → StaysOpen a → StaysOpen b
   open_seen a b e k = record {
     publishers = λ p x f. subst (λ (v : View T U). (p : ℕ) (x : _) → v.publishers p ≡ Some x → IsIndependentPublisher v.config x) e k.publishers p x f;
@@ -247,17 +248,6 @@ module _ {T U : Type 0} (default_value : T) (default_header : U) where
 
 -- ---- lists of commands
 
-both : (x y : Bool) → (x && y) ≡ true → (x ≡ true) × (y ≡ true)
-both true true h = (refl, refl)
-both true false h = absurd (true≢false (sym h))
-both false y h = absurd (true≢false (sym h))
-
--- what holds of each element holds of one
-all_at : {X : Type 0} (test : X → Bool) (xs : List X) (i : ℕ) (x : X) → list_all test xs ≡ true → slice_get xs i ≡ Some x → test x ≡ true
-all_at test [] i x h e = absurd (none-some x e)
-all_at test (y ∷ ys) zero x h e = ap test (sym (same_Some y x e)) ∙ (both (test y) (list_all test ys) h).0
-all_at test (y ∷ ys) (suc i) x h e = all_at test ys i x (both (test y) (list_all test ys) h).1 e
-
 -- the beginning of a list
 front : {X : Type 0} (xs ys : List X) (i : ℕ) (x : X) → slice_get xs i ≡ Some x → slice_get (xs ++ ys) i ≡ Some x
 front [] ys i x e = absurd (none-some x e)
@@ -266,33 +256,34 @@ front (y ∷ xs) ys (suc i) x e = front xs ys i x e
 
 module _ {T U : Type 0} where
   -- a command that may be left out is a call of others
-  left_out : (position q : ℕ) (whole : List (Command T U)) (handles : List Handle) (command : Command T U) → HandlesFit position q whole handles
+  left_out : (position q : ℕ) (whole : List (Command T U)) (replies : List (Reply T U)) (handles : List Handle) (command : Command T U) → HandlesFit position q whole replies handles
       → may_be_omitted position whole command ≡ true
       → (of : ℕ) × (subscriber_call command ≡ Some of) × (is_of_others q (slice_get handles of) ≡ true)
-  left_out position q whole handles (Receive of) fit h = (of, refl, fit.others of h)
-  left_out position q whole handles (HasSamples of) fit h = (of, refl, fit.others of h)
-  left_out position q whole handles (Update of) fit h = (of, refl, fit.others of h)
-  left_out position q whole handles (Release of) fit h = (of, refl, fit.samples of h)
-  left_out position q whole handles (Read of at) fit h = (of, refl, fit.samples of h)
-  left_out position q whole handles (ReadHeader of) fit h = (of, refl, fit.samples of h)
-  left_out position q whole handles (ReadUserHeader of) fit h = (of, refl, fit.samples of h)
-  left_out position q whole handles _ fit h = absurd (true≢false (sym h))
-
-  -- a command that closes no subscriber of the list closes none that a handle names
-  closes_none : (position q : ℕ) (whole : List (Command T U)) (handles : List Handle) (command : Command T U) → HandlesFit position q whole handles
-      → closes_no_subscriber whole command ≡ true → ClosesNoSubscriber handles command
-  closes_none position q whole handles command fit h of r e f =
-      let here : not (makes_subscriber whole of) ≡ true = subst (λ (v : Command T U). closes_no_subscriber whole v ≡ true) e h in
-      true≢false (sym here ∙ ap not (fit.subscribers of r f))
+  left_out position q whole replies handles (Receive of) fit h = (of, refl, fit.others of h)
+  left_out position q whole replies handles (HasSamples of) fit h = (of, refl, fit.others of h)
+  left_out position q whole replies handles (Update of) fit h = (of, refl, fit.others of h)
+  left_out position q whole replies handles (Release of) fit h = (of, refl, fit.samples of h)
+  left_out position q whole replies handles (Read of at) fit h = (of, refl, fit.samples of h)
+  left_out position q whole replies handles (ReadHeader of) fit h = (of, refl, fit.samples of h)
+  left_out position q whole replies handles (ReadUserHeader of) fit h = (of, refl, fit.samples of h)
+  left_out position q whole replies handles _ fit h = absurd (true≢false (sym h))
 
 -- ---- two runs
 
-module _ {T U : Type 0} (default_value : T) (default_header : U) (c : ServiceConfig) (position q : ℕ) (whole : List (Command T U)) (all_independent : are_independent c whole ≡ true) where
+module _ {T U : Type 0} (default_value : T) (default_header : U) (c : ServiceConfig) (position q : ℕ) (beginning after : List (Command T U)) (all_replies : List (Reply T U)) (all_independent : AreIndependent c beginning all_replies) where
+  -- The commands and what comes after them.
+  abbrev whole : List (Command T U)
+  whole = beginning ++ after
+
   -- What holds of both runs after the same number of commands.
   pub record StandAlike (commands : List (Command T U)) (replies : List (Reply T U)) (m m' : Messages T U) (a b : State T U) (handles handles' : List Handle) : Type 0 where
-    pub comes : (i : ℕ) (command : Command T U) → slice_get commands i ≡ Some command → slice_get whole (length handles + i) ≡ Some command
-    pub fit : HandlesFit position q whole handles
+    pub comes : (i : ℕ) (command : Command T U) → slice_get commands i ≡ Some command → slice_get beginning (length handles + i) ≡ Some command
+    pub replied : (i : ℕ) (reply : Reply T U) → slice_get replies i ≡ Some reply → slice_get all_replies (length handles + i) ≡ Some reply
+    pub fit : HandlesFit position q whole all_replies handles
     pub awaits : Awaits position q (length handles) replies a.next_port
+    pub made : MadeAt position q handles
+    pub received : ReceivesOwn position q whole handles
+    pub received' : ReceivesOwn position q whole handles'
     pub config : a.config ≡ c
     pub independent : IsIndependent a
     pub independent' : IsIndependent b
@@ -309,37 +300,53 @@ module _ {T U : Type 0} (default_value : T) (default_header : U) (c : ServiceCon
       → ClosesNoSubscriber handles command
       → Step ample_memory default_value default_header m a handles command o → Step ample_memory default_value default_header m' b handles' other o'
       → (command ≡ Receive position → o.reply ≡ o'.reply) → IsAlike q o o'
-  one_alike command other commands replies m m' a b handles handles' o o' stand fewer closes h k agree =
+  one_alike command other commands replies m m' a b handles handles' o o' stand reduced closes h k agree =
       ⊎_elim
       (λ same. step_alike q default_value default_header m m' a b handles handles' stand.views stand.handles_seen stand.independent stand.independent' command o o' closes h
       (subst (λ v. Step ample_memory default_value default_header m' b handles' v o') same k)
       (λ of e f. agree (e ∙ ap (λ i. Receive i) ((stand.fit).own of f))))
       (λ out.
-      let named : (of : ℕ) × (subscriber_call command ≡ Some of) × (is_of_others q (slice_get handles of) ≡ true) = left_out position q whole handles command stand.fit out.1 in
+      let named : (of : ℕ) × (subscriber_call command ≡ Some of) × (is_of_others q (slice_get handles of) ≡ true) = left_out position q whole all_replies handles command stand.fit out.1 in
       let nothing : o' ≡ done b = subst (λ v. Step ample_memory default_value default_header m' b handles' v o') out.0 k in
       alike_trans q o (done a) o'
       (others_alike q default_value default_header m a handles command named.0 o (stand.independent).all_open named.1 named.2 h)
       (alike_equal q (done a) (done a) o' (done b) refl nothing (record { state = stand.views; event = refl; handle = refl })))
-      fewer
+      reduced
 
   -- one command later both stand alike
   later_alike : (command other : Command T U) (commands : List (Command T U)) (replies later : List (Reply T U)) (m m' : Messages T U) (a b : State T U) (handles handles' : List Handle) (o o' : Outcome T U)
-      → StandAlike (command ∷ commands) replies m m' a b handles handles' → makes_independent_publisher c command ≡ true → ClosesNoSubscriber handles command
+      → StandAlike (command ∷ commands) replies m m' a b handles handles' → ((other ≡ command) ⊎ ((other ≡ Nothing) × (may_be_omitted position whole command ≡ true)))
+      → ((p : ℕ) → o.reply ≡ PublisherMade p → makes_independent_publisher c command ≡ true) → ClosesNoSubscriber handles command
       → Step ample_memory default_value default_header m a handles command o → Step ample_memory default_value default_header m' b handles' other o'
       → replies ≡ o.reply ∷ later → ((j : ℕ) → slice_get later j ≡ Some (SubscriberMade q) → (o.state).next_port ≤ q) → IsAlike q o o'
       → StandAlike commands later (messages_after o.event m) (messages_after o'.event m') o.state o'.state (handles ++ o.handle ∷ []) (handles' ++ o'.handle ∷ [])
-  later_alike command other commands replies later m m' a b handles handles' o o' stand makes closes h k are below alike =
+  later_alike command other commands replies later m m' a b handles handles' o o' stand reduced makes closes h k are below alike =
       let sound : IsSound a o = step_sound ample_memory default_value default_header m a handles (stand.independent).well_formed command o h in
       let sound' : IsSound b o' = step_sound ample_memory default_value default_header m' b handles' (stand.independent').well_formed other o' k in
       let kept : StaysOpen o.state = step_open default_value default_header m a handles stand.independent command o
-      (subst (λ (v : ServiceConfig). makes_independent_publisher v command ≡ true) (sym stand.config) makes) closes h in
+      (λ p e. subst (λ (v : ServiceConfig). makes_independent_publisher v command ≡ true) (sym stand.config) (makes p e)) closes h in
       let fits : Fits a handles command o = step_fits default_value default_header m a handles command o h in
       let awaits : Awaits position q (length handles) (o.reply ∷ later) a.next_port = subst (λ (v : List (Reply T U)). Awaits position q (length handles) v a.next_port) are stand.awaits in
       let one_more : length (handles ++ o.handle ∷ []) ≡ length handles + 1 = length-append handles (o.handle ∷ []) in
-      let here : slice_get whole (length handles) ≡ Some command = subst (λ (n : ℕ). slice_get whole n ≡ Some command) (plus_zero (length handles)) (stand.comes 0 command refl) in
+      let here : slice_get whole (length handles) ≡ Some command =
+      front beginning after (length handles) command (subst (λ (n : ℕ). slice_get beginning n ≡ Some command) (plus_zero (length handles)) (stand.comes 0 command refl)) in
+      let replied : (i : ℕ) (reply : Reply T U) → slice_get (o.reply ∷ later) i ≡ Some reply → slice_get all_replies (length handles + i) ≡ Some reply =
+      λ i reply e. stand.replied i reply (ap (λ (v : List (Reply T U)). slice_get v i) are ∙ e) in
+      let fits' : Fits b handles' other o' = step_fits default_value default_header m' b handles' other o' k in
+      let receives : slice_get whole (length handles) ≡ Some (Receive position) → command ≡ Receive position = λ e. same_Some command (Receive position) (sym here ∙ e) in
+      let same_length : length handles' ≡ length handles = sym (length-map handles' (seen_handle q)) ∙ ap length (sym stand.handles_seen) ∙ length-map handles (seen_handle q) in
+      let made' : MadeAt position q handles' = λ r e. stand.made r
+      (seen_subscriber q r (slice_get handles position) (looked_up q a b handles handles' stand.views stand.handles_seen position ∙ ap (option_map (seen_handle q)) e)) in
       record {
-        comes = λ i next e. subst (λ (n : ℕ). slice_get whole n ≡ Some next) (shifted (length handles) (length (handles ++ o.handle ∷ [])) i one_more) (stand.comes (suc i) next e);
-        fit = more_fit position q whole a handles o command here stand.fit fits (awaits_apart position q a handles o later below awaits);
+        comes = λ i next e. subst (λ (n : ℕ). slice_get beginning n ≡ Some next) (shifted (length handles) (length (handles ++ o.handle ∷ [])) i one_more) (stand.comes (suc i) next e);
+        replied = λ i reply e. subst (λ (n : ℕ). slice_get all_replies n ≡ Some reply) (shifted (length handles) (length (handles ++ o.handle ∷ [])) i one_more) (replied (suc i) reply e);
+        fit = more_fit position q whole all_replies a handles o command here (subst (λ (n : ℕ). slice_get all_replies n ≡ Some o.reply) (plus_zero (length handles)) (replied 0 o.reply refl)) stand.fit fits (awaits_apart position q a handles o later below awaits);
+        made = made_more position q a handles command o later fits awaits stand.made;
+        received = received_more position q whole a handles command o fits receives stand.made stand.received;
+        received' = received_more position q whole b handles' other o' fits'
+            (λ e. let is : command ≡ Receive position = receives (subst (λ (n : ℕ). slice_get whole n ≡ Some (Receive position)) same_length e) in
+            ⊎_elim (λ same. same ∙ is) (λ out. absurd (receive_kept position whole command is out.1)) reduced)
+            made' stand.received';
         awaits = awaits_more position q (length handles) (length (handles ++ o.handle ∷ [])) a handles command o later one_more (sound.advances).next_port fits awaits;
         config = (sound.advances).config ∙ stand.config;
         independent = independent_of o.state sound.well_formed kept;
@@ -355,50 +362,95 @@ module _ {T U : Type 0} (default_value : T) (default_header : U) (c : ServiceCon
       shifted : (n n' i : ℕ) → n' ≡ n + 1 → n + suc i ≡ n' + i
       shifted n n' i e = omega arith
 
-  -- Both runs end alike.
+  -- a read of the subscriber's own sample replies the same in both
+  read_alike : (command other : Command T U) (commands : List (Command T U)) (replies : List (Reply T U)) (m m' : Messages T U) (a b : State T U) (handles handles' : List Handle) (o o' : Outcome T U) (of : ℕ)
+      → StandAlike (command ∷ commands) replies m m' a b handles handles' → ((other ≡ command) ⊎ ((other ≡ Nothing) × (may_be_omitted position whole command ≡ true)))
+      → Step ample_memory default_value default_header m a handles command o → Step ample_memory default_value default_header m' b handles' other o'
+      → slice_get whole of ≡ Some (Receive position) → reads_at of command ≡ true → o.reply ≡ o'.reply
+  read_alike command other commands replies m m' a b handles handles' o o' of stand reduced h k here t =
+      ⊎_elim
+      (λ same. read_same q default_value default_header m m' a b handles handles' stand.views stand.handles_seen stand.independent stand.independent' of command o o' stand.messages
+      (λ p r n e. stand.received of p r n here e) (λ p r n e. stand.received' of p r n here e) t h
+      (subst (λ v. Step ample_memory default_value default_header m' b handles' v o') same k))
+      (λ out. absurd (read_kept position of whole command here t out.1))
+      reduced
+
+  -- Both runs end alike, and reads of the subscriber's own samples get the same replies.
   runs_alike : (commands others : List (Command T U)) (replies replies' : List (Reply T U)) (events events' : List (Event T U)) (m m' n n' : Messages T U) (a b a' b' : State T U) (handles handles' ends ends' : List Handle)
       → OmitsOthersFrom position whole commands others → StandAlike commands replies m m' a b handles handles'
       → RunsTo default_value default_header m a handles commands replies events n a' ends
       → RunsTo default_value default_header m' b handles' others replies' events' n' b' ends'
       → ((i : ℕ) → slice_get commands i ≡ Some (Receive position) → slice_get replies i ≡ slice_get replies' i)
       → SameView q n a' ends n' b' ends'
-  runs_alike [] [] replies replies' events events' m m' n n' a b a' b' handles handles' ends ends' fewer stand h k agree =
+      × ((i of : ℕ) (read : Command T U) → slice_get whole of ≡ Some (Receive position)
+      → slice_get commands i ≡ Some read → reads_at of read ≡ true → slice_get replies i ≡ slice_get replies' i)
+  runs_alike [] [] replies replies' events events' m m' n n' a b a' b' handles handles' ends ends' reduced stand h k agree =
       let x : (n ≡ m) × (a' ≡ a) × (ends ≡ handles) × (replies ≡ []) = ended default_value default_header m a handles replies events n a' ends h in
-      let y : (n' ≡ m') × (b' ≡ b) × (ends' ≡ handles') × (replies' ≡ []) = ended default_value default_header m' b handles' replies' events' n' b' ends' k in
-      same_view q n n' a' b' ends ends'
-      (ap (view_of q) x.1 ∙ stand.views ∙ sym (ap (view_of q) y.1))
-      (x.0 ∙ stand.messages ∙ sym y.0)
-      (ap (map (seen_handle q)) x.2 ∙ stand.handles_seen ∙ sym (ap (map (seen_handle q)) y.2))
-  runs_alike [] (other ∷ others) replies replies' events events' m m' n n' a b a' b' handles handles' ends ends' fewer stand h k agree = absurd fewer
-  runs_alike (command ∷ commands) [] replies replies' events events' m m' n n' a b a' b' handles handles' ends ends' fewer stand h k agree = absurd fewer
-  runs_alike (command ∷ commands) (other ∷ others) replies replies' events events' m m' n n' a b a' b' handles handles' ends ends' fewer stand h k agree =
+      let y : (n' ≡ m') × (b' ≡ b) × (ends' ≡ handles') × (replies' ≡ []) = ended default_value default_header m' b handles' replies' events' n' b' ends' k in (
+        same_view q n n' a' b' ends ends'
+            (ap (view_of q) x.1 ∙ stand.views ∙ sym (ap (view_of q) y.1))
+            (x.0 ∙ stand.messages ∙ sym y.0)
+            (ap (map (seen_handle q)) x.2 ∙ stand.handles_seen ∙ sym (ap (map (seen_handle q)) y.2)),
+        λ i of read here e t. absurd (none-some read e),
+      )
+  runs_alike [] (other ∷ others) replies replies' events events' m m' n n' a b a' b' handles handles' ends ends' reduced stand h k agree = absurd reduced
+  runs_alike (command ∷ commands) [] replies replies' events events' m m' n n' a b a' b' handles handles' ends ends' reduced stand h k agree = absurd reduced
+  runs_alike (command ∷ commands) (other ∷ others) replies replies' events events' m m' n n' a b a' b' handles handles' ends ends' reduced stand h k agree =
       let x : Begun default_value default_header m a handles command commands replies n a' ends = begun default_value default_header m a handles command commands replies events n a' ends h in
       let y : Begun default_value default_header m' b handles' other others replies' n' b' ends' = begun default_value default_header m' b handles' other others replies' events' n' b' ends' k in
       let o : Outcome T U = x.outcome in
       let o' : Outcome T U = y.outcome in
       let agreed : (i : ℕ) → slice_get (command ∷ commands) i ≡ Some (Receive position) → slice_get (o.reply ∷ x.later) i ≡ slice_get (o'.reply ∷ y.later) i =
       λ i e. sym (ap (λ (v : List (Reply T U)). slice_get v i) x.replies_are) ∙ agree i e ∙ ap (λ (v : List (Reply T U)). slice_get v i) y.replies_are in
-      let good : (makes_independent_publisher c command && closes_no_subscriber whole command) ≡ true =
-      all_at (λ (v : Command T U). makes_independent_publisher c v && closes_no_subscriber whole v) whole (length handles + 0) command all_independent (stand.comes 0 command refl) in
-      let parts : (makes_independent_publisher c command ≡ true) × (closes_no_subscriber whole command ≡ true) = both (makes_independent_publisher c command) (closes_no_subscriber whole command) good in
-      let closes : ClosesNoSubscriber handles command = closes_none position q whole handles command stand.fit parts.1 in
-      let alike : IsAlike q o o' = one_alike command other commands replies m m' a b handles handles' o o' stand fewer.0 closes x.step y.step
+      let makes : (p : ℕ) → o.reply ≡ PublisherMade p → makes_independent_publisher c command ≡ true =
+      λ p e. all_independent.publishers (length handles + 0) p command (stand.comes 0 command refl)
+      (stand.replied 0 (PublisherMade p) (ap (λ (v : List (Reply T U)). slice_get v 0) x.replies_are ∙ ap Some e)) in
+      let closes : ClosesNoSubscriber handles command =
+      λ of r e f. all_independent.closes (length handles + 0) of r (stand.comes 0 (Close of) (ap Some e)) ((stand.fit).subscribers of r f) in
+      let alike : IsAlike q o o' = one_alike command other commands replies m m' a b handles handles' o o' stand reduced.0 closes x.step y.step
       (λ e. same_Some o.reply o'.reply (agreed 0 (ap Some e))) in
       let sound : IsSound a o = step_sound ample_memory default_value default_header m a handles (stand.independent).well_formed command o x.step in
       let next : StandAlike commands x.later (messages_after o.event m) (messages_after o'.event m') o.state o'.state (handles ++ o.handle ∷ []) (handles' ++ o'.handle ∷ []) =
-      later_alike command other commands replies x.later m m' a b handles handles' o o' stand parts.0 closes x.step y.step x.replies_are
+      later_alike command other commands replies x.later m m' a b handles handles' o o' stand reduced.0 makes closes x.step y.step x.replies_are
       (λ j f. made_later default_value default_header commands (messages_after o.event m) o.state (handles ++ o.handle ∷ []) x.later x.events n a' ends q j sound.well_formed x.rest f) alike in
+      let rest : SameView q n a' ends n' b' ends'
+      × ((i of : ℕ) (read : Command T U) → slice_get whole of ≡ Some (Receive position)
+      → slice_get commands i ≡ Some read → reads_at of read ≡ true → slice_get x.later i ≡ slice_get y.later i) =
       runs_alike commands others x.later y.later x.events y.events (messages_after o.event m) (messages_after o'.event m') n n' o.state o'.state a' b' (handles ++ o.handle ∷ []) (handles' ++ o'.handle ∷ []) ends ends'
-      fewer.1 next x.rest y.rest (λ i e. agreed (suc i) e)
+      reduced.1 next x.rest y.rest (λ i e. agreed (suc i) e) in
+      let told_here : (i of : ℕ) (read : Command T U) → slice_get whole of ≡ Some (Receive position)
+      → slice_get (command ∷ commands) i ≡ Some read → reads_at of read ≡ true → slice_get (o.reply ∷ x.later) i ≡ slice_get (o'.reply ∷ y.later) i =
+      both_told command commands o o' x.later y.later
+      (λ of here t. read_alike command other commands replies m m' a b handles handles' o o' of stand reduced.0 x.step y.step here t) rest.1 in (
+        rest.0,
+        λ i of read here e t. ap (λ (v : List (Reply T U)). slice_get v i) x.replies_are ∙ told_here i of read here e t ∙ sym (ap (λ (v : List (Reply T U)). slice_get v i) y.replies_are),
+      )
+    where
+      both_told : (command : Command T U) (commands : List (Command T U)) (o o' : Outcome T U) (later later' : List (Reply T U))
+          → ((of : ℕ) → slice_get whole of ≡ Some (Receive position) → reads_at of command ≡ true → o.reply ≡ o'.reply)
+          → ((i of : ℕ) (read : Command T U) → slice_get whole of ≡ Some (Receive position) → slice_get commands i ≡ Some read → reads_at of read ≡ true
+          → slice_get later i ≡ slice_get later' i)
+          → (i of : ℕ) (read : Command T U) → slice_get whole of ≡ Some (Receive position) → slice_get (command ∷ commands) i ≡ Some read → reads_at of read ≡ true
+          → slice_get (o.reply ∷ later) i ≡ slice_get (o'.reply ∷ later') i
+      both_told command commands o o' later later' first rest zero of read here e t =
+          ap Some (first of here (ap (reads_at of) (same_Some command read e) ∙ t))
+      both_told command commands o o' later later' first rest (suc i) of read here e t = rest i of read here e t
 
--- The view of a subscriber is the same after two lists of which one is fewer.
+-- The view of a subscriber is the same after a list and a reduced one, and reads of its samples reply the same.
 pub subscribers_are_isolated : {T U : Type 0} → SubscribersAreIsolated T U
-subscribers_are_isolated {T} {U} default_value default_header c position q commands fewer later replies replies' events events' m m' s s' handles handles' quiet independent h k made agree =
-    runs_alike default_value default_header c position q (commands ++ later) independent commands fewer replies replies' events events' no_messages no_messages m m' (fresh c) (fresh c) s s' [] [] handles handles' quiet
+subscribers_are_isolated {T} {U} default_value default_header c position q commands reduced later replies replies' events events' m m' s s' handles handles' quiet independent h k made agree =
+    let ends : SameView q m s handles m' s' handles'
+    × ((i of : ℕ) (read : Command T U) → slice_get (commands ++ later) of ≡ Some (Receive position)
+    → slice_get commands i ≡ Some read → reads_at of read ≡ true → slice_get replies i ≡ slice_get replies' i) =
+    runs_alike default_value default_header c position q commands later replies independent commands reduced replies replies' events events' no_messages no_messages m m' (fresh c) (fresh c) s s' [] [] handles handles' quiet
     (record {
-      comes = λ i command e. subst (λ (n : ℕ). slice_get (commands ++ later) n ≡ Some command) (zero_plus i) (front commands later i command e);
-      fit = none_fit position q (commands ++ later);
+      comes = λ i command e. subst (λ (n : ℕ). slice_get commands n ≡ Some command) (zero_plus i) e;
+      replied = λ i reply e. subst (λ (n : ℕ). slice_get replies n ≡ Some reply) (zero_plus i) e;
+      fit = none_fit position q (commands ++ later) replies;
       awaits = inl (position, zero_plus position, made);
+      made = λ r e. absurd (none-some (Subscriber_handle r) e);
+      received = λ i p r n here e. absurd (none-some (Sample_handle p r n) e);
+      received' = λ i p r n here e. absurd (none-some (Sample_handle p r n) e);
       config = refl;
       independent = new;
       independent' = new;
@@ -406,7 +458,8 @@ subscribers_are_isolated {T} {U} default_value default_header c position q comma
       messages = refl;
       handles_seen = refl;
     })
-    h k agree
+    h k agree in
+    (ends.0, λ i of command here e t. ends.1 i of command (front commands later of (Receive position) here) e t)
   where
     zero_plus : (n : ℕ) → n ≡ 0 + n
     zero_plus n = omega arith

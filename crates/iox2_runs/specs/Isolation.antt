@@ -1,24 +1,24 @@
 -- What one subscriber sees doesn't depend on how fast the others are.
 use Rattle.std.specs.Prelude.{ℕ, Bool, true, false, not, ◌&&◌, ◌||◌, List, [], ◌∷◌, ◌++◌, ◌≡◌, ◌==◌, slice_get, is_none}
-use Rattle.std.specs.List.{list_all}
 use Rattle.std.specs.declared.option.Option.{Option}
 use Rattle.std.specs.declared.option.Option.TheVariants.{None, Some}
 use Rattle.iox2_store.specs.Limits.{worst_case}
 use Rattle.iox2_store.specs.Records.{Publisher, Subscriber}
 use Rattle.iox2_store.specs.State.{State, Messages, fresh, no_messages}
 use Rattle.iox2_store.specs.Loans.{is_static}
+use Rattle.iox2_store.specs.Ports.{slots_for}
 use Rattle.iox2_store.specs.WellFormed.{IsWellFormed}
 use Rattle.iox2_store.specs.declared.service_config.ServiceConfig.{ServiceConfig}
 use Rattle.iox2_store.specs.declared.backpressure.BackpressureStrategy.{BackpressureStrategy}
 use Rattle.iox2_store.specs.declared.backpressure.BackpressureStrategy.TheVariants.{RetryUntilDelivered, DiscardData}
 use Rattle.iox2_runs.specs.Outcomes.{Handle, No_handle, Subscriber_handle, Sample_handle, Event, Outcome, messages_after}
-use Rattle.iox2_runs.specs.Step.{Step}
+use Rattle.iox2_runs.specs.Step.{Step, publisher_settings}
 use Rattle.iox2_runs.specs.Runs.{ample_memory, only_defaults, RunTo}
 use Rattle.iox2_runs.specs.Views.{SameView, OmitsOthersFrom}
 use Rattle.iox2_runs.specs.declared.command.Command.{Command}
-use Rattle.iox2_runs.specs.declared.command.Command.TheVariants.{CreatePublisher, CreateSubscriber, Receive, HasSamples, Update, Release, Read, ReadHeader, ReadUserHeader, Close}
+use Rattle.iox2_runs.specs.declared.command.Command.TheVariants.{CreatePublisher, Receive, HasSamples, Update, Release, Read, ReadHeader, ReadUserHeader, Close}
 use Rattle.iox2_runs.specs.declared.reply.Reply.{Reply}
-use Rattle.iox2_runs.specs.declared.reply.Reply.TheVariants.{SubscriberMade}
+use Rattle.iox2_runs.specs.declared.reply.Reply.TheVariants.{PublisherMade, SubscriberMade}
 
 -- ---- services in which nobody waits for a subscriber
 
@@ -38,34 +38,25 @@ pub record IsIndependentPublisher (c : ServiceConfig) (x : Publisher) : Type 0 w
   pub unblocked : x.blocked ≡ None
   pub never_waits : never_waits c x.backpressure_strategy (not (is_none x.backpressure_handler)) ≡ true
 
--- All publishers are so, and no subscriber was closed.
+-- The state is well-formed, all publishers are independent, and no closed subscriber is left.
 pub record IsIndependent {T U : Type 0} (s : State T U) : Type 0 where
   pub well_formed : IsWellFormed s
   pub publishers : (p : ℕ) (x : Publisher) → s.publishers p ≡ Some x → IsIndependentPublisher s.config x
   pub all_open : (r : ℕ) (y : Subscriber) → s.subscribers r ≡ Some y → y.is_open ≡ true
 
-module _ {T U : Type 0} where
-  -- The publisher that is made, if the command makes one, is independent.
-  abbrev pub makes_independent_publisher : ServiceConfig → Command T U → Bool
-  makes_independent_publisher c (CreatePublisher loans strategy allocation len override_slots degradation backpressure) =
-      is_static allocation && is_none override_slots && never_waits c strategy (not (is_none backpressure))
-  makes_independent_publisher c _ = true
+-- The publisher that the command makes, if it makes one, is independent.
+abbrev pub makes_independent_publisher : {T U : Type 0} → ServiceConfig → Command T U → Bool
+makes_independent_publisher c (CreatePublisher loans strategy allocation len override_slots degradation backpressure) =
+    is_static allocation
+    && slots_for c (publisher_settings c.variant loans strategy allocation len override_slots degradation backpressure) == worst_case c loans
+    && never_waits c strategy (not (is_none backpressure))
+makes_independent_publisher c _ = true
 
-  -- At that position a subscriber is made.
-  abbrev pub makes_subscriber : List (Command T U) → (of : ℕ) → Bool
-  makes_subscriber commands of = elim (slice_get commands of) [
-    | Some (CreateSubscriber buffer degradation) ↦ true
-    | _ ↦ false
-  ]
-
-  -- The command closes no subscriber.
-  abbrev pub closes_no_subscriber : List (Command T U) → Command T U → Bool
-  closes_no_subscriber commands (Close of) = not (makes_subscriber commands of)
-  closes_no_subscriber commands _ = true
-
-  -- Every publisher that is made is independent, and no subscriber is closed.
-  abbrev pub are_independent : ServiceConfig → List (Command T U) → Bool
-  are_independent c commands = list_all (λ command. makes_independent_publisher c command && closes_no_subscriber commands command) commands
+-- Each publisher that was made is independent, and no subscriber was closed.
+pub record AreIndependent {T U : Type 0} (c : ServiceConfig) (commands : List (Command T U)) (replies : List (Reply T U)) : Type 0 where
+  pub publishers : (i p : ℕ) (command : Command T U) → slice_get commands i ≡ Some command → slice_get replies i ≡ Some (PublisherMade p)
+      → makes_independent_publisher c command ≡ true
+  pub closes : (i of r : ℕ) → slice_get commands i ≡ Some (Close of) → slice_get replies of ≡ Some (SubscriberMade r) → ⊥
 
 -- ---- the laws of one step
 
@@ -78,7 +69,7 @@ is_of_others q (Some (Sample_handle p r n)) = not (r == q)
 is_of_others q (Some _) = false
 
 module _ {T U : Type 0} where
-  -- The position that a subscriber's call names: the subscriber, or a sample of it.
+  -- The position that a receive, `HasSamples`, update, release or read names.
   abbrev pub subscriber_call : Command T U → Option ℕ
   subscriber_call (Receive of) = Some of
   subscriber_call (HasSamples of) = Some of
@@ -98,7 +89,7 @@ module _ {T U : Type 0} where
   abbrev pub ClosesNoSubscriber : List Handle → Command T U → Type 0
   ClosesNoSubscriber handles command = (of r : ℕ) → command ≡ Close of → slice_get handles of ≡ Some (Subscriber_handle r) → ⊥
 
--- A subscriber's call leaves the view of each other subscriber as it was, while no subscriber is closed.
+-- A subscriber's call leaves the view of each other subscriber as it was, while no closed subscriber is left.
 abbrev pub OthersAreUnseen : Type 0 → Type 0 → Type 0
 OthersAreUnseen T U =
     (default_value : T) (default_header : U) (q : ℕ) (m : Messages T U) (s : State T U) (handles : List Handle) (command : Command T U) (of : ℕ) (o : Outcome T U)
@@ -120,17 +111,30 @@ StepsLookAlike T U =
 
 -- ---- whole runs
 
--- The view of the subscriber that is made at a position is the same after the beginning of a list and after that of a
--- fewer one, where publishers are independent, no subscriber is closed, memory is ample, and the subscriber's own receives get
--- the same replies in both runs. The whole list is the beginning and what comes after it.
+module _ {T U : Type 0} where
+  -- The command reads what was made at that position.
+  abbrev pub reads_at : (of : ℕ) → Command T U → Bool
+  reads_at of (Read named at) = named == of
+  reads_at of (ReadHeader named) = named == of
+  reads_at of (ReadUserHeader named) = named == of
+  reads_at of _ = false
+
+-- One run is of some commands in a new domain, and the other is of a reduced list, in which `Nothing` stands in place of
+-- some calls of subscribers other than the one made at `position`. Positions are looked up in the commands and what may
+-- come later. Memory is ample in both runs, and both have the same default values. In the first run each publisher that was
+-- made is independent, no subscriber was closed, and q is the subscriber made at `position`. The receives of that subscriber
+-- get the same replies in both runs. Then its view is the same at the end of both, and reads of what its receives made get
+-- the same replies in both.
 abbrev pub SubscribersAreIsolated : Type 0 → Type 0 → Type 0
 SubscribersAreIsolated T U =
-    (default_value : T) (default_header : U) (c : ServiceConfig) (position q : ℕ) (commands fewer later : List (Command T U))
+    (default_value : T) (default_header : U) (c : ServiceConfig) (position q : ℕ) (commands reduced later : List (Command T U))
     (replies replies' : List (Reply T U)) (events events' : List (Event T U)) (m m' : Messages T U) (s s' : State T U) (handles handles' : List Handle)
-    → OmitsOthersFrom position (commands ++ later) commands fewer
-    → are_independent c (commands ++ later) ≡ true
+    → OmitsOthersFrom position (commands ++ later) commands reduced
+    → AreIndependent c commands replies
     → RunTo ample_memory (only_defaults default_value default_header) no_messages (fresh c) [] commands replies events m s handles
-    → RunTo ample_memory (only_defaults default_value default_header) no_messages (fresh c) [] fewer replies' events' m' s' handles'
+    → RunTo ample_memory (only_defaults default_value default_header) no_messages (fresh c) [] reduced replies' events' m' s' handles'
     → slice_get replies position ≡ Some (SubscriberMade q)
     → ((i : ℕ) → slice_get commands i ≡ Some (Receive position) → slice_get replies i ≡ slice_get replies' i)
     → SameView q m s handles m' s' handles'
+    × ((i of : ℕ) (command : Command T U) → slice_get commands of ≡ Some (Receive position)
+    → slice_get commands i ≡ Some command → reads_at of command ≡ true → slice_get replies i ≡ slice_get replies' i)

@@ -9,7 +9,7 @@ use Rattle.iox2_runs.specs.Outcomes.{Handle, No_handle, Sample_handle}
 use Rattle.iox2_runs.specs.declared.command.Command.{Command}
 use Rattle.iox2_runs.specs.declared.command.Command.TheVariants.{Nothing, CreateSubscriber, Receive, HasSamples, Update, Release, Read, ReadHeader, ReadUserHeader}
 
--- What another subscriber shows of itself: neither its ends and expired publishers nor whether it is due.
+-- Of another subscriber: whether it is open, its place and its buffer.
 pub record PublicPart : Type 0 where
   pub is_open : Bool
   pub place : ℕ
@@ -23,9 +23,9 @@ abbrev pub seen_handle : (q : ℕ) → Handle → Handle
 seen_handle q (Sample_handle p q' n) = cond (q' == q) (Sample_handle p q' n) No_handle
 seen_handle q handle = handle
 
--- The subscriber q sees the same of both: all ports and loans, all messages, its own record and mailboxes, and all
--- handles but other subscribers' samples. Of other subscribers' ends, mailboxes and due marks, and of warnings, it sees
--- nothing.
+-- Both have the same configuration, counters, places, publishers, loans and messages, the same record and mailboxes of q,
+-- and the same handles but for other subscribers' samples. Of another subscriber only whether it is open, its place and
+-- its buffer are compared; warnings aren't.
 pub record SameView {T U : Type 0} (q : ℕ) (m : Messages T U) (s : State T U) (named : List Handle) (m' : Messages T U) (s' : State T U) (named' : List Handle) : Type 0 where
   pub config : s.config ≡ s'.config
   pub next_port : s.next_port ≡ s'.next_port
@@ -40,25 +40,25 @@ pub record SameView {T U : Type 0} (q : ℕ) (m : Messages T U) (s : State T U) 
   pub messages : (n : ℕ) → m n ≡ m' n
   pub handles : map (seen_handle q) named ≡ map (seen_handle q) named'
 
--- ---- fewer lists
+-- ---- reduced lists
 
 module _ {T U : Type 0} where
-  -- At that position a subscriber is made, and it isn't this one.
+  -- The command at `of` makes a subscriber, and `of` isn't `position`.
   abbrev pub makes_other_subscriber : (position : ℕ) → List (Command T U) → (of : ℕ) → Bool
   makes_other_subscriber position commands of = elim (slice_get commands of) [
     | Some (CreateSubscriber buffer degradation) ↦ not (of == position)
     | _ ↦ false
   ]
 
-  -- At that position a sample is received by a subscriber other than this one.
+  -- The command at `of` is a receive of a subscriber that isn't made at `position`.
   abbrev pub receives_for_other : (position : ℕ) → List (Command T U) → (of : ℕ) → Bool
   receives_for_other position commands of = elim (slice_get commands of) [
     | Some (Receive subscriber) ↦ makes_other_subscriber position commands subscriber
     | _ ↦ false
   ]
 
-  -- The command is one that another subscriber may leave out: a receive, a question, an update, or a read or release of a
-  -- sample of its own.
+  -- The command is a receive, `HasSamples` or update of a subscriber that isn't made at `position`, or it releases or reads
+  -- what a receive of such a subscriber made.
   abbrev pub may_be_omitted : (position : ℕ) → List (Command T U) → Command T U → Bool
   may_be_omitted position commands (Receive of) = makes_other_subscriber position commands of
   may_be_omitted position commands (HasSamples of) = makes_other_subscriber position commands of
@@ -69,14 +69,11 @@ module _ {T U : Type 0} where
   may_be_omitted position commands (ReadUserHeader of) = receives_for_other position commands of
   may_be_omitted position commands _ = false
 
+  -- The second list is the first with `Nothing` in place of some calls of subscribers other than the one made at
+  -- `position`; positions are looked up in `whole`.
   abbrev pub OmitsOthersFrom : (position : ℕ) → (whole : List (Command T U)) → List (Command T U) → List (Command T U) → Type 0
   OmitsOthersFrom position whole [] [] = Unit {0}
-  OmitsOthersFrom position whole (command ∷ commands) (fewer ∷ others) =
-      ((fewer ≡ command) ⊎ ((fewer ≡ Nothing) × (may_be_omitted position whole command ≡ true)))
+  OmitsOthersFrom position whole (command ∷ commands) (reduced ∷ others) =
+      ((reduced ≡ command) ⊎ ((reduced ≡ Nothing) × (may_be_omitted position whole command ≡ true)))
       × OmitsOthersFrom position whole commands others
   OmitsOthersFrom position whole _ _ = ⊥
-
-  -- The second list is the first with nothing in place of some commands of other subscribers than the one that is made at
-  -- that position.
-  abbrev pub OmitsOthers : (position : ℕ) → List (Command T U) → List (Command T U) → Type 0
-  OmitsOthers position commands fewer = OmitsOthersFrom position commands commands fewer
