@@ -157,11 +157,11 @@ module _ {T U : Type 0} where
           | false ↦ λ e. IsSubsequence-trans (IsSubsequence-front (got p q) (s.mailboxes p q).waiting) (w.order p q (ltb-false q p0 e))
         ] refl
 
-    -- In a run from any well-formed state, what a subscriber receives from a publisher is a part of what that publisher
-    -- sent, in the same order, each message at most once.
+    -- In a run from any well-formed state, a publisher sends each number once, and what a subscriber receives from it is a
+    -- subsequence of what it sent, in which each number occurs once.
     pub receives_in_order : (m m' : Messages T U) (s s' : State T U) (commands : List (Command T U)) (replies : List (Reply T U)) (events : List (Event T U))
         → IsWellFormed s → Run environment defaults m s commands replies events m' s' → (p q : ℕ)
-        → IsSubsequence (received p q events) (sent p events) × IsOnce (received p q events)
+        → IsOnce (sent p events) × IsSubsequence (received p q events) (sent p events) × IsOnce (received p q events)
     receives_in_order m m' s s' commands replies events w h p q =
         let p0 : ℕ = s.next_port in
         let n0 : ℕ = s.next_message in
@@ -172,7 +172,7 @@ module _ {T U : Type 0} where
         let end : Ordered p0 n0 (λ p. sent p events) (λ p q. received p q events) s' =
         subst (λ (es : List (Event T U)). Ordered p0 n0 (λ p. sent p es) (λ p q. received p q es) s') k.3 (k.4).ordered in
         let part : IsSubsequence (received p q events) (sent p events) = in_order p0 n0 (λ p. sent p events) (λ p q. received p q events) s' end p q in
-        (part, once_part part (end.once p))
+        (end.once p, part, once_part part (end.once p))
 
 -- Messages are received in the order in which they were sent.
 pub receives_in_order_law : (T U : Type 0) → ReceivesInOrder T U

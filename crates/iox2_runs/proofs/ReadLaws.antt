@@ -13,4 +13,4 @@ samples_law T U may_refuse_memory backpressure degradation m m' s s' commands re
 pub reads_law : (T U : Type 0) → ReceivesInOrder T U → ReadsGiveWhatWasSent T U
 reads_law T U order may_refuse_memory backpressure degradation m m' s s' commands replies events w h =
     reads_give_what_was_sent (tested_environment may_refuse_memory backpressure degradation) any_defaults m m' s s' commands replies events
-    (λ p q. (order may_refuse_memory backpressure degradation m m' s s' commands replies events w h p q).1) w h
+    (λ p q. (order may_refuse_memory backpressure degradation m m' s s' commands replies events w h p q).2) w h

@@ -1,5 +1,5 @@
 -- The laws of whole runs: order, what is read, and enough slots.
-use Rattle.std.specs.Prelude.{ℕ, Bool, true, List, length, ◌≡◌, ◌<◌, ◌≤◌, slice_get}
+use Rattle.std.specs.Prelude.{ℕ, Bool, true, List, length, take, ◌≡◌, ◌<◌, ◌≤◌, slice_get}
 use Rattle.std.specs.Option.{option_map_or}
 use Rattle.std.specs.declared.option.Option.{Option}
 use Rattle.std.specs.declared.option.Option.TheVariants.{None, Some}
@@ -33,34 +33,37 @@ OfEachRun T U Holds =
     → Run (tested_environment may_refuse_memory backpressure degradation) any_defaults m s commands replies events m' s'
     → Holds commands replies events
 
--- What a subscriber receives from a publisher is a part of what that publisher sent, in the same order, each message at
--- most once.
+-- A publisher sends each number once. What a subscriber receives from it is a subsequence of what it sent, in which each
+-- number occurs once.
 abbrev pub ReceivesInOrder : Type 0 → Type 0 → Type 0
 ReceivesInOrder T U = OfEachRun T U (λ commands replies events.
-    (p q : ℕ) → IsSubsequence (received p q events) (sent p events) × IsOnce (received p q events))
+    (p q : ℕ) → IsOnce (sent p events) × IsSubsequence (received p q events) (sent p events) × IsOnce (received p q events))
 
 -- The message n of p was sent with that entry.
 abbrev pub WasSent : {T U : Type 0} → (p n : ℕ) → Entry T U → List (Event T U) → Type 0
 WasSent p n entry events = (i : ℕ) × (slice_get events i ≡ Some (Message_sent p n entry))
 
--- The reply to a receive names the publisher that sent the message, and so does the message's header.
+-- The reply to a receive names the publisher that sent the message before it was received, and so does the message's
+-- header.
 abbrev pub SamplesNameTheirPublisher : Type 0 → Type 0 → Type 0
 SamplesNameTheirPublisher T U = OfEachRun T U (λ commands replies events.
     (i origin : ℕ) → slice_get replies i ≡ Some (Sample origin)
-    → (q n : ℕ) × (entry : Entry T U) × (slice_get events i ≡ Some (Message_received origin q n)) × WasSent origin n entry events × ((entry.header).publisher_id ≡ origin))
+    → (q n : ℕ) × (entry : Entry T U) × (slice_get events i ≡ Some (Message_received origin q n)) × WasSent origin n entry (take i events) × ((entry.header).publisher_id ≡ origin))
 
--- The sample that was received at that position wasn't released before the other.
+-- No command between the two positions releases the sample received at `of`.
 abbrev pub IsUnreleased : {T U : Type 0} → List (Command T U) → (of i : ℕ) → Type 0
 IsUnreleased commands of i = (j : ℕ) → of < j → j < i → slice_get commands j ≡ Some (Release of) → ⊥
 
--- Every read through a sample that isn't released gives the message as it was sent; a read past its end is skipped.
+-- Each sample has one entry, with which its message was sent before it was received. Every read until the release gives
+-- that entry; a read past its end is skipped.
 abbrev pub ReadsGiveWhatWasSent : Type 0 → Type 0 → Type 0
 ReadsGiveWhatWasSent T U = OfEachRun T U (λ commands replies events.
-    (i of p q n : ℕ) → of < i → slice_get events of ≡ Some (Message_received p q n) → IsUnreleased commands of i
-    → (entry : Entry T U) × WasSent p n entry events
-    × ((at : ℕ) → slice_get commands i ≡ Some (Read of at) → slice_get replies i ≡ Some (option_map_or (λ value. Cell (Some value)) (slice_get entry.values at) Skipped))
+    (of p q n : ℕ) → slice_get events of ≡ Some (Message_received p q n)
+    → (entry : Entry T U) × WasSent p n entry (take of events)
+    × ((i : ℕ) → of < i → IsUnreleased commands of i
+    → ((at : ℕ) → slice_get commands i ≡ Some (Read of at) → slice_get replies i ≡ Some (option_map_or (λ value. Cell (Some value)) (slice_get entry.values at) Skipped))
     × (slice_get commands i ≡ Some (ReadHeader of) → slice_get replies i ≡ Some (Header entry.header))
-    × (slice_get commands i ≡ Some (ReadUserHeader of) → slice_get replies i ≡ Some (UserHeader entry.user_header)))
+    × (slice_get commands i ≡ Some (ReadUserHeader of) → slice_get replies i ≡ Some (UserHeader entry.user_header))))
 
 -- ---- enough slots
 
