@@ -7,7 +7,7 @@ use Rattle.iox2_store.specs.Limits.{worst_case, last_number}
 use Rattle.iox2_store.specs.Numbers.{IsOnce}
 use Rattle.iox2_store.specs.Records.{Entry, Publisher}
 use Rattle.iox2_store.specs.State.{State, Messages, fresh, no_messages}
-use Rattle.iox2_store.specs.Loans.{GrantLoan, is_static}
+use Rattle.iox2_store.specs.Loans.{GrantLoan, is_static, loan_granted}
 use Rattle.iox2_store.specs.WellFormed.{IsWellFormed, HoldsAtMostWorstCase}
 use Rattle.iox2_store.specs.declared.service_config.ServiceConfig.{ServiceConfig}
 use Rattle.iox2_store.specs.declared.backpressure.BackpressureAction.{BackpressureAction}
@@ -79,13 +79,13 @@ OfEachReachedState T U Holds =
 abbrev pub ReachedStatesHoldFew : Type 0 → Type 0 → Type 0
 ReachedStatesHoldFew T U = OfEachReachedState T U (λ c s. (s.config ≡ c) × IsWellFormed s × HoldsAtMostWorstCase s)
 
--- In every well-formed state, a static publisher with the worst case of slots grants every loan of permitted length while
--- fewer than its limit are out and the message counter isn't at its end.
+-- In every well-formed state, a static publisher with at least the worst case of slots grants every loan of permitted
+-- length, and refuses none, while fewer than its limit are out and the message counter isn't at its end.
 abbrev pub WorstCaseOfSlotsGrants : Type 0 → Type 0 → Type 0
 WorstCaseOfSlotsGrants T U =
     (may_refuse_memory : Bool) (backpressure : ℕ → BackpressureInfo → BackpressureAction → Bool) (degradation : ℕ → DegradationCause → DegradationInfo → DegradationAction → Bool)
-    (default_header : U) (s s' : State T U) (p : ℕ) (x : Publisher) (checks_length : Bool) (len : ℕ) (refusal : Option LoanError)
-    → IsWellFormed s → s.publishers p ≡ Some x → is_static x.allocation_strategy ≡ true → x.slots ≡ worst_case s.config x.max_loaned_samples
+    (default_header : U) (s : State T U) (p : ℕ) (x : Publisher) (checks_length : Bool) (len : ℕ)
+    → IsWellFormed s → s.publishers p ≡ Some x → is_static x.allocation_strategy ≡ true → worst_case s.config x.max_loaned_samples ≤ x.slots
     → length x.loans < x.max_loaned_samples → s.next_message < last_number → (checks_length ≡ true → len ≤ x.initial_max_slice_len)
-    → GrantLoan (tested_environment may_refuse_memory backpressure degradation) default_header checks_length len s p s' refusal
-    → refusal ≡ None
+    → GrantLoan (tested_environment may_refuse_memory backpressure degradation) default_header checks_length len s p (loan_granted default_header s p x len x.segments) None
+    × ((s' : State T U) (refusal : Option LoanError) → GrantLoan (tested_environment may_refuse_memory backpressure degradation) default_header checks_length len s p s' refusal → refusal ≡ None)
