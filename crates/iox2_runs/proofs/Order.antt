@@ -12,9 +12,8 @@ use Rattle.iox2_store.specs.WellFormed.{IsWellFormed}
 use Rattle.iox2_laws.proofs.NumberLemmas.{false_from}
 use Rattle.iox2_runs.specs.Outcomes.{Event, No_event, Message_sent, Message_received, Outcome, messages_after}
 use Rattle.iox2_runs.specs.Step.{Step}
-use Rattle.iox2_runs.specs.Runs.{Defaults, any_defaults, Run, sent, received, IsSubsequence}
+use Rattle.iox2_runs.specs.Runs.{fixed_handlers, ample_memory, Defaults, any_defaults, Run, sent, received, IsSubsequence}
 use Rattle.iox2_runs.specs.RunLaws.{ReceivesInOrder}
-use Rattle.iox2_runs.specs.Laws.{tested_environment}
 use Rattle.iox2_runs.specs.declared.command.Command.{Command}
 use Rattle.iox2_runs.specs.declared.reply.Reply.{Reply}
 use Rattle.iox2_runs.proofs.StepLaws.{IsSound, step_sound}
@@ -176,5 +175,5 @@ module _ {T U : Type 0} where
 
 -- Messages are received in the order in which they were sent.
 pub receives_in_order_law : (T U : Type 0) → ReceivesInOrder T U
-receives_in_order_law T U may_refuse_memory backpressure degradation m m' s s' commands replies events w h =
-    receives_in_order (tested_environment may_refuse_memory backpressure degradation) any_defaults m m' s s' commands replies events w h
+receives_in_order_law T U may_refuse_memory m m' s s' commands replies events w h =
+    receives_in_order (cond may_refuse_memory fixed_handlers ample_memory) any_defaults m m' s s' commands replies events w h

@@ -1,5 +1,5 @@
 -- The laws of whole runs: order, what is read, and enough slots.
-use Rattle.std.specs.Prelude.{ℕ, Bool, true, List, length, take, ◌≡◌, ◌<◌, ◌≤◌, slice_get}
+use Rattle.std.specs.Prelude.{ℕ, Bool, true, cond, List, length, take, ◌≡◌, ◌<◌, ◌≤◌, slice_get}
 use Rattle.std.specs.Option.{option_map_or}
 use Rattle.std.specs.declared.option.Option.{Option}
 use Rattle.std.specs.declared.option.Option.TheVariants.{None, Some}
@@ -17,20 +17,20 @@ use Rattle.iox2_store.specs.declared.degradation.DegradationCause.{DegradationCa
 use Rattle.iox2_store.specs.declared.degradation.DegradationInfo.{DegradationInfo}
 use Rattle.iox2_store.specs.declared.errors.LoanError.{LoanError}
 use Rattle.iox2_runs.specs.Outcomes.{Event, Message_sent, Message_received}
-use Rattle.iox2_runs.specs.Runs.{Run, any_defaults, sent, received, IsSubsequence}
+use Rattle.iox2_runs.specs.Runs.{fixed_handlers, ample_memory, Run, any_defaults, sent, received, IsSubsequence}
 use Rattle.iox2_runs.specs.Laws.{tested_environment}
 use Rattle.iox2_runs.specs.declared.command.Command.{Command}
 use Rattle.iox2_runs.specs.declared.command.Command.TheVariants.{Read, ReadHeader, ReadUserHeader, Release}
 use Rattle.iox2_runs.specs.declared.reply.Reply.{Reply}
 use Rattle.iox2_runs.specs.declared.reply.Reply.TheVariants.{Skipped, Sample, Cell, Header, UserHeader}
 
--- What holds of every run, whatever handlers answer and whether or not memory is refused, from every well-formed state.
+-- `Holds` is true of the commands, replies and events of every run that begins in a well-formed state, whether or not
+-- memory may be refused. A run names only ports, loans and samples that it made.
 abbrev pub OfEachRun : (T U : Type 0) → (List (Command T U) → List (Reply T U) → List (Event T U) → Type 0) → Type 0
 OfEachRun T U Holds =
-    (may_refuse_memory : Bool) (backpressure : ℕ → BackpressureInfo → BackpressureAction → Bool) (degradation : ℕ → DegradationCause → DegradationInfo → DegradationAction → Bool)
-    (m m' : Messages T U) (s s' : State T U) (commands : List (Command T U)) (replies : List (Reply T U)) (events : List (Event T U))
+    (may_refuse_memory : Bool) (m m' : Messages T U) (s s' : State T U) (commands : List (Command T U)) (replies : List (Reply T U)) (events : List (Event T U))
     → IsWellFormed s
-    → Run (tested_environment may_refuse_memory backpressure degradation) any_defaults m s commands replies events m' s'
+    → Run (cond may_refuse_memory fixed_handlers ample_memory) any_defaults m s commands replies events m' s'
     → Holds commands replies events
 
 -- A publisher sends each number once. What a subscriber receives from it is a subsequence of what it sent, in which each
@@ -67,15 +67,16 @@ ReadsGiveWhatWasSent T U = OfEachRun T U (λ commands replies events.
 
 -- ---- enough slots
 
--- What holds of every state that a run from a new domain reaches.
+-- `Holds` is true of the configuration and of every state that a run from a new domain with it reaches, whether or not
+-- memory may be refused.
 abbrev pub OfEachReachedState : (T U : Type 0) → (ServiceConfig → State T U → Type 0) → Type 0
 OfEachReachedState T U Holds =
-    (may_refuse_memory : Bool) (backpressure : ℕ → BackpressureInfo → BackpressureAction → Bool) (degradation : ℕ → DegradationCause → DegradationInfo → DegradationAction → Bool)
-    (c : ServiceConfig) (m' : Messages T U) (s' : State T U) (commands : List (Command T U)) (replies : List (Reply T U)) (events : List (Event T U))
-    → Run (tested_environment may_refuse_memory backpressure degradation) any_defaults no_messages (fresh c) commands replies events m' s'
+    (may_refuse_memory : Bool) (c : ServiceConfig) (m' : Messages T U) (s' : State T U) (commands : List (Command T U)) (replies : List (Reply T U)) (events : List (Event T U))
+    → Run (cond may_refuse_memory fixed_handlers ample_memory) any_defaults no_messages (fresh c) commands replies events m' s'
     → Holds c s'
 
--- In every state that is reached, a publisher with k loans out holds at most the worst case for k different messages and loans.
+-- In every state that a run from a new domain reaches, the configuration is unchanged, the state is well-formed, and a
+-- publisher with k loans out holds at most `worst_case k` different messages and loans.
 abbrev pub ReachedStatesHoldFew : Type 0 → Type 0 → Type 0
 ReachedStatesHoldFew T U = OfEachReachedState T U (λ c s. (s.config ≡ c) × IsWellFormed s × HoldsAtMostWorstCase s)
 
