@@ -1,14 +1,14 @@
 -- Every state that a run reaches is well-formed, and its publishers have slots enough.
-use Rattle.std.proofs.Common.{◌≡◌, ℕ, ◌≤◌, ◌<◌, ◌+◌, ◌*◌, Bool, true, false, List, [], ◌∷◌, ◌++◌, length, eqb, ltb, refl, sym, ap, subst, ◌∙◌, arith, Option, None, Some}
+use Rattle.std.proofs.Common.{◌≡◌, ℕ, ◌≤◌, ◌<◌, ◌+◌, ◌*◌, Bool, true, false, List, [], ◌∷◌, ◌++◌, length, refl, sym, subst, ◌∙◌, arith, Option, None, Some}
 use Rattle.std.specs.Prelude.{nat_lt, nat_le, cond, ◌==◌, ◌&&◌, MatchOption}
 use Rattle.std.specs.Bool.{MatchBool}
-use Rattle.std.proofs.lemmas.Bool.{true≢false, eqb-true, le-ltb, lt-leb}
-use Rattle.std.proofs.lemmas.Option.{none-some, same_Some}
+use Rattle.std.proofs.lemmas.Bool.{true≢false, ne_eqb, le-ltb, lt-leb}
+use Rattle.std.proofs.lemmas.Option.{none-some}
 use Rattle.iox2_store.specs.Limits.{buffer_limit, worst_case, last_number}
 use Rattle.iox2_store.specs.Numbers.{size}
 use Rattle.iox2_store.specs.Records.{Publisher, Environment}
 use Rattle.iox2_store.specs.State.{State, Messages, fresh, no_messages, held}
-use Rattle.iox2_store.specs.Loans.{GrantLoan, StaticLoan, DynamicLoan, limit_error, is_static}
+use Rattle.iox2_store.specs.Loans.{GrantLoan, loan_granted, StaticLoan, DynamicLoan, limit_error, is_static}
 use Rattle.iox2_store.specs.WellFormed.{IsWellFormed, HoldsAtMostWorstCase}
 use Rattle.iox2_store.specs.declared.service_config.ServiceConfig.{ServiceConfig}
 use Rattle.iox2_store.specs.declared.errors.LoanError.{LoanError}
@@ -27,8 +27,8 @@ at_end : (n last : ℕ) → n ≡ last → n < last → ⊥
 at_end n last e h = omega arith
 
 -- fewer loans need fewer slots
-fewer : (held others loans most slots : ℕ) → held ≤ others + loans → slots ≡ others + most → loans < most → held < slots
-fewer held others loans most slots h e some = omega arith
+fewer : (held others loans most slots : ℕ) → held ≤ others + loans → others + most ≤ slots → loans < most → held < slots
+fewer held others loans most slots h enough some = omega arith
 
 -- no limit stands in the way of a loan of permitted length while fewer are out than may be
 no_limit : (checks_length : Bool) (x : Publisher) (len : ℕ) → length x.loans < x.max_loaned_samples → (checks_length ≡ true → len ≤ x.initial_max_slice_len) → limit_error checks_length x len ≡ None
@@ -67,32 +67,47 @@ module _ {T U : Type 0} where
       run_sound environment defaults no_messages (fresh c) [] commands replies events m' s' (fresh_is_well_formed c) h in
       ((sound.1).config, sound.0, holds_at_most_worst_case s' sound.0)
 
-  -- A static publisher that holds fewer messages and loans than it has slots grants a loan within its limits.
-  static_loan_granted : (environment : Environment) (default_header : U) (checks_length : Bool) (len : ℕ) (s : State T U) (p : ℕ) (x : Publisher) (s' : State T U) (refusal : Option LoanError)
-      → size (held s p x) < x.slots → s.publishers p ≡ Some x → is_static x.allocation_strategy ≡ true
-      → length x.loans < x.max_loaned_samples → s.next_message < last_number → (checks_length ≡ true → len ≤ x.initial_max_slice_len)
-      → GrantLoan environment default_header checks_length len s p s' refusal → refusal ≡ None
-  static_loan_granted environment default_header checks_length len s p x s' refusal few present static some below fits h =
-      let k : MatchOption (limit_error checks_length x len)
-      (MatchBool (is_static x.allocation_strategy) (StaticLoan default_header s p x len s' refusal) (DynamicLoan environment default_header s p x len s' refusal))
-      (λ limit. (s' ≡ s) × (refusal ≡ Some limit)) = rw present at h in
-      by_option (refusal ≡ None) (limit_error checks_length x len) _ _ k
-      (λ _ j. by_bool (refusal ≡ None) (is_static x.allocation_strategy) _ _ j
-      (λ _ i. by_bool (refusal ≡ None) (size (held s p x) == x.slots) _ _ i
-      (λ full _. let same : size (held s p x) ≡ x.slots = eqb-true (size (held s p x)) x.slots full in absurd (omega arith))
-      (λ _ g. by_bool (refusal ≡ None) (s.next_message == last_number) _ _ g
-      (λ last _. absurd (at_end s.next_message last_number (eqb-true s.next_message last_number last) below))
-      (λ _ f. f.1)))
-      (λ dynamic _. absurd (true≢false (sym static ∙ dynamic))))
-      (λ limit e _. absurd (none-some limit (sym (no_limit checks_length x len some fits) ∙ e)))
+  module _ (environment : Environment) (default_header : U) (checks_length : Bool) (len : ℕ) (s : State T U) (p : ℕ) (x : Publisher)
+      (few : size (held s p x) < x.slots) (present : s.publishers p ≡ Some x) (static : is_static x.allocation_strategy ≡ true)
+      (some : length x.loans < x.max_loaned_samples) (below : s.next_message < last_number) (fits : checks_length ≡ true → len ≤ x.initial_max_slice_len) where
+    -- the static publisher has a free slot
+    has_space : (size (held s p x) == x.slots) ≡ false
+    has_space = ne_eqb (size (held s p x)) x.slots (λ same. absurd (omega arith))
+
+    -- the counter gives out a number
+    has_number : (s.next_message == last_number) ≡ false
+    has_number = ne_eqb s.next_message last_number (λ same. at_end s.next_message last_number same below)
+
+    -- A static publisher that holds fewer messages and loans than it has slots grants a loan within its limits.
+    static_loan_granted : GrantLoan environment default_header checks_length len s p (loan_granted default_header s p x len x.segments) None
+    static_loan_granted = rw present (rw (no_limit checks_length x len some fits) (rw static (rw has_space (rw has_number (refl, refl)))))
+
+    -- It refuses none.
+    static_loan_unrefused : (s' : State T U) (refusal : Option LoanError) → GrantLoan environment default_header checks_length len s p s' refusal → refusal ≡ None
+    static_loan_unrefused s' refusal h =
+        let k : MatchOption (limit_error checks_length x len)
+        (MatchBool (is_static x.allocation_strategy) (StaticLoan default_header s p x len s' refusal) (DynamicLoan environment default_header s p x len s' refusal))
+        (λ limit. (s' ≡ s) × (refusal ≡ Some limit)) = rw present at h in
+        by_option (refusal ≡ None) (limit_error checks_length x len) _ _ k
+        (λ _ j. by_bool (refusal ≡ None) (is_static x.allocation_strategy) _ _ j
+        (λ _ i. by_bool (refusal ≡ None) (size (held s p x) == x.slots) _ _ i
+        (λ full _. absurd (true≢false (sym full ∙ has_space)))
+        (λ _ g. by_bool (refusal ≡ None) (s.next_message == last_number) _ _ g
+        (λ last _. absurd (true≢false (sym last ∙ has_number)))
+        (λ _ f. f.1)))
+        (λ dynamic _. absurd (true≢false (sym static ∙ dynamic))))
+        (λ limit e _. absurd (none-some limit (sym (no_limit checks_length x len some fits) ∙ e)))
 
   -- A static publisher with the worst case of slots grants a loan of permitted length while fewer are out than may be.
-  pub worst_case_of_slots_grants : (environment : Environment) (default_header : U) (s s' : State T U) (p : ℕ) (x : Publisher) (checks_length : Bool) (len : ℕ) (refusal : Option LoanError)
-      → IsWellFormed s → s.publishers p ≡ Some x → is_static x.allocation_strategy ≡ true → x.slots ≡ worst_case s.config x.max_loaned_samples
+  pub worst_case_of_slots_grants : (environment : Environment) (default_header : U) (s : State T U) (p : ℕ) (x : Publisher) (checks_length : Bool) (len : ℕ)
+      → IsWellFormed s → s.publishers p ≡ Some x → is_static x.allocation_strategy ≡ true → worst_case s.config x.max_loaned_samples ≤ x.slots
       → length x.loans < x.max_loaned_samples → s.next_message < last_number → (checks_length ≡ true → len ≤ x.initial_max_slice_len)
-      → GrantLoan environment default_header checks_length len s p s' refusal → refusal ≡ None
-  worst_case_of_slots_grants environment default_header s s' p x checks_length len refusal w present static slots some below fits h =
-      static_loan_granted environment default_header checks_length len s p x s' refusal
-      (fewer (size (held s p x)) ((s.config).max_subscribers * (buffer_limit s.config + (s.config).subscriber_max_borrowed_samples) + (s.config).history_size)
-      (length x.loans) x.max_loaned_samples x.slots (holds_at_most_worst_case s w p x present) slots some)
-      present static some below fits h
+      → GrantLoan environment default_header checks_length len s p (loan_granted default_header s p x len x.segments) None
+      × ((s' : State T U) (refusal : Option LoanError) → GrantLoan environment default_header checks_length len s p s' refusal → refusal ≡ None)
+  worst_case_of_slots_grants environment default_header s p x checks_length len w present static slots some below fits =
+      let few : size (held s p x) < x.slots =
+      fewer (size (held s p x)) ((s.config).max_subscribers * (buffer_limit s.config + (s.config).subscriber_max_borrowed_samples) + (s.config).history_size)
+      (length x.loans) x.max_loaned_samples x.slots (holds_at_most_worst_case s w p x present) slots some in (
+        static_loan_granted environment default_header checks_length len s p x few present static some below fits,
+        static_loan_unrefused environment default_header checks_length len s p x few present static some below fits,
+      )

@@ -12,9 +12,8 @@ use Rattle.iox2_store.specs.WellFormed.{IsWellFormed}
 use Rattle.iox2_laws.proofs.NumberLemmas.{false_from}
 use Rattle.iox2_runs.specs.Outcomes.{Event, No_event, Message_sent, Message_received, Outcome, messages_after}
 use Rattle.iox2_runs.specs.Step.{Step}
-use Rattle.iox2_runs.specs.Runs.{Defaults, any_defaults, Run, sent, received, IsSubsequence}
+use Rattle.iox2_runs.specs.Runs.{fixed_handlers, ample_memory, Defaults, any_defaults, Run, sent, received, IsSubsequence}
 use Rattle.iox2_runs.specs.RunLaws.{ReceivesInOrder}
-use Rattle.iox2_runs.specs.Laws.{tested_environment}
 use Rattle.iox2_runs.specs.declared.command.Command.{Command}
 use Rattle.iox2_runs.specs.declared.reply.Reply.{Reply}
 use Rattle.iox2_runs.proofs.StepLaws.{IsSound, step_sound}
@@ -157,11 +156,11 @@ module _ {T U : Type 0} where
           | false ↦ λ e. IsSubsequence-trans (IsSubsequence-front (got p q) (s.mailboxes p q).waiting) (w.order p q (ltb-false q p0 e))
         ] refl
 
-    -- In a run from any well-formed state, what a subscriber receives from a publisher is a part of what that publisher
-    -- sent, in the same order, each message at most once.
+    -- In a run from any well-formed state, a publisher sends each number once, and what a subscriber receives from it is a
+    -- subsequence of what it sent, in which each number occurs once.
     pub receives_in_order : (m m' : Messages T U) (s s' : State T U) (commands : List (Command T U)) (replies : List (Reply T U)) (events : List (Event T U))
         → IsWellFormed s → Run environment defaults m s commands replies events m' s' → (p q : ℕ)
-        → IsSubsequence (received p q events) (sent p events) × IsOnce (received p q events)
+        → IsOnce (sent p events) × IsSubsequence (received p q events) (sent p events) × IsOnce (received p q events)
     receives_in_order m m' s s' commands replies events w h p q =
         let p0 : ℕ = s.next_port in
         let n0 : ℕ = s.next_message in
@@ -172,9 +171,9 @@ module _ {T U : Type 0} where
         let end : Ordered p0 n0 (λ p. sent p events) (λ p q. received p q events) s' =
         subst (λ (es : List (Event T U)). Ordered p0 n0 (λ p. sent p es) (λ p q. received p q es) s') k.3 (k.4).ordered in
         let part : IsSubsequence (received p q events) (sent p events) = in_order p0 n0 (λ p. sent p events) (λ p q. received p q events) s' end p q in
-        (part, once_part part (end.once p))
+        (end.once p, part, once_part part (end.once p))
 
 -- Messages are received in the order in which they were sent.
 pub receives_in_order_law : (T U : Type 0) → ReceivesInOrder T U
-receives_in_order_law T U may_refuse_memory backpressure degradation m m' s s' commands replies events w h =
-    receives_in_order (tested_environment may_refuse_memory backpressure degradation) any_defaults m m' s s' commands replies events w h
+receives_in_order_law T U may_refuse_memory m m' s s' commands replies events w h =
+    receives_in_order (cond may_refuse_memory fixed_handlers ample_memory) any_defaults m m' s s' commands replies events w h

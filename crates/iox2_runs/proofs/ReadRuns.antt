@@ -1,6 +1,6 @@
 -- In a run, a received message names who sent it, and a read gives the message as it was sent.
 use Rattle.std.proofs.Common.{◌≡◌, ℕ, zero, suc, ◌+◌, ◌<◌, true, false, cond, List, [], ◌∷◌, ◌++◌, length, refl, sym, ap, subst, ◌∙◌, arith, Option, None, Some, ◌⊎◌, inl, ⊎_elim}
-use Rattle.std.specs.Prelude.{MatchOption, slice_get}
+use Rattle.std.specs.Prelude.{MatchOption, slice_get, take}
 use Rattle.std.specs.Option.{option_map_or}
 use Rattle.std.proofs.lemmas.Option.{none-some, same_Some}
 use Rattle.std.proofs.lemmas.Bool.{true≢false}
@@ -28,7 +28,7 @@ module _ {T U : Type 0} where
   abbrev NamesPublisher : Past T U → List (Event T U) → (i origin : ℕ) → Type 0
   NamesPublisher past events i origin =
       (q n : ℕ) × (entry : Entry T U) × (slice_get events i ≡ Some (Message_received origin q n))
-      × (past.WasSent origin n entry ⊎ WasSent origin n entry events) × ((entry.header).publisher_id ≡ origin)
+      × (past.WasSent origin n entry ⊎ WasSent origin n entry (take i events)) × ((entry.header).publisher_id ≡ origin)
 
   samples_from : (environment : Environment) (defaults : Defaults T U) (past : Past T U) (m : Messages T U) (s : State T U) (handles : List Handle)
       (commands : List (Command T U)) (replies : List (Reply T U)) (events : List (Event T U)) (m' : Messages T U) (s' : State T U)
@@ -45,15 +45,16 @@ module _ {T U : Type 0} where
       samples_from environment defaults (past_after past (h.4).event) (messages_after (h.4).event m) (h.4).state
       (handles ++ (h.4).handle ∷ []) commands replies events m' s'
       (goes_on environment h.0 h.1 past m s handles reached command h.4 h.5) h.8 i origin e in
-      (rest.0, rest.1, rest.2, rest.3, sent_in_all past origin rest.1 rest.2 (h.4).event event events h.7 rest.4, rest.5)
+      (rest.0, rest.1, rest.2, rest.3, sent_in_all past origin rest.1 rest.2 (h.4).event event (take i events) h.7 rest.4, rest.5)
   samples_from environment defaults past m s handles _ _ _ m' s' reached h i origin e = absurd h
 
-  -- The reply to a receive names the publisher that sent the message, and so does the message's header.
+  -- The reply to a receive names the publisher that sent the message before it was received, and so does the message's
+  -- header.
   pub samples_name_their_publisher : (environment : Environment) (defaults : Defaults T U) (m m' : Messages T U) (s s' : State T U)
       (commands : List (Command T U)) (replies : List (Reply T U)) (events : List (Event T U)) → IsWellFormed s
       → Run environment defaults m s commands replies events m' s'
       → (i origin : ℕ) → slice_get replies i ≡ Some (Sample origin)
-      → (q n : ℕ) × (entry : Entry T U) × (slice_get events i ≡ Some (Message_received origin q n)) × WasSent origin n entry events
+      → (q n : ℕ) × (entry : Entry T U) × (slice_get events i ≡ Some (Message_received origin q n)) × WasSent origin n entry (take i events)
       × ((entry.header).publisher_id ≡ origin)
   samples_name_their_publisher environment defaults m m' s s' commands replies events w h i origin e =
       let found : NamesPublisher (started s) events i origin = samples_from environment defaults (started s) m s [] commands replies events m' s'
@@ -149,8 +150,29 @@ module _ {T U : Type 0} where
       i (λ j low e. unreleased (suc j) (omega arith) e)
   held_reads environment defaults past m s handles _ _ _ m' s' reached h at p q n entry sent named only never held i unreleased = absurd h
 
-  abbrev ReadsSo : Past T U → List (Command T U) → List (Reply T U) → List (Event T U) → (at p n i : ℕ) → Type 0
-  ReadsSo past commands replies events at p n i = (entry : Entry T U) × (past.WasSent p n entry ⊎ WasSent p n entry events) × Gives at entry commands replies i
+  -- the sample that was received there has one entry, which each read until its release gives
+  abbrev ReadsSo : Past T U → List (Command T U) → List (Reply T U) → List (Event T U) → (at p n of : ℕ) → Type 0
+  ReadsSo past commands replies events at p n of =
+      (entry : Entry T U) × (past.WasSent p n entry ⊎ WasSent p n entry (take of events))
+      × ((i : ℕ) → of < i → ((j : ℕ) → of < j → j < i → slice_get commands j ≡ Some (Release at) → ⊥) → Gives at entry commands replies i)
+
+  -- the reads behind the first command are those of the rest
+  reads_behind : (command : Command T U) (commands : List (Command T U)) (reply : Reply T U) (replies : List (Reply T U)) (at : ℕ) (entry : Entry T U)
+      → ((i : ℕ) → ((j : ℕ) → j < i → slice_get commands j ≡ Some (Release at) → ⊥) → Gives at entry commands replies i)
+      → (i : ℕ) → 0 < i → ((j : ℕ) → 0 < j → j < i → slice_get (command ∷ commands) j ≡ Some (Release at) → ⊥)
+      → Gives at entry (command ∷ commands) (reply ∷ replies) i
+  reads_behind command commands reply replies at entry gives zero low unreleased = absurd (omega arith)
+  reads_behind command commands reply replies at entry gives (suc i) low unreleased =
+      gives i (λ j below f. unreleased (suc j) (omega arith) (omega arith) f)
+
+  -- and so are those of a sample of the rest
+  reads_later : (command : Command T U) (commands : List (Command T U)) (reply : Reply T U) (replies : List (Reply T U)) (at of : ℕ) (entry : Entry T U)
+      → ((i : ℕ) → of < i → ((j : ℕ) → of < j → j < i → slice_get commands j ≡ Some (Release at) → ⊥) → Gives at entry commands replies i)
+      → (i : ℕ) → suc of < i → ((j : ℕ) → suc of < j → j < i → slice_get (command ∷ commands) j ≡ Some (Release at) → ⊥)
+      → Gives at entry (command ∷ commands) (reply ∷ replies) i
+  reads_later command commands reply replies at of entry gives zero low unreleased = absurd (omega arith)
+  reads_later command commands reply replies at of entry gives (suc i) low unreleased =
+      gives i (omega arith) (λ j above below f. unreleased (suc j) (omega arith) (omega arith) f)
 
   -- what was received before isn't received again
   abbrev NeverAgain : List Handle → List (Event T U) → Type 0
@@ -160,12 +182,11 @@ module _ {T U : Type 0} where
       (commands : List (Command T U)) (replies : List (Reply T U)) (events : List (Event T U)) (m' : Messages T U) (s' : State T U)
       → HasReached past m s handles → RunFrom environment defaults m s handles commands replies events m' s'
       → NeverAgain handles events → ((p q : ℕ) → IsOnce (received p q events))
-      → (i of at p q n : ℕ) → at ≡ length handles + of → of < i → slice_get events of ≡ Some (Message_received p q n)
-      → ((j : ℕ) → of < j → j < i → slice_get commands j ≡ Some (Release at) → ⊥) → ReadsSo past commands replies events at p n i
-  reads_from environment defaults past m s handles [] [] [] m' s' reached h never once i of at p q n place low e unreleased = absurd (none-some _ e)
-  reads_from environment defaults past m s handles (command ∷ commands) (reply ∷ replies) (event ∷ events) m' s' reached h never once zero of at p q n place low e unreleased = absurd (omega arith)
+      → (of at p q n : ℕ) → at ≡ length handles + of → slice_get events of ≡ Some (Message_received p q n)
+      → ReadsSo past commands replies events at p n of
+  reads_from environment defaults past m s handles [] [] [] m' s' reached h never once of at p q n place e = absurd (none-some _ e)
   reads_from environment defaults past m s handles (command ∷ commands) (reply ∷ replies) (event ∷ events) m' s' reached h never once
-      (suc i) zero at p q n place low e unreleased =
+      zero at p q n place e =
       let tells : IsTold past s handles command h.4 = told environment h.0 h.1 past m s handles reached command h.4 h.5 in
       let this : event ≡ Message_received p q n = same_Some event (Message_received p q n) e in
       let got : ((entry : Entry T U) × past.WasSent p n entry × ((entry.header).publisher_id ≡ p)) × ((h.4).handle ≡ Sample_handle p q n)
@@ -176,40 +197,42 @@ module _ {T U : Type 0} where
       ap (slice_get (handles ++ (h.4).handle ∷ [])) here ∙ found_last handles (h.4).handle ∙ ap (λ (v : Handle). Some v) got.1 in (
         (got.0).0,
         inl (got.0).1,
-        held_reads environment defaults (past_after past (h.4).event) (messages_after (h.4).event m) (h.4).state
+        reads_behind command commands reply replies at (got.0).0
+            (held_reads environment defaults (past_after past (h.4).event) (messages_after (h.4).event m) (h.4).state
             (handles ++ (h.4).handle ∷ []) commands replies events m' s'
             (goes_on environment h.0 h.1 past m s handles reached command h.4 h.5) h.8 at p q n (got.0).0 (inl (got.0).1) last
             (λ k f. ⊎_elim (λ old. absurd (again p q n event events this (never p q n k old))) (λ new. new.0 ∙ sym here)
             (found_in_longer handles (h.4).handle k (Sample_handle p q n) f))
-            (once_only p q n event events this (once p q)) got.2
-            i (λ j below f. unreleased (suc j) (omega arith) (omega arith) f),
+            (once_only p q n event events this (once p q)) got.2),
       )
-  reads_from environment defaults past m s handles (command ∷ commands) (reply ∷ replies) (event ∷ events) m' s' reached h never once (suc i)
-      (suc of) at p q n place low e unreleased =
+  reads_from environment defaults past m s handles (command ∷ commands) (reply ∷ replies) (event ∷ events) m' s' reached h never once
+      (suc of) at p q n place e =
       let tells : IsTold past s handles command h.4 = told environment h.0 h.1 past m s handles reached command h.4 h.5 in
-      let rest : ReadsSo (past_after past (h.4).event) commands replies events at p n i =
+      let rest : ReadsSo (past_after past (h.4).event) commands replies events at p n of =
       reads_from environment defaults (past_after past (h.4).event) (messages_after (h.4).event m) (h.4).state
       (handles ++ (h.4).handle ∷ []) commands replies events m' s'
       (goes_on environment h.0 h.1 past m s handles reached command h.4 h.5) h.8
       (λ p q n k f. ⊎_elim (λ old. rest_absent p q n event events (never p q n k old))
       (λ new. once_only p q n event events (sym h.7 ∙ tells.sampled p q n new.1) (once p q)) (found_in_longer handles (h.4).handle k (Sample_handle p q n) f))
       (λ p q. rest_once p q event events (once p q))
-      i of at p q n (omega (arith, longer handles (h.4).handle)) (omega arith) e (λ j above below f. unreleased (suc j) (omega arith) (omega arith) f) in
-      (rest.0, sent_in_all past p n rest.0 (h.4).event event events h.7 rest.1, rest.2)
-  reads_from environment defaults past m s handles _ _ _ m' s' reached h never once i of at p q n place low e unreleased = absurd h
+      of at p q n (omega (arith, longer handles (h.4).handle)) e in
+      (rest.0, sent_in_all past p n rest.0 (h.4).event event (take of events) h.7 rest.1, reads_later command commands reply replies at of rest.0 rest.2)
+  reads_from environment defaults past m s handles _ _ _ m' s' reached h never once of at p q n place e = absurd h
 
-  -- Every read through a sample that isn't released gives the message as it was sent, where no message is received twice.
+  -- Each sample has one entry, with which its message was sent before it was received, and every read until the release
+  -- gives that entry, where no message is received twice.
   pub reads_give_what_was_sent : (environment : Environment) (defaults : Defaults T U) (m m' : Messages T U) (s s' : State T U)
       (commands : List (Command T U)) (replies : List (Reply T U)) (events : List (Event T U)) → ((p q : ℕ) → IsOnce (received p q events))
       → IsWellFormed s → Run environment defaults m s commands replies events m' s'
-      → (i of p q n : ℕ) → of < i → slice_get events of ≡ Some (Message_received p q n) → IsUnreleased commands of i
-      → (entry : Entry T U) × WasSent p n entry events
-      × ((at : ℕ) → slice_get commands i ≡ Some (Read of at) → slice_get replies i ≡ Some (option_map_or (λ value. Cell (Some value))
+      → (of p q n : ℕ) → slice_get events of ≡ Some (Message_received p q n)
+      → (entry : Entry T U) × WasSent p n entry (take of events)
+      × ((i : ℕ) → of < i → IsUnreleased commands of i
+      → ((at : ℕ) → slice_get commands i ≡ Some (Read of at) → slice_get replies i ≡ Some (option_map_or (λ value. Cell (Some value))
       (slice_get entry.values at) Skipped))
       × (slice_get commands i ≡ Some (ReadHeader of) → slice_get replies i ≡ Some (Header entry.header))
-      × (slice_get commands i ≡ Some (ReadUserHeader of) → slice_get replies i ≡ Some (UserHeader entry.user_header))
-  reads_give_what_was_sent environment defaults m m' s s' commands replies events once w h i of p q n low e unreleased =
-      let gives : ReadsSo (started s) commands replies events of p n i =
+      × (slice_get commands i ≡ Some (ReadUserHeader of) → slice_get replies i ≡ Some (UserHeader entry.user_header)))
+  reads_give_what_was_sent environment defaults m m' s s' commands replies events once w h of p q n e =
+      let gives : ReadsSo (started s) commands replies events of p n of =
       reads_from environment defaults (started s) m s [] commands replies events m' s' (start m s w) h
-      (λ p q n k f. absurd (none-some _ f)) once i of of p q n (omega arith) low e unreleased in
-      (gives.0, ⊎_elim (λ v. absurd v) (λ sent. sent) gives.1, (gives.2).0, (gives.2).1, (gives.2).2)
+      (λ p q n k f. absurd (none-some _ f)) once of of p q n (omega arith) e in
+      (gives.0, ⊎_elim (λ v. absurd v) (λ sent. sent) gives.1, gives.2)

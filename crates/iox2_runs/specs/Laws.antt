@@ -8,6 +8,7 @@ use Rattle.iox2_store.specs.declared.backpressure.BackpressureInfo.{Backpressure
 use Rattle.iox2_store.specs.declared.degradation.DegradationAction.{DegradationAction}
 use Rattle.iox2_store.specs.declared.degradation.DegradationCause.{DegradationCause}
 use Rattle.iox2_store.specs.declared.degradation.DegradationInfo.{DegradationInfo}
+use Rattle.iox2_laws.specs.Laws.{Advances}
 use Rattle.iox2_runs.specs.Outcomes.{Handle, Outcome, messages_after}
 use Rattle.iox2_runs.specs.Step.{Step}
 use Rattle.iox2_runs.specs.Shows.{Stored, Shows, StoredStep}
@@ -22,12 +23,14 @@ tested_environment may_refuse_memory backpressure degradation = record {
   degradation_answers = λ port cause info action. IsTrue (degradation port cause info action);
 }
 
--- Every step from a well-formed state ends in one, whatever the handlers answer and whether or not memory is refused.
+-- Every step from a well-formed state ends in one with the same configuration, and no counter falls, whatever the
+-- handlers answer and whether or not memory is refused.
 abbrev pub StepsKeepWellFormed : Type 0 → Type 0 → Type 0
 StepsKeepWellFormed T U =
     (may_refuse_memory : Bool) (backpressure : ℕ → BackpressureInfo → BackpressureAction → Bool) (degradation : ℕ → DegradationCause → DegradationInfo → DegradationAction → Bool)
     (default_value : T) (default_header : U) (m : Messages T U) (s : State T U) (handles : List Handle) (command : Command T U) (o : Outcome T U)
-    → IsWellFormed s → Step (tested_environment may_refuse_memory backpressure degradation) default_value default_header m s handles command o → IsWellFormed o.state
+    → IsWellFormed s → Step (tested_environment may_refuse_memory backpressure degradation) default_value default_header m s handles command o
+    → IsWellFormed o.state × Advances s o.state
 
 -- A step on what is kept is a step from each state that is shown, with the same outcome, to a state that is shown
 -- afterwards; and the messages are those of before with the one that was sent.

@@ -3,5 +3,5 @@ use Rattle.iox2_runs.specs.Laws.{tested_environment}
 use Rattle.iox2_runs.proofs.laws.worst_case_of_slots_grants.Goals as goal
 
 pub returns : goal.returns
-returns g c = λ may_refuse_memory backpressure degradation default_header s s' p x checks_length len refusal.
-    worst_case_of_slots_grants (tested_environment may_refuse_memory backpressure degradation) default_header s s' p x checks_length len refusal
+returns g c = λ may_refuse_memory backpressure degradation.
+    worst_case_of_slots_grants (tested_environment may_refuse_memory backpressure degradation)
