@@ -3,8 +3,8 @@ ghost use Rattle.iox2_runs.specs.FillingCommands.{WorstCaseIsReached, WorstCaseI
 ghost use Rattle.iox2_runs.specs.Isolation.{OthersAreUnseen, StepsLookAlike, SubscribersAreIsolated};
 ghost use Rattle.iox2_runs.specs.RunLaws.{ReachedStatesHoldFew, WorstCaseOfSlotsGrants, SamplesNameTheirPublisher, ReceivesInOrder, ReadsGiveWhatWasSent};
 
-/// Every step from a well-formed state ends in a well-formed one, whatever handlers answer and whether or not memory is
-/// refused.
+/// Every step from a well-formed state ends in a well-formed one, and no counter falls, whatever handlers answer and
+/// whether or not memory is refused.
 pub fn steps_keep_well_formed<T, U>()
     ensures { StepsKeepWellFormed T U }
 {}
@@ -14,56 +14,63 @@ pub fn steps_lift<T, U>()
     ensures { StepsLift T U }
 {}
 
-/// In every state that a run from a new domain reaches, each publisher holds at most the worst case of different messages
-/// and loans for the loans that it has out.
+/// In every state that a run from a new domain reaches, the configuration is unchanged, the state is well-formed, and each
+/// publisher holds at most the worst case of different messages and loans for the loans that it has out.
 pub fn reached_states_hold_few<T, U>()
     ensures { ReachedStatesHoldFew T U }
 {}
 
-/// A static publisher with the worst case of slots grants every loan of permitted length while fewer than its limit are
-/// out and the message counter isn't at its end.
+/// In a well-formed state, a static publisher with the worst case of slots grants every loan of permitted length, and can't
+/// refuse it, while fewer than its limit are out and the message counter isn't at its end.
 pub fn worst_case_of_slots_grants<T, U>()
     ensures { WorstCaseOfSlotsGrants T U }
 {}
 
-/// The reply to a receive names the publisher that sent the message, and so does the message's header.
+/// In a run from any well-formed state, the reply to a receive names the publisher that sent the message before, and so does
+/// the message's header.
 pub fn samples_name_their_publisher<T, U>()
     ensures { SamplesNameTheirPublisher T U }
 {}
 
-/// What a subscriber receives from a publisher in a run is a part of what that publisher sent, in the same order, each
-/// message at most once.
+/// In a run from any well-formed state, a publisher sends each number once. What a subscriber receives from it is a part of
+/// what it sent, in the same order, each message at most once.
 pub fn receives_in_order<T, U>()
     ensures { ReceivesInOrder T U }
 {}
 
-/// Every read through a sample gives the message as it was sent, until the sample is released.
+/// In a run from any well-formed state, each sample has one entry, with which its message was sent before it was received.
+/// Every read through the sample gives that entry, until the sample is released.
 pub fn reads_give_what_was_sent<T, U>()
     ensures { ReadsGiveWhatWasSent T U }
 {}
 
-/// A list of commands makes a publisher need every slot of the worst case, and no run of it skips or refuses a command.
+/// With ample memory, for each fillable configuration, every run of a stated list of commands skips and refuses none, and
+/// ends with a publisher that holds the worst case of messages and loans.
 pub fn worst_case_is_reached<T, U>()
     ensures { WorstCaseIsReached T U }
 {}
 
-/// With one slot fewer, each run of that list refuses a loan for want of slots while fewer than the publisher's limit are
-/// out.
+/// With ample memory and any smaller number of slots, each run of that list refuses a loan for want of slots while fewer
+/// than the publisher's limit are out.
 pub fn worst_case_is_least<T, U>()
     ensures { WorstCaseIsLeast T U }
 {}
 
-/// What a subscriber does leaves the view of each other subscriber as it was.
+/// With ample memory and no closed subscriber left, a subscriber's receive, `HasSamples`, update, read or release leaves the
+/// view of each other subscriber as it was.
 pub fn others_are_unseen<T, U>()
     ensures { OthersAreUnseen T U }
 {}
 
-/// One command from two states that look alike to a subscriber ends in states that look alike to it.
+/// With ample memory, one command that closes no subscriber, from two independent states with equal views, ends in equal
+/// views. If it is the subscriber's own receive, the replies must be equal.
 pub fn steps_look_alike<T, U>()
     ensures { StepsLookAlike T U }
 {}
 
-/// What a subscriber sees of a run doesn't depend on which receives, updates and releases the other subscribers leave out.
+/// With ample memory, static publishers with the worst case of slots that never block, and no subscriber closed: a
+/// subscriber's view, and all reads through its samples, are the same after a list of commands and after that list with some
+/// calls of other subscribers replaced by `Nothing`, as long as its own receives get the same replies.
 pub fn subscribers_are_isolated<T, U>()
     ensures { SubscribersAreIsolated T U }
 {}
