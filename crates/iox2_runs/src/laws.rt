@@ -1,7 +1,7 @@
 ghost use Rattle.iox2_runs.specs.Laws.{StepsKeepWellFormed, StepsLift};
 ghost use Rattle.iox2_runs.specs.FillingCommands.{WorstCaseIsReached, WorstCaseIsLeast};
 ghost use Rattle.iox2_runs.specs.Isolation.{OthersAreUnseen, StepsLookAlike, SubscribersAreIsolated};
-ghost use Rattle.iox2_runs.specs.RunLaws.{ReachedStatesHoldFew, WorstCaseOfSlotsGrants, SamplesNameTheirPublisher, ReceivesInOrder, ReadsGiveWhatWasSent};
+ghost use Rattle.iox2_runs.specs.RunLaws.{ReachedStatesHoldFew, WorstCaseOfSlotsGrants, LoansAreGranted, SamplesNameTheirPublisher, ReceivesInOrder, ReadsGiveWhatWasSent};
 
 /// Every step from a well-formed state ends in a well-formed one, whatever handlers answer and whether or not memory is
 /// refused.
@@ -24,6 +24,13 @@ pub fn reached_states_hold_few<T, U>()
 /// out and the message counter isn't at its end.
 pub fn worst_case_of_slots_grants<T, U>()
     ensures { WorstCaseOfSlotsGrants T U }
+{}
+
+/// In a service with elements of one unit, a static publisher that waits for no receiver and has at least the worst case
+/// of slots grants each loan command of permitted length while fewer loans than its limit are out and the message counter
+/// isn't at its end.
+pub fn loans_are_granted<T, U>()
+    ensures { LoansAreGranted T U }
 {}
 
 /// The reply to a receive names the publisher that sent the message, and so does the message's header.
