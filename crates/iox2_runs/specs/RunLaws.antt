@@ -10,19 +10,21 @@ use Rattle.iox2_store.specs.State.{State, Messages, fresh, no_messages}
 use Rattle.iox2_store.specs.Loans.{GrantLoan, is_static, loan_granted}
 use Rattle.iox2_store.specs.WellFormed.{IsWellFormed, HoldsAtMostWorstCase}
 use Rattle.iox2_store.specs.declared.service_config.ServiceConfig.{ServiceConfig}
+use Rattle.iox2_store.specs.declared.service_config.TypeVariant.TheVariants.{FixedSize, Dynamic}
 use Rattle.iox2_store.specs.declared.backpressure.BackpressureAction.{BackpressureAction}
 use Rattle.iox2_store.specs.declared.backpressure.BackpressureInfo.{BackpressureInfo}
 use Rattle.iox2_store.specs.declared.degradation.DegradationAction.{DegradationAction}
 use Rattle.iox2_store.specs.declared.degradation.DegradationCause.{DegradationCause}
 use Rattle.iox2_store.specs.declared.degradation.DegradationInfo.{DegradationInfo}
 use Rattle.iox2_store.specs.declared.errors.LoanError.{LoanError}
-use Rattle.iox2_runs.specs.Outcomes.{Event, Message_sent, Message_received}
+use Rattle.iox2_runs.specs.Outcomes.{Handle, Event, Message_sent, Message_received, Outcome}
+use Rattle.iox2_runs.specs.Step.{Step, unblocked_at}
 use Rattle.iox2_runs.specs.Runs.{fixed_handlers, ample_memory, Run, any_defaults, sent, received, IsSubsequence}
 use Rattle.iox2_runs.specs.Laws.{tested_environment}
 use Rattle.iox2_runs.specs.declared.command.Command.{Command}
-use Rattle.iox2_runs.specs.declared.command.Command.TheVariants.{Read, ReadHeader, ReadUserHeader, Release}
+use Rattle.iox2_runs.specs.declared.command.Command.TheVariants.{LoanUninit, Loan as LoanDefault, LoanSlice, Read, ReadHeader, ReadUserHeader, Release}
 use Rattle.iox2_runs.specs.declared.reply.Reply.{Reply}
-use Rattle.iox2_runs.specs.declared.reply.Reply.TheVariants.{Skipped, Sample, Cell, Header, UserHeader}
+use Rattle.iox2_runs.specs.declared.reply.Reply.TheVariants.{Loaned, Skipped, Sample, Cell, Header, UserHeader}
 
 -- `Holds` is true of the commands, replies and events of every run that begins in a well-formed state, whether or not
 -- memory may be refused. A run names only ports, loans and samples that it made.
@@ -67,8 +69,8 @@ ReadsGiveWhatWasSent T U = OfEachRun T U (λ commands replies events.
 
 -- ---- enough slots
 
--- `Holds` is true of the configuration and of every state that a run from a new domain with it reaches, whether or not
--- memory may be refused.
+-- `Holds` is true of a configuration and every state that a run from a new domain of that configuration reaches, whether
+-- or not memory may be refused.
 abbrev pub OfEachReachedState : (T U : Type 0) → (ServiceConfig → State T U → Type 0) → Type 0
 OfEachReachedState T U Holds =
     (may_refuse_memory : Bool) (c : ServiceConfig) (m' : Messages T U) (s' : State T U) (commands : List (Command T U)) (replies : List (Reply T U)) (events : List (Event T U))
@@ -90,3 +92,22 @@ WorstCaseOfSlotsGrants T U =
     → length x.loans < x.max_loaned_samples → s.next_message < last_number → (checks_length ≡ true → len ≤ x.initial_max_slice_len)
     → GrantLoan (tested_environment may_refuse_memory backpressure degradation) default_header checks_length len s p (loan_granted default_header s p x len x.segments) None
     × ((s' : State T U) (refusal : Option LoanError) → GrantLoan (tested_environment may_refuse_memory backpressure degradation) default_header checks_length len s p s' refusal → refusal ≡ None)
+
+-- There is an outcome, and each outcome replies that a loan is out.
+abbrev pub IsLoaned : {T U : Type 0} → (IsOutcome : Outcome T U → Type 0) → Type 0
+IsLoaned {T} {U} IsOutcome = ((o : Outcome T U) × IsOutcome o) × ((o : Outcome T U) → IsOutcome o → o.reply ≡ Loaned)
+
+-- In every well-formed state of a service with elements of one unit, a static publisher that waits for no receiver and
+-- has at least the worst case of slots grants each loan command of permitted length while fewer loans than its limit are
+-- out and the message counter isn't at its end.
+abbrev pub LoansAreGranted : Type 0 → Type 0 → Type 0
+LoansAreGranted T U =
+    (may_refuse_memory : Bool) (backpressure : ℕ → BackpressureInfo → BackpressureAction → Bool) (degradation : ℕ → DegradationCause → DegradationInfo → DegradationAction → Bool)
+    (default_value : T) (default_header : U) (m : Messages T U) (s : State T U) (handles : List Handle) (of p : ℕ) (x : Publisher)
+    → IsWellFormed s → unblocked_at s handles of ≡ Some (p, x) → (s.config).units_per_element ≡ 1
+    → is_static x.allocation_strategy ≡ true → worst_case s.config x.max_loaned_samples ≤ x.slots
+    → length x.loans < x.max_loaned_samples → s.next_message < last_number
+    → ((s.config).variant ≡ FixedSize → IsLoaned (Step (tested_environment may_refuse_memory backpressure degradation) default_value default_header m s handles (LoanUninit of)))
+    × ((s.config).variant ≡ FixedSize → IsLoaned (Step (tested_environment may_refuse_memory backpressure degradation) default_value default_header m s handles (LoanDefault of)))
+    × ((len : ℕ) → (s.config).variant ≡ Dynamic → len ≤ x.initial_max_slice_len
+    → IsLoaned (Step (tested_environment may_refuse_memory backpressure degradation) default_value default_header m s handles (LoanSlice of len)))

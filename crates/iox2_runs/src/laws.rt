@@ -1,10 +1,10 @@
 ghost use Rattle.iox2_runs.specs.Laws.{StepsKeepWellFormed, StepsLift};
 ghost use Rattle.iox2_runs.specs.FillingCommands.{WorstCaseIsReached, WorstCaseIsLeast};
 ghost use Rattle.iox2_runs.specs.Isolation.{OthersAreUnseen, StepsLookAlike, SubscribersAreIsolated};
-ghost use Rattle.iox2_runs.specs.RunLaws.{ReachedStatesHoldFew, WorstCaseOfSlotsGrants, SamplesNameTheirPublisher, ReceivesInOrder, ReadsGiveWhatWasSent};
+ghost use Rattle.iox2_runs.specs.RunLaws.{ReachedStatesHoldFew, WorstCaseOfSlotsGrants, LoansAreGranted, SamplesNameTheirPublisher, ReceivesInOrder, ReadsGiveWhatWasSent};
 
-/// Every step from a well-formed state ends in a well-formed one, and no counter falls, whatever handlers answer and
-/// whether or not memory is refused.
+/// Every step from a well-formed state ends in a well-formed one with the same configuration, and no counter falls,
+/// whatever handlers answer and whether or not memory is refused.
 pub fn steps_keep_well_formed<T, U>()
     ensures { StepsKeepWellFormed T U }
 {}
@@ -24,6 +24,13 @@ pub fn reached_states_hold_few<T, U>()
 /// refuse it, while fewer than its limit are out and the message counter isn't at its end.
 pub fn worst_case_of_slots_grants<T, U>()
     ensures { WorstCaseOfSlotsGrants T U }
+{}
+
+/// In a well-formed state of a service with elements of one unit, each loan command of permitted length at a static
+/// publisher with the worst case of slots, which isn't blocked, has an outcome, and each outcome replies that it is loaned,
+/// while fewer loans than the publisher's limit are out and the message counter isn't at its end.
+pub fn loans_are_granted<T, U>()
+    ensures { LoansAreGranted T U }
 {}
 
 /// In a run from any well-formed state, the reply to a receive names the publisher that sent the message before, and so does

@@ -1,8 +1,8 @@
 use crate::{
-    Command, Reply, others_are_unseen, reached_states_hold_few, reads_give_what_was_sent,
-    receives_in_order, samples_name_their_publisher, steps_keep_well_formed, steps_lift,
-    steps_look_alike, subscribers_are_isolated, worst_case_is_least, worst_case_is_reached,
-    worst_case_of_slots_grants,
+    Command, Reply, loans_are_granted, others_are_unseen, reached_states_hold_few,
+    reads_give_what_was_sent, receives_in_order, samples_name_their_publisher,
+    steps_keep_well_formed, steps_lift, steps_look_alike, subscribers_are_isolated,
+    worst_case_is_least, worst_case_is_reached, worst_case_of_slots_grants,
 };
 use iox2_store::{LoanError, UniquePublisherId};
 
@@ -43,6 +43,7 @@ fn laws_stand_at_concrete_types() {
     receives_in_order::<u64, u8>();
     reads_give_what_was_sent::<u64, u8>();
     worst_case_of_slots_grants::<u64, u8>();
+    loans_are_granted::<u64, u8>();
     worst_case_is_reached::<u64, u8>();
     worst_case_is_least::<u64, u8>();
     others_are_unseen::<u64, u8>();
