@@ -19,3 +19,5 @@ pub mod Backpressure
 pub mod SlotFree
 pub mod SlotBook
 pub mod SlotContents
+pub mod Link
+pub mod LinkFields

@@ -4,6 +4,7 @@
 
 mod allocation;
 mod backpressure;
+mod connection;
 mod degradation;
 mod errors;
 mod header;
@@ -19,6 +20,7 @@ pub use allocation::{AllocationStrategy, DataSegmentType};
 pub use backpressure::{
     BackpressureAction, BackpressureInfo, BackpressureStrategy, BackpressureToReceiverAction,
 };
+pub use connection::{Connection, Home, PutOutcome};
 pub use degradation::{DegradationAction, DegradationCause, DegradationInfo};
 pub use errors::{
     ConnectionFailure, DomainCreateError, LoanError, PublisherCreateError, ReceiveError, SendError,

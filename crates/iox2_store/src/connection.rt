@@ -1,0 +1,181 @@
+//! What lies between one publisher and one subscriber: numbers of the publisher's slots.
+ghost use Rattle.std.specs.Prelude.{◌≡◌, ◌+◌, ◌<◌, ◌≤◌, ◌==◌, ◌↔◌, length, position, Contains, IfOk, IsTrue};
+ghost use Rattle.iox2_store.specs.Link.{load, empty_link, has_slots, can_borrow, with_returned, IsBounded};
+
+use circular_buffer::HeapCircularBuffer;
+use std::alloc::{AllocError, Global};
+use std::marker::Model;
+
+#[cfg(test)]
+mod tests;
+
+/// Between which two ports a connection stands, and at which place each of them knows it. It never
+/// changes.
+#[derive(Debug, Clone, Copy, PartialEq, Eq)]
+pub struct Home {
+    /// The id of the publisher.
+    pub publisher: u128,
+    /// The id of the subscriber.
+    pub subscriber: u128,
+    /// The publisher's place among the publishers, at which the subscriber knows the connection.
+    pub publisher_place: usize,
+    /// The subscriber's place among the subscribers, at which the publisher knows the connection.
+    pub subscriber_place: usize,
+}
+
+/// What `Connection::put` came to.
+#[derive(Debug, Clone, Copy, PartialEq, Eq)]
+pub enum PutOutcome {
+    /// The slot waits, and there was room for it.
+    Taken,
+    /// The slot waits, and this one, the oldest of those that waited, went for it.
+    Overwrote(usize),
+    /// There was no room, and nothing has changed.
+    Full,
+}
+
+/// The first place at which a slot stands.
+fn place_of(slots: &[usize], slot: usize) -> Option<usize>
+    ensures { result ≡ position (λ other. other == slot) slots.now }
+{
+    slots.iter().position(|other| *other == slot)
+}
+
+/// A connection of one publisher and one subscriber. It holds numbers of the publisher's slots:
+/// those that wait to be received, those that the subscriber has borrowed, and those that it has
+/// given back and the publisher hasn't reclaimed yet. Only `new` allocates.
+///
+/// iceoryx2's `zero_copy_connection`, whose two ends are the `Sender` and the `Receiver` of
+/// `src/port/details`: a submission queue, a list of borrowed offsets and a completion queue.
+#[derive(Drop)]
+pub struct Connection {
+    waiting: HeapCircularBuffer<usize>,
+    borrowed: Vec<usize>,
+    returned: HeapCircularBuffer<usize>,
+    limit: usize,
+    home: Home,
+}
+
+impl Model for Connection {
+    ghost use Rattle.iox2_store.specs.Link.{Link};
+
+    ghost Value = { Link };
+
+    ghost use Rattle.iox2_store.specs.LinkFields.{link_of, IsConnection};
+
+    ghost view = { link_of };
+
+    ghost invariant = { IsConnection };
+}
+
+impl Connection {
+    ghost use Rattle.iox2_store.specs.Link.{IsPut, IsTaken, IsReclaimed};
+
+    /// A connection in which no slot stands. At most `buffer` slots wait there and at most `limit`
+    /// are borrowed.
+    ///
+    /// Answers `AllocError` where memory is refused, and where `buffer + limit + 1`, the room for
+    /// slots that are given back, isn't a `usize`.
+    pub fn new(
+        alloc: Global,
+        home: Home,
+        buffer: usize,
+        limit: usize,
+    ) -> Result<Connection, AllocError>
+        requires { 0 < buffer }
+        ensures { IfOk result (λ c. c ≡ empty_link home buffer limit) }
+    {
+        let Some(room) = buffer.checked_add(limit).and_then(|sum| sum.checked_add(1)) else {
+            return Err(AllocError);
+        };
+        let waiting = HeapCircularBuffer::with_capacity(alloc, buffer)?;
+        let borrowed = Vec::with_capacity(alloc, limit)?;
+        let returned = HeapCircularBuffer::with_capacity(alloc, room)?;
+        Ok(Connection {
+            waiting,
+            borrowed,
+            returned,
+            limit,
+            home,
+        })
+    }
+
+    /// Between which ports the connection stands.
+    pub fn home(&self) -> Home
+        ensures value { result ≡ self.now.home }
+        ensures bounded { IsBounded self.now }
+    {
+        self.home
+    }
+
+    /// Puts a slot behind those that wait. Where there is no room, the oldest of them goes if
+    /// `overflow` is set, and else nothing changes.
+    pub fn put(&mut self, slot: usize, overflow: bool) -> PutOutcome
+        requires { load self.old ≤ self.old.buffer + self.old.limit }
+        ensures put { IsPut self.old slot overflow result self.new }
+        ensures bounded { IsBounded self.new }
+    {
+        if self.waiting.try_push_back(slot).is_ok() {
+            return PutOutcome::Taken;
+        }
+        if !overflow {
+            return PutOutcome::Full;
+        }
+        match self.waiting.push_back(slot) {
+            Some(oldest) => PutOutcome::Overwrote(oldest),
+            None => PutOutcome::Taken,
+        }
+    }
+
+    /// Borrows the slot that has waited longest. `None` if none waits.
+    pub fn take(&mut self) -> Option<usize>
+        requires { length self.old.borrowed < self.old.limit }
+        ensures takes { IsTaken self.old result self.new }
+        ensures bounded { IsBounded self.new }
+    {
+        let slot = self.waiting.pop_front()?;
+        self.borrowed.push_reserved(slot);
+        Some(slot)
+    }
+
+    /// Gives a borrowed slot back, for the publisher to reclaim.
+    pub fn release(&mut self, slot: usize)
+        requires { Contains self.old.borrowed slot }
+        ensures releases { self.new ≡ with_returned slot self.old }
+        ensures bounded { IsBounded self.new }
+    {
+        if let Some(place) = place_of(&self.borrowed, slot) {
+            self.borrowed.remove(place);
+            self.returned.push_back(slot);
+        }
+    }
+
+    /// Reclaims the slot that was given back first. `None` if there is none.
+    pub fn reclaim(&mut self) -> Option<usize>
+        ensures reclaims { IsReclaimed self.old result self.new }
+        ensures bounded { IsBounded self.new }
+    {
+        self.returned.pop_front()
+    }
+
+    /// Whether some slot waits.
+    pub fn has_data(&self) -> bool
+        ensures { result ≡ has_slots self.now }
+    {
+        !self.waiting.is_empty()
+    }
+
+    /// Whether `take` may be called and finds a slot.
+    pub fn can_receive(&self) -> bool
+        ensures { result ≡ can_borrow self.now }
+    {
+        self.has_data() && self.borrowed.len() < self.limit
+    }
+
+    /// Whether the slot is borrowed, so that `release` may be called for it.
+    pub fn is_borrowed(&self, slot: usize) -> bool
+        ensures { IsTrue result ↔ Contains self.now.borrowed slot }
+    {
+        self.borrowed.contains(&slot)
+    }
+}
