@@ -1,0 +1,35 @@
+-- A delivery without a handler is one in every environment.
+use Rattle.std.proofs.Common.{ℕ, ◌+◌, ◌||◌, Bool, true, false, List, [], ◌∷◌, Option, None, Some}
+use Rattle.std.specs.Bool.{MatchBool}
+use Rattle.std.specs.declared.time.Duration.{Duration}
+use Rattle.iox2_store.specs.Mailbox.{Mailbox}
+use Rattle.iox2_store.specs.Records.{Environment}
+use Rattle.iox2_store.specs.Delivery.{PutResult, DeliveryEnd, is_blocking, is_failed, accepted_count, no_time, Put, PutAtEnd, Deliver}
+use Rattle.iox2_store.specs.declared.service_config.ServiceConfig.{ServiceConfig}
+use Rattle.iox2_store.specs.declared.backpressure.BackpressureStrategy.{BackpressureStrategy}
+
+module _ (e e' : Environment) (c : ServiceConfig) (p : ℕ) (strategy : BackpressureStrategy) (buffers : ℕ → Option ℕ) (n : ℕ) where
+  put-any : (q retries : ℕ) (elapsed : Duration) (buffer : Option ℕ) (box : Mailbox) (result : PutResult) (box' : Mailbox)
+      → Put e c p strategy None buffers n q retries elapsed buffer box result box' → Put e' c p strategy None buffers n q retries elapsed buffer box result box'
+  put-any q retries elapsed None box result box' h = h
+  put-any q retries elapsed (Some buffer) box result box' h = h
+
+  put_at_end-any : (retries : ℕ) (elapsed : Duration) (end : Option ℕ) (boxes : ℕ → Mailbox) (result : PutResult) (boxes' : ℕ → Mailbox)
+      → PutAtEnd e c p strategy None buffers n retries elapsed end boxes result boxes' → PutAtEnd e' c p strategy None buffers n retries elapsed end boxes result boxes'
+  put_at_end-any retries elapsed None boxes result boxes' h = h
+  put_at_end-any retries elapsed (Some q) boxes result boxes' h = (h.0, put-any q retries elapsed (buffers q) (boxes q) result h.0 h.1, h.2)
+
+  -- what is delivered without a handler doesn't depend on what handlers answer
+  pub Deliver-any : (retries : ℕ) (elapsed : Duration) (place : ℕ) (ends : List (Option ℕ)) (count : ℕ) (has_failed : Bool) (boxes : ℕ → Mailbox) (how : DeliveryEnd) (boxes' : ℕ → Mailbox)
+      → Deliver e c p strategy None buffers n retries elapsed place ends count has_failed boxes how boxes' → Deliver e' c p strategy None buffers n retries elapsed place ends count has_failed boxes how boxes'
+  Deliver-any retries elapsed place [] count has_failed boxes how boxes' h = h
+  Deliver-any retries elapsed place (end ∷ rest) count has_failed boxes how boxes' h = (
+    h.0,
+    h.1,
+    put_at_end-any retries elapsed end boxes h.0 h.1 h.2,
+    by _ _ _ (is_blocking h.0) h.3 (λ g. Deliver-any 0 no_time (place + 1) rest (count + accepted_count h.0) (has_failed || is_failed h.0) h.1 how boxes' g),
+  )
+    where
+      by : (P Q R : Type 0) (b : Bool) → MatchBool b P Q → (Q → R) → MatchBool b P R
+      by P Q R true g later = g
+      by P Q R false g later = later g

@@ -1,0 +1,221 @@
+-- One put of a delivery, seen from the machine.
+use Rattle.std.proofs.Common.{◌≡◌, ◌<◌, ◌≤◌, ◌+◌, length, drop, ℕ, List, [], ◌∷◌, Bool, true, false, ◌&&◌, eqb, nat_lt, Option, None, Some, get_or, refl, ap, sym, ◌∙◌, subst, inl, inr, arith}
+use Rattle.std.proofs.lemmas.Bool.{cases_eq, eqb-true}
+use Rattle.std.proofs.lemmas.List.{drop_more, map-append, length-map}
+use Rattle.std.proofs.Math.ListN.{get_or-map}
+use Rattle.std.specs.Option.{option_map, option_and_then}
+use Rattle.std.specs.Prelude.{IsSomeAnd}
+use Rattle.slab.specs.Slab.{Slab, get, Updates, with_value, ContainsKey}
+use Rattle.iox2_store.specs.Link.{Link, IsPut, IsBounded, load}
+use Rattle.iox2_store.specs.Mailbox.{Mailbox}
+use Rattle.iox2_store.specs.Delivery.{Skipped, DeliveryEnd, Put, is_blocking, is_failed, accepted_count, no_time}
+use Rattle.iox2_store.specs.declared.service_config.ServiceConfig.{ServiceConfig}
+use Rattle.iox2_store.specs.declared.backpressure.BackpressureStrategy.{BackpressureStrategy}
+use Rattle.iox2_store.specs.declared.connection.Home.{Home}
+use Rattle.iox2_store.specs.declared.connection.PutOutcome.{PutOutcome}
+use Rattle.iox2_store.specs.declared.connection.PutOutcome.TheVariants.{Taken, Overwrote, Full}
+use Rattle.iox2_ends.specs.declared.sender.ReceiverDetails.{ReceiverDetails}
+use Rattle.iox2_ends.specs.declared.sender.Delivery.{Delivery}
+use Rattle.iox2_ends.specs.declared.sender.Reception.{Reception}
+use Rattle.iox2_ends.specs.declared.sender.DeliveryOutcome.{DeliveryOutcome}
+use Rattle.iox2_ends.specs.LookUp.{look_up, IsOnly}
+use Rattle.iox2_ends.specs.Mailboxes.{mailbox_of, mailboxes_of, subscriber_at, sender_ends}
+use Rattle.iox2_ends.specs.Homes.{SameHomes, KeepsOthers, IsSenders, IsSenderLinked, fixed_of}
+use Rattle.iox2_ends.specs.Receivers.{has_id, buffer_if_open, buffers_of, is_open_one, is_open_at, KnowsReceivers, HasReclaimed, IsReadyToDeliver}
+use Rattle.iox2_ends.specs.Deliveries.{no_handlers, result_of, result_of_put, end_of, PutsMessage, DeliversMessage}
+use Rattle.iox2_ends.proofs.LookUps.{look_up-found, look_up-there}
+use Rattle.iox2_ends.proofs.MailboxChanges.{Updates-with_value, SameHomes-updated, KeepsOthers-updated, was, IsApart-same, both-true, mailbox-there, row-changed, put_at-same}
+use mathlib.Core.Path.{fun_ext}
+
+-- ---- the connection at a place
+
+-- a key at a publisher's place leads to its connection
+pub there : (p : ℕ) (slab : Slab Link) (places : List (Option ℕ)) (i key : ℕ) → IsSenderLinked p slab places → get_or places i None ≡ Some key → (c : Link) × (get slab key ≡ Some c) × IsSenders p i c
+there p slab places i key l at = by (get slab key) refl (l.at i key at) where
+  by : (o : Option Link) → get slab key ≡ o → IsSomeAnd o (IsSenders p i) → (c : Link) × (get slab key ≡ Some c) × IsSenders p i c
+  by None e h = absurd h
+  by (Some c) e h = (c, e, h)
+
+pub contains-at : (p : ℕ) (slab : Slab Link) (places : List (Option ℕ)) (i key : ℕ) → IsSenderLinked p slab places → get_or places i None ≡ Some key → ContainsKey slab key
+contains-at p slab places i key l at = let c = there p slab places i key l at in rw c.1 refl
+
+-- the connection found at a place is its publisher's
+pub senders-at : (p : ℕ) (slab : Slab Link) (places : List (Option ℕ)) (i key : ℕ) (c : Link) → IsSenderLinked p slab places → get_or places i None ≡ Some key → get slab key ≡ Some c → IsSenders p i c
+senders-at p slab places i key c l at is = let h = there p slab places i key l at in let e : Some h.0 ≡ Some c = sym h.1 ∙ is in subst (IsSenders p i) (let f : h.0 ≡ c = cc in f) h.2
+
+-- two looks at one key find one connection
+pub same_link : (slab : Slab Link) (key : ℕ) (b c : Link) → get slab key ≡ Some b → get slab key ≡ Some c → b ≡ c
+same_link slab key b c at_b at_c = let e : Some b ≡ Some c = sym at_b ∙ at_c in let f : b ≡ c = cc in f
+
+-- ---- receivers
+
+-- the open receiver that stands at the place is the one with that id
+pub buffers-open : (slab : Slab Link) (receivers : List (Option ReceiverDetails)) (key i : ℕ) (c : Link) → KnowsReceivers slab receivers → IsOnly (has_id c.home.subscriber) receivers → get slab key ≡ Some c
+    → is_open_at receivers i c.home.subscriber ≡ true → buffers_of receivers c.home.subscriber ≡ Some c.buffer
+buffers-open slab receivers key i c knows only at receiving = by (get_or receivers i None) refl receiving where
+  by : (o : Option ReceiverDetails) → get_or receivers i None ≡ o → is_open_one c.home.subscriber o ≡ true → buffers_of receivers c.home.subscriber ≡ Some c.buffer
+  by None e h = absurd cc
+  by (Some y) e h =
+      let parts = both-true _ _ h in
+      rw (look_up-found (has_id c.home.subscriber) receivers i y only e parts.0, parts.1)
+      (ap Some (sym (knows.at key i c y at e (eqb-true _ _ parts.0)).1))
+
+-- where none stands open at its place, none with that id takes messages
+pub buffers-closed : (slab : Slab Link) (receivers : List (Option ReceiverDetails)) (key : ℕ) (c : Link) → KnowsReceivers slab receivers → get slab key ≡ Some c
+    → is_open_at receivers c.home.subscriber_place c.home.subscriber ≡ false → buffers_of receivers c.home.subscriber ≡ None
+buffers-closed slab receivers key c knows at not_receiving = by (look_up (has_id c.home.subscriber) receivers) refl where
+  by : (o : Option ReceiverDetails) → look_up (has_id c.home.subscriber) receivers ≡ o → option_and_then buffer_if_open o ≡ None
+  by None e = refl
+  by (Some y) e =
+      let found = look_up-there (has_id c.home.subscriber) receivers y e in
+      let same : found.0 ≡ c.home.subscriber_place = (knows.at key found.0 c y at found.1 (eqb-true _ _ found.2)).0 in
+      let here : get_or receivers c.home.subscriber_place None ≡ Some y = sym (ap (λ (k : ℕ). get_or receivers k None) same) ∙ found.1 in
+      let shut : (eqb y.port_id c.home.subscriber && y.is_open) ≡ false = rw here at not_receiving in
+      rw (rw found.2 at shut) refl
+
+-- ---- a put
+
+lt-true : (a b : ℕ) → a < b → nat_lt a b ≡ true
+lt-true a b e = grind arith
+
+lt-false : (a b : ℕ) → a ≡ b → nat_lt a b ≡ false
+lt-false a b e = grind arith
+
+-- one put, at numbers
+pub put-mailbox : (number : ℕ → ℕ) (config : ServiceConfig) (p q slot : ℕ) (strategy : BackpressureStrategy) (buffers : ℕ → Option ℕ) (c d : Link) (o : PutOutcome) → IsPut c slot config.enable_safe_overflow o d
+    → Put no_handlers config p strategy None buffers (number slot) q 0 no_time (Some c.buffer) (mailbox_of number c) (result_of_put strategy o) (mailbox_of number d)
+put-mailbox number config p q slot strategy buffers c d Taken h =
+    rw (h.1, length-map c.waiting number, lt-true (length c.waiting) c.buffer h.0, map-append number c.waiting (slot ∷ [])) (refl, refl)
+put-mailbox number config p q slot strategy buffers c d (Overwrote oldest) h =
+    rw (h.2.2, length-map c.waiting number, lt-false (length c.waiting) c.buffer h.1, h.0, h.2.1, map-append number h.2.0 (slot ∷ [])) (refl, refl)
+put-mailbox number config p q slot strategy buffers c d Full h =
+    rw (h.2, length-map c.waiting number, lt-false (length c.waiting) c.buffer h.1, h.0) (refl, refl)
+
+-- a put leaves what never changes
+pub put-fixed : (c : Link) (slot : ℕ) (overflow : Bool) (o : PutOutcome) (d : Link) → IsPut c slot overflow o d → fixed_of d ≡ fixed_of c
+put-fixed c slot overflow Taken d h = ap fixed_of h.1
+put-fixed c slot overflow (Overwrote _) d h = ap fixed_of h.2.2
+put-fixed c slot overflow Full d h = ap fixed_of h.2
+
+-- a put leaves the connection where it stands
+pub put-home : (c : Link) (slot : ℕ) (overflow : Bool) (o : PutOutcome) (d : Link) → IsPut c slot overflow o d → d.home ≡ c.home
+put-home c slot overflow o d h = ap (λ (t : Home × ℕ × ℕ). t.0) (put-fixed c slot overflow o d h)
+
+-- a put leaves what was given back
+pub put-returned : (c : Link) (slot : ℕ) (overflow : Bool) (o : PutOutcome) (d : Link) → IsPut c slot overflow o d → d.returned ≡ c.returned
+put-returned c slot overflow Taken d h = ap (λ (e : Link). e.returned) h.1
+put-returned c slot overflow (Overwrote _) d h = ap (λ (e : Link). e.returned) h.2.2
+put-returned c slot overflow Full d h = ap (λ (e : Link). e.returned) h.2
+
+module _ {p : ℕ} {slab : Slab Link} {places : List (Option ℕ)} {receivers : List (Option ReceiverDetails)} (i key : ℕ) (ready : IsReadyToDeliver p slab places receivers) (at : get_or places i None ≡ Some key) where
+  pub home-of : (c : Link) → get slab key ≡ Some c → IsSenders p i c
+  home-of c was_c = senders-at p slab places i key c ready.linked at was_c
+
+  -- a connection from which all was reclaimed has room for one slot more
+  pub put-room : (b c : Link) → get slab key ≡ Some b → IsBounded b → get slab key ≡ Some c → load c ≤ c.buffer + c.limit
+  put-room b c was_b bounded was_c = subst (λ (x : Link). load x ≤ x.buffer + x.limit) (same_link slab key b c was_b was_c) (omega (arith, bounded.waiting, bounded.borrowed, ap (length {A = ℕ}) (ready.reclaimed.at i key b at was_b)))
+
+  pub put-homes : (slot : ℕ) (overflow : Bool) (o : PutOutcome) (c d : Link) → get slab key ≡ Some c → IsPut c slot overflow o d → SameHomes slab (with_value slab key d)
+  put-homes slot overflow o c d was_c put = SameHomes-updated slab (with_value slab key d) key c d was_c (put-fixed c slot overflow o d put) (Updates-with_value slab key c d was_c)
+
+  pub put-others : (slot : ℕ) (overflow : Bool) (o : PutOutcome) (c d : Link) → get slab key ≡ Some c → IsPut c slot overflow o d → KeepsOthers p slab (with_value slab key d)
+  put-others slot overflow o c d was_c put =
+      KeepsOthers-updated p slab (with_value slab key d) key c (Some d) was_c (home-of c was_c).publisher (Updates-with_value slab key c d was_c)
+
+  pub put-reclaimed : (slot : ℕ) (overflow : Bool) (o : PutOutcome) (c d : Link) → get slab key ≡ Some c → IsPut c slot overflow o d → HasReclaimed (with_value slab key d) places
+  put-reclaimed slot overflow o c d was_c put = record {
+    at = λ k other e at_k at_e. elim (cases_eq other key) [
+      | inl same ↦
+          let now : get (with_value slab key d) key ≡ Some e = sym (ap (get (with_value slab key d)) same) ∙ at_e in
+          let new : Some d ≡ Some e = sym u.changed ∙ now in
+          let is_d : d ≡ e = cc in
+          sym (ap (λ (x : Link). x.returned) is_d) ∙ put-returned c slot overflow o d put ∙ ready.reclaimed.at i key c at was_c
+      | inr differs ↦ ready.reclaimed.at k other e at_k (sym (u.others other differs) ∙ at_e)
+    ];
+  }
+    where
+      u : Updates slab (with_value slab key d) key (Some d)
+      u = Updates-with_value slab key c d was_c
+
+  -- a put is the machine's, at the end to which the place leads
+  pub put-puts : (config : ServiceConfig) (v : Delivery) (o : PutOutcome) (b c d : Link) (result : Reception) → v.publisher ≡ p → get slab key ≡ Some b → is_open_at receivers i b.home.subscriber ≡ true → get slab key ≡ Some c
+      → IsPut c v.slot config.enable_safe_overflow o d → result_of result ≡ result_of_put v.strategy o → (number : ℕ → ℕ → ℕ)
+      → PutsMessage config v receivers (number p v.slot) (subscriber_at slab (get_or places i None)) (mailboxes_of number slab p) (result_of result) (mailboxes_of number (with_value slab key d) p)
+  put-puts config v o b c d result by_p was_b receiving was_c put is number =
+      rw (at, was_c, is) (
+        mailbox_of (number p) d,
+        goes,
+        fun_ext (λ q. row-changed number slab (with_value slab key d) key p c d ready.apart (IsApart-same slab (with_value slab key d) ready.apart (put-homes v.slot config.enable_safe_overflow o c d was_c put)) was_c
+            (home-of c was_c).publisher (ap (λ (t : Home × ℕ × ℕ). t.0) (put-fixed c v.slot config.enable_safe_overflow o d put)) (Updates-with_value slab key c d was_c) q),
+      )
+    where
+      open_c : is_open_at receivers i c.home.subscriber ≡ true
+      open_c = subst (λ (x : Link). is_open_at receivers i x.home.subscriber ≡ true) (same_link slab key b c was_b was_c) receiving
+
+      goes : Put no_handlers config v.publisher v.strategy None (buffers_of receivers) (number p v.slot) c.home.subscriber 0 no_time (buffers_of receivers c.home.subscriber) (mailboxes_of number slab p c.home.subscriber) (result_of_put v.strategy o) (mailbox_of (number p) d)
+      goes = rw (mailbox-there number slab key p c.home.subscriber c ready.apart was_c (home-of c was_c).publisher refl, buffers-open slab receivers key i c ready.knows (ready.one_id c.home.subscriber) was_c open_c)
+          (put-mailbox (number p) config v.publisher c.home.subscriber v.slot v.strategy (buffers_of receivers) c d o put)
+
+  -- a closed receiver is skipped
+  pub put-passes : (config : ServiceConfig) (v : Delivery) (c : Link) → get slab key ≡ Some c → is_open_at receivers i c.home.subscriber ≡ false → (number : ℕ → ℕ → ℕ)
+      → PutsMessage config v receivers (number p v.slot) (subscriber_at slab (get_or places i None)) (mailboxes_of number slab p) Skipped (mailboxes_of number slab p)
+  put-passes config v c was_c shut number =
+      rw (at, was_c) (mailboxes_of number slab p c.home.subscriber, rw (buffers-closed slab receivers key c ready.knows was_c (rw (home-of c was_c).place shut)) (refl, refl), put_at-same (mailboxes_of number slab p) c.home.subscriber)
+
+-- ---- the loop
+
+-- places stay linked
+pub IsSenderLinked-same : (p : ℕ) (old new : Slab Link) (places : List (Option ℕ)) → IsSenderLinked p old places → SameHomes old new → IsSenderLinked p new places
+IsSenderLinked-same p old new places linked same = record { at = λ i key e. by i key (there p old places i key linked e) (get new key) refl } where
+  by : (i key : ℕ) → (c : Link) × (get old key ≡ Some c) × IsSenders p i c → (o : Option Link) → get new key ≡ o → IsSomeAnd o (IsSenders p i)
+  by i key c None e = absurd (let h : option_map fixed_of (get new key) ≡ option_map fixed_of (get old key) = same.same key in let h' : option_map fixed_of None ≡ option_map fixed_of (Some c.0) = rw (e, c.1) at h in cc)
+  by i key c (Some d) e =
+      let c' = was old new key d same e in
+      let f : c'.0 ≡ c.0 = same_link old key c'.0 c.0 c'.1 c.1 in
+      let home : c.0.home ≡ d.home = sym (ap (λ (x : Link). x.home) f) ∙ ap (λ (t : Home × ℕ × ℕ). t.0) c'.2 in
+      record { publisher = sym (ap (λ (h : Home). h.publisher) home) ∙ c.2.publisher; place = sym (ap (λ (h : Home). h.subscriber_place) home) ∙ c.2.place }
+
+-- what a delivery needs is there after each of its puts
+pub IsReadyToDeliver-same : (p : ℕ) (old new : Slab Link) (places : List (Option ℕ)) (receivers : List (Option ReceiverDetails)) → IsReadyToDeliver p old places receivers → SameHomes old new → HasReclaimed new places → IsReadyToDeliver p new places receivers
+IsReadyToDeliver-same p old new places receivers ready same reclaimed = record {
+  linked = IsSenderLinked-same p old new places ready.linked same;
+  apart = IsApart-same old new ready.apart same;
+  knows = record {
+    at = λ key i c y at_c at_y e.
+        let c' = was old new key c same at_c in
+        let know = ready.knows.at key i c'.0 y c'.1 at_y (e ∙ sym (ap (λ (t : Home × ℕ × ℕ). t.0.subscriber) c'.2)) in
+        (know.0 ∙ ap (λ (t : Home × ℕ × ℕ). t.0.subscriber_place) c'.2, sym (ap (λ (t : Home × ℕ × ℕ). t.1) c'.2) ∙ know.1);
+  };
+  one_id = ready.one_id;
+  reclaimed = reclaimed;
+}
+
+-- a key leads to the same subscriber
+pub subscriber_at-same : (old new : Slab Link) → SameHomes old new → (x : Option ℕ) → subscriber_at new x ≡ subscriber_at old x
+subscriber_at-same old new same None = refl
+subscriber_at-same old new same (Some key) = by (get old key) (get new key) refl refl (same.same key) where
+  by : (o n : Option Link) → get old key ≡ o → get new key ≡ n → option_map fixed_of (get new key) ≡ option_map fixed_of (get old key) → subscriber_at new (Some key) ≡ subscriber_at old (Some key)
+  by None None e f h = rw (e, f) refl
+  by None (Some d) e f h = absurd (let h' : option_map fixed_of (Some d) ≡ option_map fixed_of None = rw (e, f) at h in cc)
+  by (Some c) None e f h = absurd (let h' : option_map fixed_of None ≡ option_map fixed_of (Some c) = rw (e, f) at h in cc)
+  by (Some c) (Some d) e f h = rw (e, f) (let h' : Some (fixed_of d) ≡ Some (fixed_of c) = rw (e, f) at h in let g : fixed_of d ≡ fixed_of c = cc in ap (λ (t : Home × ℕ × ℕ). Some t.0.subscriber) g)
+
+pub ends-at : (old now : Slab Link) (places : List (Option ℕ)) (i : ℕ) → SameHomes old now → subscriber_at now (get_or places i None) ≡ get_or (sender_ends old places) i None
+ends-at old now places i same = subscriber_at-same old now same (get_or places i None) ∙ sym (get_or-map (subscriber_at old) places i None)
+
+-- without a handler nothing fails
+never_failed : (result : Reception) → is_failed (result_of result) ≡ false
+never_failed Reception.Accepted = refl
+never_failed Reception.Skipped = refl
+never_failed Reception.WouldBlock = refl
+
+module _ (config : ServiceConfig) (v : Delivery) (receivers : List (Option ReceiverDetails)) (n : ℕ) (ends : List (Option ℕ)) where
+  -- a put that doesn't block is one step of the delivery
+  pub deliver-more : (i count : ℕ) (boxes mid boxes' : ℕ → Mailbox) (d : Reception) (how : DeliveryEnd) → i < length ends → PutsMessage config v receivers n (get_or ends i None) boxes (result_of d) mid → is_blocking (result_of d) ≡ false
+      → DeliversMessage config v receivers n (i + 1) (drop (i + 1) ends) (count + accepted_count (result_of d)) mid how boxes' → DeliversMessage config v receivers n i (drop i ends) count boxes how boxes'
+  deliver-more i count boxes mid boxes' d how below at goes rest = rw (drop_more ends i None below) (result_of d, mid, at, rw (goes, never_failed d) rest)
+
+  -- a put that blocks ends the delivery
+  pub deliver-stops : (i count : ℕ) (boxes mid : ℕ → Mailbox) (d : Reception) → i < length ends → PutsMessage config v receivers n (get_or ends i None) boxes (result_of d) mid → is_blocking (result_of d) ≡ true
+      → DeliversMessage config v receivers n i (drop i ends) count boxes (end_of n ends (DeliveryOutcome.Suspended i count)) mid
+  deliver-stops i count boxes mid d below at stops = rw (drop_more ends i None below) (result_of d, mid, at, rw stops (refl, refl))

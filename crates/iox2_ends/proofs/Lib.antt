@@ -1,0 +1,9 @@
+pub mod LookUps
+pub mod MailboxChanges
+pub mod Counts
+pub mod DeliverySteps
+pub mod Releases
+pub mod TakeSteps
+pub mod Searches
+pub mod ReclaimSteps
+pub mod AnyEnvironment

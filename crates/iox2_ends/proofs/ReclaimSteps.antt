@@ -1,0 +1,171 @@
+-- A publisher's reclaims, one after the other.
+use Rattle.std.proofs.Common.{◌≡◌, ℕ, ◌+◌, ◌<◌, ◌≤◌, List, [], ◌∷◌, length, Option, None, Some, get_or, refl, ap, sym, ◌∙◌, inl, inr, arith}
+use Rattle.std.proofs.lemmas.Bool.{cases_eq}
+use Rattle.std.specs.Prelude.{IsSomeAnd}
+use Rattle.std.specs.Option.{option_map}
+use Rattle.slab.specs.Slab.{Slab, get, Updates, with_value}
+use Rattle.iox2_store.specs.Link.{Link, IsReclaimed}
+use Rattle.iox2_store.specs.Mailbox.{Mailbox}
+use Rattle.iox2_store.specs.Numbers.{put_at}
+use Rattle.iox2_store.specs.declared.connection.Home.{Home}
+use Rattle.iox2_ends.specs.Mailboxes.{mailbox_of, mailboxes_of, with_box}
+use Rattle.iox2_ends.specs.Homes.{IsApart, SameHomes, IsSenderLinked, fixed_of}
+use Rattle.iox2_ends.specs.Counters.{stands_in, IsCovered, held_less}
+use Rattle.iox2_ends.specs.Reclaims.{returned_count, Reclaims}
+use Rattle.iox2_ends.proofs.MailboxChanges.{Updates-with_value, SameHomes-updated, KeepsOthers-updated, SameHomes-trans, KeepsOthers-trans, IsApart-same, mailbox-there, mailboxes-changed, put_at-same}
+use Rattle.iox2_ends.proofs.Counts.{one_if_same, times-cons, counter_if_stands, get_or-held_less, Follows-changed, Follows-trans, IsCovered-follows}
+use Rattle.iox2_ends.proofs.DeliverySteps.{there, IsSenderLinked-same}
+
+-- a connection that stands at the key is its publisher's
+pub own-at : (p : ℕ) (slab : Slab Link) (key : ℕ) (c : Link) → IsSomeAnd (get slab key) (λ (x : Link). x.home.publisher ≡ p) → get slab key ≡ Some c → c.home.publisher ≡ p
+own-at p slab key c own at = rw at at own
+
+-- a mailbox is written over by itself
+with_box-same : (boxes : ℕ → ℕ → Mailbox) (p q : ℕ) → with_box boxes p q (boxes p q) ≡ boxes
+with_box-same boxes p q = ap (put_at boxes p) (sym (put_at-same (boxes p) q)) ∙ sym (put_at-same boxes p)
+
+-- a reclaim leaves what never changes
+reclaimed-fixed : (c d : Link) (o : Option ℕ) → IsReclaimed c o d → fixed_of d ≡ fixed_of c
+reclaimed-fixed c d None r = ap fixed_of r.1
+reclaimed-fixed c d (Some slot) r = ap fixed_of r.2
+
+-- a reclaim leaves the mailbox
+reclaimed-mailbox : (number : ℕ → ℕ) (c d : Link) (o : Option ℕ) → IsReclaimed c o d → mailbox_of number d ≡ mailbox_of number c
+reclaimed-mailbox number c d None r = ap (mailbox_of number) r.1
+reclaimed-mailbox number c d (Some slot) r = ap (mailbox_of number) r.2
+
+-- a reclaim leaves no more slots given back than before
+reclaimed-fewer : (c d : Link) (o : Option ℕ) → IsReclaimed c o d → length d.returned ≤ length c.returned
+reclaimed-fewer c d None r = omega (arith, ap (λ (x : Link). length x.returned) r.1)
+reclaimed-fewer c d (Some slot) r = omega (arith, ap (λ (x : Link). length x.returned) r.2, ap (length {A = ℕ}) r.1)
+
+-- how many are left
+reclaimed-count : (slab : Slab Link) (key : ℕ) (c : Link) → get slab key ≡ Some c → returned_count slab key ≡ length c.returned
+reclaimed-count slab key c at = rw at refl
+
+-- where the slot was, it has a holder
+pub reclaimed-held : (p : ℕ) (hs : List ℕ) (slab : Slab Link) (key slot : ℕ) (c d : Link) → IsCovered p hs slab.slots → IsSomeAnd (get slab key) (λ (x : Link). x.home.publisher ≡ p) → get slab key ≡ Some c → IsReclaimed c (Some slot) d → 0 < get_or hs slot 0
+reclaimed-held p hs slab key slot c d covered own at r =
+    counter_if_stands p hs slab.slots key slot c covered at (own-at p slab key c own at) (rw r.1 (omega (arith, times-cons slot slot r.0, one_if_same slot)))
+
+-- one slot, or none, is reclaimed from a connection, with counters that follow
+reclaims-from : (p : ℕ) (hs hs' : List ℕ) (slab : Slab Link) (key : ℕ) (c d : Link) (o : Option ℕ) → IsApart slab → IsSomeAnd (get slab key) (λ (x : Link). x.home.publisher ≡ p) → get slab key ≡ Some c → IsReclaimed c o d
+    → ((n : ℕ) → get_or hs' n 0 + stands_in n c ≡ get_or hs n 0 + stands_in n d) → ((n : ℕ) → get_or hs' n 0 ≤ get_or hs n 0) → Reclaims p hs slab hs' (with_value slab key d)
+reclaims-from p hs hs' slab key c d o apart own at r follows less = record {
+  mailboxes = λ number.
+      mailboxes-changed number slab (with_value slab key d) key c d apart at fixed u
+      ∙ ap (with_box (mailboxes_of number slab) c.home.publisher c.home.subscriber) (reclaimed-mailbox (number c.home.publisher) c d o r ∙ sym (mailbox-there number slab key c.home.publisher c.home.subscriber c apart at refl refl))
+      ∙ with_box-same (mailboxes_of number slab) c.home.publisher c.home.subscriber;
+  homes = SameHomes-updated slab (with_value slab key d) key c d at fixed u;
+  others = KeepsOthers-updated p slab (with_value slab key d) key c (Some d) at mine u;
+  counters = Follows-changed p hs hs' slab.slots key c d at mine (ap (λ (t : Home × ℕ × ℕ). t.0.publisher) fixed ∙ mine) follows;
+  shrinks = less;
+  fewer = λ k. elim (cases_eq k key) [
+    | inl same ↦ rw same (rw (u.changed, at) (reclaimed-fewer c d o r))
+    | inr differs ↦ rw (u.others k differs) (omega arith)
+  ];
+}
+  where
+    fixed : fixed_of d ≡ fixed_of c
+    fixed = reclaimed-fixed c d o r
+
+    mine : c.home.publisher ≡ p
+    mine = own-at p slab key c own at
+
+    u : Updates slab (with_value slab key d) key (Some d)
+    u = Updates-with_value slab key c d at
+
+-- nothing was there to reclaim
+pub reclaims-none : (p : ℕ) (hs : List ℕ) (slab : Slab Link) (key : ℕ) (c d : Link) → IsApart slab → IsSomeAnd (get slab key) (λ (x : Link). x.home.publisher ≡ p) → get slab key ≡ Some c → IsReclaimed c None d → Reclaims p hs slab hs (with_value slab key d)
+reclaims-none p hs slab key c d apart own at r = reclaims-from p hs hs slab key c d None apart own at r (λ n. rw r.1 refl) (λ n. omega arith)
+
+-- one slot was reclaimed
+pub reclaims-some : (p : ℕ) (hs : List ℕ) (slab : Slab Link) (key slot : ℕ) (c d : Link) → IsApart slab → IsCovered p hs slab.slots → IsSomeAnd (get slab key) (λ (x : Link). x.home.publisher ≡ p) → get slab key ≡ Some c → IsReclaimed c (Some slot) d
+    → Reclaims p hs slab (held_less slot hs) (with_value slab key d)
+reclaims-some p hs slab key slot c d apart covered own at r = reclaims-from p hs (held_less slot hs) slab key c d (Some slot) apart own at r
+    (λ n. rw (r.2, r.1) (omega (arith, times-cons n slot r.0, get_or-held_less hs slot n held)))
+    (λ n. omega (arith, get_or-held_less hs slot n held))
+  where
+    held : 0 < get_or hs slot 0
+    held = reclaimed-held p hs slab key slot c d covered own at r
+
+-- ---- many reclaims
+
+pub Reclaims-same : (p : ℕ) (hs : List ℕ) (slab : Slab Link) → Reclaims p hs slab hs slab
+Reclaims-same p hs slab = record {
+  mailboxes = λ number. refl;
+  homes = record { same = λ key. refl };
+  others = record { stay = λ key c at differs. at };
+  counters = record { at = λ n. refl };
+  shrinks = λ n. omega arith;
+  fewer = λ key. omega arith;
+}
+
+pub Reclaims-trans : (p : ℕ) (hs hs' hs'' : List ℕ) (a b c : Slab Link) → Reclaims p hs a hs' b → Reclaims p hs' b hs'' c → Reclaims p hs a hs'' c
+Reclaims-trans p hs hs' hs'' a b c x y = record {
+  mailboxes = λ number. y.mailboxes number ∙ x.mailboxes number;
+  homes = SameHomes-trans a b c x.homes y.homes;
+  others = KeepsOthers-trans p a b c x.others y.others;
+  counters = Follows-trans p hs hs' hs'' a.slots b.slots c.slots x.counters y.counters;
+  shrinks = λ n. omega (arith, x.shrinks n, y.shrinks n);
+  fewer = λ key. omega (arith, x.fewer key, y.fewer key);
+}
+
+-- a connection stays its publisher's
+pub own-same : (p : ℕ) (old new : Slab Link) (key : ℕ) → SameHomes old new → IsSomeAnd (get old key) (λ (c : Link). c.home.publisher ≡ p) → IsSomeAnd (get new key) (λ (c : Link). c.home.publisher ≡ p)
+own-same p old new key same own = by (get old key) (get new key) (same.same key) own where
+  by : (o n : Option Link) → option_map fixed_of n ≡ option_map fixed_of o → IsSomeAnd o (λ (c : Link). c.home.publisher ≡ p) → IsSomeAnd n (λ (c : Link). c.home.publisher ≡ p)
+  by None n e h = absurd h
+  by (Some c) None e h = absurd cc
+  by (Some c) (Some d) e h = let g : fixed_of d ≡ fixed_of c = cc in ap (λ (t : Home × ℕ × ℕ). t.0.publisher) g ∙ h
+
+-- the key at a publisher's place leads to its own connection
+pub own-linked : (p : ℕ) (slab : Slab Link) (places : List (Option ℕ)) (i key : ℕ) → IsSenderLinked p slab places → get_or places i None ≡ Some key → IsSomeAnd (get slab key) (λ (c : Link). c.home.publisher ≡ p)
+own-linked p slab places i key l at = let c = there p slab places i key l at in rw c.1 c.2.publisher
+
+-- a connection from which all was reclaimed has nothing given back
+pub returned-none : (slab : Slab Link) (key : ℕ) (c : Link) → returned_count slab key ≡ 0 → get slab key ≡ Some c → c.returned ≡ []
+returned-none slab key c none at = by c.returned (sym (reclaimed-count slab key c at) ∙ none) where
+  by : (xs : List ℕ) → length xs ≡ 0 → xs ≡ []
+  by [] e = refl
+  by (x ∷ xs) e = absurd (omega arith)
+
+-- ---- by rising place
+
+-- what reclaims keep, and all is reclaimed from the connections below a place
+pub record IsReclaimedBelow (p : ℕ) (places : List (Option ℕ)) (hs : List ℕ) (old : Slab Link) (place : ℕ) (hs' : List ℕ) (now : Slab Link) : Type 0 where
+  pub linked : IsSenderLinked p now places
+  pub apart : IsApart now
+  pub covered : IsCovered p hs' now.slots
+  pub reclaims : Reclaims p hs old hs' now
+  pub done : (i key : ℕ) → i < place → get_or places i None ≡ Some key → returned_count now key ≡ 0
+
+-- one place more, whose connection was emptied
+pub below-step : (p : ℕ) (places : List (Option ℕ)) (hs hs' hs'' : List ℕ) (old now new : Slab Link) (place key : ℕ) → IsReclaimedBelow p places hs old place hs' now → get_or places place None ≡ Some key
+    → Reclaims p hs' now hs'' new → returned_count new key ≡ 0 → IsReclaimedBelow p places hs old (place + 1) hs'' new
+below-step p places hs hs' hs'' old now new place key b at r none = record {
+  linked = IsSenderLinked-same p now new places b.linked r.homes;
+  apart = IsApart-same now new b.apart r.homes;
+  covered = IsCovered-follows p hs' hs'' now.slots new.slots b.covered r.counters;
+  reclaims = Reclaims-trans p hs hs' hs'' old now new b.reclaims r;
+  done = λ i k below at_i. elim (cases_eq i place) [
+    | inl same ↦
+        let here : Some k ≡ Some key = sym at_i ∙ ap (λ (j : ℕ). get_or places j None) same ∙ at in
+        let e : k ≡ key = cc in
+        ap (returned_count new) e ∙ none
+    | inr differs ↦ let before : returned_count now k ≡ 0 = b.done i k (omega (arith, differs)) at_i in omega (arith, r.fewer k)
+  ];
+}
+
+-- one place more, at which nothing stands
+pub below-skip : (p : ℕ) (places : List (Option ℕ)) (hs hs' : List ℕ) (old now : Slab Link) (place : ℕ) → IsReclaimedBelow p places hs old place hs' now → get_or places place None ≡ None → IsReclaimedBelow p places hs old (place + 1) hs' now
+below-skip p places hs hs' old now place b at = record {
+  linked = b.linked;
+  apart = b.apart;
+  covered = b.covered;
+  reclaims = b.reclaims;
+  done = λ i k below at_i. elim (cases_eq i place) [
+    | inl same ↦ absurd (let here : None ≡ Some k = sym at ∙ sym (ap (λ (j : ℕ). get_or places j None) same) ∙ at_i in cc)
+    | inr differs ↦ b.done i k (omega (arith, differs)) at_i
+  ];
+}

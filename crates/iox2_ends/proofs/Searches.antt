@@ -1,0 +1,227 @@
+-- A subscriber's search, seen from the machine.
+use Rattle.std.proofs.Common.{◌≡◌, ℕ, zero, suc, ◌+◌, ◌<◌, Bool, true, false, cond, not, ◌&&◌, ◌||◌, List, [], ◌∷◌, length, map, drop, Option, None, Some, get_or, refl, sym, ap, ◌∙◌, arith, eqb, ⊎_elim}
+use Rattle.std.proofs.lemmas.Bool.{eqb-true, eq-eqb, true≢false, or_cases, or_left, or_right, or_parts}
+use Rattle.std.proofs.lemmas.List.{length-map, drop_more}
+use Rattle.std.proofs.lemmas.List.Folds.{list_any-append}
+use Rattle.std.specs.Prelude.{IsTrue, IsSomeAnd}
+use Rattle.std.specs.Bool.{MatchBool}
+use Rattle.std.specs.List.{list_any}
+use Rattle.slab.specs.Slab.{Slab, get}
+use Rattle.iox2_store.specs.Link.{Link, has_slots, can_borrow}
+use Rattle.iox2_store.specs.Numbers.{is_nil, contains}
+use Rattle.iox2_store.specs.Places.{occupants}
+use Rattle.iox2_store.specs.Mailbox.{Mailbox, has_data, can_receive}
+use Rattle.iox2_store.specs.Records.{Subscriber}
+use Rattle.iox2_store.specs.Receives.{can_receive_of}
+use Rattle.iox2_ends.specs.Mailboxes.{mailbox_of, mailboxes_of, receiver_ends}
+use Rattle.iox2_ends.specs.Homes.{IsApart}
+use Rattle.iox2_ends.specs.Finds.{offer_of, offer_at, first_found, search, is_ready, CanTake, IsReceivers, IsReceiverLinked, FindsFor, Finds}
+use Rattle.iox2_ends.specs.declared.receiver.Found.{Found}
+use Rattle.iox2_ends.proofs.MailboxChanges.{mailbox-there}
+
+-- ---- one search after another
+
+-- three searches may be taken together in either way
+pub first_found-assoc : (a b c : Found) → first_found (first_found a b) c ≡ first_found a (first_found b c)
+first_found-assoc (Found.Ready k) b c = refl
+first_found-assoc Found.AtLimit (Found.Ready k) c = refl
+first_found-assoc Found.AtLimit Found.AtLimit (Found.Ready k) = refl
+first_found-assoc Found.AtLimit Found.AtLimit Found.AtLimit = refl
+first_found-assoc Found.AtLimit Found.AtLimit Found.Nothing = refl
+first_found-assoc Found.AtLimit Found.Nothing (Found.Ready k) = refl
+first_found-assoc Found.AtLimit Found.Nothing Found.AtLimit = refl
+first_found-assoc Found.AtLimit Found.Nothing Found.Nothing = refl
+first_found-assoc Found.Nothing b c = refl
+
+-- after a connection to take from nothing is looked for
+pub first_found-ready : (a b : Found) → is_ready a ≡ true → first_found a b ≡ a
+first_found-ready (Found.Ready k) b e = refl
+first_found-ready Found.AtLimit b e = absurd (true≢false (sym e))
+first_found-ready Found.Nothing b e = absurd (true≢false (sym e))
+
+-- where nothing is left, it stays
+pub first_found-nothing : (a : Found) → first_found a Found.Nothing ≡ a
+first_found-nothing (Found.Ready k) = refl
+first_found-nothing Found.AtLimit = refl
+first_found-nothing Found.Nothing = refl
+
+-- the search goes on behind the place i
+pub search-more : (connections : Slab Link) (keys : List (Option ℕ)) (i : ℕ) (found : Found) → i < length keys → search connections keys ≡ first_found found (search connections (drop i keys))
+    → search connections keys ≡ first_found (first_found found (offer_at connections (get_or keys i None))) (search connections (drop (i + 1) keys))
+search-more connections keys i found below e =
+    e ∙ ap (λ (rest : List (Option ℕ)). first_found found (search connections rest)) (drop_more keys i None below)
+    ∙ sym (first_found-assoc found (offer_at connections (get_or keys i None)) (search connections (drop (i + 1) keys)))
+
+-- the search goes on behind the place i with what was offered there
+pub search-step : (connections : Slab Link) (keys : List (Option ℕ)) (i : ℕ) (key : Option ℕ) (found offer next : Found) → i < length keys → search connections keys ≡ first_found found (search connections (drop i keys))
+    → get_or keys i None ≡ key → offer ≡ offer_at connections key → next ≡ first_found found offer → search connections keys ≡ first_found next (search connections (drop (i + 1) keys))
+search-step connections keys i key found offer next below so_far at is joins =
+    search-more connections keys i found below so_far
+    ∙ ap (λ (x : Found). first_found (first_found found x) (search connections (drop (i + 1) keys))) (ap (offer_at connections) at ∙ sym is)
+    ∙ ap (λ (x : Found). first_found x (search connections (drop (i + 1) keys))) (sym joins)
+
+-- a search that found a connection to take from is the whole search
+pub search-ready : (found a b : Found) → found ≡ a → is_ready found ≡ true → first_found a b ≡ found
+search-ready found a b is ready = ap (λ (x : Found). first_found x b) (sym is) ∙ first_found-ready found b ready
+
+-- the key at a place of a list without empty ones
+pub key-at : (keys : List ℕ) (i : ℕ) → i < length keys → get_or (map Some keys) i None ≡ Some (get_or keys i 0)
+key-at [] i below = absurd (omega arith)
+key-at (key ∷ keys) zero below = refl
+key-at (key ∷ keys) (suc i) below = key-at keys i (omega arith)
+
+-- ---- what is found may be taken
+
+-- what one connection offers may be taken
+can_take-offer : (connections : Slab Link) (key : Option ℕ) → CanTake connections (offer_at connections key)
+can_take-offer connections None = tt
+can_take-offer connections (Some key) = by (get connections key) refl where
+  by : (o : Option Link) → get connections key ≡ o → CanTake connections (offer_of key o)
+  by None e = tt
+  by (Some c) e = at (can_borrow c) (has_slots c) refl where
+    at : (a b : Bool) → can_borrow c ≡ a → CanTake connections (cond a (Found.Ready key) (cond b Found.AtLimit Found.Nothing))
+    at true b h = rw e h
+    at false true h = tt
+    at false false h = tt
+
+can_take-first : (connections : Slab Link) (a b : Found) → CanTake connections a → CanTake connections b → CanTake connections (first_found a b)
+can_take-first connections (Found.Ready k) b x y = x
+can_take-first connections Found.AtLimit (Found.Ready k) x y = y
+can_take-first connections Found.AtLimit Found.AtLimit x y = tt
+can_take-first connections Found.AtLimit Found.Nothing x y = tt
+can_take-first connections Found.Nothing b x y = y
+
+can_take-search : (connections : Slab Link) (keys : List (Option ℕ)) → CanTake connections (search connections keys)
+can_take-search connections [] = tt
+can_take-search connections (key ∷ keys) = can_take-first connections (offer_at connections key) (search connections keys) (can_take-offer connections key) (can_take-search connections keys)
+
+pub can_take-found : (connections : Slab Link) (keys places : List (Option ℕ)) → CanTake connections (first_found (search connections keys) (search connections places))
+can_take-found connections keys places = can_take-first connections (search connections keys) (search connections places) (can_take-search connections keys) (can_take-search connections places)
+
+-- ---- one mailbox
+
+is_nil-map : (number : ℕ → ℕ) (xs : List ℕ) → is_nil (map number xs) ≡ is_nil xs
+is_nil-map number [] = refl
+is_nil-map number (x ∷ xs) = refl
+
+-- something waits in a mailbox where a slot waits in its connection
+has_data-mailbox : (number : ℕ → ℕ) (c : Link) → has_data (mailbox_of number c) ≡ has_slots c
+has_data-mailbox number c = ap not (is_nil-map number c.waiting)
+
+-- a message may be received where a slot may be borrowed
+can_receive-mailbox : (number : ℕ → ℕ) (limit : ℕ) (c : Link) → c.limit ≡ limit → can_receive limit (mailbox_of number c) ≡ can_borrow c
+can_receive-mailbox number limit c e = rw (has_data-mailbox number c, length-map c.borrowed number, sym e) refl
+
+-- ---- among publishers
+
+-- a test that passes nowhere fails everywhere that it implies
+none-less : (f g : ℕ → Bool) (ps : List ℕ) → ((p : ℕ) → g p ≡ true → f p ≡ true) → list_any f ps ≡ false → list_any g ps ≡ false
+none-less f g [] less h = refl
+none-less f g (p ∷ ps) less h =
+    let parts : (f p ≡ false) × (list_any f ps ≡ false) = or_parts (f p) (list_any f ps) h in
+    by (g p) refl parts.0 (none-less f g ps less parts.1)
+  where
+    by : (b : Bool) → g p ≡ b → f p ≡ false → list_any g ps ≡ false → (g p || list_any g ps) ≡ false
+    by true e fails rest = absurd (true≢false (sym (less p e) ∙ fails))
+    by false e fails rest = rw e rest
+
+-- a test passes in a list in which it passes at some number
+any-contains : (f : ℕ → Bool) (p : ℕ) (ps : List ℕ) → contains ps p ≡ true → f p ≡ true → list_any f ps ≡ true
+any-contains f p [] h passes = absurd (true≢false (sym h))
+any-contains f p (x ∷ ps) h passes =
+    ⊎_elim (λ e. or_left (f x) (list_any f ps) (ap f (eqb-true x p e) ∙ passes)) (λ r. or_right (f x) (list_any f ps) (any-contains f p ps r passes)) (or_cases (eqb x p) (contains ps p) h)
+
+-- what a search among these publishers found
+abbrev pub FindsAmong : (limit : ℕ) → Slab Link → (ℕ → Mailbox) → List ℕ → Found → Type 0
+FindsAmong limit connections boxes ps (Found.Ready key) =
+    (c : Link) × (get connections key ≡ Some c) × (can_receive limit (boxes c.home.publisher) ≡ true) × (contains ps c.home.publisher ≡ true)
+FindsAmong limit connections boxes ps Found.AtLimit = (list_any (λ p. has_data (boxes p)) ps ≡ true) × (list_any (λ p. can_receive limit (boxes p)) ps ≡ false)
+FindsAmong limit connections boxes ps Found.Nothing = list_any (λ p. has_data (boxes p)) ps ≡ false
+
+module _ (limit : ℕ) (connections : Slab Link) (boxes : ℕ → Mailbox) where
+  -- where nothing waits nothing may be received
+  none-received : (ps : List ℕ) → list_any (λ p. has_data (boxes p)) ps ≡ false → list_any (λ p. can_receive limit (boxes p)) ps ≡ false
+  none-received ps h = none-less (λ p. has_data (boxes p)) (λ p. can_receive limit (boxes p)) ps (λ p e. first-true _ _ e) h where
+    first-true : (a b : Bool) → (a && b) ≡ true → a ≡ true
+    first-true true b e = refl
+    first-true false b e = e
+
+  -- what is found where something waits at one publisher more, from which nothing may be received
+  among-at_limit : (p : ℕ) (ps : List ℕ) (found : Found) → has_data (boxes p) ≡ true → can_receive limit (boxes p) ≡ false → FindsAmong limit connections boxes ps found → FindsAmong limit connections boxes (p ∷ ps) (first_found Found.AtLimit found)
+  among-at_limit p ps (Found.Ready key) waits full h = (h.0, h.1, h.2, or_right (eqb p h.0.home.publisher) (contains ps h.0.home.publisher) h.3)
+  among-at_limit p ps Found.AtLimit waits full h = (or_left (has_data (boxes p)) (list_any (λ r. has_data (boxes r)) ps) waits, rw full h.1)
+  among-at_limit p ps Found.Nothing waits full h = (or_left (has_data (boxes p)) (list_any (λ r. has_data (boxes r)) ps) waits, rw full (none-received ps h))
+
+  -- what is found where nothing waits at one publisher more
+  among-nothing : (p : ℕ) (ps : List ℕ) (found : Found) → has_data (boxes p) ≡ false → can_receive limit (boxes p) ≡ false → FindsAmong limit connections boxes ps found → FindsAmong limit connections boxes (p ∷ ps) found
+  among-nothing p ps (Found.Ready key) none full h = (h.0, h.1, h.2, or_right (eqb p h.0.home.publisher) (contains ps h.0.home.publisher) h.3)
+  among-nothing p ps Found.AtLimit none full h = (or_right (has_data (boxes p)) (list_any (λ r. has_data (boxes r)) ps) h.0, rw full h.1)
+  among-nothing p ps Found.Nothing none full h = rw none h
+
+-- the next places belong to the subscriber, too
+linked-later : (q most : ℕ) (connections : Slab Link) (key : Option ℕ) (keys : List (Option ℕ)) → IsReceiverLinked q most connections (key ∷ keys) → IsReceiverLinked q most connections keys
+linked-later q most connections key keys l = record { at = λ i k e. l.at (suc i) k e }
+
+-- a search through places is a search among the publishers to which they lead
+pub among-search : (q limit : ℕ) (connections : Slab Link) (number : ℕ → ℕ → ℕ) → IsApart connections → (keys : List (Option ℕ)) → IsReceiverLinked q limit connections keys
+    → FindsAmong limit connections (λ p. mailboxes_of number connections p q) (occupants (receiver_ends connections keys)) (search connections keys)
+among-search q limit connections number apart [] l = refl
+among-search q limit connections number apart (None ∷ keys) l = among-search q limit connections number apart keys (linked-later q limit connections None keys l)
+among-search q limit connections number apart (Some key ∷ keys) l =
+    by (get connections key) refl (l.at zero key refl) (among-search q limit connections number apart keys (linked-later q limit connections (Some key) keys l))
+  where
+    at : (c : Link) → get connections key ≡ Some c → (a b : Bool) → can_borrow c ≡ a → has_slots c ≡ b
+        → can_receive limit (mailboxes_of number connections c.home.publisher q) ≡ can_borrow c → has_data (mailboxes_of number connections c.home.publisher q) ≡ has_slots c
+        → FindsAmong limit connections (λ p. mailboxes_of number connections p q) (occupants (receiver_ends connections keys)) (search connections keys)
+        → FindsAmong limit connections (λ p. mailboxes_of number connections p q) (c.home.publisher ∷ occupants (receiver_ends connections keys)) (first_found (cond a (Found.Ready key) (cond b Found.AtLimit Found.Nothing)) (search connections keys))
+    at c e true b can has receive waits rest = (c, e, receive ∙ can, or_left (eqb c.home.publisher c.home.publisher) (contains (occupants (receiver_ends connections keys)) c.home.publisher) (eq-eqb c.home.publisher c.home.publisher refl))
+    at c e false true can has receive waits rest = among-at_limit limit connections (λ p. mailboxes_of number connections p q) c.home.publisher (occupants (receiver_ends connections keys)) (search connections keys) (waits ∙ has) (receive ∙ can) rest
+    at c e false false can has receive waits rest = among-nothing limit connections (λ p. mailboxes_of number connections p q) c.home.publisher (occupants (receiver_ends connections keys)) (search connections keys) (waits ∙ has) (receive ∙ can) rest
+
+    by : (o : Option Link) → get connections key ≡ o → IsSomeAnd o (IsReceivers q limit)
+        → FindsAmong limit connections (λ p. mailboxes_of number connections p q) (occupants (receiver_ends connections keys)) (search connections keys)
+        → FindsAmong limit connections (λ p. mailboxes_of number connections p q) (occupants (receiver_ends connections (Some key ∷ keys))) (search connections (Some key ∷ keys))
+    by None e h rest = absurd h
+    by (Some c) e h rest =
+        let there : mailboxes_of number connections c.home.publisher q ≡ mailbox_of (number c.home.publisher) c = mailbox-there number connections key c.home.publisher q c apart e refl h.subscriber in
+        rw e (at c e (can_borrow c) (has_slots c) refl refl
+        (ap (can_receive limit) there ∙ can_receive-mailbox (number c.home.publisher) limit c h.limit)
+        (ap has_data there ∙ has_data-mailbox (number c.home.publisher) c) rest)
+
+-- ---- the whole search
+
+module _ (limit : ℕ) (connections : Slab Link) (y : Subscriber) (boxes : ℕ → Mailbox) where
+  -- a message may be received from a publisher that was found among these
+  receive-from : (key p : ℕ) (c : Link) → get connections key ≡ Some c → can_receive limit (boxes c.home.publisher) ≡ true
+      → (b : Bool) → can_receive_of limit y boxes y.expired ≡ b → MatchBool b (IsTrue (contains y.expired c.home.publisher)) (IsTrue (contains (occupants y.ends) c.home.publisher))
+      → FindsFor limit connections y boxes (Found.Ready key)
+  receive-from key p c e can b which h = rw e (can, rw which h)
+
+  -- both searches, one after the other
+  pub finds-both : (a b : Found) → FindsAmong limit connections boxes y.expired a → FindsAmong limit connections boxes (occupants y.ends) b → FindsFor limit connections y boxes (first_found a b)
+  finds-both (Found.Ready key) b f g =
+      receive-from key 0 f.0 f.1 f.2 true (any-contains (λ p. can_receive limit (boxes p)) f.0.home.publisher y.expired f.3 f.2) f.3
+  finds-both Found.AtLimit (Found.Ready key) f g = receive-from key 0 g.0 g.1 g.2 false f.1 g.3
+  finds-both Found.AtLimit Found.AtLimit f g = (
+    list_any-append (λ p. has_data (boxes p)) y.expired (occupants y.ends) ∙ or_left (list_any (λ p. has_data (boxes p)) y.expired) (list_any (λ p. has_data (boxes p)) (occupants y.ends)) f.0,
+    list_any-append (λ p. can_receive limit (boxes p)) y.expired (occupants y.ends) ∙ rw f.1 g.1,
+  )
+  finds-both Found.AtLimit Found.Nothing f g = (
+    list_any-append (λ p. has_data (boxes p)) y.expired (occupants y.ends) ∙ or_left (list_any (λ p. has_data (boxes p)) y.expired) (list_any (λ p. has_data (boxes p)) (occupants y.ends)) f.0,
+    list_any-append (λ p. can_receive limit (boxes p)) y.expired (occupants y.ends) ∙ rw f.1 (none-received limit connections boxes (occupants y.ends) g),
+  )
+  finds-both Found.Nothing (Found.Ready key) f g = receive-from key 0 g.0 g.1 g.2 false (none-received limit connections boxes y.expired f) g.3
+  finds-both Found.Nothing Found.AtLimit f g = (
+    list_any-append (λ p. has_data (boxes p)) y.expired (occupants y.ends) ∙ or_right (list_any (λ p. has_data (boxes p)) y.expired) (list_any (λ p. has_data (boxes p)) (occupants y.ends)) g.0,
+    list_any-append (λ p. can_receive limit (boxes p)) y.expired (occupants y.ends) ∙ rw (none-received limit connections boxes y.expired f) g.1,
+  )
+  finds-both Found.Nothing Found.Nothing f g = list_any-append (λ p. has_data (boxes p)) y.expired (occupants y.ends) ∙ rw f g
+
+-- what the code finds is what the machine does
+pub finds-found : (connections : Slab Link) (expired : List ℕ) (places : List (Option ℕ)) → Finds connections expired places (first_found (search connections (map Some expired)) (search connections places))
+finds-found connections expired places = record {
+  finds = λ q limit y r number.
+      finds-both limit connections y (λ p. mailboxes_of number connections p q) (search connections (map Some expired)) (search connections places)
+      (rw r.expired (among-search q limit connections number r.apart (map Some expired) r.kept))
+      (rw r.ends (among-search q limit connections number r.apart places r.linked));
+}

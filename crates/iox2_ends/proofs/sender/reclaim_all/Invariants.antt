@@ -1,0 +1,10 @@
+use Rattle.std.proofs.Common.{◌≡◌}
+use Rattle.iox2_ends.specs.Counters.{with_counters}
+use Rattle.iox2_ends.proofs.ReclaimSteps.{IsReclaimedBelow}
+use Rattle.iox2_ends.proofs.sender.reclaim_all.Given as goal
+
+abbrev pub invariant-loop-index : goal.invariant-loop-index
+invariant-loop-index l = record {
+  book : l.book ≡ with_counters l.fn.book l.book.holders;
+  below : IsReclaimedBelow l.publisher l.places l.fn.book.holders l.fn.connections l.index l.book.holders l.connections;
+}

@@ -1,0 +1,53 @@
+-- The counters of one publisher's slots, and the connections in which its slots stand.
+use Rattle.std.specs.Prelude.{◌≡◌, ℕ, ◌+◌, ◌-◌, ◌<◌, ◌≤◌, ◌==◌, cond, List, count_by, sum_by, slice_index, slice_set}
+use Rattle.std.specs.declared.option.Option.{Option}
+use Rattle.std.specs.declared.option.Option.TheVariants.{None, Some}
+use Rattle.iox2_store.specs.Link.{Link}
+use Rattle.iox2_store.specs.SlotBook.{Book}
+use Rattle.iox2_store.specs.declared.connection.PutOutcome.{PutOutcome}
+use Rattle.iox2_store.specs.declared.connection.PutOutcome.TheVariants.{Taken, Overwrote, Full}
+
+-- How often a slot stands in a list.
+abbrev pub times : (slot : ℕ) → List ℕ → ℕ
+times slot slots = count_by (λ other. other == slot) slots
+
+-- How often a slot stands in a connection.
+abbrev pub stands_in : (slot : ℕ) → Link → ℕ
+stands_in slot c = times slot c.waiting + times slot c.borrowed + times slot c.returned
+
+-- How often a slot of the publisher p stands in a connection.
+abbrev pub stands : (p slot : ℕ) → Option Link → ℕ
+stands p slot None = 0
+stands p slot (Some c) = cond (c.home.publisher == p) (stands_in slot c) 0
+
+-- No slot of the publisher p stands in more places than its counter says.
+pub record IsCovered (p : ℕ) (holders : List ℕ) (connections : List (Option Link)) : Type 0 where
+  pub at : (slot : ℕ) → sum_by (stands p slot) connections ≤ slice_index holders slot
+
+-- The counters of the publisher p changed as the places did in which its slots stand.
+pub record Follows (p : ℕ) (holders : List ℕ) (connections : List (Option Link)) (holders' : List ℕ) (connections' : List (Option Link)) : Type 0 where
+  pub at : (slot : ℕ) → slice_index holders' slot + sum_by (stands p slot) connections ≡ slice_index holders slot + sum_by (stands p slot) connections'
+
+-- The counters with one holder more of the slot.
+abbrev pub held_more : (slot : ℕ) → List ℕ → List ℕ
+held_more slot holders = slice_set holders slot (slice_index holders slot + 1)
+
+-- The counters with one holder less of the slot.
+abbrev pub held_less : (slot : ℕ) → List ℕ → List ℕ
+held_less slot holders = slice_set holders slot (slice_index holders slot - 1)
+
+-- The counters after a put of the slot.
+abbrev pub recounted : PutOutcome → (slot : ℕ) → List ℕ → List ℕ
+recounted Taken slot holders = held_more slot holders
+recounted (Overwrote oldest) slot holders = held_less oldest (held_more slot holders)
+recounted Full slot holders = holders
+
+-- A slot that was overwritten has a holder.
+abbrev pub CanLeave : PutOutcome → List ℕ → Type 0
+CanLeave Taken holders = Unit {0}
+CanLeave (Overwrote oldest) holders = 0 < slice_index holders oldest
+CanLeave Full holders = Unit {0}
+
+-- The book with these counters.
+abbrev pub with_counters : Book → List ℕ → Book
+with_counters book holders = record book { holders = holders }

@@ -1,0 +1,9 @@
+pub mod LookUp
+pub mod Mailboxes
+pub mod Homes
+pub mod Receivers
+pub mod Counters
+pub mod Deliveries
+pub mod Takes
+pub mod Finds
+pub mod Reclaims

@@ -1,0 +1,48 @@
+-- The subscribers at their places, as a publisher that delivers sees them.
+use Rattle.std.specs.Prelude.{◌≡◌, ℕ, Bool, false, cond, ◌&&◌, ◌==◌, List, [], slice_index_or}
+use Rattle.std.specs.declared.option.Option.{Option}
+use Rattle.std.specs.declared.option.Option.TheVariants.{None, Some}
+use Rattle.std.specs.Option.{option_and_then}
+use Rattle.slab.specs.Slab.{Slab, get}
+use Rattle.iox2_store.specs.Link.{Link}
+use Rattle.iox2_ends.specs.LookUp.{look_up, IsOnly}
+use Rattle.iox2_ends.specs.Homes.{IsApart, IsSenderLinked}
+use Rattle.iox2_ends.specs.declared.sender.ReceiverDetails.{ReceiverDetails}
+
+-- The receiver has this id.
+abbrev pub has_id : ℕ → ReceiverDetails → Bool
+has_id q y = y.port_id == q
+
+-- The buffer of a receiver that is open.
+abbrev pub buffer_if_open : ReceiverDetails → Option ℕ
+buffer_if_open y = cond y.is_open (Some y.buffer_size) None
+
+-- The buffers of the receivers that are open, by id.
+abbrev pub buffers_of : List (Option ReceiverDetails) → ℕ → Option ℕ
+buffers_of receivers q = option_and_then buffer_if_open (look_up (has_id q) receivers)
+
+-- It is the receiver with that id, and open.
+abbrev pub is_open_one : (q : ℕ) → Option ReceiverDetails → Bool
+is_open_one q None = false
+is_open_one q (Some y) = (y.port_id == q) && y.is_open
+
+-- The receiver with that id stands at the place, and is open.
+abbrev pub is_open_at : List (Option ReceiverDetails) → (place q : ℕ) → Bool
+is_open_at receivers place q = is_open_one q (slice_index_or receivers place None)
+
+-- A subscriber that is there stands at the place that its connections name, and has their buffer.
+pub record KnowsReceivers (connections : Slab Link) (receivers : List (Option ReceiverDetails)) : Type 0 where
+  pub at : (key i : ℕ) (c : Link) (y : ReceiverDetails) → get connections key ≡ Some c → slice_index_or receivers i None ≡ Some y → y.port_id ≡ c.home.subscriber
+      → (i ≡ c.home.subscriber_place) × (c.buffer ≡ y.buffer_size)
+
+-- The connections at these places have no slot that was given back and not yet reclaimed.
+pub record HasReclaimed (connections : Slab Link) (places : List (Option ℕ)) : Type 0 where
+  pub at : (i key : ℕ) (c : Link) → slice_index_or places i None ≡ Some key → get connections key ≡ Some c → c.returned ≡ []
+
+-- What a delivery of the publisher p needs of connections, places and receivers.
+pub record IsReadyToDeliver (p : ℕ) (connections : Slab Link) (places : List (Option ℕ)) (receivers : List (Option ReceiverDetails)) : Type 0 where
+  pub linked : IsSenderLinked p connections places
+  pub apart : IsApart connections
+  pub knows : KnowsReceivers connections receivers
+  pub one_id : (q : ℕ) → IsOnly (has_id q) receivers
+  pub reclaimed : HasReclaimed connections places

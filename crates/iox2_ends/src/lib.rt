@@ -1,0 +1,8 @@
+//! The ends of connections: a publisher delivers into those at its places, and a subscriber takes
+//! from those at its own.
+#![tactic(auto)]
+
+pub mod receiver;
+pub mod sender;
+#[cfg(test)]
+mod tests;

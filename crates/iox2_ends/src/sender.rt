@@ -1,0 +1,263 @@
+//! A publisher's end: its messages go to the connections at its places.
+ghost use Rattle.std.specs.Prelude.{◌≡◌, ℕ, ◌+◌, ◌≤◌, ◌<◌, ◌^◌, None, length, slice_index, slice_index_or, IsSomeAnd};
+ghost use Rattle.iox2_store.specs.SlotBook.{holders_at, IsHeld};
+ghost use Rattle.iox2_store.specs.Delivery.{is_blocking, accepted_count};
+ghost use Rattle.slab.specs.Slab.{get};
+ghost use Rattle.iox2_ends.specs.Homes.{IsApart, IsSenderLinked, SameHomes, KeepsOthers};
+ghost use Rattle.iox2_ends.specs.Receivers.{is_open_at, HasReclaimed, IsReadyToDeliver};
+ghost use Rattle.iox2_ends.specs.Counters.{IsCovered, Follows, recounted, CanLeave, with_counters};
+ghost use Rattle.iox2_ends.specs.Reclaims.{Reclaims, CountsReclaimed, returned_count};
+ghost use Rattle.iox2_ends.specs.Deliveries.{result_of, result_of_put, PutsSlot, DeliversSlot};
+
+use iox2_store::{BackpressureStrategy, Connection, PutOutcome, ServiceConfig, SlotBook};
+use slab::Slab;
+
+/// A subscriber, as a publisher that delivers sees it.
+///
+/// iceoryx2's `ReceiverDetails` (`src/port/details/sender.rs`).
+#[derive(Debug, Clone, Copy, PartialEq, Eq)]
+pub struct ReceiverDetails {
+    /// The subscriber's id.
+    pub port_id: u128,
+    /// How many messages of one publisher may wait for it.
+    pub buffer_size: usize,
+    /// Whether it takes messages. A closed one keeps its place until its last sample is released.
+    pub is_open: bool,
+}
+
+/// A message that a publisher without a backpressure handler delivers.
+#[derive(Debug, Clone, Copy, PartialEq, Eq)]
+pub struct Delivery {
+    /// The publisher's id.
+    pub publisher: u128,
+    /// The publisher's slot in which the message lies.
+    pub slot: usize,
+    /// What happens at a full receiver.
+    pub strategy: BackpressureStrategy,
+}
+
+/// How a delivery ended.
+#[derive(Debug, Clone, Copy, PartialEq, Eq)]
+pub enum DeliveryOutcome {
+    /// It went over all receivers.
+    Complete {
+        /// The receivers that took the message.
+        count: usize,
+    },
+    /// It waits for a full receiver.
+    Suspended {
+        /// The place of that receiver. Those at lower places are done with.
+        place: usize,
+        /// The receivers that have taken the message so far.
+        count: usize,
+    },
+}
+
+/// What became of a message at one receiver.
+#[derive(Clone, Copy)]
+enum Reception {
+    Accepted,
+    Skipped,
+    WouldBlock,
+}
+
+impl Reception {
+    fn is_blocking(self) -> bool
+        ensures { result ≡ is_blocking (result_of self) }
+    {
+        matches!(self, Reception::WouldBlock)
+    }
+
+    fn accepted_count(self) -> usize
+        ensures value { result ≡ accepted_count (result_of self) }
+        ensures few { result ≤ 1 }
+    {
+        match self {
+            Reception::Accepted => 1,
+            Reception::Skipped | Reception::WouldBlock => 0,
+        }
+    }
+}
+
+// What a put comes to, where the strategy decides at a full connection.
+fn reception_of(outcome: PutOutcome, strategy: BackpressureStrategy) -> Reception
+    ensures { result_of result ≡ result_of_put strategy outcome }
+{
+    match outcome {
+        PutOutcome::Taken | PutOutcome::Overwrote(_) => Reception::Accepted,
+        PutOutcome::Full => match strategy {
+            BackpressureStrategy::RetryUntilDelivered => Reception::WouldBlock,
+            BackpressureStrategy::DiscardData => Reception::Skipped,
+        },
+    }
+}
+
+// Whether the subscriber with that id stands at the place, and is open.
+fn is_open(receivers: &[Option<ReceiverDetails>], place: usize, id: u128) -> bool
+    ensures { result ≡ is_open_at receivers.now place id }
+{
+    match receivers.get(place) {
+        Some(Some(receiver)) => receiver.port_id == id && receiver.is_open,
+        _ => false,
+    }
+}
+
+// Counts the holders after a put.
+fn recount(book: &mut SlotBook, outcome: PutOutcome, slot: usize)
+    requires held { IsHeld book.old slot }
+    requires fits { holders_at book.old slot + 1 < 2 ^ 128 }
+    requires overwritten { CanLeave outcome book.old.holders }
+    ensures { book.new ≡ with_counters book.old (recounted outcome slot book.old.holders) }
+{
+    match outcome {
+        PutOutcome::Taken => book.hold(slot),
+        PutOutcome::Overwrote(oldest) => {
+            book.hold(slot);
+            book.release(oldest);
+        }
+        PutOutcome::Full => {}
+    }
+}
+
+// Puts the slot into the connection at one place, if there is one and its subscriber is open.
+fn deliver_at(
+    config: &ServiceConfig,
+    delivery: &Delivery,
+    connections: &mut Slab<Connection>,
+    book: &mut SlotBook,
+    places: &[Option<usize>],
+    receivers: &[Option<ReceiverDetails>],
+    place: usize,
+) -> Reception
+    requires at { place < length places.now }
+    requires ready { IsReadyToDeliver delivery.now.publisher connections.old places.now receivers.now }
+    requires held { IsHeld book.old delivery.now.slot }
+    requires fits { holders_at book.old delivery.now.slot + 1 < 2 ^ 128 }
+    requires covered { IsCovered delivery.now.publisher book.old.holders connections.old.slots }
+    ensures puts { PutsSlot config.now delivery.now receivers.now (slice_index_or places.now place None)
+        connections.old result connections.new }
+    ensures homes { SameHomes connections.old connections.new }
+    ensures book { book.new ≡ with_counters book.old book.new.holders }
+    ensures others { KeepsOthers delivery.now.publisher connections.old connections.new }
+    ensures reclaimed { HasReclaimed connections.new places.now }
+    ensures keeps { holders_at book.old delivery.now.slot ≤ holders_at book.new delivery.now.slot }
+    ensures counters { Follows delivery.now.publisher book.old.holders connections.old.slots
+        book.new.holders connections.new.slots }
+    ensures grows { holders_at book.new delivery.now.slot ≤ holders_at book.old delivery.now.slot + 1 }
+{
+    let Some(key) = places[place] else {
+        return Reception::Skipped;
+    };
+    let home = connections[key].home();
+    if !is_open(receivers, place, home.subscriber) {
+        return Reception::Skipped;
+    }
+    let outcome = connections[key].put(delivery.slot, config.enable_safe_overflow);
+    recount(book, outcome, delivery.slot);
+    reception_of(outcome, delivery.strategy)
+}
+
+/// Delivers a message to the receivers at these places, one after the other, until one blocks it.
+/// A receiver that is closed is skipped. One with room takes the message, and with safe overflow
+/// each does; at any other the strategy decides.
+///
+/// `places` has at each subscriber's place the key of the publisher's connection to it, and
+/// `receivers` the subscriber that stands there now. The count of holders of each slot in `book` follows:
+/// it grows with each connection that takes the slot, and shrinks for a slot that is overwritten.
+///
+/// iceoryx2's `Sender::deliver_offset` (`src/port/details/sender.rs`).
+pub fn deliver(
+    config: &ServiceConfig,
+    delivery: &Delivery,
+    connections: &mut Slab<Connection>,
+    book: &mut SlotBook,
+    places: &[Option<usize>],
+    receivers: &[Option<ReceiverDetails>],
+) -> DeliveryOutcome
+    requires ready { IsReadyToDeliver delivery.now.publisher connections.old places.now receivers.now }
+    requires held { IsHeld book.old delivery.now.slot }
+    requires fits { holders_at book.old delivery.now.slot + length places.now < 2 ^ 128 }
+    requires covered { IsCovered delivery.now.publisher book.old.holders connections.old.slots }
+    ensures delivers { DeliversSlot config.now delivery.now receivers.now places.now
+        connections.old result connections.new }
+    ensures homes { SameHomes connections.old connections.new }
+    ensures book { book.new ≡ with_counters book.old book.new.holders }
+    ensures others { KeepsOthers delivery.now.publisher connections.old connections.new }
+    ensures counters { Follows delivery.now.publisher book.old.holders connections.old.slots
+        book.new.holders connections.new.slots }
+{
+    let mut count = 0;
+    for place in 0..places.len() {
+        let reception = deliver_at(
+            config,
+            delivery,
+            connections,
+            book,
+            places,
+            receivers,
+            place,
+        );
+        if reception.is_blocking() {
+            return DeliveryOutcome::Suspended { place, count };
+        }
+        count += reception.accepted_count();
+    }
+    DeliveryOutcome::Complete { count }
+}
+
+// Reclaims one slot from the connection at a key, and answers whether there was one.
+fn reclaim_one(
+    publisher: u128,
+    connections: &mut Slab<Connection>,
+    book: &mut SlotBook,
+    key: usize,
+) -> bool
+    requires own { IsSomeAnd (get connections.old key) (λ c. c.home.publisher ≡ publisher) }
+    requires apart { IsApart connections.old }
+    requires covered { IsCovered publisher book.old.holders connections.old.slots }
+    ensures book { book.new ≡ with_counters book.old book.new.holders }
+    ensures reclaims { Reclaims publisher book.old.holders connections.old book.new.holders connections.new }
+    ensures counts { CountsReclaimed connections.old key result connections.new }
+{
+    let Some(slot) = connections[key].reclaim() else {
+        return false;
+    };
+    book.release(slot);
+    true
+}
+
+// Reclaims all slots from the connection at a key.
+fn reclaim_at(publisher: u128, connections: &mut Slab<Connection>, book: &mut SlotBook, key: usize)
+    requires own { IsSomeAnd (get connections.old key) (λ c. c.home.publisher ≡ publisher) }
+    requires apart { IsApart connections.old }
+    requires covered { IsCovered publisher book.old.holders connections.old.slots }
+    ensures book { book.new ≡ with_counters book.old book.new.holders }
+    ensures reclaims { Reclaims publisher book.old.holders connections.old book.new.holders connections.new }
+    ensures all { returned_count connections.new key ≡ 0 }
+{
+    while reclaim_one(publisher, connections, book, key) {}
+}
+
+/// Reclaims every slot that was given back in the publisher's connections at these places. Each of
+/// them has one holder less for it. A publisher calls this before it delivers.
+///
+/// iceoryx2's `Sender::retrieve_returned_samples` (`src/port/details/sender.rs`).
+pub fn reclaim_all(
+    publisher: u128,
+    connections: &mut Slab<Connection>,
+    book: &mut SlotBook,
+    places: &[Option<usize>],
+)
+    requires linked { IsSenderLinked publisher connections.old places.now }
+    requires apart { IsApart connections.old }
+    requires covered { IsCovered publisher book.old.holders connections.old.slots }
+    ensures book { book.new ≡ with_counters book.old book.new.holders }
+    ensures reclaims { Reclaims publisher book.old.holders connections.old book.new.holders connections.new }
+    ensures all { HasReclaimed connections.new places.now }
+{
+    for index in 0..places.len() {
+        if let Some(key) = places[index] {
+            reclaim_at(publisher, connections, book, key);
+        }
+    }
+}
