@@ -1,6 +1,7 @@
 ghost use Rattle.iox2_runs.specs.Laws.{StepsKeepWellFormed, StepsLift};
 ghost use Rattle.iox2_runs.specs.FillingCommands.{WorstCaseIsReached, WorstCaseIsLeast};
 ghost use Rattle.iox2_runs.specs.Isolation.{OthersAreUnseen, StepsLookAlike, SubscribersAreIsolated};
+ghost use Rattle.iox2_runs.specs.Existence.{EveryListRuns};
 ghost use Rattle.iox2_runs.specs.RunLaws.{ReachedStatesHoldFew, WorstCaseOfSlotsGrants, SamplesNameTheirPublisher, ReceivesInOrder, ReadsGiveWhatWasSent};
 
 /// Every step from a well-formed state ends in a well-formed one, whatever handlers answer and whether or not memory is
@@ -66,4 +67,9 @@ pub fn steps_look_alike<T, U>()
 /// What a subscriber sees of a run doesn't depend on which receives, updates and releases the other subscribers leave out.
 pub fn subscribers_are_isolated<T, U>()
     ensures { SubscribersAreIsolated T U }
+{}
+
+/// Every list of commands has a run on a new domain with ample memory.
+pub fn every_list_runs<T, U>()
+    ensures { EveryListRuns T U }
 {}

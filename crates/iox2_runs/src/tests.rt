@@ -1,5 +1,5 @@
 use crate::{
-    Command, Reply, others_are_unseen, reached_states_hold_few, reads_give_what_was_sent,
+    Command, Reply, every_list_runs, others_are_unseen, reached_states_hold_few, reads_give_what_was_sent,
     receives_in_order, samples_name_their_publisher, steps_keep_well_formed, steps_lift,
     steps_look_alike, subscribers_are_isolated, worst_case_is_least, worst_case_is_reached,
     worst_case_of_slots_grants,
@@ -48,4 +48,5 @@ fn laws_stand_at_concrete_types() {
     others_are_unseen::<u64, u8>();
     steps_look_alike::<u64, u8>();
     subscribers_are_isolated::<u64, u8>();
+    every_list_runs::<u64, u8>();
 }
