@@ -1,29 +1,29 @@
 -- Each call on a store comes to something, where memory is ample and handlers are fixed.
-use Rattle.std.proofs.Common.{◌≡◌, ◌⊎◌, inl, inr, ⊎_elim, ℕ, ◌+◌, ◌*◌, ◌^◌, ◌≤◌, ◌<◌, Bool, true, false, cond, List, [], ◌∷◌, ◌++◌, drop, length, arith, refl, sym, ap, subst, ◌∙◌, Option, None, Some, eqb, ltb}
-use Rattle.std.specs.Prelude.{MatchOption, ◌||◌, max, nat_lt, ◌==◌}
+use Rattle.std.proofs.Common.{◌≡◌, ◌⊎◌, inl, inr, ℕ, ◌+◌, ◌*◌, ◌^◌, ◌≤◌, ◌<◌, Bool, true, false, cond, List, [], ◌∷◌, ◌++◌, arith, refl, sym, ap, subst, ◌∙◌, Option, None, Some, eqb, ltb}
+use Rattle.std.specs.Prelude.{MatchOption, ◌||◌, max, nat_lt}
 use Rattle.std.specs.Bool.{MatchBool}
 use Rattle.std.specs.List.{list_any}
 use Rattle.std.specs.Option.{option_map}
 use Rattle.std.specs.declared.time.Duration.{Duration}
-use Rattle.std.proofs.lemmas.Bool.{true≢false, eq-eqb, eqb-false, eqb-true, or_left, or_right, or_from, and_parts, ltb-true, ltb-false, le-ltb, lt-ltb, cond_both}
+use Rattle.std.proofs.lemmas.Bool.{true≢false, eq-eqb, eqb-false, eqb-true, or_left, or_right, or_from, and_parts, ltb-true, ltb-false, le-ltb, lt-ltb}
 use Rattle.std.proofs.lemmas.Nat.{mul-le}
-use Rattle.std.proofs.lemmas.Option.{none-some, same_Some}
+use Rattle.std.proofs.lemmas.Option.{none-some}
 use Rattle.std.proofs.lemmas.List.Folds.{list_any-append}
 use Rattle.iox2_store.specs.Limits.{last_number, segment_fits, buffer_limit}
 use Rattle.iox2_store.specs.Numbers.{put_at, contains, size, without, last_n}
 use Rattle.iox2_store.specs.Places.{occupants, free_place}
 use Rattle.iox2_store.specs.Mailbox.{Mailbox, can_receive, has_data, BorrowsFirst}
-use Rattle.iox2_store.specs.Records.{Loan, Publisher, Subscriber, Handler, Fixed, BlockedSend, PublisherSettings, SubscriberSettings}
-use Rattle.iox2_store.specs.State.{State, held, receiving_buffer, connected_publishers, with_mailbox, with_loan, publisher_changed, publishers_due}
+use Rattle.iox2_store.specs.Records.{Loan, Publisher, Subscriber, PublisherSettings, SubscriberSettings}
+use Rattle.iox2_store.specs.State.{State, held, receiving_buffer, connected_publishers, with_mailbox, with_loan, publisher_changed}
 use Rattle.iox2_store.specs.Delivery.{Deliver, DeliveryEnd, Complete, Suspended, no_time}
 use Rattle.iox2_store.specs.PublisherUpdate.{UpdatePublisher}
 use Rattle.iox2_store.specs.SubscriberUpdate.{UpdateSubscriber}
 use Rattle.iox2_store.specs.Loans.{GrantLoan, StaticLoan, DynamicLoan, IsGuaranteed, NoSegmentFits, known_length, loan_granted, limit_error, is_static, loan_discarded, written}
 use Rattle.iox2_store.specs.SingleCalls.{GrantWrittenLoan}
-use Rattle.iox2_store.specs.Sends.{Send, Publish, Retry, GiveUp, DeliverAndConclude, ConcludeSend, SendResult, Delivered_to, Blocked_send, Send_error, with_mailboxes, published, send_ended, send_blocked, more_retries}
+use Rattle.iox2_store.specs.Sends.{Send, Publish, DeliverAndConclude, ConcludeSend, SendResult, Delivered_to, Blocked_send, Send_error, with_mailboxes, published, send_ended, send_blocked}
 use Rattle.iox2_store.specs.Receives.{Receive, HasSamples, TakeSample, ReceiveResult, Got_sample, No_sample, Receive_error, has_any_data, can_receive_of}
 use Rattle.iox2_store.specs.Releases.{released, freed_if_unused, subscriber_pruned, is_unused, place_freed, unborrowed}
-use Rattle.iox2_store.specs.Ports.{CreatePublisher, MakePublisher, CreateSubscriber, MakeSubscriber, with_new_publisher, with_new_subscriber, new_publisher, new_subscriber, with_failure_warning, first_segment_fits, buffer_for, publisher_closed, subscriber_closed, subscriber_shut, publisher_gone}
+use Rattle.iox2_store.specs.Ports.{CreatePublisher, CreateSubscriber, with_new_publisher, with_new_subscriber, new_publisher, new_subscriber, with_failure_warning, first_segment_fits, buffer_for, publisher_closed, subscriber_closed, subscriber_shut}
 use Rattle.iox2_store.specs.declared.service_config.ServiceConfig.{ServiceConfig}
 use Rattle.iox2_store.specs.declared.allocation.AllocationStrategy.{AllocationStrategy}
 use Rattle.iox2_store.specs.declared.allocation.AllocationStrategy.TheVariants.{Static, BestFit, PowerOfTwo}

@@ -1,12 +1,12 @@
 -- Every command comes to something in every state that a run reaches, so every list of commands has a run.
-use Rattle.std.proofs.Common.{◌≡◌, ◌⊎◌, ⊎_elim, ℕ, ◌+◌, ◌≤◌, ◌<◌, Bool, true, false, cond, List, [], ◌∷◌, ◌++◌, length, arith, refl, sym, ap, subst, ◌∙◌, Option, None, Some, is_none}
+use Rattle.std.proofs.Common.{◌≡◌, ⊎_elim, ℕ, ◌≤◌, ◌<◌, Bool, true, false, cond, List, [], ◌∷◌, ◌++◌, length, arith, refl, sym, subst, ◌∙◌, Option, None, Some}
 use Rattle.std.specs.Prelude.{MatchOption, slice_get, nat_lt}
 use Rattle.std.specs.Option.{option_map}
 use Rattle.std.proofs.lemmas.Bool.{true≢false, ltb-true}
 use Rattle.std.proofs.lemmas.Option.{none-some, same_Some, slice_get_cases}
 use Rattle.iox2_store.specs.Mailbox.{is_borrowed, numbers_in}
 use Rattle.iox2_store.specs.Numbers.{contains}
-use Rattle.iox2_store.specs.Records.{Entry, Loan, Publisher, Subscriber, Handler, Fixed, BlockedSend}
+use Rattle.iox2_store.specs.Records.{Entry, Loan, Publisher, Handler, Fixed}
 use Rattle.iox2_store.specs.State.{State, Messages, fresh, no_messages, with_loan}
 use Rattle.iox2_store.specs.Loans.{GrantLoan, is_initialized, initialized, entry_of, written, with_cell, loan_discarded}
 use Rattle.iox2_store.specs.SingleCalls.{GrantWrittenLoan}
@@ -21,14 +21,14 @@ use Rattle.iox2_laws.proofs.Enough.{fresh_is_well_formed}
 use Rattle.iox2_laws.proofs.NumberLemmas.{contains_right}
 use Rattle.iox2_runs.specs.Outcomes.{Handle, Sample_handle, Event, Outcome, replied, done, skipped, messages_after}
 use Rattle.iox2_runs.specs.Step.{Step, after_publisher, after_subscriber, after_loan, after_send, after_retry, after_receive, after_update, after_question, unblocked_at, subscriber_at, loan_at, unwritten_at, written_at, with_cell_at, sendable_at, blocked_at, sample_at, if_single_units, if_fixed_size, if_dynamic}
-use Rattle.iox2_runs.specs.Runs.{Run, RunFrom, ample_memory, only_defaults}
+use Rattle.iox2_runs.specs.Runs.{RunFrom, ample_memory, only_defaults}
 use Rattle.iox2_runs.specs.Existence.{EveryListRuns}
 use Rattle.iox2_runs.specs.declared.command.Command.{Command}
 use Rattle.iox2_runs.specs.declared.command.Command.TheVariants.{Nothing, CreatePublisher as PublisherCommand, CreateSubscriber as SubscriberCommand, LoanUninit, Loan as LoanDefault, LoanSlice, WriteCell, WriteAll, AssumeInit, WriteHeader, SetPayload, Send as SendLoan, SendCopy, Discard, Retry, GiveUp, Update, Receive, HasSamples, Read, ReadHeader, ReadUserHeader, Release, Close}
 use Rattle.iox2_runs.specs.declared.reply.Reply.{Reply}
 use Rattle.iox2_runs.specs.declared.reply.Reply.TheVariants.{Unwritten, SendRefused, Cell, Header as HeaderRead, UserHeader}
 use Rattle.iox2_runs.proofs.Named.{unblocked_is, subscriber_is, blocked_is, passes, in_single_units, in_fixed_size, in_dynamic}
-use Rattle.iox2_runs.proofs.ReadSteps.{Past, past_after, scope_of}
+use Rattle.iox2_runs.proofs.ReadSteps.{Past, past_after}
 use Rattle.iox2_runs.proofs.Reached.{HasReached, goes_on}
 use Rattle.iox2_runs.proofs.AlikeOpen.{state_publisher, state_subscriber, state_loan, state_update, state_question, state_receive, state_send}
 use Rattle.iox2_runs.proofs.ExistUpdates.{Comes, at_some, is_fixed}

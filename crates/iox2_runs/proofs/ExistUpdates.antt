@@ -1,25 +1,23 @@
 -- Updates, deliveries and takes always come to something, where memory is ample and handlers are fixed.
-use Rattle.std.proofs.Common.{◌≡◌, ◌⊎◌, inl, inr, ℕ, ◌+◌, Bool, true, false, List, [], ◌∷◌, ◌++◌, refl, sym, ap, subst, ◌∙◌, Option, None, Some, eqb}
+use Rattle.std.proofs.Common.{◌≡◌, inl, ℕ, ◌+◌, Bool, true, false, List, [], ◌∷◌, refl, sym, subst, Option, None, Some, eqb}
 use Rattle.std.specs.Prelude.{MatchOption, ◌||◌}
 use Rattle.std.specs.Bool.{MatchBool}
-use Rattle.std.specs.List.{list_any}
 use Rattle.std.specs.declared.time.Duration.{Duration}
-use Rattle.std.proofs.lemmas.Bool.{true≢false, eq-eqb, or_left, or_right, or_from}
+use Rattle.std.proofs.lemmas.Bool.{true≢false}
 use Rattle.iox2_store.specs.Limits.{expired_limit}
-use Rattle.iox2_store.specs.Numbers.{put_at, contains}
+use Rattle.iox2_store.specs.Numbers.{put_at}
 use Rattle.iox2_store.specs.Places.{occupant}
 use Rattle.iox2_store.specs.Mailbox.{Mailbox, has_room, with_appended}
-use Rattle.iox2_store.specs.Records.{Publisher, Subscriber, Handler, Fixed, Custom, BlockedSend}
+use Rattle.iox2_store.specs.Records.{Publisher, Subscriber, Handler, Fixed, Custom}
 use Rattle.iox2_store.specs.State.{State, receiving_buffer, has_receiver_end, has_sender_end}
 use Rattle.iox2_store.specs.Connections.{ForEachPlace, first_failure, expired_buffer_full}
-use Rattle.iox2_store.specs.Delivery.{PutResult, Accepted, Skipped, Failed, Would_block, accepted_count, is_failed, DeliveryEnd, Complete, Suspended, by_strategy, by_action, Decides, no_time, info_of, Put, PutAtEnd, Deliver}
+use Rattle.iox2_store.specs.Delivery.{PutResult, Accepted, Skipped, Failed, Would_block, DeliveryEnd, Complete, by_strategy, by_action, Decides, no_time, info_of, Put, PutAtEnd, Deliver}
 use Rattle.iox2_store.specs.PublisherUpdate.{SenderSide, SenderAction, Keep_end, Drop_waiting, Disconnect, Connect, sender_action, dropped, disconnected, connected, Performs, UpdateSenderPlace, sender_side, with_sender_side, UpdatePublisher}
-use Rattle.iox2_store.specs.SubscriberUpdate.{ReceiverSide, Retirement, retirement_of, is_refused, after_retirement, with_end, ConnectReceiver, Retire, ConnectAtPlace, DisconnectAtPlace, UpdateReceiverSide, receiver_side, with_receiver_side, UpdateSubscriber}
+use Rattle.iox2_store.specs.SubscriberUpdate.{ReceiverSide, retirement_of, is_refused, after_retirement, with_end, ConnectReceiver, Retire, ConnectAtPlace, DisconnectAtPlace, UpdateReceiverSide, receiver_side, with_receiver_side, UpdateSubscriber}
 use Rattle.iox2_store.specs.declared.service_config.ServiceConfig.{ServiceConfig}
 use Rattle.iox2_store.specs.declared.backpressure.BackpressureStrategy.{BackpressureStrategy}
 use Rattle.iox2_store.specs.declared.backpressure.BackpressureAction.{BackpressureAction}
 use Rattle.iox2_store.specs.declared.backpressure.BackpressureInfo.{BackpressureInfo}
-use Rattle.iox2_store.specs.declared.degradation.DegradationAction.{DegradationAction}
 use Rattle.iox2_store.specs.declared.errors.ConnectionFailure.{ConnectionFailure}
 use Rattle.iox2_runs.specs.Runs.{ample_memory}
 
@@ -129,12 +127,13 @@ module _ {T U : Type 0} where
       → (s' : State T U) × (failure : Option ConnectionFailure) × UpdatePublisher ample_memory s p s' failure
   update_publisher_comes s p x present =
       let v : Comes (State T U) (Option ConnectionFailure) Updates (anything (State T U) (Option ConnectionFailure)) =
-      comes_bool (State T U) (Option ConnectionFailure) (anything (State T U) (Option ConnectionFailure)) x.is_due _ _
+      comes_bool (State T U) (Option ConnectionFailure) (anything (State T U) (Option ConnectionFailure)) x.is_due
+      (λ s' failure. (side : SenderSide) × Walks side failure × (s' ≡ with_sender_side s p x side)) (λ s' failure. (s' ≡ s) × (failure ≡ None))
       (λ _.
       let each : Comes SenderSide (Option ConnectionFailure) Walks (anything SenderSide (Option ConnectionFailure)) = for_each_comes AtPlace at_place 0 s.subscriber_places (sender_side s p x) in
       (with_sender_side s p x each.0, each.1, (each.0, each.2, refl), tt))
       (λ _. (s, None, (refl, refl), tt)) in
-      (v.0, v.1, at_some (s.publishers p) x _ _ present v.2)
+      (v.0, v.1, at_some (s.publishers p) x ⊥ _ present v.2)
     where
       AtPlace : (place : ℕ) → (at : Option ℕ) → SenderSide → SenderSide → Option ConnectionFailure → Type 0
       AtPlace = UpdateSenderPlace ample_memory (s.config).service_id p x.degradation_handler x.history (receiving_buffer s) (has_receiver_end s p)

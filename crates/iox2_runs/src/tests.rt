@@ -1,8 +1,8 @@
 use crate::{
-    Command, Reply, every_list_runs, others_are_unseen, reached_states_hold_few, reads_give_what_was_sent,
-    receives_in_order, samples_name_their_publisher, steps_keep_well_formed, steps_lift,
-    steps_look_alike, subscribers_are_isolated, worst_case_is_least, worst_case_is_reached,
-    worst_case_of_slots_grants,
+    Command, Reply, every_list_runs, others_are_unseen, reached_states_hold_few,
+    reads_give_what_was_sent, receives_in_order, samples_name_their_publisher,
+    steps_keep_well_formed, steps_lift, steps_look_alike, subscribers_are_isolated,
+    worst_case_is_least, worst_case_is_reached, worst_case_of_slots_grants,
 };
 use iox2_store::{LoanError, UniquePublisherId};
 
