@@ -57,32 +57,32 @@ independent_settings c loans strategy allocation len override_slots degradation 
 module _ {T U : Type 0} where
   -- ---- the state of an outcome
 
-  state_publisher : (s' : State T U) (n : ℕ) (r : Option PublisherCreateError) → (after_publisher s' n r).state ≡ s'
+  pub state_publisher : (s' : State T U) (n : ℕ) (r : Option PublisherCreateError) → (after_publisher s' n r).state ≡ s'
   state_publisher s' n None = refl
   state_publisher s' n (Some e) = refl
 
-  state_subscriber : (s' : State T U) (n : ℕ) (r : Option SubscriberCreateError) → (after_subscriber s' n r).state ≡ s'
+  pub state_subscriber : (s' : State T U) (n : ℕ) (r : Option SubscriberCreateError) → (after_subscriber s' n r).state ≡ s'
   state_subscriber s' n None = refl
   state_subscriber s' n (Some e) = refl
 
-  state_loan : (s' : State T U) (n : ℕ) (r : Option LoanError) → (after_loan s' n r).state ≡ s'
+  pub state_loan : (s' : State T U) (n : ℕ) (r : Option LoanError) → (after_loan s' n r).state ≡ s'
   state_loan s' n None = refl
   state_loan s' n (Some e) = refl
 
-  state_update : (s' : State T U) (r : Option ConnectionFailure) → (after_update s' r).state ≡ s'
+  pub state_update : (s' : State T U) (r : Option ConnectionFailure) → (after_update s' r).state ≡ s'
   state_update s' None = refl
   state_update s' (Some e) = refl
 
-  state_question : (s' : State T U) (r : Option ConnectionFailure) (has : Bool) → (after_question s' r has).state ≡ s'
+  pub state_question : (s' : State T U) (r : Option ConnectionFailure) (has : Bool) → (after_question s' r has).state ≡ s'
   state_question s' None has = refl
   state_question s' (Some e) has = refl
 
-  state_receive : (s' : State T U) (q : ℕ) (r : ReceiveResult) → (after_receive s' q r).state ≡ s'
+  pub state_receive : (s' : State T U) (q : ℕ) (r : ReceiveResult) → (after_receive s' q r).state ≡ s'
   state_receive s' q (Got_sample p n) = refl
   state_receive s' q No_sample = refl
   state_receive s' q (Receive_error e) = refl
 
-  state_send : (s' : State T U) (p n : ℕ) (entry : Entry T U) (r : SendResult) → (after_send s' p n entry r).state ≡ s'
+  pub state_send : (s' : State T U) (p n : ℕ) (entry : Entry T U) (r : SendResult) → (after_send s' p n entry r).state ≡ s'
   state_send s' p n entry (Delivered_to count) = refl
   state_send s' p n entry Blocked_send = refl
   state_send s' p n entry (Send_error UnableToDeliver) = refl

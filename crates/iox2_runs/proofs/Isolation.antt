@@ -1,5 +1,5 @@
 -- A slow subscriber isn't felt by another.
-use Rattle.std.proofs.Common.{◌≡◌, ◌⊎◌, inl, ⊎_elim, ℕ, zero, suc, ◌+◌, ◌≤◌, true, false, List, [], ◌∷◌, ◌++◌, length, refl, sym, ap, subst, ◌∙◌, arith, Option, None, Some}
+use Rattle.std.proofs.Common.{◌≡◌, ◌⊎◌, inl, ⊎_elim, ℕ, zero, suc, ◌+◌, ◌≤◌, ◌<◌, true, false, List, [], ◌∷◌, ◌++◌, length, refl, sym, ap, subst, ◌∙◌, arith, Option, None, Some}
 use Rattle.std.specs.Prelude.{slice_get, map}
 use Rattle.std.specs.Option.{option_map}
 use Rattle.std.proofs.Math.Path.{fun_ext}
@@ -254,6 +254,12 @@ front [] ys i x e = absurd (none-some x e)
 front (y ∷ xs) ys zero x e = e
 front (y ∷ xs) ys (suc i) x e = front xs ys i x e
 
+-- what is found in a list stands below its length
+found_below : {X : Type 0} (xs : List X) (i : ℕ) (x : X) → slice_get xs i ≡ Some x → i < length xs
+found_below [] i x e = absurd (none-some x e)
+found_below (y ∷ xs) zero x e = omega arith
+found_below (y ∷ xs) (suc i) x e = let low : i < length xs = found_below xs i x e in omega arith
+
 module _ {T U : Type 0} where
   -- a command that may be left out is a call of others
   left_out : (position q : ℕ) (whole : List (Command T U)) (replies : List (Reply T U)) (handles : List Handle) (command : Command T U) → HandlesFit position q whole replies handles
@@ -406,7 +412,9 @@ module _ {T U : Type 0} (default_value : T) (default_header : U) (c : ServiceCon
       λ p e. all_independent.publishers (length handles + 0) p command (stand.comes 0 command refl)
       (stand.replied 0 (PublisherMade p) (ap (λ (v : List (Reply T U)). slice_get v 0) x.replies_are ∙ ap Some e)) in
       let closes : ClosesNoSubscriber handles command =
-      λ of r e f. all_independent.closes (length handles + 0) of r (stand.comes 0 (Close of) (ap Some e)) ((stand.fit).subscribers of r f) in
+      λ of r e f.
+      let low : of < length handles = found_below handles of (Subscriber_handle r) f in
+      all_independent.closes (length handles + 0) of r (omega arith) (stand.comes 0 (Close of) (ap Some e)) ((stand.fit).subscribers of r f) in
       let alike : IsAlike q o o' = one_alike command other commands replies m m' a b handles handles' o o' stand reduced.0 closes x.step y.step
       (λ e. same_Some o.reply o'.reply (agreed 0 (ap Some e))) in
       let sound : IsSound a o = step_sound ample_memory default_value default_header m a handles (stand.independent).well_formed command o x.step in

@@ -47,6 +47,9 @@ pub mod AlikeOpen
 pub mod AlikeHandles
 pub mod AlikePositions
 pub mod Isolation
+pub mod ExistUpdates
+pub mod ExistCalls
+pub mod ExistRuns
 pub mod WorkedRunDomains
 pub mod WorkedRunsOfFilling
 pub mod WorkedRunsOfBuffers

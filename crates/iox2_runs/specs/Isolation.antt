@@ -1,5 +1,5 @@
 -- What one subscriber sees doesn't depend on how fast the others are.
-use Rattle.std.specs.Prelude.{ℕ, Bool, true, false, not, ◌&&◌, ◌||◌, List, [], ◌∷◌, ◌++◌, ◌≡◌, ◌==◌, slice_get, is_none}
+use Rattle.std.specs.Prelude.{ℕ, Bool, true, false, not, ◌&&◌, ◌||◌, List, [], ◌∷◌, ◌++◌, ◌≡◌, ◌==◌, ◌<◌, slice_get, is_none}
 use Rattle.std.specs.declared.option.Option.{Option}
 use Rattle.std.specs.declared.option.Option.TheVariants.{None, Some}
 use Rattle.iox2_store.specs.Limits.{worst_case}
@@ -52,11 +52,11 @@ makes_independent_publisher c (CreatePublisher loans strategy allocation len ove
     && never_waits c strategy (not (is_none backpressure))
 makes_independent_publisher c _ = true
 
--- Each publisher that was made is independent, and no subscriber was closed.
+-- Each publisher that was made is independent, and no command closes a subscriber that was made before it.
 pub record AreIndependent {T U : Type 0} (c : ServiceConfig) (commands : List (Command T U)) (replies : List (Reply T U)) : Type 0 where
   pub publishers : (i p : ℕ) (command : Command T U) → slice_get commands i ≡ Some command → slice_get replies i ≡ Some (PublisherMade p)
       → makes_independent_publisher c command ≡ true
-  pub closes : (i of r : ℕ) → slice_get commands i ≡ Some (Close of) → slice_get replies of ≡ Some (SubscriberMade r) → ⊥
+  pub closes : (i of r : ℕ) → of < i → slice_get commands i ≡ Some (Close of) → slice_get replies of ≡ Some (SubscriberMade r) → ⊥
 
 -- ---- the laws of one step
 

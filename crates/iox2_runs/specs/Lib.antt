@@ -8,3 +8,4 @@ pub mod Views
 pub mod Isolation
 pub mod Laws
 pub mod RunLaws
+pub mod Existence

@@ -1,4 +1,5 @@
 ghost use Rattle.iox2_runs.specs.Laws.{StepsKeepWellFormed, StepsLift};
+ghost use Rattle.iox2_runs.specs.Existence.{EveryListRuns};
 ghost use Rattle.iox2_runs.specs.FillingCommands.{WorstCaseIsReached, WorstCaseIsLeast};
 ghost use Rattle.iox2_runs.specs.Isolation.{OthersAreUnseen, StepsLookAlike, SubscribersAreIsolated};
 ghost use Rattle.iox2_runs.specs.RunLaws.{ReachedStatesHoldFew, WorstCaseOfSlotsGrants, LoansAreGranted, SamplesNameTheirPublisher, ReceivesInOrder, ReadsGiveWhatWasSent};
@@ -12,6 +13,11 @@ pub fn steps_keep_well_formed<T, U>()
 /// A step on what a domain keeps is a step from each state that it shows, to a state that it shows afterwards.
 pub fn steps_lift<T, U>()
     ensures { StepsLift T U }
+{}
+
+/// Every list of commands has a run on a new domain with ample memory.
+pub fn every_list_runs<T, U>()
+    ensures { EveryListRuns T U }
 {}
 
 /// In every state that a run from a new domain reaches, the configuration is unchanged, the state is well-formed, and each

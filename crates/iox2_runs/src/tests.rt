@@ -1,5 +1,5 @@
 use crate::{
-    Command, Reply, loans_are_granted, others_are_unseen, reached_states_hold_few,
+    Command, Reply, every_list_runs, loans_are_granted, others_are_unseen, reached_states_hold_few,
     reads_give_what_was_sent, receives_in_order, samples_name_their_publisher,
     steps_keep_well_formed, steps_lift, steps_look_alike, subscribers_are_isolated,
     worst_case_is_least, worst_case_is_reached, worst_case_of_slots_grants,
@@ -38,6 +38,7 @@ fn replies_compare_by_their_fields(rt: HostRuntime) {
 fn laws_stand_at_concrete_types() {
     steps_keep_well_formed::<u64, u8>();
     steps_lift::<u64, u8>();
+    every_list_runs::<u64, u8>();
     reached_states_hold_few::<u64, u8>();
     samples_name_their_publisher::<u64, u8>();
     receives_in_order::<u64, u8>();
