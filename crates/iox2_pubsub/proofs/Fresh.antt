@@ -1,0 +1,123 @@
+-- A new domain.
+use Rattle.std.proofs.Common.{◌≡◌, ℕ, zero, suc, List, [], Bool, refl, sym, subst, slice_index_or}
+use Rattle.std.specs.declared.option.Option.{Option}
+use Rattle.std.specs.declared.option.Option.TheVariants.{None, Some}
+use Rattle.slab.specs.Slab.{Slab}
+use Rattle.circular_buffer.specs.Buffer.{buffer}
+use Rattle.iox2_store.specs.Limits.{warning_limit}
+use Rattle.iox2_store.specs.Link.{Link}
+use Rattle.iox2_store.specs.SlotBook.{Book}
+use Rattle.iox2_store.specs.State.{fresh, no_messages}
+use Rattle.iox2_store.specs.declared.service_config.ServiceConfig.{ServiceConfig}
+use Rattle.iox2_ends.specs.LookUp.{IsOnly}
+use Rattle.iox2_laws.proofs.Enough.{fresh_is_well_formed}
+use Rattle.iox2_pubsub.specs.Fields.{Fields, kept_of}
+use Rattle.iox2_pubsub.specs.Invariant.{IsDomain, IsLinked, HasBooks, IsNumbered}
+use Rattle.iox2_pubsub.specs.Shows.{Shows, In_history, In_mailbox, In_blocked_send, KeepsEntries}
+
+-- at no place of an empty list stands anything
+nothing_at : {A : Type 0} (i : ℕ) (x : A) → slice_index_or {A = Option A} [] i None ≡ Some x → ⊥
+nothing_at {A} zero x e = cc
+nothing_at {A} (suc i) x e = cc
+
+none_only : {A : Type 0} (test : A → Bool) → IsOnly test []
+none_only test = record { one = λ i j x y at _ _ _. absurd (nothing_at i x at) }
+
+-- the fields of a new domain, whose slabs have no value
+abbrev pub fresh_fields : {T U : Type 0} → ServiceConfig → Slab Link → Slab Book → Fields T U
+fresh_fields config connections books = record {
+  config = config;
+  next_port = 1;
+  next_message = 1;
+  warnings = buffer [] warning_limit;
+  publishers = [];
+  subscribers = [];
+  connections = connections;
+  books = books;
+  contents = [];
+}
+
+-- a slab with no value
+abbrev empty_slab : {A : Type 0} → (vacant_key capacity : ℕ) → Slab A
+empty_slab v c = record { slots = []; vacant_key = v; capacity = c }
+
+numbered : (v c : ℕ) → IsNumbered 1 (empty_slab v c)
+numbered v c = record {
+  one = λ key key' slot slot' number here there. absurd (nothing_at key here.book here.stands);
+  below = λ key slot number here. absurd (nothing_at key here.book here.stands);
+}
+
+module _ {T U : Type 0} (config : ServiceConfig) (v c v' c' : ℕ) where
+  -- the fields with these empty slabs
+  abbrev empty_fields : Fields T U
+  empty_fields = fresh_fields config (empty_slab v c) (empty_slab v' c')
+
+  keeps_entries : KeepsEntries (kept_of empty_fields)
+  keeps_entries p n (In_history x at is) = absurd cc
+  keeps_entries p n (In_mailbox q is) = absurd cc
+  keeps_entries p n (In_blocked_send x b at is here) = absurd cc
+
+  linked : IsLinked empty_fields
+  linked = record {
+    senders = λ i x at. absurd (nothing_at i x at);
+    receivers = λ i y at. absurd (nothing_at i y at);
+    expired = λ i y at. absurd (nothing_at i y at);
+    ends = λ key d at. absurd (nothing_at key d at);
+    knows = record { at = λ key i d y at _ _. absurd (nothing_at key d at) };
+    receiver_places = λ i place key y d at _ _. absurd (nothing_at i y at);
+    knows_publishers = λ key i d x at _ _. absurd (nothing_at key d at);
+    returned = λ key d at. absurd (nothing_at key d at);
+  }
+
+  has_books : HasBooks empty_fields
+  has_books = record {
+    one_each = λ p. none_only _;
+    books = λ key b at. absurd (nothing_at key b at);
+    publishers = λ i x at. absurd (nothing_at i x at);
+    no_others = λ key at. refl;
+  }
+
+  is_domain : IsDomain empty_fields
+  is_domain = record {
+    publisher_ids = λ p. none_only _;
+    subscriber_ids = λ q. none_only _;
+    apart = record { one = λ p q. none_only _ };
+    linked = linked;
+    books = has_books;
+    counted = record { at = λ p slot. refl };
+    numbered = numbered v' c';
+    publisher_room = λ i x at. absurd (nothing_at i x at);
+    subscriber_room = λ i y at. absurd (nothing_at i y at);
+    warning_room = refl;
+    well_formed = fresh_is_well_formed config;
+    entries = keeps_entries;
+  }
+
+  shows : Shows (kept_of empty_fields) no_messages (fresh config)
+  shows = record {
+    state = refl;
+    well_formed = fresh_is_well_formed config;
+    entries = λ n entry kept. absurd cc;
+    complete = keeps_entries;
+    below = λ n le. refl;
+    unsent = λ n l at. refl;
+  }
+
+-- what holds at empty slabs holds at all whose lists are empty
+module _ {A B : Type 0} (P : Slab A → Slab B → Type 0) where
+  at_empty : (s : Slab A) (t : Slab B) → s.slots ≡ [] → t.slots ≡ [] → P (empty_slab s.vacant_key s.capacity) (empty_slab t.vacant_key t.capacity) → P s t
+  at_empty s t e f h =
+      let with_first : List (Option A) → Type 0 = λ xs. P (record { slots = xs; vacant_key = s.vacant_key; capacity = s.capacity }) (empty_slab t.vacant_key t.capacity) in
+      let with_second : List (Option B) → Type 0 = λ ys. P s (record { slots = ys; vacant_key = t.vacant_key; capacity = t.capacity }) in
+      subst with_second (sym f) (subst with_first (sym e) h)
+
+module _ {T U : Type 0} (config : ServiceConfig) (connections : Slab Link) (books : Slab Book) (e : connections.slots ≡ []) (f : books.slots ≡ []) where
+  pub fresh_is_domain : IsDomain {T = T} {U = U} (fresh_fields config connections books)
+  fresh_is_domain =
+      at_empty (λ s t. IsDomain {T = T} {U = U} (fresh_fields config s t)) connections books e f
+      (is_domain config connections.vacant_key connections.capacity books.vacant_key books.capacity)
+
+  pub fresh_is_shown : Shows {T = T} {U = U} (kept_of (fresh_fields config connections books)) no_messages (fresh config)
+  fresh_is_shown =
+      at_empty (λ s t. Shows {T = T} {U = U} (kept_of (fresh_fields config s t)) no_messages (fresh config)) connections books e f
+      (shows config connections.vacant_key connections.capacity books.vacant_key books.capacity)

@@ -1,0 +1,10 @@
+pub mod Fresh
+pub mod Containers
+pub mod Views
+pub mod Due
+pub mod Placed
+pub mod Entered
+pub mod ConnectionEnds
+pub mod EnteredAgrees
+pub mod Admitted
+pub mod MapSteps

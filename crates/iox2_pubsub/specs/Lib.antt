@@ -1,0 +1,6 @@
+pub mod Ports
+pub mod Kept
+pub mod Shows
+pub mod Fields
+pub mod Invariant
+pub mod DomainFields
