@@ -1,5 +1,5 @@
 -- A subscriber is admitted to a domain, before its first update.
-use Rattle.std.proofs.Common.{◌≡◌, ℕ, zero, suc, ◌+◌, ◌<◌, ◌≤◌, List, [], ◌∷◌, map, get_or, refl, ap, ◌∙◌}
+use Rattle.std.proofs.Common.{◌≡◌, ℕ, zero, suc, ◌+◌, ◌<◌, ◌≤◌, List, [], ◌∷◌, map, get_or, refl, ap, ◌∙◌, length}
 use Rattle.std.specs.declared.option.Option.{Option}
 use Rattle.std.specs.declared.option.Option.TheVariants.{None, Some}
 use Rattle.std.specs.Option.{option_map}
@@ -49,7 +49,7 @@ module _ {T U : Type 0} (f : Fields T U) (sound : IsDomain f) (warnings : Buffer
   -- the invariant is kept
   pub admitted-agrees : warnings.items ≡ (with_buffer_warning (state_of (kept_of f)) f.next_port).warnings → warnings.capacity ≡ warning_limit
       → HasSubscriberRoom f.config (newcomer (with_publishers_due f) (publishers_due-agree f sound) warnings place asked place_room expired_room free)
-      → buffer_for (asked_for asked) ≤ buffer_limit f.config → place < (f.config).max_subscribers → IsDomain with_admitted
-  admitted-agrees warned room rooms fits low =
-      entered-agrees (with_publishers_due f) (publishers_due-agree f sound) warnings place asked place_room expired_room free room rooms
+      → buffer_for (asked_for asked) ≤ buffer_limit f.config → place < (f.config).max_subscribers → place ≤ length f.subscribers → IsDomain with_admitted
+  admitted-agrees warned room rooms fits low next =
+      entered-agrees (with_publishers_due f) (publishers_due-agree f sound) warnings place asked place_room expired_room free room rooms next
       (rw (admitted-is warned) (new_subscriber_keeps (state_of (kept_of f)) sound.well_formed (asked_for asked) place fits low (occupant-free f f.subscribers place free)))

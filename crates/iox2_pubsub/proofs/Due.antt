@@ -1,5 +1,5 @@
 -- Every publisher becomes due for an update.
-use Rattle.std.proofs.Common.{◌≡◌, ℕ, List, [], ◌∷◌, map, Bool, true, false, cond, eqb, ◌+◌, get_or, refl, ap, sym, ◌∙◌, inl, inr, ◌⊎◌}
+use Rattle.std.proofs.Common.{◌≡◌, ℕ, List, [], ◌∷◌, map, Bool, true, false, cond, eqb, ◌+◌, get_or, refl, ap, sym, ◌∙◌, inl, inr, ◌⊎◌, length, ◌<◌, suc}
 use Rattle.std.specs.declared.option.Option.{Option}
 use Rattle.std.specs.declared.option.Option.TheVariants.{None, Some}
 use Rattle.std.specs.Option.{option_map, option_map_or}
@@ -13,7 +13,7 @@ use Rattle.iox2_laws.proofs.PortChanges.{publishers_due_keeps}
 use Rattle.iox2_pubsub.specs.Ports.{PublisherFields, due}
 use Rattle.iox2_pubsub.specs.Kept.{Named, state_of, port_named, ids, is_named}
 use Rattle.iox2_pubsub.specs.Fields.{Fields, kept_of, publisher_of, is_book_of}
-use Rattle.iox2_pubsub.specs.Invariant.{IsDomain, IsLinked, HasBooks, IsCounted, SenderHas, ReceiverHas, is_publisher, own_holders, is_loan_in}
+use Rattle.iox2_pubsub.specs.Invariant.{IsDomain, IsLinked, HasOnlyOpenPorts, HasBooks, IsCounted, SenderHas, ReceiverHas, is_publisher, own_holders, is_loan_in}
 use Rattle.iox2_pubsub.proofs.Containers.{look_up-map, map-at, viewed, IsOnly-map}
 use Rattle.iox2_pubsub.proofs.Views.{KeepsHeld, held-before}
 use mathlib.Core.Path.{fun_ext}
@@ -69,6 +69,7 @@ module _ {T U : Type 0} (f : Fields T U) where
     knows = linked.knows;
     knows_publishers = λ key i c x at_c at_x same. let was = is_due i x at_x in
         linked.knows_publishers key i c was.0 at_c was.1 (sym (ap (λ (z : PublisherFields). z.id) was.2) ∙ same);
+    limits = linked.limits;
     returned = λ key c at. reclaims key c (linked.returned key c at);
   } where
     sender : (key : ℕ) (c : Link) → SenderHas f.publishers key c → SenderHas (map (option_map due) f.publishers) key c
@@ -112,6 +113,23 @@ module _ {T U : Type 0} (f : Fields T U) where
   counted-due : IsCounted f → IsCounted (with_publishers_due f)
   counted-due counted = record { at = λ p slot. counted.at p slot ∙ ap (λ n. n + sum_by (stands p slot) f.connections.slots) (own-due p slot) }
 
+  length-due : (xs : List (Option PublisherFields)) → length (map (option_map due) xs) ≡ length xs
+  length-due [] = refl
+  length-due (x ∷ xs) = ap suc (length-due xs)
+
+  stands-due : (i : ℕ) (x : PublisherFields) → get_or f.publishers i None ≡ Some x → get_or (map (option_map due) f.publishers) i None ≡ Some (due x)
+  stands-due i x at = map-at due f.publishers i ∙ ap (option_map due) at
+
+  open_ports-due : HasOnlyOpenPorts f → HasOnlyOpenPorts (with_publishers_due f)
+  open_ports-due open_ports = record {
+    publishers = λ i lt. let old = open_ports.publishers i (rw (sym (length-due f.publishers)) lt) in (due old.0, stands-due i old.0 old.1);
+    subscribers = open_ports.subscribers;
+    are_open = open_ports.are_open;
+    senders = λ key c at. let has = open_ports.senders key c at in (due has.0, stands-due c.home.publisher_place has.0 has.1, has.2);
+    receivers = open_ports.receivers;
+    books = λ key b at. let has = open_ports.books key b at in (has.0, due has.1, stands-due has.0 has.1 has.2, has.3, has.4);
+  }
+
   -- the invariant is kept
   pub publishers_due-agree : IsDomain f → IsDomain (with_publishers_due f)
   publishers_due-agree sound = record {
@@ -126,6 +144,11 @@ module _ {T U : Type 0} (f : Fields T U) where
         rw was.2 (record { loans = has.loans; history = has.history; places = has.places });
     subscriber_room = sound.subscriber_room;
     warning_room = sound.warning_room;
+    shapes = record { at = sound.shapes.at };
+    supported = sound.supported;
+    plain = λ i x at. let was = is_due i x at in let has = sound.plain i was.0 was.1 in
+        rw was.2 (record { strategy = has.strategy; allocation = has.allocation; length = has.length });
+    open_ports = open_ports-due sound.open_ports;
     well_formed = rw publishers_due-are (publishers_due_keeps (state_of (kept_of f)) sound.well_formed);
     entries = λ p n held. sound.entries p n (held-before (state_of (kept_of f)) (state_of (kept_of (with_publishers_due f))) p n (λ q. refl)
         (λ y at. was p y (port_named p (kept_of f).publishers) refl (sym (named-due p f.publishers) ∙ at)) held);

@@ -18,7 +18,8 @@ use Rattle.iox2_pubsub.specs.Kept.{Named, state_of, port_named, ids, is_named}
 use Rattle.iox2_pubsub.specs.Fields.{Fields, kept_of, subscriber_of}
 use Rattle.iox2_pubsub.specs.Invariant.{IsDomain, is_subscriber}
 use Rattle.iox2_pubsub.proofs.Containers.{look_up-map, look_up-written, IsOnly-inserted}
-use Rattle.iox2_pubsub.proofs.Placed.{placed, placed-here, placed-others, map-placed, placed-ids}
+use Rattle.iox2_pubsub.specs.Placed.{placed}
+use Rattle.iox2_pubsub.proofs.Placed.{placed-here, placed-others, map-placed, placed-ids}
 use mathlib.Core.Path.{fun_ext}
 
 -- the settings of a subscriber without a handler

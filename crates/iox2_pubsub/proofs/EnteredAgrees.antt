@@ -1,5 +1,5 @@
 -- A domain's fields agree with a new subscriber among them.
-use Rattle.std.proofs.Common.{◌≡◌, ℕ, zero, suc, ◌<◌, [], get_or, refl, ap, sym, subst, ◌∙◌, inl, inr, ◌⊎◌, arith}
+use Rattle.std.proofs.Common.{◌≡◌, ℕ, zero, suc, ◌<◌, [], get_or, refl, ap, sym, subst, ◌∙◌, inl, inr, ◌⊎◌, arith, List, ◌≤◌, length, ◌∷◌}
 use Rattle.std.specs.declared.option.Option.{Option}
 use Rattle.std.specs.declared.option.Option.TheVariants.{None, Some}
 use Rattle.std.specs.Option.{option_map}
@@ -14,11 +14,12 @@ use Rattle.iox2_ends.specs.declared.sender.ReceiverDetails.{ReceiverDetails}
 use Rattle.iox2_pubsub.specs.Ports.{SubscriberFields}
 use Rattle.iox2_pubsub.specs.Kept.{state_of}
 use Rattle.iox2_pubsub.specs.Fields.{Fields, kept_of}
-use Rattle.iox2_pubsub.specs.Invariant.{IsDomain, IsLinked, HasBooks, SenderHas, ReceiverHas, HasSubscriberRoom, details_of}
+use Rattle.iox2_pubsub.specs.Invariant.{IsDomain, IsLinked, HasBooks, HasOnlyOpenPorts, SenderHas, ReceiverHas, HasSubscriberRoom, details_of}
 use Rattle.iox2_pubsub.proofs.Containers.{map-at, viewed}
-use Rattle.iox2_pubsub.proofs.Placed.{placed}
+use Rattle.iox2_pubsub.specs.Placed.{placed}
 use Rattle.iox2_pubsub.proofs.Views.{held-before}
 use Rattle.iox2_pubsub.proofs.ConnectionEnds.{subscriber-known}
+use Rattle.iox2_pubsub.proofs.Placed.{placed-here}
 use Rattle.iox2_pubsub.proofs.Entered.{with_entered, newcomer, ids_apart, stood, still}
 
 nothing_at : {A : Type 0} (i : ℕ) (x : A) → get_or {A = Option A} [] i None ≡ Some x → ⊥
@@ -47,6 +48,7 @@ module _ {T U : Type 0} (f : Fields T U) (sound : IsDomain f) (warnings : Buffer
     ends = λ key c at. by key c (sound.linked.ends key c at);
     receiver_places = λ i at key y c at_y at_key at_c. places i at key y c (was i y at_y) at_key at_c;
     knows_publishers = sound.linked.knows_publishers;
+    limits = sound.linked.limits;
     returned = sound.linked.returned;
     knows = record { at = λ key i c d at_c at_d same. knows key i c d at_c (viewed details_of (placed f.subscribers place new) i d at_d) same };
   } where
@@ -85,9 +87,32 @@ module _ {T U : Type 0} (f : Fields T U) (sound : IsDomain f) (warnings : Buffer
     no_others = sound.books.no_others;
   }
 
+  -- the new list has no more places than it had, or the new one
+  filled : (xs : List (Option SubscriberFields)) (place i : ℕ) (y : SubscriberFields) → place ≤ length xs → i < length (placed xs place y) → (i < length xs) ⊎ (i ≡ place)
+  filled [] zero zero y le lt = inr refl
+  filled [] zero (suc i) y le lt = absurd (omega arith)
+  filled [] (suc place) i y le lt = absurd (omega arith)
+  filled (x ∷ xs) zero i y le lt = inl lt
+  filled (x ∷ xs) (suc place) zero y le lt = inl (omega arith)
+  filled (x ∷ xs) (suc place) (suc i) y le lt = elim (filled xs place i y (omega arith) (omega arith)) [ inl below ↦ inl (omega arith) | inr here ↦ inr (ap suc here) ]
+
+  open_ports : place ≤ length f.subscribers → HasOnlyOpenPorts after
+  open_ports le = record {
+    publishers = sound.open_ports.publishers;
+    subscribers = λ i lt. elim (filled f.subscribers place i new le lt) [
+      | inl below ↦ let old = sound.open_ports.subscribers i below in (old.0, still f sound warnings place asked place_room expired_room free i old.0 old.1)
+      | inr here ↦ (new, rw here (placed-here new f.subscribers place))
+    ];
+    are_open = λ i y at. elim (was i y at) [ inl e ↦ rw e (refl, refl) | inr old ↦ sound.open_ports.are_open i y old ];
+    senders = sound.open_ports.senders;
+    receivers = λ key c at. let has = sound.open_ports.receivers key c at in
+        (has.0, still f sound warnings place asked place_room expired_room free c.home.subscriber_place has.0 has.1, has.2);
+    books = sound.open_ports.books;
+  }
+
   -- the invariant is kept
-  pub entered-agrees : warnings.capacity ≡ warning_limit → HasSubscriberRoom f.config new → IsWellFormed (state_of (kept_of after)) → IsDomain after
-  entered-agrees room rooms well = record {
+  pub entered-agrees : warnings.capacity ≡ warning_limit → HasSubscriberRoom f.config new → place ≤ length f.subscribers → IsWellFormed (state_of (kept_of after)) → IsDomain after
+  entered-agrees room rooms low well = record {
     publisher_ids = sound.publisher_ids;
     subscriber_ids = ids_apart f sound warnings place asked place_room expired_room free;
     apart = sound.apart;
@@ -98,6 +123,10 @@ module _ {T U : Type 0} (f : Fields T U) (sound : IsDomain f) (warnings : Buffer
     publisher_room = sound.publisher_room;
     subscriber_room = λ i y at. elim (was i y at) [ inl e ↦ rw e rooms | inr old ↦ sound.subscriber_room i y old ];
     warning_room = room;
+    shapes = record { at = sound.shapes.at };
+    supported = sound.supported;
+    plain = sound.plain;
+    open_ports = open_ports low;
     well_formed = well;
     entries = λ p n held. sound.entries p n (held-before (state_of (kept_of f)) (state_of (kept_of after)) p n (λ q. refl) (λ y at. (y, at, record { history = refl; blocked = refl })) held);
   }

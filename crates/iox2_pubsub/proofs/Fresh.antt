@@ -1,5 +1,5 @@
 -- A new domain.
-use Rattle.std.proofs.Common.{◌≡◌, ℕ, zero, suc, List, [], Bool, refl, sym, subst, slice_index_or}
+use Rattle.std.proofs.Common.{◌≡◌, ℕ, zero, suc, List, [], Bool, refl, sym, subst, slice_index_or, arith}
 use Rattle.std.specs.declared.option.Option.{Option}
 use Rattle.std.specs.declared.option.Option.TheVariants.{None, Some}
 use Rattle.slab.specs.Slab.{Slab}
@@ -12,7 +12,8 @@ use Rattle.iox2_store.specs.declared.service_config.ServiceConfig.{ServiceConfig
 use Rattle.iox2_ends.specs.LookUp.{IsOnly}
 use Rattle.iox2_laws.proofs.Enough.{fresh_is_well_formed}
 use Rattle.iox2_pubsub.specs.Fields.{Fields, kept_of}
-use Rattle.iox2_pubsub.specs.Invariant.{IsDomain, IsLinked, HasBooks, IsNumbered}
+use Rattle.iox2_pubsub.specs.Invariant.{IsDomain, IsLinked, HasBooks, IsNumbered, IsSupported, HasOnlyOpenPorts}
+use Rattle.iox2_pubsub.specs.FreshFields.{IsFresh}
 use Rattle.iox2_pubsub.specs.Shows.{Shows, In_history, In_mailbox, In_blocked_send, KeepsEntries}
 
 -- at no place of an empty list stands anything
@@ -66,6 +67,7 @@ module _ {T U : Type 0} (config : ServiceConfig) (v c v' c' : ℕ) where
     knows = record { at = λ key i d y at _ _. absurd (nothing_at key d at) };
     receiver_places = λ i place key y d at _ _. absurd (nothing_at i y at);
     knows_publishers = λ key i d x at _ _. absurd (nothing_at key d at);
+    limits = λ key d at. absurd (nothing_at key d at);
     returned = λ key d at. absurd (nothing_at key d at);
   }
 
@@ -77,8 +79,18 @@ module _ {T U : Type 0} (config : ServiceConfig) (v c v' c' : ℕ) where
     no_others = λ key at. refl;
   }
 
-  is_domain : IsDomain empty_fields
-  is_domain = record {
+  open_ports : HasOnlyOpenPorts empty_fields
+  open_ports = record {
+    publishers = λ i lt. absurd (omega arith);
+    subscribers = λ i lt. absurd (omega arith);
+    are_open = λ i y at. absurd (nothing_at i y at);
+    senders = λ key d at. absurd (nothing_at key d at);
+    receivers = λ key d at. absurd (nothing_at key d at);
+    books = λ key b at. absurd (nothing_at key b at);
+  }
+
+  is_domain : IsSupported config → IsDomain empty_fields
+  is_domain supported = record {
     publisher_ids = λ p. none_only _;
     subscriber_ids = λ q. none_only _;
     apart = record { one = λ p q. none_only _ };
@@ -89,6 +101,10 @@ module _ {T U : Type 0} (config : ServiceConfig) (v c v' c' : ℕ) where
     publisher_room = λ i x at. absurd (nothing_at i x at);
     subscriber_room = λ i y at. absurd (nothing_at i y at);
     warning_room = refl;
+    shapes = record { at = λ key slot b m at _. absurd (nothing_at key b at) };
+    supported = supported;
+    plain = λ i x at. absurd (nothing_at i x at);
+    open_ports = open_ports;
     well_formed = fresh_is_well_formed config;
     entries = keeps_entries;
   }
@@ -112,12 +128,34 @@ module _ {A B : Type 0} (P : Slab A → Slab B → Type 0) where
       subst with_second (sym f) (subst with_first (sym e) h)
 
 module _ {T U : Type 0} (config : ServiceConfig) (connections : Slab Link) (books : Slab Book) (e : connections.slots ≡ []) (f : books.slots ≡ []) where
-  pub fresh_is_domain : IsDomain {T = T} {U = U} (fresh_fields config connections books)
-  fresh_is_domain =
+  fresh_is_domain : IsSupported config → IsDomain {T = T} {U = U} (fresh_fields config connections books)
+  fresh_is_domain supported =
       at_empty (λ s t. IsDomain {T = T} {U = U} (fresh_fields config s t)) connections books e f
-      (is_domain config connections.vacant_key connections.capacity books.vacant_key books.capacity)
+      (is_domain config connections.vacant_key connections.capacity books.vacant_key books.capacity supported)
 
-  pub fresh_is_shown : Shows {T = T} {U = U} (kept_of (fresh_fields config connections books)) no_messages (fresh config)
+  fresh_is_shown : Shows {T = T} {U = U} (kept_of (fresh_fields config connections books)) no_messages (fresh config)
   fresh_is_shown =
       at_empty (λ s t. Shows {T = T} {U = U} (kept_of (fresh_fields config s t)) no_messages (fresh config)) connections books e f
       (shows config connections.vacant_key connections.capacity books.vacant_key books.capacity)
+
+module _ {T U : Type 0} (config : ServiceConfig) (f : Fields T U) (is : IsFresh config f) where
+  fields-are : f ≡ fresh_fields config f.connections f.books
+  fields-are = λ i. record {
+    config = is.settings i;
+    next_port = is.next_port i;
+    next_message = is.next_message i;
+    warnings = is.warnings i;
+    publishers = is.publishers i;
+    subscribers = is.subscribers i;
+    connections = f.connections;
+    books = f.books;
+    contents = is.contents i;
+  }
+
+  -- a new domain's fields agree
+  pub new_is_domain : IsSupported config → IsDomain f
+  new_is_domain supported = subst IsDomain (sym fields-are) (fresh_is_domain config f.connections f.books is.connections is.books supported)
+
+  -- and they show the fresh state
+  pub new_is_shown : Shows (kept_of f) no_messages (fresh config)
+  new_is_shown = subst (λ (g : Fields T U). Shows (kept_of g) no_messages (fresh config)) (sym fields-are) (fresh_is_shown config f.connections f.books is.connections is.books)

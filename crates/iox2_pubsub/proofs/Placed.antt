@@ -4,13 +4,7 @@ use Rattle.std.specs.declared.option.Option.{Option}
 use Rattle.std.specs.declared.option.Option.TheVariants.{None, Some}
 use Rattle.std.specs.Option.{option_map}
 use Rattle.iox2_store.specs.Places.{set_place}
-
--- the list with the record at the place; it grows where it is too short
-abbrev pub placed : {A : Type 0} → List (Option A) → (place : ℕ) → A → List (Option A)
-placed [] zero x = Some x ∷ []
-placed [] (suc place) x = None ∷ placed [] place x
-placed (y ∷ ys) zero x = Some x ∷ ys
-placed (y ∷ ys) (suc place) x = y ∷ placed ys place x
+use Rattle.iox2_pubsub.specs.Placed.{placed}
 
 module _ {A : Type 0} (x : A) where
   pub placed-here : (xs : List (Option A)) (place : ℕ) → get_or (placed xs place x) place None ≡ Some x

@@ -11,7 +11,10 @@ use Rattle.iox2_store.specs.SlotBook.{Book, IsAligned, holders_at}
 use Rattle.iox2_store.specs.SlotContents.{ContentState}
 use Rattle.iox2_store.specs.Loans.{is_static}
 use Rattle.iox2_store.specs.WellFormed.{IsWellFormed}
+use Rattle.iox2_store.specs.declared.allocation.AllocationStrategy.TheVariants.{Static}
+use Rattle.iox2_store.specs.declared.backpressure.BackpressureStrategy.TheVariants.{DiscardData}
 use Rattle.iox2_store.specs.declared.service_config.ServiceConfig.{ServiceConfig}
+use Rattle.iox2_store.specs.declared.service_config.TypeVariant.TheVariants.{FixedSize}
 use Rattle.iox2_store.specs.declared.slots.mark.SlotMark.{SlotMark}
 use Rattle.iox2_store.specs.declared.slots.mark.SlotMark.TheVariants.{Unwritten, Written, Sent}
 use Rattle.iox2_ends.specs.LookUp.{look_up, IsOnly}
@@ -21,8 +24,8 @@ use Rattle.iox2_ends.specs.Receivers.{KnowsReceivers}
 use Rattle.iox2_ends.specs.Counters.{times, stands}
 use Rattle.iox2_ends.specs.declared.sender.ReceiverDetails.{ReceiverDetails}
 use Rattle.iox2_pubsub.specs.Ports.{PublisherFields, SubscriberFields}
-use Rattle.iox2_pubsub.specs.Kept.{state_of}
-use Rattle.iox2_pubsub.specs.Fields.{Fields, kept_of, is_book_of}
+use Rattle.iox2_pubsub.specs.Kept.{KeptMessage, state_of, header_of, length_of}
+use Rattle.iox2_pubsub.specs.Fields.{Fields, kept_of, is_book_of, message_in, contents_at}
 use Rattle.iox2_pubsub.specs.Shows.{KeepsEntries}
 
 -- ---- ports
@@ -82,6 +85,8 @@ pub record IsLinked {T U : Type 0} (f : Fields T U) : Type 0 where
   pub knows : KnowsReceivers f.connections (map (option_map details_of) f.subscribers)
   pub knows_publishers : (key i : ℕ) (c : Link) (x : PublisherFields) → get f.connections key ≡ Some c → slice_index_or f.publishers i None ≡ Some x
       → x.id ≡ c.home.publisher → i ≡ c.home.publisher_place
+  -- So many messages may be borrowed in each connection.
+  pub limits : (key : ℕ) (c : Link) → get f.connections key ≡ Some c → c.limit ≡ (f.config).subscriber_max_borrowed_samples
   -- Slots that were given back lie where their publisher reclaims them.
   pub returned : (key : ℕ) (c : Link) → get f.connections key ≡ Some c → SenderHas f.publishers key c ⊎ (c.returned ≡ [])
 
@@ -147,6 +152,47 @@ pub record IsNumbered (next_message : ℕ) (books : Slab Book) : Type 0 where
   pub one : (key key' slot slot' number : ℕ) → HasNumber books key slot number → HasNumber books key' slot' number → (key ≡ key') × (slot ≡ slot')
   pub below : (key slot number : ℕ) → HasNumber books key slot number → number < next_message
 
+-- ---- messages
+
+-- The elements of a loan or a sent message are as many as its header says, and one where each message is a single value.
+pub record HasShape {T U : Type 0} (c : ServiceConfig) (m : KeptMessage T U) : Type 0 where
+  pub length : length_of m ≡ (header_of m).number_of_elements * c.units_per_element
+  pub single : c.variant ≡ FixedSize → (header_of m).number_of_elements ≡ 1
+
+-- What lies in each held slot has its shape.
+pub record HasShapes {T U : Type 0} (f : Fields T U) : Type 0 where
+  pub at : (key slot : ℕ) (b : Book) (m : KeptMessage T U) → get f.books key ≡ Some b
+      → message_in b (contents_at f.contents key) slot ≡ Some m → HasShape f.config m
+
+-- ---- what isn't there yet
+
+-- The settings that a domain may have.
+pub record IsSupported (c : ServiceConfig) : Type 0 where
+  pub single_values : c.variant ≡ FixedSize
+  pub one_publisher : c.max_publishers ≡ 1
+  pub one_subscriber : c.max_subscribers ≡ 1
+  pub no_history : c.history_size ≡ 0
+  pub no_overflow : c.enable_safe_overflow ≡ false
+
+-- The publisher discards what a full receiver doesn't take, and has one segment, of single values.
+pub record IsPlain (x : PublisherFields) : Type 0 where
+  pub strategy : x.strategy ≡ DiscardData
+  pub allocation : x.allocation ≡ Static
+  pub length : x.initial_max_slice_len ≡ 1
+
+-- No port was closed: each place is taken, each subscriber is open, and the ports of each connection and each book stand
+-- at their places.
+pub record HasOnlyOpenPorts {T U : Type 0} (f : Fields T U) : Type 0 where
+  pub publishers : (i : ℕ) → i < length f.publishers → (x : PublisherFields) × (slice_index_or f.publishers i None ≡ Some x)
+  pub subscribers : (i : ℕ) → i < length f.subscribers → (y : SubscriberFields) × (slice_index_or f.subscribers i None ≡ Some y)
+  pub are_open : (i : ℕ) (y : SubscriberFields) → slice_index_or f.subscribers i None ≡ Some y → (y.is_open ≡ true) × (y.expired ≡ [])
+  pub senders : (key : ℕ) (c : Link) → get f.connections key ≡ Some c
+      → (x : PublisherFields) × (slice_index_or f.publishers c.home.publisher_place None ≡ Some x) × (x.id ≡ c.home.publisher)
+  pub receivers : (key : ℕ) (c : Link) → get f.connections key ≡ Some c
+      → (y : SubscriberFields) × (slice_index_or f.subscribers c.home.subscriber_place None ≡ Some y) × (y.id ≡ c.home.subscriber)
+  pub books : (key : ℕ) (b : Book) → get f.books key ≡ Some b
+      → (i : ℕ) × (x : PublisherFields) × (slice_index_or f.publishers i None ≡ Some x) × (x.id ≡ b.publisher) × (x.book ≡ key)
+
 -- ---- the whole
 
 -- The fields agree with one another, and what they keep is a well-formed state with an entry for each message that
@@ -162,5 +208,9 @@ pub record IsDomain {T U : Type 0} (f : Fields T U) : Type 0 where
   pub publisher_room : (i : ℕ) (x : PublisherFields) → slice_index_or f.publishers i None ≡ Some x → HasPublisherRoom f.config x
   pub subscriber_room : (i : ℕ) (y : SubscriberFields) → slice_index_or f.subscribers i None ≡ Some y → HasSubscriberRoom f.config y
   pub warning_room : (f.warnings).capacity ≡ warning_limit
+  pub shapes : HasShapes f
+  pub supported : IsSupported f.config
+  pub plain : (i : ℕ) (x : PublisherFields) → slice_index_or f.publishers i None ≡ Some x → IsPlain x
+  pub open_ports : HasOnlyOpenPorts f
   pub well_formed : IsWellFormed (state_of (kept_of f))
   pub entries : KeepsEntries (kept_of f)

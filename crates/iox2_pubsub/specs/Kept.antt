@@ -1,11 +1,12 @@
 -- What a domain keeps, and the machine's state that this is. No slot number and no capacity stands here.
-use Rattle.std.specs.Prelude.{ℕ, Bool, ◌&&◌, ◌==◌, List, [], ◌∷◌, map}
+use Rattle.std.specs.Prelude.{ℕ, Bool, ◌&&◌, ◌==◌, List, [], ◌∷◌, length, map}
 use Rattle.std.specs.declared.option.Option.{Option}
 use Rattle.std.specs.declared.option.Option.TheVariants.{None, Some}
 use Rattle.std.specs.Option.{option_map, option_and_then}
 use Rattle.iox2_store.specs.Mailbox.{Mailbox, empty_mailbox}
 use Rattle.iox2_store.specs.Records.{Entry, Loan, Publisher, Subscriber}
 use Rattle.iox2_store.specs.State.{State, Messages}
+use Rattle.iox2_store.specs.declared.header.Header.{Header}
 use Rattle.iox2_store.specs.declared.service_config.ServiceConfig.{ServiceConfig}
 use Rattle.iox2_store.specs.declared.warning.Warning.{Warning}
 use Rattle.iox2_ends.specs.LookUp.{look_up}
@@ -71,6 +72,16 @@ module _ {T U : Type 0} where
   abbrev pub is_numbered : ℕ → KeptMessage T U → Bool
   is_numbered n (Lent_message number l) = number == n
   is_numbered n (Sent_message number entry) = number == n
+
+  -- Its header.
+  abbrev pub header_of : KeptMessage T U → Header
+  header_of (Lent_message number l) = l.header
+  header_of (Sent_message number entry) = entry.header
+
+  -- How many cells or values it has.
+  abbrev pub length_of : KeptMessage T U → ℕ
+  length_of (Lent_message number l) = length l.cells
+  length_of (Sent_message number entry) = length entry.values
 
   -- The loan that it is.
   abbrev pub loan_in : KeptMessage T U → Option (Loan T U)

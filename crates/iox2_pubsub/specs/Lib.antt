@@ -3,4 +3,6 @@ pub mod Kept
 pub mod Shows
 pub mod Fields
 pub mod Invariant
-pub mod DomainFields
+pub mod FreshFields
+pub mod Placed
+pub mod Reaches

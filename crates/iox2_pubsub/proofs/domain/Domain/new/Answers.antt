@@ -1,12 +1,15 @@
-use Rattle.iox2_pubsub.proofs.Fresh.{fresh_is_domain, fresh_is_shown}
+use Rattle.iox2_pubsub.proofs.Fresh.{new_is_domain, new_is_shown}
 use Rattle.iox2_pubsub.proofs.domain.Domain.new.Goals as goal
 
 pub returns : goal.returns
-returns g c =
-    rw (c.in-Ok.ensures, c.new.ensures.items, c.new-2.ensures.items, c.new-5.ensures.items)
-    (fresh_is_shown {T = g.row.T.Denot} {U = g.row.U.Denot} c.args.config c.new-3.result c.new-4.result c.new-3.ensures.empty c.new-4.ensures.empty)
+returns g c = new_is_shown {T = g.row.T.Denot} {U = g.row.U.Denot} c.args.config c.in-Ok.state c.in-Ok.ensures
 
 pub invariant_of-result : goal.invariant_of-result
 invariant_of-result g c =
-    rw (c.in-Ok.ensures, c.new.ensures.items, c.new-2.ensures.items, c.new-5.ensures.items)
-    (fresh_is_domain {T = g.row.T.Denot} {U = g.row.U.Denot} c.args.config c.new-3.result c.new-4.result c.new-3.ensures.empty c.new-4.ensures.empty)
+    new_is_domain {T = g.row.T.Denot} {U = g.row.U.Denot} c.args.config c.in-Ok.state c.in-Ok.ensures (record {
+      single_values = c.requires.fixed_size;
+      one_publisher = c.requires.one_publisher;
+      one_subscriber = c.requires.one_subscriber;
+      no_history = c.requires.no_history;
+      no_overflow = c.requires.no_overflow;
+    })

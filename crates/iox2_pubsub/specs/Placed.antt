@@ -1,0 +1,11 @@
+-- A record is put at a place of a list of places.
+use Rattle.std.specs.Prelude.{ℕ, zero, suc, List, [], ◌∷◌}
+use Rattle.std.specs.declared.option.Option.{Option}
+use Rattle.std.specs.declared.option.Option.TheVariants.{None, Some}
+
+-- The list with the record at the place; it grows where it is too short.
+abbrev pub placed : {A : Type 0} → List (Option A) → (place : ℕ) → A → List (Option A)
+placed [] zero x = Some x ∷ []
+placed [] (suc place) x = None ∷ placed [] place x
+placed (y ∷ ys) zero x = Some x ∷ ys
+placed (y ∷ ys) (suc place) x = y ∷ placed ys place x
