@@ -6,3 +6,4 @@ pub mod Invariant
 pub mod FreshFields
 pub mod Placed
 pub mod Reaches
+pub mod Environments
