@@ -1,5 +1,5 @@
 -- Every publisher becomes due for an update.
-use Rattle.std.proofs.Common.{◌≡◌, ℕ, List, [], ◌∷◌, map, Bool, true, false, cond, eqb, ◌+◌, get_or, refl, ap, sym, ◌∙◌, inl, inr, ◌⊎◌, length, ◌<◌, suc}
+use Rattle.std.proofs.Common.{◌≡◌, ℕ, List, [], ◌∷◌, map, Bool, true, false, cond, eqb, ◌+◌, get_or, refl, ap, sym, ◌∙◌, inl, inr, ◌⊎◌, length, suc}
 use Rattle.std.specs.declared.option.Option.{Option}
 use Rattle.std.specs.declared.option.Option.TheVariants.{None, Some}
 use Rattle.std.specs.Option.{option_map, option_map_or}

@@ -15,7 +15,8 @@ use Rattle.iox2_ends.specs.Mailboxes.{is_between, mailboxes_of, mailbox_if_any}
 use Rattle.iox2_ends.proofs.LookUps.{look_up-there}
 use Rattle.iox2_pubsub.specs.Kept.{Kept, state_of, entries_of, stands_between, box_if_any}
 use Rattle.iox2_pubsub.specs.Fields.{Fields, kept_of, numbers_of, between_of}
-use Rattle.iox2_pubsub.specs.Shows.{Shows, IsHeldMessage, In_history, In_mailbox, In_blocked_send, KeepsEntries}
+use Rattle.iox2_store.specs.Shows.{IsHeldMessage, In_history, In_mailbox, In_blocked_send}
+use Rattle.iox2_pubsub.specs.Shows.{Shows, KeepsEntries}
 use Rattle.iox2_pubsub.proofs.Containers.{look_up-map}
 
 module _ {T U : Type 0} (f : Fields T U) where

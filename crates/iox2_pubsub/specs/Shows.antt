@@ -1,32 +1,17 @@
 -- Which states and messages a domain shows.
-use Rattle.std.specs.Prelude.{ℕ, true, ◌≡◌, ◌≤◌}
-use Rattle.std.specs.declared.option.Option.TheVariants.{None, Some}
-use Rattle.iox2_store.specs.Numbers.{contains}
-use Rattle.iox2_store.specs.Mailbox.{numbers_in}
-use Rattle.iox2_store.specs.Records.{Entry, Loan, Publisher, BlockedSend}
 use Rattle.iox2_store.specs.State.{State, Messages}
-use Rattle.iox2_store.specs.WellFormed.{IsWellFormed}
+use Rattle.iox2_store.specs.Shows.{Stored, KeepsEntries as StoredKeepsEntries, Shows as StoredShows}
 use Rattle.iox2_pubsub.specs.Kept.{Kept, state_of, entries_of}
 
--- Somebody holds the message n of p: it is in the history of p, in a mailbox with messages of p, or a send of it is blocked.
-pub data IsHeldMessage {T U : Type 0} (s : State T U) (p n : ℕ) : Type 0 where
-  In_history : (x : Publisher) → s.publishers p ≡ Some x → contains x.history n ≡ true → IsHeldMessage s p n
-  In_mailbox : (q : ℕ) → contains (numbers_in (s.mailboxes p q)) n ≡ true → IsHeldMessage s p n
-  In_blocked_send : (x : Publisher) (b : BlockedSend) → s.publishers p ≡ Some x → x.blocked ≡ Some b → b.message ≡ n → IsHeldMessage s p n
+module _ {T U : Type 0} where
+  -- The state that is kept, and the entries.
+  abbrev pub stored_of : Kept T U → Stored T U
+  stored_of kept = record { state = state_of kept; entries = entries_of kept }
 
--- Each message of a publisher that somebody holds has its entry, whose header names that publisher.
-abbrev pub KeepsEntries : {T U : Type 0} → Kept T U → Type 0
-KeepsEntries {T} {U} kept = (p n : ℕ) → IsHeldMessage (state_of kept) p n
-    → (entry : Entry T U) × (entries_of kept n ≡ Some entry) × ((entry.header).publisher_id ≡ p)
+  -- Each message of a publisher that somebody holds has its entry, whose header names that publisher.
+  abbrev pub KeepsEntries : Kept T U → Type 0
+  KeepsEntries kept = StoredKeepsEntries (stored_of kept)
 
--- What is kept is this state, with these messages where an entry is kept, and one is kept of each message that somebody
--- holds. The state is well-formed, and no message was sent under a number that wasn't given out. Of messages that nobody
--- holds nothing is said.
-pub record Shows {T U : Type 0} (kept : Kept T U) (messages : Messages T U) (s : State T U) : Type 0 where
-  pub state : s ≡ state_of kept
-  pub well_formed : IsWellFormed s
-  pub entries : (n : ℕ) (entry : Entry T U) → entries_of kept n ≡ Some entry → messages n ≡ Some entry
-  pub complete : KeepsEntries kept
-  pub below : (n : ℕ) → s.next_message ≤ n → messages n ≡ None
-  -- A loan isn't sent yet: there is no message under its number.
-  pub unsent : (n : ℕ) (l : Loan T U) → s.loans n ≡ Some l → messages n ≡ None
+  -- What is kept is this state, with these messages where an entry is kept.
+  abbrev pub Shows : Kept T U → Messages T U → State T U → Type 0
+  Shows kept messages s = StoredShows (stored_of kept) messages s

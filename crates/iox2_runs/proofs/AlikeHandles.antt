@@ -18,7 +18,7 @@ use Rattle.iox2_store.specs.declared.errors.SendError.TheVariants.{ConnectionBro
 use Rattle.iox2_store.specs.declared.errors.PublisherCreateError.{PublisherCreateError}
 use Rattle.iox2_store.specs.declared.errors.SubscriberCreateError.{SubscriberCreateError}
 use Rattle.iox2_laws.proofs.Cases.{by_option, by_bool}
-use Rattle.iox2_runs.specs.Runs.{ample_memory}
+use Rattle.iox2_store.specs.Environments.{ample_memory}
 use Rattle.iox2_runs.specs.Outcomes.{Handle, No_handle, Subscriber_handle, Sample_handle, Outcome, replied, done, skipped}
 use Rattle.iox2_runs.specs.Step.{Step, after_publisher, after_subscriber, after_loan, after_send, after_retry, after_receive, after_update, after_question, unblocked_at, subscriber_at, loan_at, unwritten_at, written_at, with_cell_at, sendable_at, blocked_at, sample_at, if_single_units, if_fixed_size, if_dynamic}
 use Rattle.iox2_runs.specs.declared.command.Command.{Command}

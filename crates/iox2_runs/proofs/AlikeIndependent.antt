@@ -25,7 +25,7 @@ use Rattle.iox2_store.specs.declared.errors.SubscriberCreateError.{SubscriberCre
 use Rattle.iox2_laws.proofs.Cases.{by_option, by_bool}
 use Rattle.iox2_laws.proofs.PublisherUpdates.{update_publisher_changes}
 use Rattle.iox2_laws.proofs.Puts.{found_put, found_removed, found_mapped, at_each}
-use Rattle.iox2_runs.specs.Runs.{ample_memory}
+use Rattle.iox2_store.specs.Environments.{ample_memory}
 use Rattle.iox2_runs.specs.Isolation.{IsIndependentPublisher, never_waits}
 use Rattle.iox2_runs.proofs.AlikeViews.{View, view_of}
 use Rattle.iox2_runs.proofs.AlikeSends.{delivered_view, published_view, publish_is}

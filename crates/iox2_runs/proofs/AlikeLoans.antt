@@ -15,7 +15,7 @@ use Rattle.iox2_store.specs.declared.errors.LoanError.{LoanError}
 use Rattle.iox2_store.specs.declared.errors.LoanError.TheVariants.{ExceedsMaxLoans, ExceedsMaxLoanSize, InternalFailure}
 use Rattle.iox2_laws.proofs.Cases.{by_options, by_bool, by_bools}
 use Rattle.iox2_laws.proofs.Enough.{holds_at_most_worst_case}
-use Rattle.iox2_runs.specs.Runs.{ample_memory}
+use Rattle.iox2_store.specs.Environments.{ample_memory}
 use Rattle.iox2_runs.specs.Isolation.{IsIndependentPublisher}
 use Rattle.iox2_runs.proofs.AlikeViews.{View, view_of}
 

@@ -21,7 +21,7 @@ use Rattle.iox2_store.specs.declared.errors.SendError.TheVariants.{ConnectionBro
 use Rattle.iox2_store.specs.declared.errors.PublisherCreateError.{PublisherCreateError}
 use Rattle.iox2_store.specs.declared.errors.SubscriberCreateError.{SubscriberCreateError}
 use Rattle.iox2_laws.proofs.Cases.{by_option}
-use Rattle.iox2_runs.specs.Runs.{ample_memory}
+use Rattle.iox2_store.specs.Environments.{ample_memory}
 use Rattle.iox2_runs.specs.Isolation.{IsIndependent, ClosesNoSubscriber, makes_independent_publisher, never_waits}
 use Rattle.iox2_runs.specs.Outcomes.{Handle, Outcome, replied, done, skipped}
 use Rattle.iox2_runs.specs.Step.{Step, after_publisher, after_subscriber, after_loan, after_send, after_receive, after_update, after_question, publisher_settings, unblocked_at, subscriber_at, loan_at, unwritten_at, written_at, with_cell_at, sendable_at, blocked_at, sample_at, if_single_units, if_fixed_size, if_dynamic}

@@ -22,7 +22,7 @@ use Rattle.iox2_store.specs.declared.errors.PublisherCreateError.TheVariants.{Un
 use Rattle.iox2_store.specs.declared.errors.SubscriberCreateError.{SubscriberCreateError}
 use Rattle.iox2_store.specs.declared.errors.SubscriberCreateError.TheVariants.{UnableToCreatePortTag as NoSubscriberTag, BufferSizeExceedsMaxSupportedBufferSizeOfService, ExceedsMaxSupportedSubscribers}
 use Rattle.iox2_laws.proofs.Cases.{by_options, by_bools}
-use Rattle.iox2_runs.specs.Runs.{ample_memory}
+use Rattle.iox2_store.specs.Environments.{ample_memory}
 use Rattle.iox2_runs.specs.Views.{public_part}
 use Rattle.iox2_runs.proofs.AlikeViews.{View, view_of, others_put, others_same, row_put, cell_put}
 use Rattle.iox2_runs.proofs.AlikeUpdates.{update_publisher_alike}

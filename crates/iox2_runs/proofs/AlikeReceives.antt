@@ -11,7 +11,7 @@ use Rattle.iox2_store.specs.declared.errors.ConnectionFailure.{ConnectionFailure
 use Rattle.iox2_store.specs.declared.errors.ReceiveError.TheVariants.{ConnectionFailure as CouldNotConnect}
 use Rattle.iox2_laws.proofs.Cases.{by_options, by_bools}
 use Rattle.iox2_laws.proofs.Puts.{put_at-same}
-use Rattle.iox2_runs.specs.Runs.{ample_memory}
+use Rattle.iox2_store.specs.Environments.{ample_memory}
 use Rattle.iox2_runs.specs.Views.{public_part, seen_handle}
 use Rattle.iox2_runs.specs.Outcomes.{Event, No_event, Message_sent, Message_received, Outcome, Sample_handle}
 use Rattle.iox2_runs.specs.Step.{after_receive, after_update, after_question}

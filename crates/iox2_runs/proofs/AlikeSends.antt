@@ -22,7 +22,7 @@ use Rattle.iox2_laws.specs.Laws.{Advances}
 use Rattle.iox2_laws.proofs.Cases.{by_option, by_bool, by_options}
 use Rattle.iox2_laws.proofs.Puts.{put_at-same}
 use Rattle.iox2_laws.proofs.PublisherUpdates.{update_publisher_changes, update_publisher_advances}
-use Rattle.iox2_runs.specs.Runs.{ample_memory}
+use Rattle.iox2_store.specs.Environments.{ample_memory}
 use Rattle.iox2_runs.specs.Isolation.{is_discarding, never_waits, IsIndependentPublisher}
 use Rattle.iox2_runs.specs.Step.{after_send}
 use Rattle.iox2_runs.proofs.AlikeViews.{View, view_of, row_put, buffer_seen, receiving_buffer_seen}

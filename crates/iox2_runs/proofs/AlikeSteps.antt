@@ -21,7 +21,7 @@ use Rattle.iox2_store.specs.declared.errors.SendError.TheVariants.{LoanError as 
 use Rattle.iox2_store.specs.declared.errors.PublisherCreateError.{PublisherCreateError}
 use Rattle.iox2_store.specs.declared.errors.SubscriberCreateError.{SubscriberCreateError}
 use Rattle.iox2_laws.proofs.Cases.{by_option, by_options}
-use Rattle.iox2_runs.specs.Runs.{ample_memory}
+use Rattle.iox2_store.specs.Environments.{ample_memory}
 use Rattle.iox2_runs.specs.Views.{seen_handle}
 use Rattle.iox2_runs.specs.Isolation.{IsIndependent, IsIndependentPublisher, ClosesNoSubscriber, reads_at}
 use Rattle.iox2_runs.specs.Outcomes.{Handle, Publisher_handle, Subscriber_handle, Loan_handle, Sample_handle, Outcome, replied, done, skipped}

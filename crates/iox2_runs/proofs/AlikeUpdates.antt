@@ -1,5 +1,5 @@
 -- Updates from two states that look alike to a subscriber end in states that do.
-use Rattle.std.proofs.Common.{◌≡◌, ℕ, ◌+◌, ◌⊎◌, Bool, true, false, cond, List, [], ◌∷◌, refl, sym, ap, subst, ◌∙◌, Option, None, Some, eqb, ⊎_elim}
+use Rattle.std.proofs.Common.{◌≡◌, ℕ, ◌+◌, Bool, true, false, cond, List, [], ◌∷◌, refl, sym, ap, subst, ◌∙◌, Option, None, Some, eqb, ⊎_elim}
 use Rattle.std.proofs.lemmas.Bool.{eqb-true}
 use Rattle.iox2_store.specs.Numbers.{put_at, last_n}
 use Rattle.iox2_store.specs.Places.{occupant, set_place}
@@ -12,7 +12,7 @@ use Rattle.iox2_store.specs.SubscriberUpdate.{ReceiverSide, Retirement, Keep_exp
 use Rattle.iox2_store.specs.declared.degradation.DegradationAction.{DegradationAction}
 use Rattle.iox2_store.specs.declared.errors.ConnectionFailure.{ConnectionFailure}
 use Rattle.iox2_laws.proofs.Cases.{by_options, by_bools}
-use Rattle.iox2_runs.specs.Runs.{ample_memory}
+use Rattle.iox2_store.specs.Environments.{ample_memory}
 use Rattle.iox2_runs.proofs.AlikeViews.{View, view_of, row_put, same_buffers}
 
 -- two walks over the same places, each step of which keeps what is alike, keep it

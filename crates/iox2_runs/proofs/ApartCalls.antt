@@ -9,7 +9,7 @@ use Rattle.iox2_store.specs.State.{State, Messages}
 use Rattle.iox2_store.specs.Receives.{ReceiveResult, Got_sample, No_sample, Receive_error}
 use Rattle.iox2_store.specs.declared.errors.ConnectionFailure.{ConnectionFailure}
 use Rattle.iox2_laws.proofs.Cases.{by_option}
-use Rattle.iox2_runs.specs.Runs.{ample_memory}
+use Rattle.iox2_store.specs.Environments.{ample_memory}
 use Rattle.iox2_runs.specs.Isolation.{is_of_others, subscriber_call}
 use Rattle.iox2_runs.specs.Outcomes.{Handle, No_handle, Sample_handle, Outcome, done, skipped}
 use Rattle.iox2_runs.specs.Step.{Step, after_receive, after_update, after_question, unblocked_at, subscriber_at, sample_at, loan_at, with_cell_at, if_single_units}

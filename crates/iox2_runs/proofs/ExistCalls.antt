@@ -41,7 +41,7 @@ use Rattle.iox2_store.specs.declared.errors.SubscriberCreateError.TheVariants.{U
 use Rattle.iox2_laws.proofs.Cases.{by_option, by_bool}
 use Rattle.iox2_laws.proofs.Puts.{at_each, found_put, found_removed, found_mapped, put_at-same}
 use Rattle.iox2_laws.proofs.PublisherUpdates.{update_publisher_changes}
-use Rattle.iox2_runs.specs.Runs.{ample_memory}
+use Rattle.iox2_store.specs.Environments.{ample_memory}
 use Rattle.iox2_runs.proofs.ExistUpdates.{Comes, anything, at_some, comes_option, comes_bool, is_fixed, AllFixed, deliver_comes, update_publisher_comes, update_subscriber_comes}
 
 -- ---- fixed handlers

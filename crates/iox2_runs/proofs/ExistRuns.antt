@@ -21,7 +21,8 @@ use Rattle.iox2_laws.proofs.Enough.{fresh_is_well_formed}
 use Rattle.iox2_laws.proofs.NumberLemmas.{contains_right}
 use Rattle.iox2_runs.specs.Outcomes.{Handle, Sample_handle, Event, Outcome, replied, done, skipped, messages_after}
 use Rattle.iox2_runs.specs.Step.{Step, after_publisher, after_subscriber, after_loan, after_send, after_retry, after_receive, after_update, after_question, unblocked_at, subscriber_at, loan_at, unwritten_at, written_at, with_cell_at, sendable_at, blocked_at, sample_at, if_single_units, if_fixed_size, if_dynamic}
-use Rattle.iox2_runs.specs.Runs.{RunFrom, ample_memory, only_defaults}
+use Rattle.iox2_store.specs.Environments.{ample_memory}
+use Rattle.iox2_runs.specs.Runs.{RunFrom, only_defaults}
 use Rattle.iox2_runs.specs.Existence.{EveryListRuns}
 use Rattle.iox2_runs.specs.declared.command.Command.{Command}
 use Rattle.iox2_runs.specs.declared.command.Command.TheVariants.{Nothing, CreatePublisher as PublisherCommand, CreateSubscriber as SubscriberCommand, LoanUninit, Loan as LoanDefault, LoanSlice, WriteCell, WriteAll, AssumeInit, WriteHeader, SetPayload, Send as SendLoan, SendCopy, Discard, Retry, GiveUp, Update, Receive, HasSamples, Read, ReadHeader, ReadUserHeader, Release, Close}

@@ -19,7 +19,7 @@ use Rattle.iox2_store.specs.declared.backpressure.BackpressureStrategy.{Backpres
 use Rattle.iox2_store.specs.declared.backpressure.BackpressureAction.{BackpressureAction}
 use Rattle.iox2_store.specs.declared.backpressure.BackpressureInfo.{BackpressureInfo}
 use Rattle.iox2_store.specs.declared.errors.ConnectionFailure.{ConnectionFailure}
-use Rattle.iox2_runs.specs.Runs.{ample_memory}
+use Rattle.iox2_store.specs.Environments.{ample_memory}
 
 -- A result of a relation between two, of which something holds.
 abbrev pub Comes : (S R : Type 0) → (S → R → Type 0) → (S → R → Type 0) → Type 0

@@ -7,7 +7,7 @@ use Rattle.iox2_store.specs.Mailbox.{Mailbox, has_room, with_appended}
 use Rattle.iox2_store.specs.Delivery.{PutResult, Accepted, Skipped, Failed, Would_block, accepted_count, is_failed, is_blocking, DeliveryEnd, Complete, no_time, Put, Deliver}
 use Rattle.iox2_store.specs.declared.service_config.ServiceConfig.{ServiceConfig}
 use Rattle.iox2_store.specs.declared.backpressure.BackpressureStrategy.TheVariants.{DiscardData}
-use Rattle.iox2_runs.specs.Runs.{ample_memory}
+use Rattle.iox2_store.specs.Environments.{ample_memory}
 use Rattle.iox2_runs.proofs.FillingNumbers.{ports_from, ports_from_push, put_at_own}
 
 -- the mailbox after a message came, which it takes where it has room

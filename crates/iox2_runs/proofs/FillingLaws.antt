@@ -11,7 +11,8 @@ use Rattle.iox2_store.specs.declared.service_config.ServiceConfig.{ServiceConfig
 use Rattle.iox2_laws.proofs.Enough.{fresh_is_well_formed, holds_at_most_worst_case}
 use Rattle.iox2_runs.specs.Outcomes.{Handle, Event}
 use Rattle.iox2_runs.specs.Fills.{is_granted}
-use Rattle.iox2_runs.specs.Runs.{Run, ample_memory, any_defaults}
+use Rattle.iox2_store.specs.Environments.{ample_memory}
+use Rattle.iox2_runs.specs.Runs.{Run, any_defaults}
 use Rattle.iox2_runs.specs.FillingCommands.{publisher_command, loan_command, subscribers_filled, filling_commands, IsFillable, WorstCaseIsReached, WorstCaseIsLeast}
 use Rattle.iox2_runs.specs.declared.command.Command.{Command}
 use Rattle.iox2_runs.specs.declared.reply.Reply.{Reply}

@@ -1,5 +1,5 @@
 -- A loan is taken and written on the way to full slots.
-use Rattle.std.proofs.Common.{◌≡◌, ℕ, suc, ◌+◌, ◌-◌, ◌<◌, Bool, true, false, cond, List, length, max, refl, ap, subst, ◌∙◌, arith, eqb, Option, None, Some, ◌⊎◌, inl, inr}
+use Rattle.std.proofs.Common.{◌≡◌, ℕ, suc, ◌+◌, ◌<◌, Bool, true, false, cond, List, length, max, refl, ap, subst, ◌∙◌, arith, eqb, Option, None, Some, ◌⊎◌, inl, inr}
 use Rattle.std.specs.Prelude.{slice_get}
 use Rattle.std.proofs.lemmas.Bool.{lt-leb, eqb-true}
 use Rattle.iox2_store.specs.Limits.{last_number}
@@ -18,7 +18,7 @@ use Rattle.iox2_laws.proofs.Cases.{by_bool}
 use Rattle.iox2_laws.proofs.Puts.{put_at-same}
 use Rattle.iox2_runs.specs.Outcomes.{Handle, Publisher_handle, Loan_handle, Outcome, done}
 use Rattle.iox2_runs.specs.Step.{Step, after_loan, unblocked_at, if_single_units, if_fixed_size, if_dynamic, unwritten_at}
-use Rattle.iox2_runs.specs.Runs.{ample_memory}
+use Rattle.iox2_store.specs.Environments.{ample_memory}
 use Rattle.iox2_runs.specs.FillingCommands.{loan_command}
 use Rattle.iox2_runs.specs.declared.command.Command.TheVariants.{WriteAll}
 use Rattle.iox2_runs.specs.declared.reply.Reply.TheVariants.{Loaned, Done}

@@ -26,7 +26,7 @@ use Rattle.iox2_store.specs.declared.warning.Warning.TheVariants.{PublisherPartl
 use Rattle.iox2_laws.proofs.Puts.{put_at-same}
 use Rattle.iox2_runs.specs.Outcomes.{Handle, Publisher_handle, Subscriber_handle, Outcome}
 use Rattle.iox2_runs.specs.Step.{Step, after_publisher, after_subscriber, publisher_settings}
-use Rattle.iox2_runs.specs.Runs.{ample_memory}
+use Rattle.iox2_store.specs.Environments.{ample_memory}
 use Rattle.iox2_runs.specs.declared.command.Command.TheVariants.{CreatePublisher as PublisherCommand, CreateSubscriber as SubscriberCommand}
 use Rattle.iox2_runs.specs.declared.reply.Reply.TheVariants.{PublisherMade, SubscriberMade}
 use Rattle.iox2_runs.proofs.FillingNumbers.{numbers_from, recent, lowest_free-ports_from, set_place-ports_from, put_at_own}

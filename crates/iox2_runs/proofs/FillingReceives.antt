@@ -13,7 +13,7 @@ use Rattle.iox2_store.specs.declared.service_config.ServiceConfig.{ServiceConfig
 use Rattle.iox2_laws.proofs.NumberLemmas.{contains_one}
 use Rattle.iox2_runs.specs.Outcomes.{Handle, Subscriber_handle, Outcome}
 use Rattle.iox2_runs.specs.Step.{Step, subscriber_at, if_single_units, after_receive}
-use Rattle.iox2_runs.specs.Runs.{ample_memory}
+use Rattle.iox2_store.specs.Environments.{ample_memory}
 use Rattle.iox2_runs.specs.declared.command.Command.TheVariants.{Receive as ReceiveSample}
 use Rattle.iox2_runs.specs.declared.reply.Reply.TheVariants.{Sample}
 use Rattle.iox2_runs.proofs.FillingShape.{reader, IsFilling, at_some, at_none, concluded, subscriber_named}

@@ -10,7 +10,8 @@ use Rattle.iox2_store.specs.declared.service_config.ServiceConfig.{ServiceConfig
 use Rattle.iox2_store.specs.declared.errors.LoanError.TheVariants.{OutOfMemory}
 use Rattle.iox2_runs.specs.Outcomes.{Handle, Event, Outcome, messages_after}
 use Rattle.iox2_runs.specs.Step.{Step}
-use Rattle.iox2_runs.specs.Runs.{RunFrom, RunTo, Defaults, ample_memory}
+use Rattle.iox2_store.specs.Environments.{ample_memory}
+use Rattle.iox2_runs.specs.Runs.{RunFrom, RunTo, Defaults}
 use Rattle.iox2_runs.specs.Fills.{is_granted}
 use Rattle.iox2_runs.specs.FillingCommands.{loan_command}
 use Rattle.iox2_runs.specs.declared.command.Command.{Command}

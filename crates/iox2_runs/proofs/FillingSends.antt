@@ -1,5 +1,5 @@
 -- A loan is sent on the way to full slots.
-use Rattle.std.proofs.Common.{◌≡◌, ℕ, suc, ◌+◌, ◌-◌, Bool, true, false, cond, not, List, [], ◌∷◌, ◌++◌, refl, sym, ap, subst, ◌∙◌, arith, Option, None, Some, option_map, option_and_then, is_some}
+use Rattle.std.proofs.Common.{◌≡◌, ℕ, suc, Bool, true, false, cond, not, List, [], ◌∷◌, ◌++◌, refl, sym, ap, subst, ◌∙◌, arith, Option, None, Some, option_map, option_and_then, is_some}
 use Rattle.std.specs.Prelude.{slice_get, MatchOption}
 use Rattle.std.specs.Option.{option_map_or}
 use Rattle.std.proofs.lemmas.Bool.{eq-eqb}
@@ -17,7 +17,7 @@ use Rattle.iox2_store.specs.declared.errors.ConnectionFailure.{ConnectionFailure
 use Rattle.iox2_store.specs.declared.backpressure.BackpressureStrategy.TheVariants.{DiscardData}
 use Rattle.iox2_runs.specs.Outcomes.{Handle, Loan_handle, Outcome}
 use Rattle.iox2_runs.specs.Step.{Step, sendable_at, after_send}
-use Rattle.iox2_runs.specs.Runs.{ample_memory}
+use Rattle.iox2_store.specs.Environments.{ample_memory}
 use Rattle.iox2_runs.specs.declared.command.Command.TheVariants.{Send as SendLoan}
 use Rattle.iox2_runs.specs.declared.reply.Reply.TheVariants.{Delivered}
 use Rattle.iox2_runs.proofs.FillingNumbers.{ports_from, recent, recent_next}

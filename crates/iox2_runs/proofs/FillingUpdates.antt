@@ -1,5 +1,5 @@
 -- The publisher is connected with a new subscriber on the way to full slots.
-use Rattle.std.proofs.Common.{◌≡◌, ℕ, zero, suc, ◌+◌, ◌-◌, ◌≤◌, ◌<◌, Bool, true, false, cond, List, [], ◌∷◌, ◌++◌, refl, sym, ap, subst, ◌∙◌, arith, Option, None, Some, option_and_then, ◌⊎◌, ⊎_elim}
+use Rattle.std.proofs.Common.{◌≡◌, ℕ, zero, suc, ◌+◌, ◌≤◌, ◌<◌, Bool, true, false, cond, List, [], ◌∷◌, ◌++◌, refl, sym, ap, subst, ◌∙◌, arith, Option, None, Some, option_and_then, ⊎_elim}
 use Rattle.std.specs.Prelude.{slice_get}
 use Rattle.std.proofs.lemmas.Bool.{eq-eqb}
 use Rattle.iox2_store.specs.Limits.{buffer_limit}
@@ -16,7 +16,7 @@ use Rattle.iox2_store.specs.declared.degradation.DegradationAction.{DegradationA
 use Rattle.iox2_store.specs.declared.errors.ConnectionFailure.{ConnectionFailure}
 use Rattle.iox2_runs.specs.Outcomes.{Handle, Publisher_handle, Outcome}
 use Rattle.iox2_runs.specs.Step.{Step, unblocked_at, after_update}
-use Rattle.iox2_runs.specs.Runs.{ample_memory}
+use Rattle.iox2_store.specs.Environments.{ample_memory}
 use Rattle.iox2_runs.specs.declared.command.Command.TheVariants.{Update}
 use Rattle.iox2_runs.specs.declared.reply.Reply.TheVariants.{Done}
 use Rattle.iox2_runs.proofs.FillingNumbers.{ports_from, recent, ports_from_push, set_place-ports_from, occupant-ports_from, nobody-ports_from}

@@ -1,5 +1,5 @@
 -- Each operation leaves what a run's mailboxes, histories and loans have traced to that run, and what is borrowed borrowed.
-use Rattle.std.proofs.Common.{◌≡◌, ℕ, ◌≤◌, ◌+◌, Bool, true, false, List, [], ◌∷◌, ◌++◌, drop, refl, sym, ap, subst, ◌∙◌, eqb, Option, None, Some, ◌⊎◌, ⊎_elim}
+use Rattle.std.proofs.Common.{◌≡◌, ℕ, ◌≤◌, ◌+◌, Bool, true, false, List, [], ◌∷◌, ◌++◌, drop, refl, sym, ap, subst, ◌∙◌, eqb, Option, None, Some, ⊎_elim}
 use Rattle.std.specs.Prelude.{◌&&◌, ◌==◌, nat_lt, max}
 use Rattle.std.specs.Option.{option_map, option_map_or}
 use Rattle.std.specs.declared.time.Duration.{Duration}

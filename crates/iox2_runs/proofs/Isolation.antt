@@ -1,5 +1,5 @@
 -- A slow subscriber isn't felt by another.
-use Rattle.std.proofs.Common.{◌≡◌, ◌⊎◌, inl, ⊎_elim, ℕ, zero, suc, ◌+◌, ◌≤◌, ◌<◌, true, false, List, [], ◌∷◌, ◌++◌, length, refl, sym, ap, subst, ◌∙◌, arith, Option, None, Some}
+use Rattle.std.proofs.Common.{◌≡◌, ◌⊎◌, inl, ⊎_elim, ℕ, zero, suc, ◌+◌, ◌≤◌, ◌<◌, true, List, [], ◌∷◌, ◌++◌, length, refl, sym, ap, subst, ◌∙◌, arith, Option, None, Some}
 use Rattle.std.specs.Prelude.{slice_get, map}
 use Rattle.std.specs.Option.{option_map}
 use Rattle.std.proofs.Math.Path.{fun_ext}
@@ -13,7 +13,8 @@ use Rattle.iox2_store.specs.declared.service_config.ServiceConfig.{ServiceConfig
 use Rattle.iox2_laws.proofs.Enough.{fresh_is_well_formed}
 use Rattle.iox2_runs.specs.Outcomes.{Handle, Subscriber_handle, Sample_handle, Event, No_event, Message_sent, Message_received, Outcome, done, messages_after}
 use Rattle.iox2_runs.specs.Step.{Step}
-use Rattle.iox2_runs.specs.Runs.{RunTo, ample_memory, Defaults, only_defaults, RunFrom}
+use Rattle.iox2_store.specs.Environments.{ample_memory}
+use Rattle.iox2_runs.specs.Runs.{RunTo, Defaults, only_defaults, RunFrom}
 use Rattle.iox2_runs.specs.Views.{PublicPart, public_part, seen_handle, SameView, may_be_omitted, OmitsOthersFrom}
 use Rattle.iox2_runs.specs.Isolation.{IsIndependent, makes_independent_publisher, AreIndependent, is_of_others, subscriber_call, SameViewAfter, ClosesNoSubscriber, OthersAreUnseen, StepsLookAlike, SubscribersAreIsolated, IsIndependentPublisher, reads_at}
 use Rattle.iox2_runs.specs.declared.command.Command.{Command}

@@ -8,7 +8,8 @@ use Rattle.iox2_store.specs.State.{State, Messages}
 use Rattle.iox2_laws.proofs.LoanKeeping.{LoansFollow}
 use Rattle.iox2_runs.specs.Outcomes.{Handle, Outcome, Event, No_event, Message_sent, Message_received, messages_after}
 use Rattle.iox2_runs.specs.Step.{Step, sample_at}
-use Rattle.iox2_runs.specs.Shows.{Stored, Shows, StoredStep, IsNewEntry}
+use Rattle.iox2_store.specs.Shows.{Stored, Shows}
+use Rattle.iox2_runs.specs.StoredSteps.{StoredStep, IsNewEntry}
 use Rattle.iox2_runs.specs.declared.command.Command.{Command}
 use Rattle.iox2_runs.specs.declared.command.Command.TheVariants.{Read, ReadHeader, ReadUserHeader}
 use Rattle.iox2_runs.proofs.StepLaws.{IsSound, step_sound}

@@ -12,7 +12,8 @@ use Rattle.iox2_store.specs.WellFormed.{IsWellFormed}
 use Rattle.iox2_laws.proofs.NumberLemmas.{false_from}
 use Rattle.iox2_runs.specs.Outcomes.{Event, No_event, Message_sent, Message_received, Outcome, messages_after}
 use Rattle.iox2_runs.specs.Step.{Step}
-use Rattle.iox2_runs.specs.Runs.{fixed_handlers, ample_memory, Defaults, any_defaults, Run, sent, received, IsSubsequence}
+use Rattle.iox2_store.specs.Environments.{fixed_handlers, ample_memory}
+use Rattle.iox2_runs.specs.Runs.{Defaults, any_defaults, Run, sent, received, IsSubsequence}
 use Rattle.iox2_runs.specs.RunLaws.{ReceivesInOrder}
 use Rattle.iox2_runs.specs.declared.command.Command.{Command}
 use Rattle.iox2_runs.specs.declared.reply.Reply.{Reply}

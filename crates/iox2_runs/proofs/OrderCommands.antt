@@ -1,5 +1,5 @@
 -- Each command of a run keeps the order in which messages were sent and received.
-use Rattle.std.proofs.Common.{◌≡◌, ℕ, ◌≤◌, ◌+◌, Bool, true, false, cond, List, [], ◌∷◌, ◌++◌, refl, sym, ap, subst, ◌∙◌, ltb, length, ◌⊎◌, inl, inr, ⊎_elim, Option, None, Some, is_none, is_some}
+use Rattle.std.proofs.Common.{◌≡◌, ℕ, ◌≤◌, Bool, true, false, cond, List, [], ◌∷◌, ◌++◌, refl, sym, ap, subst, ◌∙◌, ltb, length, ◌⊎◌, inl, inr, ⊎_elim, Option, None, Some, is_none, is_some}
 use Rattle.std.specs.Prelude.{MatchOption, slice_get, ◌==◌, ⊤}
 use Rattle.std.specs.Option.{option_and_then, option_map}
 use Rattle.std.proofs.lemmas.Bool.{cond_both, true≢false}

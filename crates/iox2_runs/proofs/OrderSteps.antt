@@ -6,7 +6,7 @@ use Rattle.iox2_store.specs.Limits.{last_number}
 use Rattle.iox2_store.specs.Numbers.{put_at, without, size}
 use Rattle.iox2_store.specs.Mailbox.{Mailbox, waiting_dropped, with_released}
 use Rattle.iox2_store.specs.Records.{Loan, Publisher, Subscriber, Environment}
-use Rattle.iox2_store.specs.State.{State, held, is_open, with_loan, with_mailbox, subscriber_changed}
+use Rattle.iox2_store.specs.State.{State, held, with_loan, with_mailbox, subscriber_changed}
 use Rattle.iox2_store.specs.Loans.{GrantLoan, limit_error, is_static, DynamicLoan, loan_granted, loan_discarded, written}
 use Rattle.iox2_store.specs.SingleCalls.{GrantWrittenLoan}
 use Rattle.iox2_store.specs.Releases.{released, unborrowed, subscriber_pruned, pruned, freed_if_unused, place_freed, is_unused}

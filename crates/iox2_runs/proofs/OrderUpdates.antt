@@ -8,7 +8,7 @@ use Rattle.iox2_store.specs.Numbers.{last_n}
 use Rattle.iox2_store.specs.Places.{occupant, set_place, is_port, free_place}
 use Rattle.iox2_store.specs.Mailbox.{Mailbox, waiting_dropped, with_waiting}
 use Rattle.iox2_store.specs.Records.{Publisher, Subscriber, Handler, Environment, PublisherSettings, SubscriberSettings}
-use Rattle.iox2_store.specs.State.{State, is_open, receiving_buffer, has_receiver_end, has_sender_end, with_warning}
+use Rattle.iox2_store.specs.State.{State, receiving_buffer, has_receiver_end, has_sender_end, with_warning}
 use Rattle.iox2_store.specs.Connections.{ForEachPlace}
 use Rattle.iox2_store.specs.PublisherUpdate.{SenderSide, SenderAction, Keep_end, Drop_waiting, Disconnect, Connect, sender_action, dropped, disconnected, connected, Performs, UpdateSenderPlace, sender_side, with_sender_side, UpdatePublisher}
 use Rattle.iox2_store.specs.SubscriberUpdate.{ReceiverSide, Retirement, Keep_expired, Evict, Discard_data, Refuse, data_discarded, after_retirement, is_refused, retirement_of, with_end, ConnectReceiver, Retire, ConnectAtPlace, DisconnectAtPlace, UpdateReceiverSide, receiver_side, with_receiver_side, UpdateSubscriber}

@@ -18,7 +18,7 @@ use Rattle.iox2_store.specs.declared.errors.SendError.TheVariants.{ConnectionBro
 use Rattle.iox2_store.specs.declared.errors.PublisherCreateError.{PublisherCreateError}
 use Rattle.iox2_store.specs.declared.errors.SubscriberCreateError.{SubscriberCreateError}
 use Rattle.iox2_laws.proofs.Cases.{by_option}
-use Rattle.iox2_runs.specs.Outcomes.{Handle, No_handle, Sample_handle, Event, No_event, Message_sent, Message_received, Outcome, outcome, replied, done, skipped}
+use Rattle.iox2_runs.specs.Outcomes.{Handle, No_handle, Sample_handle, Event, No_event, Message_sent, Message_received, Outcome, replied, done, skipped}
 use Rattle.iox2_runs.specs.Step.{Step, after_publisher, after_subscriber, after_loan, after_send, after_retry, after_update, after_receive, after_question, unblocked_at, subscriber_at, loan_at, unwritten_at, written_at, with_cell_at, sendable_at, blocked_at, sample_at, if_single_units, if_fixed_size, if_dynamic}
 use Rattle.iox2_runs.specs.declared.command.Command.{Command}
 use Rattle.iox2_runs.specs.declared.command.Command.TheVariants.{Nothing, CreatePublisher, CreateSubscriber, LoanUninit, Loan as LoanDefault, LoanSlice, WriteCell, WriteAll, AssumeInit, WriteHeader, SetPayload, Send as SendLoan, SendCopy, Discard, Retry as RetrySend, GiveUp as GiveUpSend, Update, Receive, HasSamples, Read, ReadHeader, ReadUserHeader, Release, Close}

@@ -1,7 +1,6 @@
 -- Each step keeps a well-formed state so, and no counter falls. What is sent is a loan no more.
-use Rattle.std.proofs.Common.{◌≡◌, ℕ, ◌<◌, Bool, true, false, List, length, ltb, refl, sym, ap, subst, ◌∙◌, arith, Option, None, Some, is_none}
+use Rattle.std.proofs.Common.{◌≡◌, ℕ, ◌<◌, Bool, true, false, List, length, ltb, refl, sym, subst, ◌∙◌, arith, Option, None, Some, is_none}
 use Rattle.std.specs.Prelude.{MatchOption, slice_get}
-use Rattle.std.proofs.lemmas.Option.{same_Some}
 use Rattle.std.proofs.lemmas.Bool.{cond_both}
 use Rattle.iox2_store.specs.Records.{Entry, Loan, Publisher, Environment}
 use Rattle.iox2_store.specs.State.{State, Messages, with_loan, is_blocked}

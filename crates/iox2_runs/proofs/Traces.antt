@@ -1,5 +1,5 @@
 -- What is in a run's mailboxes and histories was sent in that run, and what is borrowed stays so.
-use Rattle.std.proofs.Common.{◌≡◌, ℕ, ◌+◌, Bool, true, List, [], ◌∷◌, sym, ap, subst, ◌∙◌, eqb, Option, None, Some, ◌⊎◌, ⊎_elim}
+use Rattle.std.proofs.Common.{◌≡◌, ℕ, ◌+◌, Bool, true, List, [], ◌∷◌, sym, ap, subst, ◌∙◌, eqb, Option, None, Some, ⊎_elim}
 use Rattle.std.specs.Prelude.{◌||◌}
 use Rattle.std.specs.declared.time.Duration.{Duration}
 use Rattle.iox2_store.specs.Numbers.{put_at, contains, last_n}

@@ -11,7 +11,8 @@ use Rattle.iox2_store.specs.declared.errors.LoanError.TheVariants.{ExceedsMaxLoa
 use Rattle.iox2_store.specs.declared.errors.SubscriberCreateError.TheVariants.{BufferSizeExceedsMaxSupportedBufferSizeOfService, ExceedsMaxSupportedSubscribers}
 use Rattle.iox2_store.specs.declared.warning.Warning.TheVariants.{ExpiredBufferRaised}
 use Rattle.iox2_runs.specs.Outcomes.{Event}
-use Rattle.iox2_runs.specs.Runs.{Run, ample_memory, only_defaults}
+use Rattle.iox2_store.specs.Environments.{ample_memory}
+use Rattle.iox2_runs.specs.Runs.{Run, only_defaults}
 use Rattle.iox2_runs.specs.declared.command.Command.TheVariants.{CreatePublisher, CreateSubscriber, LoanUninit, WriteAll, Send, SendCopy, Receive, Read}
 use Rattle.iox2_runs.specs.declared.command.Command.TheVariants.{Release}
 use Rattle.iox2_runs.specs.declared.reply.Reply.TheVariants.{Done, Skipped, PublisherMade, SubscriberMade, SubscriberRefused, Loaned, LoanRefused, Delivered}

@@ -11,7 +11,8 @@ use Rattle.iox2_store.specs.declared.degradation.DegradationAction.TheVariants.{
 use Rattle.iox2_store.specs.declared.errors.SendError.TheVariants.{UnableToDeliver}
 use Rattle.iox2_store.specs.declared.warning.Warning.TheVariants.{ExpiredBufferRaised}
 use Rattle.iox2_runs.specs.Outcomes.{Event}
-use Rattle.iox2_runs.specs.Runs.{Run, ample_memory, only_defaults}
+use Rattle.iox2_store.specs.Environments.{ample_memory}
+use Rattle.iox2_runs.specs.Runs.{Run, only_defaults}
 use Rattle.iox2_runs.specs.declared.command.Command.TheVariants.{CreatePublisher, CreateSubscriber, SendCopy, Update}
 use Rattle.iox2_runs.specs.declared.command.Command.TheVariants.{Receive, Read, Release, Close}
 use Rattle.iox2_runs.specs.declared.reply.Reply.TheVariants.{Done, PublisherMade, SubscriberMade, Delivered}

@@ -10,7 +10,8 @@ use Rattle.iox2_store.specs.Receives.{Got_sample}
 use Rattle.iox2_store.specs.declared.service_config.ServiceConfig.{ServiceConfig}
 use Rattle.iox2_store.specs.declared.errors.LoanError.TheVariants.{OutOfMemory}
 use Rattle.iox2_runs.specs.Outcomes.{Event}
-use Rattle.iox2_runs.specs.Runs.{Run, ample_memory, any_defaults}
+use Rattle.iox2_store.specs.Environments.{ample_memory}
+use Rattle.iox2_runs.specs.Runs.{Run, any_defaults}
 use Rattle.iox2_runs.specs.FillingCommands.{filling_commands, IsFillable}
 use Rattle.iox2_runs.specs.declared.reply.Reply.TheVariants.{Done, Skipped, PublisherMade, SubscriberMade, Loaned, LoanRefused, Delivered, Sample}
 use Rattle.iox2_runs.proofs.WorkedRunDomains.{domain}

@@ -12,7 +12,8 @@ use Rattle.iox2_store.specs.declared.errors.ReceiveError.TheVariants.{ExceedsMax
 use Rattle.iox2_store.specs.declared.errors.SubscriberCreateError.TheVariants.{BufferSizeExceedsMaxSupportedBufferSizeOfService}
 use Rattle.iox2_store.specs.declared.warning.Warning.TheVariants.{ExpiredBufferRaised}
 use Rattle.iox2_runs.specs.Outcomes.{Event}
-use Rattle.iox2_runs.specs.Runs.{Run, ample_memory, only_defaults}
+use Rattle.iox2_store.specs.Environments.{ample_memory}
+use Rattle.iox2_runs.specs.Runs.{Run, only_defaults}
 use Rattle.iox2_runs.specs.declared.command.Command.TheVariants.{CreatePublisher, CreateSubscriber, LoanUninit, SendCopy, Discard, Retry}
 use Rattle.iox2_runs.specs.declared.command.Command.TheVariants.{Receive, HasSamples, Read, Release}
 use Rattle.iox2_runs.specs.declared.reply.Reply.TheVariants.{Done, PublisherMade, SubscriberMade, SubscriberRefused, Loaned, LoanRefused, Delivered}

@@ -14,7 +14,8 @@ use Rattle.iox2_store.specs.declared.errors.SendError.TheVariants.{LoanError as 
 use Rattle.iox2_store.specs.declared.errors.PublisherCreateError.TheVariants.{ExceedsMaxSupportedPublishers, UnableToCreateDataSegment}
 use Rattle.iox2_store.specs.declared.warning.Warning.TheVariants.{ExpiredBufferRaised, ConnectionNotMade, PublisherPartlyConnected}
 use Rattle.iox2_runs.specs.Outcomes.{Event}
-use Rattle.iox2_runs.specs.Runs.{Run, ample_memory, fixed_handlers, only_defaults}
+use Rattle.iox2_store.specs.Environments.{ample_memory, fixed_handlers}
+use Rattle.iox2_runs.specs.Runs.{Run, only_defaults}
 use Rattle.iox2_runs.specs.declared.command.Command.TheVariants.{CreatePublisher, CreateSubscriber, LoanUninit, SendCopy, Receive, Read, Release, Close}
 use Rattle.iox2_runs.specs.declared.reply.Reply.TheVariants.{Done, PublisherMade, PublisherRefused, SubscriberMade, Loaned, LoanRefused, Delivered, SendRefused}
 use Rattle.iox2_runs.specs.declared.reply.Reply.TheVariants.{Sample, NoSample, Cell}

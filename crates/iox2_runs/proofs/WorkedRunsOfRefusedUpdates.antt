@@ -12,7 +12,8 @@ use Rattle.iox2_store.specs.declared.errors.ConnectionFailure.TheVariants.{Faile
 use Rattle.iox2_store.specs.declared.errors.ZeroCopyCreationError.TheVariants.{ExpiredConnectionBufferFull}
 use Rattle.iox2_store.specs.declared.errors.ReceiveError.TheVariants.{ConnectionFailure}
 use Rattle.iox2_runs.specs.Outcomes.{Event}
-use Rattle.iox2_runs.specs.Runs.{Run, ample_memory, only_defaults}
+use Rattle.iox2_store.specs.Environments.{ample_memory}
+use Rattle.iox2_runs.specs.Runs.{Run, only_defaults}
 use Rattle.iox2_runs.specs.declared.command.Command.TheVariants.{CreatePublisher, CreateSubscriber, LoanUninit, WriteAll, Send, SendCopy, Update, Receive}
 use Rattle.iox2_runs.specs.declared.command.Command.TheVariants.{HasSamples, Read, Release, Close}
 use Rattle.iox2_runs.specs.declared.reply.Reply.TheVariants.{Done, PublisherMade, SubscriberMade, Loaned, Delivered, UpdateRefused, Sample}

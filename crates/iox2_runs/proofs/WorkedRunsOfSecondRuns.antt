@@ -6,7 +6,8 @@ use Rattle.iox2_store.specs.declared.backpressure.BackpressureStrategy.TheVarian
 use Rattle.iox2_store.specs.declared.degradation.DegradationAction.TheVariants.{Warn}
 use Rattle.iox2_store.specs.declared.errors.PublisherCreateError.TheVariants.{ExceedsMaxSupportedPublishers}
 use Rattle.iox2_runs.specs.Outcomes.{Event}
-use Rattle.iox2_runs.specs.Runs.{Run, ample_memory, only_defaults}
+use Rattle.iox2_store.specs.Environments.{ample_memory}
+use Rattle.iox2_runs.specs.Runs.{Run, only_defaults}
 use Rattle.iox2_runs.specs.declared.command.Command.TheVariants.{CreatePublisher, Update}
 use Rattle.iox2_runs.specs.declared.reply.Reply.TheVariants.{Skipped, PublisherMade, PublisherRefused}
 use Rattle.iox2_runs.proofs.WorkedRunDomains.{domain}

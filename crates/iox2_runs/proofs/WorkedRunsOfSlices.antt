@@ -10,7 +10,8 @@ use Rattle.iox2_store.specs.declared.degradation.DegradationAction.TheVariants.{
 use Rattle.iox2_store.specs.declared.errors.LoanError.TheVariants.{ExceedsMaxLoans, ExceedsMaxLoanSize, InternalFailure}
 use Rattle.iox2_store.specs.declared.warning.Warning.TheVariants.{ExpiredBufferRaised}
 use Rattle.iox2_runs.specs.Outcomes.{Event}
-use Rattle.iox2_runs.specs.Runs.{Run, ample_memory, only_defaults}
+use Rattle.iox2_store.specs.Environments.{ample_memory}
+use Rattle.iox2_runs.specs.Runs.{Run, only_defaults}
 use Rattle.iox2_runs.specs.declared.command.Command.TheVariants.{CreatePublisher, CreateSubscriber, LoanSlice, WriteCell, WriteAll, AssumeInit, Send, Discard}
 use Rattle.iox2_runs.specs.declared.command.Command.TheVariants.{Receive, Read, ReadHeader}
 use Rattle.iox2_runs.specs.declared.reply.Reply.TheVariants.{Done, Skipped, PublisherMade, SubscriberMade, Loaned, LoanRefused, Unwritten, Delivered, Sample}

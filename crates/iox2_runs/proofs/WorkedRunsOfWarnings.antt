@@ -4,7 +4,8 @@ use Rattle.iox2_store.specs.State.{State, Messages, fresh, no_messages}
 use Rattle.iox2_store.specs.declared.degradation.DegradationAction.TheVariants.{Warn}
 use Rattle.iox2_store.specs.declared.warning.Warning.TheVariants.{ExpiredBufferRaised}
 use Rattle.iox2_runs.specs.Outcomes.{Event}
-use Rattle.iox2_runs.specs.Runs.{Run, ample_memory, only_defaults}
+use Rattle.iox2_store.specs.Environments.{ample_memory}
+use Rattle.iox2_runs.specs.Runs.{Run, only_defaults}
 use Rattle.iox2_runs.specs.declared.command.Command.TheVariants.{CreateSubscriber, Close}
 use Rattle.iox2_runs.specs.declared.reply.Reply.TheVariants.{Done, SubscriberMade}
 use Rattle.iox2_runs.proofs.WorkedRunDomains.{domain}

@@ -13,7 +13,8 @@ use Rattle.iox2_store.specs.declared.backpressure.BackpressureStrategy.TheVarian
 use Rattle.iox2_store.specs.declared.degradation.DegradationAction.TheVariants.{Warn}
 use Rattle.iox2_store.specs.declared.errors.LoanError.TheVariants.{OutOfMemory}
 use Rattle.iox2_runs.specs.Outcomes.{Handle, Event}
-use Rattle.iox2_runs.specs.Runs.{Run, RunFrom, RunTo, ample_memory, any_defaults}
+use Rattle.iox2_store.specs.Environments.{ample_memory}
+use Rattle.iox2_runs.specs.Runs.{Run, RunFrom, RunTo, any_defaults}
 use Rattle.iox2_runs.specs.Fills.{Fills}
 use Rattle.iox2_runs.specs.declared.command.Command.{Command}
 use Rattle.iox2_runs.specs.declared.command.Command.TheVariants.{CreatePublisher, CreateSubscriber, LoanUninit, LoanSlice, WriteAll, Send, Update, Receive}

@@ -8,7 +8,8 @@ use Rattle.iox2_store.specs.Records.{Publisher}
 use Rattle.iox2_store.specs.State.{State, Messages, fresh, no_messages, held}
 use Rattle.iox2_store.specs.declared.service_config.ServiceConfig.{ServiceConfig}
 use Rattle.iox2_runs.specs.Outcomes.{Event}
-use Rattle.iox2_runs.specs.Runs.{Run, ample_memory, any_defaults}
+use Rattle.iox2_store.specs.Environments.{ample_memory}
+use Rattle.iox2_runs.specs.Runs.{Run, any_defaults}
 use Rattle.iox2_runs.specs.declared.command.Command.{Command}
 use Rattle.iox2_runs.specs.declared.reply.Reply.{Reply}
 use Rattle.iox2_runs.specs.declared.reply.Reply.TheVariants.{Skipped, PublisherRefused, SubscriberRefused, LoanRefused, SendRefused, UpdateRefused, ReceiveRefused}

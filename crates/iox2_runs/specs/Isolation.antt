@@ -13,7 +13,8 @@ use Rattle.iox2_store.specs.declared.backpressure.BackpressureStrategy.{Backpres
 use Rattle.iox2_store.specs.declared.backpressure.BackpressureStrategy.TheVariants.{RetryUntilDelivered, DiscardData}
 use Rattle.iox2_runs.specs.Outcomes.{Handle, No_handle, Subscriber_handle, Sample_handle, Event, Outcome, messages_after}
 use Rattle.iox2_runs.specs.Step.{Step, publisher_settings}
-use Rattle.iox2_runs.specs.Runs.{ample_memory, only_defaults, RunTo}
+use Rattle.iox2_store.specs.Environments.{ample_memory}
+use Rattle.iox2_runs.specs.Runs.{only_defaults, RunTo}
 use Rattle.iox2_runs.specs.Views.{SameView, OmitsOthersFrom}
 use Rattle.iox2_runs.specs.declared.command.Command.{Command}
 use Rattle.iox2_runs.specs.declared.command.Command.TheVariants.{CreatePublisher, Receive, HasSamples, Update, Release, Read, ReadHeader, ReadUserHeader, Close}

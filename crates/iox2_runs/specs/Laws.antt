@@ -11,7 +11,8 @@ use Rattle.iox2_store.specs.declared.degradation.DegradationInfo.{DegradationInf
 use Rattle.iox2_laws.specs.Laws.{Advances}
 use Rattle.iox2_runs.specs.Outcomes.{Handle, Outcome, messages_after}
 use Rattle.iox2_runs.specs.Step.{Step}
-use Rattle.iox2_runs.specs.Shows.{Stored, Shows, StoredStep}
+use Rattle.iox2_store.specs.Shows.{Stored, Shows}
+use Rattle.iox2_runs.specs.StoredSteps.{StoredStep}
 use Rattle.iox2_runs.specs.declared.command.Command.{Command}
 
 -- An environment whose boxed handlers may give each answer that passes a test. A clause can range over tests alone; the

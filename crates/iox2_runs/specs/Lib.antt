@@ -1,7 +1,7 @@
 pub mod Outcomes
 pub mod Step
 pub mod Runs
-pub mod Shows
+pub mod StoredSteps
 pub mod Fills
 pub mod FillingCommands
 pub mod Views

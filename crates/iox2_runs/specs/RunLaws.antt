@@ -19,7 +19,8 @@ use Rattle.iox2_store.specs.declared.degradation.DegradationInfo.{DegradationInf
 use Rattle.iox2_store.specs.declared.errors.LoanError.{LoanError}
 use Rattle.iox2_runs.specs.Outcomes.{Handle, Event, Message_sent, Message_received, Outcome}
 use Rattle.iox2_runs.specs.Step.{Step, unblocked_at}
-use Rattle.iox2_runs.specs.Runs.{fixed_handlers, ample_memory, Run, any_defaults, sent, received, IsSubsequence}
+use Rattle.iox2_store.specs.Environments.{fixed_handlers, ample_memory}
+use Rattle.iox2_runs.specs.Runs.{Run, any_defaults, sent, received, IsSubsequence}
 use Rattle.iox2_runs.specs.Laws.{tested_environment}
 use Rattle.iox2_runs.specs.declared.command.Command.{Command}
 use Rattle.iox2_runs.specs.declared.command.Command.TheVariants.{LoanUninit, Loan as LoanDefault, LoanSlice, Read, ReadHeader, ReadUserHeader, Release}

@@ -7,14 +7,6 @@ use Rattle.iox2_runs.specs.Step.{Step}
 use Rattle.iox2_runs.specs.declared.command.Command.{Command}
 use Rattle.iox2_runs.specs.declared.reply.Reply.{Reply}
 
--- No port has a boxed handler, and memory may be refused.
-abbrev pub fixed_handlers : Environment
-fixed_handlers = record { may_refuse_memory = Unit {0}; backpressure_answers = λ port info action. ⊥; degradation_answers = λ port cause info action. ⊥ }
-
--- No port has a boxed handler, and memory is never refused.
-abbrev pub ample_memory : Environment
-ample_memory = record { may_refuse_memory = ⊥; backpressure_answers = λ port info action. ⊥; degradation_answers = λ port cause info action. ⊥ }
-
 -- What a payload type and a user header type take for a default value.
 pub record Defaults (T U : Type 0) : Type 1 where
   pub IsDefaultValue : T → Type 0

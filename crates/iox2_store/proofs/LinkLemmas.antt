@@ -1,5 +1,5 @@
 -- What a connection's calls are to the lists of its slots.
-use Rattle.std.proofs.Common.{◌≡◌, ℕ, ◌+◌, ◌-◌, ◌<◌, ◌==◌, List, [], ◌∷◌, ◌++◌, length, drop, refl, Option, Some, None, get_or, arith, ap, sym, ◌∙◌, inl, inr, eq-eqb, Contains, lt-ltb, position}
+use Rattle.std.proofs.Common.{◌≡◌, ℕ, ◌<◌, ◌==◌, List, [], ◌∷◌, ◌++◌, length, drop, refl, Option, Some, None, get_or, arith, ap, sym, ◌∙◌, inl, inr, eq-eqb, Contains, lt-ltb, position}
 use Rattle.std.proofs.lemmas.Bool.{cases_lt, false≢true}
 use Rattle.std.proofs.lemmas.List.Sums.{fails_before_first}
 use Rattle.std.specs.List.{position_or_len}

@@ -21,3 +21,5 @@ pub mod SlotBook
 pub mod SlotContents
 pub mod Link
 pub mod LinkFields
+pub mod Shows
+pub mod Environments

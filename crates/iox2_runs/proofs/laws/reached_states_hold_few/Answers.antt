@@ -1,6 +1,7 @@
 use Rattle.std.specs.Prelude.{cond}
 use Rattle.iox2_runs.proofs.EnoughRuns.{reached_states_hold_few}
-use Rattle.iox2_runs.specs.Runs.{fixed_handlers, ample_memory, any_defaults}
+use Rattle.iox2_store.specs.Environments.{fixed_handlers, ample_memory}
+use Rattle.iox2_runs.specs.Runs.{any_defaults}
 use Rattle.iox2_runs.proofs.laws.reached_states_hold_few.Goals as goal
 
 pub returns : goal.returns
