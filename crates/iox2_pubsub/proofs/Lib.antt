@@ -8,3 +8,4 @@ pub mod ConnectionEnds
 pub mod EnteredAgrees
 pub mod Admitted
 pub mod MapSteps
+pub mod PublisherChanges
