@@ -1,3 +1,4 @@
+pub mod FreePlaces
 pub mod Fresh
 pub mod Containers
 pub mod Views

@@ -7,3 +7,4 @@ pub mod FreshFields
 pub mod Placed
 pub mod Reaches
 pub mod Environments
+pub mod Handles

@@ -1,0 +1,33 @@
+-- When a domain holds a handle.
+use Rattle.std.specs.Prelude.{ℕ, true, false, ◌≡◌, IsTrue}
+use Rattle.std.specs.declared.option.Option.TheVariants.{Some}
+use Rattle.iox2_store.specs.Mailbox.{is_borrowed}
+use Rattle.iox2_store.specs.Records.{Loan}
+use Rattle.iox2_store.specs.SingleCalls.{HoldsPublisher, HoldsSubscriber}
+use Rattle.iox2_pubsub.specs.Kept.{Kept, state_of}
+
+module _ {T U : Type 0} (kept : Kept T U) (service_id : ℕ) where
+  -- The domain has this number, and the publisher wasn't closed.
+  abbrev pub IsPublisherHandle : (id : ℕ) → Type 0
+  IsPublisherHandle id = (service_id ≡ (kept.config).service_id) × HoldsPublisher (state_of kept) id
+
+  -- The domain has this number, and the subscriber wasn't closed.
+  abbrev pub IsSubscriberHandle : (id : ℕ) → Type 0
+  IsSubscriberHandle id = (service_id ≡ (kept.config).service_id) × HoldsSubscriber (state_of kept) id
+
+  -- The domain has this number, and the publisher's loan is out and not written.
+  abbrev pub IsUnwrittenLoanHandle : (publisher number : ℕ) → Type 0
+  IsUnwrittenLoanHandle publisher number =
+      (service_id ≡ (kept.config).service_id)
+      × (l : Loan T U) × ((state_of kept).loans number ≡ Some l) × (l.publisher ≡ publisher) × (l.is_written ≡ false)
+
+  -- The domain has this number, and the publisher's loan is out and written.
+  abbrev pub IsWrittenLoanHandle : (publisher number : ℕ) → Type 0
+  IsWrittenLoanHandle publisher number =
+      (service_id ≡ (kept.config).service_id)
+      × (l : Loan T U) × ((state_of kept).loans number ≡ Some l) × (l.publisher ≡ publisher) × (l.is_written ≡ true)
+
+  -- The domain has this number, and the subscriber has borrowed the publisher's message.
+  abbrev pub IsSampleHandle : (subscriber publisher number : ℕ) → Type 0
+  IsSampleHandle subscriber publisher number =
+      (service_id ≡ (kept.config).service_id) × IsTrue (is_borrowed number ((state_of kept).mailboxes publisher subscriber))
