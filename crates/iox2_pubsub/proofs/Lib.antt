@@ -10,3 +10,4 @@ pub mod EnteredAgrees
 pub mod Admitted
 pub mod MapSteps
 pub mod PublisherChanges
+pub mod Messages

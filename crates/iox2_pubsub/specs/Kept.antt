@@ -94,7 +94,7 @@ module _ {T U : Type 0} where
   entry_in (Sent_message number entry) = Some entry
 
   -- The first of two, if there is one, and else the second.
-  abbrev first_of_two : Option (KeptMessage T U) → Option (KeptMessage T U) → Option (KeptMessage T U)
+  abbrev pub first_of_two : Option (KeptMessage T U) → Option (KeptMessage T U) → Option (KeptMessage T U)
   first_of_two None later = later
   first_of_two (Some found) later = Some found
 
