@@ -132,13 +132,13 @@ any-contains f p (x ∷ ps) h passes =
     ⊎_elim (λ e. or_left (f x) (list_any f ps) (ap f (eqb-true x p e) ∙ passes)) (λ r. or_right (f x) (list_any f ps) (any-contains f p ps r passes)) (or_cases (eqb x p) (contains ps p) h)
 
 -- what a search among these publishers found
-abbrev pub FindsAmong : (limit : ℕ) → Slab Link → (ℕ → Mailbox) → List ℕ → Found → Type 0
-FindsAmong limit connections boxes ps (Found.Ready key) =
-    (c : Link) × (get connections key ≡ Some c) × (can_receive limit (boxes c.home.publisher) ≡ true) × (contains ps c.home.publisher ≡ true)
-FindsAmong limit connections boxes ps Found.AtLimit = (list_any (λ p. has_data (boxes p)) ps ≡ true) × (list_any (λ p. can_receive limit (boxes p)) ps ≡ false)
-FindsAmong limit connections boxes ps Found.Nothing = list_any (λ p. has_data (boxes p)) ps ≡ false
+abbrev pub FindsAmong : (q limit : ℕ) → Slab Link → (ℕ → Mailbox) → List ℕ → Found → Type 0
+FindsAmong q limit connections boxes ps (Found.Ready key) =
+    (c : Link) × (get connections key ≡ Some c) × (c.home.subscriber ≡ q) × (can_receive limit (boxes c.home.publisher) ≡ true) × (contains ps c.home.publisher ≡ true)
+FindsAmong q limit connections boxes ps Found.AtLimit = (list_any (λ p. has_data (boxes p)) ps ≡ true) × (list_any (λ p. can_receive limit (boxes p)) ps ≡ false)
+FindsAmong q limit connections boxes ps Found.Nothing = list_any (λ p. has_data (boxes p)) ps ≡ false
 
-module _ (limit : ℕ) (connections : Slab Link) (boxes : ℕ → Mailbox) where
+module _ (q limit : ℕ) (connections : Slab Link) (boxes : ℕ → Mailbox) where
   -- where nothing waits nothing may be received
   none-received : (ps : List ℕ) → list_any (λ p. has_data (boxes p)) ps ≡ false → list_any (λ p. can_receive limit (boxes p)) ps ≡ false
   none-received ps h = none-less (λ p. has_data (boxes p)) (λ p. can_receive limit (boxes p)) ps (λ p e. first-true _ _ e) h where
@@ -147,14 +147,14 @@ module _ (limit : ℕ) (connections : Slab Link) (boxes : ℕ → Mailbox) where
     first-true false b e = e
 
   -- what is found where something waits at one publisher more, from which nothing may be received
-  among-at_limit : (p : ℕ) (ps : List ℕ) (found : Found) → has_data (boxes p) ≡ true → can_receive limit (boxes p) ≡ false → FindsAmong limit connections boxes ps found → FindsAmong limit connections boxes (p ∷ ps) (first_found Found.AtLimit found)
-  among-at_limit p ps (Found.Ready key) waits full h = (h.0, h.1, h.2, or_right (eqb p h.0.home.publisher) (contains ps h.0.home.publisher) h.3)
+  among-at_limit : (p : ℕ) (ps : List ℕ) (found : Found) → has_data (boxes p) ≡ true → can_receive limit (boxes p) ≡ false → FindsAmong q limit connections boxes ps found → FindsAmong q limit connections boxes (p ∷ ps) (first_found Found.AtLimit found)
+  among-at_limit p ps (Found.Ready key) waits full h = (h.0, h.1, h.2, h.3, or_right (eqb p h.0.home.publisher) (contains ps h.0.home.publisher) h.4)
   among-at_limit p ps Found.AtLimit waits full h = (or_left (has_data (boxes p)) (list_any (λ r. has_data (boxes r)) ps) waits, rw full h.1)
   among-at_limit p ps Found.Nothing waits full h = (or_left (has_data (boxes p)) (list_any (λ r. has_data (boxes r)) ps) waits, rw full (none-received ps h))
 
   -- what is found where nothing waits at one publisher more
-  among-nothing : (p : ℕ) (ps : List ℕ) (found : Found) → has_data (boxes p) ≡ false → can_receive limit (boxes p) ≡ false → FindsAmong limit connections boxes ps found → FindsAmong limit connections boxes (p ∷ ps) found
-  among-nothing p ps (Found.Ready key) none full h = (h.0, h.1, h.2, or_right (eqb p h.0.home.publisher) (contains ps h.0.home.publisher) h.3)
+  among-nothing : (p : ℕ) (ps : List ℕ) (found : Found) → has_data (boxes p) ≡ false → can_receive limit (boxes p) ≡ false → FindsAmong q limit connections boxes ps found → FindsAmong q limit connections boxes (p ∷ ps) found
+  among-nothing p ps (Found.Ready key) none full h = (h.0, h.1, h.2, h.3, or_right (eqb p h.0.home.publisher) (contains ps h.0.home.publisher) h.4)
   among-nothing p ps Found.AtLimit none full h = (or_right (has_data (boxes p)) (list_any (λ r. has_data (boxes r)) ps) h.0, rw full h.1)
   among-nothing p ps Found.Nothing none full h = rw none h
 
@@ -164,56 +164,56 @@ linked-later q most connections key keys l = record { at = λ i k e. l.at (suc i
 
 -- a search through places is a search among the publishers to which they lead
 pub among-search : (q limit : ℕ) (connections : Slab Link) (number : ℕ → ℕ → ℕ) → IsApart connections → (keys : List (Option ℕ)) → IsReceiverLinked q limit connections keys
-    → FindsAmong limit connections (λ p. mailboxes_of number connections p q) (occupants (receiver_ends connections keys)) (search connections keys)
+    → FindsAmong q limit connections (λ p. mailboxes_of number connections p q) (occupants (receiver_ends connections keys)) (search connections keys)
 among-search q limit connections number apart [] l = refl
 among-search q limit connections number apart (None ∷ keys) l = among-search q limit connections number apart keys (linked-later q limit connections None keys l)
 among-search q limit connections number apart (Some key ∷ keys) l =
     by (get connections key) refl (l.at zero key refl) (among-search q limit connections number apart keys (linked-later q limit connections (Some key) keys l))
   where
-    at : (c : Link) → get connections key ≡ Some c → (a b : Bool) → can_borrow c ≡ a → has_slots c ≡ b
+    at : (c : Link) → get connections key ≡ Some c → c.home.subscriber ≡ q → (a b : Bool) → can_borrow c ≡ a → has_slots c ≡ b
         → can_receive limit (mailboxes_of number connections c.home.publisher q) ≡ can_borrow c → has_data (mailboxes_of number connections c.home.publisher q) ≡ has_slots c
-        → FindsAmong limit connections (λ p. mailboxes_of number connections p q) (occupants (receiver_ends connections keys)) (search connections keys)
-        → FindsAmong limit connections (λ p. mailboxes_of number connections p q) (c.home.publisher ∷ occupants (receiver_ends connections keys)) (first_found (cond a (Found.Ready key) (cond b Found.AtLimit Found.Nothing)) (search connections keys))
-    at c e true b can has receive waits rest = (c, e, receive ∙ can, or_left (eqb c.home.publisher c.home.publisher) (contains (occupants (receiver_ends connections keys)) c.home.publisher) (eq-eqb c.home.publisher c.home.publisher refl))
-    at c e false true can has receive waits rest = among-at_limit limit connections (λ p. mailboxes_of number connections p q) c.home.publisher (occupants (receiver_ends connections keys)) (search connections keys) (waits ∙ has) (receive ∙ can) rest
-    at c e false false can has receive waits rest = among-nothing limit connections (λ p. mailboxes_of number connections p q) c.home.publisher (occupants (receiver_ends connections keys)) (search connections keys) (waits ∙ has) (receive ∙ can) rest
+        → FindsAmong q limit connections (λ p. mailboxes_of number connections p q) (occupants (receiver_ends connections keys)) (search connections keys)
+        → FindsAmong q limit connections (λ p. mailboxes_of number connections p q) (c.home.publisher ∷ occupants (receiver_ends connections keys)) (first_found (cond a (Found.Ready key) (cond b Found.AtLimit Found.Nothing)) (search connections keys))
+    at c e mine true b can has receive waits rest = (c, e, mine, receive ∙ can, or_left (eqb c.home.publisher c.home.publisher) (contains (occupants (receiver_ends connections keys)) c.home.publisher) (eq-eqb c.home.publisher c.home.publisher refl))
+    at c e mine false true can has receive waits rest = among-at_limit q limit connections (λ p. mailboxes_of number connections p q) c.home.publisher (occupants (receiver_ends connections keys)) (search connections keys) (waits ∙ has) (receive ∙ can) rest
+    at c e mine false false can has receive waits rest = among-nothing q limit connections (λ p. mailboxes_of number connections p q) c.home.publisher (occupants (receiver_ends connections keys)) (search connections keys) (waits ∙ has) (receive ∙ can) rest
 
     by : (o : Option Link) → get connections key ≡ o → IsSomeAnd o (IsReceivers q limit)
-        → FindsAmong limit connections (λ p. mailboxes_of number connections p q) (occupants (receiver_ends connections keys)) (search connections keys)
-        → FindsAmong limit connections (λ p. mailboxes_of number connections p q) (occupants (receiver_ends connections (Some key ∷ keys))) (search connections (Some key ∷ keys))
+        → FindsAmong q limit connections (λ p. mailboxes_of number connections p q) (occupants (receiver_ends connections keys)) (search connections keys)
+        → FindsAmong q limit connections (λ p. mailboxes_of number connections p q) (occupants (receiver_ends connections (Some key ∷ keys))) (search connections (Some key ∷ keys))
     by None e h rest = absurd h
     by (Some c) e h rest =
         let there : mailboxes_of number connections c.home.publisher q ≡ mailbox_of (number c.home.publisher) c = mailbox-there number connections key c.home.publisher q c apart e refl h.subscriber in
-        rw e (at c e (can_borrow c) (has_slots c) refl refl
+        rw e (at c e h.subscriber (can_borrow c) (has_slots c) refl refl
         (ap (can_receive limit) there ∙ can_receive-mailbox (number c.home.publisher) limit c h.limit)
         (ap has_data there ∙ has_data-mailbox (number c.home.publisher) c) rest)
 
 -- ---- the whole search
 
-module _ (limit : ℕ) (connections : Slab Link) (y : Subscriber) (boxes : ℕ → Mailbox) where
+module _ (q limit : ℕ) (connections : Slab Link) (y : Subscriber) (boxes : ℕ → Mailbox) where
   -- a message may be received from a publisher that was found among these
-  receive-from : (key p : ℕ) (c : Link) → get connections key ≡ Some c → can_receive limit (boxes c.home.publisher) ≡ true
+  receive-from : (key : ℕ) (c : Link) → get connections key ≡ Some c → c.home.subscriber ≡ q → can_receive limit (boxes c.home.publisher) ≡ true
       → (b : Bool) → can_receive_of limit y boxes y.expired ≡ b → MatchBool b (IsTrue (contains y.expired c.home.publisher)) (IsTrue (contains (occupants y.ends) c.home.publisher))
-      → FindsFor limit connections y boxes (Found.Ready key)
-  receive-from key p c e can b which h = rw e (can, rw which h)
+      → FindsFor q limit connections y boxes (Found.Ready key)
+  receive-from key c e mine can b which h = rw e (mine, (can, rw which h))
 
   -- both searches, one after the other
-  pub finds-both : (a b : Found) → FindsAmong limit connections boxes y.expired a → FindsAmong limit connections boxes (occupants y.ends) b → FindsFor limit connections y boxes (first_found a b)
+  pub finds-both : (a b : Found) → FindsAmong q limit connections boxes y.expired a → FindsAmong q limit connections boxes (occupants y.ends) b → FindsFor q limit connections y boxes (first_found a b)
   finds-both (Found.Ready key) b f g =
-      receive-from key 0 f.0 f.1 f.2 true (any-contains (λ p. can_receive limit (boxes p)) f.0.home.publisher y.expired f.3 f.2) f.3
-  finds-both Found.AtLimit (Found.Ready key) f g = receive-from key 0 g.0 g.1 g.2 false f.1 g.3
+      receive-from key f.0 f.1 f.2 f.3 true (any-contains (λ p. can_receive limit (boxes p)) f.0.home.publisher y.expired f.4 f.3) f.4
+  finds-both Found.AtLimit (Found.Ready key) f g = receive-from key g.0 g.1 g.2 g.3 false f.1 g.4
   finds-both Found.AtLimit Found.AtLimit f g = (
     list_any-append (λ p. has_data (boxes p)) y.expired (occupants y.ends) ∙ or_left (list_any (λ p. has_data (boxes p)) y.expired) (list_any (λ p. has_data (boxes p)) (occupants y.ends)) f.0,
     list_any-append (λ p. can_receive limit (boxes p)) y.expired (occupants y.ends) ∙ rw f.1 g.1,
   )
   finds-both Found.AtLimit Found.Nothing f g = (
     list_any-append (λ p. has_data (boxes p)) y.expired (occupants y.ends) ∙ or_left (list_any (λ p. has_data (boxes p)) y.expired) (list_any (λ p. has_data (boxes p)) (occupants y.ends)) f.0,
-    list_any-append (λ p. can_receive limit (boxes p)) y.expired (occupants y.ends) ∙ rw f.1 (none-received limit connections boxes (occupants y.ends) g),
+    list_any-append (λ p. can_receive limit (boxes p)) y.expired (occupants y.ends) ∙ rw f.1 (none-received q limit connections boxes (occupants y.ends) g),
   )
-  finds-both Found.Nothing (Found.Ready key) f g = receive-from key 0 g.0 g.1 g.2 false (none-received limit connections boxes y.expired f) g.3
+  finds-both Found.Nothing (Found.Ready key) f g = receive-from key g.0 g.1 g.2 g.3 false (none-received q limit connections boxes y.expired f) g.4
   finds-both Found.Nothing Found.AtLimit f g = (
     list_any-append (λ p. has_data (boxes p)) y.expired (occupants y.ends) ∙ or_right (list_any (λ p. has_data (boxes p)) y.expired) (list_any (λ p. has_data (boxes p)) (occupants y.ends)) g.0,
-    list_any-append (λ p. can_receive limit (boxes p)) y.expired (occupants y.ends) ∙ rw (none-received limit connections boxes y.expired f) g.1,
+    list_any-append (λ p. can_receive limit (boxes p)) y.expired (occupants y.ends) ∙ rw (none-received q limit connections boxes y.expired f) g.1,
   )
   finds-both Found.Nothing Found.Nothing f g = list_any-append (λ p. has_data (boxes p)) y.expired (occupants y.ends) ∙ rw f g
 
@@ -221,7 +221,7 @@ module _ (limit : ℕ) (connections : Slab Link) (y : Subscriber) (boxes : ℕ �
 pub finds-found : (connections : Slab Link) (expired : List ℕ) (places : List (Option ℕ)) → Finds connections expired places (first_found (search connections (map Some expired)) (search connections places))
 finds-found connections expired places = record {
   finds = λ q limit y r number.
-      finds-both limit connections y (λ p. mailboxes_of number connections p q) (search connections (map Some expired)) (search connections places)
+      finds-both q limit connections y (λ p. mailboxes_of number connections p q) (search connections (map Some expired)) (search connections places)
       (rw r.expired (among-search q limit connections number r.apart (map Some expired) r.kept))
       (rw r.ends (among-search q limit connections number r.apart places r.linked));
 }

@@ -73,14 +73,15 @@ pub record IsReceiver (q most : ℕ) (connections : Slab Link) (expired_keys : L
   pub expired : y.expired ≡ occupants (receiver_ends connections (map Some expired_keys))
   pub ends : y.ends ≡ receiver_ends connections places
 
-module _ (limit : ℕ) (connections : Slab Link) (y : Subscriber) (boxes : ℕ → Mailbox) where
-  -- A message may be received from this connection's publisher; or some wait and all are at the limit; or none waits.
+module _ (q limit : ℕ) (connections : Slab Link) (y : Subscriber) (boxes : ℕ → Mailbox) where
+  -- The connection is the subscriber q's, and a message may be received from its publisher; or some wait and all are at
+  -- the limit; or none waits.
   abbrev pub FindsFor : Found → Type 0
-  FindsFor (Found.Ready key) = IsSomeAnd (get connections key) (λ (c : Link). MayReceiveFrom limit y boxes c.home.publisher)
+  FindsFor (Found.Ready key) = IsSomeAnd (get connections key) (λ (c : Link). (c.home.subscriber ≡ q) × MayReceiveFrom limit y boxes c.home.publisher)
   FindsFor Found.AtLimit = (has_any_data limit y boxes ≡ true) × (can_receive_of limit y boxes (connected_publishers y) ≡ false)
   FindsFor Found.Nothing = has_any_data limit y boxes ≡ false
 
 -- Whatever numbers the slots have, this is what the subscriber with these keys finds.
 pub record Finds (connections : Slab Link) (expired : List ℕ) (places : List (Option ℕ)) (found : Found) : Type 0 where
   pub finds : (q limit : ℕ) (y : Subscriber) → IsReceiver q limit connections expired places y → (number : ℕ → ℕ → ℕ)
-      → FindsFor limit connections y (λ p. mailboxes_of number connections p q) found
+      → FindsFor q limit connections y (λ p. mailboxes_of number connections p q) found

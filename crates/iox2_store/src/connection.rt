@@ -172,6 +172,13 @@ impl Connection {
         self.has_data() && self.borrowed.len() < self.limit
     }
 
+    /// The slots that are borrowed, in the order of receipt.
+    pub fn borrowed(&self) -> &[usize]
+        ensures { result.now ≡ self.now.borrowed }
+    {
+        &self.borrowed
+    }
+
     /// Whether the slot is borrowed, so that `release` may be called for it.
     pub fn is_borrowed(&self, slot: usize) -> bool
         ensures { IsTrue result ↔ Contains self.now.borrowed slot }
