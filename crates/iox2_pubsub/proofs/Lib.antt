@@ -6,6 +6,9 @@ pub mod Due
 pub mod Placed
 pub mod Entered
 pub mod ConnectionEnds
+pub mod SameEnds
+pub mod SenderEnds
+pub mod Reconnected
 pub mod EnteredAgrees
 pub mod Admitted
 pub mod MapSteps
