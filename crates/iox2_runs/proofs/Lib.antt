@@ -12,6 +12,7 @@ pub mod OrderStates
 pub mod OrderReceives
 pub mod OrderCommands
 pub mod Order
+pub mod MailboxWalks
 pub mod Traces
 pub mod Follows
 pub mod Owned
