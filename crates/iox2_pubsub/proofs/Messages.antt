@@ -109,9 +109,10 @@ module _ {T U : Type 0} where
         let lt : slot < length b.holders = held_within held in
         let h = some_there b.headers slot (omega (arith, aligned.headers)) in
         let c = some_there contents slot (omega (arith, shaped)) in
-        let k = some_there b.marks slot (omega (arith, aligned.marks)) in
-        (message_of b.publisher (slice_index b.numbers slot) h.0 c.0 k.0,
-        record { header = h.0; content = c.0; mark = k.0; held = held; headers = h.1; contains = c.1; marks = k.1; is = refl })
+        let k = some_there b.marks slot (omega (arith, aligned.marks)) in (
+          message_of b.publisher (slice_index b.numbers slot) h.0 c.0 k.0,
+          record { header = h.0; content = c.0; mark = k.0; held = held; headers = h.1; contains = c.1; marks = k.1; is = refl },
+        )
       where
         some_there : {A : Type 0} (xs : List A) (i : ℕ) → i < length xs → (x : A) × (slice_get xs i ≡ Some x)
         some_there [] i lt = absurd (omega arith)
@@ -200,10 +201,11 @@ module _ {T U : Type 0} (contents : List (Option (List (ContentState T U)))) (bo
   pub held-message : (key slot n : ℕ) → ((b : Book) → get books key ≡ Some b → IsBook b (get_or contents key None)) → HasNumber books key slot n
       → (m : KeptMessage T U) × (message_at key slot ≡ Some m) × (is_numbered n m ≡ true)
   held-message key slot n is_book has =
-      let lies = message_in-held has.book (contents_at contents key) slot (is_book has.book has.stands).aligned (shaped (get_or contents key None) (is_book has.book has.stands).shaped) has.held in
-      (lies.0,
-      message_at-slot key slot has.book has.stands ∙ message_in-from has.book (contents_at contents key) slot lies.0 lies.1,
-      is_numbered-slot has.book (contents_at contents key) slot lies.0 n lies.1 ∙ eq-eqb (slice_index (has.book).numbers slot) n has.number)
+      let lies = message_in-held has.book (contents_at contents key) slot (is_book has.book has.stands).aligned (shaped (get_or contents key None) (is_book has.book has.stands).shaped) has.held in (
+        lies.0,
+        message_at-slot key slot has.book has.stands ∙ message_in-from has.book (contents_at contents key) slot lies.0 lies.1,
+        is_numbered-slot has.book (contents_at contents key) slot lies.0 n lies.1 ∙ eq-eqb (slice_index (has.book).numbers slot) n has.number,
+      )
     where
       shaped : (o : Option (List (ContentState T U))) → IsSomeAnd o (λ cs. length cs ≡ length (has.book).holders) → length {A = ContentState T U} (elim o [ None ↦ [] | Some cs ↦ cs ]) ≡ length (has.book).holders
       shaped None e = absurd e

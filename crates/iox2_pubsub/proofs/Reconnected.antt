@@ -17,7 +17,7 @@ use Rattle.iox2_pubsub.specs.Kept.{state_of}
 use Rattle.iox2_pubsub.specs.Fields.{Fields, kept_of, numbers_of}
 use Rattle.iox2_pubsub.specs.Invariant.{IsDomain, HasBooks, IsCounted, SenderHas, own_holders}
 use Rattle.iox2_pubsub.specs.Reaches.{Reaches}
-use Rattle.iox2_pubsub.specs.Shows.{IsHeldMessage, In_history, In_mailbox, In_blocked_send}
+use Rattle.iox2_store.specs.Shows.{IsHeldMessage, In_history, In_mailbox, In_blocked_send}
 use Rattle.iox2_pubsub.proofs.SameEnds.{with_connections, connections-are, sender-same, linked-still, open_ports-still}
 use Rattle.iox2_pubsub.proofs.SenderEnds.{sender-has}
 
