@@ -5,5 +5,6 @@ pub mod DeliverySteps
 pub mod Releases
 pub mod TakeSteps
 pub mod Searches
+pub mod Recounts
 pub mod ReclaimSteps
 pub mod AnyEnvironment

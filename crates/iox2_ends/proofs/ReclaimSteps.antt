@@ -1,6 +1,7 @@
 -- A publisher's reclaims, one after the other.
 use Rattle.std.proofs.Common.{◌≡◌, ℕ, ◌+◌, ◌<◌, ◌≤◌, List, [], ◌∷◌, length, Option, None, Some, get_or, refl, ap, sym, ◌∙◌, inl, inr, arith}
 use Rattle.std.proofs.lemmas.Bool.{cases_eq}
+use Rattle.std.proofs.lemmas.List.{length-set}
 use Rattle.std.specs.Prelude.{IsSomeAnd}
 use Rattle.std.specs.Option.{option_map}
 use Rattle.slab.specs.Slab.{Slab, get, Updates, with_value}
@@ -11,9 +12,11 @@ use Rattle.iox2_store.specs.declared.connection.Home.{Home}
 use Rattle.iox2_ends.specs.Mailboxes.{mailbox_of, mailboxes_of, with_box}
 use Rattle.iox2_ends.specs.Homes.{IsApart, SameHomes, IsSenderLinked, fixed_of}
 use Rattle.iox2_ends.specs.Counters.{stands_in, IsCovered, held_less}
-use Rattle.iox2_ends.specs.Reclaims.{returned_count, Reclaims}
-use Rattle.iox2_ends.proofs.MailboxChanges.{Updates-with_value, SameHomes-updated, KeepsOthers-updated, SameHomes-trans, KeepsOthers-trans, IsApart-same, mailbox-there, mailboxes-changed, put_at-same}
-use Rattle.iox2_ends.proofs.Counts.{one_if_same, times-cons, counter_if_stands, get_or-held_less, Follows-changed, Follows-trans, IsCovered-follows}
+use Rattle.iox2_ends.specs.Recounts.{returned_count}
+use Rattle.iox2_ends.specs.Reclaims.{Reclaims}
+use Rattle.iox2_ends.proofs.MailboxChanges.{Updates-with_value, SameHomes-updated, KeepsOthers-updated, IsApart-same, mailbox-there, mailboxes-changed, put_at-same}
+use Rattle.iox2_ends.proofs.Counts.{one_if_same, times-cons, counter_if_stands, get_or-held_less, Follows-changed, IsCovered-follows}
+use Rattle.iox2_ends.proofs.Recounts.{returned-updated, Recounts-same, Recounts-trans}
 use Rattle.iox2_ends.proofs.DeliverySteps.{there, IsSenderLinked-same}
 
 -- a connection that stands at the key is its publisher's
@@ -50,20 +53,21 @@ reclaimed-held p hs slab key slot c d covered own at r =
 
 -- one slot, or none, is reclaimed from a connection, with counters that follow
 reclaims-from : (p : ℕ) (hs hs' : List ℕ) (slab : Slab Link) (key : ℕ) (c d : Link) (o : Option ℕ) → IsApart slab → IsSomeAnd (get slab key) (λ (x : Link). x.home.publisher ≡ p) → get slab key ≡ Some c → IsReclaimed c o d
-    → ((n : ℕ) → get_or hs' n 0 + stands_in n c ≡ get_or hs n 0 + stands_in n d) → ((n : ℕ) → get_or hs' n 0 ≤ get_or hs n 0) → Reclaims p hs slab hs' (with_value slab key d)
-reclaims-from p hs hs' slab key c d o apart own at r follows less = record {
+    → ((n : ℕ) → get_or hs' n 0 + stands_in n c ≡ get_or hs n 0 + stands_in n d) → ((n : ℕ) → get_or hs' n 0 ≤ get_or hs n 0) → length hs' ≡ length hs → Reclaims p hs slab hs' (with_value slab key d)
+reclaims-from p hs hs' slab key c d o apart own at r follows less long = record {
   mailboxes = λ number.
       mailboxes-changed number slab (with_value slab key d) key c d apart at fixed u
       ∙ ap (with_box (mailboxes_of number slab) c.home.publisher c.home.subscriber) (reclaimed-mailbox (number c.home.publisher) c d o r ∙ sym (mailbox-there number slab key c.home.publisher c.home.subscriber c apart at refl refl))
       ∙ with_box-same (mailboxes_of number slab) c.home.publisher c.home.subscriber;
-  homes = SameHomes-updated slab (with_value slab key d) key c d at fixed u;
-  others = KeepsOthers-updated p slab (with_value slab key d) key c (Some d) at mine u;
-  counters = Follows-changed p hs hs' slab.slots key c d at mine (ap (λ (t : Home × ℕ × ℕ). t.0.publisher) fixed ∙ mine) follows;
+  recounts = record {
+    homes = SameHomes-updated slab (with_value slab key d) key c d at fixed u;
+    others = KeepsOthers-updated p slab (with_value slab key d) key c (Some d) at mine u;
+    counters = Follows-changed p hs hs' slab.slots key c d at mine (ap (λ (t : Home × ℕ × ℕ). t.0.publisher) fixed ∙ mine) follows;
+    slots = long;
+    held = λ n some. omega (arith, less n, some);
+    fewer = returned-updated slab (with_value slab key d) key c d at (reclaimed-fewer c d o r) u;
+  };
   shrinks = less;
-  fewer = λ k. elim (cases_eq k key) [
-    | inl same ↦ rw same (rw (u.changed, at) (reclaimed-fewer c d o r))
-    | inr differs ↦ rw (u.others k differs) (omega arith)
-  ];
 }
   where
     fixed : fixed_of d ≡ fixed_of c
@@ -77,14 +81,14 @@ reclaims-from p hs hs' slab key c d o apart own at r follows less = record {
 
 -- nothing was there to reclaim
 pub reclaims-none : (p : ℕ) (hs : List ℕ) (slab : Slab Link) (key : ℕ) (c d : Link) → IsApart slab → IsSomeAnd (get slab key) (λ (x : Link). x.home.publisher ≡ p) → get slab key ≡ Some c → IsReclaimed c None d → Reclaims p hs slab hs (with_value slab key d)
-reclaims-none p hs slab key c d apart own at r = reclaims-from p hs hs slab key c d None apart own at r (λ n. rw r.1 refl) (λ n. omega arith)
+reclaims-none p hs slab key c d apart own at r = reclaims-from p hs hs slab key c d None apart own at r (λ n. rw r.1 refl) (λ n. omega arith) refl
 
 -- one slot was reclaimed
 pub reclaims-some : (p : ℕ) (hs : List ℕ) (slab : Slab Link) (key slot : ℕ) (c d : Link) → IsApart slab → IsCovered p hs slab.slots → IsSomeAnd (get slab key) (λ (x : Link). x.home.publisher ≡ p) → get slab key ≡ Some c → IsReclaimed c (Some slot) d
     → Reclaims p hs slab (held_less slot hs) (with_value slab key d)
 reclaims-some p hs slab key slot c d apart covered own at r = reclaims-from p hs (held_less slot hs) slab key c d (Some slot) apart own at r
     (λ n. rw (r.2, r.1) (omega (arith, times-cons n slot r.0, get_or-held_less hs slot n held)))
-    (λ n. omega (arith, get_or-held_less hs slot n held))
+    (λ n. omega (arith, get_or-held_less hs slot n held)) (length-set hs slot _)
   where
     held : 0 < get_or hs slot 0
     held = reclaimed-held p hs slab key slot c d covered own at r
@@ -94,21 +98,15 @@ reclaims-some p hs slab key slot c d apart covered own at r = reclaims-from p hs
 pub Reclaims-same : (p : ℕ) (hs : List ℕ) (slab : Slab Link) → Reclaims p hs slab hs slab
 Reclaims-same p hs slab = record {
   mailboxes = λ number. refl;
-  homes = record { same = λ key. refl };
-  others = record { stay = λ key c at differs. at };
-  counters = record { at = λ n. refl };
+  recounts = Recounts-same p hs slab;
   shrinks = λ n. omega arith;
-  fewer = λ key. omega arith;
 }
 
 pub Reclaims-trans : (p : ℕ) (hs hs' hs'' : List ℕ) (a b c : Slab Link) → Reclaims p hs a hs' b → Reclaims p hs' b hs'' c → Reclaims p hs a hs'' c
 Reclaims-trans p hs hs' hs'' a b c x y = record {
   mailboxes = λ number. y.mailboxes number ∙ x.mailboxes number;
-  homes = SameHomes-trans a b c x.homes y.homes;
-  others = KeepsOthers-trans p a b c x.others y.others;
-  counters = Follows-trans p hs hs' hs'' a.slots b.slots c.slots x.counters y.counters;
+  recounts = Recounts-trans p hs hs' hs'' a b c x.recounts y.recounts;
   shrinks = λ n. omega (arith, x.shrinks n, y.shrinks n);
-  fewer = λ key. omega (arith, x.fewer key, y.fewer key);
 }
 
 -- a connection stays its publisher's
@@ -144,16 +142,16 @@ pub record IsReclaimedBelow (p : ℕ) (places : List (Option ℕ)) (hs : List �
 pub below-step : (p : ℕ) (places : List (Option ℕ)) (hs hs' hs'' : List ℕ) (old now new : Slab Link) (place key : ℕ) → IsReclaimedBelow p places hs old place hs' now → get_or places place None ≡ Some key
     → Reclaims p hs' now hs'' new → returned_count new key ≡ 0 → IsReclaimedBelow p places hs old (place + 1) hs'' new
 below-step p places hs hs' hs'' old now new place key b at r none = record {
-  linked = IsSenderLinked-same p now new places b.linked r.homes;
-  apart = IsApart-same now new b.apart r.homes;
-  covered = IsCovered-follows p hs' hs'' now.slots new.slots b.covered r.counters;
+  linked = IsSenderLinked-same p now new places b.linked r.recounts.homes;
+  apart = IsApart-same now new b.apart r.recounts.homes;
+  covered = IsCovered-follows p hs' hs'' now.slots new.slots b.covered r.recounts.counters;
   reclaims = Reclaims-trans p hs hs' hs'' old now new b.reclaims r;
   done = λ i k below at_i. elim (cases_eq i place) [
     | inl same ↦
         let here : Some k ≡ Some key = sym at_i ∙ ap (λ (j : ℕ). get_or places j None) same ∙ at in
         let e : k ≡ key = cc in
         ap (returned_count new) e ∙ none
-    | inr differs ↦ let before : returned_count now k ≡ 0 = b.done i k (omega (arith, differs)) at_i in omega (arith, r.fewer k)
+    | inr differs ↦ let before : returned_count now k ≡ 0 = b.done i k (omega (arith, differs)) at_i in omega (arith, r.recounts.fewer k)
   ];
 }
 

@@ -6,4 +6,5 @@ pub mod Counters
 pub mod Deliveries
 pub mod Takes
 pub mod Finds
+pub mod Recounts
 pub mod Reclaims

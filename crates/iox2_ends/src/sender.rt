@@ -3,10 +3,11 @@ ghost use Rattle.std.specs.Prelude.{◌≡◌, ℕ, ◌+◌, ◌≤◌, ◌<◌,
 ghost use Rattle.iox2_store.specs.SlotBook.{holders_at, IsHeld};
 ghost use Rattle.iox2_store.specs.Delivery.{is_blocking, accepted_count};
 ghost use Rattle.slab.specs.Slab.{get};
-ghost use Rattle.iox2_ends.specs.Homes.{IsApart, IsSenderLinked, SameHomes, KeepsOthers};
+ghost use Rattle.iox2_ends.specs.Homes.{IsApart, IsSenderLinked};
 ghost use Rattle.iox2_ends.specs.Receivers.{is_open_at, HasReclaimed, IsReadyToDeliver};
-ghost use Rattle.iox2_ends.specs.Counters.{IsCovered, Follows, recounted, CanLeave, with_counters};
-ghost use Rattle.iox2_ends.specs.Reclaims.{Reclaims, CountsReclaimed, returned_count};
+ghost use Rattle.iox2_ends.specs.Counters.{IsCovered, recounted, CanLeave, with_counters};
+ghost use Rattle.iox2_ends.specs.Recounts.{Recounts, returned_count};
+ghost use Rattle.iox2_ends.specs.Reclaims.{Reclaims, CountsReclaimed};
 ghost use Rattle.iox2_ends.specs.Deliveries.{result_of, result_of_put, PutsSlot, DeliversSlot};
 
 use iox2_store::{BackpressureStrategy, Connection, PutOutcome, ServiceConfig, SlotBook};
@@ -136,13 +137,10 @@ fn deliver_at(
     requires covered { IsCovered delivery.now.publisher book.old.holders connections.old.slots }
     ensures puts { PutsSlot config.now delivery.now receivers.now (slice_index_or places.now place None)
         connections.old result connections.new }
-    ensures homes { SameHomes connections.old connections.new }
     ensures book { book.new ≡ with_counters book.old book.new.holders }
-    ensures others { KeepsOthers delivery.now.publisher connections.old connections.new }
+    ensures recounts { Recounts delivery.now.publisher book.old.holders connections.old book.new.holders connections.new }
     ensures reclaimed { HasReclaimed connections.new places.now }
     ensures keeps { holders_at book.old delivery.now.slot ≤ holders_at book.new delivery.now.slot }
-    ensures counters { Follows delivery.now.publisher book.old.holders connections.old.slots
-        book.new.holders connections.new.slots }
     ensures grows { holders_at book.new delivery.now.slot ≤ holders_at book.old delivery.now.slot + 1 }
 {
     let Some(key) = places[place] else {
@@ -180,11 +178,8 @@ pub fn deliver(
     requires covered { IsCovered delivery.now.publisher book.old.holders connections.old.slots }
     ensures delivers { DeliversSlot config.now delivery.now receivers.now places.now
         connections.old result connections.new }
-    ensures homes { SameHomes connections.old connections.new }
     ensures book { book.new ≡ with_counters book.old book.new.holders }
-    ensures others { KeepsOthers delivery.now.publisher connections.old connections.new }
-    ensures counters { Follows delivery.now.publisher book.old.holders connections.old.slots
-        book.new.holders connections.new.slots }
+    ensures recounts { Recounts delivery.now.publisher book.old.holders connections.old book.new.holders connections.new }
 {
     let mut count = 0;
     for place in 0..places.len() {

@@ -1,9 +1,8 @@
 use Rattle.std.proofs.Common.{arith, sym, ◌∙◌}
 use Rattle.std.proofs.lemmas.List.{length-map}
 use Rattle.iox2_ends.specs.Mailboxes.{subscriber_at, sender_ends}
-use Rattle.iox2_ends.proofs.MailboxChanges.{SameHomes-trans, KeepsOthers-trans}
 use Rattle.iox2_ends.proofs.DeliverySteps.{ends-at, deliver-more, deliver-stops, IsReadyToDeliver-same}
-use Rattle.iox2_ends.proofs.Counts.{Follows-trans}
+use Rattle.iox2_ends.proofs.Recounts.{Recounts-trans}
 use Rattle.std.proofs.Common.{ap}
 use Rattle.iox2_store.specs.SlotBook.{Book}
 use Rattle.iox2_ends.specs.Counters.{with_counters}
@@ -14,25 +13,23 @@ returns-then-is_blocking-clause-delivers c = λ number.
     c.loop-place.invariant.walk number _ _
     (deliver-stops c.args.config.now c.args.delivery.now c.args.receivers.now (number c.args.delivery.now.publisher c.args.delivery.now.slot) (sender_ends c.args.connections.now c.args.places.now) c.loop-place.place c.loop-place.count _ _ c.deliver_at-reception.result
     (omega (arith, length-map c.args.places.now (subscriber_at c.args.connections.now)))
-    (rw (ends-at _ _ c.args.places.now c.loop-place.place c.loop-place.invariant.homes) at (c.deliver_at-reception.ensures.puts number))
+    (rw (ends-at _ _ c.args.places.now c.loop-place.place c.loop-place.invariant.recounts.homes) at (c.deliver_at-reception.ensures.puts number))
     (sym c.is_blocking.ensures ∙ c.if-is_blocking.true))
 
-pub returns-then-is_blocking-clause-counters : goal.returns-then-is_blocking-clause-counters
-returns-then-is_blocking-clause-counters c = Follows-trans c.args.delivery.now.publisher _ _ _ _ _ _ c.loop-place.invariant.counters c.deliver_at-reception.ensures.counters
+pub returns-then-is_blocking-clause-recounts : goal.returns-then-is_blocking-clause-recounts
+returns-then-is_blocking-clause-recounts c = Recounts-trans c.args.delivery.now.publisher _ _ _ _ _ _ c.loop-place.invariant.recounts c.deliver_at-reception.ensures.recounts
 
 pub loop-place-preserved : goal.loop-place-preserved
 loop-place-preserved c = record {
-  ready = IsReadyToDeliver-same c.args.delivery.now.publisher _ _ c.args.places.now c.args.receivers.now c.loop-place.invariant.ready c.deliver_at-reception.ensures.homes c.deliver_at-reception.ensures.reclaimed;
-  homes = SameHomes-trans _ _ _ c.loop-place.invariant.homes c.deliver_at-reception.ensures.homes;
-  others = KeepsOthers-trans c.args.delivery.now.publisher _ _ _ c.loop-place.invariant.others c.deliver_at-reception.ensures.others;
+  ready = IsReadyToDeliver-same c.args.delivery.now.publisher _ _ c.args.places.now c.args.receivers.now c.loop-place.invariant.ready c.deliver_at-reception.ensures.recounts.homes c.deliver_at-reception.ensures.reclaimed;
+  recounts = Recounts-trans c.args.delivery.now.publisher _ _ _ _ _ _ c.loop-place.invariant.recounts c.deliver_at-reception.ensures.recounts;
   walk = λ number how boxes' rest. c.loop-place.invariant.walk number how boxes'
       (deliver-more c.args.config.now c.args.delivery.now c.args.receivers.now (number c.args.delivery.now.publisher c.args.delivery.now.slot) (sender_ends c.args.connections.now c.args.places.now) c.loop-place.place c.loop-place.count _ _ boxes' c.deliver_at-reception.result how
       (omega (arith, length-map c.args.places.now (subscriber_at c.args.connections.now)))
-      (rw (ends-at _ _ c.args.places.now c.loop-place.place c.loop-place.invariant.homes) at (c.deliver_at-reception.ensures.puts number))
+      (rw (ends-at _ _ c.args.places.now c.loop-place.place c.loop-place.invariant.recounts.homes) at (c.deliver_at-reception.ensures.puts number))
       (sym c.is_blocking.ensures ∙ c.if-is_blocking.false)
       (rw c.accepted_count-count.ensures.value at rest));
   few = omega (arith, c.accepted_count-count.ensures.few);
-  counters = Follows-trans c.args.delivery.now.publisher _ _ _ _ _ _ c.loop-place.invariant.counters c.deliver_at-reception.ensures.counters;
   book = c.deliver_at-reception.ensures.book ∙ ap (λ (b : Book). with_counters b c.deliver_at-reception.new.book.holders) c.loop-place.invariant.book;
   held = omega (arith, c.deliver_at-reception.ensures.keeps, c.loop-place.invariant.held);
   grows = omega (arith, c.deliver_at-reception.ensures.grows, c.loop-place.invariant.grows);

@@ -2,9 +2,9 @@ use Rattle.std.proofs.Common.{◌≡◌, ℕ, ◌+◌, ◌≤◌, drop, slice_in
 use Rattle.iox2_store.specs.Mailbox.{Mailbox}
 use Rattle.iox2_store.specs.Delivery.{DeliveryEnd}
 use Rattle.iox2_ends.specs.Mailboxes.{mailboxes_of, sender_ends}
-use Rattle.iox2_ends.specs.Homes.{SameHomes, KeepsOthers}
 use Rattle.iox2_ends.specs.Receivers.{IsReadyToDeliver}
-use Rattle.iox2_ends.specs.Counters.{Follows, with_counters}
+use Rattle.iox2_ends.specs.Counters.{with_counters}
+use Rattle.iox2_ends.specs.Recounts.{Recounts}
 use Rattle.iox2_ends.specs.Deliveries.{DeliversMessage}
 use Rattle.iox2_ends.proofs.sender.deliver.Given as goal
 
@@ -12,13 +12,11 @@ use Rattle.iox2_ends.proofs.sender.deliver.Given as goal
 abbrev pub invariant-loop-place : goal.invariant-loop-place
 invariant-loop-place l = record {
   ready : IsReadyToDeliver l.delivery.publisher l.connections l.places l.receivers;
-  homes : SameHomes l.fn.connections l.connections;
-  others : KeepsOthers l.delivery.publisher l.fn.connections l.connections;
+  recounts : Recounts l.delivery.publisher l.fn.book.holders l.fn.connections l.book.holders l.connections;
   walk : (number : ℕ → ℕ → ℕ) (how : DeliveryEnd) (boxes' : ℕ → Mailbox)
       → DeliversMessage l.config l.delivery l.receivers (number l.delivery.publisher l.delivery.slot) l.place (drop l.place (sender_ends l.fn.connections l.places)) l.count (mailboxes_of number l.connections l.delivery.publisher) how boxes'
       → DeliversMessage l.config l.delivery l.receivers (number l.delivery.publisher l.delivery.slot) 0 (sender_ends l.fn.connections l.places) 0 (mailboxes_of number l.fn.connections l.delivery.publisher) how boxes';
   few : l.count ≤ l.place;
-  counters : Follows l.delivery.publisher l.fn.book.holders l.fn.connections.slots l.book.holders l.connections.slots;
   book : l.book ≡ with_counters l.fn.book l.book.holders;
   held : slice_index l.fn.book.holders l.delivery.slot ≤ slice_index l.book.holders l.delivery.slot;
   grows : slice_index l.book.holders l.delivery.slot ≤ slice_index l.fn.book.holders l.delivery.slot + l.place;

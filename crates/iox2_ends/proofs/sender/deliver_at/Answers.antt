@@ -1,6 +1,7 @@
 use Rattle.std.proofs.Common.{refl, sym, ◌∙◌}
-use Rattle.iox2_ends.proofs.DeliverySteps.{contains-at, home-of, put-room, put-homes, put-others, put-reclaimed, put-puts, put-passes, put-home}
-use Rattle.iox2_ends.proofs.Counts.{put-can_leave, put-follows, recounted-grows, recounted-keeps, recounted-keeps}
+use Rattle.iox2_ends.proofs.DeliverySteps.{contains-at, home-of, put-room, put-reclaimed, put-puts, put-passes}
+use Rattle.iox2_ends.proofs.Counts.{put-can_leave, recounted-grows, recounted-keeps}
+use Rattle.iox2_ends.proofs.Recounts.{put-recounts}
 use Rattle.iox2_ends.proofs.sender.deliver_at.Goals as goal
 
 pub index-requires : goal.index-requires
@@ -19,12 +20,6 @@ returns-clause-puts c =
     put-puts c.args.place _ c.requires.ready c.in-Some.is c.args.config.now c.args.delivery.now c.put-outcome.result c.index.result.now c.index_mut.result.now c.put-outcome.new.self c.reception_of.result refl c.index.ensures
     (rw c.home-home.ensures.value at (sym c.is_open.ensures ∙ c.if-not-is_open.false)) c.index_mut.ensures.value c.put-outcome.ensures.put c.reception_of.ensures
 
-pub returns-clause-homes : goal.returns-clause-homes
-returns-clause-homes c = put-homes c.args.place _ c.requires.ready c.in-Some.is c.args.delivery.now.slot c.args.config.now.enable_safe_overflow c.put-outcome.result c.index_mut.result.now c.put-outcome.new.self c.index_mut.ensures.value c.put-outcome.ensures.put
-
-pub returns-clause-others : goal.returns-clause-others
-returns-clause-others c = put-others c.args.place _ c.requires.ready c.in-Some.is c.args.delivery.now.slot c.args.config.now.enable_safe_overflow c.put-outcome.result c.index_mut.result.now c.put-outcome.new.self c.index_mut.ensures.value c.put-outcome.ensures.put
-
 pub returns-clause-reclaimed : goal.returns-clause-reclaimed
 returns-clause-reclaimed c = put-reclaimed c.args.place _ c.requires.ready c.in-Some.is c.args.delivery.now.slot c.args.config.now.enable_safe_overflow c.put-outcome.result c.index_mut.result.now c.put-outcome.new.self c.index_mut.ensures.value c.put-outcome.ensures.put
 
@@ -33,11 +28,11 @@ recount-requires-clause-overwritten c =
     put-can_leave c.args.delivery.now.publisher _ _ _ c.args.delivery.now.slot c.args.config.now.enable_safe_overflow _ _ c.put-outcome.result c.requires.covered c.index_mut.ensures.value
     (home-of c.args.place _ c.requires.ready c.in-Some.is c.index_mut.result.now c.index_mut.ensures.value).publisher c.put-outcome.ensures.put
 
-pub returns-clause-counters : goal.returns-clause-counters
-returns-clause-counters c =
+pub returns-clause-recounts : goal.returns-clause-recounts
+returns-clause-recounts c =
     rw c.recount.ensures
-    (put-follows c.args.delivery.now.publisher _ _ _ c.args.delivery.now.slot c.args.config.now.enable_safe_overflow _ _ c.put-outcome.result c.requires.held.in_bounds c.requires.covered c.index_mut.ensures.value
-    (home-of c.args.place _ c.requires.ready c.in-Some.is c.index_mut.result.now c.index_mut.ensures.value).publisher (put-home _ _ _ _ _ c.put-outcome.ensures.put) c.put-outcome.ensures.put)
+    (put-recounts c.args.place _ c.requires.ready c.in-Some.is _ c.args.delivery.now.slot c.args.config.now.enable_safe_overflow c.put-outcome.result c.index_mut.result.now c.put-outcome.new.self
+    c.requires.held.in_bounds c.requires.held.held c.requires.covered c.index_mut.ensures.value c.put-outcome.ensures.put)
 
 pub returns-clause-grows : goal.returns-clause-grows
 returns-clause-grows c = rw c.recount.ensures (recounted-grows c.put-outcome.result c.args.delivery.now.slot _ c.requires.held.in_bounds

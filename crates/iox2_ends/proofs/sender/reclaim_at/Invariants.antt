@@ -4,7 +4,8 @@ use Rattle.slab.specs.Slab.{get}
 use Rattle.iox2_store.specs.Link.{Link}
 use Rattle.iox2_ends.specs.Homes.{IsApart}
 use Rattle.iox2_ends.specs.Counters.{IsCovered, with_counters}
-use Rattle.iox2_ends.specs.Reclaims.{Reclaims, returned_count}
+use Rattle.iox2_ends.specs.Recounts.{returned_count}
+use Rattle.iox2_ends.specs.Reclaims.{Reclaims}
 use Rattle.iox2_ends.proofs.sender.reclaim_at.Given as goal
 
 abbrev pub invariant-loop : goal.invariant-loop
