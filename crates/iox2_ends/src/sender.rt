@@ -1,5 +1,6 @@
 //! A publisher's end: its messages go to the connections at its places.
-ghost use Rattle.std.specs.Prelude.{◌≡◌, ℕ, ◌+◌, ◌≤◌, ◌<◌, ◌^◌, None, length, slice_index, slice_index_or, IsSomeAnd};
+ghost use Rattle.std.specs.Prelude.{◌≡◌, ℕ, ◌+◌, ◌≤◌, ◌<◌, ◌^◌, None, length, slice_index, slice_index_or, IsSomeAnd, map};
+ghost use Rattle.std.specs.Option.{option_map};
 ghost use Rattle.iox2_store.specs.SlotBook.{holders_at, IsHeld};
 ghost use Rattle.iox2_store.specs.Delivery.{is_blocking, accepted_count};
 ghost use Rattle.slab.specs.Slab.{get};
@@ -24,6 +25,27 @@ pub struct ReceiverDetails {
     pub buffer_size: usize,
     /// Whether it takes messages. A closed one keeps its place until its last sample is released.
     pub is_open: bool,
+}
+
+/// What stands at a subscriber's place, to a publisher that delivers.
+///
+/// This library's own, where iceoryx2 copies the details of each receiver to its senders.
+pub trait Receiver {
+    ghost use Rattle.iox2_ends.specs.declared.sender.ReceiverDetails.{ReceiverDetails};
+
+    ghost details_of: { Self → ReceiverDetails };
+
+    /// What a publisher that delivers needs to know.
+    fn details(&self) -> ReceiverDetails
+        ensures { result ≡ details_of self.now };
+}
+
+impl Receiver for ReceiverDetails {
+    ghost details_of = { λ receiver. receiver };
+
+    fn details(&self) -> ReceiverDetails {
+        *self
+    }
 }
 
 /// A message that a publisher without a backpressure handler delivers.
@@ -94,11 +116,14 @@ fn reception_of(outcome: PutOutcome, strategy: BackpressureStrategy) -> Receptio
 }
 
 // Whether the subscriber with that id stands at the place, and is open.
-fn is_open(receivers: &[Option<ReceiverDetails>], place: usize, id: u128) -> bool
-    ensures { result ≡ is_open_at receivers.now place id }
+fn is_open<R: Receiver>(receivers: &[Option<R>], place: usize, id: u128) -> bool
+    ensures { result ≡ is_open_at (map (option_map R.details_of) receivers.now) place id }
 {
     match receivers.get(place) {
-        Some(Some(receiver)) => receiver.port_id == id && receiver.is_open,
+        Some(Some(receiver)) => {
+            let receiver = receiver.details();
+            receiver.port_id == id && receiver.is_open
+        }
         _ => false,
     }
 }
@@ -121,21 +146,21 @@ fn recount(book: &mut SlotBook, outcome: PutOutcome, slot: usize)
 }
 
 // Puts the slot into the connection at one place, if there is one and its subscriber is open.
-fn deliver_at(
+fn deliver_at<R: Receiver>(
     config: &ServiceConfig,
     delivery: &Delivery,
     connections: &mut Slab<Connection>,
     book: &mut SlotBook,
     places: &[Option<usize>],
-    receivers: &[Option<ReceiverDetails>],
+    receivers: &[Option<R>],
     place: usize,
 ) -> Reception
     requires at { place < length places.now }
-    requires ready { IsReadyToDeliver delivery.now.publisher connections.old places.now receivers.now }
+    requires ready { IsReadyToDeliver delivery.now.publisher connections.old places.now (map (option_map R.details_of) receivers.now) }
     requires held { IsHeld book.old delivery.now.slot }
     requires fits { holders_at book.old delivery.now.slot + 1 < 2 ^ 128 }
     requires covered { IsCovered delivery.now.publisher book.old.holders connections.old.slots }
-    ensures puts { PutsSlot config.now delivery.now receivers.now (slice_index_or places.now place None)
+    ensures puts { PutsSlot config.now delivery.now (map (option_map R.details_of) receivers.now) (slice_index_or places.now place None)
         connections.old result connections.new }
     ensures book { book.new ≡ with_counters book.old book.new.holders }
     ensures recounts { Recounts delivery.now.publisher book.old.holders connections.old book.new.holders connections.new }
@@ -164,19 +189,19 @@ fn deliver_at(
 /// it grows with each connection that takes the slot, and shrinks for a slot that is overwritten.
 ///
 /// iceoryx2's `Sender::deliver_offset` (`src/port/details/sender.rs`).
-pub fn deliver(
+pub fn deliver<R: Receiver>(
     config: &ServiceConfig,
     delivery: &Delivery,
     connections: &mut Slab<Connection>,
     book: &mut SlotBook,
     places: &[Option<usize>],
-    receivers: &[Option<ReceiverDetails>],
+    receivers: &[Option<R>],
 ) -> DeliveryOutcome
-    requires ready { IsReadyToDeliver delivery.now.publisher connections.old places.now receivers.now }
+    requires ready { IsReadyToDeliver delivery.now.publisher connections.old places.now (map (option_map R.details_of) receivers.now) }
     requires held { IsHeld book.old delivery.now.slot }
     requires fits { holders_at book.old delivery.now.slot + length places.now < 2 ^ 128 }
     requires covered { IsCovered delivery.now.publisher book.old.holders connections.old.slots }
-    ensures delivers { DeliversSlot config.now delivery.now receivers.now places.now
+    ensures delivers { DeliversSlot config.now delivery.now (map (option_map R.details_of) receivers.now) places.now
         connections.old result connections.new }
     ensures book { book.new ≡ with_counters book.old book.new.holders }
     ensures recounts { Recounts delivery.now.publisher book.old.holders connections.old book.new.holders connections.new }

@@ -6,16 +6,18 @@ use Rattle.iox2_ends.specs.Receivers.{IsReadyToDeliver}
 use Rattle.iox2_ends.specs.Counters.{with_counters}
 use Rattle.iox2_ends.specs.Recounts.{Recounts}
 use Rattle.iox2_ends.specs.Deliveries.{DeliversMessage}
+use Rattle.std.specs.Prelude.{map}
+use Rattle.std.specs.Option.{option_map}
 use Rattle.iox2_ends.proofs.sender.deliver.Given as goal
 
 -- whatever the rest of the walk comes to from here, the whole walk comes to
 abbrev pub invariant-loop-place : goal.invariant-loop-place
-invariant-loop-place l = record {
-  ready : IsReadyToDeliver l.delivery.publisher l.connections l.places l.receivers;
+invariant-loop-place g l = record {
+  ready : IsReadyToDeliver l.delivery.publisher l.connections l.places (map (option_map g.R.Receiver.details_of) l.receivers);
   recounts : Recounts l.delivery.publisher l.fn.book.holders l.fn.connections l.book.holders l.connections;
   walk : (number : ℕ → ℕ → ℕ) (how : DeliveryEnd) (boxes' : ℕ → Mailbox)
-      → DeliversMessage l.config l.delivery l.receivers (number l.delivery.publisher l.delivery.slot) l.place (drop l.place (sender_ends l.fn.connections l.places)) l.count (mailboxes_of number l.connections l.delivery.publisher) how boxes'
-      → DeliversMessage l.config l.delivery l.receivers (number l.delivery.publisher l.delivery.slot) 0 (sender_ends l.fn.connections l.places) 0 (mailboxes_of number l.fn.connections l.delivery.publisher) how boxes';
+      → DeliversMessage l.config l.delivery (map (option_map g.R.Receiver.details_of) l.receivers) (number l.delivery.publisher l.delivery.slot) l.place (drop l.place (sender_ends l.fn.connections l.places)) l.count (mailboxes_of number l.connections l.delivery.publisher) how boxes'
+      → DeliversMessage l.config l.delivery (map (option_map g.R.Receiver.details_of) l.receivers) (number l.delivery.publisher l.delivery.slot) 0 (sender_ends l.fn.connections l.places) 0 (mailboxes_of number l.fn.connections l.delivery.publisher) how boxes';
   few : l.count ≤ l.place;
   book : l.book ≡ with_counters l.fn.book l.book.holders;
   held : slice_index l.fn.book.holders l.delivery.slot ≤ slice_index l.book.holders l.delivery.slot;
