@@ -12,5 +12,7 @@ pub mod Reconnected
 pub mod EnteredAgrees
 pub mod Admitted
 pub mod MapSteps
+pub mod UsedSlots
+pub mod HeldSlots
 pub mod PublisherChanges
 pub mod Messages
