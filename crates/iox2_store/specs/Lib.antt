@@ -16,6 +16,7 @@ pub mod Ports
 pub mod SingleCalls
 pub mod WellFormed
 pub mod Backpressure
+pub mod ErrorTexts
 pub mod SlotFree
 pub mod SlotBook
 pub mod SlotContents

@@ -1,5 +1,7 @@
 //! Why a call of the library was refused.
 
+mod texts;
+
 /// Why a publisher lends no message.
 ///
 /// iceoryx2's `port::LoanError` (`src/port/mod.rs`).
