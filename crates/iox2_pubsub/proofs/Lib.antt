@@ -16,3 +16,7 @@ pub mod UsedSlots
 pub mod HeldSlots
 pub mod PublisherChanges
 pub mod Messages
+pub mod Keys
+pub mod Changed
+pub mod Extensions
+pub mod SenderChanges

@@ -8,3 +8,4 @@ pub mod Placed
 pub mod Reaches
 pub mod Environments
 pub mod Handles
+pub mod Updates

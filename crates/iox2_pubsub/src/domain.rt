@@ -5,9 +5,11 @@ ghost use Rattle.iox2_store.specs.declared.service_config.TypeVariant.TheVariant
 ghost use Rattle.iox2_pubsub.specs.Shows.{Shows};
 
 mod places;
+mod keys;
 mod publisher_state;
 mod state;
 mod subscriber_state;
+mod warnings;
 
 use circular_buffer::HeapCircularBuffer;
 use iox2_store::{DomainCreateError, ServiceConfig, TypeVariant};
