@@ -4,8 +4,8 @@ ghost use Rattle.iox2_store.specs.State.{fresh, no_messages};
 ghost use Rattle.iox2_store.specs.declared.service_config.TypeVariant.TheVariants.{FixedSize};
 ghost use Rattle.iox2_pubsub.specs.Shows.{Shows};
 
-mod places;
 mod keys;
+mod places;
 mod publisher_state;
 mod state;
 mod subscriber_state;
