@@ -20,3 +20,9 @@ pub mod Keys
 pub mod Changed
 pub mod Extensions
 pub mod SenderChanges
+pub mod SubscribersDue
+pub mod MessageLists
+pub mod NewBook
+pub mod PublisherEntered
+pub mod PublisherEnteredAgrees
+pub mod PublisherAdmitted

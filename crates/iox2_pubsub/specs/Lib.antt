@@ -9,3 +9,4 @@ pub mod Reaches
 pub mod Environments
 pub mod Handles
 pub mod Updates
+pub mod NewPublisher
