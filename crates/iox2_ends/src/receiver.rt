@@ -113,6 +113,7 @@ pub fn take(connections: &mut Slab<Connection>, key: usize) -> usize
     requires ready { IsSomeAnd (get connections.old key) (λ c. IsTrue (can_borrow c)) }
     requires apart { IsApart connections.old }
     ensures takes { TakesSlot connections.old key result connections.new }
+    ensures waited { IsSomeAnd (get connections.old key) (λ c. Contains c.waiting result) }
     ensures homes { SameHomes connections.old connections.new }
     ensures others { KeepsOtherKeys key connections.old connections.new }
     ensures stands { SameStands connections.old connections.new }

@@ -9,6 +9,9 @@ pub mod ConnectionEnds
 pub mod SameEnds
 pub mod SenderEnds
 pub mod Reconnected
+pub mod Received
+pub mod NobodyGoes
+pub mod Released
 pub mod EnteredAgrees
 pub mod Admitted
 pub mod MapSteps
