@@ -29,3 +29,4 @@ pub mod NewBook
 pub mod PublisherEntered
 pub mod PublisherEnteredAgrees
 pub mod PublisherAdmitted
+pub mod SenderAgrees

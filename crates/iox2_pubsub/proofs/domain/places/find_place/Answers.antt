@@ -1,4 +1,4 @@
-use Rattle.std.proofs.Common.{below_more, arith, false, true, ◌≡◌, sym, ◌∙◌}
+use Rattle.std.proofs.Common.{below_more, arith, sym, ◌∙◌}
 use Rattle.std.proofs.lemmas.Bool.{true≢false}
 use Rattle.iox2_pubsub.proofs.FreePlaces.{look_up-nowhere}
 use Rattle.iox2_pubsub.proofs.domain.places.find_place.Goals as goal

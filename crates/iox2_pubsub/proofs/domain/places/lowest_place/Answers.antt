@@ -1,4 +1,4 @@
-use Rattle.std.proofs.Common.{◌≡◌, Bool, not, true, false, ap, arith, ◌∙◌, length, ◌≤◌, drop}
+use Rattle.std.proofs.Common.{◌≡◌, not, ap, arith, ◌∙◌, drop}
 use Rattle.std.proofs.lemmas.List.{drop_all}
 use Rattle.iox2_pubsub.specs.Placed.{lowest_empty}
 use Rattle.iox2_pubsub.proofs.FreePlaces.{lowest_empty-taken, lowest_empty-here}
