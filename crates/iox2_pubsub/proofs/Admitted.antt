@@ -16,7 +16,8 @@ use Rattle.iox2_pubsub.specs.Kept.{Named, state_of, ids}
 use Rattle.iox2_pubsub.specs.Fields.{Fields, kept_of, subscriber_of}
 use Rattle.iox2_pubsub.specs.Invariant.{IsDomain, HasSubscriberRoom}
 use Rattle.iox2_pubsub.proofs.Due.{with_publishers_due, publishers_due-are, publishers_due-agree}
-use Rattle.iox2_pubsub.proofs.Entered.{asked_for, with_entered, newcomer, entered-is}
+use Rattle.iox2_pubsub.specs.SubscriberEntry.{asked_for}
+use Rattle.iox2_pubsub.proofs.Entered.{with_entered, newcomer, entered-is}
 use Rattle.iox2_pubsub.proofs.EnteredAgrees.{entered-agrees}
 
 module _ {T U : Type 0} (f : Fields T U) where

@@ -7,9 +7,8 @@ use Rattle.std.specs.Option.{option_map}
 use Rattle.circular_buffer.specs.Buffer.{Buffer}
 use Rattle.iox2_store.specs.Numbers.{put_at}
 use Rattle.iox2_store.specs.Places.{set_place}
-use Rattle.iox2_store.specs.Records.{Subscriber, SubscriberSettings, Fixed}
+use Rattle.iox2_store.specs.Records.{Subscriber}
 use Rattle.iox2_store.specs.Ports.{new_subscriber, buffer_for}
-use Rattle.iox2_store.specs.declared.degradation.DegradationAction.TheVariants.{Warn}
 use Rattle.iox2_store.specs.declared.warning.Warning.{Warning}
 use Rattle.iox2_ends.specs.LookUp.{look_up, IsOnly}
 use Rattle.iox2_laws.proofs.PortLaws.{no_subscriber_yet}
@@ -19,12 +18,9 @@ use Rattle.iox2_pubsub.specs.Fields.{Fields, kept_of, subscriber_of}
 use Rattle.iox2_pubsub.specs.Invariant.{IsDomain, is_subscriber}
 use Rattle.iox2_pubsub.proofs.Containers.{look_up-map, look_up-written, IsOnly-inserted}
 use Rattle.iox2_pubsub.specs.Placed.{placed}
+use Rattle.iox2_pubsub.specs.SubscriberEntry.{asked_for}
 use Rattle.iox2_pubsub.proofs.Placed.{placed-here, placed-others, map-placed, placed-ids}
 use mathlib.Core.Path.{fun_ext}
-
--- the settings of a subscriber without a handler
-abbrev pub asked_for : (buffer_size : ℕ) → SubscriberSettings
-asked_for buffer_size = record { buffer_size = buffer_size; degradation_handler = Fixed Warn }
 
 module _ {T U : Type 0} (f : Fields T U) (sound : IsDomain f) (warnings : Buffer Warning) (place asked place_room expired_room : ℕ) (free : get_or f.subscribers place None ≡ None) where
   -- the subscriber that enters

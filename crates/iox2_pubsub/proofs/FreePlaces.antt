@@ -45,6 +45,11 @@ module _ {A : Type 0} where
   lowest_free-ids id (None ∷ xs) = refl
   lowest_free-ids id (Some x ∷ xs) = ap suc (lowest_free-ids id xs)
 
+  pub lowest_empty-map : {B : Type 0} (f : A → B) (xs : List (Option A)) → lowest_empty (map (option_map f) xs) ≡ lowest_empty xs
+  lowest_empty-map f [] = refl
+  lowest_empty-map f (None ∷ xs) = refl
+  lowest_empty-map f (Some x ∷ xs) = ap suc (lowest_empty-map f xs)
+
   -- ---- a list that grows
 
   pub placed-grown : (xs : List (Option A)) (place : ℕ) (x : A) → length xs ≤ place → placed (xs ++ None ∷ []) place x ≡ placed xs place x

@@ -30,3 +30,4 @@ pub mod PublisherEntered
 pub mod PublisherEnteredAgrees
 pub mod PublisherAdmitted
 pub mod SenderAgrees
+pub mod SubscriberEntries

@@ -10,3 +10,4 @@ pub mod Environments
 pub mod Handles
 pub mod Updates
 pub mod NewPublisher
+pub mod SubscriberEntry

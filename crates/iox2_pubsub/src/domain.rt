@@ -8,6 +8,7 @@ mod keys;
 mod places;
 mod publisher_state;
 mod state;
+mod subscriber_entry;
 mod subscriber_state;
 mod warnings;
 

@@ -1,0 +1,83 @@
+//! A subscriber enters a domain.
+ghost use Rattle.std.specs.Prelude.{◌≡◌, cond, nat_lt, MatchResult};
+ghost use Rattle.circular_buffer.specs.Buffer.{buffer};
+ghost use Rattle.iox2_store.specs.Limits.{warning_limit};
+ghost use Rattle.iox2_store.specs.Ports.{with_new_subscriber};
+ghost use Rattle.iox2_store.specs.State.{warned};
+ghost use Rattle.iox2_store.specs.declared.errors.SubscriberCreateError.TheVariants.{FailedToDeployThreadsafetyPolicy};
+ghost use Rattle.iox2_store.specs.declared.warning.Warning.TheVariants.{ExpiredBufferRaised};
+
+use crate::domain::places::{free_place, put_at_place};
+use crate::domain::publisher_state::make_all_due;
+use crate::domain::state::DomainState;
+use crate::domain::subscriber_state::SubscriberState;
+use crate::domain::warnings::warn;
+use circular_buffer::HeapCircularBuffer;
+use iox2_store::{ServiceConfig, SubscriberCreateError, UniqueSubscriberId, Warning};
+
+// It is warned where the setting for expired publishers is too small for what may be borrowed.
+fn warn_of_expired_buffer(
+    warnings: &mut HeapCircularBuffer<Warning>,
+    config: &ServiceConfig,
+    subscriber: UniqueSubscriberId,
+)
+    requires { warnings.old.capacity ≡ warning_limit }
+    ensures { warnings.new ≡ buffer (cond (nat_lt (config.now).subscriber_expired_connection_buffer (config.now).subscriber_max_borrowed_samples) (warned warnings.old.items (ExpiredBufferRaised subscriber)) warnings.old.items) warning_limit }
+{
+    if config.subscriber_expired_connection_buffer < config.subscriber_max_borrowed_samples {
+        warn(warnings, Warning::ExpiredBufferRaised { subscriber });
+    }
+}
+
+impl<T: Drop, U: Default + Drop> DomainState<T, U> {
+    ghost use Rattle.iox2_pubsub.specs.Kept.{state_of};
+    ghost use Rattle.iox2_pubsub.specs.Fields.{kept_of};
+    ghost use Rattle.iox2_pubsub.specs.Invariant.{IsDomain};
+    ghost use Rattle.iox2_pubsub.specs.Reaches.{Reaches};
+    ghost use Rattle.iox2_pubsub.specs.SubscriberEntry.{asked_for, place_for_subscriber};
+
+    /// The place for a subscriber that asks for a buffer of that size, or why it is refused.
+    pub(crate) fn place_for_subscriber(&self, asked: usize) -> Result<usize, SubscriberCreateError>
+        ensures { result ≡ place_for_subscriber self.now asked }
+    {
+        if self.next_port == u128::MAX {
+            return Err(SubscriberCreateError::UnableToCreatePortTag);
+        }
+        if asked.max(1) > self.config.subscriber_max_buffer_size.max(1) {
+            return Err(SubscriberCreateError::BufferSizeExceedsMaxSupportedBufferSizeOfService);
+        }
+        match free_place(&self.subscribers, self.config.max_subscribers) {
+            Some(place) => Ok(place),
+            None => Err(SubscriberCreateError::ExceedsMaxSupportedSubscribers),
+        }
+    }
+
+    /// A subscriber enters at the place that it has, and every publisher is due for an update.
+    ///
+    /// Where memory is refused nothing changes.
+    pub(crate) fn admit_subscriber(
+        &mut self,
+        place: usize,
+        asked: usize,
+    ) -> Result<(), SubscriberCreateError>
+        requires agrees { IsDomain self.old }
+        requires has_place { place_for_subscriber self.old asked ≡ Ok place }
+        ensures { MatchResult result
+            (λ _. Reaches self.old self.new (with_new_subscriber (state_of (kept_of self.old)) (asked_for asked) place))
+            (λ e. (self.new ≡ self.old) × (e ≡ FailedToDeployThreadsafetyPolicy)) }
+    {
+        let id = UniqueSubscriberId::new(self.next_port);
+        let entering = SubscriberState::new(self.alloc, &self.config, id, place, asked.max(1));
+        let Ok(subscriber) = entering else {
+            return Err(SubscriberCreateError::FailedToDeployThreadsafetyPolicy);
+        };
+        let Ok(()) = self.subscribers.try_reserve(1) else {
+            return Err(SubscriberCreateError::FailedToDeployThreadsafetyPolicy);
+        };
+        warn_of_expired_buffer(&mut self.warnings, &self.config, id);
+        make_all_due(&mut self.publishers);
+        put_at_place(&mut self.subscribers, place, subscriber);
+        self.next_port += 1;
+        Ok(())
+    }
+}
