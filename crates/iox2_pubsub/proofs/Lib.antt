@@ -31,3 +31,8 @@ pub mod PublisherEnteredAgrees
 pub mod PublisherAdmitted
 pub mod SenderAgrees
 pub mod SubscriberEntries
+pub mod Parts
+pub mod BookChanges
+pub mod HeldMessages
+pub mod Recounts
+pub mod RecountedState
