@@ -36,3 +36,4 @@ pub mod BookChanges
 pub mod HeldMessages
 pub mod Recounts
 pub mod RecountedState
+pub mod ReachesShows
