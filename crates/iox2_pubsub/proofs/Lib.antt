@@ -17,6 +17,11 @@ pub mod Admitted
 pub mod MapSteps
 pub mod UsedSlots
 pub mod HeldSlots
+pub mod Renumbered
+pub mod SetRecords
+pub mod Taken
+pub mod Granted
+pub mod GrantedAgrees
 pub mod PublisherChanges
 pub mod Messages
 pub mod Keys

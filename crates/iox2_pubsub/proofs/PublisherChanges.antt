@@ -1,5 +1,5 @@
 -- The record of one publisher changes at its place.
-use Rattle.std.proofs.Common.{◌≡◌, ◌≢◌, ℕ, zero, suc, ◌+◌, ◌≤◌, ◌<◌, List, [], ◌∷◌, map, Bool, true, false, cond, eqb, length, get_or, slice_set, refl, ap, sym, subst, ◌∙◌, inl, inr, ◌⊎◌, arith}
+use Rattle.std.proofs.Common.{◌≡◌, ◌≢◌, ℕ, zero, suc, ◌+◌, ◌≤◌, ◌<◌, List, [], ◌∷◌, map, Bool, true, false, cond, eqb, get_or, slice_set, refl, ap, sym, subst, ◌∙◌, inl, inr, ◌⊎◌, arith}
 use Rattle.std.proofs.lemmas.Bool.{cases_eq, eqb-true}
 use Rattle.std.specs.declared.option.Option.{Option}
 use Rattle.std.specs.declared.option.Option.TheVariants.{None, Some}
@@ -14,6 +14,8 @@ use Rattle.iox2_store.specs.Records.{Publisher}
 use Rattle.iox2_ends.specs.LookUp.{look_up, IsOnly}
 use Rattle.iox2_ends.specs.Counters.{times, stands}
 use Rattle.iox2_ends.specs.Homes.{IsSenderLinked}
+use Rattle.std.proofs.lemmas.List.{get_or-set_same, get_or-set_other, length-set}
+use Rattle.iox2_ends.proofs.MailboxChanges.{within_if_some}
 use Rattle.iox2_ends.proofs.LookUps.{look_up-changed, look_up-found}
 use Rattle.iox2_pubsub.specs.Ports.{PublisherFields}
 use Rattle.iox2_pubsub.specs.Kept.{Named, state_of, port_named, ids, is_named}
@@ -44,29 +46,6 @@ pub record KeepsSettings (x y : PublisherFields) : Type 0 where
 -- ---- lists with a record at each place
 
 module _ {A : Type 0} where
-  within : (xs : List (Option A)) (i : ℕ) (x : A) → get_or xs i None ≡ Some x → i < length xs
-  within [] zero x at = absurd cc
-  within [] (suc i) x at = absurd cc
-  within (y ∷ ys) zero x at = omega arith
-  within (y ∷ ys) (suc i) x at = let low = within ys i x at in omega arith
-
-  set-here : (xs : List (Option A)) (i : ℕ) (y : Option A) → i < length xs → get_or (slice_set xs i y) i None ≡ y
-  set-here [] i y lt = absurd (omega arith)
-  set-here (x ∷ xs) zero y lt = refl
-  set-here (x ∷ xs) (suc i) y lt = set-here xs i y (omega arith)
-
-  set-others : (xs : List (Option A)) (i k : ℕ) (y : Option A) → k ≢ i → get_or (slice_set xs i y) k None ≡ get_or xs k None
-  set-others [] i k y away = refl
-  set-others (x ∷ xs) zero zero y away = absurd (away refl)
-  set-others (x ∷ xs) zero (suc k) y away = refl
-  set-others (x ∷ xs) (suc i) zero y away = refl
-  set-others (x ∷ xs) (suc i) (suc k) y away = set-others xs i k y (λ e. away (ap suc e))
-
-  length-set : (xs : List (Option A)) (i : ℕ) (y : Option A) → length (slice_set xs i y) ≡ length xs
-  length-set [] i y = refl
-  length-set (x ∷ xs) zero y = refl
-  length-set (x ∷ xs) (suc i) y = ap suc (length-set xs i y)
-
   -- a view that doesn't tell the new record from the old one stays
   map-set : {B : Type 0} (g : A → B) (xs : List (Option A)) (i : ℕ) (x y : A) → get_or xs i None ≡ Some x → g y ≡ g x
       → map (option_map g) (slice_set xs i (Some y)) ≡ map (option_map g) xs
@@ -79,11 +58,11 @@ module _ {T U : Type 0} (f : Fields T U) (i : ℕ) (x y : PublisherFields) (at :
 
   -- the new record stands at the place
   pub changed-here : get_or (slice_set f.publishers i (Some y)) i None ≡ Some y
-  changed-here = set-here f.publishers i (Some y) (within f.publishers i x at)
+  changed-here = get_or-set_same f.publishers i (Some y) None (within_if_some f.publishers i x at)
 
   -- nobody else moves
   pub changed-others : (k : ℕ) → k ≢ i → get_or (slice_set f.publishers i (Some y)) k None ≡ get_or f.publishers k None
-  changed-others k away = set-others f.publishers i k (Some y) away
+  changed-others k away = get_or-set_other f.publishers i k (Some y) None away
 
   -- who stands at a place is the changed one, or stood there before
   pub changed-was : (k : ℕ) (z : PublisherFields) → get_or (slice_set f.publishers i (Some y)) k None ≡ Some z
