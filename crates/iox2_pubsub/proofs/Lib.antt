@@ -42,3 +42,4 @@ pub mod HeldMessages
 pub mod Recounts
 pub mod RecountedState
 pub mod ReachesShows
+pub mod LoanSlots

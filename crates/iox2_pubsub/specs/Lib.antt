@@ -11,3 +11,4 @@ pub mod Handles
 pub mod Updates
 pub mod NewPublisher
 pub mod SubscriberEntry
+pub mod LoanSlots

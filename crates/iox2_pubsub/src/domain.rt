@@ -5,6 +5,7 @@ ghost use Rattle.iox2_store.specs.declared.service_config.TypeVariant.TheVariant
 ghost use Rattle.iox2_pubsub.specs.Shows.{Shows};
 
 mod keys;
+mod loan_slots;
 mod places;
 mod publisher_state;
 mod state;
