@@ -43,3 +43,5 @@ pub mod Recounts
 pub mod RecountedState
 pub mod ReachesShows
 pub mod LoanSlots
+pub mod PublisherBooks
+pub mod Reclaims

@@ -8,6 +8,7 @@ mod keys;
 mod loan_slots;
 mod places;
 mod publisher_state;
+mod reclaims;
 mod state;
 mod subscriber_entry;
 mod subscriber_state;
