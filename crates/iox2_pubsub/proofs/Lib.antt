@@ -45,3 +45,4 @@ pub mod ReachesShows
 pub mod LoanSlots
 pub mod PublisherBooks
 pub mod Reclaims
+pub mod SlotChanges

@@ -1,9 +1,9 @@
 -- A step on the fields of a domain, seen from outside.
 use Rattle.std.proofs.Common.{◌≡◌, ℕ, ◌≤◌, refl, ap, sym, subst, ◌∙◌, arith}
 use Rattle.std.specs.declared.option.Option.TheVariants.{Some, None}
-use Rattle.iox2_store.specs.Records.{Entry, Loan}
+use Rattle.iox2_store.specs.Records.{Loan}
 use Rattle.iox2_store.specs.State.{State, Messages}
-use Rattle.iox2_pubsub.specs.Kept.{state_of, entries_of}
+use Rattle.iox2_pubsub.specs.Kept.{state_of}
 use Rattle.iox2_pubsub.specs.Fields.{Fields, kept_of}
 use Rattle.iox2_pubsub.specs.Invariant.{IsDomain}
 use Rattle.iox2_pubsub.specs.Reaches.{Reaches}

@@ -29,10 +29,10 @@ module _ {A : Type 0} (xs : List A) (slot : ℕ) (g : A → A) where
   abbrev changed_if : Option A → List A
   changed_if o = option_map_or (λ x. slice_set xs slot (g x)) o xs
 
-  with_changed-here : (x : A) → slice_get xs slot ≡ Some x → slot < length xs → slice_get (with_changed xs slot g) slot ≡ Some (g x)
+  pub with_changed-here : (x : A) → slice_get xs slot ≡ Some x → slot < length xs → slice_get (with_changed xs slot g) slot ≡ Some (g x)
   with_changed-here x at lt = ap (λ o. slice_get (changed_if o) slot) at ∙ slice_get-set_same xs slot (g x) lt
 
-  with_changed-others : (k : ℕ) → k ≢ slot → slice_get (with_changed xs slot g) k ≡ slice_get xs k
+  pub with_changed-others : (k : ℕ) → k ≢ slot → slice_get (with_changed xs slot g) k ≡ slice_get xs k
   with_changed-others k away = by (slice_get xs slot) where
     by : (o : Option A) → slice_get (changed_if o) k ≡ slice_get xs k
     by None = refl
