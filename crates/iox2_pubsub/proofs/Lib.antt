@@ -46,3 +46,4 @@ pub mod LoanSlots
 pub mod PublisherBooks
 pub mod Reclaims
 pub mod SlotChanges
+pub mod SubscriberCreations

@@ -9,6 +9,7 @@ use Rattle.iox2_pubsub.proofs.domain.state.DomainState.admit_subscriber.Goals as
 
 pub returns : goal.returns
 returns g c =
+    let all_due : c.make_all_due.new.publishers ≡ map (option_map due) c.self.inside.publishers.items = c.make_all_due.ensures ∙ ap (map (option_map due)) c.deref_mut.ensures.value in
     let size : c.max.result ≡ max 1 c.args.asked = grind (arith, c.max.ensures) in
     entered-reaches-as {T = g.row.T.Denot} {U = g.row.U.Denot} c.args.self.now c.args.asked _ _ c.self.view_is c.requires.agrees c.args.place c.in-Ok.subscriber
     c.warn_of_expired_buffer.new.warnings c.requires.has_place
@@ -22,7 +23,7 @@ returns g c =
       next_port = c.self.inside.next_port + 1;
       next_message = c.self.inside.next_message;
       warnings = c.warn_of_expired_buffer.new.warnings;
-      publishers = (with_items_is c.self.inside.publishers c.make_all_due.new.publishers (c.make_all_due.auto.publishers ∙ c.deref_mut.ensures.len) ∙ c.make_all_due.ensures ∙ ap (map (option_map due)) c.deref_mut.ensures.value) i;
+      publishers = (with_items_is c.self.inside.publishers c.make_all_due.new.publishers (c.make_all_due.auto.publishers ∙ c.deref_mut.ensures.len) ∙ all_due) i;
       subscribers = (c.put_at_place.ensures.items ∙ ap (λ ys. placed ys c.args.place c.in-Ok.subscriber) c.in-Ok-try_reserve.ensures.items) i;
       connections = c.self.inside.connections;
       books = c.self.inside.books;
