@@ -47,3 +47,4 @@ pub mod PublisherBooks
 pub mod Reclaims
 pub mod SlotChanges
 pub mod SubscriberCreations
+pub mod OpenPorts

@@ -3,6 +3,7 @@ use Rattle.std.specs.Prelude.{ℕ, true, false, ◌≡◌, IsTrue}
 use Rattle.std.specs.declared.option.Option.TheVariants.{Some}
 use Rattle.iox2_store.specs.Mailbox.{is_borrowed}
 use Rattle.iox2_store.specs.Records.{Loan}
+use Rattle.iox2_store.specs.declared.key.Key.{Key}
 use Rattle.iox2_store.specs.SingleCalls.{HoldsPublisher, HoldsSubscriber}
 use Rattle.iox2_pubsub.specs.Kept.{Kept, state_of}
 
@@ -14,6 +15,8 @@ module _ {T U : Type 0} (kept : Kept T U) (service_id : ℕ) where
   -- The domain has this number, and the subscriber wasn't closed.
   abbrev pub IsSubscriberHandle : (id : ℕ) → Type 0
   IsSubscriberHandle id = (service_id ≡ (kept.config).service_id) × HoldsSubscriber (state_of kept) id
+
+  -- ---- loans and samples
 
   -- The domain has this number, and the publisher's loan is out and not written.
   abbrev pub IsUnwrittenLoanHandle : (publisher number : ℕ) → Type 0
@@ -31,3 +34,12 @@ module _ {T U : Type 0} (kept : Kept T U) (service_id : ℕ) where
   abbrev pub IsSampleHandle : (subscriber publisher number : ℕ) → Type 0
   IsSampleHandle subscriber publisher number =
       (service_id ≡ (kept.config).service_id) × IsTrue (is_borrowed number ((state_of kept).mailboxes publisher subscriber))
+
+module _ {T U : Type 0} (kept : Kept T U) (key : Key) where
+  -- The key is that of a publisher's handle: no message stands in it.
+  abbrev pub IsPublisherKey : Type 0
+  IsPublisherKey = (key.message ≡ 0) × IsPublisherHandle kept key.service_id key.port
+
+  -- The key is that of a subscriber's handle: no message stands in it.
+  abbrev pub IsSubscriberKey : Type 0
+  IsSubscriberKey = (key.message ≡ 0) × IsSubscriberHandle kept key.service_id key.port

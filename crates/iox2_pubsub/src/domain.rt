@@ -6,6 +6,7 @@ ghost use Rattle.iox2_pubsub.specs.Shows.{Shows};
 
 mod keys;
 mod loan_slots;
+mod open_ports;
 mod places;
 mod publisher_state;
 mod reclaims;

@@ -2,7 +2,9 @@
 #![tactic(auto)]
 
 mod domain;
+mod subscriber;
 #[cfg(test)]
 mod tests;
 
 pub use domain::Domain;
+pub use subscriber::Subscriber;

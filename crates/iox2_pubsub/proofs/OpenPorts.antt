@@ -1,0 +1,46 @@
+-- The ports that weren't closed stand open at their places.
+use Rattle.std.proofs.Common.{◌≡◌, ℕ, List, true, get_or, ap, sym, subst, ◌∙◌}
+use Rattle.std.proofs.lemmas.List.{get_or_default}
+use Rattle.std.specs.declared.option.Option.{Option}
+use Rattle.std.specs.declared.option.Option.TheVariants.{None, Some}
+use Rattle.std.specs.Option.{option_map}
+use Rattle.iox2_store.specs.Records.{Subscriber}
+use Rattle.iox2_store.specs.SingleCalls.{HoldsSubscriber}
+use Rattle.iox2_ends.specs.LookUp.{look_up}
+use Rattle.iox2_ends.proofs.MailboxChanges.{within_if_some}
+use Rattle.iox2_pubsub.specs.Ports.{SubscriberFields}
+use Rattle.iox2_pubsub.specs.Kept.{Named, state_of, is_named}
+use Rattle.iox2_pubsub.specs.Fields.{Fields, kept_of, subscriber_of}
+use Rattle.iox2_pubsub.specs.Invariant.{IsDomain, is_subscriber}
+use Rattle.iox2_pubsub.proofs.Containers.{look_up-map}
+use Rattle.iox2_pubsub.proofs.ConnectionEnds.{subscriber-stands}
+
+module _ {T U : Type 0} (f : Fields T U) (id : ℕ) where
+  -- a subscriber that stands nowhere isn't held
+  pub absent-subscriber : look_up (is_subscriber id) f.subscribers ≡ None → HoldsSubscriber (state_of (kept_of f)) id → ⊥
+  absent-subscriber none has =
+      let gone : (state_of (kept_of f)).subscribers id ≡ None =
+      ap (option_map (λ (z : Named Subscriber). z.port))
+      (look_up-map (is_named id) (subscriber_of f.books f.connections) f.subscribers ∙ ap (option_map (subscriber_of f.books f.connections)) none) in
+      let clash : None ≡ Some has.0 = sym gone ∙ has.1 in
+      absurd cc
+
+  module _ (sound : IsDomain f) (i : ℕ) (y : SubscriberFields) (at : get_or f.subscribers i None ≡ Some y) (is : y.id ≡ id) where
+    stands : (state_of (kept_of f)).subscribers id ≡ Some ((subscriber_of f.books f.connections y).port)
+    stands = subst (λ (q : ℕ). (state_of (kept_of f)).subscribers q ≡ Some ((subscriber_of f.books f.connections y).port)) is (subscriber-stands f sound i y at)
+
+    -- one that stands somewhere is held where it is open
+    pub open-subscriber : y.is_open ≡ true → HoldsSubscriber (state_of (kept_of f)) id
+    open-subscriber open_ = ((subscriber_of f.books f.connections y).port, stands, open_)
+
+    pub subscriber-open : HoldsSubscriber (state_of (kept_of f)) id → y.is_open ≡ true
+    subscriber-open has =
+        let both : Some ((subscriber_of f.books f.connections y).port) ≡ Some has.0 = sym stands ∙ has.1 in
+        let same : (subscriber_of f.books f.connections y).port ≡ has.0 = cc in
+        ap (λ (z : Subscriber). z.is_open) same ∙ has.2
+
+-- what is read at a place stands there
+pub read-at : {A : Type 0} (xs : List (Option A)) (i : ℕ) (o : Option A) (x y : A) → get_or xs i None ≡ Some x → o ≡ get_or xs i o → o ≡ Some y → y ≡ x
+read-at xs i o x y at read is =
+    let same : Some y ≡ Some x = sym is ∙ read ∙ get_or_default xs i o None (within_if_some xs i x at) ∙ at in
+    cc

@@ -1,0 +1,25 @@
+//! The ports of a domain that weren't closed.
+ghost use Rattle.std.specs.Prelude.{◌↔◌, IsTrue};
+ghost use Rattle.iox2_store.specs.SingleCalls.{HoldsSubscriber};
+
+use crate::domain::state::DomainState;
+
+impl<T: Drop, U: Default + Drop> DomainState<T, U> {
+    ghost use Rattle.iox2_pubsub.specs.Kept.{state_of};
+    ghost use Rattle.iox2_pubsub.specs.Fields.{kept_of};
+    ghost use Rattle.iox2_pubsub.specs.Invariant.{IsDomain};
+
+    /// Whether a subscriber has this id and wasn't closed.
+    pub(crate) fn has_open_subscriber(&self, id: u128) -> bool
+        requires { IsDomain self.now }
+        ensures { IsTrue result ↔ HoldsSubscriber (state_of (kept_of self.now)) id }
+    {
+        let Some(place) = self.find_subscriber(id, 0) else {
+            return false;
+        };
+        match &self.subscribers[place] {
+            Some(subscriber) => subscriber.is_open,
+            None => false,
+        }
+    }
+}

@@ -1,0 +1,75 @@
+//! A subscriber.
+ghost use Rattle.std.specs.Prelude.{◌≡◌};
+
+use crate::domain::Domain;
+use iox2_store::{Key, UniqueSubscriberId};
+
+/// Receives the messages of every publisher of its domain. It is a value to be spent: the domain
+/// keeps the subscriber until that is closed.
+///
+/// iceoryx2's `port::subscriber::Subscriber` (`src/port/subscriber.rs`).
+pub struct Subscriber {
+    pub(crate) service_id: u128,
+    pub(crate) id: UniqueSubscriberId,
+    // Where the domain looks for it first.
+    pub(crate) place: usize,
+    pub(crate) buffer_size: usize,
+}
+
+impl Subscriber {
+    /// Names the subscriber among all ports of its domain.
+    ///
+    /// iceoryx2's `Subscriber::id` (`src/port/subscriber.rs`).
+    pub fn id(&self) -> UniqueSubscriberId
+        ensures { result ≡ self.now.id }
+    {
+        self.id
+    }
+
+    /// How many messages of one publisher may wait for the subscriber: 1 or more.
+    ///
+    /// iceoryx2's `Subscriber::buffer_size` (`src/port/subscriber.rs`).
+    pub fn buffer_size(&self) -> usize
+        ensures { result ≡ self.now.buffer_size }
+    {
+        self.buffer_size
+    }
+
+    /// Names the subscriber without being its handle. This library's own.
+    pub fn key(&self) -> Key
+        ensures { result ≡ record { service_id = self.now.service_id; port = self.now.id; message = 0 } }
+    {
+        Key {
+            service_id: self.service_id,
+            port: self.id.value(),
+            message: 0,
+        }
+    }
+
+    /// Spends the handle of a subscriber whose domain is gone. A domain that is still there isn't
+    /// told, and keeps the subscriber. This library's own.
+    pub fn disown(self) {
+        let Subscriber {
+            service_id: _,
+            id: _,
+            place: _,
+            buffer_size: _,
+        } = self;
+    }
+}
+
+impl<T: Drop, U: Default + Drop> Domain<T, U> {
+    ghost use Rattle.std.specs.Prelude.{IsTrue, ◌↔◌};
+    ghost use Rattle.iox2_pubsub.specs.Handles.{IsSubscriberKey};
+
+    /// Whether the key is that of a subscriber of this domain that wasn't closed. This library's
+    /// own.
+    pub fn holds_subscriber(&self, key: Key) -> bool
+        ensures { IsTrue result ↔ IsSubscriberKey self.now key }
+    {
+        if key.service_id != self.state.config.service_id || key.message != 0 {
+            return false;
+        }
+        self.state.has_open_subscriber(key.port)
+    }
+}
