@@ -12,6 +12,8 @@ pub mod Reconnected
 pub mod Received
 pub mod NobodyGoes
 pub mod Released
+pub mod ConnectionSlots
+pub mod SampleSlots
 pub mod EnteredAgrees
 pub mod Admitted
 pub mod MapSteps

@@ -6,6 +6,7 @@ pub mod Invariant
 pub mod FreshFields
 pub mod Placed
 pub mod Reaches
+pub mod SampleSlots
 pub mod Environments
 pub mod Handles
 pub mod Updates

@@ -10,6 +10,7 @@ mod open_ports;
 mod places;
 mod publisher_state;
 mod reclaims;
+mod sample_slots;
 mod state;
 mod subscriber_entry;
 mod subscriber_state;
