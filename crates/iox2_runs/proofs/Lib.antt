@@ -13,6 +13,7 @@ pub mod OrderReceives
 pub mod OrderCommands
 pub mod Order
 pub mod MailboxWalks
+pub mod PortsStay
 pub mod Traces
 pub mod Follows
 pub mod Owned

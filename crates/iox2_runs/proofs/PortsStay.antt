@@ -1,0 +1,263 @@
+-- Each operation but a close leaves ports there, and each but a receive and a release leaves borrowed what is, and nothing else.
+use Rattle.std.proofs.Common.{◌≡◌, ℕ, Bool, true, false, List, [], ◌∷◌, ◌++◌, refl, sym, ap, subst, ◌∙◌, Option, None, Some}
+use Rattle.std.specs.Prelude.{max, ◌==◌, nat_lt}
+use Rattle.std.specs.Option.{option_map}
+use Rattle.std.proofs.lemmas.Option.{same_Some}
+use Rattle.iox2_store.specs.Limits.{last_number, buffer_limit, expired_limit}
+use Rattle.iox2_store.specs.Numbers.{put_at, without, size, last_n}
+use Rattle.iox2_store.specs.Places.{free_place}
+use Rattle.iox2_store.specs.Mailbox.{Mailbox}
+use Rattle.iox2_store.specs.Records.{Loan, Publisher, Subscriber, Environment, PublisherSettings, SubscriberSettings}
+use Rattle.iox2_store.specs.State.{State, held, receiving_buffer, has_receiver_end, has_sender_end, with_loan, publisher_changed}
+use Rattle.iox2_store.specs.Delivery.{DeliveryEnd, Complete, Suspended, no_time}
+use Rattle.iox2_store.specs.PublisherUpdate.{sender_side, UpdatePublisher}
+use Rattle.iox2_store.specs.SubscriberUpdate.{receiver_side, UpdateSubscriber}
+use Rattle.iox2_store.specs.Loans.{GrantLoan, StaticLoan, DynamicLoan, limit_error, is_static, loan_granted, loan_discarded}
+use Rattle.iox2_store.specs.Sends.{Send, Publish, DeliverAndConclude, ConcludeSend, SendResult, Blocked_send, with_mailboxes, published}
+use Rattle.iox2_store.specs.Ports.{CreatePublisher, CreateSubscriber, MakePublisher, MakeSubscriber, with_new_publisher, with_new_subscriber, new_publisher, new_subscriber, with_failure_warning, first_segment_fits, buffer_for}
+use Rattle.std.specs.declared.time.Duration.{Duration}
+use Rattle.iox2_store.specs.declared.errors.ConnectionFailure.{ConnectionFailure}
+use Rattle.iox2_store.specs.declared.errors.LoanError.{LoanError}
+use Rattle.iox2_store.specs.declared.errors.LoanError.TheVariants.{OutOfMemory, ExceedsMaxLoans, ExceedsMaxLoanSize, InternalFailure}
+use Rattle.iox2_store.specs.declared.errors.PublisherCreateError.{PublisherCreateError}
+use Rattle.iox2_store.specs.declared.errors.SubscriberCreateError.{SubscriberCreateError}
+use Rattle.iox2_store.specs.declared.warning.Warning.{Warning}
+use Rattle.iox2_store.specs.declared.warning.Warning.TheVariants.{PublisherPartlyConnected, SubscriberPartlyConnected}
+use Rattle.iox2_laws.proofs.Cases.{by_option, by_bool}
+use Rattle.iox2_laws.proofs.Puts.{at_each}
+use Rattle.iox2_runs.proofs.MailboxWalks.{sender_side_keeps, receiver_side_keeps, deliver_keeps}
+
+-- Publishers stay, and no send of theirs is blocked where none was; open subscribers stay open; and what is borrowed is what was.
+pub record PortsStay {T U : Type 0} (s s' : State T U) : Type 0 where
+  pub config : s'.config ≡ s.config
+  pub publishers : (p : ℕ) (x : Publisher) → s.publishers p ≡ Some x → (x' : Publisher) × (s'.publishers p ≡ Some x') × (x.blocked ≡ None → x'.blocked ≡ None)
+  pub subscribers : (q : ℕ) (y : Subscriber) → s.subscribers q ≡ Some y → y.is_open ≡ true → (y' : Subscriber) × (s'.subscribers q ≡ Some y') × (y'.is_open ≡ true)
+  pub borrowed : (p q : ℕ) → (s'.mailboxes p q).borrowed ≡ (s.mailboxes p q).borrowed
+
+-- the mailbox has what was borrowed there
+abbrev SameBorrowed : (old : ℕ → Mailbox) → (i : ℕ) → Mailbox → Type 0
+SameBorrowed old i box = box.borrowed ≡ (old i).borrowed
+
+-- a publisher is set
+put_publisher : (publishers : ℕ → Option Publisher) (i : ℕ) (z : Publisher)
+    → ((x : Publisher) → publishers i ≡ Some x → x.blocked ≡ None → z.blocked ≡ None)
+    → (p : ℕ) (x : Publisher) → publishers p ≡ Some x
+    → (x' : Publisher) × (put_at publishers i (Some z) p ≡ Some x') × (x.blocked ≡ None → x'.blocked ≡ None)
+put_publisher publishers i z stays p x e =
+    at_each publishers i (Some z) (λ k v. publishers k ≡ Some x → (x' : Publisher) × (v ≡ Some x') × (x.blocked ≡ None → x'.blocked ≡ None)) p
+    (λ here old. (z, refl, stays x old)) (λ apart old. (x, old, λ free. free)) e
+
+-- the record that was there is this one
+same_publisher : (publishers : ℕ → Option Publisher) (i : ℕ) (x z : Publisher) → publishers i ≡ Some x → publishers i ≡ Some z → z.blocked ≡ None → x.blocked ≡ None
+same_publisher publishers i x z e f free = ap (λ (v : Publisher). v.blocked) (same_Some x z (sym e ∙ f)) ∙ free
+
+-- a subscriber that is as open as it was is set
+put_subscriber : (subscribers : ℕ → Option Subscriber) (i : ℕ) (z : Subscriber)
+    → ((y : Subscriber) → subscribers i ≡ Some y → y.is_open ≡ true → z.is_open ≡ true)
+    → (q : ℕ) (y : Subscriber) → subscribers q ≡ Some y → y.is_open ≡ true
+    → (y' : Subscriber) × (put_at subscribers i (Some z) q ≡ Some y') × (y'.is_open ≡ true)
+put_subscriber subscribers i z stays q y e o =
+    at_each subscribers i (Some z) (λ k v. subscribers k ≡ Some y → (y' : Subscriber) × (v ≡ Some y') × (y'.is_open ≡ true)) q
+    (λ here old. (z, refl, stays y old o)) (λ apart old. (y, old, o)) e
+
+module _ {T U : Type 0} where
+  pub ports_stay_themselves : (s : State T U) → PortsStay s s
+  ports_stay_themselves s = record { config = refl; publishers = λ p x e. (x, e, λ free. free); subscribers = λ q y e o. (y, e, o); borrowed = λ p q. refl }
+
+  pub ports_stay_trans : (s s' s'' : State T U) → PortsStay s s' → PortsStay s' s'' → PortsStay s s''
+  ports_stay_trans s s' s'' a b = record {
+    config = b.config ∙ a.config;
+    publishers = λ p x e. let v = a.publishers p x e in let u = b.publishers p v.0 v.1 in (u.0, u.1, λ free. u.2 (v.2 free));
+    subscribers = λ q y e o. let v = a.subscribers q y e o in b.subscribers q v.0 v.1 v.2;
+    borrowed = λ p q. b.borrowed p q ∙ a.borrowed p q;
+  }
+
+  -- ---- updates
+
+  pub update_publisher_stays : (environment : Environment) (s : State T U) (p : ℕ) (s' : State T U) (failure : Option ConnectionFailure)
+      → UpdatePublisher environment s p s' failure → PortsStay s s'
+  update_publisher_stays environment s p s' failure h =
+      by_option (PortsStay s s') (s.publishers p) _ _ h (λ _ v. absurd v) (λ x present h.
+      by_bool (PortsStay s s') x.is_due _ _ h
+      (λ _ h.
+      let are : (q : ℕ) → SameBorrowed (s.mailboxes p) q ((h.0).mailboxes q) =
+      sender_side_keeps (SameBorrowed (s.mailboxes p)) (λ i box same. same) environment (s.config).service_id p x.degradation_handler x.history
+      (receiving_buffer s) (has_receiver_end s p) (λ i buffer box same. same) s.subscriber_places (sender_side s p x) h.0 failure (λ i. refl) h.1 in
+      subst (PortsStay s) (sym h.2) (record {
+        config = refl;
+        publishers = put_publisher s.publishers p (record x { ends = (h.0).ends; is_due = false }) (λ z e. same_publisher s.publishers p x z present e);
+        subscribers = λ q y e o. (y, e, o);
+        borrowed = λ i q. at_each s.mailboxes p (h.0).mailboxes (λ i row. (row q).borrowed ≡ (s.mailboxes i q).borrowed) i (λ _. are q) (λ _. refl);
+      }))
+      (λ _ h. subst (PortsStay s) (sym h.0) (ports_stay_themselves s)))
+
+  pub update_subscriber_stays : (environment : Environment) (s : State T U) (q : ℕ) (s' : State T U) (failure : Option ConnectionFailure)
+      → UpdateSubscriber environment s q s' failure → PortsStay s s'
+  update_subscriber_stays environment s q s' failure h =
+      by_option (PortsStay s s') (s.subscribers q) _ _ h (λ _ v. absurd v) (λ y present h.
+      by_bool (PortsStay s s') y.is_due _ _ h
+      (λ _ h.
+      let are : (p : ℕ) → SameBorrowed (λ p. s.mailboxes p q) p ((h.0).mailboxes p) =
+      receiver_side_keeps (SameBorrowed (λ p. s.mailboxes p q)) (λ i box same. same) environment (s.config).service_id q y.degradation_handler (expired_limit s.config)
+      (λ p. has_sender_end s p q) s.publisher_places (receiver_side s q y) h.0 failure (λ i. refl) h.1 in
+      subst (PortsStay s) (sym h.2) (record {
+        config = refl;
+        publishers = λ p x e. (x, e, λ free. free);
+        subscribers = put_subscriber s.subscribers q (record y { ends = (h.0).ends; expired = (h.0).expired; is_due = (h.0).is_due })
+            (λ z e o. ap (λ (v : Subscriber). v.is_open) (same_Some y z (sym present ∙ e)) ∙ o);
+        borrowed = λ p i. at_each (s.mailboxes p) q ((h.0).mailboxes p) (λ i box. box.borrowed ≡ (s.mailboxes p i).borrowed) i (λ _. are p) (λ _. refl);
+      }))
+      (λ _ h. subst (PortsStay s) (sym h.0) (ports_stay_themselves s)))
+
+  -- ---- ports are made
+
+  warning_stays : (s : State T U) (warning : ConnectionFailure → Warning) (failure : Option ConnectionFailure) → PortsStay s (with_failure_warning s warning failure)
+  warning_stays s warning None = ports_stay_themselves s
+  warning_stays s warning (Some failure) = record { config = refl; publishers = λ p x e. (x, e, λ free. free); subscribers = λ q y e o. (y, e, o); borrowed = λ p q. refl }
+
+  new_publisher_stays : (s : State T U) (given : PublisherSettings) (place : ℕ) → PortsStay s (with_new_publisher s given place)
+  new_publisher_stays s given place = record {
+    config = refl;
+    publishers = put_publisher s.publishers s.next_port (new_publisher s given place) (λ x e free. refl);
+    subscribers = λ q y e o. (record y { is_due = true }, ap (option_map {T = Subscriber} (λ z. record z { is_due = true })) e, o);
+    borrowed = λ p q. refl;
+  }
+
+  new_subscriber_stays : (s : State T U) (given : SubscriberSettings) (place : ℕ) → PortsStay s (with_new_subscriber s given place)
+  new_subscriber_stays s given place = record {
+    config = refl;
+    publishers = λ p x e. (record x { is_due = true }, ap (option_map {T = Publisher} (λ z. record z { is_due = true })) e, λ free. free);
+    subscribers = put_subscriber s.subscribers s.next_port (new_subscriber given place) (λ y e o. refl);
+    borrowed = λ p q. refl;
+  }
+
+  pub create_publisher_stays : (environment : Environment) (s : State T U) (given : PublisherSettings) (s' : State T U) (refusal : Option PublisherCreateError)
+      → CreatePublisher environment s given s' refusal → PortsStay s s'
+  create_publisher_stays environment s given s' refusal h =
+      by_bool (PortsStay s s') (s.next_port == last_number) _ _ h (λ _ k. same k.0) (λ _ k.
+      by_option (PortsStay s s') (free_place (s.config).max_publishers s.publisher_places) _ _ k (λ _ j. same j.0) (λ place _ j.
+      by_bool (PortsStay s s') (first_segment_fits s.config given) _ _ j (λ _ i. made place refusal i) (λ _ i. same i.0)))
+    where
+      same : s' ≡ s → PortsStay s s'
+      same e = subst (PortsStay s) (sym e) (ports_stay_themselves s)
+
+      made : (place : ℕ) (refusal : Option PublisherCreateError) → MakePublisher environment s given place s' refusal → PortsStay s s'
+      made place None h =
+          let new : State T U = with_new_publisher s given place in
+          subst (PortsStay s) (sym h.3) (ports_stay_trans s new _ (new_publisher_stays s given place)
+          (ports_stay_trans new h.0 _ (update_publisher_stays environment new s.next_port h.0 h.1 h.2) (warning_stays h.0 (PublisherPartlyConnected s.next_port) h.1)))
+      made place (Some e) h = same h.1
+
+  pub create_subscriber_stays : (environment : Environment) (s : State T U) (given : SubscriberSettings) (s' : State T U) (refusal : Option SubscriberCreateError)
+      → CreateSubscriber environment s given s' refusal → PortsStay s s'
+  create_subscriber_stays environment s given s' refusal h =
+      by_bool (PortsStay s s') (s.next_port == last_number) _ _ h (λ _ k. same k.0) (λ _ k.
+      by_bool (PortsStay s s') (nat_lt (buffer_limit s.config) (buffer_for given)) _ _ k (λ _ j. same j.0) (λ _ j.
+      by_option (PortsStay s s') (free_place (s.config).max_subscribers s.subscriber_places) _ _ j (λ _ i. same i.0) (λ place _ i. made place refusal i)))
+    where
+      same : s' ≡ s → PortsStay s s'
+      same e = subst (PortsStay s) (sym e) (ports_stay_themselves s)
+
+      made : (place : ℕ) (refusal : Option SubscriberCreateError) → MakeSubscriber environment s given place s' refusal → PortsStay s s'
+      made place None h =
+          let new : State T U = with_new_subscriber s given place in
+          subst (PortsStay s) (sym h.3) (ports_stay_trans s new _ (new_subscriber_stays s given place)
+          (ports_stay_trans new h.0 _ (update_subscriber_stays environment new s.next_port h.0 h.1 h.2) (warning_stays h.0 (SubscriberPartlyConnected s.next_port) h.1)))
+      made place (Some e) h = same h.1
+
+  -- ---- loans
+
+  granted_stays : (default_header : U) (s : State T U) (p : ℕ) (x : Publisher) → s.publishers p ≡ Some x → (len segments : ℕ) → PortsStay s (loan_granted default_header s p x len segments)
+  granted_stays default_header s p x present len segments = record {
+    config = refl;
+    publishers = put_publisher s.publishers p (record x { loans = x.loans ++ s.next_message ∷ []; longest_granted = max x.longest_granted len; segments = segments }) (λ z e. same_publisher s.publishers p x z present e);
+    subscribers = λ q y e o. (y, e, o);
+    borrowed = λ p q. refl;
+  }
+
+  pub loan_set_stays : (s : State T U) (n : ℕ) (l : Option (Loan T U)) → PortsStay s (with_loan s n l)
+  loan_set_stays s n l = record { config = refl; publishers = λ p x e. (x, e, λ free. free); subscribers = λ q y e o. (y, e, o); borrowed = λ p q. refl }
+
+  -- a publisher that may be there is changed
+  pub publisher_changed_stays : (s : State T U) (i : ℕ) (f : Publisher → Publisher) → ((x : Publisher) → x.blocked ≡ None → (f x).blocked ≡ None) → PortsStay s (publisher_changed s i f)
+  publisher_changed_stays s i f stays = record {
+    config = refl;
+    publishers = λ p x e. at_each s.publishers i (option_map f (s.publishers i)) (λ k o. s.publishers k ≡ Some x → (x' : Publisher) × (o ≡ Some x') × (x.blocked ≡ None → x'.blocked ≡ None)) p
+        (λ here old. (f x, ap (option_map f) old, stays x)) (λ apart old. (x, old, λ free. free)) e;
+    subscribers = λ q y e o. (y, e, o);
+    borrowed = λ p q. refl;
+  }
+
+  -- ---- sends
+
+  concluded_stays : (s : State T U) (p n : ℕ) (how : DeliveryEnd) (s' : State T U) (result : SendResult) → (result ≡ Blocked_send → ⊥) → ConcludeSend s p n how s' result → PortsStay s s'
+  concluded_stays s p n (Complete count has_failed) s' result ends h =
+      subst (PortsStay s) (sym h.0) (publisher_changed_stays s p (λ x. record x { loans = without n x.loans; blocked = None }) (λ x free. refl))
+  concluded_stays s p n (Suspended b) s' result ends h = absurd (ends h.1)
+
+  pub delivered_stays : (environment : Environment) (s : State T U) (p n retries : ℕ) (elapsed : Duration) (place : ℕ) (ends : List (Option ℕ)) (count : ℕ)
+      (has_failed : Bool) (s' : State T U) (result : SendResult)
+      → DeliverAndConclude environment s p n retries elapsed place ends count has_failed s' result → (result ≡ Blocked_send → ⊥) → PortsStay s s'
+  delivered_stays environment s p n retries elapsed place ends count has_failed s' result h free =
+      by_option (PortsStay s s') (s.publishers p) _ _ h (λ _ v. absurd v) (λ x present h.
+      let are : (q : ℕ) → SameBorrowed (s.mailboxes p) q (h.1 q) =
+      (deliver_keeps (SameBorrowed (s.mailboxes p)) (λ i box same. same) environment s.config p x.backpressure_strategy x.backpressure_handler (receiving_buffer s) n
+      (λ i buffer box same. same) retries elapsed place ends count has_failed (s.mailboxes p) h.0 h.1 (λ q. refl) h.2).0 in
+      let mid : State T U = with_mailboxes s p h.1 in
+      let first : PortsStay s mid = record {
+        config = refl;
+        publishers = λ p x e. (x, e, λ free. free);
+        subscribers = λ q y e o. (y, e, o);
+        borrowed = λ i q. at_each s.mailboxes p h.1 (λ i row. (row q).borrowed ≡ (s.mailboxes i q).borrowed) i (λ _. are q) (λ _. refl);
+      } in
+      ports_stay_trans s mid s' first (concluded_stays mid p n h.0 s' result free h.3))
+
+  pub publish_stays : (environment : Environment) (s : State T U) (p n : ℕ) (s' : State T U) (result : SendResult) → Publish environment s p n s' result → (result ≡ Blocked_send → ⊥) → PortsStay s s'
+  publish_stays environment s p n s' result h free =
+      by_option (PortsStay s s') (s.publishers p) _ _ h (λ _ v. absurd v) (λ x present h.
+      let mid : State T U = published s p n in
+      let first : PortsStay s mid =
+      ports_stay_trans s (with_loan s n None) mid (loan_set_stays s n None)
+      (publisher_changed_stays (with_loan s n None) p (λ x. record x { history = last_n (s.config).history_size (x.history ++ n ∷ []) }) (λ x free. free)) in
+      ports_stay_trans s mid s' first (delivered_stays environment mid p n 0 no_time 0 x.ends 0 false s' result h free))
+
+  pub loan_discarded_stays : (s : State T U) (n : ℕ) (l : Loan T U) → PortsStay s (loan_discarded s n l)
+  loan_discarded_stays s n l =
+      ports_stay_trans s (with_loan s n None) (loan_discarded s n l) (loan_set_stays s n None)
+      (publisher_changed_stays (with_loan s n None) l.publisher (λ x. record x { loans = without n x.loans }) (λ x free. free))
+
+  pub send_stays : (environment : Environment) (s : State T U) (n : ℕ) (l : Loan T U) (s' : State T U) (result : SendResult) → Send environment s n l s' result → (result ≡ Blocked_send → ⊥) → PortsStay s s'
+  send_stays environment s n l s' result h free =
+      by_option (PortsStay s s') (s.publishers l.publisher) _ _ h
+      (λ _ k. subst (PortsStay s) (sym k.0) (loan_set_stays s n None))
+      (λ x _ k.
+      let first : PortsStay s k.0 = update_publisher_stays environment s l.publisher k.0 k.1 k.2 in
+      by_option (PortsStay s s') k.1 _ _ k.3
+      (λ _ j. ports_stay_trans s k.0 s' first (publish_stays environment k.0 l.publisher n s' result j free))
+      (λ e _ j. ports_stay_trans s k.0 s' first (subst (PortsStay k.0) (sym j.0) (loan_discarded_stays k.0 n l))))
+
+  -- ---- a loan is asked for
+
+  static_stays : (default_header : U) (s : State T U) (p : ℕ) (x : Publisher) → s.publishers p ≡ Some x → (len : ℕ) (s' : State T U) (refusal : Option LoanError)
+      → StaticLoan default_header s p x len s' refusal → PortsStay s s'
+  static_stays default_header s p x present len s' refusal h =
+      by_bool (PortsStay s s') (size (held s p x) == x.slots) _ _ h (λ _ k. subst (PortsStay s) (sym k.0) (ports_stay_themselves s)) (λ _ k.
+      by_bool (PortsStay s s') (s.next_message == last_number) _ _ k (λ _ j. subst (PortsStay s) (sym j.0) (ports_stay_themselves s))
+      (λ _ j. subst (PortsStay s) (sym j.0) (granted_stays default_header s p x present len x.segments)))
+
+  dynamic_stays : (environment : Environment) (default_header : U) (s : State T U) (p : ℕ) (x : Publisher) → s.publishers p ≡ Some x → (len : ℕ) (s' : State T U) (refusal : Option LoanError)
+      → DynamicLoan environment default_header s p x len s' refusal → PortsStay s s'
+  dynamic_stays environment default_header s p x present len s' None h = subst (PortsStay s) (sym h.4) (granted_stays default_header s p x present len h.2)
+  dynamic_stays environment default_header s p x present len s' (Some OutOfMemory) h = subst (PortsStay s) (sym h.0) (ports_stay_themselves s)
+  dynamic_stays environment default_header s p x present len s' (Some InternalFailure) h = subst (PortsStay s) (sym h.0) (ports_stay_themselves s)
+  dynamic_stays environment default_header s p x present len s' (Some ExceedsMaxLoans) h = absurd h
+  dynamic_stays environment default_header s p x present len s' (Some ExceedsMaxLoanSize) h = absurd h
+
+  pub grant_loan_stays : (environment : Environment) (default_header : U) (checks_length : Bool) (len : ℕ) (s : State T U) (p : ℕ) (s' : State T U) (refusal : Option LoanError)
+      → GrantLoan environment default_header checks_length len s p s' refusal → PortsStay s s'
+  grant_loan_stays environment default_header checks_length len s p s' refusal h =
+      by_option (PortsStay s s') (s.publishers p) _ _ h (λ _ v. absurd v) (λ x present k.
+      by_option (PortsStay s s') (limit_error checks_length x len) _ _ k
+      (λ _ j. by_bool (PortsStay s s') (is_static x.allocation_strategy) _ _ j
+      (λ _ i. static_stays default_header s p x present len s' refusal i) (λ _ i. dynamic_stays environment default_header s p x present len s' refusal i))
+      (λ limit _ j. subst (PortsStay s) (sym j.0) (ports_stay_themselves s)))
