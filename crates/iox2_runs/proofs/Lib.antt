@@ -14,6 +14,7 @@ pub mod OrderCommands
 pub mod Order
 pub mod MailboxWalks
 pub mod PortsStay
+pub mod TableSteps
 pub mod Traces
 pub mod Follows
 pub mod Owned

@@ -63,7 +63,7 @@ module _ {T U : Type 0} where
   sent-append p (Message_received p' q n ∷ xs) ys = sent-append p xs ys
 
   -- and so with what is received
-  received-append : (p q : ℕ) (xs ys : List (Event T U)) → received p q (xs ++ ys) ≡ received p q xs ++ received p q ys
+  pub received-append : (p q : ℕ) (xs ys : List (Event T U)) → received p q (xs ++ ys) ≡ received p q xs ++ received p q ys
   received-append p q [] ys = refl
   received-append p q (No_event ∷ xs) ys = received-append p q xs ys
   received-append p q (Message_sent p' n entry ∷ xs) ys = received-append p q xs ys

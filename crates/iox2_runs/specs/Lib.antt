@@ -2,6 +2,7 @@ pub mod Outcomes
 pub mod Step
 pub mod Runs
 pub mod StoredSteps
+pub mod Tables
 pub mod Fills
 pub mod FillingCommands
 pub mod Views

@@ -1,0 +1,106 @@
+-- What a run keeps of what its commands made, after one command more.
+use Rattle.std.proofs.Common.{◌≡◌, ℕ, zero, suc, ◌≤◌, ◌<◌, Bool, true, false, List, [], ◌∷◌, ◌++◌, length, refl, sym, ap, subst, ◌∙◌, eqb, Option, None, Some, ◌⊎◌, inl, inr, ⊎_elim, arith}
+use Rattle.std.specs.Prelude.{◌&&◌, slice_get}
+use Rattle.std.proofs.lemmas.Bool.{true≢false, eq-eqb}
+use Rattle.std.proofs.lemmas.Option.{none-some, same_Some, slice_get_within}
+use Rattle.iox2_store.specs.Numbers.{contains, IsOnce}
+use Rattle.iox2_store.specs.Mailbox.{is_borrowed}
+use Rattle.iox2_store.specs.Records.{Publisher, Subscriber}
+use Rattle.iox2_store.specs.State.{State}
+use Rattle.iox2_runs.specs.Outcomes.{Handle, No_handle, Publisher_handle, Subscriber_handle, Loan_handle, Blocked_handle, Sample_handle, Event, Message_received}
+use Rattle.iox2_runs.specs.Runs.{received}
+use Rattle.iox2_runs.specs.Tables.{Kept, Nothing_kept, Kept_publisher, Kept_subscriber, Kept_unwritten, Kept_written, Kept_sample, IsKept, IsTable}
+use Rattle.iox2_laws.proofs.NumberLemmas.{IsOnce-apart, contains_left, contains_right, contains_first}
+use Rattle.iox2_runs.proofs.Order.{received-append}
+
+-- a further element of a list is one of the old ones or the last
+pub old_or_last : {A : Type 0} (xs : List A) (x : A) (i : ℕ) (a : A) → slice_get (xs ++ x ∷ []) i ≡ Some a → (slice_get xs i ≡ Some a) ⊎ ((i ≡ length xs) × (x ≡ a))
+old_or_last [] x zero a e = inr (refl, same_Some x a e)
+old_or_last [] x (suc i) a e = absurd (none-some a e)
+old_or_last (y ∷ xs) x zero a e = inl e
+old_or_last (y ∷ xs) x (suc i) a e = ⊎_elim (λ old. inl old) (λ last. inr (ap suc last.0, last.1)) (old_or_last xs x i a e)
+
+longer : {A : Type 0} (xs : List A) (x : A) → length (xs ++ x ∷ []) ≡ suc (length xs)
+longer [] x = refl
+longer (y ∷ xs) x = ap suc (longer xs x)
+
+-- what was kept of a handle is still, where the ports stay and what it names too
+pub still_kept : {T U : Type 0} (s s' : State T U)
+    → ((p : ℕ) (x : Publisher) → s.publishers p ≡ Some x → (x' : Publisher) × (s'.publishers p ≡ Some x') × (x.blocked ≡ None → x'.blocked ≡ None))
+    → ((q : ℕ) (y : Subscriber) → s.subscribers q ≡ Some y → y.is_open ≡ true → (y' : Subscriber) × (s'.subscribers q ≡ Some y') × (y'.is_open ≡ true))
+    → (handle : Handle) (entry : Kept)
+    → ((n : ℕ) → handle ≡ Loan_handle n → s'.loans n ≡ s.loans n)
+    → ((p q n : ℕ) → handle ≡ Sample_handle p q n → is_borrowed n (s'.mailboxes p q) ≡ is_borrowed n (s.mailboxes p q))
+    → IsKept s handle entry → IsKept s' handle entry
+still_kept s s' publishers subscribers No_handle Nothing_kept loans samples h = h
+still_kept s s' publishers subscribers (Publisher_handle p) Nothing_kept loans samples h = h
+still_kept s s' publishers subscribers (Subscriber_handle q) Nothing_kept loans samples h = h
+still_kept s s' publishers subscribers (Loan_handle n) Nothing_kept loans samples h = loans n refl ∙ h
+still_kept s s' publishers subscribers (Blocked_handle p n) Nothing_kept loans samples h = h
+still_kept s s' publishers subscribers (Sample_handle p q n) Nothing_kept loans samples h = samples p q n refl ∙ h
+still_kept s s' publishers subscribers h0 (Kept_publisher p) loans samples h =
+    let v = publishers p h.1 h.2 in (h.0, v.0, v.1, v.2 h.3)
+still_kept s s' publishers subscribers h0 (Kept_subscriber q) loans samples h =
+    let v = subscribers q h.1 h.2 h.3 in (h.0, v.0, v.1, v.2)
+still_kept s s' publishers subscribers h0 (Kept_unwritten p n) loans samples h = (h.0, ((h.1).0, loans n h.0 ∙ (h.1).1, (h.1).2, (h.1).3))
+still_kept s s' publishers subscribers h0 (Kept_written p n) loans samples h = (h.0, ((h.1).0, loans n h.0 ∙ (h.1).1, (h.1).2, (h.1).3))
+still_kept s s' publishers subscribers h0 (Kept_sample p q n) loans samples h = (h.0, samples p q n h.0 ∙ h.1)
+
+module _ {T U : Type 0} (s s' : State T U) (handles : List Handle) (events : List (Event T U)) (table : List Kept) (w : IsTable s handles events table)
+    (handle : Handle) (event : Event T U) (entry : Kept) (table' : List Kept) where
+  -- the table has one entry more, and its old entries are kept still
+  pub table_next : s.next_message ≤ s'.next_message → length table' ≡ length table
+      → ((i : ℕ) (h : Handle) (e : Kept) → slice_get handles i ≡ Some h → slice_get table' i ≡ Some e → IsKept s' h e)
+      → IsKept s' handle entry
+      → ((n : ℕ) → handle ≡ Loan_handle n → (s.next_message ≤ n) × (n < s'.next_message))
+      → ((p q n : ℕ) → handle ≡ Sample_handle p q n → event ≡ Message_received p q n)
+      → ((p q : ℕ) → IsOnce (received p q (events ++ event ∷ [])))
+      → IsTable s' (handles ++ handle ∷ []) (events ++ event ∷ []) (table' ++ entry ∷ [])
+  table_next rises same_length old new new_loan new_sample once = record {
+    count = longer table' entry ∙ ap suc (same_length ∙ w.count) ∙ sym (longer handles handle);
+    kept = λ i h e at_h at_e. ⊎_elim
+        (λ in_handles. ⊎_elim (λ in_table. old i h e in_handles in_table)
+        (λ last. let low : i < length handles = slice_get_within handles i h in_handles in
+        let high : i ≡ length table' = last.0 in absurd (omega (arith, same_length, w.count)))
+        (old_or_last table' entry i e at_e))
+        (λ last. ⊎_elim
+        (λ in_table. let low : i < length table' = slice_get_within table' i e in_table in let high : i ≡ length handles = last.0 in absurd (omega (arith, same_length, w.count)))
+        (λ last_entry. subst (λ (v : Handle). IsKept s' v e) last.1 (subst (IsKept s' handle) last_entry.1 new))
+        (old_or_last table' entry i e at_e))
+        (old_or_last handles handle i h at_h);
+    loans_below = λ i n at. ⊎_elim (λ before. let low : n < s.next_message = w.loans_below i n before in omega (arith, rises)) (λ last. (new_loan n last.1).1) (old_or_last handles handle i (Loan_handle n) at);
+    loans_apart = λ i j n at_i at_j. apart_loans i j n (old_or_last handles handle i (Loan_handle n) at_i) (old_or_last handles handle j (Loan_handle n) at_j);
+    samples_received = λ i p q n at. ⊎_elim
+        (λ before. subst (λ ns. contains ns n ≡ true) (sym (received-append p q events (event ∷ []))) (contains_left (received p q events) (received p q (event ∷ [])) n (w.samples_received i p q n before)))
+        (λ last. was_received p q n (new_sample p q n last.1))
+        (old_or_last handles handle i (Sample_handle p q n) at);
+    samples_apart = λ i j p q n at_i at_j. apart_samples i j p q n (old_or_last handles handle i (Sample_handle p q n) at_i) (old_or_last handles handle j (Sample_handle p q n) at_j);
+  } where
+    apart_loans : (i j n : ℕ) → (slice_get handles i ≡ Some (Loan_handle n)) ⊎ ((i ≡ length handles) × (handle ≡ Loan_handle n))
+        → (slice_get handles j ≡ Some (Loan_handle n)) ⊎ ((j ≡ length handles) × (handle ≡ Loan_handle n)) → i ≡ j
+    apart_loans i j n (inl a) (inl b) = w.loans_apart i j n a b
+    apart_loans i j n (inl a) (inr b) = let low : n < s.next_message = w.loans_below i n a in let high : s.next_message ≤ n = (new_loan n b.1).0 in absurd (omega arith)
+    apart_loans i j n (inr a) (inl b) = let low : n < s.next_message = w.loans_below j n b in let high : s.next_message ≤ n = (new_loan n a.1).0 in absurd (omega arith)
+    apart_loans i j n (inr a) (inr b) = a.0 ∙ sym b.0
+
+    received_now : (p q n : ℕ) → event ≡ Message_received p q n → contains (received p q (event ∷ [])) n ≡ true
+    received_now p q n e =
+        subst (λ (v : Event T U). contains (received p q (v ∷ [])) n ≡ true) (sym e)
+        (rw (eq-eqb p p refl, eq-eqb q q refl) (contains_first n []))
+
+    was_received : (p q n : ℕ) → event ≡ Message_received p q n → contains (received p q (events ++ event ∷ [])) n ≡ true
+    was_received p q n e =
+        subst (λ ns. contains ns n ≡ true) (sym (received-append p q events (event ∷ []))) (contains_right (received p q events) (received p q (event ∷ [])) n (received_now p q n e))
+
+    twice : (i p q n : ℕ) → slice_get handles i ≡ Some (Sample_handle p q n) → handle ≡ Sample_handle p q n → ⊥
+    twice i p q n before now =
+        let apart : contains (received p q (event ∷ [])) n ≡ false =
+        IsOnce-apart (received p q events) (received p q (event ∷ [])) (subst IsOnce (received-append p q events (event ∷ [])) (once p q)) n (w.samples_received i p q n before) in
+        true≢false (sym (received_now p q n (new_sample p q n now)) ∙ apart)
+
+    apart_samples : (i j p q n : ℕ) → (slice_get handles i ≡ Some (Sample_handle p q n)) ⊎ ((i ≡ length handles) × (handle ≡ Sample_handle p q n))
+        → (slice_get handles j ≡ Some (Sample_handle p q n)) ⊎ ((j ≡ length handles) × (handle ≡ Sample_handle p q n)) → i ≡ j
+    apart_samples i j p q n (inl a) (inl b) = w.samples_apart i j p q n a b
+    apart_samples i j p q n (inl a) (inr b) = absurd (twice i p q n a b.1)
+    apart_samples i j p q n (inr a) (inl b) = absurd (twice j p q n b a.1)
+    apart_samples i j p q n (inr a) (inr b) = a.0 ∙ sym b.0
