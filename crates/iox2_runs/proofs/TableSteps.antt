@@ -1,12 +1,13 @@
 -- What a run keeps of what its commands made, after one command more.
-use Rattle.std.proofs.Common.{◌≡◌, ℕ, zero, suc, ◌≤◌, ◌<◌, Bool, true, false, List, [], ◌∷◌, ◌++◌, length, refl, sym, ap, subst, ◌∙◌, eqb, Option, None, Some, ◌⊎◌, inl, inr, ⊎_elim, arith}
-use Rattle.std.specs.Prelude.{◌&&◌, slice_get}
-use Rattle.std.proofs.lemmas.Bool.{true≢false, eq-eqb}
+use Rattle.std.proofs.Common.{◌≡◌, ℕ, zero, suc, ◌≤◌, ◌<◌, true, false, List, [], ◌∷◌, ◌++◌, length, refl, sym, ap, subst, ◌∙◌, None, Some, ◌⊎◌, inl, inr, ⊎_elim, arith}
+use Rattle.std.specs.Prelude.{◌≢◌, slice_get, slice_set}
+use Rattle.std.proofs.lemmas.Bool.{true≢false, eq-eqb, cases_eq}
 use Rattle.std.proofs.lemmas.Option.{none-some, same_Some, slice_get_within}
 use Rattle.iox2_store.specs.Numbers.{contains, IsOnce}
 use Rattle.iox2_store.specs.Mailbox.{is_borrowed}
 use Rattle.iox2_store.specs.Records.{Publisher, Subscriber}
 use Rattle.iox2_store.specs.State.{State}
+use Rattle.iox2_store.specs.declared.service_config.ServiceConfig.{ServiceConfig}
 use Rattle.iox2_runs.specs.Outcomes.{Handle, No_handle, Publisher_handle, Subscriber_handle, Loan_handle, Blocked_handle, Sample_handle, Event, Message_received}
 use Rattle.iox2_runs.specs.Runs.{received}
 use Rattle.iox2_runs.specs.Tables.{Kept, Nothing_kept, Kept_publisher, Kept_subscriber, Kept_unwritten, Kept_written, Kept_sample, IsKept, IsTable}
@@ -24,27 +25,46 @@ longer : {A : Type 0} (xs : List A) (x : A) → length (xs ++ x ∷ []) ≡ suc 
 longer [] x = refl
 longer (y ∷ xs) x = ap suc (longer xs x)
 
--- what was kept of a handle is still, where the ports stay and what it names too
-pub still_kept : {T U : Type 0} (s s' : State T U)
-    → ((p : ℕ) (x : Publisher) → s.publishers p ≡ Some x → (x' : Publisher) × (s'.publishers p ≡ Some x') × (x.blocked ≡ None → x'.blocked ≡ None))
-    → ((q : ℕ) (y : Subscriber) → s.subscribers q ≡ Some y → y.is_open ≡ true → (y' : Subscriber) × (s'.subscribers q ≡ Some y') × (y'.is_open ≡ true))
-    → (handle : Handle) (entry : Kept)
-    → ((n : ℕ) → handle ≡ Loan_handle n → s'.loans n ≡ s.loans n)
-    → ((p q n : ℕ) → handle ≡ Sample_handle p q n → is_borrowed n (s'.mailboxes p q) ≡ is_borrowed n (s.mailboxes p q))
-    → IsKept s handle entry → IsKept s' handle entry
-still_kept s s' publishers subscribers No_handle Nothing_kept loans samples h = h
-still_kept s s' publishers subscribers (Publisher_handle p) Nothing_kept loans samples h = h
-still_kept s s' publishers subscribers (Subscriber_handle q) Nothing_kept loans samples h = h
-still_kept s s' publishers subscribers (Loan_handle n) Nothing_kept loans samples h = loans n refl ∙ h
-still_kept s s' publishers subscribers (Blocked_handle p n) Nothing_kept loans samples h = h
-still_kept s s' publishers subscribers (Sample_handle p q n) Nothing_kept loans samples h = samples p q n refl ∙ h
-still_kept s s' publishers subscribers h0 (Kept_publisher p) loans samples h =
-    let v = publishers p h.1 h.2 in (h.0, v.0, v.1, v.2 h.3)
-still_kept s s' publishers subscribers h0 (Kept_subscriber q) loans samples h =
-    let v = subscribers q h.1 h.2 h.3 in (h.0, v.0, v.1, v.2)
-still_kept s s' publishers subscribers h0 (Kept_unwritten p n) loans samples h = (h.0, ((h.1).0, loans n h.0 ∙ (h.1).1, (h.1).2, (h.1).3))
-still_kept s s' publishers subscribers h0 (Kept_written p n) loans samples h = (h.0, ((h.1).0, loans n h.0 ∙ (h.1).1, (h.1).2, (h.1).3))
-still_kept s s' publishers subscribers h0 (Kept_sample p q n) loans samples h = (h.0, samples p q n h.0 ∙ h.1)
+-- Publishers and open subscribers remain.
+pub record Remain {T U : Type 0} (s s' : State T U) : Type 0 where
+  pub config : s'.config ≡ s.config
+  pub publishers : (p : ℕ) (x : Publisher) → s.publishers p ≡ Some x → (x' : Publisher) × (s'.publishers p ≡ Some x') × (x.blocked ≡ None → x'.blocked ≡ None)
+  pub subscribers : (q : ℕ) (y : Subscriber) → s.subscribers q ≡ Some y → y.is_open ≡ true → (y' : Subscriber) × (s'.subscribers q ≡ Some y') × (y'.is_open ≡ true)
+
+module _ {T U : Type 0} (s s' : State T U) (remain : Remain s s') where
+  same : {service : ℕ} → service ≡ (s.config).service_id → service ≡ (s'.config).service_id
+  same e = e ∙ sym (ap (λ (c : ServiceConfig). c.service_id) remain.config)
+
+  -- what was kept of a handle is still, where the ports remain and what it names does
+  pub still_kept : (handle : Handle) (entry : Kept)
+      → ((n : ℕ) → handle ≡ Loan_handle n → s'.loans n ≡ s.loans n)
+      → ((p q n : ℕ) → handle ≡ Sample_handle p q n → is_borrowed n (s'.mailboxes p q) ≡ is_borrowed n (s.mailboxes p q))
+      → IsKept s handle entry → IsKept s' handle entry
+  still_kept No_handle Nothing_kept loans samples h = h
+  still_kept (Publisher_handle p) Nothing_kept loans samples h = h
+  still_kept (Subscriber_handle q) Nothing_kept loans samples h = h
+  still_kept (Loan_handle n) Nothing_kept loans samples h = loans n refl ∙ h
+  still_kept (Blocked_handle p n) Nothing_kept loans samples h = h
+  still_kept (Sample_handle p q n) Nothing_kept loans samples h = samples p q n refl ∙ h
+  still_kept named (Kept_publisher service p) loans samples h =
+      let v = remain.publishers p h.2 h.3 in (same h.0, h.1, v.0, v.1, v.2 h.4)
+  still_kept named (Kept_subscriber service q) loans samples h =
+      let v = remain.subscribers q h.2 h.3 h.4 in (same h.0, h.1, v.0, v.1, v.2)
+  still_kept named (Kept_unwritten service p n) loans samples h = (same h.0, h.1, ((h.2).0, loans n h.1 ∙ (h.2).1, (h.2).2, (h.2).3))
+  still_kept named (Kept_written service p n) loans samples h = (same h.0, h.1, ((h.2).0, loans n h.1 ∙ (h.2).1, (h.2).2, (h.2).3))
+  still_kept named (Kept_sample service p q n) loans samples h = (same h.0, h.1, samples p q n h.1 ∙ h.2)
+
+set_here : {A : Type 0} (xs : List A) (i : ℕ) (x : A) → i < length xs → slice_get (slice_set xs i x) i ≡ Some x
+set_here [] i x low = absurd (omega arith)
+set_here (y ∷ xs) zero x low = refl
+set_here (y ∷ xs) (suc i) x low = set_here xs i x (omega arith)
+
+set_away : {A : Type 0} (xs : List A) (i : ℕ) (x : A) (k : ℕ) → k ≢ i → slice_get (slice_set xs i x) k ≡ slice_get xs k
+set_away [] i x k away = refl
+set_away (y ∷ xs) zero x zero away = absurd (away refl)
+set_away (y ∷ xs) zero x (suc k) away = refl
+set_away (y ∷ xs) (suc i) x zero away = refl
+set_away (y ∷ xs) (suc i) x (suc k) away = set_away xs i x k (λ e. away (ap suc e))
 
 module _ {T U : Type 0} (s s' : State T U) (handles : List Handle) (events : List (Event T U)) (table : List Kept) (w : IsTable s handles events table)
     (handle : Handle) (event : Event T U) (entry : Kept) (table' : List Kept) where
@@ -104,3 +124,33 @@ module _ {T U : Type 0} (s s' : State T U) (handles : List Handle) (events : Lis
     apart_samples i j p q n (inl a) (inr b) = absurd (twice i p q n a b.1)
     apart_samples i j p q n (inr a) (inl b) = absurd (twice j p q n b a.1)
     apart_samples i j p q n (inr a) (inr b) = a.0 ∙ sym b.0
+
+module _ {T U : Type 0} (s s' : State T U) (handles : List Handle) (events : List (Event T U)) (table : List Kept) (w : IsTable s handles events table) (remain : Remain s s') where
+  -- what is kept of every handle is still
+  pub all_still : ((n : ℕ) → n < s.next_message → s'.loans n ≡ s.loans n)
+      → ((i p q n : ℕ) → slice_get handles i ≡ Some (Sample_handle p q n) → is_borrowed n (s'.mailboxes p q) ≡ is_borrowed n (s.mailboxes p q))
+      → (i : ℕ) (h : Handle) (e : Kept) → slice_get handles i ≡ Some h → slice_get table i ≡ Some e → IsKept s' h e
+  all_still loans samples i h e at_h at_e =
+      still_kept s s' remain h e
+      (λ n is. loans n (w.loans_below i n (at_h ∙ ap Some is)))
+      (λ p q n is. samples i p q n (at_h ∙ ap Some is))
+      (w.kept i h e at_h at_e)
+
+  -- what is kept of every handle but one is still, and of that one it is this now
+  pub others_still : (of : ℕ) (named : Handle) (entry : Kept) → slice_get handles of ≡ Some named → IsKept s' named entry
+      → ((n : ℕ) → n < s.next_message → (named ≡ Loan_handle n → ⊥) → s'.loans n ≡ s.loans n)
+      → ((i p q n : ℕ) → slice_get handles i ≡ Some (Sample_handle p q n) → (named ≡ Sample_handle p q n → ⊥) → is_borrowed n (s'.mailboxes p q) ≡ is_borrowed n (s.mailboxes p q))
+      → (i : ℕ) (h : Handle) (e : Kept) → slice_get handles i ≡ Some h → slice_get (slice_set table of entry) i ≡ Some e → IsKept s' h e
+  others_still of named entry at_of now loans samples i h e at_h at_e = elim (cases_eq i of) [
+    | inl here ↦
+        let same_handle : named ≡ h = same_Some named h (sym at_of ∙ sym (ap (λ (k : ℕ). slice_get handles k) here) ∙ at_h) in
+        let same_entry : entry ≡ e = same_Some entry e (sym (set_here table of entry (in_table here at_h)) ∙ sym (ap (λ (k : ℕ). slice_get (slice_set table of entry) k) here) ∙ at_e) in
+        subst (λ (v : Handle). IsKept s' v e) same_handle (subst (IsKept s' named) same_entry now)
+    | inr away ↦
+        still_kept s s' remain h e
+        (λ n is. loans n (w.loans_below i n (at_h ∙ ap Some is)) (λ again. away (w.loans_apart i of n (at_h ∙ ap Some is) (at_of ∙ ap Some again))))
+        (λ p q n is. samples i p q n (at_h ∙ ap Some is) (λ again. away (w.samples_apart i of p q n (at_h ∙ ap Some is) (at_of ∙ ap Some again))))
+        (w.kept i h e at_h (sym (set_away table of entry i away) ∙ at_e))
+  ] where
+    in_table : i ≡ of → slice_get handles i ≡ Some h → of < length table
+    in_table here at = let low : i < length handles = slice_get_within handles i h at in omega (arith, here, w.count)

@@ -8,14 +8,14 @@ use Rattle.iox2_store.specs.State.{State}
 use Rattle.iox2_runs.specs.Outcomes.{Handle, No_handle, Publisher_handle, Subscriber_handle, Loan_handle, Blocked_handle, Sample_handle, Event}
 use Rattle.iox2_runs.specs.Runs.{received}
 
--- What a command made that is still in the run's hands.
+-- What a command made that is still in the run's hands, with the service's number.
 pub data Kept : Type 0 where
   Nothing_kept : Kept
-  Kept_publisher : (id : ℕ) → Kept
-  Kept_subscriber : (id : ℕ) → Kept
-  Kept_unwritten : (publisher message : ℕ) → Kept
-  Kept_written : (publisher message : ℕ) → Kept
-  Kept_sample : (publisher subscriber message : ℕ) → Kept
+  Kept_publisher : (service id : ℕ) → Kept
+  Kept_subscriber : (service id : ℕ) → Kept
+  Kept_unwritten : (service publisher message : ℕ) → Kept
+  Kept_written : (service publisher message : ℕ) → Kept
+  Kept_sample : (service publisher subscriber message : ℕ) → Kept
 
 module _ {T U : Type 0} (s : State T U) where
   -- The handle names nothing live.
@@ -31,14 +31,17 @@ module _ {T U : Type 0} (s : State T U) where
   abbrev pub HasLoan : (p n : ℕ) → (is_written : Bool) → Type 0
   HasLoan p n is_written = (l : Loan T U) × (s.loans n ≡ Some l) × (l.publisher ≡ p) × (l.is_written ≡ is_written)
 
-  -- What is kept is what the handle names, and it is live.
+  -- What is kept is what the handle names in this service, and it is live.
   abbrev pub IsKept : Handle → Kept → Type 0
   IsKept handle Nothing_kept = IsSpent handle
-  IsKept handle (Kept_publisher p) = (handle ≡ Publisher_handle p) × (x : Publisher) × (s.publishers p ≡ Some x) × (x.blocked ≡ None)
-  IsKept handle (Kept_subscriber q) = (handle ≡ Subscriber_handle q) × (y : Subscriber) × (s.subscribers q ≡ Some y) × (y.is_open ≡ true)
-  IsKept handle (Kept_unwritten p n) = (handle ≡ Loan_handle n) × HasLoan p n false
-  IsKept handle (Kept_written p n) = (handle ≡ Loan_handle n) × HasLoan p n true
-  IsKept handle (Kept_sample p q n) = (handle ≡ Sample_handle p q n) × (is_borrowed n (s.mailboxes p q) ≡ true)
+  IsKept handle (Kept_publisher service p) =
+      (service ≡ (s.config).service_id) × (handle ≡ Publisher_handle p) × (x : Publisher) × (s.publishers p ≡ Some x) × (x.blocked ≡ None)
+  IsKept handle (Kept_subscriber service q) =
+      (service ≡ (s.config).service_id) × (handle ≡ Subscriber_handle q) × (y : Subscriber) × (s.subscribers q ≡ Some y) × (y.is_open ≡ true)
+  IsKept handle (Kept_unwritten service p n) = (service ≡ (s.config).service_id) × (handle ≡ Loan_handle n) × HasLoan p n false
+  IsKept handle (Kept_written service p n) = (service ≡ (s.config).service_id) × (handle ≡ Loan_handle n) × HasLoan p n true
+  IsKept handle (Kept_sample service p q n) =
+      (service ≡ (s.config).service_id) × (handle ≡ Sample_handle p q n) × (is_borrowed n (s.mailboxes p q) ≡ true)
 
 -- A run has kept of each command what its handle names while that is live. No loan and no sample has two handles.
 pub record IsTable {T U : Type 0} (s : State T U) (handles : List Handle) (events : List (Event T U)) (table : List Kept) : Type 0 where
