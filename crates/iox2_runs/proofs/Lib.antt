@@ -15,6 +15,7 @@ pub mod Order
 pub mod MailboxWalks
 pub mod PortsStay
 pub mod TableSteps
+pub mod TableLooks
 pub mod Traces
 pub mod Follows
 pub mod Owned

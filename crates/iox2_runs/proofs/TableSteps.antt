@@ -1,5 +1,5 @@
 -- What a run keeps of what its commands made, after one command more.
-use Rattle.std.proofs.Common.{◌≡◌, ℕ, zero, suc, ◌≤◌, ◌<◌, true, false, List, [], ◌∷◌, ◌++◌, length, refl, sym, ap, subst, ◌∙◌, None, Some, ◌⊎◌, inl, inr, ⊎_elim, arith}
+use Rattle.std.proofs.Common.{◌≡◌, ℕ, Bool, zero, suc, ◌≤◌, ◌<◌, true, false, List, [], ◌∷◌, ◌++◌, length, refl, sym, ap, subst, ◌∙◌, None, Some, ◌⊎◌, inl, inr, ⊎_elim, arith}
 use Rattle.std.specs.Prelude.{◌≢◌, slice_get, slice_set}
 use Rattle.std.proofs.lemmas.Bool.{true≢false, eq-eqb, cases_eq}
 use Rattle.std.proofs.lemmas.Option.{none-some, same_Some, slice_get_within}
@@ -10,7 +10,7 @@ use Rattle.iox2_store.specs.State.{State}
 use Rattle.iox2_store.specs.declared.service_config.ServiceConfig.{ServiceConfig}
 use Rattle.iox2_runs.specs.Outcomes.{Handle, No_handle, Publisher_handle, Subscriber_handle, Loan_handle, Blocked_handle, Sample_handle, Event, Message_received}
 use Rattle.iox2_runs.specs.Runs.{received}
-use Rattle.iox2_runs.specs.Tables.{Kept, Nothing_kept, Kept_publisher, Kept_subscriber, Kept_unwritten, Kept_written, Kept_sample, IsKept, IsTable}
+use Rattle.iox2_runs.specs.Tables.{Kept, Nothing_kept, Kept_publisher, Kept_subscriber, Kept_unwritten, Kept_written, Kept_sample, IsFree, HasLoan, IsSingle, IsKept, IsTable}
 use Rattle.iox2_laws.proofs.NumberLemmas.{IsOnce-apart, contains_left, contains_right, contains_first}
 use Rattle.iox2_runs.proofs.Order.{received-append}
 
@@ -35,6 +35,15 @@ module _ {T U : Type 0} (s s' : State T U) (remain : Remain s s') where
   same : {service : ℕ} → service ≡ (s.config).service_id → service ≡ (s'.config).service_id
   same e = e ∙ sym (ap (λ (c : ServiceConfig). c.service_id) remain.config)
 
+  single : IsSingle s → IsSingle s'
+  single h = (ap (λ (c : ServiceConfig). c.variant) remain.config ∙ h.0, ap (λ (c : ServiceConfig). c.units_per_element) remain.config ∙ h.1)
+
+  free : {p : ℕ} → IsFree s p → IsFree s' p
+  free {p} h = let v = remain.publishers p h.0 h.1 in (v.0, v.1, v.2 h.2)
+
+  loan : {p n : ℕ} {is_written : Bool} → s'.loans n ≡ s.loans n → HasLoan s p n is_written → HasLoan s' p n is_written
+  loan e h = (((h.0).0, e ∙ (h.0).1, (h.0).2, (h.0).3), free h.1)
+
   -- what was kept of a handle is still, where the ports remain and what it names does
   pub still_kept : (handle : Handle) (entry : Kept)
       → ((n : ℕ) → handle ≡ Loan_handle n → s'.loans n ≡ s.loans n)
@@ -47,12 +56,12 @@ module _ {T U : Type 0} (s s' : State T U) (remain : Remain s s') where
   still_kept (Blocked_handle p n) Nothing_kept loans samples h = h
   still_kept (Sample_handle p q n) Nothing_kept loans samples h = samples p q n refl ∙ h
   still_kept named (Kept_publisher service p) loans samples h =
-      let v = remain.publishers p h.2 h.3 in (same h.0, h.1, v.0, v.1, v.2 h.4)
+      (same h.0, h.1, free h.2)
   still_kept named (Kept_subscriber service q) loans samples h =
       let v = remain.subscribers q h.2 h.3 h.4 in (same h.0, h.1, v.0, v.1, v.2)
-  still_kept named (Kept_unwritten service p n) loans samples h = (same h.0, h.1, ((h.2).0, loans n h.1 ∙ (h.2).1, (h.2).2, (h.2).3))
-  still_kept named (Kept_written service p n) loans samples h = (same h.0, h.1, ((h.2).0, loans n h.1 ∙ (h.2).1, (h.2).2, (h.2).3))
-  still_kept named (Kept_sample service p q n) loans samples h = (same h.0, h.1, samples p q n h.1 ∙ h.2)
+  still_kept named (Kept_unwritten service p n) loans samples h = (same h.0, h.1, loan (loans n h.1) h.2, single h.3)
+  still_kept named (Kept_written service p n) loans samples h = (same h.0, h.1, loan (loans n h.1) h.2, single h.3)
+  still_kept named (Kept_sample service p q n) loans samples h = (same h.0, h.1, samples p q n h.1 ∙ h.2, single h.3)
 
 set_here : {A : Type 0} (xs : List A) (i : ℕ) (x : A) → i < length xs → slice_get (slice_set xs i x) i ≡ Some x
 set_here [] i x low = absurd (omega arith)

@@ -5,6 +5,7 @@ use Rattle.iox2_store.specs.Numbers.{contains}
 use Rattle.iox2_store.specs.Mailbox.{is_borrowed}
 use Rattle.iox2_store.specs.Records.{Loan, Publisher, Subscriber}
 use Rattle.iox2_store.specs.State.{State}
+use Rattle.iox2_store.specs.declared.service_config.TypeVariant.TheVariants.{FixedSize}
 use Rattle.iox2_runs.specs.Outcomes.{Handle, No_handle, Publisher_handle, Subscriber_handle, Loan_handle, Blocked_handle, Sample_handle, Event}
 use Rattle.iox2_runs.specs.Runs.{received}
 
@@ -27,21 +28,29 @@ module _ {T U : Type 0} (s : State T U) where
   IsSpent (Blocked_handle p n) = ⊥
   IsSpent (Sample_handle p q n) = is_borrowed n (s.mailboxes p q) ≡ false
 
-  -- The publisher has the loan n, which is written or not.
+  -- The publisher is there, and no send of it is blocked.
+  abbrev pub IsFree : (p : ℕ) → Type 0
+  IsFree p = (x : Publisher) × (s.publishers p ≡ Some x) × (x.blocked ≡ None)
+
+  -- The publisher, of which no send is blocked, has the loan n, which is written or not.
   abbrev pub HasLoan : (p n : ℕ) → (is_written : Bool) → Type 0
-  HasLoan p n is_written = (l : Loan T U) × (s.loans n ≡ Some l) × (l.publisher ≡ p) × (l.is_written ≡ is_written)
+  HasLoan p n is_written = ((l : Loan T U) × (s.loans n ≡ Some l) × (l.publisher ≡ p) × (l.is_written ≡ is_written)) × IsFree p
+
+  -- Messages are single values of one unit.
+  abbrev pub IsSingle : Type 0
+  IsSingle = ((s.config).variant ≡ FixedSize) × ((s.config).units_per_element ≡ 1)
 
   -- What is kept is what the handle names in this service, and it is live.
   abbrev pub IsKept : Handle → Kept → Type 0
   IsKept handle Nothing_kept = IsSpent handle
   IsKept handle (Kept_publisher service p) =
-      (service ≡ (s.config).service_id) × (handle ≡ Publisher_handle p) × (x : Publisher) × (s.publishers p ≡ Some x) × (x.blocked ≡ None)
+      (service ≡ (s.config).service_id) × (handle ≡ Publisher_handle p) × IsFree p
   IsKept handle (Kept_subscriber service q) =
       (service ≡ (s.config).service_id) × (handle ≡ Subscriber_handle q) × (y : Subscriber) × (s.subscribers q ≡ Some y) × (y.is_open ≡ true)
-  IsKept handle (Kept_unwritten service p n) = (service ≡ (s.config).service_id) × (handle ≡ Loan_handle n) × HasLoan p n false
-  IsKept handle (Kept_written service p n) = (service ≡ (s.config).service_id) × (handle ≡ Loan_handle n) × HasLoan p n true
+  IsKept handle (Kept_unwritten service p n) = (service ≡ (s.config).service_id) × (handle ≡ Loan_handle n) × HasLoan p n false × IsSingle
+  IsKept handle (Kept_written service p n) = (service ≡ (s.config).service_id) × (handle ≡ Loan_handle n) × HasLoan p n true × IsSingle
   IsKept handle (Kept_sample service p q n) =
-      (service ≡ (s.config).service_id) × (handle ≡ Sample_handle p q n) × (is_borrowed n (s.mailboxes p q) ≡ true)
+      (service ≡ (s.config).service_id) × (handle ≡ Sample_handle p q n) × (is_borrowed n (s.mailboxes p q) ≡ true) × IsSingle
 
 -- A run has kept of each command what its handle names while that is live. No loan and no sample has two handles.
 pub record IsTable {T U : Type 0} (s : State T U) (handles : List Handle) (events : List (Event T U)) (table : List Kept) : Type 0 where

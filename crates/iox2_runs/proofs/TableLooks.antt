@@ -1,0 +1,290 @@
+-- What a position of a run's table names.
+use Rattle.std.proofs.Common.{◌≡◌, ℕ, zero, suc, Bool, [], ◌∷◌, true, false, cond, List, length, refl, sym, ap, ◌∙◌, Option, None, Some, is_none, is_some, arith}
+use Rattle.std.specs.Prelude.{slice_get}
+use Rattle.std.specs.Option.{option_and_then, option_map, option_map_or}
+use Rattle.std.proofs.lemmas.Bool.{true≢false}
+use Rattle.std.proofs.lemmas.Option.{none-some}
+use Rattle.iox2_store.specs.Mailbox.{is_borrowed}
+use Rattle.iox2_store.specs.Records.{Loan, Publisher, Subscriber, BlockedSend}
+use Rattle.iox2_store.specs.State.{State, is_blocked}
+use Rattle.iox2_runs.specs.Outcomes.{Handle, No_handle, Publisher_handle, Subscriber_handle, Loan_handle, Blocked_handle, Sample_handle, Event}
+use Rattle.iox2_runs.specs.Step.{unblocked_at, subscriber_at, loan_at, unwritten_at, written_at, sendable_at, sample_at}
+use Rattle.iox2_runs.specs.Tables.{Kept, Nothing_kept, Kept_publisher, Kept_subscriber, Kept_unwritten, Kept_written, Kept_sample, IsFree, HasLoan, IsKept, IsTable}
+
+-- What kind of thing is kept.
+abbrev pub is_publisher : Kept → Bool
+is_publisher (Kept_publisher service p) = true
+is_publisher _ = false
+
+abbrev pub is_subscriber : Kept → Bool
+is_subscriber (Kept_subscriber service q) = true
+is_subscriber _ = false
+
+abbrev pub is_unwritten : Kept → Bool
+is_unwritten (Kept_unwritten service p n) = true
+is_unwritten _ = false
+
+abbrev pub is_written : Kept → Bool
+is_written (Kept_written service p n) = true
+is_written _ = false
+
+abbrev pub is_sample : Kept → Bool
+is_sample (Kept_sample service p q n) = true
+is_sample _ = false
+
+abbrev pub is_loan : Kept → Bool
+is_loan (Kept_unwritten service p n) = true
+is_loan (Kept_written service p n) = true
+is_loan _ = false
+
+-- the position is past the end, or something of another kind is kept there
+abbrev pub Lacks : (kind : Kept → Bool) → List Kept → (of : ℕ) → Type 0
+Lacks kind table of = option_map_or kind (slice_get table of) false ≡ false
+
+-- of two lists of one length, one has an element where the other has one
+matched : {A B : Type 0} (xs : List A) (ys : List B) (i : ℕ) (x : A) → length xs ≡ length ys → slice_get xs i ≡ Some x → (y : B) × (slice_get ys i ≡ Some y)
+matched [] ys i x e at = absurd (none-some x at)
+matched (x0 ∷ xs) [] i x e at = absurd (omega arith)
+matched (x0 ∷ xs) (y ∷ ys) zero x e at = (y, refl)
+matched (x0 ∷ xs) (y ∷ ys) (suc i) x e at = matched xs ys i x (omega arith) at
+
+-- and none where the other has none
+unmatched : {A B : Type 0} (xs : List A) (ys : List B) (i : ℕ) → length xs ≡ length ys → slice_get xs i ≡ None → slice_get ys i ≡ None
+unmatched [] [] i e at = refl
+unmatched [] (y ∷ ys) i e at = absurd (omega arith)
+unmatched (x ∷ xs) [] i e at = refl
+unmatched (x ∷ xs) (y ∷ ys) zero e at = absurd (none-some x (sym at))
+unmatched (x ∷ xs) (y ∷ ys) (suc i) e at = unmatched xs ys i (omega arith) at
+
+module _ {T U : Type 0} (s : State T U) where
+  -- ---- of one handle, nothing of a kind
+
+  -- what a publisher's handle names
+  abbrev PublisherOf : Handle → Option (ℕ × Publisher)
+  PublisherOf h = elim (Some h) [ Some (Publisher_handle p) ↦ option_map {U = ℕ × Publisher} (λ x. (p, x)) (s.publishers p) | _ ↦ None ]
+
+  -- what a subscriber's handle names
+  abbrev SubscriberOf : Handle → Option (ℕ × Subscriber)
+  SubscriberOf h =
+      elim (Some h) [ Some (Subscriber_handle q) ↦ option_and_then {U = ℕ × Subscriber} (λ y. cond y.is_open (Some (q, y)) None) (s.subscribers q) | _ ↦ None ]
+
+  no_publisher : (h : Handle) (e : Kept) → IsKept s h e → is_publisher e ≡ false
+      → PublisherOf h ≡ None
+  no_publisher (Publisher_handle p) Nothing_kept k other = absurd k
+  no_publisher (Publisher_handle p) (Kept_publisher service p') k other = absurd (true≢false other)
+  no_publisher (Publisher_handle p) (Kept_subscriber service q) k other = let clash : Publisher_handle p ≡ Subscriber_handle q = k.1 in absurd (cc)
+  no_publisher (Publisher_handle p) (Kept_unwritten service p' n) k other = let clash : Publisher_handle p ≡ Loan_handle n = k.1 in absurd (cc)
+  no_publisher (Publisher_handle p) (Kept_written service p' n) k other = let clash : Publisher_handle p ≡ Loan_handle n = k.1 in absurd (cc)
+  no_publisher (Publisher_handle p) (Kept_sample service p' q n) k other = let clash : Publisher_handle p ≡ Sample_handle p' q n = k.1 in absurd (cc)
+  no_publisher No_handle e k other = refl
+  no_publisher (Subscriber_handle q) e k other = refl
+  no_publisher (Loan_handle n) e k other = refl
+  no_publisher (Blocked_handle p n) e k other = refl
+  no_publisher (Sample_handle p q n) e k other = refl
+
+  no_subscriber : (h : Handle) (e : Kept) → IsKept s h e → is_subscriber e ≡ false
+      → SubscriberOf h ≡ None
+  no_subscriber (Subscriber_handle q) Nothing_kept k other = absurd k
+  no_subscriber (Subscriber_handle q) (Kept_publisher service p) k other = let clash : Subscriber_handle q ≡ Publisher_handle p = k.1 in absurd (cc)
+  no_subscriber (Subscriber_handle q) (Kept_subscriber service q') k other = absurd (true≢false other)
+  no_subscriber (Subscriber_handle q) (Kept_unwritten service p n) k other = let clash : Subscriber_handle q ≡ Loan_handle n = k.1 in absurd (cc)
+  no_subscriber (Subscriber_handle q) (Kept_written service p n) k other = let clash : Subscriber_handle q ≡ Loan_handle n = k.1 in absurd (cc)
+  no_subscriber (Subscriber_handle q) (Kept_sample service p q' n) k other = let clash : Subscriber_handle q ≡ Sample_handle p q' n = k.1 in absurd (cc)
+  no_subscriber No_handle e k other = refl
+  no_subscriber (Publisher_handle p) e k other = refl
+  no_subscriber (Loan_handle n) e k other = refl
+  no_subscriber (Blocked_handle p n) e k other = refl
+  no_subscriber (Sample_handle p q n) e k other = refl
+
+  -- what a loan's handle names
+  abbrev LoanOf : Handle → Option (ℕ × Loan T U)
+  LoanOf h = elim (Some h) [ Some (Loan_handle n) ↦ option_map {U = ℕ × Loan T U} (λ l. (n, l)) (s.loans n) | _ ↦ None ]
+
+  abbrev IfUnwritten : Option (ℕ × Loan T U) → Option (ℕ × Loan T U)
+  IfUnwritten o = option_and_then (λ named. cond named.1.is_written None (Some named)) o
+
+  abbrev IfWritten : Option (ℕ × Loan T U) → Option (ℕ × Loan T U)
+  IfWritten o = option_and_then (λ named. cond named.1.is_written (Some named) None) o
+
+  abbrev if_unblocked : Option (ℕ × Loan T U) → Option (ℕ × Loan T U)
+  if_unblocked o = option_and_then (λ named. cond (is_blocked s named.1.publisher) None (Some named)) o
+
+  -- the loan under that number is as it is kept
+  loan_of : (n n' p : ℕ) (written : Bool) → Loan_handle n ≡ Loan_handle n' → HasLoan s p n' written
+      → (l : Loan T U) × (LoanOf (Loan_handle n) ≡ Some (n', l)) × (s.loans n' ≡ Some l) × (l.publisher ≡ p) × (l.is_written ≡ written)
+  loan_of n n' p written e h =
+      let same : n ≡ n' = cc in
+      ((h.0).0, rw same (ap (option_map {U = ℕ × Loan T U} (λ l. (n', l))) (h.0).1), (h.0).1, (h.0).2, (h.0).3)
+
+  no_unwritten : (h : Handle) (e : Kept) → IsKept s h e → is_unwritten e ≡ false → IfUnwritten (LoanOf h) ≡ None
+  no_unwritten (Loan_handle n) Nothing_kept k other = ap (λ o. IfUnwritten (option_map {U = ℕ × Loan T U} (λ l. (n, l)) o)) k
+  no_unwritten (Loan_handle n) (Kept_publisher service p) k other = let clash : Loan_handle n ≡ Publisher_handle p = k.1 in absurd (cc)
+  no_unwritten (Loan_handle n) (Kept_subscriber service q) k other = let clash : Loan_handle n ≡ Subscriber_handle q = k.1 in absurd (cc)
+  no_unwritten (Loan_handle n) (Kept_unwritten service p n') k other = absurd (true≢false other)
+  no_unwritten (Loan_handle n) (Kept_written service p n') k other =
+      let v = loan_of n n' p true k.1 k.2 in ap IfUnwritten v.1 ∙ ap (λ (b : Bool). cond b None (Some (n', v.0))) v.4
+  no_unwritten (Loan_handle n) (Kept_sample service p q n') k other = let clash : Loan_handle n ≡ Sample_handle p q n' = k.1 in absurd (cc)
+  no_unwritten No_handle e k other = refl
+  no_unwritten (Publisher_handle p) e k other = refl
+  no_unwritten (Subscriber_handle q) e k other = refl
+  no_unwritten (Blocked_handle p n) e k other = refl
+  no_unwritten (Sample_handle p q n) e k other = refl
+
+  no_written : (h : Handle) (e : Kept) → IsKept s h e → is_written e ≡ false → IfWritten (LoanOf h) ≡ None
+  no_written (Loan_handle n) Nothing_kept k other = ap (λ o. IfWritten (option_map {U = ℕ × Loan T U} (λ l. (n, l)) o)) k
+  no_written (Loan_handle n) (Kept_publisher service p) k other = let clash : Loan_handle n ≡ Publisher_handle p = k.1 in absurd (cc)
+  no_written (Loan_handle n) (Kept_subscriber service q) k other = let clash : Loan_handle n ≡ Subscriber_handle q = k.1 in absurd (cc)
+  no_written (Loan_handle n) (Kept_unwritten service p n') k other =
+      let v = loan_of n n' p false k.1 k.2 in ap IfWritten v.1 ∙ ap (λ (b : Bool). cond b (Some (n', v.0)) None) v.4
+  no_written (Loan_handle n) (Kept_written service p n') k other = absurd (true≢false other)
+  no_written (Loan_handle n) (Kept_sample service p q n') k other = let clash : Loan_handle n ≡ Sample_handle p q n' = k.1 in absurd (cc)
+  no_written No_handle e k other = refl
+  no_written (Publisher_handle p) e k other = refl
+  no_written (Subscriber_handle q) e k other = refl
+  no_written (Blocked_handle p n) e k other = refl
+  no_written (Sample_handle p q n) e k other = refl
+
+  no_loan : (h : Handle) (e : Kept) → IsKept s h e → is_loan e ≡ false → LoanOf h ≡ None
+  no_loan (Loan_handle n) Nothing_kept k other = ap (option_map {U = ℕ × Loan T U} (λ l. (n, l))) k
+  no_loan (Loan_handle n) (Kept_publisher service p) k other = let clash : Loan_handle n ≡ Publisher_handle p = k.1 in absurd (cc)
+  no_loan (Loan_handle n) (Kept_subscriber service q) k other = let clash : Loan_handle n ≡ Subscriber_handle q = k.1 in absurd (cc)
+  no_loan (Loan_handle n) (Kept_unwritten service p n') k other = absurd (true≢false other)
+  no_loan (Loan_handle n) (Kept_written service p n') k other = absurd (true≢false other)
+  no_loan (Loan_handle n) (Kept_sample service p q n') k other = let clash : Loan_handle n ≡ Sample_handle p q n' = k.1 in absurd (cc)
+  no_loan No_handle e k other = refl
+  no_loan (Publisher_handle p) e k other = refl
+  no_loan (Subscriber_handle q) e k other = refl
+  no_loan (Blocked_handle p n) e k other = refl
+  no_loan (Sample_handle p q n) e k other = refl
+
+  -- what a sample's handle names
+  abbrev SampleOf : Handle → Option (ℕ × ℕ × ℕ)
+  SampleOf h = elim (Some h) [ Some (Sample_handle p q n) ↦ cond (is_borrowed n (s.mailboxes p q)) (Some (p, q, n)) None | _ ↦ None ]
+
+  no_sample : (h : Handle) (e : Kept) → IsKept s h e → is_sample e ≡ false → SampleOf h ≡ None
+  no_sample (Sample_handle p q n) Nothing_kept k other = ap (λ (b : Bool). cond b (Some (p, q, n)) None) k
+  no_sample (Sample_handle p q n) (Kept_publisher service p') k other = let clash : Sample_handle p q n ≡ Publisher_handle p' = k.1 in absurd (cc)
+  no_sample (Sample_handle p q n) (Kept_subscriber service q') k other = let clash : Sample_handle p q n ≡ Subscriber_handle q' = k.1 in absurd (cc)
+  no_sample (Sample_handle p q n) (Kept_unwritten service p' n') k other = let clash : Sample_handle p q n ≡ Loan_handle n' = k.1 in absurd (cc)
+  no_sample (Sample_handle p q n) (Kept_written service p' n') k other = let clash : Sample_handle p q n ≡ Loan_handle n' = k.1 in absurd (cc)
+  no_sample (Sample_handle p q n) (Kept_sample service p' q' n') k other = absurd (true≢false other)
+  no_sample No_handle e k other = refl
+  no_sample (Publisher_handle p) e k other = refl
+  no_sample (Subscriber_handle q) e k other = refl
+  no_sample (Loan_handle n) e k other = refl
+  no_sample (Blocked_handle p n) e k other = refl
+
+  -- ---- at a position
+
+  module _ (handles : List Handle) (events : List (Event T U)) (table : List Kept) (w : IsTable s handles events table) (of : ℕ) where
+    -- what is kept there is of the handle there
+    pub handle_of : (e : Kept) → slice_get table of ≡ Some e → (h : Handle) × (slice_get handles of ≡ Some h) × IsKept s h e
+    handle_of e at = let v = matched table handles of e w.count at in (v.0, v.1, w.kept of v.0 e v.1 at)
+
+    -- a look-up that finds nothing at any handle with something else kept finds nothing here
+    lacks : {A : Type 0} (look : Option Handle → Option A) → look None ≡ None → (kind : Kept → Bool)
+        → ((h : Handle) (e : Kept) → IsKept s h e → kind e ≡ false → look (Some h) ≡ None)
+        → Lacks kind table of → look (slice_get handles of) ≡ None
+    lacks {A} look none kind each absent = by (slice_get table of) refl where
+      by : (o : Option Kept) → slice_get table of ≡ o → look (slice_get handles of) ≡ None
+      by None past = ap look (unmatched table handles of w.count past) ∙ none
+      by (Some e) at = let v = handle_of e at in
+          ap look v.1 ∙ each v.0 e v.2 (sym (ap (λ o. option_map_or kind o false) at) ∙ absent)
+
+    pub lacks_publisher : Lacks is_publisher table of → unblocked_at s handles of ≡ None
+    lacks_publisher absent =
+        ap (λ (o : Option (ℕ × Publisher)). option_and_then (λ named. cond (is_none named.1.blocked) (Some named) None) o)
+        (lacks (λ (o : Option Handle). elim o [ Some (Publisher_handle p) ↦ option_map {U = ℕ × Publisher} (λ x. (p, x)) (s.publishers p) | _ ↦ None ]) refl is_publisher no_publisher absent)
+
+    pub lacks_subscriber : Lacks is_subscriber table of → subscriber_at s handles of ≡ None
+    lacks_subscriber absent =
+        lacks (λ (o : Option Handle). elim o [ Some (Subscriber_handle q) ↦ option_and_then {U = ℕ × Subscriber} (λ y. cond y.is_open (Some (q, y)) None) (s.subscribers q) | _ ↦ None ])
+        refl is_subscriber no_subscriber absent
+
+    -- what a loan's position names
+    abbrev loan_named : Option Handle → Option (ℕ × Loan T U)
+    loan_named o = elim o [ Some (Loan_handle n) ↦ option_map {U = ℕ × Loan T U} (λ l. (n, l)) (s.loans n) | _ ↦ None ]
+
+    pub lacks_unwritten : Lacks is_unwritten table of → unwritten_at s handles of ≡ None
+    lacks_unwritten absent = lacks (λ (o : Option Handle). IfUnwritten (loan_named o)) refl is_unwritten no_unwritten absent
+
+    pub lacks_written : Lacks is_written table of → written_at s handles of ≡ None
+    lacks_written absent = lacks (λ (o : Option Handle). IfWritten (loan_named o)) refl is_written no_written absent
+
+    pub lacks_sample : Lacks is_sample table of → sample_at s handles of ≡ None
+    lacks_sample absent =
+        lacks (λ (o : Option Handle). elim o [ Some (Sample_handle p q n) ↦ cond (is_borrowed n (s.mailboxes p q)) (Some (p, q, n)) None | _ ↦ None ]) refl is_sample no_sample absent
+
+    pub lacks_loan : Lacks is_loan table of → loan_at s handles of ≡ None
+    lacks_loan absent = lacks loan_named refl is_loan no_loan absent
+
+    -- ---- what is there
+
+    abbrev publisher_named : Option Handle → Option (ℕ × Publisher)
+    publisher_named o = elim o [ Some (Publisher_handle p) ↦ option_map {U = ℕ × Publisher} (λ x. (p, x)) (s.publishers p) | _ ↦ None ]
+
+    abbrev if_free : Option (ℕ × Publisher) → Option (ℕ × Publisher)
+    if_free o = option_and_then (λ named. cond (is_none named.1.blocked) (Some named) None) o
+
+    pub has_publisher : (service p : ℕ) → slice_get table of ≡ Some (Kept_publisher service p)
+        → (x : Publisher) × (unblocked_at s handles of ≡ Some (p, x)) × (s.publishers p ≡ Some x)
+    has_publisher service p at =
+        let v = handle_of (Kept_publisher service p) at in
+        let free : IsFree s p = (v.2).2 in (
+          free.0,
+          ap (λ (o : Option Handle). if_free (publisher_named o)) (v.1 ∙ ap Some (v.2).1)
+              ∙ ap (λ (o : Option Publisher). if_free (option_map {U = ℕ × Publisher} (λ x. (p, x)) o)) free.1
+              ∙ ap (λ (b : Option BlockedSend). cond (is_none b) (Some (p, free.0)) None) free.2,
+          free.1,
+        )
+
+    abbrev subscriber_named : Option Handle → Option (ℕ × Subscriber)
+    subscriber_named o = elim o [ Some (Subscriber_handle q) ↦ option_and_then {U = ℕ × Subscriber} (λ y. cond y.is_open (Some (q, y)) None) (s.subscribers q) | _ ↦ None ]
+
+    pub has_subscriber : (service q : ℕ) → slice_get table of ≡ Some (Kept_subscriber service q)
+        → (y : Subscriber) × (subscriber_at s handles of ≡ Some (q, y)) × (s.subscribers q ≡ Some y) × (y.is_open ≡ true)
+    has_subscriber service q at =
+        let v = handle_of (Kept_subscriber service q) at in (
+          (v.2).2,
+          ap subscriber_named (v.1 ∙ ap Some (v.2).1)
+              ∙ ap (λ (o : Option Subscriber). option_and_then {U = ℕ × Subscriber} (λ y. cond y.is_open (Some (q, y)) None) o) (v.2).3
+              ∙ ap (λ (b : Bool). cond {A = Option (ℕ × Subscriber)} b (Some (q, (v.2).2)) None) (v.2).4,
+          (v.2).3,
+          (v.2).4,
+        )
+
+    loan_there : (n p : ℕ) (written : Bool) (h : Handle) → slice_get handles of ≡ Some h → h ≡ Loan_handle n → (k : HasLoan s p n written)
+        → loan_at s handles of ≡ Some (n, (k.0).0)
+    loan_there n p written h at is k = ap loan_named (at ∙ ap Some is) ∙ ap (option_map {U = ℕ × Loan T U} (λ l. (n, l))) (k.0).1
+
+    pub has_unwritten : (service p n : ℕ) → slice_get table of ≡ Some (Kept_unwritten service p n)
+        → (l : Loan T U) × (unwritten_at s handles of ≡ Some (n, l)) × (loan_at s handles of ≡ Some (n, l)) × (s.loans n ≡ Some l) × (l.publisher ≡ p)
+    has_unwritten service p n at =
+        let v = handle_of (Kept_unwritten service p n) at in
+        let k : HasLoan s p n false = (v.2).2 in
+        let there = loan_there n p false v.0 v.1 (v.2).1 k in
+        ((k.0).0, ap IfUnwritten there ∙ ap (λ (b : Bool). cond {A = Option (ℕ × Loan T U)} b None (Some (n, (k.0).0))) (k.0).3, there, (k.0).1, (k.0).2)
+
+    pub has_written : (service p n : ℕ) → slice_get table of ≡ Some (Kept_written service p n)
+        → (l : Loan T U) × (sendable_at s handles of ≡ Some (n, l)) × (loan_at s handles of ≡ Some (n, l)) × (s.loans n ≡ Some l) × (l.publisher ≡ p)
+    has_written service p n at =
+        let v = handle_of (Kept_written service p n) at in
+        let k : HasLoan s p n true = (v.2).2 in
+        let there = loan_there n p true v.0 v.1 (v.2).1 k in
+        let free : is_blocked s ((k.0).0).publisher ≡ false =
+        ap (is_blocked s) (k.0).2 ∙ ap (λ (o : Option Publisher). option_map_or (λ (x : Publisher). is_some x.blocked) o false) (k.1).1
+        ∙ ap (λ (b : Option BlockedSend). is_some b) (k.1).2 in (
+          (k.0).0,
+          ap (λ (o : Option (ℕ × Loan T U)). if_unblocked (IfWritten o)) there
+              ∙ ap (λ (b : Bool). if_unblocked (cond {A = Option (ℕ × Loan T U)} b (Some (n, (k.0).0)) None)) (k.0).3
+              ∙ ap (λ (b : Bool). cond {A = Option (ℕ × Loan T U)} b None (Some (n, (k.0).0))) free,
+          there,
+          (k.0).1,
+          (k.0).2,
+        )
+
+    pub has_sample : (service p q n : ℕ) → slice_get table of ≡ Some (Kept_sample service p q n) → sample_at s handles of ≡ Some (p, q, n)
+    has_sample service p q n at =
+        let v = handle_of (Kept_sample service p q n) at in
+        ap (λ (o : Option Handle). elim o [ Some (Sample_handle p q n) ↦ cond {A = Option (ℕ × ℕ × ℕ)} (is_borrowed n (s.mailboxes p q)) (Some (p, q, n)) None | _ ↦ None ]) (v.1 ∙ ap Some (v.2).1)
+        ∙ ap (λ (b : Bool). cond {A = Option (ℕ × ℕ × ℕ)} b (Some (p, q, n)) None) (v.2).2
