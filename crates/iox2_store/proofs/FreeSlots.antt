@@ -64,6 +64,22 @@ none_free holders free e has k d h =
     let here : HasFree holders [] = rw (← e) has in
     grind (arith, here.each.times k, get_or-map (λ n. eqb n 0) holders k d false h)
 
+no_count : (holders : List ℕ) → All (λ n. 0 < n) holders → count_by (λ b. b) (map (λ n. eqb n 0) holders) ≡ 0
+no_count [] all = refl
+no_count (n ∷ holders) all =
+    let held = busy n (all 0 0 (omega arith)) in
+    let rest = no_count holders (λ k d h. all (suc k) d (omega arith)) in
+    grind (arith, common_steps, sum_by-cons (λ b. cond b 1 0) (eqb n 0) (map (λ n. eqb n 0) holders))
+
+-- Each slot has a holder: none is free.
+pub free_none : (holders free : List ℕ) → All (λ n. 0 < n) holders → HasFree holders free → length free ≡ 0
+free_none holders free all has = has.each.count ∙ no_count holders all
+
+-- The list of free slots is empty: each slot has a holder.
+pub none_free_length : (holders free : List ℕ) → length free ≡ 0 → HasFree holders free → All (λ n. 0 < n) holders
+none_free_length holders [] e has = none_free holders [] refl has
+none_free_length holders (i ∷ free) e has = absurd (omega arith)
+
 -- As many slots are free as there are slots: none has a holder.
 pub all_free : (holders free : List ℕ) → length free ≡ length holders → HasFree holders free → All (λ n. n ≡ 0) holders
 all_free holders free e has k d h =
@@ -97,5 +113,7 @@ free_next slots free has =
 pub ruleset taking = (popped_within, popped_count, free_popped, none_free)
 
 pub ruleset releasing = (free_kept, free_pushed, free_room)
+
+pub ruleset looking_for_free = (free_none, none_free_length)
 
 pub ruleset counting_free = (all_free, free_all)

@@ -186,6 +186,14 @@ impl SlotBook {
         self.holders.len()
     }
 
+    /// Whether every slot has a holder, so that none can be taken.
+    #[tactic(auto, using(crate::proofs::FreeSlots::looking_for_free))]
+    pub fn is_full(&self) -> bool
+        ensures { IsTrue result ↔ All (λ n. 0 < n) self.now.holders }
+    {
+        self.free.is_empty()
+    }
+
     /// Whether no slot has a holder, so that the book may go.
     #[tactic(auto, using(crate::proofs::FreeSlots::counting_free))]
     pub fn is_unused(&self) -> bool

@@ -19,7 +19,9 @@ fn slots_are_taken(rt: HostRuntime) -> Result<(), Fail> {
     assert_eq!(rt; book.publisher().value(), 3);
 
     let first = book.take(5, header(1)).ok_or("a free slot")?;
+    assert!(rt; !book.is_full());
     let second = book.take(6, header(2)).ok_or("another free slot")?;
+    assert!(rt; book.is_full());
     assert_eq!(rt; book.take(7, header(3)), None);
     assert_eq!(rt; book.number(first), 5);
     assert_eq!(rt; book.header(second).number_of_elements(), 2);
