@@ -50,3 +50,4 @@ pub mod Reclaims
 pub mod SlotChanges
 pub mod SubscriberCreations
 pub mod OpenPorts
+pub mod PublisherEntries

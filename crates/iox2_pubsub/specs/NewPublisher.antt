@@ -1,17 +1,24 @@
 -- A publisher enters a domain, with its book and the contents of its slots.
-use Rattle.std.specs.Prelude.{◌≡◌, ◌≢◌, ◌≤◌, ℕ, true, List, [], length, replicate, slice_index_or}
+use Rattle.std.specs.Prelude.{◌≡◌, ◌≢◌, ◌≤◌, ◌==◌, ℕ, true, cond, nat_lt, List, [], length, replicate, slice_index_or}
 use Rattle.std.specs.List.{All}
 use Rattle.std.specs.declared.option.Option.{Option}
 use Rattle.std.specs.declared.option.Option.TheVariants.{None, Some}
+use Rattle.std.specs.declared.result.Result.{Result}
+use Rattle.std.specs.declared.result.Result.TheVariants.{Ok, Err}
 use Rattle.slab.specs.Slab.{Slab, get, Updates}
 use Rattle.circular_buffer.specs.Buffer.{Buffer}
+use Rattle.iox2_store.specs.Limits.{last_number}
 use Rattle.iox2_store.specs.Records.{PublisherSettings, Fixed}
 use Rattle.iox2_store.specs.SlotBook.{Book, IsAligned}
 use Rattle.iox2_store.specs.SlotContents.{ContentState}
 use Rattle.iox2_store.specs.declared.allocation.AllocationStrategy.TheVariants.{Static}
 use Rattle.iox2_store.specs.declared.backpressure.BackpressureStrategy.TheVariants.{DiscardData}
 use Rattle.iox2_store.specs.declared.degradation.DegradationAction.TheVariants.{Warn}
+use Rattle.iox2_store.specs.declared.errors.PublisherCreateError.{PublisherCreateError}
+use Rattle.iox2_store.specs.declared.errors.PublisherCreateError.TheVariants.{UnableToCreatePortTag, ExceedsMaxSupportedPublishers}
 use Rattle.iox2_pubsub.specs.Ports.{PublisherFields, SubscriberFields}
+use Rattle.iox2_pubsub.specs.Fields.{Fields}
+use Rattle.iox2_pubsub.specs.Placed.{lowest_empty}
 
 -- The settings of a publisher that discards what a full receiver doesn't take, has one segment of single values, and no
 -- handlers.
@@ -46,6 +53,13 @@ entering_publisher id place book max_loaned_samples slots loan_room history plac
   place_room = place_room;
   is_due = true;
 }
+
+module _ {T U : Type 0} where
+  -- The lowest free place for a publisher, or the first reason to refuse it.
+  abbrev pub place_for_publisher : Fields T U → Result ℕ PublisherCreateError
+  place_for_publisher f =
+      cond (f.next_port == last_number) (Err UnableToCreatePortTag)
+      (cond (nat_lt (lowest_empty f.publishers) (f.config).max_publishers) (Ok (lowest_empty f.publishers)) (Err ExceedsMaxSupportedPublishers))
 
 -- The subscriber, due for an update.
 abbrev pub subscriber_due : SubscriberFields → SubscriberFields

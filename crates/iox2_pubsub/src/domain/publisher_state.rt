@@ -1,10 +1,11 @@
 //! What a domain has of a publisher.
-ghost use Rattle.std.specs.Prelude.{◌≡◌, map};
+ghost use Rattle.std.specs.Prelude.{◌≡◌, [], map, IfOk};
 ghost use Rattle.std.specs.Option.{option_map};
 ghost use Rattle.iox2_pubsub.specs.Ports.{due};
 
 use circular_buffer::HeapCircularBuffer;
-use iox2_store::{AllocationStrategy, BackpressureStrategy, UniquePublisherId};
+use iox2_store::{AllocationStrategy, BackpressureStrategy, ServiceConfig, UniquePublisherId};
+use std::alloc::{AllocError, Global};
 use std::marker::Model;
 
 /// A publisher that wasn't closed. It knows its slots by their numbers in its book, and its
@@ -57,6 +58,48 @@ impl Model for PublisherState {
       place_room = vec_capacity x.places;
       is_due = x.is_due;
     } };
+}
+
+impl PublisherState {
+    ghost use Rattle.circular_buffer.specs.Buffer.{buffer};
+    ghost use Rattle.iox2_pubsub.specs.Invariant.{HasPublisherRoom};
+    ghost use Rattle.iox2_pubsub.specs.NewPublisher.{entering_publisher};
+
+    /// A publisher of single values that enters at a place, with a book of so many slots at a key,
+    /// and with room for all the loans, the history and the connections that it may get. It
+    /// discards what a full receiver doesn't take, and makes no further segment.
+    pub(crate) fn new(
+        alloc: Global,
+        config: &ServiceConfig,
+        id: UniquePublisherId,
+        place: usize,
+        book: usize,
+        max_loaned_samples: usize,
+        slots: usize,
+    ) -> Result<Self, AllocError>
+        ensures enters { IfOk result (λ x. x ≡ entering_publisher id place book max_loaned_samples slots x.loan_room (buffer [] (config.now).history_size) x.place_room) }
+        ensures room { IfOk result (HasPublisherRoom config.now) }
+    {
+        let loans = Vec::with_capacity(alloc, max_loaned_samples)?;
+        let history = HeapCircularBuffer::with_capacity(alloc, config.history_size)?;
+        let places = Vec::with_capacity(alloc, config.max_subscribers)?;
+        Ok(PublisherState {
+            id,
+            place,
+            book,
+            max_loaned_samples,
+            slots,
+            strategy: BackpressureStrategy::DiscardData,
+            allocation: AllocationStrategy::Static,
+            initial_max_slice_len: 1,
+            longest_granted: 0,
+            segments: 1,
+            loans,
+            history,
+            places,
+            is_due: true,
+        })
+    }
 }
 
 /// Each publisher is due for an update.

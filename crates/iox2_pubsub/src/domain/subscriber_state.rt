@@ -1,5 +1,7 @@
 //! What a domain has of a subscriber.
-ghost use Rattle.std.specs.Prelude.{◌≡◌, IfOk};
+ghost use Rattle.std.specs.Prelude.{◌≡◌, IfOk, map};
+ghost use Rattle.std.specs.Option.{option_map};
+ghost use Rattle.iox2_pubsub.specs.NewPublisher.{subscriber_due};
 
 use iox2_store::{ServiceConfig, UniqueSubscriberId};
 use std::alloc::{AllocError, Global};
@@ -71,5 +73,22 @@ impl SubscriberState {
             expired,
             is_due: true,
         })
+    }
+}
+
+/// Each subscriber is due for an update.
+pub(crate) fn make_all_due(subscribers: &mut [Option<SubscriberState>])
+    ensures { subscribers.new ≡ map (option_map subscriber_due) subscribers.old }
+{
+    for place in 0..subscribers.len() {
+        make_due(&mut subscribers[place]);
+    }
+}
+
+fn make_due(subscriber: &mut Option<SubscriberState>)
+    ensures { subscriber.new ≡ option_map subscriber_due subscriber.old }
+{
+    if let Some(subscriber) = subscriber {
+        subscriber.is_due = true;
     }
 }
