@@ -64,7 +64,7 @@ module _ {T U : Type 0} where
   stands_at : (s : State T U) → IsWellFormed s → (q : ℕ) (y : Subscriber) → s.subscribers q ≡ Some y → occupant s.subscriber_places y.place ≡ Some q
   stands_at s w q y e = (w.subscriber_places).stands q y.place (rw e refl)
 
-  place_is : (s : State T U) → IsWellFormed s → (q place : ℕ) (y : Subscriber) → s.subscribers q ≡ Some y
+  pub place_is : (s : State T U) → IsWellFormed s → (q place : ℕ) (y : Subscriber) → s.subscribers q ≡ Some y
       → occupant s.subscriber_places place ≡ Some q → y.place ≡ place
   place_is s w q place y e h =
       let found : subscriber_place s q ≡ Some place = (w.subscriber_places).known q place h in
@@ -213,7 +213,7 @@ module _ {T U : Type 0} where
       Does = Performs environment (s.config).service_id p x.degradation_handler x.history (receiving_buffer s) (has_receiver_end s p)
 
       -- what is done at a place keeps it
-      performed_keeps : (place : ℕ) (at end : Option ℕ) (side side' : SenderSide) (failure : Option ConnectionFailure) → place < length s.subscriber_places
+      pub performed_keeps : (place : ℕ) (at end : Option ℕ) (side side' : SenderSide) (failure : Option ConnectionFailure) → place < length s.subscriber_places
           → occupant s.subscriber_places place ≡ at → occupant side.ends place ≡ end → SideKeeps side
           → Does (sender_action (receiving_buffer s) at end) place side side' failure → SideKeeps side'
       performed_keeps place None end side side' failure low a e k h =

@@ -51,3 +51,9 @@ pub mod SlotChanges
 pub mod SubscriberCreations
 pub mod OpenPorts
 pub mod PublisherEntries
+pub mod Standing
+pub mod Made
+pub mod SenderSteps
+pub mod SenderActions
+pub mod SenderCases
+pub mod ReceiverChanges

@@ -13,3 +13,4 @@ pub mod Updates
 pub mod NewPublisher
 pub mod SubscriberEntry
 pub mod LoanSlots
+pub mod Connects
