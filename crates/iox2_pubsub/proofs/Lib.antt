@@ -57,3 +57,4 @@ pub mod SenderSteps
 pub mod SenderActions
 pub mod SenderCases
 pub mod ReceiverChanges
+pub mod ReceiverAgrees

@@ -1,5 +1,5 @@
 -- A publisher that stands somewhere reclaims its slots.
-use Rattle.std.proofs.Common.{◌≡◌, ℕ, List, get_or, sym, subst}
+use Rattle.std.proofs.Common.{◌≡◌, ℕ, get_or, sym, subst}
 use Rattle.std.specs.declared.option.Option.TheVariants.{None, Some}
 use Rattle.slab.specs.Slab.{Slab, get, with_value}
 use Rattle.iox2_store.specs.Link.{Link}
