@@ -14,6 +14,7 @@ pub mod NobodyGoes
 pub mod Released
 pub mod ConnectionSlots
 pub mod SampleSlots
+pub mod Receipts
 pub mod EnteredAgrees
 pub mod Admitted
 pub mod MapSteps

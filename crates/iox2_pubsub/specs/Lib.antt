@@ -7,6 +7,7 @@ pub mod FreshFields
 pub mod Placed
 pub mod Reaches
 pub mod SampleSlots
+pub mod Receipts
 pub mod Environments
 pub mod Handles
 pub mod Updates

@@ -10,6 +10,7 @@ mod open_ports;
 mod places;
 mod publisher_entry;
 mod publisher_state;
+mod receipts;
 mod reclaims;
 mod sample_slots;
 mod segments;
