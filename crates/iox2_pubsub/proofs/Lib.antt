@@ -59,3 +59,5 @@ pub mod SenderActions
 pub mod SenderCases
 pub mod ReceiverChanges
 pub mod ReceiverAgrees
+pub mod WrittenLoan
+pub mod LoanCalls

@@ -15,3 +15,4 @@ pub mod NewPublisher
 pub mod SubscriberEntry
 pub mod LoanSlots
 pub mod Connects
+pub mod LoanCalls
