@@ -16,6 +16,7 @@ pub mod MailboxWalks
 pub mod PortsStay
 pub mod TableSteps
 pub mod TableLooks
+pub mod TableCalls
 pub mod Traces
 pub mod Follows
 pub mod Owned
