@@ -17,6 +17,7 @@ pub mod PortsStay
 pub mod TableSteps
 pub mod TableLooks
 pub mod TableCalls
+pub mod TableMakes
 pub mod Traces
 pub mod Follows
 pub mod Owned

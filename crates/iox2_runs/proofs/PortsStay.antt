@@ -111,7 +111,7 @@ module _ {T U : Type 0} where
 
   -- ---- ports are made
 
-  warning_stays : (s : State T U) (warning : ConnectionFailure → Warning) (failure : Option ConnectionFailure) → PortsStay s (with_failure_warning s warning failure)
+  pub warning_stays : (s : State T U) (warning : ConnectionFailure → Warning) (failure : Option ConnectionFailure) → PortsStay s (with_failure_warning s warning failure)
   warning_stays s warning None = ports_stay_themselves s
   warning_stays s warning (Some failure) = record { config = refl; publishers = λ p x e. (x, e, λ free. free); subscribers = λ q y e o. (y, e, o); borrowed = λ p q. refl }
 

@@ -1,0 +1,275 @@
+-- Ports and loans are made, with what the run keeps.
+use Rattle.std.proofs.Common.{◌≡◌, ℕ, ◌≤◌, ◌<◌, ◌+◌, Bool, true, false, List, [], ◌∷◌, ◌++◌, cond, refl, sym, ap, subst, ◌∙◌, eqb, Option, None, Some, arith}
+use Rattle.std.specs.Prelude.{◌==◌, nat_lt, slice_get, MatchOption}
+use Rattle.std.proofs.lemmas.Option.{none-some}
+use Rattle.std.proofs.lemmas.Bool.{ne_eqb, eqb-true, eq-eqb}
+use Rattle.iox2_store.specs.Limits.{last_number, buffer_limit}
+use Rattle.iox2_store.specs.Numbers.{put_at, size}
+use Rattle.iox2_store.specs.Places.{free_place}
+use Rattle.iox2_store.specs.Records.{Loan, Publisher, Subscriber, Environment, PublisherSettings, SubscriberSettings, Fixed}
+use Rattle.iox2_store.specs.State.{State, Messages, held}
+use Rattle.iox2_store.specs.Environments.{fixed_handlers}
+use Rattle.iox2_store.specs.PublisherUpdate.{UpdatePublisher}
+use Rattle.iox2_store.specs.Loans.{GrantLoan, StaticLoan, DynamicLoan, limit_error, is_static, loan_granted}
+use Rattle.iox2_store.specs.Ports.{CreatePublisher, CreateSubscriber, MakePublisher, MakeSubscriber, with_new_publisher, with_new_subscriber, new_publisher, new_subscriber, with_failure_warning, first_segment_fits, buffer_for}
+use Rattle.iox2_store.specs.declared.service_config.ServiceConfig.{ServiceConfig}
+use Rattle.iox2_store.specs.declared.service_config.TypeVariant.{TypeVariant}
+use Rattle.iox2_store.specs.declared.service_config.TypeVariant.TheVariants.{FixedSize, Dynamic}
+use Rattle.iox2_store.specs.declared.allocation.AllocationStrategy.{AllocationStrategy}
+use Rattle.iox2_store.specs.declared.backpressure.BackpressureAction.{BackpressureAction}
+use Rattle.iox2_store.specs.declared.backpressure.BackpressureStrategy.{BackpressureStrategy}
+use Rattle.iox2_store.specs.declared.degradation.DegradationAction.{DegradationAction}
+use Rattle.iox2_store.specs.declared.errors.LoanError.{LoanError}
+use Rattle.iox2_store.specs.declared.errors.LoanError.TheVariants.{OutOfMemory, ExceedsMaxLoans, ExceedsMaxLoanSize, InternalFailure}
+use Rattle.iox2_store.specs.declared.errors.PublisherCreateError.{PublisherCreateError}
+use Rattle.iox2_store.specs.declared.errors.SubscriberCreateError.{SubscriberCreateError}
+use Rattle.iox2_store.specs.declared.warning.Warning.TheVariants.{PublisherPartlyConnected, SubscriberPartlyConnected}
+use Rattle.iox2_laws.proofs.Cases.{by_option, by_bool}
+use Rattle.iox2_laws.proofs.Puts.{put_at-same, put_at-other}
+use Rattle.iox2_laws.proofs.LoanKeeping.{create_publisher_loans, create_subscriber_loans}
+use Rattle.iox2_runs.specs.Outcomes.{Handle, No_handle, Publisher_handle, Subscriber_handle, Loan_handle, Sample_handle, Event, No_event, Outcome, outcome, replied, skipped}
+use Rattle.iox2_runs.specs.Runs.{Defaults}
+use Rattle.iox2_runs.specs.Step.{Step, publisher_settings, if_single_units, if_fixed_size, unblocked_at}
+use Rattle.iox2_runs.specs.Tables.{Kept, Nothing_kept, Kept_publisher, Kept_subscriber, Kept_unwritten, IsFree, IsSingle, IsKept, IsTable}
+use Rattle.iox2_runs.specs.RunSteps.{Comes}
+use Rattle.iox2_runs.specs.declared.command.Command.{Command}
+use Rattle.iox2_runs.specs.declared.command.Command.TheVariants.{CreatePublisher as PublisherCommand, CreateSubscriber as SubscriberCommand, LoanUninit}
+use Rattle.iox2_runs.specs.declared.reply.Reply.{Reply}
+use Rattle.iox2_runs.specs.declared.reply.Reply.TheVariants.{Skipped, PublisherMade, PublisherRefused, SubscriberMade, SubscriberRefused, Loaned, LoanRefused}
+use Rattle.iox2_runs.proofs.PortsStay.{PortsStay, update_publisher_stays, update_subscriber_stays, warning_stays, create_publisher_stays, create_subscriber_stays, grant_loan_stays, ports_stay_trans}
+use Rattle.iox2_runs.proofs.TableSteps.{table_next, all_still}
+use Rattle.iox2_runs.proofs.TableLooks.{Lacks, is_publisher, lacks_publisher, has_publisher, handle_of}
+use Rattle.iox2_runs.proofs.TableCalls.{remain_of, same_borrowed, quiet_comes, skip_comes, at_none, at_some}
+
+module _ {T U : Type 0} (environment : Environment) (s : State T U) where
+  -- a publisher that was made is there, and free
+  pub publisher_made : (given : PublisherSettings) (s' : State T U) → CreatePublisher environment s given s' None → IsFree s' s.next_port
+  publisher_made given s' h =
+      by_bool (IsFree s' s.next_port) (s.next_port == last_number) _ _ h (λ _ k. absurd (none-some _ k.1)) (λ _ k.
+      by_option (IsFree s' s.next_port) (free_place (s.config).max_publishers s.publisher_places) _ _ k (λ _ j. absurd (none-some _ j.1)) (λ place _ j.
+      by_bool (IsFree s' s.next_port) (first_segment_fits s.config given) _ _ j (λ _ i. made place i) (λ _ i. absurd (none-some _ i.1))))
+    where
+      made : (place : ℕ) → MakePublisher environment s given place s' None → IsFree s' s.next_port
+      made place i =
+          let new : State T U = with_new_publisher s given place in
+          let stay : PortsStay new s' = subst (PortsStay new) (sym i.3)
+          (ports_stay_trans new i.0 _ (update_publisher_stays environment new s.next_port i.0 i.1 i.2) (warning_stays i.0 (PublisherPartlyConnected s.next_port) i.1)) in
+          let v = stay.publishers s.next_port (new_publisher s given place) (put_at-same s.publishers s.next_port (Some (new_publisher s given place))) in
+          (v.0, v.1, v.2 refl)
+
+  -- a subscriber that was made is there, and open
+  pub subscriber_made : (given : SubscriberSettings) (s' : State T U) → CreateSubscriber environment s given s' None
+      → (y : Subscriber) × (s'.subscribers s.next_port ≡ Some y) × (y.is_open ≡ true)
+  subscriber_made given s' h =
+      by_bool IsMade (s.next_port == last_number) _ _ h (λ _ k. absurd (none-some _ k.1)) (λ _ k.
+      by_bool IsMade (nat_lt (buffer_limit s.config) (buffer_for given)) _ _ k (λ _ j. absurd (none-some _ j.1)) (λ _ j.
+      by_option IsMade (free_place (s.config).max_subscribers s.subscriber_places) _ _ j (λ _ i. absurd (none-some _ i.1)) (λ place _ i. made place i)))
+    where
+      IsMade : Type 0
+      IsMade = (y : Subscriber) × (s'.subscribers s.next_port ≡ Some y) × (y.is_open ≡ true)
+
+      made : (place : ℕ) → MakeSubscriber environment s given place s' None → IsMade
+      made place i =
+          let new : State T U = with_new_subscriber s given place in
+          let stay : PortsStay new s' = subst (PortsStay new) (sym i.3)
+          (ports_stay_trans new i.0 _ (update_subscriber_stays environment new s.next_port i.0 i.1 i.2) (warning_stays i.0 (SubscriberPartlyConnected s.next_port) i.1)) in
+          stay.subscribers s.next_port (new_subscriber given place) (put_at-same s.subscribers s.next_port (Some (new_subscriber given place))) refl
+
+  -- a loan that was granted is the next number's, and nothing else changed of the loans
+  pub record IsNextLoan (p : ℕ) (s' : State T U) : Type 0 where
+    pub loan : Loan T U
+    pub there : s'.loans s.next_message ≡ Some loan
+    pub publisher : loan.publisher ≡ p
+    pub unwritten : loan.is_written ≡ false
+    pub next : s'.next_message ≡ s.next_message + 1
+    pub others : (n : ℕ) → n < s.next_message → s'.loans n ≡ s.loans n
+
+  granted_next : (default_header : U) (p : ℕ) (x : Publisher) (len segments : ℕ) → IsNextLoan p (loan_granted default_header s p x len segments)
+  granted_next default_header p x len segments = record {
+    loan = _;
+    there = put_at-same s.loans s.next_message _;
+    publisher = refl;
+    unwritten = refl;
+    next = refl;
+    others = λ n low. put_at-other s.loans s.next_message _ n (ne_eqb n s.next_message (λ e. omega (arith, low, e)));
+  }
+
+  pub loan_next : (default_header : U) (checks_length : Bool) (len p : ℕ) (s' : State T U) → GrantLoan environment default_header checks_length len s p s' None → IsNextLoan p s'
+  loan_next default_header checks_length len p s' h =
+      by_option (IsNextLoan p s') (s.publishers p) _ _ h (λ _ v. absurd v) (λ x _ k.
+      by_option (IsNextLoan p s') (limit_error checks_length x len) _ _ k
+      (λ _ j. by_bool (IsNextLoan p s') (is_static x.allocation_strategy) _ _ j
+      (λ _ i. by_bool (IsNextLoan p s') (size (held s p x) == x.slots) _ _ i (λ _ g. absurd (none-some _ g.1)) (λ _ g.
+      by_bool (IsNextLoan p s') (s.next_message == last_number) _ _ g (λ _ f. absurd (none-some _ f.1))
+      (λ _ f. subst (IsNextLoan p) (sym f.0) (granted_next default_header p x len x.segments))))
+      (λ _ i. subst (IsNextLoan p) (sym i.4) (granted_next default_header p x len i.2)))
+      (λ limit _ j. absurd (none-some _ j.1)))
+
+  dynamic_refused : (default_header : U) (p : ℕ) (x : Publisher) (len : ℕ) (s' : State T U) (e : LoanError) → DynamicLoan environment default_header s p x len s' (Some e) → s' ≡ s
+  dynamic_refused default_header p x len s' OutOfMemory h = h.0
+  dynamic_refused default_header p x len s' InternalFailure h = h.0
+  dynamic_refused default_header p x len s' ExceedsMaxLoans h = absurd h
+  dynamic_refused default_header p x len s' ExceedsMaxLoanSize h = absurd h
+
+  -- a loan that was refused changed nothing
+  pub loan_refused : (default_header : U) (checks_length : Bool) (len p : ℕ) (s' : State T U) (e : LoanError) → GrantLoan environment default_header checks_length len s p s' (Some e) → s' ≡ s
+  loan_refused default_header checks_length len p s' e h =
+      by_option (s' ≡ s) (s.publishers p) _ _ h (λ _ v. absurd v) (λ x _ k.
+      by_option (s' ≡ s) (limit_error checks_length x len) _ _ k
+      (λ _ j. by_bool (s' ≡ s) (is_static x.allocation_strategy) _ _ j
+      (λ _ i. by_bool (s' ≡ s) (size (held s p x) == x.slots) _ _ i (λ _ g. g.0) (λ _ g.
+      by_bool (s' ≡ s) (s.next_message == last_number) _ _ g (λ _ f. f.0)
+      (λ _ f. let clash : Some e ≡ None = f.1 in absurd (none-some e (sym clash)))))
+      (λ _ i. dynamic_refused default_header p x len s' e i))
+      (λ limit _ j. j.0))
+
+module _ {T U : Type 0} (defaults : Defaults T U) (Shown : Messages T U → State T U → Type 0) (m : Messages T U) (s : State T U) (handles : List Handle)
+    (events : List (Event T U)) (table : List Kept) (w : IsTable s handles events table) (default_value : T) (default_header : U)
+    (is_default_value : defaults.IsDefaultValue default_value) (is_default_header : defaults.IsDefaultHeader default_header) where
+  -- a command that makes a port
+  port_comes : (command : Command T U) (reply : Reply T U) (handle : Handle) (entry : Kept) (s' : State T U)
+      → Step fixed_handlers default_value default_header m s handles command (outcome reply handle s') → Shown m s' → PortsStay s s' → s'.loans ≡ s.loans → s.next_message ≤ s'.next_message
+      → IsKept s' handle entry → ((n : ℕ) → handle ≡ Loan_handle n → ⊥) → ((p q n : ℕ) → handle ≡ Sample_handle p q n → ⊥)
+      → Comes defaults Shown m s handles events command reply (table ++ entry ∷ [])
+  port_comes command reply handle entry s' step shown stay loans rises new no_loan no_sample = record {
+    default_value = default_value;
+    default_header = default_header;
+    is_default_value = is_default_value;
+    is_default_header = is_default_header;
+    outcome = outcome reply handle s';
+    step = step;
+    replied = refl;
+    shown = shown;
+    follows = λ once. table_next s s' handles events table w handle No_event entry table rises refl
+        (all_still s s' handles events table w (remain_of s s' stay) (λ n _. ap (λ (f : ℕ → Option (Loan T U)). f n) loans) (λ i p q n _. same_borrowed s s' stay p q n))
+        new (λ n e. absurd (no_loan n e)) (λ p q n e. absurd (no_sample p q n e)) once;
+  }
+
+  pub publisher_comes : (loans : ℕ) (strategy : BackpressureStrategy) (allocation : AllocationStrategy) (len : ℕ) (override_slots : Option ℕ) (degradation : DegradationAction)
+      (backpressure : Option BackpressureAction) (s' : State T U)
+      → CreatePublisher fixed_handlers s (publisher_settings (s.config).variant loans strategy allocation len override_slots degradation backpressure) s' None
+      → s.next_message ≤ s'.next_message → Shown m s' → (service : ℕ) → service ≡ (s.config).service_id
+      → Comes defaults Shown m s handles events (PublisherCommand loans strategy allocation len override_slots degradation backpressure) (PublisherMade s.next_port)
+      (table ++ Kept_publisher service s.next_port ∷ [])
+  publisher_comes loans strategy allocation len override_slots degradation backpressure s' h rises shown service ours =
+      let given = publisher_settings (s.config).variant loans strategy allocation len override_slots degradation backpressure in
+      let stay : PortsStay s s' = create_publisher_stays fixed_handlers s given s' None h in
+      port_comes (PublisherCommand loans strategy allocation len override_slots degradation backpressure) (PublisherMade s.next_port) (Publisher_handle s.next_port)
+      (Kept_publisher service s.next_port) s' (s', None, h, refl) shown stay (create_publisher_loans fixed_handlers s given s' None h) rises
+      (ours ∙ sym (ap (λ (c : ServiceConfig). c.service_id) stay.config), refl, publisher_made fixed_handlers s given s' h)
+      (λ n e. let clash : Publisher_handle s.next_port ≡ Loan_handle n = e in absurd (cc)) (λ p q n e. let clash : Publisher_handle s.next_port ≡ Sample_handle p q n = e in absurd (cc))
+
+  pub publisher_refused_comes : (loans : ℕ) (strategy : BackpressureStrategy) (allocation : AllocationStrategy) (len : ℕ) (override_slots : Option ℕ) (degradation : DegradationAction)
+      (backpressure : Option BackpressureAction) (s' : State T U) (e : PublisherCreateError)
+      → CreatePublisher fixed_handlers s (publisher_settings (s.config).variant loans strategy allocation len override_slots degradation backpressure) s' (Some e)
+      → s.next_message ≤ s'.next_message → Shown m s'
+      → Comes defaults Shown m s handles events (PublisherCommand loans strategy allocation len override_slots degradation backpressure) (PublisherRefused e) (table ++ Nothing_kept ∷ [])
+  publisher_refused_comes loans strategy allocation len override_slots degradation backpressure s' e h rises shown =
+      let given = publisher_settings (s.config).variant loans strategy allocation len override_slots degradation backpressure in
+      quiet_comes defaults Shown m s handles events table w default_value default_header is_default_value is_default_header
+      (PublisherCommand loans strategy allocation len override_slots degradation backpressure) (PublisherRefused e) s' (s', Some e, h, refl) shown
+      (create_publisher_stays fixed_handlers s given s' (Some e) h) (λ n _. ap (λ (f : ℕ → Option (Loan T U)). f n) (create_publisher_loans fixed_handlers s given s' (Some e) h)) rises
+
+  -- what a command says of a subscriber
+  abbrev subscriber_settings : Option ℕ → DegradationAction → SubscriberSettings
+  subscriber_settings buffer degradation = record { buffer_size = elim buffer [ None ↦ buffer_limit s.config | Some asked ↦ asked ]; degradation_handler = Fixed degradation }
+
+  pub subscriber_comes : (buffer : Option ℕ) (degradation : DegradationAction) (s' : State T U)
+      → CreateSubscriber fixed_handlers s (record { buffer_size = elim buffer [ None ↦ buffer_limit s.config | Some asked ↦ asked ]; degradation_handler = Fixed degradation }) s' None
+      → s.next_message ≤ s'.next_message → Shown m s' → (service : ℕ) → service ≡ (s.config).service_id
+      → Comes defaults Shown m s handles events (SubscriberCommand buffer degradation) (SubscriberMade s.next_port) (table ++ Kept_subscriber service s.next_port ∷ [])
+  subscriber_comes buffer degradation s' h rises shown service ours =
+      let stay : PortsStay s s' = create_subscriber_stays fixed_handlers s (subscriber_settings buffer degradation) s' None h in
+      let made = subscriber_made fixed_handlers s (subscriber_settings buffer degradation) s' h in
+      port_comes (SubscriberCommand buffer degradation) (SubscriberMade s.next_port) (Subscriber_handle s.next_port) (Kept_subscriber service s.next_port) s' (s', None, h, refl) shown stay
+      (create_subscriber_loans fixed_handlers s (subscriber_settings buffer degradation) s' None h) rises
+      (ours ∙ sym (ap (λ (c : ServiceConfig). c.service_id) stay.config), refl, made.0, made.1, made.2)
+      (λ n e. let clash : Subscriber_handle s.next_port ≡ Loan_handle n = e in absurd (cc)) (λ p q n e. let clash : Subscriber_handle s.next_port ≡ Sample_handle p q n = e in absurd (cc))
+
+  pub subscriber_refused_comes : (buffer : Option ℕ) (degradation : DegradationAction) (s' : State T U) (e : SubscriberCreateError)
+      → CreateSubscriber fixed_handlers s (record { buffer_size = elim buffer [ None ↦ buffer_limit s.config | Some asked ↦ asked ]; degradation_handler = Fixed degradation }) s' (Some e)
+      → s.next_message ≤ s'.next_message → Shown m s'
+      → Comes defaults Shown m s handles events (SubscriberCommand buffer degradation) (SubscriberRefused e) (table ++ Nothing_kept ∷ [])
+  subscriber_refused_comes buffer degradation s' e h rises shown =
+      quiet_comes defaults Shown m s handles events table w default_value default_header is_default_value is_default_header
+      (SubscriberCommand buffer degradation) (SubscriberRefused e) s' (s', Some e, h, refl) shown
+      (create_subscriber_stays fixed_handlers s (subscriber_settings buffer degradation) s' (Some e) h)
+      (λ n _. ap (λ (f : ℕ → Option (Loan T U)). f n) (create_subscriber_loans fixed_handlers s (subscriber_settings buffer degradation) s' (Some e) h)) rises
+
+  -- ---- a loan
+
+  -- in another service nothing is named
+  other_service : {A : Type 0} (o : Option A) → (IsSingle s → ⊥) → if_single_units s (if_fixed_size s o) ≡ None
+  other_service {A} o other = by (eqb (s.config).units_per_element 1) refl where
+    nothing : Option A
+    nothing = None
+
+    by : (b : Bool) → eqb (s.config).units_per_element 1 ≡ b → cond b (if_fixed_size s o) nothing ≡ nothing
+    by false e = refl
+    by true e = kind (s.config).variant refl where
+      kind : (v : TypeVariant) → (s.config).variant ≡ v → elim v [ FixedSize ↦ o | Dynamic ↦ nothing ] ≡ nothing
+      kind FixedSize f = absurd (other (f, eqb-true (s.config).units_per_element 1 e))
+      kind Dynamic f = refl
+
+  -- in this service what is named is named
+  pub this_service : {A : Type 0} (o : Option A) → IsSingle s → if_single_units s (if_fixed_size s o) ≡ o
+  this_service {A} o single =
+      ap (λ b. cond b (if_fixed_size s o) None) (eq-eqb (s.config).units_per_element 1 single.1)
+      ∙ ap (λ (v : TypeVariant). elim v [ FixedSize ↦ o | Dynamic ↦ None ]) single.0
+
+  -- nothing is named in any service
+  none_named : {A : Type 0} (o : Option A) → o ≡ None → if_single_units s (if_fixed_size s o) ≡ None
+  none_named {A} o e = by (eqb (s.config).units_per_element 1) (s.config).variant where
+    nothing : Option A
+    nothing = None
+
+    by : (b : Bool) (v : TypeVariant) → cond b (elim v [ FixedSize ↦ o | Dynamic ↦ nothing ]) nothing ≡ nothing
+    by false v = refl
+    by true FixedSize = e
+    by true Dynamic = refl
+
+  pub loan_skipped : (of : ℕ) → Lacks is_publisher table of → Shown m s → Comes defaults Shown m s handles events (LoanUninit of) Skipped (table ++ Nothing_kept ∷ [])
+  loan_skipped of absent shown =
+      skip_comes defaults Shown m s handles events table w default_value default_header is_default_value is_default_header (LoanUninit of)
+      (at_none _ _ _ (none_named (unblocked_at s handles of) (lacks_publisher s handles events table w of absent)) refl) shown
+
+  pub loan_elsewhere : (of : ℕ) → (IsSingle s → ⊥) → Shown m s → Comes defaults Shown m s handles events (LoanUninit of) Skipped (table ++ Nothing_kept ∷ [])
+  loan_elsewhere of other shown =
+      skip_comes defaults Shown m s handles events table w default_value default_header is_default_value is_default_header (LoanUninit of)
+      (at_none _ _ _ (other_service (unblocked_at s handles of) other) refl) shown
+
+  pub loan_comes : (of service p : ℕ) → slice_get table of ≡ Some (Kept_publisher service p) → IsSingle s
+      → (header : U) → defaults.IsDefaultHeader header → (s' : State T U) → GrantLoan fixed_handlers header false 1 s p s' None → Shown m s'
+      → Comes defaults Shown m s handles events (LoanUninit of) Loaned (table ++ Kept_unwritten service p s.next_message ∷ [])
+  loan_comes of service p at single header is_default s' h shown =
+      let found = has_publisher s handles events table w of service p at in
+      let named = handle_of s handles events table w of (Kept_publisher service p) at in
+      let stay : PortsStay s s' = grant_loan_stays fixed_handlers header false 1 s p s' None h in
+      let next : IsNextLoan fixed_handlers s p s' = loan_next fixed_handlers s header false 1 p s' h in
+      let free = stay.publishers p ((named.2).2).0 ((named.2).2).1 in record {
+        default_value = default_value;
+        default_header = header;
+        is_default_value = is_default_value;
+        is_default_header = is_default;
+        outcome = outcome Loaned (Loan_handle s.next_message) s';
+        step = at_some _ _ _ (p, found.0) (this_service (unblocked_at s handles of) single ∙ found.1) (s', None, h, refl);
+        replied = refl;
+        shown = shown;
+        follows = λ once. table_next s s' handles events table w (Loan_handle s.next_message) No_event (Kept_unwritten service p s.next_message) table (omega (arith, next.next)) refl
+            (all_still s s' handles events table w (remain_of s s' stay) next.others (λ i p q n _. same_borrowed s s' stay p q n))
+            ((named.2).0 ∙ sym (ap (λ (c : ServiceConfig). c.service_id) stay.config), refl,
+            ((next.loan, next.there, next.publisher, next.unwritten), (free.0, free.1, free.2 ((named.2).2).2)),
+            (ap (λ (c : ServiceConfig). c.variant) stay.config ∙ single.0, ap (λ (c : ServiceConfig). c.units_per_element) stay.config ∙ single.1))
+            (λ n e. let same : s.next_message ≡ n = cc in (omega arith, omega (arith, next.next)))
+            (λ p q n e. let clash : Loan_handle s.next_message ≡ Sample_handle p q n = e in absurd (cc)) once;
+      }
+
+  pub loan_refused_comes : (of service p : ℕ) → slice_get table of ≡ Some (Kept_publisher service p) → IsSingle s
+      → (header : U) → defaults.IsDefaultHeader header → (s' : State T U) (e : LoanError) → GrantLoan fixed_handlers header false 1 s p s' (Some e) → Shown m s'
+      → Comes defaults Shown m s handles events (LoanUninit of) (LoanRefused e) (table ++ Nothing_kept ∷ [])
+  loan_refused_comes of service p at single header is_default s' e h shown =
+      let found = has_publisher s handles events table w of service p at in
+      let same : s' ≡ s = loan_refused fixed_handlers s header false 1 p s' e h in
+      quiet_comes defaults Shown m s handles events table w default_value header is_default_value is_default (LoanUninit of) (LoanRefused e) s'
+      (at_some _ _ _ (p, found.0) (this_service (unblocked_at s handles of) single ∙ found.1) (s', Some e, h, refl)) shown
+      (grant_loan_stays fixed_handlers header false 1 s p s' (Some e) h) (λ n _. ap (λ (t : State T U). t.loans n) same) (subst (λ (t : State T U). s.next_message ≤ t.next_message) (sym same) (omega arith))
