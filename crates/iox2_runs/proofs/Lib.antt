@@ -18,6 +18,7 @@ pub mod TableSteps
 pub mod TableLooks
 pub mod TableCalls
 pub mod TableMakes
+pub mod TableSamples
 pub mod Traces
 pub mod Follows
 pub mod Owned

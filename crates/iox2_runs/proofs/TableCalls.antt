@@ -1,22 +1,22 @@
 -- What each command comes to, with what the run keeps.
-use Rattle.std.proofs.Common.{◌≡◌, ℕ, zero, suc, ◌≤◌, ◌<◌, ◌+◌, Bool, true, false, cond, List, [], ◌∷◌, ◌++◌, length, refl, sym, ap, subst, ◌∙◌, eqb, Option, None, Some, arith}
+use Rattle.std.proofs.Common.{◌≡◌, ℕ, zero, suc, ◌≤◌, ◌<◌, cond, List, [], ◌∷◌, ◌++◌, length, refl, sym, ap, subst, ◌∙◌, Option, None, Some, arith}
 use Rattle.std.specs.Prelude.{slice_get, slice_set, MatchOption}
 use Rattle.std.specs.Option.{option_and_then}
-use Rattle.std.proofs.lemmas.Bool.{true≢false, eq-eqb, ne_eqb}
-use Rattle.std.proofs.lemmas.Option.{none-some, same_Some}
-use Rattle.iox2_store.specs.Numbers.{put_at, IsOnce}
+use Rattle.std.proofs.lemmas.Bool.{ne_eqb}
+use Rattle.std.proofs.lemmas.Option.{same_Some}
+use Rattle.iox2_store.specs.Numbers.{put_at}
 use Rattle.iox2_store.specs.Mailbox.{is_borrowed}
-use Rattle.iox2_store.specs.Records.{Entry, Loan, Publisher, Subscriber, Environment, PublisherSettings, SubscriberSettings}
+use Rattle.iox2_store.specs.Records.{Loan}
 use Rattle.iox2_store.specs.State.{State, Messages, with_loan, is_blocked}
 use Rattle.iox2_store.specs.Environments.{fixed_handlers}
 use Rattle.iox2_store.specs.Loans.{written, entry_of}
-use Rattle.iox2_store.specs.Sends.{Send, SendResult, Delivered_to, Blocked_send}
+use Rattle.iox2_store.specs.Sends.{Send, Delivered_to}
 use Rattle.iox2_laws.proofs.LoanKeeping.{send_loans}
 use Rattle.iox2_laws.proofs.Puts.{put_at-same, put_at-other}
-use Rattle.iox2_runs.specs.Outcomes.{Handle, No_handle, Publisher_handle, Subscriber_handle, Loan_handle, Blocked_handle, Sample_handle, Event, No_event, Message_sent, Message_received, Outcome, messages_after, outcome, replied, done, skipped}
-use Rattle.iox2_runs.specs.Runs.{Defaults, received}
+use Rattle.iox2_runs.specs.Outcomes.{Handle, No_handle, Loan_handle, Sample_handle, Event, No_event, Message_sent, Outcome, replied, done, skipped}
+use Rattle.iox2_runs.specs.Runs.{Defaults}
 use Rattle.iox2_runs.specs.Step.{Step}
-use Rattle.iox2_runs.specs.Tables.{Kept, Nothing_kept, Kept_publisher, Kept_subscriber, Kept_unwritten, Kept_written, Kept_sample, IsFree, HasLoan, IsSpent, IsKept, IsTable}
+use Rattle.iox2_runs.specs.Tables.{Kept, Nothing_kept, Kept_unwritten, Kept_written, IsSpent, IsTable}
 use Rattle.iox2_runs.specs.RunSteps.{Comes}
 use Rattle.iox2_runs.specs.declared.command.Command.{Command}
 use Rattle.iox2_runs.specs.declared.command.Command.TheVariants.{Nothing, WriteAll, Send as SendLoan}
@@ -33,7 +33,7 @@ at_none o P Q e h = subst (λ v. MatchOption v P Q) (sym e) h
 pub at_some : {A : Type 0} (o : Option A) (P : Type 0) (Q : A → Type 0) (a : A) → o ≡ Some a → Q a → MatchOption o P Q
 at_some o P Q a e h = subst (λ v. MatchOption v P Q) (sym e) h
 
-set_length : {A : Type 0} (xs : List A) (i : ℕ) (x : A) → length (slice_set xs i x) ≡ length xs
+pub set_length : {A : Type 0} (xs : List A) (i : ℕ) (x : A) → length (slice_set xs i x) ≡ length xs
 set_length [] i x = refl
 set_length (y ∷ xs) zero x = refl
 set_length (y ∷ xs) (suc i) x = ap suc (set_length xs i x)

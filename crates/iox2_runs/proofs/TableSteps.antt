@@ -75,6 +75,16 @@ set_away (y ∷ xs) zero x (suc k) away = refl
 set_away (y ∷ xs) (suc i) x zero away = refl
 set_away (y ∷ xs) (suc i) x (suc k) away = set_away xs i x k (λ e. away (ap suc e))
 
+-- what was received before isn't received now
+pub not_again : {T U : Type 0} (s : State T U) (handles : List Handle) (events : List (Event T U)) (table : List Kept) → IsTable s handles events table
+    → (p q n : ℕ) → IsOnce (received p q (events ++ Message_received p q n ∷ [])) → (i : ℕ) → slice_get handles i ≡ Some (Sample_handle p q n) → ⊥
+not_again {T} {U} s handles events table w p q n once i before =
+    let new : List (Event T U) = Message_received p q n ∷ [] in
+    let now : contains (received p q new) n ≡ true = rw (eq-eqb p p refl, eq-eqb q q refl) (contains_first n []) in
+    let apart : contains (received p q new) n ≡ false =
+    IsOnce-apart (received p q events) (received p q new) (subst IsOnce (received-append p q events new) once) n (w.samples_received i p q n before) in
+    true≢false (sym now ∙ apart)
+
 module _ {T U : Type 0} (s s' : State T U) (handles : List Handle) (events : List (Event T U)) (table : List Kept) (w : IsTable s handles events table)
     (handle : Handle) (event : Event T U) (entry : Kept) (table' : List Kept) where
   -- the table has one entry more, and its old entries are kept still
@@ -123,9 +133,7 @@ module _ {T U : Type 0} (s s' : State T U) (handles : List Handle) (events : Lis
 
     twice : (i p q n : ℕ) → slice_get handles i ≡ Some (Sample_handle p q n) → handle ≡ Sample_handle p q n → ⊥
     twice i p q n before now =
-        let apart : contains (received p q (event ∷ [])) n ≡ false =
-        IsOnce-apart (received p q events) (received p q (event ∷ [])) (subst IsOnce (received-append p q events (event ∷ [])) (once p q)) n (w.samples_received i p q n before) in
-        true≢false (sym (received_now p q n (new_sample p q n now)) ∙ apart)
+        not_again s handles events table w p q n (subst (λ (v : Event T U). IsOnce (received p q (events ++ v ∷ []))) (new_sample p q n now) (once p q)) i before
 
     apart_samples : (i j p q n : ℕ) → (slice_get handles i ≡ Some (Sample_handle p q n)) ⊎ ((i ≡ length handles) × (handle ≡ Sample_handle p q n))
         → (slice_get handles j ≡ Some (Sample_handle p q n)) ⊎ ((j ≡ length handles) × (handle ≡ Sample_handle p q n)) → i ≡ j
