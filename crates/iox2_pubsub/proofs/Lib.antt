@@ -61,3 +61,4 @@ pub mod ReceiverChanges
 pub mod ReceiverAgrees
 pub mod WrittenLoan
 pub mod LoanCalls
+pub mod SubscribersShown

@@ -13,6 +13,8 @@ use Rattle.iox2_store.specs.Places.{lowest_free}
 use Rattle.iox2_store.specs.Ports.{buffer_for, with_buffer_warning, with_new_subscriber, CreateSubscriber, MakeSubscriber}
 use Rattle.iox2_store.specs.Records.{Subscriber, Environment}
 use Rattle.iox2_store.specs.State.{State}
+use Rattle.iox2_store.specs.Environments.{fixed_handlers}
+use Rattle.iox2_store.specs.SubscriberUpdate.{UpdateSubscriber}
 use Rattle.iox2_store.specs.declared.errors.SubscriberCreateError.{SubscriberCreateError}
 use Rattle.iox2_store.specs.declared.errors.SubscriberCreateError.TheVariants.{UnableToCreatePortTag, BufferSizeExceedsMaxSupportedBufferSizeOfService, ExceedsMaxSupportedSubscribers}
 use Rattle.iox2_pubsub.specs.Ports.{SubscriberFields, due, entering}
@@ -23,6 +25,8 @@ use Rattle.iox2_pubsub.specs.Placed.{placed, lowest_empty}
 use Rattle.iox2_pubsub.specs.Reaches.{Reaches}
 use Rattle.iox2_pubsub.specs.SubscriberEntry.{asked_for, place_for_subscriber}
 use Rattle.iox2_pubsub.proofs.Admitted.{with_admitted, admitted-is, admitted-agrees}
+use Rattle.iox2_pubsub.proofs.Placed.{placed-here}
+use Rattle.iox2_pubsub.proofs.ReachesShows.{reaches-then}
 use Rattle.iox2_pubsub.proofs.FreePlaces.{lowest_empty-low, lowest_empty-free, lowest_free-ids, lowest_empty-map}
 
 -- the tests of a place that a subscriber has, in their order
@@ -112,15 +116,36 @@ module _ {T U : Type 0} (f : Fields T U) (asked : ℕ) where
         entries = λ n entry at. at;
       })
 
-  -- the same, where the fields are known by another name
-  pub entered-reaches-as : (before new : Fields T U) → before ≡ f → IsDomain f → (place : ℕ) (y : SubscriberFields) (warnings : Buffer _) → place_for_subscriber f asked ≡ Ok place
+  -- a subscriber that has entered, where the fields are known by another name
+  pub has-entered : (before new : Fields T U) → before ≡ f → IsDomain f → (place : ℕ) (y : SubscriberFields) (warnings : Buffer _) → place_for_subscriber f asked ≡ Ok place
       → y ≡ entering before.next_port place (buffer_for (asked_for asked)) y.place_room y.expired_room → HasSubscriberRoom before.config y
       → warnings.items ≡ (with_buffer_warning (state_of (kept_of before)) before.next_port).warnings → warnings.capacity ≡ warning_limit
       → new ≡ record before { next_port = before.next_port + 1; warnings = warnings; publishers = map (option_map due) before.publishers; subscribers = placed before.subscribers place y }
-      → Reaches f new (with_new_subscriber shown (asked_for asked) place)
-  entered-reaches-as before new e sound place y warnings h is room warned limit changed = entered-reaches sound new place y warnings h
-      (subst (λ (g : Fields T U). y ≡ entering g.next_port place (buffer_for (asked_for asked)) y.place_room y.expired_room) e is)
-      (subst (λ (g : Fields T U). HasSubscriberRoom g.config y) e room)
-      (subst (λ (g : Fields T U). warnings.items ≡ (with_buffer_warning (state_of (kept_of g)) g.next_port).warnings) e warned)
-      limit
-      (subst (λ (g : Fields T U). new ≡ record g { next_port = g.next_port + 1; warnings = warnings; publishers = map (option_map due) g.publishers; subscribers = placed g.subscribers place y }) e changed)
+      → Reaches f new (with_new_subscriber shown (asked_for asked) place) × (z : SubscriberFields) × (get_or new.subscribers place None ≡ Some z) × (z.id ≡ f.next_port)
+  has-entered before new e sound place y warnings h is room warned limit changed = (
+    entered-reaches sound new place y warnings h
+        (subst (λ (g : Fields T U). y ≡ entering g.next_port place (buffer_for (asked_for asked)) y.place_room y.expired_room) e is)
+        (subst (λ (g : Fields T U). HasSubscriberRoom g.config y) e room)
+        (subst (λ (g : Fields T U). warnings.items ≡ (with_buffer_warning (state_of (kept_of g)) g.next_port).warnings) e warned)
+        limit
+        (subst (λ (g : Fields T U). new ≡ record g { next_port = g.next_port + 1; warnings = warnings; publishers = map (option_map due) g.publishers; subscribers = placed g.subscribers place y }) e changed),
+    y,
+    ap (λ (g : Fields T U). get_or g.subscribers place None) changed ∙ placed-here y before.subscribers place,
+    ap (λ (z : SubscriberFields). z.id) is ∙ ap (λ (g : Fields T U). g.next_port) e,
+  )
+
+  -- a subscriber that has entered, after its first update
+  pub created-reaches : (mid new : Fields T U) (place : ℕ) → place_for_subscriber f asked ≡ Ok place
+      → Reaches f mid (with_new_subscriber shown (asked_for asked) place) × (z : SubscriberFields) × (get_or mid.subscribers place None ≡ Some z) × (z.id ≡ f.next_port)
+      → ((y : SubscriberFields) → get_or mid.subscribers place None ≡ Some y
+      → (s' : State T U) × UpdateSubscriber fixed_handlers (state_of (kept_of mid)) y.id s' None × Reaches mid new s')
+      → (s' : State T U) × CreateSubscriber fixed_handlers shown (asked_for asked) s' None × Reaches f new s'
+  created-reaches mid new place h entered updates =
+      let updated = updates entered.1 entered.2 in
+      let first : UpdateSubscriber fixed_handlers (with_new_subscriber shown (asked_for asked) place) f.next_port updated.0 None =
+      subst (λ (q : ℕ). UpdateSubscriber fixed_handlers (with_new_subscriber shown (asked_for asked) place) q updated.0 None) entered.3
+      (subst (λ (s : State T U). UpdateSubscriber fixed_handlers s entered.1.id updated.0 None) entered.0.state updated.1) in (
+        updated.0,
+        created-made fixed_handlers place updated.0 None h (updated.0, None, first, refl),
+        reaches-then f mid new (with_new_subscriber shown (asked_for asked) place) updated.0 entered.0 updated.2,
+      )

@@ -2,9 +2,11 @@
 #![tactic(auto)]
 
 mod domain;
+mod port_factory;
 mod subscriber;
 #[cfg(test)]
 mod tests;
 
 pub use domain::Domain;
+pub use port_factory::subscriber::PortFactorySubscriber;
 pub use subscriber::Subscriber;

@@ -1,5 +1,5 @@
 //! A subscriber enters a domain.
-ghost use Rattle.std.specs.Prelude.{◌≡◌, cond, nat_lt, MatchResult};
+ghost use Rattle.std.specs.Prelude.{◌≡◌, cond, nat_lt, slice_index_or, MatchResult};
 ghost use Rattle.circular_buffer.specs.Buffer.{buffer};
 ghost use Rattle.iox2_store.specs.Limits.{warning_limit};
 ghost use Rattle.iox2_store.specs.Ports.{with_new_subscriber};
@@ -30,6 +30,7 @@ fn warn_of_expired_buffer(
 }
 
 impl<T: Drop, U: Default + Drop> DomainState<T, U> {
+    ghost use Rattle.iox2_pubsub.specs.Ports.{SubscriberFields};
     ghost use Rattle.iox2_pubsub.specs.Kept.{state_of};
     ghost use Rattle.iox2_pubsub.specs.Fields.{kept_of};
     ghost use Rattle.iox2_pubsub.specs.Invariant.{IsDomain};
@@ -63,7 +64,7 @@ impl<T: Drop, U: Default + Drop> DomainState<T, U> {
         requires agrees { IsDomain self.old }
         requires has_place { place_for_subscriber self.old asked ≡ Ok place }
         ensures { MatchResult result
-            (λ _. Reaches self.old self.new (with_new_subscriber (state_of (kept_of self.old)) (asked_for asked) place))
+            (λ _. Reaches self.old self.new (with_new_subscriber (state_of (kept_of self.old)) (asked_for asked) place) × (y : SubscriberFields) × (slice_index_or self.new.subscribers place None ≡ Some y) × (y.id ≡ self.old.next_port))
             (λ e. (self.new ≡ self.old) × (e ≡ FailedToDeployThreadsafetyPolicy)) }
     {
         let id = UniqueSubscriberId::new(self.next_port);

@@ -4,14 +4,14 @@ use Rattle.std.specs.Option.{option_map}
 use Rattle.circular_buffer.specs.Buffer.{Buffer}
 use Rattle.iox2_pubsub.specs.Ports.{due, entering}
 use Rattle.iox2_pubsub.specs.Placed.{placed}
-use Rattle.iox2_pubsub.proofs.SubscriberEntries.{entered-reaches-as}
+use Rattle.iox2_pubsub.proofs.SubscriberEntries.{has-entered}
 use Rattle.iox2_pubsub.proofs.domain.state.DomainState.admit_subscriber.Goals as goal
 
 pub returns : goal.returns
 returns g c =
     let all_due : c.make_all_due.new.publishers ≡ map (option_map due) c.self.inside.publishers.items = c.make_all_due.ensures ∙ ap (map (option_map due)) c.deref_mut.ensures.value in
     let size : c.max.result ≡ max 1 c.args.asked = grind (arith, c.max.ensures) in
-    entered-reaches-as {T = g.row.T.Denot} {U = g.row.U.Denot} c.args.self.now c.args.asked _ _ c.self.view_is c.requires.agrees c.args.place c.in-Ok.subscriber
+    has-entered {T = g.row.T.Denot} {U = g.row.U.Denot} c.args.self.now c.args.asked _ _ c.self.view_is c.requires.agrees c.args.place c.in-Ok.subscriber
     c.warn_of_expired_buffer.new.warnings c.requires.has_place
     (c.in-Ok.ensures.enters ∙ ap (λ id. entering id c.args.place c.max.result c.in-Ok.subscriber.place_room c.in-Ok.subscriber.expired_room) c.new-id.ensures
     ∙ ap (λ buffer. entering c.self.inside.next_port c.args.place buffer c.in-Ok.subscriber.place_room c.in-Ok.subscriber.expired_room) size)

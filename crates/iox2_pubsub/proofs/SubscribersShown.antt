@@ -1,0 +1,60 @@
+-- The creation of a subscriber, seen from outside.
+use Rattle.std.proofs.Common.{◌≡◌, ℕ, refl, ap, sym, subst, ◌∙◌}
+use Rattle.std.specs.declared.option.Option.TheVariants.{None, Some}
+use Rattle.iox2_store.specs.Environments.{fixed_handlers}
+use Rattle.iox2_store.specs.Ports.{buffer_for, CreateSubscriber}
+use Rattle.iox2_store.specs.Records.{SubscriberSettings}
+use Rattle.iox2_store.specs.State.{State, Messages}
+use Rattle.iox2_store.specs.declared.errors.SubscriberCreateError.{SubscriberCreateError}
+use Rattle.iox2_pubsub.specs.Kept.{Kept, state_of}
+use Rattle.iox2_pubsub.specs.Fields.{Fields, kept_of}
+use Rattle.iox2_pubsub.specs.Handles.{IsSubscriberHandle}
+use Rattle.iox2_pubsub.specs.Reaches.{Reaches}
+use Rattle.iox2_pubsub.specs.Shows.{Shows}
+use Rattle.iox2_pubsub.proofs.ReachesShows.{reaches-shows-same}
+use Rattle.iox2_pubsub.proofs.SubscriberCreations.{create-keeps, create-open}
+
+module _ {T U : Type 0} (old new : Fields T U) (before : Kept T U) (is_before : kept_of old ≡ before) where
+  was : (m : Messages T U) (s : State T U) → Shows before m s → Shows (kept_of old) m s
+  was m s shown = subst (λ (kept : Kept T U). Shows kept m s) (sym is_before) shown
+
+  module _ (asked given : SubscriberSettings) (is_given : asked ≡ given) where
+    -- for every state that was shown, the one that is shown now has the subscriber
+    pub made-shown : (s' : State T U) × CreateSubscriber fixed_handlers (state_of (kept_of old)) asked s' None × Reaches old new s'
+        → (id buffer : ℕ) → id ≡ old.next_port → buffer ≡ buffer_for asked → (m : Messages T U) (s : State T U) → Shows before m s
+        → (s' : State T U) × Shows (kept_of new) m s' × (CreateSubscriber fixed_handlers s given s' None × (id ≡ s.next_port) × (buffer ≡ buffer_for given))
+    made-shown made id buffer is_id is_buffer m s shown =
+        let same : s ≡ state_of (kept_of old) = (was m s shown).state in
+        let keeps = create-keeps fixed_handlers (state_of (kept_of old)) asked made.0 None made.1 in (
+          made.0,
+          reaches-shows-same old new m s made.0 (was m s shown) made.2
+              (keeps.next_message ∙ ap (λ (t : State T U). t.next_message) (sym same)) (keeps.loans ∙ ap (λ (t : State T U). t.loans) (sym same)),
+          (
+            subst (λ (t : State T U). CreateSubscriber fixed_handlers t given made.0 None) (sym same)
+                (subst (λ (settings : SubscriberSettings). CreateSubscriber fixed_handlers (state_of (kept_of old)) settings made.0 None) is_given made.1),
+            is_id ∙ ap (λ (t : State T U). t.next_port) (sym same),
+            is_buffer ∙ ap buffer_for is_given,
+          ),
+        )
+
+    -- a refusal leaves what was shown
+    pub refused-shown : (e : SubscriberCreateError) → CreateSubscriber fixed_handlers (state_of (kept_of old)) asked (state_of (kept_of old)) (Some e) × (new ≡ old)
+        → (m : Messages T U) (s : State T U) → Shows before m s → (s' : State T U) × Shows (kept_of new) m s' × CreateSubscriber fixed_handlers s given s' (Some e)
+    refused-shown e refused m s shown =
+        let same : s ≡ state_of (kept_of old) = (was m s shown).state in (
+          s,
+          subst (λ (f : Fields T U). Shows (kept_of f) m s) (sym refused.1) (was m s shown),
+          subst (λ (t : State T U). CreateSubscriber fixed_handlers t given t (Some e)) (sym same)
+              (subst (λ (settings : SubscriberSettings). CreateSubscriber fixed_handlers (state_of (kept_of old)) settings (state_of (kept_of old)) (Some e)) is_given refused.0),
+        )
+
+module _ {T U : Type 0} (old new : Fields T U) (asked : SubscriberSettings) where
+  -- the domain holds the new subscriber
+  pub made-held : (s' : State T U) × CreateSubscriber fixed_handlers (state_of (kept_of old)) asked s' None × Reaches old new s'
+      → (service_id id : ℕ) → service_id ≡ (old.config).service_id → id ≡ old.next_port → IsSubscriberHandle (kept_of new) service_id id
+  made-held made service_id id is_service is_id =
+      let keeps = create-keeps fixed_handlers (state_of (kept_of old)) asked made.0 None made.1 in
+      let has = create-open fixed_handlers (state_of (kept_of old)) asked made.0 made.1 in (
+        is_service ∙ sym (ap (λ (s : State T U). (s.config).service_id) made.2.state ∙ ap (λ c. c.service_id) keeps.config),
+        (has.port, ap (λ (s : State T U). s.subscribers id) made.2.state ∙ ap made.0.subscribers is_id ∙ has.stands, has.is_open),
+      )

@@ -1,0 +1,3 @@
+//! Factories of ports.
+
+pub mod subscriber;
