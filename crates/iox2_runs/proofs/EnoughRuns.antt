@@ -66,11 +66,11 @@ module _ {T U : Type 0} where
   run_sound environment defaults m s handles _ _ _ m' s' w h = absurd h
 
   -- In every state that is reached from a new domain, no publisher holds more than the worst case.
-  pub reached_states_hold_few : (environment : Environment) (defaults : Defaults T U) (c : ServiceConfig)
+  pub reached_states_hold_at_most_worst_case : (environment : Environment) (defaults : Defaults T U) (c : ServiceConfig)
       (m' : Messages T U) (s' : State T U) (commands : List (Command T U)) (replies : List (Reply T U)) (events : List (Event T U))
       → Run environment defaults no_messages (fresh c) commands replies events m' s'
       → (s'.config ≡ c) × IsWellFormed s' × HoldsAtMostWorstCase s'
-  reached_states_hold_few environment defaults c m' s' commands replies events h =
+  reached_states_hold_at_most_worst_case environment defaults c m' s' commands replies events h =
       let sound : IsWellFormed s' × Advances (fresh {T = T} {U = U} c) s' =
       run_sound environment defaults no_messages (fresh c) [] commands replies events m' s' (fresh_is_well_formed c) h in
       ((sound.1).config, sound.0, holds_at_most_worst_case s' sound.0)

@@ -16,7 +16,7 @@ use Rattle.iox2_runs.specs.Step.{Step}
 use Rattle.iox2_store.specs.Environments.{ample_memory}
 use Rattle.iox2_runs.specs.Runs.{RunTo, Defaults, only_defaults, RunFrom}
 use Rattle.iox2_runs.specs.Views.{PublicPart, public_part, seen_handle, SameView, may_be_omitted, OmitsOthersFrom}
-use Rattle.iox2_runs.specs.Isolation.{IsIndependent, makes_independent_publisher, AreIndependent, is_of_others, subscriber_call, SameViewAfter, ClosesNoSubscriber, OthersAreUnseen, StepsLookAlike, SubscribersAreIsolated, IsIndependentPublisher, reads_at}
+use Rattle.iox2_runs.specs.Isolation.{IsIndependent, makes_independent_publisher, AreIndependent, is_of_others, subscriber_call, SameViewAfter, ClosesNoSubscriber, CallsLeaveOthersViews, AlikeStatesStayAlike, SubscribersAreIsolated, IsIndependentPublisher, reads_at}
 use Rattle.iox2_runs.specs.declared.command.Command.{Command}
 use Rattle.iox2_runs.specs.declared.command.Command.TheVariants.{Nothing, Receive, HasSamples, Update, Release, Read, ReadHeader, ReadUserHeader, Close}
 use Rattle.iox2_runs.specs.declared.reply.Reply.{Reply}
@@ -103,14 +103,14 @@ module _ {T U : Type 0} (q : ℕ) where
 -- ---- the laws of one step
 
 -- a subscriber's call leaves the view of each other subscriber
-pub others_are_unseen : {T U : Type 0} → OthersAreUnseen T U
-others_are_unseen {T} {U} default_value default_header q m s handles command of o all call other step =
+pub calls_leave_others_views : {T U : Type 0} → CallsLeaveOthersViews T U
+calls_leave_others_views {T} {U} default_value default_header q m s handles command of o all call other step =
     let a : IsAlike q o (done s) = others_alike q default_value default_header m s handles command of o all call other step in
     view_after q m m handles handles (done s) o refl refl (alike_sym q o (done s) a)
 
 -- one command from two independent states that look alike ends in states that do
-pub steps_look_alike : {T U : Type 0} → StepsLookAlike T U
-steps_look_alike {T} {U} default_value default_header q m m' s s' handles handles' command o o' independent independent' v closes h k replies =
+pub alike_states_stay_alike : {T U : Type 0} → AlikeStatesStayAlike T U
+alike_states_stay_alike {T} {U} default_value default_header q m m' s s' handles handles' command o o' independent independent' v closes h k replies =
     view_after q m m' handles handles' o o' (fun_ext v.messages) v.handles
     (step_alike q default_value default_header m m' s s' handles handles' (equal_views q m m' s s' handles handles' v) v.handles independent independent' command o o' closes h k replies)
 

@@ -91,8 +91,8 @@ module _ {T U : Type 0} where
   ClosesNoSubscriber handles command = (of r : ℕ) → command ≡ Close of → slice_get handles of ≡ Some (Subscriber_handle r) → ⊥
 
 -- A subscriber's call leaves the view of each other subscriber as it was, while no closed subscriber is left.
-abbrev pub OthersAreUnseen : Type 0 → Type 0 → Type 0
-OthersAreUnseen T U =
+abbrev pub CallsLeaveOthersViews : Type 0 → Type 0 → Type 0
+CallsLeaveOthersViews T U =
     (default_value : T) (default_header : U) (q : ℕ) (m : Messages T U) (s : State T U) (handles : List Handle) (command : Command T U) (of : ℕ) (o : Outcome T U)
     → ((r : ℕ) (y : Subscriber) → s.subscribers r ≡ Some y → y.is_open ≡ true)
     → subscriber_call command ≡ Some of → is_of_others q (slice_get handles of) ≡ true
@@ -101,8 +101,8 @@ OthersAreUnseen T U =
 
 -- One command from two independent states that look alike to a subscriber ends in states that do, where it closes no subscriber,
 -- and where the replies are alike if it is a receive of that subscriber.
-abbrev pub StepsLookAlike : Type 0 → Type 0 → Type 0
-StepsLookAlike T U =
+abbrev pub AlikeStatesStayAlike : Type 0 → Type 0 → Type 0
+AlikeStatesStayAlike T U =
     (default_value : T) (default_header : U) (q : ℕ) (m m' : Messages T U) (s s' : State T U) (handles handles' : List Handle) (command : Command T U) (o o' : Outcome T U)
     → IsIndependent s → IsIndependent s' → SameView q m s handles m' s' handles' → ClosesNoSubscriber handles command
     → Step ample_memory default_value default_header m s handles command o

@@ -80,8 +80,8 @@ OfEachReachedState T U Holds =
 
 -- In every state that a run from a new domain reaches, the configuration is unchanged, the state is well-formed, and a
 -- publisher with k loans out holds at most `worst_case k` different messages and loans.
-abbrev pub ReachedStatesHoldFew : Type 0 → Type 0 → Type 0
-ReachedStatesHoldFew T U = OfEachReachedState T U (λ c s. (s.config ≡ c) × IsWellFormed s × HoldsAtMostWorstCase s)
+abbrev pub ReachedStatesHoldAtMostWorstCase : Type 0 → Type 0 → Type 0
+ReachedStatesHoldAtMostWorstCase T U = OfEachReachedState T U (λ c s. (s.config ≡ c) × IsWellFormed s × HoldsAtMostWorstCase s)
 
 -- In every well-formed state, a static publisher with at least the worst case of slots grants every loan of permitted
 -- length, and refuses none, while fewer than its limit are out and the message counter isn't at its end.

@@ -1,8 +1,8 @@
 ghost use Rattle.iox2_runs.specs.Laws.{StepsKeepWellFormed, StepsLift};
 ghost use Rattle.iox2_runs.specs.Existence.{EveryListRuns};
 ghost use Rattle.iox2_runs.specs.FillingCommands.{WorstCaseIsReached, WorstCaseIsLeast};
-ghost use Rattle.iox2_runs.specs.Isolation.{OthersAreUnseen, StepsLookAlike, SubscribersAreIsolated};
-ghost use Rattle.iox2_runs.specs.RunLaws.{ReachedStatesHoldFew, WorstCaseOfSlotsGrants, LoansAreGranted, SamplesNameTheirPublisher, ReceivesInOrder, ReadsGiveWhatWasSent};
+ghost use Rattle.iox2_runs.specs.Isolation.{CallsLeaveOthersViews, AlikeStatesStayAlike, SubscribersAreIsolated};
+ghost use Rattle.iox2_runs.specs.RunLaws.{ReachedStatesHoldAtMostWorstCase, WorstCaseOfSlotsGrants, LoansAreGranted, SamplesNameTheirPublisher, ReceivesInOrder, ReadsGiveWhatWasSent};
 
 /// Every step from a well-formed state ends in a well-formed one with the same configuration, and no counter falls,
 /// whatever handlers answer and whether or not memory is refused.
@@ -22,8 +22,8 @@ pub fn every_list_runs<T, U>()
 
 /// In every state that a run from a new domain reaches, the configuration is unchanged, the state is well-formed, and each
 /// publisher holds at most the worst case of different messages and loans for the loans that it has out.
-pub fn reached_states_hold_few<T, U>()
-    ensures { ReachedStatesHoldFew T U }
+pub fn reached_states_hold_at_most_worst_case<T, U>()
+    ensures { ReachedStatesHoldAtMostWorstCase T U }
 {}
 
 /// In a well-formed state, a static publisher with the worst case of slots grants every loan of permitted length, and can't
@@ -71,14 +71,14 @@ pub fn worst_case_is_least<T, U>()
 
 /// With ample memory and no closed subscriber left, a subscriber's receive, `HasSamples`, update, read or release leaves the
 /// view of each other subscriber as it was.
-pub fn others_are_unseen<T, U>()
-    ensures { OthersAreUnseen T U }
+pub fn calls_leave_others_views<T, U>()
+    ensures { CallsLeaveOthersViews T U }
 {}
 
 /// With ample memory, one command that closes no subscriber, from two independent states with equal views, ends in equal
 /// views. If it is the subscriber's own receive, the replies must be equal.
-pub fn steps_look_alike<T, U>()
-    ensures { StepsLookAlike T U }
+pub fn alike_states_stay_alike<T, U>()
+    ensures { AlikeStatesStayAlike T U }
 {}
 
 /// With ample memory, static publishers with the worst case of slots that never block, and no subscriber closed: a

@@ -1,7 +1,7 @@
 use crate::{
-    Command, Reply, every_list_runs, loans_are_granted, others_are_unseen, reached_states_hold_few,
+    Command, Reply, every_list_runs, loans_are_granted, calls_leave_others_views, reached_states_hold_at_most_worst_case,
     reads_give_what_was_sent, receives_in_order, samples_name_their_publisher,
-    steps_keep_well_formed, steps_lift, steps_look_alike, subscribers_are_isolated,
+    steps_keep_well_formed, steps_lift, alike_states_stay_alike, subscribers_are_isolated,
     worst_case_is_least, worst_case_is_reached, worst_case_of_slots_grants,
 };
 use iox2_store::{LoanError, UniquePublisherId};
@@ -39,7 +39,7 @@ fn laws_stand_at_concrete_types() {
     steps_keep_well_formed::<u64, u8>();
     steps_lift::<u64, u8>();
     every_list_runs::<u64, u8>();
-    reached_states_hold_few::<u64, u8>();
+    reached_states_hold_at_most_worst_case::<u64, u8>();
     samples_name_their_publisher::<u64, u8>();
     receives_in_order::<u64, u8>();
     reads_give_what_was_sent::<u64, u8>();
@@ -47,7 +47,7 @@ fn laws_stand_at_concrete_types() {
     loans_are_granted::<u64, u8>();
     worst_case_is_reached::<u64, u8>();
     worst_case_is_least::<u64, u8>();
-    others_are_unseen::<u64, u8>();
-    steps_look_alike::<u64, u8>();
+    calls_leave_others_views::<u64, u8>();
+    alike_states_stay_alike::<u64, u8>();
     subscribers_are_isolated::<u64, u8>();
 }
