@@ -25,6 +25,9 @@ pub mod SetRecords
 pub mod Taken
 pub mod Granted
 pub mod GrantedAgrees
+pub mod LendingSteps
+pub mod Lent
+pub mod Loaned
 pub mod PublisherChanges
 pub mod Messages
 pub mod Keys

@@ -7,6 +7,7 @@ ghost use Rattle.iox2_pubsub.specs.Shows.{Shows};
 mod keys;
 mod loan_calls;
 mod loan_slots;
+mod loans;
 mod open_ports;
 mod places;
 mod publisher_entry;
