@@ -55,6 +55,7 @@ pub mod SlotChanges
 pub mod SubscriberCreations
 pub mod OpenPorts
 pub mod PublisherEntries
+pub mod PublisherCreations
 pub mod Standing
 pub mod Made
 pub mod SenderSteps

@@ -1,21 +1,42 @@
 -- The ports that weren't closed stand open at their places.
-use Rattle.std.proofs.Common.{◌≡◌, ℕ, List, true, get_or, ap, sym, subst, ◌∙◌}
+use Rattle.std.proofs.Common.{◌≡◌, ◌↔◌, ℕ, List, true, get_or, is_some, refl, ap, sym, subst, ◌∙◌, IsTrue, MatchOption}
 use Rattle.std.proofs.lemmas.List.{get_or_default}
 use Rattle.std.specs.declared.option.Option.{Option}
 use Rattle.std.specs.declared.option.Option.TheVariants.{None, Some}
 use Rattle.std.specs.Option.{option_map}
-use Rattle.iox2_store.specs.Records.{Subscriber}
-use Rattle.iox2_store.specs.SingleCalls.{HoldsSubscriber}
+use Rattle.iox2_store.specs.Records.{Publisher, Subscriber}
+use Rattle.iox2_store.specs.SingleCalls.{HoldsPublisher, HoldsSubscriber}
 use Rattle.iox2_ends.specs.LookUp.{look_up}
 use Rattle.iox2_ends.proofs.MailboxChanges.{within_if_some}
-use Rattle.iox2_pubsub.specs.Ports.{SubscriberFields}
+use Rattle.iox2_pubsub.specs.Ports.{PublisherFields, SubscriberFields}
 use Rattle.iox2_pubsub.specs.Kept.{Named, state_of, is_named}
-use Rattle.iox2_pubsub.specs.Fields.{Fields, kept_of, subscriber_of}
-use Rattle.iox2_pubsub.specs.Invariant.{IsDomain, is_subscriber}
+use Rattle.iox2_pubsub.specs.Fields.{Fields, kept_of, publisher_of, subscriber_of}
+use Rattle.iox2_pubsub.specs.Invariant.{IsDomain, is_publisher, is_subscriber}
 use Rattle.iox2_pubsub.proofs.Containers.{look_up-map}
-use Rattle.iox2_pubsub.proofs.ConnectionEnds.{subscriber-stands}
+use Rattle.iox2_pubsub.proofs.ConnectionEnds.{publisher-stands, subscriber-stands}
 
 module _ {T U : Type 0} (f : Fields T U) (id : ℕ) where
+  -- a publisher that stands nowhere isn't held
+  pub absent-publisher : look_up (is_publisher id) f.publishers ≡ None → HoldsPublisher (state_of (kept_of f)) id → ⊥
+  absent-publisher none has =
+      let gone : (state_of (kept_of f)).publishers id ≡ None =
+      ap (option_map (λ (z : Named Publisher). z.port))
+      (look_up-map (is_named id) (publisher_of f.books f.connections) f.publishers ∙ ap (option_map (publisher_of f.books f.connections)) none) in
+      let clash : None ≡ Some has.0 = sym gone ∙ has.1 in
+      absurd cc
+
+  -- one that stands somewhere is
+  pub present-publisher : IsDomain f → (i : ℕ) (x : PublisherFields) → get_or f.publishers i None ≡ Some x → x.id ≡ id → HoldsPublisher (state_of (kept_of f)) id
+  present-publisher sound i x at is =
+      ((publisher_of f.books f.connections x).port, subst (λ (p : ℕ). (state_of (kept_of f)).publishers p ≡ Some ((publisher_of f.books f.connections x).port)) is (publisher-stands f sound i x at))
+
+  -- so a search tells which
+  pub publisher-held : IsDomain f → (found : Option ℕ)
+      → MatchOption found (look_up (is_publisher id) f.publishers ≡ None) (λ i. (x : PublisherFields) × (get_or f.publishers i None ≡ Some x) × (x.id ≡ id))
+      → IsTrue (is_some found) ↔ HoldsPublisher (state_of (kept_of f)) id
+  publisher-held sound None none = (λ no. absurd cc, λ has. absurd (absent-publisher none has))
+  publisher-held sound (Some i) found = (λ yes. present-publisher sound i found.0 found.1 found.2, λ has. refl)
+
   -- a subscriber that stands nowhere isn't held
   pub absent-subscriber : look_up (is_subscriber id) f.subscribers ≡ None → HoldsSubscriber (state_of (kept_of f)) id → ⊥
   absent-subscriber none has =

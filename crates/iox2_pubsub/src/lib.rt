@@ -3,10 +3,13 @@
 
 mod domain;
 mod port_factory;
+mod publisher;
 mod subscriber;
 #[cfg(test)]
 mod tests;
 
 pub use domain::Domain;
+pub use port_factory::publisher::PortFactoryPublisher;
 pub use port_factory::subscriber::PortFactorySubscriber;
+pub use publisher::Publisher;
 pub use subscriber::Subscriber;

@@ -1,3 +1,4 @@
 //! Factories of ports.
 
+pub mod publisher;
 pub mod subscriber;

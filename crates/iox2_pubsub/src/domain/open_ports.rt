@@ -1,6 +1,6 @@
 //! The ports of a domain that weren't closed.
 ghost use Rattle.std.specs.Prelude.{◌↔◌, IsTrue};
-ghost use Rattle.iox2_store.specs.SingleCalls.{HoldsSubscriber};
+ghost use Rattle.iox2_store.specs.SingleCalls.{HoldsPublisher, HoldsSubscriber};
 
 use crate::domain::state::DomainState;
 
@@ -8,6 +8,14 @@ impl<T: Drop, U: Default + Drop> DomainState<T, U> {
     ghost use Rattle.iox2_pubsub.specs.Kept.{state_of};
     ghost use Rattle.iox2_pubsub.specs.Fields.{kept_of};
     ghost use Rattle.iox2_pubsub.specs.Invariant.{IsDomain};
+
+    /// Whether a publisher has this id and wasn't closed.
+    pub(crate) fn has_publisher(&self, id: u128) -> bool
+        requires { IsDomain self.now }
+        ensures { IsTrue result ↔ HoldsPublisher (state_of (kept_of self.now)) id }
+    {
+        self.find_publisher(id, 0).is_some()
+    }
 
     /// Whether a subscriber has this id and wasn't closed.
     pub(crate) fn has_open_subscriber(&self, id: u128) -> bool

@@ -1,5 +1,5 @@
 //! A publisher enters a domain.
-ghost use Rattle.std.specs.Prelude.{◌≡◌, ◌⊎◌, MatchResult};
+ghost use Rattle.std.specs.Prelude.{◌≡◌, ◌⊎◌, None, Some, slice_index_or, MatchResult, OnOk};
 ghost use Rattle.iox2_store.specs.Limits.{worst_case};
 ghost use Rattle.iox2_store.specs.Ports.{with_new_publisher};
 ghost use Rattle.iox2_store.specs.declared.errors.PublisherCreateError.TheVariants.{UnableToCreateDataSegment, FailedToDeployThreadsafetyPolicy};
@@ -12,6 +12,7 @@ use crate::domain::subscriber_state::make_all_due;
 use iox2_store::{Contents, PublisherCreateError, SlotBook, UniquePublisherId};
 
 impl<T: Drop, U: Default + Drop> DomainState<T, U> {
+    ghost use Rattle.iox2_pubsub.specs.Ports.{PublisherFields};
     ghost use Rattle.iox2_pubsub.specs.Kept.{state_of};
     ghost use Rattle.iox2_pubsub.specs.Fields.{kept_of};
     ghost use Rattle.iox2_pubsub.specs.Invariant.{IsDomain};
@@ -44,7 +45,8 @@ impl<T: Drop, U: Default + Drop> DomainState<T, U> {
         requires agrees { IsDomain self.old }
         requires has_place { place_for_publisher self.old ≡ Ok place }
         requires slots { slots ≡ worst_case (self.old).config max_loaned_samples }
-        ensures { MatchResult result
+        ensures stands { OnOk result ((x : PublisherFields) × (slice_index_or self.new.publishers place None ≡ Some x) × (x.id ≡ self.old.next_port)) }
+        ensures step { MatchResult result
             (λ _. Reaches self.old self.new (with_new_publisher (state_of (kept_of self.old)) (plain_publisher max_loaned_samples) place))
             (λ e. Reaches self.old self.new (state_of (kept_of self.old)) × ((e ≡ UnableToCreateDataSegment) ⊎ (e ≡ FailedToDeployThreadsafetyPolicy))) }
     {

@@ -1,15 +1,19 @@
-use Rattle.std.proofs.Common.{◌≢◌, ◌∙◌, ◌+◌, ap, map, arith, refl, [], inl, inr}
+use Rattle.std.proofs.Common.{◌≢◌, ◌∙◌, ◌+◌, ap, map, arith, refl, [], get_or, inl, inr}
 use Rattle.std.proofs.lemmas.List.{with_items_is}
 use Rattle.std.specs.Option.{option_map}
+use Rattle.std.specs.declared.option.Option.TheVariants.{None}
 use Rattle.circular_buffer.specs.Buffer.{buffer}
 use Rattle.iox2_store.specs.Limits.{last_number}
 use Rattle.iox2_pubsub.specs.NewPublisher.{entering_publisher, subscriber_due}
+use Rattle.iox2_pubsub.specs.Ports.{PublisherFields}
+use Rattle.iox2_pubsub.specs.Fields.{Fields}
 use Rattle.iox2_pubsub.specs.Placed.{placed}
+use Rattle.iox2_pubsub.proofs.Placed.{placed-here}
 use Rattle.iox2_pubsub.proofs.PublisherEntries.{entered-reaches-as, room-reaches, numbered-low}
 use Rattle.iox2_pubsub.proofs.domain.state.DomainState.admit_publisher.Goals as goal
 
-pub returns-in_default-try_reserve : goal.returns-in_default-try_reserve
-returns-in_default-try_reserve g c = (
+pub returns-in_default-try_reserve-clause-step : goal.returns-in_default-try_reserve-clause-step
+returns-in_default-try_reserve-clause-step g c = (
   room-reaches {T = g.row.T.Denot} {U = g.row.U.Denot} c.args.self.now _ _ c.self.inside.books.capacity c.self.view_is c.requires.agrees (λ i. record {
     config = c.self.inside.config;
     next_port = c.self.inside.next_port;
@@ -24,8 +28,8 @@ returns-in_default-try_reserve g c = (
   inr refl,
 )
 
-pub returns-in_default-add_segment : goal.returns-in_default-add_segment
-returns-in_default-add_segment g c = (
+pub returns-in_default-add_segment-clause-step : goal.returns-in_default-add_segment-clause-step
+returns-in_default-add_segment-clause-step g c = (
   room-reaches {T = g.row.T.Denot} {U = g.row.U.Denot} c.args.self.now _ _ c.add_segment.new.books.capacity c.self.view_is c.requires.agrees (λ i. record {
     config = c.self.inside.config;
     next_port = c.self.inside.next_port;
@@ -45,8 +49,8 @@ overflow_add-self g c =
     let low : c.self.inside.next_port ≢ last_number = numbered-low {T = g.row.T.Denot} {U = g.row.U.Denot} c.args.self.now _ c.args.place c.self.view_is c.requires.has_place in
     omega arith
 
-pub returns : goal.returns
-returns g c =
+pub returns-clause-step : goal.returns-clause-step
+returns-clause-step g c =
     let loans = c.args.max_loaned_samples in
     entered-reaches-as {T = g.row.T.Denot} {U = g.row.U.Denot} c.args.self.now _ _ c.self.view_is c.requires.agrees loans c.args.slots c.args.place c.in-Ok-entering.publisher c.in-Ok.book c.in-Ok-new.contents
     c.add_segment.new.books c.requires.has_place c.requires.slots (record {
@@ -73,3 +77,10 @@ returns g c =
         contents = c.in-Ok-add_segment.ensures.contents i;
       };
     })
+
+pub returns-clause-stands : goal.returns-clause-stands
+returns-clause-stands g c = (
+  c.in-Ok-entering.publisher,
+  ap (λ xs. get_or xs c.args.place None) c.put_at_place.ensures.items ∙ placed-here c.in-Ok-entering.publisher c.try_reserve.new.self.items c.args.place,
+  ap (λ (x : PublisherFields). x.id) c.in-Ok-entering.ensures.enters ∙ c.new-id.ensures ∙ ap (λ (f : Fields g.row.T.Denot g.row.U.Denot). f.next_port) c.self.view_is,
+)

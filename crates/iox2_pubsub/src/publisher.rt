@@ -1,0 +1,64 @@
+//! A publisher.
+ghost use Rattle.std.specs.Prelude.{◌≡◌};
+
+use crate::domain::Domain;
+use iox2_store::{Key, UniquePublisherId};
+
+/// Sends messages to every subscriber of its domain. It is a value to be spent: the domain keeps
+/// the publisher until that is closed.
+///
+/// iceoryx2's `port::publisher::Publisher` (`src/port/publisher.rs`).
+pub struct Publisher {
+    pub(crate) service_id: u128,
+    pub(crate) id: UniquePublisherId,
+    // Where the domain looks for it first.
+    pub(crate) place: usize,
+}
+
+impl Publisher {
+    /// Names the publisher among all ports of its domain.
+    ///
+    /// iceoryx2's `Publisher::id` (`src/port/publisher.rs`).
+    pub fn id(&self) -> UniquePublisherId
+        ensures { result ≡ self.now.id }
+    {
+        self.id
+    }
+
+    /// Names the publisher without being its handle. This library's own.
+    pub fn key(&self) -> Key
+        ensures { result ≡ record { service_id = self.now.service_id; port = self.now.id; message = 0 } }
+    {
+        Key {
+            service_id: self.service_id,
+            port: self.id.value(),
+            message: 0,
+        }
+    }
+
+    /// Spends the handle of a publisher whose domain is gone. A domain that is still there isn't
+    /// told, and keeps the publisher. This library's own.
+    pub fn disown(self) {
+        let Publisher {
+            service_id: _,
+            id: _,
+            place: _,
+        } = self;
+    }
+}
+
+impl<T: Drop, U: Default + Drop> Domain<T, U> {
+    ghost use Rattle.std.specs.Prelude.{IsTrue, ◌↔◌};
+    ghost use Rattle.iox2_pubsub.specs.Handles.{IsPublisherKey};
+
+    /// Whether the key is that of a publisher of this domain that wasn't closed. This library's
+    /// own.
+    pub fn holds_publisher(&self, key: Key) -> bool
+        ensures { IsTrue result ↔ IsPublisherKey self.now key }
+    {
+        if key.service_id != self.state.config.service_id || key.message != 0 {
+            return false;
+        }
+        self.state.has_publisher(key.port)
+    }
+}
