@@ -66,3 +66,4 @@ pub mod ReceiverAgrees
 pub mod WrittenLoan
 pub mod LoanCalls
 pub mod SubscribersShown
+pub mod LoanHandles

@@ -4,6 +4,8 @@
 mod domain;
 mod port_factory;
 mod publisher;
+mod sample_mut;
+mod sample_mut_uninit;
 mod subscriber;
 #[cfg(test)]
 mod tests;
@@ -12,4 +14,6 @@ pub use domain::Domain;
 pub use port_factory::publisher::PortFactoryPublisher;
 pub use port_factory::subscriber::PortFactorySubscriber;
 pub use publisher::Publisher;
+pub use sample_mut::SampleMut;
+pub use sample_mut_uninit::SampleMutUninit;
 pub use subscriber::Subscriber;

@@ -1,0 +1,108 @@
+//! A loan that isn't written.
+ghost use Rattle.std.specs.Prelude.{◌≡◌};
+
+use crate::domain::Domain;
+use crate::sample_mut::SampleMut;
+use iox2_store::{Header, Key, UniquePublisherId};
+
+/// A loan whose payload isn't written. It is a value to be spent: the domain keeps the loan until
+/// its message was sent.
+///
+/// iceoryx2's `sample_mut_uninit::SampleMutUninit` (`src/sample_mut_uninit.rs`).
+pub struct SampleMutUninit {
+    pub(crate) service_id: u128,
+    pub(crate) publisher: UniquePublisherId,
+    pub(crate) number: u128,
+    // Where the domain looks for it first.
+    pub(crate) slot: usize,
+}
+
+impl SampleMutUninit {
+    ghost use Rattle.std.specs.Prelude.{Some};
+    ghost use Rattle.iox2_store.specs.Records.{Loan};
+    ghost use Rattle.iox2_store.specs.State.{State, Messages, with_loan};
+    ghost use Rattle.iox2_store.specs.Loans.{written};
+    ghost use Rattle.iox2_pubsub.specs.Handles.{IsUnwrittenLoanHandle, IsWrittenLoanHandle};
+    ghost use Rattle.iox2_pubsub.specs.LoanCalls.{HasCell, HasLoanHeader};
+    ghost use Rattle.iox2_pubsub.specs.Shows.{Shows};
+
+    /// Writes the payload, and makes the loan one that may be sent.
+    ///
+    /// iceoryx2's `SampleMutUninit::write_payload` (`src/sample_mut_uninit.rs`).
+    pub fn write_payload<T: Drop, U: Default + Drop>(
+        self,
+        domain: &mut Domain<T, U>,
+        value: T,
+    ) -> SampleMut
+        requires held { IsUnwrittenLoanHandle domain.old self.service_id self.publisher self.number }
+        requires single { (domain.old.config).units_per_element ≡ 1 }
+        ensures written { (m : Messages T U) (s : State T U) → Shows domain.old m s → (l : Loan T U) × (s.loans self.number ≡ Some l) × Shows domain.new m (with_loan s self.number (Some (written l value))) }
+        ensures held { IsWrittenLoanHandle domain.new result.service_id result.publisher result.number }
+        ensures service_id { result.service_id ≡ self.service_id }
+        ensures publisher { result.publisher ≡ self.publisher }
+        ensures number { result.number ≡ self.number }
+    {
+        let SampleMutUninit {
+            service_id,
+            publisher,
+            number,
+            slot,
+        } = self;
+        let slot = domain
+            .state
+            .write_loan(publisher.value(), number, slot, value);
+        SampleMut {
+            service_id,
+            publisher,
+            number,
+            slot,
+        }
+    }
+
+    /// The payload, and `None` where it isn't written.
+    ///
+    /// iceoryx2's `SampleMutUninit::payload` (`src/sample_mut_uninit.rs`).
+    pub fn payload<'a, T: Drop, U: Default + Drop>(&self, domain: &'a Domain<T, U>) -> &'a Option<T>
+        requires held { IsUnwrittenLoanHandle domain.now self.now.service_id self.now.publisher self.now.number }
+        requires single { (domain.now.config).units_per_element ≡ 1 }
+        ensures { (m : Messages T U) (s : State T U) → Shows domain.now m s → HasCell s self.now.number result.now }
+    {
+        domain
+            .state
+            .loan_cell(self.publisher.value(), self.number, self.slot)
+    }
+
+    /// Where the message comes from, and of how many elements it is.
+    ///
+    /// iceoryx2's `SampleMutUninit::header` (`src/sample_mut_uninit.rs`).
+    pub fn header<'a, T: Drop, U: Default + Drop>(&self, domain: &'a Domain<T, U>) -> &'a Header
+        requires { IsUnwrittenLoanHandle domain.now self.now.service_id self.now.publisher self.now.number }
+        ensures { (m : Messages T U) (s : State T U) → Shows domain.now m s → HasLoanHeader s self.now.number result.now }
+    {
+        domain
+            .state
+            .loan_header(self.publisher.value(), self.number, self.slot)
+    }
+
+    /// Names the loan without being its handle. This library's own.
+    pub fn key(&self) -> Key
+        ensures { result ≡ record { service_id = self.now.service_id; port = self.now.publisher; message = self.now.number } }
+    {
+        Key {
+            service_id: self.service_id,
+            port: self.publisher.value(),
+            message: self.number,
+        }
+    }
+
+    /// Spends the handle of a loan whose domain is gone. A domain that is still there isn't told,
+    /// and keeps the loan. This library's own.
+    pub fn disown(self) {
+        let SampleMutUninit {
+            service_id: _,
+            publisher: _,
+            number: _,
+            slot: _,
+        } = self;
+    }
+}
