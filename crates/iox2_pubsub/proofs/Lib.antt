@@ -67,3 +67,4 @@ pub mod WrittenLoan
 pub mod LoanCalls
 pub mod SubscribersShown
 pub mod LoanHandles
+pub mod Deliveries

@@ -17,3 +17,4 @@ pub mod SubscriberEntry
 pub mod LoanSlots
 pub mod Connects
 pub mod LoanCalls
+pub mod Deliveries

@@ -3,6 +3,7 @@ ghost use Rattle.std.specs.Prelude.{◌≡◌, IfOk, map};
 ghost use Rattle.std.specs.Option.{option_map};
 ghost use Rattle.iox2_pubsub.specs.NewPublisher.{subscriber_due};
 
+use iox2_ends::sender::{Receiver, ReceiverDetails};
 use iox2_store::{ServiceConfig, UniqueSubscriberId};
 use std::alloc::{AllocError, Global};
 use std::marker::Model;
@@ -42,6 +43,20 @@ impl Model for SubscriberState {
       expired_room = vec_capacity y.expired;
       is_due = y.is_due;
     } };
+}
+
+impl Receiver for SubscriberState {
+    ghost use Rattle.iox2_pubsub.specs.Invariant.{details_of as details_of_subscriber};
+
+    ghost details_of = { details_of_subscriber };
+
+    fn details(&self) -> ReceiverDetails {
+        ReceiverDetails {
+            port_id: self.id.value(),
+            buffer_size: self.buffer,
+            is_open: self.is_open,
+        }
+    }
 }
 
 impl SubscriberState {
