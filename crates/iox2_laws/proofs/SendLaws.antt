@@ -171,7 +171,7 @@ module _ {T U : Type 0} where
         (blocked_keeps s w p x here n (put_at s.loans n None) longer x.ends (Suspended b) boxes underway_of_loan d b refl)
 
     -- a loan of a publisher that isn't blocked is published
-    publish_keeps : (environment : Environment) (s' : State T U) (result : SendResult) → Publish environment s p n s' result → IsWellFormed s'
+    pub publish_keeps : (environment : Environment) (s' : State T U) (result : SendResult) → Publish environment s p n s' result → IsWellFormed s'
     publish_keeps environment s' result h =
         by_option (IsWellFormed s') (s.publishers p) _ _ h (λ _ v. absurd v) (λ x1 here1 h.
         by_option (IsWellFormed s') ((published s p n).publishers p) _ _ h (λ _ v. absurd v) (λ x2 _ h.

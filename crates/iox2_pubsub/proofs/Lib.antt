@@ -68,3 +68,7 @@ pub mod LoanCalls
 pub mod SubscribersShown
 pub mod LoanHandles
 pub mod Deliveries
+pub mod LoanAlone
+pub mod SentSlots
+pub mod SendEnded
+pub mod Published

@@ -1,11 +1,14 @@
 -- A publisher's message is delivered, and its send ends.
-use Rattle.std.specs.Prelude.{◌≡◌, ℕ, ◌-◌, false, List, map, slice_index, slice_set}
+use Rattle.std.specs.Prelude.{◌≡◌, ◌⊎◌, ℕ, ◌-◌, false, List, map, slice_index, slice_set}
 use Rattle.std.specs.declared.option.Option.TheVariants.{None, Some}
 use Rattle.std.specs.Option.{option_map}
 use Rattle.slab.specs.Slab.{Slab, get, with_value}
 use Rattle.iox2_store.specs.Delivery.{Complete, Deliver, no_time}
 use Rattle.iox2_store.specs.Link.{Link}
+use Rattle.iox2_store.specs.Loans.{entry_of}
 use Rattle.iox2_store.specs.Numbers.{without}
+use Rattle.iox2_store.specs.Records.{Entry, Loan}
+use Rattle.iox2_store.specs.Sends.{Publish, Delivered_to}
 use Rattle.iox2_store.specs.SlotBook.{Book}
 use Rattle.iox2_store.specs.declared.slots.mark.SlotMark.TheVariants.{Sent}
 use Rattle.iox2_ends.specs.Counters.{with_counters}
@@ -13,8 +16,9 @@ use Rattle.iox2_ends.specs.Mailboxes.{mailboxes_of, sender_ends}
 use Rattle.iox2_ends.specs.Receivers.{buffers_of}
 use Rattle.iox2_ends.specs.Recounts.{Recounts}
 use Rattle.iox2_pubsub.specs.Ports.{PublisherFields}
-use Rattle.iox2_pubsub.specs.Fields.{Fields}
-use Rattle.iox2_pubsub.specs.Invariant.{details_of}
+use Rattle.iox2_pubsub.specs.Kept.{state_of, entries_of}
+use Rattle.iox2_pubsub.specs.Fields.{Fields, kept_of}
+use Rattle.iox2_pubsub.specs.Invariant.{IsDomain, details_of}
 use Rattle.iox2_pubsub.specs.Environments.{fixed_handlers}
 
 -- The slot of the publisher x went to its receivers, of which so many took it. Connections and counters changed together, and
@@ -44,3 +48,10 @@ with_send_ended f place x slot book = record f {
   publishers = slice_set f.publishers place (Some (with_loan_out slot x));
   books = with_value f.books x.book (with_sent slot book);
 }
+
+-- The loan n of the publisher p was published, and so many receivers took it. Its entry may be newly kept, and no other is.
+pub record Publishes {T U : Type 0} (old new : Fields T U) (p n : ℕ) (l : Loan T U) (count : ℕ) : Type 0 where
+  pub agrees : IsDomain new
+  pub publishes : Publish fixed_handlers (state_of (kept_of old)) p n (state_of (kept_of new)) (Delivered_to count)
+  pub entries : (m : ℕ) (entry : Entry T U) → entries_of (kept_of new) m ≡ Some entry
+      → ((m ≡ n) × (entry ≡ entry_of l)) ⊎ (entries_of (kept_of old) m ≡ Some entry)

@@ -1,4 +1,4 @@
-use Rattle.std.proofs.Common.{◌≡◌, ℕ, None, Some, slice_index_or, sym, ◌∙◌, ap, subst, arith}
+use Rattle.std.proofs.Common.{◌≡◌, None, Some, slice_index_or, sym, ◌∙◌, ap, subst, arith}
 use Rattle.slab.specs.Slab.{get}
 use Rattle.iox2_ends.specs.Deliveries.{no_handlers}
 use Rattle.iox2_ends.specs.Receivers.{HasReclaimed}
@@ -7,7 +7,7 @@ use Rattle.iox2_pubsub.specs.Ports.{PublisherFields}
 use Rattle.iox2_pubsub.specs.Fields.{Fields}
 use Rattle.iox2_pubsub.specs.Invariant.{IsDomain}
 use Rattle.iox2_pubsub.proofs.Parts.{parts_of}
-use Rattle.iox2_pubsub.proofs.PublisherBooks.{read-there, book-there, sender-linked, book-covers}
+use Rattle.iox2_pubsub.proofs.PublisherBooks.{read-there, book-there, book-covers}
 use Rattle.iox2_pubsub.proofs.Deliveries.{never-waits, ready-to-deliver, delivers-to}
 use Rattle.iox2_pubsub.proofs.domain.state.DomainState.deliver_slot.Goals as goal
 
