@@ -15,6 +15,10 @@ pub mod Released
 pub mod ConnectionSlots
 pub mod SampleSlots
 pub mod Receipts
+pub mod SampleEntries
+pub mod SampleReads
+pub mod BorrowedNumbers
+pub mod ReleaseShows
 pub mod EnteredAgrees
 pub mod Admitted
 pub mod MapSteps

@@ -1,10 +1,11 @@
 -- Where borrowed messages lie.
-use Rattle.std.specs.Prelude.{◌≡◌, ◌≢◌, ℕ, slice_index, Contains}
+use Rattle.std.specs.Prelude.{◌≡◌, ◌≢◌, ℕ, true, map, slice_index, Contains}
 use Rattle.std.specs.declared.option.Option.TheVariants.{Some}
 use Rattle.slab.specs.Slab.{Slab, get}
 use Rattle.iox2_store.specs.Link.{Link}
+use Rattle.iox2_store.specs.Numbers.{contains}
 use Rattle.iox2_store.specs.SlotBook.{Book}
-use Rattle.iox2_pubsub.specs.Fields.{Fields}
+use Rattle.iox2_pubsub.specs.Fields.{Fields, numbers_of}
 use Rattle.iox2_pubsub.specs.declared.domain.sample_slots.SampleSlot.{SampleSlot}
 
 -- The book at the key is this publisher's.
@@ -32,3 +33,10 @@ pub record LiesBorrowed {T U : Type 0} (f : Fields T U) (subscriber publisher nu
   pub publisher_is : connection.home.publisher ≡ publisher
   pub book_is : book.publisher ≡ publisher
   pub slot_is : IsNumberedSlot connection book number at.slot
+
+-- The subscriber has borrowed a message with this number in the connection at the key.
+pub record BorrowsAt {T U : Type 0} (f : Fields T U) (key subscriber number : ℕ) : Type 0 where
+  pub connection : Link
+  pub stands : get f.connections key ≡ Some connection
+  pub subscriber_is : connection.home.subscriber ≡ subscriber
+  pub is_borrowed : contains (map (numbers_of f.books connection.home.publisher) connection.borrowed) number ≡ true

@@ -15,6 +15,7 @@ mod publisher_entry;
 mod publisher_state;
 mod receipts;
 mod reclaims;
+mod sample_reads;
 mod sample_slots;
 mod segments;
 mod state;

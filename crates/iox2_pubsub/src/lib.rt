@@ -6,6 +6,7 @@ mod port_factory;
 mod publisher;
 mod sample_mut;
 mod sample_mut_uninit;
+mod sample;
 mod subscriber;
 #[cfg(test)]
 mod tests;
@@ -16,4 +17,5 @@ pub use port_factory::subscriber::PortFactorySubscriber;
 pub use publisher::Publisher;
 pub use sample_mut::SampleMut;
 pub use sample_mut_uninit::SampleMutUninit;
+pub use sample::Sample;
 pub use subscriber::Subscriber;

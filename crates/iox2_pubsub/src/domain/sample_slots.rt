@@ -49,8 +49,8 @@ fn find_connection(
     None
 }
 
-// The borrowed slot with a number. The hint is tested first.
-fn find_borrowed(
+/// The borrowed slot with a number. The hint is tested first.
+pub(crate) fn find_borrowed(
     connection: &Connection,
     book: &SlotBook,
     number: u128,

@@ -1,0 +1,30 @@
+-- A release, seen from outside.
+use Rattle.std.proofs.Common.{◌≡◌, ℕ, Bool, true, false, cond, refl, sym, subst}
+use Rattle.iox2_store.specs.Releases.{is_unused, place_freed, unborrowed, subscriber_pruned, released}
+use Rattle.iox2_store.specs.State.{State, Messages}
+use Rattle.iox2_pubsub.specs.Kept.{Kept, state_of}
+use Rattle.iox2_pubsub.specs.Fields.{Fields, kept_of}
+use Rattle.iox2_pubsub.specs.Reaches.{Reaches}
+use Rattle.iox2_pubsub.specs.Shows.{Shows}
+use Rattle.iox2_pubsub.proofs.ReachesShows.{reaches-shows-same}
+
+module _ {T U : Type 0} where
+  -- a release touches neither loans nor the counter of messages
+  released-rest : (s : State T U) (p q n : ℕ) → ((released s p q n).next_message ≡ s.next_message) × ((released s p q n).loans ≡ s.loans)
+  released-rest s p q n = by (is_unused (subscriber_pruned (unborrowed s p q n) q) q) where
+    by : (b : Bool) → ((cond b (place_freed (subscriber_pruned (unborrowed s p q n) q) q) (subscriber_pruned (unborrowed s p q n) q)).next_message ≡ s.next_message)
+        × ((cond b (place_freed (subscriber_pruned (unborrowed s p q n) q) q) (subscriber_pruned (unborrowed s p q n) q)).loans ≡ s.loans)
+    by true = (refl, refl)
+    by false = (refl, refl)
+
+  -- the domain shows the released state, with the same messages
+  pub release-shows : (kept : Kept T U) (f g : Fields T U) → kept_of f ≡ kept → (p q n p' q' : ℕ) → p' ≡ p → q' ≡ q → Reaches f g (released (state_of (kept_of f)) p' q' n)
+      → (m : Messages T U) (s : State T U) → Shows kept m s → (s' : State T U) × Shows (kept_of g) m s' × (s' ≡ released s p q n)
+  release-shows kept f g same p q n p' q' same_p same_q reached m s shown =
+      let here : Shows (kept_of f) m s = subst (λ (k : Kept T U). Shows k m s) (sym same) shown in
+      let state : s ≡ state_of (kept_of f) = here.state in
+      let reached_from : Reaches f g (released s p q n) =
+      subst (λ (u : State T U). Reaches f g (released u p q n)) (sym state)
+      (subst (λ (r : ℕ). Reaches f g (released (state_of (kept_of f)) r q n)) same_p
+      (subst (λ (r : ℕ). Reaches f g (released (state_of (kept_of f)) p' r n)) same_q reached)) in
+      (released s p q n, reaches-shows-same f g m s (released s p q n) here reached_from (released-rest s p q n).0 (released-rest s p q n).1, refl)

@@ -1,0 +1,140 @@
+//! A received message.
+ghost use Rattle.std.specs.Prelude.{◌≡◌};
+
+use crate::domain::Domain;
+use iox2_store::{Header, Key, UniquePublisherId, UniqueSubscriberId};
+
+/// A message that a subscriber has received and not yet released. It is a value to be spent: until
+/// it is released the message counts among those that the subscriber has borrowed.
+///
+/// iceoryx2's `sample::Sample` (`src/sample.rs`).
+pub struct Sample {
+    pub(crate) service_id: u128,
+    pub(crate) subscriber: UniqueSubscriberId,
+    pub(crate) publisher: UniquePublisherId,
+    pub(crate) number: u128,
+    // Where the domain looks for the message first.
+    pub(crate) connection: usize,
+    pub(crate) slot: usize,
+}
+
+impl Sample {
+    ghost use Rattle.std.specs.Prelude.{[], ◌∷◌, Some};
+    ghost use Rattle.iox2_store.specs.Records.{Entry};
+    ghost use Rattle.iox2_store.specs.Releases.{released};
+    ghost use Rattle.iox2_store.specs.State.{State, Messages};
+    ghost use Rattle.iox2_pubsub.specs.Handles.{IsSampleHandle};
+    ghost use Rattle.iox2_pubsub.specs.Shows.{Shows};
+
+    /// Names the sample among all that its domain has: by its subscriber and its number.
+    ///
+    /// This library's own.
+    pub fn key(&self) -> Key
+        ensures { result ≡ record { service_id = self.now.service_id; port = self.now.subscriber; message = self.now.number } }
+    {
+        Key {
+            service_id: self.service_id,
+            port: self.subscriber.value(),
+            message: self.number,
+        }
+    }
+
+    /// The publisher that sent the message, as its header says.
+    ///
+    /// iceoryx2's `Sample::origin` (`src/sample.rs`).
+    pub fn origin(&self) -> UniquePublisherId
+        ensures { result ≡ self.now.publisher }
+    {
+        self.publisher
+    }
+
+    /// The message's value, where each message is a single value.
+    ///
+    /// iceoryx2's `Sample::payload` (`src/sample.rs`).
+    pub fn payload<'a, T: Drop, U: Default + Drop>(&self, domain: &'a Domain<T, U>) -> &'a T
+        requires held { IsSampleHandle domain.now self.now.service_id self.now.subscriber self.now.publisher self.now.number }
+        requires single { (domain.now.config).units_per_element ≡ 1 }
+        ensures { (m : Messages T U) (s : State T U) → Shows domain.now m s
+            → (entry : Entry T U) × (m self.now.number ≡ Some entry) × (entry.values ≡ result.now ∷ []) }
+    {
+        domain.state.sample_payload(
+            self.subscriber.value(),
+            self.publisher.value(),
+            self.number,
+            self.connection,
+            self.slot,
+        )
+    }
+
+    /// The message's header.
+    ///
+    /// iceoryx2's `Sample::header` (`src/sample.rs`).
+    pub fn header<'a, T: Drop, U: Default + Drop>(&self, domain: &'a Domain<T, U>) -> &'a Header
+        requires { IsSampleHandle domain.now self.now.service_id self.now.subscriber self.now.publisher self.now.number }
+        ensures header { (m : Messages T U) (s : State T U) → Shows domain.now m s
+            → (entry : Entry T U) × (m self.now.number ≡ Some entry) × (entry.header ≡ result.now) }
+        ensures origin { (result.now).publisher_id ≡ self.now.publisher }
+    {
+        domain.state.sample_header(
+            self.subscriber.value(),
+            self.publisher.value(),
+            self.number,
+            self.connection,
+            self.slot,
+        )
+    }
+
+    /// Gives the message back to its publisher, which may use its slot again once nobody else has
+    /// it. Takes no memory.
+    ///
+    /// iceoryx2's `Sample`, when it is dropped (`src/sample.rs`).
+    pub fn release<T: Drop, U: Default + Drop>(self, domain: &mut Domain<T, U>)
+        requires { IsSampleHandle domain.old self.service_id self.subscriber self.publisher self.number }
+        ensures { (m : Messages T U) (s : State T U) → Shows domain.old m s
+            → (s' : State T U) × Shows domain.new m s' × (s' ≡ released s self.publisher self.subscriber self.number) }
+    {
+        let Sample {
+            service_id: _,
+            subscriber,
+            publisher,
+            number,
+            connection,
+            slot,
+        } = self;
+        domain.state.give_back(
+            subscriber.value(),
+            publisher.value(),
+            number,
+            connection,
+            slot,
+        );
+    }
+
+    /// Spends the handle of a sample whose domain is gone. A domain that is still there isn't told,
+    /// and counts the message as borrowed from then on. This library's own.
+    pub fn disown(self) {
+        let Sample {
+            service_id: _,
+            subscriber: _,
+            publisher: _,
+            number: _,
+            connection: _,
+            slot: _,
+        } = self;
+    }
+}
+
+impl<T: Drop, U: Default + Drop> Domain<T, U> {
+    ghost use Rattle.std.specs.Prelude.{IsTrue, ◌↔◌};
+    ghost use Rattle.iox2_pubsub.specs.Handles.{IsSampleKey};
+
+    /// Whether the key is that of a sample of this domain that wasn't released. This library's own.
+    pub fn holds_sample(&self, key: Key) -> bool
+        ensures { IsTrue result ↔ IsSampleKey self.now key }
+    {
+        if key.service_id != self.state.config.service_id {
+            return false;
+        }
+        self.state.has_sample(key.port, key.message)
+    }
+}
