@@ -76,3 +76,5 @@ pub mod LoanAlone
 pub mod SentSlots
 pub mod SendEnded
 pub mod Published
+pub mod SenderAnswers
+pub mod SenderWalk

@@ -11,7 +11,6 @@ use Rattle.iox2_store.specs.Link.{Link, empty_link}
 use Rattle.iox2_store.specs.Places.{occupant, set_place, is_port}
 use Rattle.iox2_store.specs.Records.{Publisher, Subscriber}
 use Rattle.iox2_store.specs.State.{State, warned, has_receiver_end}
-use Rattle.iox2_store.specs.declared.connection.Home.{Home}
 use Rattle.iox2_store.specs.declared.degradation.DegradationAction.TheVariants.{Warn}
 use Rattle.iox2_store.specs.declared.warning.Warning.TheVariants.{ConnectionNotMade}
 use Rattle.iox2_ends.specs.LookUp.{look_up}
@@ -21,7 +20,7 @@ use Rattle.iox2_pubsub.specs.Ports.{PublisherFields, SubscriberFields}
 use Rattle.iox2_pubsub.specs.Kept.{state_of}
 use Rattle.iox2_pubsub.specs.Fields.{Fields, kept_of, publisher_of, subscriber_of}
 use Rattle.iox2_pubsub.specs.Invariant.{IsDomain}
-use Rattle.iox2_pubsub.specs.Updates.{MakesConnection}
+use Rattle.iox2_pubsub.specs.Updates.{MakesConnection, home_of}
 use Rattle.iox2_pubsub.specs.Connects.{ConnectsSender}
 use Rattle.iox2_pubsub.proofs.ConnectionEnds.{publisher-stands, subscriber-stands, occupant-sender_ends}
 use Rattle.iox2_pubsub.proofs.Extensions.{Extends, sender_linked, sender_ends-same}
@@ -30,10 +29,6 @@ use Rattle.iox2_pubsub.proofs.Made.{made-extends, made-news}
 use Rattle.iox2_pubsub.proofs.SenderChanges.{FitsSender}
 use Rattle.iox2_pubsub.proofs.SenderSteps.{connected_sender, steps-connect, keeps-end, makes-end, no_end, connects}
 use Rattle.iox2_pubsub.proofs.Standing.{publisher-place, occupant-receiver_ends, sender-joins, receiver-joins, no-connection}
-
--- where a connection stands
-abbrev pub home_of : (i j : ℕ) → PublisherFields → SubscriberFields → Home
-home_of i j x y = record { publisher = x.id; subscriber = y.id; publisher_place = i; subscriber_place = j }
 
 module _ {T U : Type 0} (f : Fields T U) (sound : IsDomain f) (i j : ℕ) (x : PublisherFields) (y : SubscriberFields)
     (at_x : get_or f.publishers i None ≡ Some x) (at_y : get_or f.subscribers j None ≡ Some y) (due : x.is_due ≡ false) where
@@ -48,7 +43,7 @@ module _ {T U : Type 0} (f : Fields T U) (sound : IsDomain f) (i j : ℕ) (x : P
 
   -- ---- nothing is connected
 
-  fits-same : (n : ℕ) → FitsSender f i x x.places (with_capacity n)
+  pub fits-same : (n : ℕ) → FitsSender f i x x.places (with_capacity n)
   fits-same n = record {
     extends = record { apart = record { one = sound.apart.one }; sums = λ p slot. refl; boxes = λ number p q. refl; grows = λ key c at. at };
     linked = record { at = (sound.linked.senders i x at_x).at };
@@ -56,7 +51,7 @@ module _ {T U : Type 0} (f : Fields T U) (sound : IsDomain f) (i j : ℕ) (x : P
     news = λ key c at. inl at;
   }
 
-  same_publishers : slice_set f.publishers i (Some x) ≡ f.publishers
+  pub same_publishers : slice_set f.publishers i (Some x) ≡ f.publishers
   same_publishers = ap (slice_set f.publishers i) (sym at_x) ∙ set-get_or f.publishers i None
 
   -- an end that is there stays

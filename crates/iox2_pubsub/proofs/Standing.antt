@@ -1,5 +1,5 @@
 -- Where ports stand, and to whom their connections lead.
-use Rattle.std.proofs.Common.{◌≡◌, ℕ, zero, suc, List, [], ◌∷◌, map, true, false, Bool, ◌&&◌, get_or, refl, ap, sym, ◌∙◌, ◌⊎◌, inl, inr, subst}
+use Rattle.std.proofs.Common.{◌≡◌, ℕ, zero, suc, List, [], ◌∷◌, map, length, true, false, Bool, ◌&&◌, get_or, refl, ap, sym, ◌∙◌, ◌⊎◌, inl, inr, subst}
 use Rattle.std.proofs.lemmas.Bool.{eq-eqb, eqb-true}
 use Rattle.std.proofs.lemmas.Option.{same_Some}
 use Rattle.std.specs.Prelude.{Contains, ◌<◌}
@@ -18,6 +18,7 @@ use Rattle.iox2_ends.specs.Homes.{IsSenders}
 use Rattle.iox2_ends.specs.Finds.{IsReceivers}
 use Rattle.iox2_ends.specs.Mailboxes.{is_between, publisher_at, receiver_ends}
 use Rattle.iox2_ends.proofs.LookUps.{look_up-nothing}
+use Rattle.iox2_laws.proofs.PlaceLemmas.{occupied_within}
 use Rattle.iox2_pubsub.specs.Ports.{PublisherFields, SubscriberFields}
 use Rattle.iox2_pubsub.specs.Kept.{Named, state_of, ids}
 use Rattle.iox2_pubsub.specs.Fields.{Fields, kept_of, publisher_of, subscriber_of}
@@ -73,6 +74,23 @@ module _ {T U : Type 0} (f : Fields T U) (sound : IsDomain f) where
 
   pub one-subscriber : (j k : ℕ) (y z : SubscriberFields) → get_or f.subscribers j None ≡ Some y → get_or f.subscribers k None ≡ Some z → y.id ≡ z.id → j ≡ k
   one-subscriber j k y z at_y at_z same = (sound.subscriber_ids z.id).one j k y z at_y at_z (eq-eqb y.id z.id same) (eq-eqb z.id z.id refl)
+
+  -- ---- room
+
+  -- the publisher has room for a key at a subscriber's place, and back
+  pub sender-room : (i j : ℕ) (x : PublisherFields) (y : SubscriberFields) → get_or f.publishers i None ≡ Some x → get_or f.subscribers j None ≡ Some y → j < x.place_room
+  sender-room i j x y at_x at_y =
+      let low : j < length (state_of (kept_of f)).subscriber_places = occupied_within _ j y.id (subscriber-listed j y at_y) in
+      omega (arith, sound.well_formed.subscriber_places.bound, (sound.publisher_room i x at_x).places)
+
+  pub receiver-room : (i j : ℕ) (x : PublisherFields) (y : SubscriberFields) → get_or f.publishers i None ≡ Some x → get_or f.subscribers j None ≡ Some y → i < y.place_room
+  receiver-room i j x y at_x at_y =
+      let low : i < length (state_of (kept_of f)).publisher_places = occupied_within _ i x.id (publisher-listed i x at_x) in
+      omega (arith, sound.well_formed.publisher_places.bound, (sound.subscriber_room j y at_y).places)
+
+  -- a subscriber has some room for messages
+  pub some-buffer : (j : ℕ) (y : SubscriberFields) → get_or f.subscribers j None ≡ Some y → 0 < y.buffer
+  some-buffer j y at_y = (sound.well_formed.subscribers y.id _ (subscriber-stands f sound j y at_y)).some_room
 
   -- ---- the publisher x at the place i, and the subscriber y at the place j
 

@@ -1,17 +1,18 @@
--- A step of an update, at one place of the other side.
-use Rattle.std.specs.Prelude.{◌≡◌, ℕ, List, slice_set}
+-- An update of a port, and a step of it at one place of the other side.
+use Rattle.std.specs.Prelude.{◌≡◌, ℕ, false, List, slice_set}
 use Rattle.std.specs.declared.option.Option.{Option}
 use Rattle.std.specs.declared.option.Option.TheVariants.{None, Some}
 use Rattle.iox2_store.specs.Environments.{fixed_handlers}
 use Rattle.iox2_store.specs.Limits.{expired_limit}
 use Rattle.iox2_store.specs.Places.{occupant}
-use Rattle.iox2_store.specs.PublisherUpdate.{SenderSide, UpdateSenderPlace, sender_side, with_sender_side}
-use Rattle.iox2_store.specs.SubscriberUpdate.{ReceiverSide, ConnectAtPlace, receiver_side, with_receiver_side}
-use Rattle.iox2_store.specs.State.{receiving_buffer, has_receiver_end, has_sender_end}
+use Rattle.iox2_store.specs.PublisherUpdate.{SenderSide, UpdateSenderPlace, sender_side, with_sender_side, UpdatePublisher}
+use Rattle.iox2_store.specs.SubscriberUpdate.{ReceiverSide, ConnectAtPlace, receiver_side, with_receiver_side, UpdateSubscriber}
+use Rattle.iox2_store.specs.State.{State, receiving_buffer, has_receiver_end, has_sender_end}
 use Rattle.iox2_pubsub.specs.Ports.{PublisherFields, SubscriberFields}
 use Rattle.iox2_pubsub.specs.Kept.{state_of}
 use Rattle.iox2_pubsub.specs.Fields.{Fields, kept_of, publisher_of, subscriber_of}
 use Rattle.iox2_pubsub.specs.Invariant.{IsDomain}
+use Rattle.iox2_pubsub.specs.Reaches.{Reaches}
 
 module _ {T U : Type 0} where
   -- The publisher x at the place i, which isn't due, has done the machine's step at the subscriber's place j, and nothing
@@ -37,3 +38,19 @@ module _ {T U : Type 0} where
         (expired_limit f.config) (λ p. has_sender_end (state_of (kept_of f)) p y.id)
         i (occupant (state_of (kept_of f)).publisher_places i) (receiver_side (state_of (kept_of f)) y.id (subscriber_of f.books f.connections y).port) side None
     pub state : state_of (kept_of f') ≡ with_receiver_side (state_of (kept_of f)) y.id (subscriber_of f.books f.connections y).port side
+
+  -- The publisher x at the place i is updated, and nothing changed but its keys, its mark, connections and warnings.
+  pub record UpdatesPublisher (f : Fields T U) (i : ℕ) (x : PublisherFields) (f' : Fields T U) : Type 0 where
+    pub after : State T U
+    pub updates : UpdatePublisher fixed_handlers (state_of (kept_of f)) x.id after None
+    pub reaches : Reaches f f' after
+    pub keys : List (Option ℕ)
+    pub fields : f' ≡ record f { publishers = slice_set f.publishers i (Some (record x { places = keys; is_due = false })); connections = f'.connections; warnings = f'.warnings }
+
+  -- The subscriber y at the place j is updated, and nothing changed but its keys, its mark, connections and warnings.
+  pub record UpdatesSubscriber (f : Fields T U) (j : ℕ) (y : SubscriberFields) (f' : Fields T U) : Type 0 where
+    pub after : State T U
+    pub updates : UpdateSubscriber fixed_handlers (state_of (kept_of f)) y.id after None
+    pub reaches : Reaches f f' after
+    pub keys : List (Option ℕ)
+    pub fields : f' ≡ record f { subscribers = slice_set f.subscribers j (Some (record y { places = keys; is_due = false })); connections = f'.connections; warnings = f'.warnings }

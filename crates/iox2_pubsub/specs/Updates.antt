@@ -41,3 +41,16 @@ receiver_key subscribers at place = option_and_then (λ (y : SubscriberFields). 
 pub record MakesConnection (old : Slab Link) (home : Home) (buffer limit key : ℕ) (new : Slab Link) : Type 0 where
   pub was_free : get old key ≡ None
   pub made : Updates old new key (Some (empty_link home buffer limit))
+
+-- Where the connection stands of the publisher x at the place i and the subscriber y at the place j.
+abbrev pub home_of : (i j : ℕ) → PublisherFields → SubscriberFields → Home
+home_of i j x y = record { publisher = x.id; subscriber = y.id; publisher_place = i; subscriber_place = j }
+
+-- A publisher stands at the place i, and a subscriber with that buffer at the place j; this is where their connection stands.
+pub record StandApart (publishers : List (Option PublisherFields)) (subscribers : List (Option SubscriberFields)) (i j : ℕ) (home : Home) (buffer : ℕ) : Type 0 where
+  pub publisher : PublisherFields
+  pub subscriber : SubscriberFields
+  pub publisher_stands : slice_index_or publishers i None ≡ Some publisher
+  pub subscriber_stands : slice_index_or subscribers j None ≡ Some subscriber
+  pub home_is : home ≡ home_of i j publisher subscriber
+  pub buffer_is : buffer ≡ subscriber.buffer

@@ -5,6 +5,7 @@ ghost use Rattle.iox2_store.specs.declared.service_config.TypeVariant.TheVariant
 ghost use Rattle.iox2_pubsub.specs.Shows.{Shows};
 
 mod deliveries;
+mod connects;
 mod keys;
 mod loan_calls;
 mod loan_slots;
