@@ -78,3 +78,4 @@ pub mod SendEnded
 pub mod Published
 pub mod SenderAnswers
 pub mod SenderWalk
+pub mod SenderUpdates

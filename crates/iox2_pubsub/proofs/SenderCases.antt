@@ -26,7 +26,7 @@ use Rattle.iox2_pubsub.proofs.ConnectionEnds.{publisher-stands, subscriber-stand
 use Rattle.iox2_pubsub.proofs.Extensions.{Extends, sender_linked, sender_ends-same}
 use Rattle.iox2_pubsub.proofs.Keys.{map-set_place, set_place-here, set_place-keeps, set_place-stood}
 use Rattle.iox2_pubsub.proofs.Made.{made-extends, made-news}
-use Rattle.iox2_pubsub.proofs.SenderChanges.{FitsSender}
+use Rattle.iox2_pubsub.proofs.SenderChanges.{fits-same}
 use Rattle.iox2_pubsub.proofs.SenderSteps.{connected_sender, steps-connect, keeps-end, makes-end, no_end, connects}
 use Rattle.iox2_pubsub.proofs.Standing.{publisher-place, occupant-receiver_ends, sender-joins, receiver-joins, no-connection}
 
@@ -43,14 +43,6 @@ module _ {T U : Type 0} (f : Fields T U) (sound : IsDomain f) (i j : ℕ) (x : P
 
   -- ---- nothing is connected
 
-  pub fits-same : (n : ℕ) → FitsSender f i x x.places (with_capacity n)
-  fits-same n = record {
-    extends = record { apart = record { one = sound.apart.one }; sums = λ p slot. refl; boxes = λ number p q. refl; grows = λ key c at. at };
-    linked = record { at = (sound.linked.senders i x at_x).at };
-    keeps = λ place key at. at;
-    news = λ key c at. inl at;
-  }
-
   pub same_publishers : slice_set f.publishers i (Some x) ≡ f.publishers
   same_publishers = ap (slice_set f.publishers i) (sym at_x) ∙ set-get_or f.publishers i None
 
@@ -62,7 +54,7 @@ module _ {T U : Type 0} (f : Fields T U) (sound : IsDomain f) (i j : ℕ) (x : P
       occupant-sender_ends f.connections x.places j ∙ ap (subscriber_at f.connections) at
       ∙ ap (option_map (λ (c : Link). c.home.subscriber)) joined.1.stands ∙ ap Some joined.1.subscriber in
       subst (ConnectsSender f i j x) (λ k. record f { publishers = same_publishers k })
-      (steps-connect f sound i j x y at_x at_y due x.places f.connections f.warnings (fits-same f.connections.capacity) sound.warning_room
+      (steps-connect f sound i j x y at_x at_y due x.places f.connections f.warnings (fits-same f sound i x at_x f.connections.capacity) sound.warning_room
       (keeps-end f sound i j x y at_x at_y due there))
 
   -- ---- the subscriber has its end
@@ -94,7 +86,7 @@ module _ {T U : Type 0} (f : Fields T U) (sound : IsDomain f) (i j : ℕ) (x : P
         let joined = receiver-joins f sound i j x y at_x at_y key at in
         let own = joined.1 in
         steps-connect f sound i j x y at_x at_y due (keys_with key) f.connections f.warnings (record {
-          extends = (fits-same f.connections.capacity).extends;
+          extends = (fits-same f sound i x at_x f.connections.capacity).extends;
           linked = linked-with f.connections key joined.0 (sound.linked.senders i x at_x) own.stands own.publisher own.subscriber_place;
           keeps = set_place-keeps x.places j key none;
           news = λ k c there. inl there;
@@ -160,6 +152,6 @@ module _ {T U : Type 0} (f : Fields T U) (sound : IsDomain f) (i j : ℕ) (x : P
             connections = with_capacity n;
             warnings = buffer (warned f.warnings.items (ConnectionNotMade x.id y.id)) warning_limit;
           })
-          (steps-connect f sound i j x y at_x at_y due x.places (with_capacity n) (buffer (warned f.warnings.items (ConnectionNotMade x.id y.id)) warning_limit) (fits-same n) refl
+          (steps-connect f sound i j x y at_x at_y due x.places (with_capacity n) (buffer (warned f.warnings.items (ConnectionNotMade x.id y.id)) warning_limit) (fits-same f sound i x at_x n) refl
           (makes-end f sound i j x y at_x at_y due (no_end f sound i j x y at_x at_y due none) _
           (inr (no_receiver, warned f.warnings.items (ConnectionNotMade x.id y.id), (Warn, tt, refl, refl, refl), refl))))

@@ -1,5 +1,5 @@
 -- A publisher gets keys of its connections, one of which may be new.
-use Rattle.std.proofs.Common.{◌≡◌, ℕ, Bool, List, map, get_or, slice_set, refl, ap, sym, ◌∙◌, ◌⊎◌}
+use Rattle.std.proofs.Common.{◌≡◌, ℕ, Bool, List, map, get_or, slice_set, refl, ap, sym, ◌∙◌, ◌⊎◌, inl}
 use Rattle.std.proofs.lemmas.List.{map-set}
 use Rattle.std.specs.declared.option.Option.{Option}
 use Rattle.std.specs.declared.option.Option.TheVariants.{None, Some}
@@ -121,3 +121,13 @@ module _ {T U : Type 0} (f : Fields T U) (sound : IsDomain f) (i : ℕ) (x : Pub
 
     places : (state_of (kept_of (with_sender f i x keys is_due connections warnings))).publisher_places ≡ (state_of (kept_of f)).publisher_places
     places = ap ids after-shown ∙ changed-ids shown i (publisher_of f.books f.connections x) (publisher_of f.books connections (with_keys x keys is_due)) stands-shown refl
+
+module _ {T U : Type 0} (f : Fields T U) (sound : IsDomain f) (i : ℕ) (x : PublisherFields) (at : get_or f.publishers i None ≡ Some x) where
+  -- its own keys fit, whatever room there is for connections
+  pub fits-same : (n : ℕ) → FitsSender f i x x.places (record f.connections { capacity = n })
+  fits-same n = record {
+    extends = record { apart = record { one = sound.apart.one }; sums = λ p slot. refl; boxes = λ number p q. refl; grows = λ key c at. at };
+    linked = record { at = (sound.linked.senders i x at).at };
+    keeps = λ place key at. at;
+    news = λ key c at. inl at;
+  }

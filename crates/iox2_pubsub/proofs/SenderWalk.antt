@@ -1,32 +1,18 @@
 -- A publisher's update, over the subscribers' places.
-use Rattle.std.proofs.Common.{◌≡◌, ℕ, zero, suc, ◌+◌, ◌<◌, ◌≤◌, ◌==◌, true, false, Bool, cond, List, [], ◌∷◌, length, drop, get_or, slice_set, refl, ap, sym, subst, ◌∙◌, arith}
-use Rattle.std.proofs.lemmas.List.{set-set, drop_more, drop_all, length-map}
-use Rattle.std.proofs.lemmas.Option.{same_Some}
+use Rattle.std.proofs.Common.{◌≡◌, ℕ, zero, suc, ◌+◌, ◌<◌, ◌≤◌, ◌==◌, true, false, Bool, cond, List, [], ◌∷◌, length, drop, get_or, refl, ap, sym, subst, ◌∙◌}
+use Rattle.std.proofs.lemmas.List.{drop_more, drop_all}
 use Rattle.std.specs.declared.option.Option.{Option}
 use Rattle.std.specs.declared.option.Option.TheVariants.{None, Some}
-use Rattle.std.specs.Option.{option_map, option_map_or}
-use Rattle.iox2_store.specs.Connections.{ForEachPlace, first_failure}
+use Rattle.std.specs.Option.{option_map_or}
+use Rattle.iox2_store.specs.Connections.{ForEachPlace}
 use Rattle.iox2_store.specs.Environments.{fixed_handlers}
-use Rattle.iox2_store.specs.Mailbox.{Mailbox}
 use Rattle.iox2_store.specs.Numbers.{put_at}
 use Rattle.iox2_store.specs.Places.{occupant, is_port}
 use Rattle.iox2_store.specs.PublisherUpdate.{SenderSide, UpdateSenderPlace, sender_side, with_sender_side, UpdatePublisher}
 use Rattle.iox2_store.specs.Records.{Publisher, Subscriber}
 use Rattle.iox2_store.specs.State.{State, receiving_buffer, has_receiver_end}
+use Rattle.iox2_store.specs.declared.errors.ConnectionFailure.{ConnectionFailure}
 use Rattle.iox2_laws.proofs.Puts.{put_at-same}
-use Rattle.iox2_laws.proofs.SenderSides.{sender_side_begins}
-use Rattle.iox2_laws.proofs.PublisherUpdates.{with_sender_side_keeps}
-use Rattle.iox2_ends.proofs.MailboxChanges.{put_at-same as put_at-own}
-use Rattle.iox2_pubsub.specs.Ports.{PublisherFields}
-use Rattle.iox2_pubsub.specs.Kept.{state_of}
-use Rattle.iox2_pubsub.specs.Fields.{Fields, kept_of, publisher_of}
-use Rattle.iox2_pubsub.specs.Invariant.{IsDomain}
-use Rattle.iox2_pubsub.specs.Connects.{ConnectsSender, UpdatesPublisher}
-use Rattle.iox2_pubsub.proofs.ConnectionEnds.{publisher-stands}
-use Rattle.iox2_pubsub.proofs.Changed.{changed-here}
-use Rattle.iox2_pubsub.proofs.SenderChanges.{sender-is}
-use Rattle.iox2_pubsub.proofs.SenderAgrees.{sender-agrees}
-use Rattle.iox2_pubsub.proofs.SenderCases.{fits-same}
 use mathlib.Core.Path.{fun_ext}
 
 -- a function that is written twice
@@ -47,7 +33,7 @@ occupant-get_or (x ∷ xs) (suc i) = occupant-get_or xs i
 
 module _ {T U : Type 0} (s : State T U) (p : ℕ) (x : Publisher) (present : s.publishers p ≡ Some x) where
   -- what the publisher does at a place
-  abbrev pub AtPlace : (place : ℕ) → Option ℕ → SenderSide → SenderSide → _ → Type 0
+  abbrev pub AtPlace : (place : ℕ) → Option ℕ → SenderSide → SenderSide → Option ConnectionFailure → Type 0
   AtPlace place at side side' failure =
       UpdateSenderPlace fixed_handlers (s.config).service_id p x.degradation_handler x.history (receiving_buffer s) (has_receiver_end s p) place at side side' failure
 
@@ -98,3 +84,12 @@ module _ {T U : Type 0} (s : State T U) (p : ℕ) (x : Publisher) (present : s.p
   pub walk-ends : (place : ℕ) (side : SenderSide) → length s.subscriber_places ≤ place → ForEachPlace AtPlace place (drop place s.subscriber_places) side side None
   walk-ends place side past =
       subst (λ (places : List (Option ℕ)). ForEachPlace AtPlace place places side side None) (sym (drop_all place s.subscriber_places past)) (refl, refl)
+
+  -- the update of a publisher that is due is such a walk
+  pub due-updates : x.is_due ≡ true → (side : SenderSide) → ForEachPlace AtPlace 0 s.subscriber_places (sender_side s p x) side None
+      → UpdatePublisher fixed_handlers s p (with_sender_side s p x side) None
+  due-updates due side walk = rw present (rw due (side, walk, refl))
+
+  -- that of another does nothing
+  pub idle-updates : x.is_due ≡ false → UpdatePublisher fixed_handlers s p s None
+  idle-updates due = rw present (rw due (refl, refl))

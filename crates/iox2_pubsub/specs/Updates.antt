@@ -1,8 +1,8 @@
 -- What an update changes of a port and of a domain's fields.
-use Rattle.std.specs.Prelude.{◌≡◌, ℕ, false, List, slice_index_or, slice_set}
+use Rattle.std.specs.Prelude.{◌≡◌, ℕ, Bool, false, List, slice_index_or, slice_set}
 use Rattle.std.specs.declared.option.Option.{Option}
 use Rattle.std.specs.declared.option.Option.TheVariants.{None, Some}
-use Rattle.std.specs.Option.{option_map, option_and_then}
+use Rattle.std.specs.Option.{option_map, option_map_or, option_and_then}
 use Rattle.slab.specs.Slab.{Slab, Updates, get}
 use Rattle.iox2_store.specs.Link.{Link, empty_link}
 use Rattle.iox2_store.specs.Places.{set_place}
@@ -54,3 +54,11 @@ pub record StandApart (publishers : List (Option PublisherFields)) (subscribers 
   pub subscriber_stands : slice_index_or subscribers j None ≡ Some subscriber
   pub home_is : home ≡ home_of i j publisher subscriber
   pub buffer_is : buffer ≡ subscriber.buffer
+
+-- The publisher at the place is due for an update.
+abbrev pub is_publisher_due : List (Option PublisherFields) → (place : ℕ) → Bool
+is_publisher_due publishers place = option_map_or (λ (x : PublisherFields). x.is_due) (slice_index_or publishers place None) false
+
+-- The subscriber at the place is due for an update.
+abbrev pub is_subscriber_due : List (Option SubscriberFields) → (place : ℕ) → Bool
+is_subscriber_due subscribers place = option_map_or (λ (y : SubscriberFields). y.is_due) (slice_index_or subscribers place None) false

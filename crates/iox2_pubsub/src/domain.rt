@@ -22,6 +22,7 @@ mod segments;
 mod state;
 mod subscriber_entry;
 mod subscriber_state;
+mod updates;
 mod warnings;
 
 use circular_buffer::HeapCircularBuffer;
