@@ -140,6 +140,13 @@ module _ {T U : Type 0} where
       (λ p h. ap has_numbers (put_at-other (s.mailboxes p) q (side.mailboxes p) r apart) ∙ h)
       (λ p h. ap has_borrows (put_at-other (s.mailboxes p) q (side.mailboxes p) r apart) ∙ h))
 
+  -- A state in which one subscriber has another well-formed side is well-formed.
+  pub with_receiver_side_keeps : (s : State T U) → IsWellFormed s → (q : ℕ) (y : Subscriber) (side : ReceiverSide) → s.subscribers q ≡ Some y → ReceiverSideIsWellFormed s q side
+      → IsWellFormed (with_receiver_side s q y side)
+  with_receiver_side_keeps s w q y side here b =
+      receivers_keep s (put_at s.subscribers q (Some (subscriber_with y side))) (mailboxes_with s q side) side.warnings w
+      (updated_agrees s w q y side here b) (updated_receivers s w q y side here b)
+
   -- A subscriber's update keeps a state well-formed.
   pub update_subscriber_keeps : (environment : Environment) (s : State T U) (q : ℕ) (s' : State T U) (failure : Option ConnectionFailure)
       → IsWellFormed s → UpdateSubscriber environment s q s' failure → IsWellFormed s'
@@ -151,8 +158,7 @@ module _ {T U : Type 0} where
       update_receiver_side_keeps environment s w q y.degradation_handler (λ p. has_sender_end s p q) (receiver_side s q y) h.0 failure
       (receiver_side_begins s w q y here) h.1 in
       subst IsWellFormed (sym h.2)
-      (receivers_keep s (put_at s.subscribers q (Some (subscriber_with y h.0))) (mailboxes_with s q h.0) (h.0).warnings w
-      (updated_agrees s w q y h.0 here b) (updated_receivers s w q y h.0 here b)))
+      (with_receiver_side_keeps s w q y h.0 here b))
       (λ _ h. subst IsWellFormed (sym h.0) w))
 
   -- No counter falls at a subscriber's update.

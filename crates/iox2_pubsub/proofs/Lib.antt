@@ -79,3 +79,5 @@ pub mod Published
 pub mod SenderAnswers
 pub mod SenderWalk
 pub mod SenderUpdates
+pub mod ReceiverActions
+pub mod ReceiverSteps
