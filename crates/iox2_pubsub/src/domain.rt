@@ -4,8 +4,8 @@ ghost use Rattle.iox2_store.specs.State.{fresh, no_messages};
 ghost use Rattle.iox2_store.specs.declared.service_config.TypeVariant.TheVariants.{FixedSize};
 ghost use Rattle.iox2_pubsub.specs.Shows.{Shows};
 
-mod deliveries;
 mod connects;
+mod deliveries;
 mod keys;
 mod loan_calls;
 mod loan_slots;

@@ -4,9 +4,9 @@
 mod domain;
 mod port_factory;
 mod publisher;
+mod sample;
 mod sample_mut;
 mod sample_mut_uninit;
-mod sample;
 mod subscriber;
 #[cfg(test)]
 mod tests;
@@ -15,7 +15,7 @@ pub use domain::Domain;
 pub use port_factory::publisher::PortFactoryPublisher;
 pub use port_factory::subscriber::PortFactorySubscriber;
 pub use publisher::Publisher;
+pub use sample::Sample;
 pub use sample_mut::SampleMut;
 pub use sample_mut_uninit::SampleMutUninit;
-pub use sample::Sample;
 pub use subscriber::Subscriber;
