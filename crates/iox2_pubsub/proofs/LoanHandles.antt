@@ -10,7 +10,9 @@ use Rattle.iox2_laws.proofs.Puts.{found_put}
 use Rattle.iox2_pubsub.specs.Kept.{Kept, state_of}
 use Rattle.iox2_pubsub.specs.Fields.{Fields, kept_of}
 use Rattle.iox2_pubsub.specs.Handles.{IsUnwrittenLoanHandle, IsWrittenLoanHandle}
-use Rattle.iox2_pubsub.specs.LoanCalls.{HoldsUnwritten, HoldsWritten, WritesLoan}
+use Rattle.iox2_store.specs.declared.header.Header.{Header}
+use Rattle.iox2_pubsub.specs.Invariant.{IsDomain}
+use Rattle.iox2_pubsub.specs.LoanCalls.{HoldsUnwritten, HoldsWritten, HasLoanHeader, WritesLoan}
 use Rattle.iox2_pubsub.specs.Reaches.{Reaches}
 use Rattle.iox2_pubsub.specs.Shows.{Shows}
 use Rattle.iox2_pubsub.proofs.ReachesShows.{reaches-shows}
@@ -65,3 +67,15 @@ module _ {T U : Type 0} (f g : Fields T U) (kept : Kept T U) (view : kept_of f �
         ap (λ (l : Loan T U). l.publisher) same ∙ old.3,
         refl,
       )
+
+-- ---- the header of a loan
+
+module _ {T U : Type 0} (f : Fields T U) (sound : IsDomain f) (number id publisher : ℕ) (header : Header) (same : id ≡ publisher) where
+  -- it names the publisher
+  pub header-origin : HoldsLoan (state_of (kept_of f)) id number → HasLoanHeader (state_of (kept_of f)) number header → header.publisher_id ≡ publisher
+  header-origin held has =
+      let both : Some held.0 ≡ Some has.0 = sym held.1 ∙ has.1 in
+      let loan : held.0 ≡ has.0 = cc in
+      ap (λ (h : Header). h.publisher_id) (sym has.2)
+      ∙ (sound.well_formed.loans number has.0 has.1).origin
+      ∙ ap (λ (l : Loan T U). l.publisher) (sym loan) ∙ held.2 ∙ same

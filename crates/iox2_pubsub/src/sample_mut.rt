@@ -41,7 +41,8 @@ impl SampleMut {
     /// iceoryx2's `SampleMut::header` (`src/sample_mut.rs`).
     pub fn header<'a, T: Drop, U: Default + Drop>(&self, domain: &'a Domain<T, U>) -> &'a Header
         requires { IsWrittenLoanHandle domain.now self.now.service_id self.now.publisher self.now.number }
-        ensures { (m : Messages T U) (s : State T U) → Shows domain.now m s → HasLoanHeader s self.now.number result.now }
+        ensures header { (m : Messages T U) (s : State T U) → Shows domain.now m s → HasLoanHeader s self.now.number result.now }
+        ensures origin { (result.now).publisher_id ≡ self.now.publisher }
     {
         domain
             .state
