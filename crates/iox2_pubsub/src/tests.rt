@@ -1,6 +1,8 @@
 ghost use Rattle.std.specs.Prelude.{◌≡◌, false};
 ghost use Rattle.iox2_store.specs.declared.service_config.TypeVariant.TheVariants.{FixedSize};
 
+mod publishers;
+
 use crate::Domain;
 use iox2_store::{AllocationStrategy, BackpressureStrategy, ServiceConfig, TypeVariant};
 use std::test::Fail;

@@ -1,17 +1,19 @@
 //! A publisher enters a domain.
 ghost use Rattle.std.specs.Prelude.{◌≡◌, ◌⊎◌, None, Some, slice_index_or, MatchResult, OnOk};
 ghost use Rattle.iox2_store.specs.Limits.{worst_case};
-ghost use Rattle.iox2_store.specs.Ports.{with_new_publisher};
+ghost use Rattle.iox2_store.specs.Environments.{fixed_handlers};
+ghost use Rattle.iox2_store.specs.Ports.{CreatePublisher, with_new_publisher};
 ghost use Rattle.iox2_store.specs.declared.errors.PublisherCreateError.TheVariants.{UnableToCreateDataSegment, FailedToDeployThreadsafetyPolicy};
 
 use crate::domain::places::{free_place, put_at_place};
 use crate::domain::publisher_state::PublisherState;
-use crate::domain::segments::add_segment;
+use crate::domain::segments::{add_segment, first_segment};
 use crate::domain::state::DomainState;
 use crate::domain::subscriber_state::make_all_due;
 use iox2_store::{Contents, PublisherCreateError, SlotBook, UniquePublisherId};
 
 impl<T: Drop, U: Default + Drop> DomainState<T, U> {
+    ghost use Rattle.iox2_store.specs.State.{State};
     ghost use Rattle.iox2_pubsub.specs.Ports.{PublisherFields};
     ghost use Rattle.iox2_pubsub.specs.Kept.{state_of};
     ghost use Rattle.iox2_pubsub.specs.Fields.{kept_of};
@@ -80,5 +82,30 @@ impl<T: Drop, U: Default + Drop> DomainState<T, U> {
         put_at_place(&mut self.publishers, place, publisher);
         self.next_port += 1;
         Ok(())
+    }
+
+    /// Makes a publisher, and connects it with the subscribers that there are. Answers its place.
+    pub(crate) fn create_publisher(
+        &mut self,
+        max_loaned_samples: usize,
+    ) -> Result<usize, PublisherCreateError>
+        requires { IsDomain self.old }
+        ensures { MatchResult result
+            (λ _. (s' : State T U) × CreatePublisher fixed_handlers (state_of (kept_of self.old)) (plain_publisher max_loaned_samples) s' None × Reaches self.old self.new s')
+            (λ e. CreatePublisher fixed_handlers (state_of (kept_of self.old)) (plain_publisher max_loaned_samples) (state_of (kept_of self.old)) (Some e)
+            × Reaches self.old self.new (state_of (kept_of self.old))) }
+    {
+        let place = match self.place_for_publisher() {
+            Ok(place) => place,
+            Err(e) => return Err(e),
+        };
+        let Some(slots) = first_segment(&self.config, max_loaned_samples) else {
+            return Err(PublisherCreateError::UnableToCreateDataSegment);
+        };
+        if let Err(e) = self.admit_publisher(place, max_loaned_samples, slots) {
+            return Err(e);
+        }
+        self.update_publisher(place);
+        Ok(place)
     }
 }

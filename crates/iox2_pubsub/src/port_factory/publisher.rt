@@ -1,8 +1,15 @@
 //! The factory of publishers.
-ghost use Rattle.std.specs.Prelude.{◌≡◌};
+ghost use Rattle.std.specs.Prelude.{◌≡◌, ℕ, None, Some, IfOk, MatchResult};
+ghost use Rattle.iox2_store.specs.Environments.{fixed_handlers};
+ghost use Rattle.iox2_store.specs.Ports.{CreatePublisher};
+ghost use Rattle.iox2_store.specs.State.{State, Messages};
+ghost use Rattle.iox2_pubsub.specs.Handles.{IsPublisherHandle};
 ghost use Rattle.iox2_pubsub.specs.NewPublisher.{plain_publisher};
+ghost use Rattle.iox2_pubsub.specs.Shows.{Shows};
 
 use crate::domain::Domain;
+use crate::publisher::Publisher;
+use iox2_store::{PublisherCreateError, UniquePublisherId};
 use std::marker::Model;
 
 /// Makes a publisher. It begins with the loans that the domain's settings allow a publisher. So far
@@ -48,5 +55,39 @@ impl PortFactoryPublisher {
         PortFactoryPublisher {
             max_loaned_samples: value,
         }
+    }
+
+    /// Makes the publisher, with the next id at the lowest free place, and connects it with the
+    /// subscribers that there are. Every subscriber is then due for an update.
+    ///
+    /// Fails, in this order, with `UnableToCreatePortTag` where the domain has no ids left, with
+    /// `ExceedsMaxSupportedPublishers` where as many publishers are open as may be, with
+    /// `UnableToCreateDataSegment` where the number of slots or their size doesn't fit `usize` or
+    /// memory for them is refused, and with `FailedToDeployThreadsafetyPolicy` where memory for
+    /// the publisher's state is. No id is then used, and the domain stays as it is.
+    ///
+    /// iceoryx2's `PortFactoryPublisher::create` (`src/service/port_factory/publisher.rs`) and
+    /// `Publisher::new` (`src/port/publisher.rs`).
+    pub fn create<T: Drop, U: Default + Drop>(
+        self,
+        domain: &mut Domain<T, U>,
+    ) -> Result<Publisher, PublisherCreateError>
+        ensures creates { (m : Messages T U) (s : State T U) → Shows domain.old m s → (s' : State T U) × Shows domain.new m s'
+            × MatchResult result
+            (λ publisher. (publisher.id ≡ s.next_port) × CreatePublisher fixed_handlers s self s' None)
+            (λ e. CreatePublisher fixed_handlers s self s' (Some e)) }
+        ensures held { IfOk result (λ publisher. IsPublisherHandle domain.new publisher.service_id publisher.id) }
+    {
+        let service_id = domain.state.config.service_id;
+        let id = UniquePublisherId::new(domain.state.next_port);
+        let place = match domain.state.create_publisher(self.max_loaned_samples) {
+            Ok(place) => place,
+            Err(e) => return Err(e),
+        };
+        Ok(Publisher {
+            service_id,
+            id,
+            place,
+        })
     }
 }

@@ -1,0 +1,42 @@
+use Rattle.std.proofs.Common.{◌∙◌, ap, sym, subst}
+use Rattle.std.specs.declared.option.Option.TheVariants.{None, Some}
+use Rattle.iox2_store.specs.Environments.{fixed_handlers}
+use Rattle.iox2_store.specs.Ports.{CreatePublisher}
+use Rattle.iox2_store.specs.Records.{PublisherSettings}
+use Rattle.iox2_store.specs.SingleCalls.{HoldsPublisher}
+use Rattle.iox2_store.specs.State.{State}
+use Rattle.iox2_pubsub.specs.Kept.{Kept, state_of}
+use Rattle.iox2_pubsub.specs.declared.domain.Domain.TheInside.{Inside}
+use Rattle.iox2_pubsub.specs.Fields.{kept_of}
+use Rattle.iox2_pubsub.specs.Handles.{IsPublisherHandle}
+use Rattle.iox2_pubsub.specs.Shows.{Shows}
+use Rattle.iox2_pubsub.proofs.PublisherCreations.{created-shows, created-held}
+use Rattle.iox2_pubsub.proofs.port_factory.publisher.PortFactoryPublisher.create.Goals as goal
+
+pub returns-in-Err-clause-creates : goal.returns-in-Err-clause-creates
+returns-in-Err-clause-creates g c m s shows =
+    let made = c.in-Err.ensures in
+    let before : State g.row.T.Denot g.row.U.Denot = state_of (kept_of c.domain.inside.state) in
+    let shown : Shows (kept_of c.domain.inside.state) m s = subst (λ (kept : Kept g.row.T.Denot g.row.U.Denot). Shows kept m s) (sym c.domain.view_is) shows in
+    let next = created-shows {T = g.row.T.Denot} {U = g.row.U.Denot} c.domain.inside.state c.create_publisher.new.self c.self.inside.max_loaned_samples fixed_handlers m s before (Some c.in-Err.e) shown made.0 made.1 in
+    (before, next.0, subst (λ (given : PublisherSettings). CreatePublisher fixed_handlers s given before (Some c.in-Err.e)) c.self.view_is next.1)
+
+pub returns-clause-creates : goal.returns-clause-creates
+returns-clause-creates g c m s shows =
+    let made = c.in-Ok.ensures in
+    let shown : Shows (kept_of c.domain.inside.state) m s = subst (λ (kept : Kept g.row.T.Denot g.row.U.Denot). Shows kept m s) (sym c.domain.view_is) shows in
+    let next = created-shows {T = g.row.T.Denot} {U = g.row.U.Denot} c.domain.inside.state c.create_publisher.new.self c.self.inside.max_loaned_samples fixed_handlers m s made.0 None shown made.1 made.2 in (
+      made.0,
+      next.0,
+      (
+        c.new-id.ensures ∙ ap (λ (d : Inside g.row.T.Denot g.row.U.Denot). d.state.next_port) c.domain-inside.view_is ∙ sym (ap (λ (u : State g.row.T.Denot g.row.U.Denot). u.next_port) shown.state),
+        subst (λ (given : PublisherSettings). CreatePublisher fixed_handlers s given made.0 None) c.self.view_is next.1,
+      ),
+    )
+
+pub returns-clause-held : goal.returns-clause-held
+returns-clause-held g c =
+    let made = c.in-Ok.ensures in
+    let held = subst (λ (d : Inside g.row.T.Denot g.row.U.Denot). IsPublisherHandle (kept_of c.create_publisher.new.self) d.state.config.service_id d.state.next_port) (sym c.domain-inside.view_is)
+    (created-held {T = g.row.T.Denot} {U = g.row.U.Denot} c.domain.inside.state c.create_publisher.new.self c.self.inside.max_loaned_samples fixed_handlers made.0 made.1 made.2) in
+    (held.0, subst (HoldsPublisher (state_of (kept_of c.create_publisher.new.self))) (sym c.new-id.ensures) held.1)
