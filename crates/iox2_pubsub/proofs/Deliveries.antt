@@ -6,6 +6,7 @@ use Rattle.std.specs.declared.time.Duration.{Duration}
 use Rattle.std.specs.Option.{option_map}
 use Rattle.slab.specs.Slab.{Slab, get, with_value}
 use Rattle.iox2_store.specs.Delivery.{PutResult, DeliveryEnd, Complete, Suspended, Put, PutAtEnd, Deliver, is_blocking, is_failed, accepted_count, no_time}
+use Rattle.iox2_store.specs.Environments.{fixed_handlers}
 use Rattle.iox2_store.specs.Link.{Link}
 use Rattle.iox2_store.specs.Mailbox.{Mailbox, has_room}
 use Rattle.iox2_store.specs.Records.{Environment, BlockedSend}
@@ -21,7 +22,6 @@ use Rattle.iox2_laws.proofs.Cases.{by_bool}
 use Rattle.iox2_pubsub.specs.Ports.{PublisherFields}
 use Rattle.iox2_pubsub.specs.Fields.{Fields}
 use Rattle.iox2_pubsub.specs.Invariant.{details_of, is_subscriber}
-use Rattle.iox2_pubsub.specs.Environments.{fixed_handlers}
 use Rattle.iox2_pubsub.specs.Deliveries.{DeliversTo}
 use Rattle.iox2_pubsub.proofs.Containers.{IsOnly-map}
 use Rattle.iox2_pubsub.proofs.Parts.{HasParts}

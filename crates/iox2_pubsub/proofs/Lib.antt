@@ -81,3 +81,5 @@ pub mod SenderWalk
 pub mod SenderUpdates
 pub mod ReceiverActions
 pub mod ReceiverSteps
+pub mod Sends
+pub mod SendShown

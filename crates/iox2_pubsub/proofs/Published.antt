@@ -7,6 +7,7 @@ use Rattle.std.specs.declared.option.Option.TheVariants.{None, Some}
 use Rattle.std.specs.Option.{MatchOption, option_map, option_and_then}
 use Rattle.slab.specs.Slab.{get}
 use Rattle.iox2_store.specs.Delivery.{Complete, Deliver, no_time}
+use Rattle.iox2_store.specs.Environments.{fixed_handlers}
 use Rattle.iox2_store.specs.Loans.{entry_of}
 use Rattle.iox2_store.specs.SlotBook.{Book, IsHeld, holders_at}
 use Rattle.iox2_store.specs.Mailbox.{Mailbox, numbers_in}
@@ -31,7 +32,6 @@ use Rattle.iox2_pubsub.specs.Ports.{PublisherFields, SubscriberFields}
 use Rattle.iox2_pubsub.specs.Kept.{Named, Lent_message, state_of, entries_of, is_named, entry_in, KeptMessage}
 use Rattle.iox2_pubsub.specs.Fields.{Fields, kept_of, publisher_of, subscriber_of, numbers_of}
 use Rattle.iox2_pubsub.specs.Invariant.{IsDomain, HasNumber, details_of, is_subscriber, holders_of}
-use Rattle.iox2_pubsub.specs.Environments.{fixed_handlers}
 use Rattle.iox2_pubsub.specs.Deliveries.{DeliversTo, Publishes, with_sent, with_send_ended}
 use Rattle.iox2_pubsub.proofs.Containers.{look_up-map}
 use Rattle.iox2_pubsub.proofs.Views.{mailboxes-are}
@@ -54,7 +54,7 @@ nil-of [] le = refl
 nil-of (x ∷ xs) le = absurd (omega arith)
 
 -- a fact of what stands there
-match-some : {A : Type 0} (o : Option A) (a : A) (P : Type 0) (Q : A → Type 0) → o ≡ Some a → Q a → MatchOption o P Q
+pub match-some : {A : Type 0} (o : Option A) (a : A) (P : Type 0) (Q : A → Type 0) → o ≡ Some a → Q a → MatchOption o P Q
 match-some o a P Q e q = subst (λ v. MatchOption v P Q) (sym e) q
 
 module _ {T U : Type 0} (f : Fields T U) where
@@ -308,6 +308,7 @@ module _ {T U : Type 0} (f : Fields T U) (sound : IsDomain f) (i : ℕ) (x : Pub
   sent-publishes = record {
     agrees = whole_of after parts-after well entries-after;
     publishes = publishes;
+    loans = ap (λ (t : State T U). t.loans) ended-state;
     entries = λ m entry e. elim (ended-entries mid parts i x here book book-stands own slot n l is_held lies-still is_written once m entry e) [
       | inl new ↦ inl new
       | inr old ↦ inr (recounted-entries f sound x.id x.book d.book d.stands own d.holders d.connections d.recounts m entry old)

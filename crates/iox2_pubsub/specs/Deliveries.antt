@@ -4,9 +4,10 @@ use Rattle.std.specs.declared.option.Option.TheVariants.{None, Some}
 use Rattle.std.specs.Option.{option_map}
 use Rattle.slab.specs.Slab.{Slab, get, with_value}
 use Rattle.iox2_store.specs.Delivery.{Complete, Deliver, no_time}
+use Rattle.iox2_store.specs.Environments.{fixed_handlers}
 use Rattle.iox2_store.specs.Link.{Link}
 use Rattle.iox2_store.specs.Loans.{entry_of}
-use Rattle.iox2_store.specs.Numbers.{without}
+use Rattle.iox2_store.specs.Numbers.{put_at, without}
 use Rattle.iox2_store.specs.Records.{Entry, Loan}
 use Rattle.iox2_store.specs.Sends.{Publish, Delivered_to}
 use Rattle.iox2_store.specs.SlotBook.{Book}
@@ -19,7 +20,6 @@ use Rattle.iox2_pubsub.specs.Ports.{PublisherFields}
 use Rattle.iox2_pubsub.specs.Kept.{state_of, entries_of}
 use Rattle.iox2_pubsub.specs.Fields.{Fields, kept_of}
 use Rattle.iox2_pubsub.specs.Invariant.{IsDomain, details_of}
-use Rattle.iox2_pubsub.specs.Environments.{fixed_handlers}
 
 -- The slot of the publisher x went to its receivers, of which so many took it. Connections and counters changed together, and
 -- nothing else did.
@@ -53,5 +53,6 @@ with_send_ended f place x slot book = record f {
 pub record Publishes {T U : Type 0} (old new : Fields T U) (p n : ℕ) (l : Loan T U) (count : ℕ) : Type 0 where
   pub agrees : IsDomain new
   pub publishes : Publish fixed_handlers (state_of (kept_of old)) p n (state_of (kept_of new)) (Delivered_to count)
+  pub loans : (state_of (kept_of new)).loans ≡ put_at (state_of (kept_of old)).loans n None
   pub entries : (m : ℕ) (entry : Entry T U) → entries_of (kept_of new) m ≡ Some entry
       → ((m ≡ n) × (entry ≡ entry_of l)) ⊎ (entries_of (kept_of old) m ≡ Some entry)

@@ -18,3 +18,4 @@ pub mod LoanSlots
 pub mod Connects
 pub mod LoanCalls
 pub mod Deliveries
+pub mod SendCalls

@@ -19,6 +19,7 @@ mod reclaims;
 mod sample_reads;
 mod sample_slots;
 mod segments;
+mod sends;
 mod state;
 mod subscriber_entry;
 mod subscriber_state;

@@ -7,6 +7,8 @@ mod publisher;
 mod sample;
 mod sample_mut;
 mod sample_mut_uninit;
+mod sample_send;
+mod send_outcome;
 mod subscriber;
 #[cfg(test)]
 mod tests;
@@ -18,4 +20,5 @@ pub use publisher::Publisher;
 pub use sample::Sample;
 pub use sample_mut::SampleMut;
 pub use sample_mut_uninit::SampleMutUninit;
+pub use send_outcome::SendOutcome;
 pub use subscriber::Subscriber;

@@ -1,0 +1,70 @@
+-- A send of a loan, seen from outside.
+use Rattle.std.proofs.Common.{◌≡◌, ℕ, ◌<◌, eqb, refl, ap, sym, subst, ◌∙◌, inl, inr, arith, true, false, Bool}
+use Rattle.std.proofs.lemmas.Bool.{eqb-true, cases_eq}
+use Rattle.std.specs.declared.option.Option.{Option}
+use Rattle.std.specs.declared.option.Option.TheVariants.{None, Some}
+use Rattle.iox2_store.specs.Environments.{fixed_handlers}
+use Rattle.iox2_store.specs.Loans.{entry_of}
+use Rattle.iox2_store.specs.Numbers.{put_at}
+use Rattle.iox2_store.specs.Records.{Entry, Loan}
+use Rattle.iox2_store.specs.Sends.{Send, Delivered_to}
+use Rattle.iox2_store.specs.State.{State, Messages}
+use Rattle.iox2_laws.proofs.Puts.{put_at-same, put_at-other}
+use Rattle.iox2_laws.proofs.SendLaws.{send_advances}
+use Rattle.iox2_pubsub.specs.Fields.{Fields, kept_of}
+use Rattle.iox2_pubsub.specs.Kept.{state_of}
+use Rattle.iox2_pubsub.specs.SendCalls.{SendsLoan}
+use Rattle.iox2_pubsub.specs.Shows.{Shows}
+
+module _ {T U : Type 0} (f g : Fields T U) (n count : ℕ) (sends : SendsLoan f g n count) (m : Messages T U) (s : State T U) (l : Loan T U)
+    (shown : Shows (kept_of f) m s) (out : s.loans n ≡ Some l) where
+  was-out : (state_of (kept_of f)).loans n ≡ Some l
+  was-out = ap (λ (t : State T U). t.loans n) (sym shown.state) ∙ out
+
+  loan-is : sends.loan ≡ l
+  loan-is = let both : Some sends.loan ≡ Some l = sym sends.out ∙ was-out in cc
+
+  -- the machine's step
+  pub machine-sends : Send fixed_handlers s n l (state_of (kept_of g)) (Delivered_to count)
+  machine-sends =
+      subst (λ (t : State T U). Send fixed_handlers t n l (state_of (kept_of g)) (Delivered_to count)) (sym shown.state)
+      (subst (λ (k : Loan T U). Send fixed_handlers (state_of (kept_of f)) n k (state_of (kept_of g)) (Delivered_to count)) loan-is sends.sends)
+
+  abbrev messages : Messages T U
+  messages = put_at m n (Some (entry_of l))
+
+  others : (k : ℕ) → (k ≡ n → ⊥) → messages k ≡ m k
+  others k away = put_at-other m n (Some (entry_of l)) k (by (eqb k n) refl) where
+    by : (t : Bool) → eqb k n ≡ t → t ≡ false
+    by true e = absurd (away (eqb-true k n e))
+    by false e = refl
+
+  -- what the domain shows afterwards
+  pub send-shown : Shows (kept_of g) messages (state_of (kept_of g))
+  send-shown = record {
+    state = refl;
+    well_formed = sends.agrees.well_formed;
+    entries = λ k entry e. elim (sends.entries k entry e) [
+      | inl new ↦ ap messages new.0 ∙ put_at-same m n (Some (entry_of l)) ∙ ap Some (ap entry_of (sym loan-is) ∙ sym new.1)
+      | inr old ↦ others k (λ same. clash entry (ap m (sym same) ∙ shown.entries k entry old)) ∙ shown.entries k entry old
+    ];
+    complete = sends.agrees.entries;
+    below = λ k le.
+        let rises = (send_advances fixed_handlers s n l (state_of (kept_of g)) (Delivered_to count) machine-sends).next_message in
+        let low : n < s.next_message = (shown.well_formed.loans n l out).below in
+        others k (λ same. absurd (omega arith)) ∙ shown.below k (omega arith);
+    unsent = λ k loan e. elim (cases_eq k n) [
+      | inl same ↦ absurd (let none : None ≡ Some loan = sym (ap (put_at (state_of (kept_of f)).loans n None) same ∙ put_at-same (state_of (kept_of f)).loans n None) ∙ sym (ap (λ (loans : ℕ → Option (Loan T U)). loans k) sends.loans) ∙ e in cc)
+      | inr away ↦ others k away ∙ shown.unsent k loan (ap (λ (t : State T U). t.loans k) shown.state
+          ∙ sym (ap (λ (loans : ℕ → Option (Loan T U)). loans k) sends.loans ∙ put_at-other (state_of (kept_of f)).loans n None k (apart k away)) ∙ e)
+    ];
+  }
+    where
+      clash : (entry : Entry T U) → m n ≡ Some entry → ⊥
+      clash entry e = absurd (let no : None ≡ Some entry = sym (shown.unsent n l out) ∙ e in cc)
+
+      apart : (k : ℕ) → (k ≡ n → ⊥) → eqb k n ≡ false
+      apart k away = by (eqb k n) refl where
+        by : (t : Bool) → eqb k n ≡ t → t ≡ false
+        by true e = absurd (away (eqb-true k n e))
+        by false e = refl

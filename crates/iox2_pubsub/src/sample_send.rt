@@ -1,0 +1,46 @@
+//! A message is sent.
+ghost use Rattle.std.specs.Prelude.{◌≡◌};
+
+use crate::domain::Domain;
+use crate::sample_mut::SampleMut;
+use crate::send_outcome::SendOutcome;
+use iox2_store::SendError;
+
+impl SampleMut {
+    ghost use Rattle.std.specs.Prelude.{Some, IsOk};
+    ghost use Rattle.iox2_store.specs.Loans.{entry_of};
+    ghost use Rattle.iox2_store.specs.Numbers.{put_at};
+    ghost use Rattle.iox2_store.specs.Records.{Loan};
+    ghost use Rattle.iox2_store.specs.State.{State, Messages};
+    ghost use Rattle.iox2_pubsub.specs.Handles.{IsWrittenLoanHandle};
+    ghost use Rattle.iox2_pubsub.specs.SendCalls.{Sends};
+    ghost use Rattle.iox2_pubsub.specs.Shows.{Shows};
+
+    /// Sends the message to every subscriber that is open. One whose buffer is full doesn't get it.
+    /// Answers how many subscribers took it.
+    ///
+    /// No error is answered by a publisher without handlers that wasn't closed. The loan is out no
+    /// more; its slot is free again when every subscriber that took the message has released it.
+    /// Memory is asked for only where the publisher gets a connection with a new subscriber: where
+    /// it is refused, that subscriber doesn't get the message, and the domain keeps a warning.
+    ///
+    /// iceoryx2's `SampleMut::send` (`src/sample_mut.rs`).
+    pub fn send<T: Drop, U: Default + Drop>(
+        self,
+        domain: &mut Domain<T, U>,
+    ) -> Result<SendOutcome, SendError>
+        requires { IsWrittenLoanHandle domain.old self.service_id self.publisher self.number }
+        ensures ok { IsOk result }
+        ensures sent { (m : Messages T U) (s : State T U) (l : Loan T U) → Shows domain.old m s → s.loans self.number ≡ Some l
+            → (s' : State T U) × Shows domain.new (put_at m self.number (Some (entry_of l))) s' × Sends s self.number l result s' }
+    {
+        let SampleMut {
+            service_id: _,
+            publisher,
+            number,
+            slot,
+        } = self;
+        let count = domain.state.send_loan(publisher.value(), number, slot);
+        Ok(SendOutcome::Delivered(count))
+    }
+}
