@@ -32,6 +32,7 @@ pub mod GrantedAgrees
 pub mod LendingSteps
 pub mod Lent
 pub mod Loaned
+pub mod UninitLoans
 pub mod PublisherChanges
 pub mod Messages
 pub mod Keys

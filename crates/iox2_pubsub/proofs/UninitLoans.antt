@@ -1,0 +1,104 @@
+-- A loan of a single value, seen from outside.
+use Rattle.std.proofs.Common.{◌≡◌, ℕ, ◌+◌, ◌*◌, ◌≤◌, replicate, true, false, cond, eqb, get_or, refl, ap, sym, subst, ◌∙◌, inl, inr, arith, Result, Ok, Err, IsTrue}
+use Rattle.std.proofs.lemmas.Bool.{cases_eq, eq-eqb, ne_eqb}
+use Rattle.std.specs.declared.option.Option.{Option}
+use Rattle.std.specs.declared.option.Option.TheVariants.{None, Some}
+use Rattle.std.specs.Option.{option_map}
+use Rattle.std.specs.Prelude.{IsSomeAnd, MatchOption}
+use Rattle.iox2_store.specs.Loans.{loan_granted, GrantLoan}
+use Rattle.iox2_store.specs.Numbers.{put_at}
+use Rattle.iox2_store.specs.Records.{Loan, Publisher}
+use Rattle.iox2_store.specs.SingleCalls.{HoldsLoan, HoldsPublisher}
+use Rattle.iox2_store.specs.State.{State, Messages}
+use Rattle.iox2_store.specs.declared.errors.LoanError.{LoanError}
+use Rattle.iox2_store.specs.declared.service_config.ServiceConfig.{ServiceConfig}
+use Rattle.iox2_ends.specs.LookUp.{look_up}
+use Rattle.iox2_pubsub.specs.Environments.{ample_memory}
+use Rattle.iox2_pubsub.specs.Handles.{IsPublisherHandle, IsUnwrittenLoanHandle}
+use Rattle.iox2_pubsub.specs.Ports.{PublisherFields}
+use Rattle.iox2_pubsub.specs.Kept.{Named, state_of, is_named}
+use Rattle.iox2_pubsub.specs.Fields.{Fields, kept_of, publisher_of, contents_at}
+use Rattle.iox2_pubsub.specs.Invariant.{is_publisher}
+use Rattle.iox2_pubsub.specs.Lending.{LoanReaches, LoanCall}
+use Rattle.iox2_pubsub.specs.LoanSlots.{LiesInSlot}
+use Rattle.iox2_pubsub.specs.Reaches.{Reaches}
+use Rattle.iox2_pubsub.specs.Shows.{Shows}
+use Rattle.iox2_pubsub.proofs.Containers.{look_up-map}
+use Rattle.iox2_pubsub.proofs.Messages.{message_in-parts}
+use Rattle.iox2_pubsub.proofs.ReachesShows.{reaches-shows, reaches-shows-same}
+use Rattle.iox2_pubsub.proofs.RecountedState.{loan-publisher}
+
+module _ {T U : Type 0} (f : Fields T U) where
+  abbrev state : State T U
+  state = state_of (kept_of f)
+
+  abbrev machine : PublisherFields → Publisher
+  machine x = (publisher_of f.books f.connections x).port
+
+  -- a publisher that nobody has isn't held
+  pub publisher-missing : (p : ℕ) → look_up (is_publisher p) f.publishers ≡ None → HoldsPublisher state p → ⊥
+  publisher-missing p none held =
+      let nothing : state.publishers p ≡ None =
+      ap (option_map (λ (z : Named Publisher). z.port))
+      (look_up-map (is_named p) (publisher_of f.books f.connections) f.publishers ∙ ap (option_map (publisher_of f.books f.connections)) none) in
+      let clash : None ≡ Some held.0 = sym nothing ∙ held.1 in
+      absurd cc
+
+  -- a loan that lies in a slot is held
+  pub lies-held : (p n key slot : ℕ) → LiesInSlot f p n key slot → HoldsLoan state p n
+  lies-held p n key slot at = (
+    at.loan,
+    at.held,
+    loan-publisher at.book (contents_at f.contents key) slot n at.loan (message_in-parts at.book (contents_at f.contents key) slot _ at.lies) ∙ at.is_its,
+  )
+
+  module _ (is_default : U → Type 0) (new : Fields T U) (x : PublisherFields) (m : Messages T U) (s : State T U) (shown : Shows (kept_of f) m s) where
+    -- a loan that is refused changes nothing
+    pub refused-shows : (A : Type 0) (e : LoanError) → LoanReaches {A = ℕ} is_default f x (Err e) new
+        → (s' : State T U) × Shows (kept_of new) m s' × LoanCall {A = A} is_default s x.id (Err e) s'
+    refused-shows A e reaches =
+        subst (λ (t : State T U). (s' : State T U) × Shows (kept_of new) m s' × LoanCall {A = A} is_default t x.id (Err e) s')
+        (sym shown.state) (state, reaches-shows-same f new m s state shown reaches.1 (ap (λ (t : State T U). t.next_message) (sym shown.state)) (ap (λ (t : State T U). t.loans) (sym shown.state)), reaches.0)
+
+    -- no message was sent under the number of the new loan, or of an older one
+    none_sent : (lent : Loan T U) (n : ℕ) (l : Loan T U) → put_at state.loans f.next_message (Some lent) n ≡ Some l → m n ≡ None
+    none_sent lent n l found = elim (cases_eq n f.next_message) [
+      | inl here ↦ shown.below n (let next : s.next_message ≡ f.next_message = ap (λ (t : State T U). t.next_message) shown.state in omega arith)
+      | inr away ↦
+          let old : put_at state.loans f.next_message (Some lent) n ≡ state.loans n = ap (λ b. cond b (Some lent) (state.loans n)) (ne_eqb n f.next_message away) in
+          shown.unsent n l (ap (λ (t : State T U). t.loans n) shown.state ∙ sym old ∙ found)
+    ]
+
+    -- a loan that is granted is shown
+    pub granted-shows : (A : Type 0) (slot : ℕ) (answer : A) → LoanReaches {A = ℕ} is_default f x (Ok slot) new
+        → (s' : State T U) × Shows (kept_of new) m s' × LoanCall {A = A} is_default s x.id (Ok answer) s'
+    granted-shows A slot answer reaches =
+        let s' : State T U = loan_granted reaches.0 state x.id (machine x) 1 x.segments in
+        subst (λ (t : State T U). (s' : State T U) × Shows (kept_of new) m s' × LoanCall {A = A} is_default t x.id (Ok answer) s')
+        (sym shown.state) (
+          s',
+          reaches-shows f new m s s' shown reaches.3
+              (let next : s.next_message ≡ f.next_message = ap (λ (t : State T U). t.next_message) shown.state in omega arith)
+              (λ n l found. none_sent _ n l found),
+          (reaches.0, reaches.1, reaches.2),
+        )
+
+  -- the new loan is held, and isn't written
+  pub granted-held : (is_default : U → Type 0) (new : Fields T U) (x : PublisherFields) (service_id slot : ℕ) → service_id ≡ (f.config).service_id
+      → LoanReaches {A = ℕ} is_default f x (Ok slot) new → IsUnwrittenLoanHandle (kept_of new) service_id x.id f.next_message
+  granted-held is_default new x service_id slot its reaches =
+      let reached : state_of (kept_of new) ≡ loan_granted reaches.0 state x.id (machine x) 1 x.segments = reaches.3.state in
+      let lent : Loan T U = record {
+        publisher = x.id;
+        header = record { node_id = (f.config).node_id; publisher_id = x.id; number_of_elements = 1 };
+        user_header = reaches.0;
+        cells = replicate (1 * (f.config).units_per_element) None;
+        is_written = false;
+      } in (
+        its ∙ ap (λ (t : State T U). (t.config).service_id) (sym reached),
+        lent,
+        ap (λ (t : State T U). t.loans f.next_message) reached
+            ∙ ap (λ b. cond b (Some lent) (state.loans f.next_message)) (eq-eqb f.next_message f.next_message refl),
+        refl,
+        refl,
+      )
