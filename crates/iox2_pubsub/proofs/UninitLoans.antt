@@ -1,27 +1,25 @@
 -- A loan of a single value, seen from outside.
-use Rattle.std.proofs.Common.{◌≡◌, ℕ, ◌+◌, ◌*◌, ◌≤◌, replicate, true, false, cond, eqb, get_or, refl, ap, sym, subst, ◌∙◌, inl, inr, arith, Result, Ok, Err, IsTrue}
+use Rattle.std.proofs.Common.{◌≡◌, ℕ, ◌*◌, replicate, Bool, true, false, cond, get_or, refl, ap, sym, subst, ◌∙◌, inl, inr, arith, Result, Ok, Err, IsTrue}
 use Rattle.std.proofs.lemmas.Bool.{cases_eq, eq-eqb, ne_eqb}
 use Rattle.std.specs.declared.option.Option.{Option}
 use Rattle.std.specs.declared.option.Option.TheVariants.{None, Some}
 use Rattle.std.specs.Option.{option_map}
-use Rattle.std.specs.Prelude.{IsSomeAnd, MatchOption}
-use Rattle.iox2_store.specs.Loans.{loan_granted, GrantLoan}
+use Rattle.std.specs.Prelude.{IsSomeAnd, IsErrAnd, MatchOption, is_some}
+use Rattle.iox2_store.specs.Loans.{loan_granted}
 use Rattle.iox2_store.specs.Numbers.{put_at}
 use Rattle.iox2_store.specs.Records.{Loan, Publisher}
 use Rattle.iox2_store.specs.SingleCalls.{HoldsLoan, HoldsPublisher}
 use Rattle.iox2_store.specs.State.{State, Messages}
 use Rattle.iox2_store.specs.declared.errors.LoanError.{LoanError}
-use Rattle.iox2_store.specs.declared.service_config.ServiceConfig.{ServiceConfig}
 use Rattle.iox2_ends.specs.LookUp.{look_up}
-use Rattle.iox2_pubsub.specs.Environments.{ample_memory}
-use Rattle.iox2_pubsub.specs.Handles.{IsPublisherHandle, IsUnwrittenLoanHandle}
+use Rattle.iox2_store.specs.declared.key.Key.{Key}
+use Rattle.iox2_pubsub.specs.Handles.{IsPublisherHandle, IsUnwrittenLoanHandle, IsLoanKey}
 use Rattle.iox2_pubsub.specs.Ports.{PublisherFields}
-use Rattle.iox2_pubsub.specs.Kept.{Named, state_of, is_named}
+use Rattle.iox2_pubsub.specs.Kept.{Kept, Named, state_of, is_named}
 use Rattle.iox2_pubsub.specs.Fields.{Fields, kept_of, publisher_of, contents_at}
 use Rattle.iox2_pubsub.specs.Invariant.{is_publisher}
 use Rattle.iox2_pubsub.specs.Lending.{LoanReaches, LoanCall}
 use Rattle.iox2_pubsub.specs.LoanSlots.{LiesInSlot}
-use Rattle.iox2_pubsub.specs.Reaches.{Reaches}
 use Rattle.iox2_pubsub.specs.Shows.{Shows}
 use Rattle.iox2_pubsub.proofs.Containers.{look_up-map}
 use Rattle.iox2_pubsub.proofs.Messages.{message_in-parts}
@@ -102,3 +100,50 @@ module _ {T U : Type 0} (f : Fields T U) where
         refl,
         refl,
       )
+
+module _ {T U : Type 0} (is_default : U → Type 0) (f new : Fields T U) (i p : ℕ) (answer : Result ℕ LoanError)
+    (stands : (x : PublisherFields) × (get_or f.publishers i None ≡ Some x) × (x.id ≡ p))
+    (reaches : IsSomeAnd (get_or f.publishers i None) (λ z. LoanReaches is_default f z answer new)) where
+  its : LoanReaches is_default f stands.0 answer new
+  its = subst (λ (o : Option PublisherFields). IsSomeAnd o (λ z. LoanReaches is_default f z answer new)) stands.1 reaches
+
+  -- a loan that was refused
+  pub err-shown : (A : Type 0) (e : LoanError) → answer ≡ Err e → (r : Result A LoanError) → IsErrAnd r (λ e'. e' ≡ e) → (kept : Kept T U) → kept_of f ≡ kept
+      → (m : Messages T U) (s : State T U) → Shows kept m s → (s' : State T U) × Shows (kept_of new) m s' × LoanCall {A = A} is_default s p r s'
+  err-shown A e is (Ok a) same kept view m s shown = absurd same
+  err-shown A e is (Err e') same kept view m s shown =
+      subst (λ (q : ℕ). (s' : State T U) × Shows (kept_of new) m s' × LoanCall {A = A} is_default s q (Err e') s') stands.2
+      (refused-shows f is_default new stands.0 m s (subst (λ (k : Kept T U). Shows k m s) (sym view) shown) A e'
+      (subst (λ (r : Result ℕ LoanError). LoanReaches is_default f stands.0 r new) (is ∙ ap Err (sym same)) its))
+
+  -- a loan that was granted
+  pub ok-shown : (A : Type 0) (a : A) (slot : ℕ) → answer ≡ Ok slot → (kept : Kept T U) → kept_of f ≡ kept
+      → (m : Messages T U) (s : State T U) → Shows kept m s → (s' : State T U) × Shows (kept_of new) m s' × LoanCall {A = A} is_default s p (Ok a) s'
+  ok-shown A a slot is kept view m s shown =
+      subst (λ (q : ℕ). (s' : State T U) × Shows (kept_of new) m s' × LoanCall {A = A} is_default s q (Ok a) s') stands.2
+      (granted-shows f is_default new stands.0 m s (subst (λ (k : Kept T U). Shows k m s) (sym view) shown) A slot a
+      (subst (λ (r : Result ℕ LoanError). LoanReaches is_default f stands.0 r new) is its))
+
+  -- it is held
+  pub ok-held : (service_id slot number : ℕ) → answer ≡ Ok slot → number ≡ f.next_message → (kept : Kept T U) → kept_of f ≡ kept → IsPublisherHandle kept service_id p
+      → IsUnwrittenLoanHandle (kept_of new) service_id p number
+  ok-held service_id slot number is next kept view handle =
+      subst (λ (q : ℕ). IsUnwrittenLoanHandle (kept_of new) service_id q number) stands.2
+      (subst (λ (n : ℕ). IsUnwrittenLoanHandle (kept_of new) service_id stands.0.id n) (sym next)
+      (granted-held f is_default new stands.0 service_id slot (handle.0 ∙ sym (ap (λ (k : Kept T U). (k.config).service_id) view))
+      (subst (λ (r : Result ℕ LoanError). LoanReaches is_default f stands.0 r new) is its)))
+
+-- a loan is held just where a slot is found for it
+pub loan-key : {T U : Type 0} (f : Fields T U) (kept : Kept T U) (key : Key) → kept_of f ≡ kept → key.service_id ≡ (f.config).service_id → (found : Option (ℕ × ℕ))
+    → MatchOption found (HoldsLoan (state_of (kept_of f)) key.port key.message → ⊥) (λ at. LiesInSlot f key.port key.message at.0 at.1)
+    → (b : Bool) → b ≡ is_some found → (IsTrue b → IsLoanKey kept key) × (IsLoanKey kept key → IsTrue b)
+loan-key {T} {U} f kept key view service found finds b is = (λ is_held. subst (λ (k : Kept T U). IsLoanKey k key) view (service, there found finds (sym is ∙ is_held)), λ held. is ∙ some found finds (subst (λ (k : Kept T U). IsLoanKey k key) (sym view) held).1) where
+  there : (o : Option (ℕ × ℕ)) → MatchOption o (HoldsLoan (state_of (kept_of f)) key.port key.message → ⊥) (λ at. LiesInSlot f key.port key.message at.0 at.1) → is_some o ≡ true
+      → HoldsLoan (state_of (kept_of f)) key.port key.message
+  there None none is_held = absurd cc
+  there (Some at) lies is_held = lies-held f key.port key.message at.0 at.1 lies
+
+  some : (o : Option (ℕ × ℕ)) → MatchOption o (HoldsLoan (state_of (kept_of f)) key.port key.message → ⊥) (λ at. LiesInSlot f key.port key.message at.0 at.1)
+      → HoldsLoan (state_of (kept_of f)) key.port key.message → is_some o ≡ true
+  some None none held = absurd (none held)
+  some (Some at) lies held = refl

@@ -4,8 +4,7 @@ use Rattle.std.specs.declared.option.Option.TheVariants.{Some}
 use Rattle.iox2_store.specs.Mailbox.{is_borrowed}
 use Rattle.iox2_store.specs.Records.{Loan}
 use Rattle.iox2_store.specs.declared.key.Key.{Key}
-use Rattle.iox2_store.specs.SingleCalls.{HoldsPublisher, HoldsSubscriber, HoldsSample}
-use Rattle.iox2_store.specs.SingleCalls.{HoldsPublisher, HoldsSubscriber, HoldsLoan}
+use Rattle.iox2_store.specs.SingleCalls.{HoldsPublisher, HoldsSubscriber, HoldsLoan, HoldsSample}
 use Rattle.iox2_pubsub.specs.Kept.{Kept, state_of}
 
 module _ {T U : Type 0} (kept : Kept T U) (service_id : ℕ) where
@@ -48,6 +47,7 @@ module _ {T U : Type 0} (kept : Kept T U) (key : Key) where
   -- The key is that of a sample's handle: its subscriber has borrowed a message with that number.
   abbrev pub IsSampleKey : Type 0
   IsSampleKey = (key.service_id ≡ (kept.config).service_id) × HoldsSample (state_of kept) key.port key.message
+
   -- The key is that of a loan that is out.
   abbrev pub IsLoanKey : Type 0
   IsLoanKey = (key.service_id ≡ (kept.config).service_id) × HoldsLoan (state_of kept) key.port key.message

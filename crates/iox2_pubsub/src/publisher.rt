@@ -1,6 +1,8 @@
 //! A publisher.
 ghost use Rattle.std.specs.Prelude.{◌≡◌};
 
+mod loan;
+
 use crate::domain::Domain;
 use iox2_store::{Key, UniquePublisherId};
 

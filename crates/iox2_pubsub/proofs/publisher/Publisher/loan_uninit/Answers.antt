@@ -1,0 +1,19 @@
+use Rattle.std.proofs.Common.{ap, ◌∙◌}
+use Rattle.iox2_pubsub.specs.declared.domain.Domain.TheInside.{Inside}
+use Rattle.iox2_pubsub.proofs.UninitLoans.{err-shown, ok-shown, ok-held}
+use Rattle.iox2_pubsub.proofs.publisher.Publisher.loan_uninit.Goals as goal
+
+pub returns-in_err-slot-clause-lends : goal.returns-in_err-slot-clause-lends
+returns-in_err-slot-clause-lends g c = λ m s shown.
+    err-shown {T = g.row.T.Denot} {U = g.row.U.Denot} g.U.Default.is_default c.domain.inside.state c.loan.new.self c.in-Some.place c.args.self.now.id c.loan.result
+    (c.in-Some.ensures.0, c.in-Some.ensures.1, c.in-Some.ensures.2 ∙ c.value.ensures) c.loan.ensures _ c.in_err-slot.field-0.0 c.in_err-slot.was c.from_residual.result c.from_residual.ensures.1 c.args.domain.now c.domain.view_is m s shown
+
+pub returns-clause-lends : goal.returns-clause-lends
+returns-clause-lends g c = λ m s shown.
+    ok-shown {T = g.row.T.Denot} {U = g.row.U.Denot} g.U.Default.is_default c.domain.inside.state c.loan.new.self c.in-Some.place c.args.self.now.id c.loan.result
+    (c.in-Some.ensures.0, c.in-Some.ensures.1, c.in-Some.ensures.2 ∙ c.value.ensures) c.loan.ensures _ c.in_ok-slot.slot c.in_ok-slot.slot c.in_ok-slot.was c.args.domain.now c.domain.view_is m s shown
+
+pub returns-clause-held : goal.returns-clause-held
+returns-clause-held g c =
+    ok-held {T = g.row.T.Denot} {U = g.row.U.Denot} g.U.Default.is_default c.domain.inside.state c.loan.new.self c.in-Some.place c.args.self.now.id c.loan.result
+    (c.in-Some.ensures.0, c.in-Some.ensures.1, c.in-Some.ensures.2 ∙ c.value.ensures) c.loan.ensures c.args.self.now.service_id c.in_ok-slot.slot _ c.in_ok-slot.was (ap (λ (d : Inside g.row.T.Denot g.row.U.Denot). (d.state).next_message) c.domain-inside.view_is) c.args.domain.now c.domain.view_is c.requires

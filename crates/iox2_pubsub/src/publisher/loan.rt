@@ -1,0 +1,63 @@
+//! A publisher lends a message.
+ghost use Rattle.std.specs.Prelude.{◌≡◌, IfOk};
+
+use crate::domain::Domain;
+use crate::publisher::Publisher;
+use crate::sample_mut_uninit::SampleMutUninit;
+use iox2_store::{Key, LoanError};
+
+impl Publisher {
+    ghost use Rattle.iox2_store.specs.State.{State, Messages};
+    ghost use Rattle.iox2_pubsub.specs.Handles.{IsPublisherHandle, IsUnwrittenLoanHandle};
+    ghost use Rattle.iox2_pubsub.specs.Lending.{LoanCall};
+    ghost use Rattle.iox2_pubsub.specs.Shows.{Shows};
+
+    /// Lends a message of a single value, whose payload isn't written and whose user header has
+    /// its default value. The loan is out until its message was sent. It takes no memory.
+    ///
+    /// # Errors
+    ///
+    /// `ExceedsMaxLoans` where as many loans are out as the publisher may have at a time.
+    /// `OutOfMemory` where each of its slots holds a loan or a message that waits or is borrowed.
+    /// `InternalFailure` where the domain has no message number left. Nothing changes then.
+    ///
+    /// iceoryx2's `Publisher::loan_uninit` (`src/port/publisher.rs`).
+    pub fn loan_uninit<T: Drop, U: Default + Drop>(
+        &self,
+        domain: &mut Domain<T, U>,
+    ) -> Result<SampleMutUninit, LoanError>
+        requires { IsPublisherHandle domain.old self.now.service_id self.now.id }
+        ensures lends { (m : Messages T U) (s : State T U) → Shows domain.old m s → (s' : State T U) × Shows domain.new m s' × LoanCall U.is_default s self.now.id result s' }
+        ensures held { IfOk result (λ loan. IsUnwrittenLoanHandle domain.new loan.service_id loan.publisher loan.number) }
+        ensures number { IfOk result (λ loan. loan.number ≡ domain.old.next_message) }
+        ensures publisher { IfOk result (λ loan. loan.publisher ≡ self.now.id) }
+    {
+        let Some(place) = domain.state.find_publisher(self.id.value(), self.place) else {
+            unreachable!();
+        };
+        let number = domain.state.next_message;
+        let slot = domain.state.loan(place)?;
+        Ok(SampleMutUninit {
+            service_id: self.service_id,
+            publisher: self.id,
+            number,
+            slot,
+        })
+    }
+}
+
+impl<T: Drop, U: Default + Drop> Domain<T, U> {
+    ghost use Rattle.std.specs.Prelude.{IsTrue, ◌↔◌};
+    ghost use Rattle.iox2_pubsub.specs.Handles.{IsLoanKey};
+
+    /// Whether the key is that of a loan of this domain that is out: its message wasn't sent. This
+    /// library's own.
+    pub fn holds_loan(&self, key: Key) -> bool
+        ensures { IsTrue result ↔ IsLoanKey self.now key }
+    {
+        if key.service_id != self.state.config.service_id {
+            return false;
+        }
+        self.state.find_loan(key.port, key.message, 0).is_some()
+    }
+}
