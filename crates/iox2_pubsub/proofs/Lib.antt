@@ -84,3 +84,7 @@ pub mod ReceiverActions
 pub mod ReceiverSteps
 pub mod Sends
 pub mod SendShown
+pub mod ReceiverCases
+pub mod ReceiverAnswers
+pub mod ReceiverWalk
+pub mod ReceiverUpdates

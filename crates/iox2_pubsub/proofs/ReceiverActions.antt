@@ -1,5 +1,5 @@
 -- What the machine does at a publisher's place.
-use Rattle.std.proofs.Common.{◌≡◌, ◌==◌, ℕ, Bool, true, List, refl, ap, sym, subst, ◌∙◌}
+use Rattle.std.proofs.Common.{◌≡◌, ◌==◌, ℕ, Bool, refl, sym, subst}
 use Rattle.std.proofs.lemmas.Bool.{eq-eqb}
 use Rattle.std.specs.Bool.{MatchBool}
 use Rattle.std.specs.Prelude.{MatchOption}

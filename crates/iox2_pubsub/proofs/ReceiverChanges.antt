@@ -1,5 +1,5 @@
 -- A subscriber gets keys of its connections, one of which may be new.
-use Rattle.std.proofs.Common.{◌≡◌, ℕ, Bool, List, [], map, get_or, slice_set, refl, ap, ◌∙◌, ◌⊎◌}
+use Rattle.std.proofs.Common.{◌≡◌, ℕ, Bool, List, [], map, get_or, slice_set, refl, ap, ◌∙◌, ◌⊎◌, inl}
 use Rattle.std.proofs.lemmas.List.{map-set}
 use Rattle.std.specs.declared.option.Option.{Option}
 use Rattle.std.specs.declared.option.Option.TheVariants.{None, Some}
@@ -98,3 +98,14 @@ module _ {T U : Type 0} (f : Fields T U) (sound : IsDomain f) (j : ℕ) (y : Sub
 
     places : (state_of (kept_of (with_receiver f j y keys is_due connections warnings))).subscriber_places ≡ (state_of (kept_of f)).subscriber_places
     places = ap ids after-shown ∙ changed-ids shown j (subscriber_of f.books f.connections y) named_after stands-shown refl
+
+module _ {T U : Type 0} (f : Fields T U) (sound : IsDomain f) (j : ℕ) (y : SubscriberFields) (at : get_or f.subscribers j None ≡ Some y) where
+  -- its own keys fit, whatever room there is for connections
+  pub receiver_fits-same : (n : ℕ) → FitsReceiver f j y y.places (record f.connections { capacity = n })
+  receiver_fits-same n = record {
+    extends = record { apart = record { one = sound.apart.one }; sums = λ p slot. refl; boxes = λ number p q. refl; grows = λ key c at. at };
+    linked = record { at = (sound.linked.receivers j y at).at };
+    places = λ place key c at_key at_c. sound.linked.receiver_places j place key y c at at_key at_c;
+    keeps = λ place key at. at;
+    news = λ key c at. inl at;
+  }

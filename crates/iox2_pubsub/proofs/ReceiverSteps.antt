@@ -1,6 +1,5 @@
 -- A subscriber's update at one publisher's place.
-use Rattle.std.proofs.Common.{◌≡◌, ℕ, true, false, Bool, List, map, get_or, slice_set, refl, ap, sym, subst, ◌∙◌, inl, inr, ◌⊎◌}
-use Rattle.std.proofs.lemmas.Bool.{eq-eqb}
+use Rattle.std.proofs.Common.{◌≡◌, ℕ, false, List, get_or, slice_set, refl, ap, ◌∙◌, inl}
 use Rattle.std.specs.declared.option.Option.{Option}
 use Rattle.std.specs.declared.option.Option.TheVariants.{None, Some}
 use Rattle.slab.specs.Slab.{Slab}
@@ -9,7 +8,7 @@ use Rattle.iox2_store.specs.Environments.{fixed_handlers}
 use Rattle.iox2_store.specs.Limits.{warning_limit, expired_limit}
 use Rattle.iox2_store.specs.Link.{Link}
 use Rattle.iox2_store.specs.Numbers.{put_at}
-use Rattle.iox2_store.specs.Places.{occupant, occupants, set_place}
+use Rattle.iox2_store.specs.Places.{occupant, set_place}
 use Rattle.iox2_store.specs.Records.{Subscriber}
 use Rattle.iox2_store.specs.State.{State, has_sender_end}
 use Rattle.iox2_store.specs.SubscriberUpdate.{ReceiverSide, ConnectAtPlace, ConnectReceiver, receiver_side, with_receiver_side}
@@ -21,7 +20,7 @@ use Rattle.iox2_laws.proofs.ReceiverSides.{receiver_side_begins, connect_at_plac
 use Rattle.iox2_laws.proofs.SubscriberUpdates.{with_receiver_side_keeps}
 use Rattle.iox2_pubsub.specs.Ports.{PublisherFields, SubscriberFields}
 use Rattle.iox2_pubsub.specs.Kept.{state_of}
-use Rattle.iox2_pubsub.specs.Fields.{Fields, kept_of, publisher_of, subscriber_of}
+use Rattle.iox2_pubsub.specs.Fields.{Fields, kept_of, subscriber_of}
 use Rattle.iox2_pubsub.specs.Invariant.{IsDomain}
 use Rattle.iox2_pubsub.specs.Connects.{ConnectsReceiver}
 use Rattle.iox2_pubsub.proofs.ConnectionEnds.{subscriber-stands}
@@ -29,7 +28,6 @@ use Rattle.iox2_pubsub.proofs.ReceiverActions.{connect-keeps, connect-makes}
 use Rattle.iox2_pubsub.proofs.ReceiverAgrees.{receiver-agrees}
 use Rattle.iox2_pubsub.proofs.ReceiverChanges.{FitsReceiver, receiver-is}
 use Rattle.iox2_pubsub.proofs.Standing.{publisher-listed, occupant-receiver_ends}
-use mathlib.Core.Path.{fun_ext}
 
 module _ {T U : Type 0} (f : Fields T U) where
   abbrev now : State T U
@@ -74,6 +72,7 @@ module _ {T U : Type 0} (f : Fields T U) (sound : IsDomain f) (i j : ℕ) (x : P
     keys = keys;
     fields = refl;
     side = receiver_side_with f y keys connections warnings;
+    settled = refl;
     steps = step;
     state = state;
   } where

@@ -34,6 +34,7 @@ module _ {T U : Type 0} where
     pub keys : List (Option ℕ)
     pub fields : f' ≡ record f { subscribers = slice_set f.subscribers j (Some (record y { places = keys })); connections = f'.connections; warnings = f'.warnings }
     pub side : ReceiverSide
+    pub settled : side.is_due ≡ false
     pub steps : ConnectAtPlace fixed_handlers (f.config).service_id y.id (subscriber_of f.books f.connections y).port.degradation_handler
         (expired_limit f.config) (λ p. has_sender_end (state_of (kept_of f)) p y.id)
         i (occupant (state_of (kept_of f)).publisher_places i) (receiver_side (state_of (kept_of f)) y.id (subscriber_of f.books f.connections y).port) side None

@@ -100,4 +100,29 @@ impl<T: Drop, U: Default + Drop> DomainState<T, U> {
         };
         set_publisher_key(&mut self.publishers, at, place, key);
     }
+
+    /// The subscriber at a place that isn't due gets its connection with the publisher at another.
+    /// One that it has stays. Where memory for a new one is refused, that is a warning.
+    pub(crate) fn connect_receiver(&mut self, place: usize, at: usize)
+        requires agrees { IsDomain self.old }
+        requires publisher { at < length self.old.publishers }
+        requires subscriber { place < length self.old.subscribers }
+        ensures { (y : SubscriberFields) → slice_index_or self.old.subscribers place None ≡ Some y → y.is_due ≡ false
+            → ConnectsReceiver self.old place at y self.new }
+    {
+        if subscriber_key(&self.subscribers, place, at).is_some() {
+            return;
+        }
+        if let Some(key) = publisher_key(&self.publishers, at, place) {
+            set_subscriber_key(&mut self.subscribers, place, at, key);
+            return;
+        }
+        let (home, buffer) = self.ports_at(at, place);
+        let limit = self.config.subscriber_max_borrowed_samples;
+        let Ok(key) = make_connection(self.alloc, &mut self.connections, home, buffer, limit) else {
+            warn(&mut self.warnings, not_made(home));
+            return;
+        };
+        set_subscriber_key(&mut self.subscribers, place, at, key);
+    }
 }

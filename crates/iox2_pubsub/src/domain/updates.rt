@@ -68,4 +68,23 @@ impl<T: Drop, U: Default + Drop> DomainState<T, U> {
             self.connect_sender(place, other);
         }
     }
+
+    /// Updates the subscriber at a place, where it is due: it gets its connection with each
+    /// publisher, by rising place. Where memory for one is refused, that is a warning.
+    ///
+    /// iceoryx2's `SubscriberSharedState::force_update_connections` (`src/port/subscriber.rs`).
+    pub(crate) fn update_subscriber(&mut self, place: usize)
+        requires agrees { IsDomain self.old }
+        requires stands { place < length self.old.subscribers }
+        ensures { (y : SubscriberFields) → slice_index_or self.old.subscribers place None ≡ Some y
+            → UpdatesSubscriber self.old place y self.new }
+    {
+        if !is_subscriber_due(&self.subscribers, place) {
+            return;
+        }
+        settle_subscriber(&mut self.subscribers, place);
+        for other in 0..self.publishers.len() {
+            self.connect_receiver(place, other);
+        }
+    }
 }
