@@ -19,6 +19,7 @@ pub mod SampleEntries
 pub mod SampleReads
 pub mod BorrowedNumbers
 pub mod ReleaseShows
+pub mod Reception
 pub mod EnteredAgrees
 pub mod Admitted
 pub mod MapSteps

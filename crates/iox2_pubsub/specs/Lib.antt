@@ -8,6 +8,7 @@ pub mod Placed
 pub mod Reaches
 pub mod SampleSlots
 pub mod Receipts
+pub mod ReceivedSamples
 pub mod Lending
 pub mod Environments
 pub mod Handles

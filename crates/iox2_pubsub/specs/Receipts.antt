@@ -7,7 +7,8 @@ use Rattle.std.specs.declared.result.Result.TheVariants.{Ok, Err}
 use Rattle.slab.specs.Slab.{get}
 use Rattle.iox2_store.specs.Link.{Link}
 use Rattle.iox2_store.specs.State.{State}
-use Rattle.iox2_store.specs.Receives.{ReceiveResult, Got_sample, No_sample, Receive_error, TakeSample}
+use Rattle.iox2_store.specs.Environments.{fixed_handlers}
+use Rattle.iox2_store.specs.Receives.{ReceiveResult, Got_sample, No_sample, Receive_error, TakeSample, Receive}
 use Rattle.iox2_store.specs.declared.errors.ReceiveError.{ReceiveError}
 use Rattle.iox2_ends.specs.Homes.{SameHomes}
 use Rattle.iox2_ends.specs.Takes.{KeepsOtherKeys, SameStands, TakesSlot}
@@ -40,3 +41,8 @@ module _ {T U : Type 0} where
   TakesAs old q result new =
       (s' : State T U) × Reaches old new s'
       × MatchOption ((state_of (kept_of old)).subscribers q) ⊥ (λ y. TakeSample (state_of (kept_of old)) q y s' (receive_result result))
+
+  -- The subscriber q receives, as the machine does.
+  abbrev pub ReceivesAs : (old : Fields T U) (q : ℕ) → Result (Option Receipt) ReceiveError → (new : Fields T U) → Type 0
+  ReceivesAs old q result new =
+      (s' : State T U) × Reaches old new s' × Receive fixed_handlers (state_of (kept_of old)) q s' (receive_result result)

@@ -3,6 +3,7 @@
 
 mod domain;
 mod port_factory;
+mod receives;
 mod publisher;
 mod sample;
 mod sample_mut;

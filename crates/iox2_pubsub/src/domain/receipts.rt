@@ -24,7 +24,7 @@ impl<T: Drop, U: Default + Drop> DomainState<T, U> {
     ghost use Rattle.iox2_pubsub.specs.Fields.{kept_of};
     ghost use Rattle.iox2_pubsub.specs.Invariant.{IsDomain};
     ghost use Rattle.iox2_pubsub.specs.Reaches.{Reaches};
-    ghost use Rattle.iox2_pubsub.specs.Receipts.{TakesFrom, TakesAs};
+    ghost use Rattle.iox2_pubsub.specs.Receipts.{TakesFrom, TakesAs, ReceivesAs};
 
     // Borrows the message that has waited longest in a connection.
     fn take_from(&mut self, key: usize) -> Receipt
@@ -58,6 +58,17 @@ impl<T: Drop, U: Default + Drop> DomainState<T, U> {
             Found::AtLimit => Err(ReceiveError::ExceedsMaxBorrows),
             Found::Nothing => Ok(None),
         }
+    }
+
+    /// The subscriber at a place is updated, and then borrows a message, if one waits of which it may
+    /// borrow one more.
+    pub(crate) fn receive_at(&mut self, place: usize) -> Result<Option<Receipt>, ReceiveError>
+        requires agrees { IsDomain self.old }
+        requires stands { (y : SubscriberFields) × (slice_index_or self.old.subscribers place None ≡ Some y) }
+        ensures { (y : SubscriberFields) → slice_index_or self.old.subscribers place None ≡ Some y → ReceivesAs self.old y.id result self.new }
+    {
+        self.update_subscriber(place);
+        self.take_at(place)
     }
 
     /// The subscriber gives back a message that it has borrowed, which is looked for at the hints

@@ -1,0 +1,53 @@
+//! A subscriber receives.
+ghost use Rattle.std.specs.Prelude.{◌≡◌};
+
+use crate::domain::Domain;
+use crate::sample::Sample;
+use crate::subscriber::Subscriber;
+use iox2_store::{ReceiveError, UniquePublisherId};
+
+impl Subscriber {
+    ghost use Rattle.iox2_store.specs.Environments.{fixed_handlers};
+    ghost use Rattle.iox2_store.specs.Receives.{Receive};
+    ghost use Rattle.iox2_store.specs.State.{State, Messages};
+    ghost use Rattle.iox2_pubsub.specs.Handles.{IsSubscriberHandle};
+    ghost use Rattle.iox2_pubsub.specs.ReceivedSamples.{received, IsHeldIfAny};
+    ghost use Rattle.iox2_pubsub.specs.Shows.{Shows};
+
+    /// Updates the subscriber's connections and receives a message: from a publisher of which it
+    /// may borrow one more, the one that has waited longest. `None` where no message waits.
+    ///
+    /// Fails with `ReceiveError::ExceedsMaxBorrows` where messages wait, but of each publisher that
+    /// they come from as many are borrowed as may be. Where memory for a connection is refused, that
+    /// is a warning of the domain.
+    ///
+    /// iceoryx2's `Subscriber::receive` (`src/port/subscriber.rs`).
+    pub fn receive<T: Drop, U: Default + Drop>(
+        &self,
+        domain: &mut Domain<T, U>,
+    ) -> Result<Option<Sample>, ReceiveError>
+        requires { IsSubscriberHandle domain.old self.now.service_id self.now.id }
+        ensures receives { (m : Messages T U) (s : State T U) → Shows domain.old m s
+            → (s' : State T U) × Shows domain.new m s' × Receive fixed_handlers s self.now.id s' (received result) }
+        ensures held { IsHeldIfAny domain.new self.now.id result }
+    {
+        let Some(place) = domain.state.find_subscriber(self.id.value(), self.place) else {
+            unreachable!()
+        };
+        let receipt = match domain.state.receive_at(place) {
+            Ok(receipt) => receipt,
+            Err(error) => return Err(error),
+        };
+        let Some(receipt) = receipt else {
+            return Ok(None);
+        };
+        Ok(Some(Sample {
+            service_id: self.service_id,
+            subscriber: self.id,
+            publisher: UniquePublisherId::new(receipt.publisher),
+            number: receipt.number,
+            connection: receipt.connection,
+            slot: receipt.slot,
+        }))
+    }
+}
