@@ -42,8 +42,12 @@ module _ {T U : Type 0} where
   receives-after f mid new q after updates reached result takes = (
     takes.0,
     reaches-then f mid new after takes.0 reached takes.1,
-    (after, None, updates,
-      subst (λ (s : State T U). MatchOption (s.subscribers q) ⊥ (λ y. TakeSample s q y takes.0 (receive_result result))) reached.state takes.2),
+    (
+      after,
+      None,
+      updates,
+      subst (λ (s : State T U). MatchOption (s.subscribers q) ⊥ (λ y. TakeSample s q y takes.0 (receive_result result))) reached.state takes.2,
+    ),
   )
 
   -- the same at a subscriber's place
@@ -80,21 +84,23 @@ module _ {T U : Type 0} where
   reception-shows kept f g same q result receives m s shown =
       let here : Shows (kept_of f) m s = subst (λ (k : Kept T U). Shows k m s) (sym same) shown in
       let received : Receive fixed_handlers s q receives.0 (receive_result result) =
-      subst (λ (t : State T U). Receive fixed_handlers t q receives.0 (receive_result result)) (sym here.state) receives.2 in
-      (receives.0,
-      reaches-shows f g m s receives.0 here receives.1 (receive_advances fixed_handlers s q receives.0 (receive_result result) received).next_message
-      (λ n l at. here.unsent n l (ap (λ all. all n) (sym (receive_loans fixed_handlers s q receives.0 (receive_result result) received)) ∙ at)),
-      received)
+      subst (λ (t : State T U). Receive fixed_handlers t q receives.0 (receive_result result)) (sym here.state) receives.2 in (
+        receives.0,
+        reaches-shows f g m s receives.0 here receives.1 (receive_advances fixed_handlers s q receives.0 (receive_result result) received).next_message
+            (λ n l at. here.unsent n l (ap (λ all. all n) (sym (receive_loans fixed_handlers s q receives.0 (receive_result result) received)) ∙ at)),
+        received,
+      )
 
   -- the domain holds the sample
   pub reception-holds : (kept : Kept T U) (f g : Fields T U) → kept_of f ≡ kept → (service_id q : ℕ) (receipt : Receipt) → ReceivesAs f q (Ok (Some receipt)) g
       → IsSubscriberHandle kept service_id q → IsSampleHandle (kept_of g) service_id q receipt.publisher receipt.number
   reception-holds kept f g same service_id q receipt receives handle =
       let config : g.config ≡ f.config =
-      ap (λ (s : State T U). s.config) receives.1.state ∙ (receive_advances fixed_handlers (state_of (kept_of f)) q receives.0 (Got_sample receipt.publisher receipt.number) receives.2).config in
-      (handle.0 ∙ ap (λ (k : Kept T U). (k.config).service_id) (sym same) ∙ ap (λ (x : ServiceConfig). x.service_id) (sym config),
-      ap (λ (s : State T U). is_borrowed receipt.number (s.mailboxes receipt.publisher q)) receives.1.state
-      ∙ received-borrowed (state_of (kept_of f)) q receipt.publisher receipt.number receives.0 receives.2)
+      ap (λ (s : State T U). s.config) receives.1.state ∙ (receive_advances fixed_handlers (state_of (kept_of f)) q receives.0 (Got_sample receipt.publisher receipt.number) receives.2).config in (
+        handle.0 ∙ ap (λ (k : Kept T U). (k.config).service_id) (sym same) ∙ ap (λ (x : ServiceConfig). x.service_id) (sym config),
+        ap (λ (s : State T U). is_borrowed receipt.number (s.mailboxes receipt.publisher q)) receives.1.state
+            ∙ received-borrowed (state_of (kept_of f)) q receipt.publisher receipt.number receives.0 receives.2,
+      )
 
   -- the subscriber that was found receives
   pub reception-at : (f g : Fields T U) (place q q' : ℕ) (result result' : Result (Option Receipt) ReceiveError)

@@ -3,8 +3,8 @@
 
 mod domain;
 mod port_factory;
-mod receives;
 mod publisher;
+mod receives;
 mod sample;
 mod sample_mut;
 mod sample_mut_uninit;
