@@ -24,7 +24,7 @@ use Rattle.iox2_ends.proofs.Counts.{times_push, one_if, one_if_same, one_if_othe
 use Rattle.iox2_laws.proofs.LoanLaws.{grant_loan_keeps}
 use Rattle.iox2_pubsub.specs.Ports.{PublisherFields}
 use Rattle.iox2_pubsub.specs.Kept.{KeptMessage, Lent_message, state_of}
-use Rattle.iox2_pubsub.specs.Environments.{ample_memory}
+use Rattle.iox2_store.specs.Environments.{ample_memory}
 use Rattle.iox2_pubsub.specs.Fields.{Fields, kept_of, publisher_of, numbers_of, is_book_of}
 use Rattle.iox2_pubsub.specs.Invariant.{IsDomain, IsLinked, IsBook, HasBook, HasBooks, IsCounted, HasShape, HasShapes, HasOnlyOpenPorts, is_publisher, own_holders, holders_of, is_loan_in}
 use Rattle.iox2_pubsub.specs.Reaches.{Reaches}

@@ -8,7 +8,7 @@ use Rattle.iox2_store.specs.Records.{Publisher}
 use Rattle.iox2_store.specs.State.{State}
 use Rattle.iox2_store.specs.declared.errors.LoanError.{LoanError}
 use Rattle.iox2_ends.specs.Receivers.{HasReclaimed}
-use Rattle.iox2_pubsub.specs.Environments.{ample_memory}
+use Rattle.iox2_store.specs.Environments.{ample_memory}
 use Rattle.iox2_pubsub.specs.Ports.{PublisherFields}
 use Rattle.iox2_pubsub.specs.Kept.{state_of}
 use Rattle.iox2_pubsub.specs.Fields.{Fields, kept_of, publisher_of}

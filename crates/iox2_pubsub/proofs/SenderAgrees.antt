@@ -1,6 +1,5 @@
 -- A domain's fields agree with the new keys of a publisher.
 use Rattle.std.proofs.Common.{◌≡◌, ℕ, ◌+◌, true, false, List, Bool, get_or, slice_set, refl, ap, sym, ◌∙◌, inl, inr, ◌⊎◌, cond, eqb}
-use Rattle.std.proofs.lemmas.Bool.{eq-eqb}
 use Rattle.std.proofs.lemmas.List.{length-set}
 use Rattle.std.specs.declared.option.Option.{Option}
 use Rattle.std.specs.declared.option.Option.TheVariants.{None, Some}
@@ -29,6 +28,7 @@ use Rattle.iox2_pubsub.proofs.Views.{KeepsHeld, held-before}
 use Rattle.iox2_pubsub.proofs.ConnectionEnds.{publisher-stands}
 use Rattle.iox2_pubsub.proofs.Changed.{changed-here, changed-others, changed-stood, changed-still, changed-only}
 use Rattle.iox2_pubsub.proofs.Extensions.{sender_linked, receiver_linked}
+use Rattle.iox2_pubsub.proofs.Standing.{one-publisher, one-subscriber}
 use Rattle.iox2_pubsub.proofs.SenderChanges.{FitsSender, IsNewOfSender, with_keys, with_sender, port_after, sender-is, mailboxes-same}
 
 module _ {T U : Type 0} (f : Fields T U) (sound : IsDomain f) (i : ℕ) (x : PublisherFields) (at : get_or f.publishers i None ≡ Some x)
@@ -84,13 +84,6 @@ module _ {T U : Type 0} (f : Fields T U) (sound : IsDomain f) (i : ℕ) (x : Pub
     has = new.has;
   }
 
-  -- of one id there is one port
-  one-publisher : (j k : ℕ) (y z : PublisherFields) → get_or f.publishers j None ≡ Some y → get_or f.publishers k None ≡ Some z → y.id ≡ z.id → j ≡ k
-  one-publisher j k y z at_y at_z same = (sound.publisher_ids z.id).one j k y z at_y at_z (eq-eqb y.id z.id same) (eq-eqb z.id z.id refl)
-
-  one-subscriber : (j k : ℕ) (y z : SubscriberFields) → get_or f.subscribers j None ≡ Some y → get_or f.subscribers k None ≡ Some z → y.id ≡ z.id → j ≡ k
-  one-subscriber j k y z at_y at_z same = (sound.subscriber_ids z.id).one j k y z at_y at_z (eq-eqb y.id z.id same) (eq-eqb z.id z.id refl)
-
   linked : IsLinked after
   linked = record {
     senders = λ k z at_z. elim (stood k z at_z) [
@@ -115,7 +108,7 @@ module _ {T U : Type 0} (f : Fields T U) (sound : IsDomain f) (i : ℕ) (x : Pub
         let old_z = was k z at_z in
         elim (fits.news key c at_c) [
           | inl old ↦ sound.linked.knows_publishers key k c old_z.0 old old_z.1 (old_z.2 ∙ same)
-          | inr new ↦ one-publisher k i old_z.0 x old_z.1 at (old_z.2 ∙ same ∙ new.publisher) ∙ sym new.publisher_place
+          | inr new ↦ one-publisher f sound k i old_z.0 x old_z.1 at (old_z.2 ∙ same ∙ new.publisher) ∙ sym new.publisher_place
         ];
     limits = λ key c at_c. elim (fits.news key c at_c) [ inl old ↦ sound.linked.limits key c old | inr new ↦ new.limit ];
     returned = λ key c at_c. elim (fits.news key c at_c) [
@@ -131,7 +124,7 @@ module _ {T U : Type 0} (f : Fields T U) (sound : IsDomain f) (i : ℕ) (x : Pub
         → d.port_id ≡ c.home.subscriber → (k ≡ c.home.subscriber_place) × (c.buffer ≡ d.buffer_size)
     knows key k c d new there same =
         let id : there.0.id ≡ new.subscriber.id = sym (ap (λ (r : ReceiverDetails). r.port_id) there.2) ∙ same ∙ sym new.is_its in
-        let place : k ≡ c.home.subscriber_place = one-subscriber k c.home.subscriber_place there.0 new.subscriber there.1 new.stands id in
+        let place : k ≡ c.home.subscriber_place = one-subscriber f sound k c.home.subscriber_place there.0 new.subscriber there.1 new.stands id in
         let one : Some there.0 ≡ Some new.subscriber = sym there.1 ∙ ap (λ (n : ℕ). get_or f.subscribers n None) place ∙ new.stands in
         let is : there.0 ≡ new.subscriber = cc in
         (place, new.buffer ∙ sym (ap (λ (y : SubscriberFields). y.buffer) is) ∙ sym (ap (λ (r : ReceiverDetails). r.buffer_size) there.2))

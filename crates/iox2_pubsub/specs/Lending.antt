@@ -13,7 +13,7 @@ use Rattle.iox2_store.specs.declared.errors.LoanError.{LoanError}
 use Rattle.iox2_store.specs.declared.header.Header.{Header}
 use Rattle.iox2_store.specs.declared.service_config.ServiceConfig.{ServiceConfig}
 use Rattle.iox2_store.specs.declared.slots.mark.SlotMark.TheVariants.{Unwritten}
-use Rattle.iox2_pubsub.specs.Environments.{ample_memory}
+use Rattle.iox2_store.specs.Environments.{ample_memory}
 use Rattle.iox2_pubsub.specs.Kept.{state_of}
 use Rattle.iox2_pubsub.specs.Reaches.{Reaches}
 use Rattle.iox2_pubsub.specs.Fields.{Fields, kept_of, publisher_of}

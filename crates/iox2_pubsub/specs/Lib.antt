@@ -10,7 +10,6 @@ pub mod SampleSlots
 pub mod Receipts
 pub mod ReceivedSamples
 pub mod Lending
-pub mod Environments
 pub mod Handles
 pub mod Updates
 pub mod NewPublisher
