@@ -1,5 +1,5 @@
 -- A subscriber enters a domain at the place that it has, or it is refused.
-use Rattle.std.proofs.Common.{◌≡◌, ℕ, suc, ◌+◌, ◌≤◌, ◌==◌, Bool, true, false, cond, nat_lt, length, map, get_or, refl, ap, sym, subst, ◌∙◌, MatchOption}
+use Rattle.std.proofs.Common.{◌≡◌, ℕ, suc, ◌+◌, ◌≤◌, ◌==◌, Bool, true, false, cond, nat_lt, List, length, map, get_or, refl, ap, sym, subst, ◌∙◌, MatchOption}
 use Rattle.std.proofs.lemmas.Bool.{ltb-true, ltb-false}
 use Rattle.std.specs.Bool.{MatchBool}
 use Rattle.std.specs.declared.option.Option.{Option}
@@ -7,7 +7,7 @@ use Rattle.std.specs.declared.option.Option.TheVariants.{None, Some}
 use Rattle.std.specs.declared.result.Result.{Result}
 use Rattle.std.specs.declared.result.Result.TheVariants.{Ok, Err}
 use Rattle.std.specs.Option.{option_map}
-use Rattle.circular_buffer.specs.Buffer.{Buffer}
+use Rattle.circular_buffer.specs.Buffer.{Buffer, buffer}
 use Rattle.iox2_store.specs.Limits.{buffer_limit, warning_limit, last_number}
 use Rattle.iox2_store.specs.Places.{lowest_free}
 use Rattle.iox2_store.specs.Ports.{buffer_for, with_buffer_warning, with_new_subscriber, CreateSubscriber, MakeSubscriber}
@@ -17,12 +17,14 @@ use Rattle.iox2_store.specs.Environments.{fixed_handlers}
 use Rattle.iox2_store.specs.SubscriberUpdate.{UpdateSubscriber}
 use Rattle.iox2_store.specs.declared.errors.SubscriberCreateError.{SubscriberCreateError}
 use Rattle.iox2_store.specs.declared.errors.SubscriberCreateError.TheVariants.{UnableToCreatePortTag, BufferSizeExceedsMaxSupportedBufferSizeOfService, ExceedsMaxSupportedSubscribers}
-use Rattle.iox2_pubsub.specs.Ports.{SubscriberFields, due, entering}
+use Rattle.iox2_store.specs.declared.warning.Warning.{Warning}
+use Rattle.iox2_pubsub.specs.Ports.{PublisherFields, SubscriberFields, due, entering}
 use Rattle.iox2_pubsub.specs.Kept.{Named, state_of}
 use Rattle.iox2_pubsub.specs.Fields.{Fields, kept_of, subscriber_of}
 use Rattle.iox2_pubsub.specs.Invariant.{IsDomain, HasSubscriberRoom}
 use Rattle.iox2_pubsub.specs.Placed.{placed, lowest_empty}
 use Rattle.iox2_pubsub.specs.Reaches.{Reaches}
+use Rattle.iox2_pubsub.specs.Connects.{UpdatesSubscriber}
 use Rattle.iox2_pubsub.specs.SubscriberEntry.{asked_for, place_for_subscriber}
 use Rattle.iox2_pubsub.proofs.Admitted.{with_admitted, admitted-is, admitted-agrees}
 use Rattle.iox2_pubsub.proofs.Placed.{placed-here}
@@ -98,7 +100,7 @@ module _ {T U : Type 0} (f : Fields T U) (asked : ℕ) where
         by a b c ea eb ec made = rw (ea, eb, ec) made
 
   -- a subscriber that has entered at its place
-  pub entered-reaches : IsDomain f → (new : Fields T U) (place : ℕ) (y : SubscriberFields) (warnings : Buffer _) → place_for_subscriber f asked ≡ Ok place
+  pub entered-reaches : IsDomain f → (new : Fields T U) (place : ℕ) (y : SubscriberFields) (warnings : Buffer Warning) → place_for_subscriber f asked ≡ Ok place
       → y ≡ entering f.next_port place (buffer_for (asked_for asked)) y.place_room y.expired_room → HasSubscriberRoom f.config y
       → warnings.items ≡ (with_buffer_warning shown f.next_port).warnings → warnings.capacity ≡ warning_limit
       → new ≡ record f { next_port = f.next_port + 1; warnings = warnings; publishers = map (option_map due) f.publishers; subscribers = placed f.subscribers place y }
@@ -116,36 +118,40 @@ module _ {T U : Type 0} (f : Fields T U) (asked : ℕ) where
         entries = λ n entry at. at;
       })
 
-  -- a subscriber that has entered, where the fields are known by another name
-  pub has-entered : (before new : Fields T U) → before ≡ f → IsDomain f → (place : ℕ) (y : SubscriberFields) (warnings : Buffer _) → place_for_subscriber f asked ≡ Ok place
+  -- a subscriber that has entered, where the fields are known by another name, and two of the new ones
+  pub has-entered : (before : Fields T U) → before ≡ f → IsDomain f → (place : ℕ) (y : SubscriberFields) (warnings : Buffer Warning)
+      → (publishers : List (Option PublisherFields)) (subscribers : List (Option SubscriberFields)) → place_for_subscriber f asked ≡ Ok place
       → y ≡ entering before.next_port place (buffer_for (asked_for asked)) y.place_room y.expired_room → HasSubscriberRoom before.config y
-      → warnings.items ≡ (with_buffer_warning (state_of (kept_of before)) before.next_port).warnings → warnings.capacity ≡ warning_limit
-      → new ≡ record before { next_port = before.next_port + 1; warnings = warnings; publishers = map (option_map due) before.publishers; subscribers = placed before.subscribers place y }
-      → Reaches f new (with_new_subscriber shown (asked_for asked) place) × (z : SubscriberFields) × (get_or new.subscribers place None ≡ Some z) × (z.id ≡ f.next_port)
-  has-entered before new e sound place y warnings h is room warned limit changed = (
-    entered-reaches sound new place y warnings h
+      → warnings ≡ buffer (with_buffer_warning (state_of (kept_of before)) before.next_port).warnings warning_limit
+      → publishers ≡ map (option_map due) before.publishers → subscribers ≡ placed before.subscribers place y
+      → Reaches f (record before { next_port = before.next_port + 1; warnings = warnings; publishers = publishers; subscribers = subscribers }) (with_new_subscriber shown (asked_for asked) place)
+      × (z : SubscriberFields) × (get_or subscribers place None ≡ Some z) × (z.id ≡ f.next_port)
+  has-entered before e sound place y warnings publishers subscribers h is room warned all_due put = (
+    entered-reaches sound (record before { next_port = before.next_port + 1; warnings = warnings; publishers = publishers; subscribers = subscribers }) place y warnings h
         (subst (λ (g : Fields T U). y ≡ entering g.next_port place (buffer_for (asked_for asked)) y.place_room y.expired_room) e is)
         (subst (λ (g : Fields T U). HasSubscriberRoom g.config y) e room)
-        (subst (λ (g : Fields T U). warnings.items ≡ (with_buffer_warning (state_of (kept_of g)) g.next_port).warnings) e warned)
-        limit
-        (subst (λ (g : Fields T U). new ≡ record g { next_port = g.next_port + 1; warnings = warnings; publishers = map (option_map due) g.publishers; subscribers = placed g.subscribers place y }) e changed),
+        (ap (λ (ws : Buffer Warning). ws.items) warned ∙ ap (λ (g : Fields T U). (with_buffer_warning (state_of (kept_of g)) g.next_port).warnings) e)
+        (ap (λ (ws : Buffer Warning). ws.capacity) warned)
+        (same ∙ ap (λ (g : Fields T U). record g { next_port = g.next_port + 1; warnings = warnings; publishers = map (option_map due) g.publishers; subscribers = placed g.subscribers place y }) e),
     y,
-    ap (λ (g : Fields T U). get_or g.subscribers place None) changed ∙ placed-here y before.subscribers place,
+    ap (λ ys. get_or ys place None) put ∙ placed-here y before.subscribers place,
     ap (λ (z : SubscriberFields). z.id) is ∙ ap (λ (g : Fields T U). g.next_port) e,
-  )
+  ) where
+    same : record before { next_port = before.next_port + 1; warnings = warnings; publishers = publishers; subscribers = subscribers }
+        ≡ record before { next_port = before.next_port + 1; warnings = warnings; publishers = map (option_map due) before.publishers; subscribers = placed before.subscribers place y }
+    same = λ i. record before { next_port = before.next_port + 1; warnings = warnings; publishers = all_due i; subscribers = put i }
 
   -- a subscriber that has entered, after its first update
   pub created-reaches : (mid new : Fields T U) (place : ℕ) → place_for_subscriber f asked ≡ Ok place
       → Reaches f mid (with_new_subscriber shown (asked_for asked) place) × (z : SubscriberFields) × (get_or mid.subscribers place None ≡ Some z) × (z.id ≡ f.next_port)
-      → ((y : SubscriberFields) → get_or mid.subscribers place None ≡ Some y
-      → (s' : State T U) × UpdateSubscriber fixed_handlers (state_of (kept_of mid)) y.id s' None × Reaches mid new s')
+      → ((y : SubscriberFields) → get_or mid.subscribers place None ≡ Some y → UpdatesSubscriber mid place y new)
       → (s' : State T U) × CreateSubscriber fixed_handlers shown (asked_for asked) s' None × Reaches f new s'
   created-reaches mid new place h entered updates =
       let updated = updates entered.1 entered.2 in
-      let first : UpdateSubscriber fixed_handlers (with_new_subscriber shown (asked_for asked) place) f.next_port updated.0 None =
-      subst (λ (q : ℕ). UpdateSubscriber fixed_handlers (with_new_subscriber shown (asked_for asked) place) q updated.0 None) entered.3
-      (subst (λ (s : State T U). UpdateSubscriber fixed_handlers s entered.1.id updated.0 None) entered.0.state updated.1) in (
-        updated.0,
-        created-made fixed_handlers place updated.0 None h (updated.0, None, first, refl),
-        reaches-then f mid new (with_new_subscriber shown (asked_for asked) place) updated.0 entered.0 updated.2,
+      let first : UpdateSubscriber fixed_handlers (with_new_subscriber shown (asked_for asked) place) f.next_port updated.after None =
+      subst (λ (q : ℕ). UpdateSubscriber fixed_handlers (with_new_subscriber shown (asked_for asked) place) q updated.after None) entered.3
+      (subst (λ (s : State T U). UpdateSubscriber fixed_handlers s entered.1.id updated.after None) entered.0.state updated.updates) in (
+        updated.after,
+        created-made fixed_handlers place updated.after None h (updated.after, None, first, refl),
+        reaches-then f mid new (with_new_subscriber shown (asked_for asked) place) updated.after entered.0 updated.reaches,
       )

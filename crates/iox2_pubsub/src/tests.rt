@@ -2,6 +2,7 @@ ghost use Rattle.std.specs.Prelude.{◌≡◌, false};
 ghost use Rattle.iox2_store.specs.declared.service_config.TypeVariant.TheVariants.{FixedSize};
 
 mod publishers;
+mod subscribers;
 
 use crate::Domain;
 use iox2_store::{AllocationStrategy, BackpressureStrategy, ServiceConfig, TypeVariant};

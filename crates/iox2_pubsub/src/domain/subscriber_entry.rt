@@ -2,8 +2,9 @@
 ghost use Rattle.std.specs.Prelude.{◌≡◌, cond, nat_lt, slice_index_or, MatchResult};
 ghost use Rattle.circular_buffer.specs.Buffer.{buffer};
 ghost use Rattle.iox2_store.specs.Limits.{warning_limit};
-ghost use Rattle.iox2_store.specs.Ports.{with_new_subscriber};
-ghost use Rattle.iox2_store.specs.State.{warned};
+ghost use Rattle.iox2_store.specs.Environments.{fixed_handlers};
+ghost use Rattle.iox2_store.specs.Ports.{with_new_subscriber, CreateSubscriber};
+ghost use Rattle.iox2_store.specs.State.{State, warned};
 ghost use Rattle.iox2_store.specs.declared.errors.SubscriberCreateError.TheVariants.{FailedToDeployThreadsafetyPolicy};
 ghost use Rattle.iox2_store.specs.declared.warning.Warning.TheVariants.{ExpiredBufferRaised};
 
@@ -80,5 +81,20 @@ impl<T: Drop, U: Default + Drop> DomainState<T, U> {
         put_at_place(&mut self.subscribers, place, subscriber);
         self.next_port += 1;
         Ok(())
+    }
+
+    /// A subscriber is made, and its connections with the publishers that are there.
+    ///
+    /// Where it is refused nothing changes.
+    pub(crate) fn create_subscriber(&mut self, asked: usize) -> Result<usize, SubscriberCreateError>
+        requires { IsDomain self.old }
+        ensures { MatchResult result
+            (λ place. (s' : State T U) × CreateSubscriber fixed_handlers (state_of (kept_of self.old)) (asked_for asked) s' None × Reaches self.old self.new s')
+            (λ e. CreateSubscriber fixed_handlers (state_of (kept_of self.old)) (asked_for asked) (state_of (kept_of self.old)) (Some e) × (self.new ≡ self.old)) }
+    {
+        let place = self.place_for_subscriber(asked)?;
+        self.admit_subscriber(place, asked)?;
+        self.update_subscriber(place);
+        Ok(place)
     }
 }

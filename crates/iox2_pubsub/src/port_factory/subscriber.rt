@@ -1,8 +1,14 @@
 //! The factory of subscribers.
-ghost use Rattle.std.specs.Prelude.{◌≡◌};
-ghost use Rattle.iox2_store.specs.Ports.{default_subscriber_settings};
+ghost use Rattle.std.specs.Prelude.{◌≡◌, None, Some, IfOk, MatchResult};
+ghost use Rattle.iox2_store.specs.Environments.{fixed_handlers};
+ghost use Rattle.iox2_store.specs.Ports.{default_subscriber_settings, buffer_for, CreateSubscriber};
+ghost use Rattle.iox2_store.specs.State.{State, Messages};
+ghost use Rattle.iox2_pubsub.specs.Handles.{IsSubscriberHandle};
+ghost use Rattle.iox2_pubsub.specs.Shows.{Shows};
 
 use crate::domain::Domain;
+use crate::subscriber::Subscriber;
+use iox2_store::{SubscriberCreateError, UniqueSubscriberId};
 use std::marker::Model;
 
 /// Makes a subscriber. It begins with the largest buffer that the domain allows.
@@ -30,6 +36,38 @@ impl PortFactorySubscriber {
         ensures { result ≡ record self { buffer_size = value } }
     {
         PortFactorySubscriber { buffer_size: value }
+    }
+
+    /// Makes the subscriber in the domain, with connections to the publishers that are there. Where
+    /// memory for one of these is refused, the domain warns of it and goes on. It also warns where
+    /// it keeps more departed publishers for the subscriber than its settings say.
+    ///
+    /// Fails with `UnableToCreatePortTag` where the domain has no port ids left, then with
+    /// `BufferSizeExceedsMaxSupportedBufferSizeOfService` where the buffer is larger than the domain
+    /// allows, then with `ExceedsMaxSupportedSubscribers` where there are as many subscribers as it
+    /// allows, then with `FailedToDeployThreadsafetyPolicy` where memory is refused. A failure
+    /// leaves the domain as it was, and uses up no id.
+    ///
+    /// iceoryx2's `PortFactorySubscriber::create` (`src/service/port_factory/subscriber.rs`) and
+    /// `Subscriber::new` (`src/port/subscriber.rs`).
+    pub fn create<T: Drop, U: Default + Drop>(
+        self,
+        domain: &mut Domain<T, U>,
+    ) -> Result<Subscriber, SubscriberCreateError>
+        ensures creates { (m : Messages T U) (s : State T U) → Shows domain.old m s → (s' : State T U) × Shows domain.new m s' × MatchResult result
+            (λ subscriber. CreateSubscriber fixed_handlers s self s' None × (subscriber.id ≡ s.next_port) × (subscriber.buffer_size ≡ buffer_for self))
+            (λ error. CreateSubscriber fixed_handlers s self s' (Some error)) }
+        ensures held { IfOk result (λ subscriber. IsSubscriberHandle domain.new subscriber.service_id subscriber.id) }
+    {
+        let service_id = domain.state.config.service_id;
+        let id = UniqueSubscriberId::new(domain.state.next_port);
+        let place = domain.state.create_subscriber(self.buffer_size)?;
+        Ok(Subscriber {
+            service_id,
+            id,
+            place,
+            buffer_size: self.buffer_size.max(1),
+        })
     }
 }
 
