@@ -58,7 +58,8 @@ impl PortFactoryPublisher {
     }
 
     /// Makes the publisher, with the next id at the lowest free place, and connects it with the
-    /// subscribers that there are. Every subscriber is then due for an update.
+    /// subscribers that there are; where memory for a connection is refused, that is a warning.
+    /// Every subscriber is then due for an update.
     ///
     /// Fails, in this order, with `UnableToCreatePortTag` where the domain has no ids left, with
     /// `ExceedsMaxSupportedPublishers` where as many publishers are open as may be, with

@@ -49,3 +49,16 @@ fn slots_that_do_not_fit_are_refused_and_use_up_no_id(rt: HostRuntime) -> Result
     publisher.disown();
     Ok(())
 }
+
+#[test]
+fn a_creation_that_lacked_memory_used_up_no_id(rt: HostRuntime) -> Result<(), Fail> {
+    let mut domain: Domain<Reading, Station> = Domain::new(rt.alloc(), settings())?;
+    // Each allocation of the first try fails in turn where the tests run so.
+    let publisher = match domain.publisher_builder().create(&mut domain) {
+        Ok(publisher) => publisher,
+        Err(_) => domain.publisher_builder().create(&mut domain)?,
+    };
+    assert_eq!(rt; publisher.id().value(), 1);
+    publisher.disown();
+    Ok(())
+}
