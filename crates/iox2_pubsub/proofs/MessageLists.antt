@@ -1,21 +1,10 @@
 -- What lies in the slots of books, where only books without messages differ.
-use Rattle.std.proofs.Common.{◌≡◌, ℕ, zero, suc, ◌+◌, List, [], ◌∷◌, map, Bool, get_or, refl, ap, sym, ◌∙◌, arith}
+use Rattle.std.proofs.Common.{◌≡◌, ℕ, zero, suc, ◌+◌, List, [], ◌∷◌, Bool, get_or, refl, ap, sym, ◌∙◌}
 use Rattle.std.specs.declared.option.Option.{Option}
 use Rattle.std.specs.declared.option.Option.TheVariants.{None, Some}
-use Rattle.std.specs.Option.{option_map}
 use Rattle.iox2_ends.specs.LookUp.{look_up}
 use Rattle.iox2_pubsub.specs.Kept.{KeptMessage, KeptBook, is_numbered, message_numbered}
 use Rattle.iox2_pubsub.specs.Fields.{map_from}
-
--- an index of a list of views
-pub map_from-at : {A B : Type 0} (view : ℕ → Option A → Option B) → ((k : ℕ) → view k None ≡ None) → (start : ℕ) (xs : List (Option A)) (i : ℕ)
-    → get_or (map_from view start xs) i None ≡ view (start + i) (get_or xs i None)
-map_from-at view none start [] zero = sym (none (start + 0))
-map_from-at view none start [] (suc i) = sym (none (start + suc i))
-map_from-at view none start (x ∷ xs) zero = let e : start ≡ start + 0 = omega arith in ap (λ k. view k x) e
-map_from-at view none start (x ∷ xs) (suc i) =
-    let e : start + 1 + i ≡ start + suc i = omega arith in
-    map_from-at view none (start + 1) xs i ∙ ap (λ k. view k (get_or xs i None)) e
 
 -- nothing is found where nothing lies
 pub look_up-nothing_there : {A B : Type 0} (test : B → Bool) (view : ℕ → A → Option B) → ((k : ℕ) (x : A) → view k x ≡ None) → (start : ℕ) (xs : List A)
@@ -23,14 +12,6 @@ pub look_up-nothing_there : {A B : Type 0} (test : B → Bool) (view : ℕ → A
 look_up-nothing_there test view none start [] = refl
 look_up-nothing_there test view none start (x ∷ xs) =
     ap (λ o. look_up test (o ∷ map_from view (start + 1) xs)) (none start x) ∙ look_up-nothing_there test view none (start + 1) xs
-
--- records whose views are the same have the same list of views
-pub map-same : {A B : Type 0} (g h : A → B) (xs : List (Option A)) → ((i : ℕ) (x : A) → get_or xs i None ≡ Some x → g x ≡ h x)
-    → map (option_map g) xs ≡ map (option_map h) xs
-map-same g h [] same = refl
-map-same g h (None ∷ xs) same = ap (λ ys. None ∷ ys) (map-same g h xs (λ i x at. same (suc i) x at))
-map-same g h (Some x ∷ xs) same =
-    ap (λ y. Some y ∷ map (option_map g) xs) (same zero x refl) ∙ ap (λ ys. Some (h x) ∷ ys) (map-same g h xs (λ i x at. same (suc i) x at))
 
 module _ {T U : Type 0} (n : ℕ) where
   -- what has the number in a book

@@ -1,5 +1,5 @@
 -- A book enters whose slots nobody holds.
-use Rattle.std.proofs.Common.{◌≡◌, ◌≢◌, ℕ, zero, suc, ◌+◌, ◌<◌, List, [], map, true, cond, eqb, get_or, replicate, refl, ap, sym, subst, ◌∙◌, inl, inr, ◌⊎◌, arith}
+use Rattle.std.proofs.Common.{◌≡◌, ◌≢◌, ℕ, zero, suc, ◌<◌, List, [], map, true, cond, eqb, get_or, replicate, refl, ap, sym, subst, ◌∙◌, inl, inr, ◌⊎◌, arith}
 use Rattle.std.proofs.lemmas.Bool.{cases_eq, eqb-true, ne_eqb}
 use Rattle.std.specs.declared.option.Option.{Option}
 use Rattle.std.specs.declared.option.Option.TheVariants.{None, Some}
@@ -17,7 +17,9 @@ use Rattle.iox2_pubsub.specs.Invariant.{IsDomain, HasNumber, IsNumbered}
 use Rattle.iox2_pubsub.specs.NewPublisher.{BookEnters}
 use Rattle.iox2_pubsub.proofs.Containers.{look_up-written, IsOnly-inserted}
 use Rattle.iox2_pubsub.proofs.ConnectionEnds.{publisher-stands}
-use Rattle.iox2_pubsub.proofs.MessageLists.{map_from-at, look_up-nothing_there, found_in, numbered-same, map-same}
+use Rattle.iox2_pubsub.proofs.MessageLists.{look_up-nothing_there, found_in, numbered-same}
+use Rattle.iox2_pubsub.proofs.Messages.{map_from_zero-at}
+use Rattle.iox2_pubsub.proofs.Renumbered.{map-alike}
 
 none_of : (n i : ℕ) → get_or {A = ℕ} (replicate n 0) i 0 ≡ 0
 none_of zero zero = refl
@@ -122,12 +124,9 @@ module _ {T U : Type 0} (f : Fields T U) (sound : IsDomain f) (slots room key : 
 
     at : (i : ℕ) → found_in n (get_or (map_from (kept_book contents) 0 books.slots) i None) ≡ found_in n (get_or (map_from (kept_book f.contents) 0 f.books.slots) i None)
     at i =
-        let e : 0 + i ≡ i = omega arith in
-        ap (found_in n) (map_from-at (kept_book contents) (λ k. refl) 0 books.slots i)
-        ∙ ap (λ k. found_in n (kept_book contents k (get_or books.slots i None))) e
+        ap (found_in n) (map_from_zero-at (kept_book contents) None books.slots (λ k le. refl) i)
         ∙ each i
-        ∙ ap (λ k. found_in n (kept_book f.contents k (get_or f.books.slots i None))) (sym e)
-        ∙ sym (ap (found_in n) (map_from-at (kept_book f.contents) (λ k. refl) 0 f.books.slots i))
+        ∙ sym (ap (found_in n) (map_from_zero-at (kept_book f.contents) None f.books.slots (λ k le. refl) i))
 
   -- ---- the invariant
 
@@ -150,11 +149,11 @@ module _ {T U : Type 0} (f : Fields T U) (sound : IsDomain f) (slots room key : 
   -- ---- publishers and connections look as they did
 
   pub publishers-shown : map (option_map (publisher_of books f.connections)) f.publishers ≡ map (option_map (publisher_of f.books f.connections)) f.publishers
-  publishers-shown = map-same (publisher_of books f.connections) (publisher_of f.books f.connections) f.publishers (λ i x at.
+  publishers-shown = map-alike (publisher_of books f.connections) (publisher_of f.books f.connections) f.publishers (λ i x at.
       ap (λ (number : ℕ → ℕ). record (publisher_of f.books f.connections x) { port = record ((publisher_of f.books f.connections x).port) { loans = map number x.loans; history = map number x.history.items } })
       (numbers-same x.id (publisher_before i x at)))
 
   pub connections-shown : map (option_map (between_of books f.connections)) f.connections.slots ≡ map (option_map (between_of f.books f.connections)) f.connections.slots
-  connections-shown = map-same (between_of books f.connections) (between_of f.books f.connections) f.connections.slots (λ k c at.
+  connections-shown = map-alike (between_of books f.connections) (between_of f.books f.connections) f.connections.slots (λ k c at.
       ap (λ (number : ℕ → ℕ). record (between_of f.books f.connections c) { box = record { waiting = map number c.waiting; borrowed = map number c.borrowed } })
       (numbers-same c.home.publisher (sender_before k c at)))

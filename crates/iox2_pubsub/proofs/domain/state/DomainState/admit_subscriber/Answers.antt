@@ -1,7 +1,6 @@
-use Rattle.std.proofs.Common.{◌≡◌, ◌∙◌, ◌+◌, max, ap, map, arith}
+use Rattle.std.proofs.Common.{◌≡◌, ◌∙◌, max, ap, map, arith}
 use Rattle.std.proofs.lemmas.List.{with_items_is}
 use Rattle.std.specs.Option.{option_map}
-use Rattle.circular_buffer.specs.Buffer.{Buffer}
 use Rattle.iox2_pubsub.specs.Ports.{due, entering}
 use Rattle.iox2_pubsub.specs.Placed.{placed}
 use Rattle.iox2_pubsub.proofs.SubscriberEntries.{has-entered}
