@@ -103,3 +103,31 @@ fn a_refused_subscriber_uses_up_no_id(rt: HostRuntime) -> Result<(), Fail> {
     assert_eq!(rt; refusal(&mut domain, 3), Some(too_large));
     Ok(())
 }
+
+#[test]
+fn ports_of_both_sides_share_their_ids(rt: HostRuntime) -> Result<(), Fail> {
+    let mut domain: Domain<Reading, Label> = Domain::new(rt.alloc(), settings())?;
+    let publisher = domain.publisher_builder().create(&mut domain)?;
+    let published = publisher.key();
+    publisher.disown();
+    let subscriber = domain.subscriber_builder().create(&mut domain)?;
+    assert_eq!(rt; subscriber.id().value(), 2);
+    assert!(rt; domain.holds_subscriber(subscriber.key()));
+    assert!(rt; domain.holds_publisher(published));
+    assert!(rt; !domain.holds_subscriber(published));
+    subscriber.disown();
+    Ok(())
+}
+
+#[test]
+fn a_creation_that_lacked_memory_used_up_no_id(rt: HostRuntime) -> Result<(), Fail> {
+    let mut domain: Domain<Reading, Label> = Domain::new(rt.alloc(), settings())?;
+    // Each allocation of the first try fails in turn where the tests run so.
+    let subscriber = match domain.subscriber_builder().create(&mut domain) {
+        Ok(subscriber) => subscriber,
+        Err(_) => domain.subscriber_builder().create(&mut domain)?,
+    };
+    assert_eq!(rt; subscriber.id().value(), 1);
+    subscriber.disown();
+    Ok(())
+}
