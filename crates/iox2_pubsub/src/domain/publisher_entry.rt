@@ -1,5 +1,5 @@
 //! A publisher enters a domain.
-ghost use Rattle.std.specs.Prelude.{◌≡◌, ◌⊎◌, None, Some, slice_index_or, MatchResult, OnOk};
+ghost use Rattle.std.specs.Prelude.{◌≡◌, ◌⊎◌, None, Some, slice_index_or, IfOk, MatchResult, OnOk};
 ghost use Rattle.iox2_store.specs.Limits.{worst_case};
 ghost use Rattle.iox2_store.specs.Environments.{fixed_handlers};
 ghost use Rattle.iox2_store.specs.Ports.{CreatePublisher, with_new_publisher};
@@ -90,7 +90,8 @@ impl<T: Drop, U: Default + Drop> DomainState<T, U> {
         max_loaned_samples: usize,
     ) -> Result<usize, PublisherCreateError>
         requires { IsDomain self.old }
-        ensures { MatchResult result
+        ensures stands { IfOk result (λ place. (x : PublisherFields) × (slice_index_or self.new.publishers place None ≡ Some x) × (x.id ≡ self.old.next_port)) }
+        ensures step { MatchResult result
             (λ _. (s' : State T U) × CreatePublisher fixed_handlers (state_of (kept_of self.old)) (plain_publisher max_loaned_samples) s' None × Reaches self.old self.new s')
             (λ e. CreatePublisher fixed_handlers (state_of (kept_of self.old)) (plain_publisher max_loaned_samples) (state_of (kept_of self.old)) (Some e)
             × Reaches self.old self.new (state_of (kept_of self.old))) }

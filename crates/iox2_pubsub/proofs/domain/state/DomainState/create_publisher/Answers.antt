@@ -1,4 +1,5 @@
-use Rattle.std.proofs.Common.{ap, sym, subst, ℕ, refl, ◌∙◌}
+use Rattle.std.proofs.Common.{ap, sym, subst, ℕ, false, get_or, refl, ◌∙◌}
+use Rattle.std.proofs.lemmas.List.{get_or-set_same}
 use Rattle.std.specs.Prelude.{IsTrue}
 use Rattle.std.specs.declared.option.Option.TheVariants.{None, Some}
 use Rattle.iox2_store.specs.Environments.{fixed_handlers}
@@ -13,21 +14,21 @@ use Rattle.iox2_pubsub.proofs.PublisherCreations.{created-refused, created-unfit
 use Rattle.iox2_pubsub.proofs.ReachesShows.{reaches-same}
 use Rattle.iox2_pubsub.proofs.domain.state.DomainState.create_publisher.Goals as goal
 
-pub returns-in-Err : goal.returns-in-Err
-returns-in-Err g c = (
+pub returns-in-Err-clause-step : goal.returns-in-Err-clause-step
+returns-in-Err-clause-step g c = (
   created-refused {T = g.row.T.Denot} {U = g.row.U.Denot} c.args.self.now c.args.max_loaned_samples fixed_handlers c.in-Err.e (sym c.in-Err.ensures),
   reaches-same c.args.self.now c.requires,
 )
 
-pub returns-in_default : goal.returns-in_default
-returns-in_default g c = (
+pub returns-in_default-clause-step : goal.returns-in_default-clause-step
+returns-in_default-clause-step g c = (
   created-unfit {T = g.row.T.Denot} {U = g.row.U.Denot} c.args.self.now c.args.max_loaned_samples fixed_handlers c.in-Ok.place (sym c.in-Ok.ensures)
       (subst (λ (f : Fields g.row.T.Denot g.row.U.Denot). IsTrue (first_segment_fits f.config (plain_publisher c.args.max_loaned_samples)) → ⊥) c.self.view_is c.in_default.ensures),
   reaches-same c.args.self.now c.requires,
 )
 
-pub returns-in-Err-admit_publisher : goal.returns-in-Err-admit_publisher
-returns-in-Err-admit_publisher g c = (
+pub returns-in-Err-admit_publisher-clause-step : goal.returns-in-Err-admit_publisher-clause-step
+returns-in-Err-admit_publisher-clause-step g c = (
   created-made {T = g.row.T.Denot} {U = g.row.U.Denot} c.args.self.now c.args.max_loaned_samples fixed_handlers c.in-Ok.place (state_of (kept_of c.args.self.now)) (Some c.in-Err-admit_publisher.e)
       (sym c.in-Ok.ensures)
       (subst (λ (f : Fields g.row.T.Denot g.row.U.Denot). IsTrue (first_segment_fits f.config (plain_publisher c.args.max_loaned_samples))) c.self.view_is c.in-Some.ensures.0)
@@ -40,8 +41,8 @@ update_publisher-requires-clause-stands g c =
     let entered = c.in_default-admit_publisher.ensures in
     within_if_some c.admit_publisher.new.self.publishers c.in-Ok.place entered.stands.0 entered.stands.1
 
-pub returns : goal.returns
-returns g c =
+pub returns-clause-step : goal.returns-clause-step
+returns-clause-step g c =
     let entered = c.in_default-admit_publisher.ensures in
     let updated = c.update_publisher.ensures entered.stands.0 entered.stands.1 in
     created-updated {T = g.row.T.Denot} {U = g.row.U.Denot} c.args.self.now c.args.max_loaned_samples fixed_handlers
@@ -58,3 +59,13 @@ admit_publisher-requires-clause-slots g c =
 
 pub update_publisher-requires-clause-agrees : goal.update_publisher-requires-clause-agrees
 update_publisher-requires-clause-agrees g c = c.in_default-admit_publisher.ensures.step.agrees
+
+pub returns-clause-stands : goal.returns-clause-stands
+returns-clause-stands g c =
+    let entered = c.in_default-admit_publisher.ensures in
+    let updated = c.update_publisher.ensures entered.stands.0 entered.stands.1 in (
+      record (entered.stands.0) { places = updated.keys; is_due = false },
+      ap (λ (f : Fields g.row.T.Denot g.row.U.Denot). get_or f.publishers c.in-Ok.place None) updated.fields
+          ∙ get_or-set_same c.admit_publisher.new.self.publishers c.in-Ok.place (Some (record (entered.stands.0) { places = updated.keys; is_due = false })) None (within_if_some c.admit_publisher.new.self.publishers c.in-Ok.place entered.stands.0 entered.stands.1),
+      entered.stands.2,
+    )

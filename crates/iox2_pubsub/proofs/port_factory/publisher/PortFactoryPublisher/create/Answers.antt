@@ -15,7 +15,7 @@ use Rattle.iox2_pubsub.proofs.port_factory.publisher.PortFactoryPublisher.create
 
 pub returns-in-Err-clause-creates : goal.returns-in-Err-clause-creates
 returns-in-Err-clause-creates g c m s shows =
-    let made = c.in-Err.ensures in
+    let made = c.in-Err.ensures.step in
     let before : State g.row.T.Denot g.row.U.Denot = state_of (kept_of c.domain.inside.state) in
     let shown : Shows (kept_of c.domain.inside.state) m s = subst (λ (kept : Kept g.row.T.Denot g.row.U.Denot). Shows kept m s) (sym c.domain.view_is) shows in
     let next = created-shows {T = g.row.T.Denot} {U = g.row.U.Denot} c.domain.inside.state c.create_publisher.new.self c.self.inside.max_loaned_samples fixed_handlers m s before (Some c.in-Err.e) shown made.0 made.1 in
@@ -23,7 +23,7 @@ returns-in-Err-clause-creates g c m s shows =
 
 pub returns-clause-creates : goal.returns-clause-creates
 returns-clause-creates g c m s shows =
-    let made = c.in-Ok.ensures in
+    let made = c.in-Ok.ensures.step in
     let shown : Shows (kept_of c.domain.inside.state) m s = subst (λ (kept : Kept g.row.T.Denot g.row.U.Denot). Shows kept m s) (sym c.domain.view_is) shows in
     let next = created-shows {T = g.row.T.Denot} {U = g.row.U.Denot} c.domain.inside.state c.create_publisher.new.self c.self.inside.max_loaned_samples fixed_handlers m s made.0 None shown made.1 made.2 in (
       made.0,
@@ -36,7 +36,7 @@ returns-clause-creates g c m s shows =
 
 pub returns-clause-held : goal.returns-clause-held
 returns-clause-held g c =
-    let made = c.in-Ok.ensures in
+    let made = c.in-Ok.ensures.step in
     let held = subst (λ (d : Inside g.row.T.Denot g.row.U.Denot). IsPublisherHandle (kept_of c.create_publisher.new.self) d.state.config.service_id d.state.next_port) (sym c.domain-inside.view_is)
     (created-held {T = g.row.T.Denot} {U = g.row.U.Denot} c.domain.inside.state c.create_publisher.new.self c.self.inside.max_loaned_samples fixed_handlers made.0 made.1 made.2) in
     (held.0, subst (HoldsPublisher (state_of (kept_of c.create_publisher.new.self))) (sym c.new-id.ensures) held.1)
