@@ -4,6 +4,7 @@ ghost use Rattle.iox2_store.specs.declared.service_config.TypeVariant.TheVariant
 mod loans;
 mod payloads;
 mod publishers;
+mod sends;
 mod subscribers;
 
 use crate::Domain;
