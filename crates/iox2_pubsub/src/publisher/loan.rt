@@ -18,8 +18,9 @@ impl Publisher {
     /// # Errors
     ///
     /// `ExceedsMaxLoans` where as many loans are out as the publisher may have at a time.
-    /// `OutOfMemory` where each of its slots holds a loan or a message that waits or is borrowed.
-    /// `InternalFailure` where the domain has no message number left. Nothing changes then.
+    /// `OutOfMemory` where each of its slots holds a loan, or a message that is kept for later
+    /// subscribers, waits or is borrowed. `InternalFailure` where the domain has no message number
+    /// left. Nothing changes then.
     ///
     /// iceoryx2's `Publisher::loan_uninit` (`src/port/publisher.rs`).
     pub fn loan_uninit<T: Drop, U: Default + Drop>(
@@ -50,8 +51,8 @@ impl<T: Drop, U: Default + Drop> Domain<T, U> {
     ghost use Rattle.std.specs.Prelude.{IsTrue, ◌↔◌};
     ghost use Rattle.iox2_pubsub.specs.Handles.{IsLoanKey};
 
-    /// Whether the key is that of a loan of this domain that is out: its message wasn't sent. This
-    /// library's own.
+    /// Whether the key is that of a loan of this domain that is out: its message wasn't sent, nor
+    /// was it given back. This library's own.
     pub fn holds_loan(&self, key: Key) -> bool
         ensures { IsTrue result ↔ IsLoanKey self.now key }
     {
