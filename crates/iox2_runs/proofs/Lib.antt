@@ -19,6 +19,7 @@ pub mod TableLooks
 pub mod TableCalls
 pub mod TableMakes
 pub mod TableSamples
+pub mod RunsOn
 pub mod Traces
 pub mod Follows
 pub mod Owned

@@ -3,6 +3,7 @@ pub mod Step
 pub mod Runs
 pub mod StoredSteps
 pub mod Tables
+pub mod Supported
 pub mod RunSteps
 pub mod Fills
 pub mod FillingCommands

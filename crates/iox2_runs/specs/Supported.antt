@@ -1,0 +1,23 @@
+-- Which commands `run` carries out so far.
+use Rattle.std.specs.Prelude.{◌≡◌}
+use Rattle.std.specs.declared.option.Option.TheVariants.{None}
+use Rattle.iox2_store.specs.declared.allocation.AllocationStrategy.TheVariants.{Static}
+use Rattle.iox2_store.specs.declared.backpressure.BackpressureStrategy.TheVariants.{DiscardData}
+use Rattle.iox2_store.specs.declared.degradation.DegradationAction.TheVariants.{Warn}
+use Rattle.iox2_runs.specs.declared.command.Command.{Command}
+use Rattle.iox2_runs.specs.declared.command.Command.TheVariants.{Nothing, CreatePublisher, CreateSubscriber, LoanUninit, WriteAll, Send, Receive, Read, Release}
+
+-- The command is one of those that make ports and take a message from a loan to its release, with nothing set that a
+-- factory can't be told yet.
+abbrev pub IsSupported : {T U : Type 0} → Command T U → Type 0
+IsSupported Nothing = Unit {0}
+IsSupported (CreatePublisher loans strategy allocation len override_slots degradation backpressure) =
+    (strategy ≡ DiscardData) × (allocation ≡ Static) × (override_slots ≡ None) × (degradation ≡ Warn) × (backpressure ≡ None)
+IsSupported (CreateSubscriber buffer degradation) = degradation ≡ Warn
+IsSupported (LoanUninit of) = Unit {0}
+IsSupported (WriteAll of value) = Unit {0}
+IsSupported (Send of) = Unit {0}
+IsSupported (Receive of) = Unit {0}
+IsSupported (Read of at) = Unit {0}
+IsSupported (Release of) = Unit {0}
+IsSupported _ = ⊥
