@@ -89,3 +89,4 @@ pub mod ReceiverCases
 pub mod ReceiverAnswers
 pub mod ReceiverWalk
 pub mod ReceiverUpdates
+pub mod AlwaysShows

@@ -1,6 +1,8 @@
 //! A domain: all ports of a service, and what lies between them.
 ghost use Rattle.std.specs.Prelude.{◌≡◌, false, IfOk};
-ghost use Rattle.iox2_store.specs.State.{fresh, no_messages};
+ghost use Rattle.iox2_store.specs.State.{Messages, fresh, no_messages};
+ghost use Rattle.iox2_pubsub.specs.Kept.{state_of};
+ghost use Rattle.iox2_pubsub.specs.Invariant.{IsSupported};
 ghost use Rattle.iox2_store.specs.declared.service_config.TypeVariant.TheVariants.{FixedSize};
 ghost use Rattle.iox2_pubsub.specs.Shows.{Shows};
 
@@ -72,16 +74,19 @@ impl<T: Drop, U: Default + Drop> Domain<T, U> {
         Ok(Domain { state })
     }
 
-    /// The domain's settings.
+    /// The domain's settings. A domain always shows some state, with some messages.
     pub fn config(&self) -> &ServiceConfig
-        ensures { result.now ≡ self.now.config }
+        ensures value { result.now ≡ self.now.config }
+        ensures supported { IsSupported self.now.config }
+        ensures shown { (messages : Messages T U) × Shows self.now messages (state_of self.now) }
     {
         &self.state.config
     }
 
-    /// What the payload of each message is.
+    /// What the payload of each message is: so far a single value.
     pub fn variant(&self) -> TypeVariant
-        ensures { result ≡ (self.now.config).variant }
+        ensures value { result ≡ (self.now.config).variant }
+        ensures single { (self.now.config).variant ≡ FixedSize }
     {
         self.state.config.variant
     }

@@ -20,6 +20,12 @@ pub mod TableCalls
 pub mod TableMakes
 pub mod TableSamples
 pub mod RunsOn
+pub mod Holdings
+pub mod LiveHeld
+pub mod RunLoop
+pub mod CarriedLoans
+pub mod CarriedPorts
+pub mod CarriedSamples
 pub mod Traces
 pub mod Follows
 pub mod Owned

@@ -1,6 +1,7 @@
 -- Ports and loans are made, with what the run keeps.
-use Rattle.std.proofs.Common.{◌≡◌, ℕ, ◌≤◌, ◌<◌, ◌+◌, Bool, true, false, List, [], ◌∷◌, ◌++◌, cond, refl, sym, ap, subst, ◌∙◌, eqb, Option, None, Some, arith}
-use Rattle.std.specs.Prelude.{◌==◌, nat_lt, slice_get}
+use Rattle.std.proofs.Common.{◌≡◌, ℕ, ◌≤◌, ◌<◌, ◌+◌, Bool, true, false, List, [], ◌∷◌, ◌++◌, cond, refl, sym, ap, subst, ◌∙◌, eqb, Option, None, Some, arith, ⊎_elim, inl, inr}
+use Rattle.std.specs.Bool.{MatchBool}
+use Rattle.std.specs.Prelude.{MatchOption, ◌==◌, nat_lt, slice_get}
 use Rattle.std.proofs.lemmas.Option.{none-some}
 use Rattle.std.proofs.lemmas.Bool.{ne_eqb, eqb-true, eq-eqb}
 use Rattle.iox2_store.specs.Limits.{last_number, buffer_limit}
@@ -8,8 +9,8 @@ use Rattle.iox2_store.specs.Numbers.{size}
 use Rattle.iox2_store.specs.Places.{free_place}
 use Rattle.iox2_store.specs.Records.{Loan, Publisher, Subscriber, Environment, PublisherSettings, SubscriberSettings, Fixed}
 use Rattle.iox2_store.specs.State.{State, Messages, held}
-use Rattle.iox2_store.specs.Environments.{fixed_handlers}
-use Rattle.iox2_store.specs.Loans.{GrantLoan, DynamicLoan, limit_error, is_static, loan_granted}
+use Rattle.iox2_store.specs.Environments.{fixed_handlers, ample_memory}
+use Rattle.iox2_store.specs.Loans.{GrantLoan, StaticLoan, DynamicLoan, limit_error, is_static, loan_granted}
 use Rattle.iox2_store.specs.Ports.{CreatePublisher, CreateSubscriber, MakePublisher, MakeSubscriber, with_new_publisher, with_new_subscriber, new_publisher, new_subscriber, first_segment_fits, buffer_for}
 use Rattle.iox2_store.specs.declared.service_config.ServiceConfig.{ServiceConfig}
 use Rattle.iox2_store.specs.declared.service_config.TypeVariant.{TypeVariant}
@@ -147,7 +148,7 @@ module _ {T U : Type 0} (defaults : Defaults T U) (Shown : Messages T U → Stat
   pub publisher_comes : (loans : ℕ) (strategy : BackpressureStrategy) (allocation : AllocationStrategy) (len : ℕ) (override_slots : Option ℕ) (degradation : DegradationAction)
       (backpressure : Option BackpressureAction) (s' : State T U)
       → CreatePublisher fixed_handlers s (publisher_settings (s.config).variant loans strategy allocation len override_slots degradation backpressure) s' None
-      → s.next_message ≤ s'.next_message → Shown m s' → (service : ℕ) → service ≡ (s.config).service_id
+      → s.next_message ≤ s'.next_message → Shown m s' → (service : ℕ) → service ≡ (s'.config).service_id
       → Comes defaults Shown m s handles events (PublisherCommand loans strategy allocation len override_slots degradation backpressure) (PublisherMade s.next_port)
       (table ++ Kept_publisher service s.next_port ∷ [])
   publisher_comes loans strategy allocation len override_slots degradation backpressure s' h rises shown service ours =
@@ -155,7 +156,7 @@ module _ {T U : Type 0} (defaults : Defaults T U) (Shown : Messages T U → Stat
       let stay : PortsStay s s' = create_publisher_stays fixed_handlers s given s' None h in
       port_comes (PublisherCommand loans strategy allocation len override_slots degradation backpressure) (PublisherMade s.next_port) (Publisher_handle s.next_port)
       (Kept_publisher service s.next_port) s' (s', None, h, refl) shown stay (create_publisher_loans fixed_handlers s given s' None h) rises
-      (ours ∙ sym (ap (λ (c : ServiceConfig). c.service_id) stay.config), refl, publisher_made fixed_handlers s given s' h)
+      (ours, refl, publisher_made fixed_handlers s given s' h)
       (λ n e. let clash : Publisher_handle s.next_port ≡ Loan_handle n = e in absurd (cc)) (λ p q n e. let clash : Publisher_handle s.next_port ≡ Sample_handle p q n = e in absurd (cc))
 
   pub publisher_refused_comes : (loans : ℕ) (strategy : BackpressureStrategy) (allocation : AllocationStrategy) (len : ℕ) (override_slots : Option ℕ) (degradation : DegradationAction)
@@ -175,14 +176,14 @@ module _ {T U : Type 0} (defaults : Defaults T U) (Shown : Messages T U → Stat
 
   pub subscriber_comes : (buffer : Option ℕ) (degradation : DegradationAction) (s' : State T U)
       → CreateSubscriber fixed_handlers s (record { buffer_size = elim buffer [ None ↦ buffer_limit s.config | Some asked ↦ asked ]; degradation_handler = Fixed degradation }) s' None
-      → s.next_message ≤ s'.next_message → Shown m s' → (service : ℕ) → service ≡ (s.config).service_id
+      → s.next_message ≤ s'.next_message → Shown m s' → (service : ℕ) → service ≡ (s'.config).service_id
       → Comes defaults Shown m s handles events (SubscriberCommand buffer degradation) (SubscriberMade s.next_port) (table ++ Kept_subscriber service s.next_port ∷ [])
   subscriber_comes buffer degradation s' h rises shown service ours =
       let stay : PortsStay s s' = create_subscriber_stays fixed_handlers s (subscriber_settings buffer degradation) s' None h in
       let made = subscriber_made fixed_handlers s (subscriber_settings buffer degradation) s' h in
       port_comes (SubscriberCommand buffer degradation) (SubscriberMade s.next_port) (Subscriber_handle s.next_port) (Kept_subscriber service s.next_port) s' (s', None, h, refl) shown stay
       (create_subscriber_loans fixed_handlers s (subscriber_settings buffer degradation) s' None h) rises
-      (ours ∙ sym (ap (λ (c : ServiceConfig). c.service_id) stay.config), refl, made.0, made.1, made.2)
+      (ours, refl, made.0, made.1, made.2)
       (λ n e. let clash : Subscriber_handle s.next_port ≡ Loan_handle n = e in absurd (cc)) (λ p q n e. let clash : Subscriber_handle s.next_port ≡ Sample_handle p q n = e in absurd (cc))
 
   pub subscriber_refused_comes : (buffer : Option ℕ) (degradation : DegradationAction) (s' : State T U) (e : SubscriberCreateError)
@@ -239,8 +240,9 @@ module _ {T U : Type 0} (defaults : Defaults T U) (Shown : Messages T U → Stat
 
   pub loan_comes : (of service p : ℕ) → slice_get table of ≡ Some (Kept_publisher service p) → IsSingle s
       → (header : U) → defaults.IsDefaultHeader header → (s' : State T U) → GrantLoan fixed_handlers header false 1 s p s' None → Shown m s'
-      → Comes defaults Shown m s handles events (LoanUninit of) Loaned (table ++ Kept_unwritten service p s.next_message ∷ [])
-  loan_comes of service p at single header is_default s' h shown =
+      → (new_service : ℕ) → new_service ≡ (s'.config).service_id
+      → Comes defaults Shown m s handles events (LoanUninit of) Loaned (table ++ Kept_unwritten new_service p s.next_message ∷ [])
+  loan_comes of service p at single header is_default s' h shown new_service ours =
       let found = has_publisher s handles events table w of service p at in
       let named = handle_of s handles events table w of (Kept_publisher service p) at in
       let stay : PortsStay s s' = grant_loan_stays fixed_handlers header false 1 s p s' None h in
@@ -254,9 +256,9 @@ module _ {T U : Type 0} (defaults : Defaults T U) (Shown : Messages T U → Stat
         step = at_some _ _ _ (p, found.0) (this_service (unblocked_at s handles of) single ∙ found.1) (s', None, h, refl);
         replied = refl;
         shown = shown;
-        follows = λ once. table_next s s' handles events table w (Loan_handle s.next_message) No_event (Kept_unwritten service p s.next_message) table (omega (arith, next.next)) refl
+        follows = λ once. table_next s s' handles events table w (Loan_handle s.next_message) No_event (Kept_unwritten new_service p s.next_message) table (omega (arith, next.next)) refl
             (all_still s s' handles events table w (remain_of s s' stay) next.others (λ i p q n _. same_borrowed s s' stay p q n))
-            ((named.2).0 ∙ sym (ap (λ (c : ServiceConfig). c.service_id) stay.config), refl,
+            (ours, refl,
             ((next.loan, next.there, next.publisher, next.unwritten), (free.0, free.1, free.2 ((named.2).2).2)),
             (ap (λ (c : ServiceConfig). c.variant) stay.config ∙ single.0, ap (λ (c : ServiceConfig). c.units_per_element) stay.config ∙ single.1))
             (λ n e. let same : s.next_message ≡ n = cc in (omega arith, omega (arith, next.next)))
@@ -272,3 +274,30 @@ module _ {T U : Type 0} (defaults : Defaults T U) (Shown : Messages T U → Stat
       quiet_comes defaults Shown m s handles events table w default_value header is_default_value is_default (LoanUninit of) (LoanRefused e) s'
       (at_some _ _ _ (p, found.0) (this_service (unblocked_at s handles of) single ∙ found.1) (s', Some e, h, refl)) shown
       (grant_loan_stays fixed_handlers header false 1 s p s' (Some e) h) (λ n _. ap (λ (t : State T U). t.loans n) same) (subst (λ (t : State T U). s.next_message ≤ t.next_message) (sym same) (omega arith))
+
+-- a loan that is granted or refused where memory is ample is so where it isn't
+pub loan_any : {T U : Type 0} (header : U) (checks_length : Bool) (len : ℕ) (s : State T U) (p : ℕ) (s' : State T U) (refusal : Option LoanError)
+    → GrantLoan ample_memory header checks_length len s p s' refusal → GrantLoan fixed_handlers header checks_length len s p s' refusal
+loan_any {T} {U} header checks_length len s p s' refusal h = by_publisher (s.publishers p) h where
+  dynamic : (x : Publisher) (refusal : Option LoanError) → DynamicLoan ample_memory header s p x len s' refusal → DynamicLoan fixed_handlers header s p x len s' refusal
+  dynamic x None h = h
+  dynamic x (Some OutOfMemory) h = h
+  dynamic x (Some InternalFailure) h = (h.0, ⊎_elim (λ end. inl end) (λ other. inr (⊎_elim (λ refused. absurd refused) (λ none. inr none) other.0, other.1)) h.1)
+  dynamic x (Some ExceedsMaxLoans) h = h
+  dynamic x (Some ExceedsMaxLoanSize) h = h
+
+  by_limit : (x : Publisher) (o : Option LoanError)
+      → MatchOption o (MatchBool (is_static x.allocation_strategy) (StaticLoan header s p x len s' refusal) (DynamicLoan ample_memory header s p x len s' refusal)) (λ limit. (s' ≡ s) × (refusal ≡ Some limit))
+      → MatchOption o (MatchBool (is_static x.allocation_strategy) (StaticLoan header s p x len s' refusal) (DynamicLoan fixed_handlers header s p x len s' refusal)) (λ limit. (s' ≡ s) × (refusal ≡ Some limit))
+  by_limit x (Some limit) h = h
+  by_limit x None h = by_kind (is_static x.allocation_strategy) h where
+    by_kind : (b : Bool) → MatchBool b (StaticLoan header s p x len s' refusal) (DynamicLoan ample_memory header s p x len s' refusal)
+        → MatchBool b (StaticLoan header s p x len s' refusal) (DynamicLoan fixed_handlers header s p x len s' refusal)
+    by_kind true h = h
+    by_kind false h = dynamic x refusal h
+
+  by_publisher : (o : Option Publisher)
+      → MatchOption o ⊥ (λ x. MatchOption (limit_error checks_length x len) (MatchBool (is_static x.allocation_strategy) (StaticLoan header s p x len s' refusal) (DynamicLoan ample_memory header s p x len s' refusal)) (λ limit. (s' ≡ s) × (refusal ≡ Some limit)))
+      → MatchOption o ⊥ (λ x. MatchOption (limit_error checks_length x len) (MatchBool (is_static x.allocation_strategy) (StaticLoan header s p x len s' refusal) (DynamicLoan fixed_handlers header s p x len s' refusal)) (λ limit. (s' ≡ s) × (refusal ≡ Some limit)))
+  by_publisher None h = h
+  by_publisher (Some x) h = by_limit x (limit_error checks_length x len) h

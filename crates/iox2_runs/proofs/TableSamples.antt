@@ -209,9 +209,9 @@ module _ {T U : Type 0} (defaults : Defaults T U) (Shown : Messages T U → Stat
       (nothing_received fixed_handlers s q s' result none h) (λ n _. ap (λ (f : ℕ → Option (Loan T U)). f n) (receive_loans fixed_handlers s q s' result h)) rises
 
   pub receive_comes : (of service q : ℕ) → slice_get table of ≡ Some (Kept_subscriber service q) → IsSingle s → (s' : State T U) (p n : ℕ)
-      → Receive fixed_handlers s q s' (Got_sample p n) → s.next_message ≤ s'.next_message → Shown m s'
-      → Arrives (ReceiveCommand of) (SampleReply p) (table ++ Kept_sample service p q n ∷ [])
-  receive_comes of service q at single s' p n h rises shown =
+      → Receive fixed_handlers s q s' (Got_sample p n) → s.next_message ≤ s'.next_message → Shown m s' → (new_service : ℕ) → new_service ≡ (s'.config).service_id
+      → Arrives (ReceiveCommand of) (SampleReply p) (table ++ Kept_sample new_service p q n ∷ [])
+  receive_comes of service q at single s' p n h rises shown new_service ours =
       let found = has_subscriber s handles events table w of service q at in
       let named = handle_of s handles events table w of (Kept_subscriber service q) at in
       let got : IsReceived fixed_handlers s q p n s' = received_one fixed_handlers s q p n s' h in
@@ -224,12 +224,12 @@ module _ {T U : Type 0} (defaults : Defaults T U) (Shown : Messages T U → Stat
         step = at_some _ _ _ (q, found.0) (single_units (subscriber_at s handles of) single.1 ∙ found.1) (s', Got_sample p n, h, refl);
         replied = refl;
         shown = shown;
-        follows = λ once. table_next s s' handles events table w (Sample_handle p q n) (Message_received p q n) (Kept_sample service p q n) table rises refl
+        follows = λ once. table_next s s' handles events table w (Sample_handle p q n) (Message_received p q n) (Kept_sample new_service p q n) table rises refl
             (all_still s s' handles events table w got.remain (λ k _. ap (λ (f : ℕ → Option (Loan T U)). f k) got.loans)
             (λ i p' q' k there. got.others p' q' k (λ e_p e_q e_n.
             let again : slice_get handles i ≡ Some (Sample_handle p q n) = there ∙ ap (λ v. Some (Sample_handle v q' k)) e_p ∙ ap (λ v. Some (Sample_handle p v k)) e_q ∙ ap (λ v. Some (Sample_handle p q v)) e_n in
             not_again s handles events table w p q n (once p q) i again)))
-            ((named.2).0 ∙ sym (ap (λ (c : ServiceConfig). c.service_id) same), refl, got.now,
+            (ours, refl, got.now,
             (ap (λ (c : ServiceConfig). c.variant) same ∙ single.0, ap (λ (c : ServiceConfig). c.units_per_element) same ∙ single.1))
             (λ k e. let clash : Sample_handle p q n ≡ Loan_handle k = e in absurd (cc))
             (λ p' q' k e. sample_event T U p p' q q' n k e) once;

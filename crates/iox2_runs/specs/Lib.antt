@@ -5,6 +5,8 @@ pub mod StoredSteps
 pub mod Tables
 pub mod Supported
 pub mod RunSteps
+pub mod Rooms
+pub mod Holdings
 pub mod Fills
 pub mod FillingCommands
 pub mod Views

@@ -4,6 +4,7 @@
 mod command;
 mod laws;
 mod reply;
+mod runs;
 #[cfg(test)]
 mod tests;
 
@@ -15,3 +16,4 @@ pub use laws::{
     worst_case_is_least, worst_case_is_reached, worst_case_of_slots_grants,
 };
 pub use reply::Reply;
+pub use runs::run;

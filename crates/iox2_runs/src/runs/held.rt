@@ -1,6 +1,10 @@
 //! What a run's commands made.
+ghost use Rattle.std.specs.Prelude.{◌≡◌, ◌<◌, length, slice_set, slice_index_or};
+ghost use Rattle.iox2_runs.specs.Rooms.{SameRoom};
+ghost use Rattle.iox2_runs.specs.declared.runs.held.Held.TheVariants.{Nothing};
 
 use iox2_pubsub::{Publisher, Sample, SampleMut, SampleMutUninit, Subscriber};
+use std::mem;
 
 /// What a command made that is still in the run's hands.
 pub(crate) enum Held {
@@ -43,6 +47,7 @@ pub(crate) fn disown_all(mut table: Vec<Held>) {
 /// Takes what the command at the position made out of the table, if there is any.
 pub(crate) fn take(table: &mut Vec<Held>, of: usize) -> Held
     ensures items { table.new.items ≡ slice_set table.old.items of Nothing }
+    ensures room { SameRoom table.old table.new }
     ensures held { result ≡ slice_index_or table.old.items of Nothing }
 {
     if of < table.len() {
@@ -52,10 +57,15 @@ pub(crate) fn take(table: &mut Vec<Held>, of: usize) -> Held
     }
 }
 
-/// Puts something into the table, at the position of the command that made it.
+/// Puts something into the table, at the position of the command that made it, in place of what is
+/// there. Past the end it is spent.
 pub(crate) fn put(table: &mut Vec<Held>, of: usize, held: Held)
-    requires { of < length table.old.items }
-    ensures { table.new.items ≡ slice_set table.old.items of held }
+    ensures items { table.new.items ≡ slice_set table.old.items of held }
+    ensures room { SameRoom table.old table.new }
 {
-    mem::replace(&mut table[of], held).disown();
+    if of < table.len() {
+        mem::replace(&mut table[of], held).disown();
+    } else {
+        held.disown();
+    }
 }

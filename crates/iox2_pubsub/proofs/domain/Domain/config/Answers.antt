@@ -1,0 +1,11 @@
+use Rattle.iox2_pubsub.specs.Fields.{kept_of}
+use Rattle.iox2_pubsub.specs.Kept.{entries_of}
+use Rattle.iox2_pubsub.proofs.AlwaysShows.{shows_itself}
+use Rattle.iox2_pubsub.proofs.domain.Domain.config.Goals as goal
+
+pub returns-clause-shown : goal.returns-clause-shown
+returns-clause-shown g c =
+    rw (← c.self.view_is) (entries_of (kept_of c.self.inside.state), shows_itself {T = g.row.T.Denot} {U = g.row.U.Denot} c.self.inside.state c.self.invariant)
+
+pub returns-clause-supported : goal.returns-clause-supported
+returns-clause-supported g c = rw (← c.self.view_is) c.self.invariant.supported

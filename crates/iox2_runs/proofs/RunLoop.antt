@@ -1,0 +1,75 @@
+-- A run on a domain goes on by one command.
+use Rattle.std.proofs.Common.{◌≡◌, ℕ, List, [], ◌∷◌, ◌++◌, map, refl, sym, subst, Some}
+use Rattle.std.specs.Prelude.{slice_get}
+use Rattle.std.proofs.lemmas.List.{map-append}
+use Rattle.std.proofs.lemmas.Option.{none-some}
+use Rattle.iox2_store.specs.Environments.{fixed_handlers}
+use Rattle.iox2_store.specs.State.{State, Messages}
+use Rattle.iox2_pubsub.specs.Kept.{Kept as Domain}
+use Rattle.iox2_pubsub.specs.Shows.{Shows}
+use Rattle.iox2_runs.specs.Outcomes.{Handle, Event, messages_after}
+use Rattle.iox2_runs.specs.Runs.{Defaults, RunTo, Run}
+use Rattle.iox2_runs.specs.Tables.{IsTable}
+use Rattle.iox2_runs.specs.Holdings.{kept_of, Keeps, Carries}
+use Rattle.iox2_runs.specs.declared.command.Command.{Command}
+use Rattle.iox2_runs.specs.declared.reply.Reply.{Reply}
+use Rattle.iox2_runs.specs.declared.runs.held.Held.{Held}
+use Rattle.iox2_runs.proofs.RunsOn.{run_of, run_more, received_once}
+
+module _ {T U : Type 0} (defaults : Defaults T U) where
+  -- From each state that the domain showed, the commands ran to one that it shows now, with what the table keeps.
+  abbrev pub HasRun : (old new : Domain T U) → List (Command T U) → List (Reply T U) → List Held → Type 0
+  HasRun old new commands replies table =
+      (m : Messages T U) (s : State T U) → Shows old m s
+      → (events : List (Event T U)) × (handles : List Handle) × (m' : Messages T U) × (s' : State T U) × Shows new m' s'
+      × RunTo fixed_handlers defaults m s [] commands replies events m' s' handles
+      × IsTable s' handles events (map kept_of table)
+
+  -- at the start nothing ran
+  pub has_run_none : (domain : Domain T U) → HasRun domain domain [] [] []
+  has_run_none domain = λ m s shown. ([], [], m, s, shown, (refl, refl, refl), record {
+    count = refl;
+    kept = λ i handle entry at. absurd (no_element i handle at);
+    loans_below = λ i n at. absurd (no_element i _ at);
+    loans_apart = λ i j n at. absurd (no_element i _ at);
+    samples_received = λ i p q n at. absurd (no_element i _ at);
+    samples_apart = λ i j p q n at. absurd (no_element i _ at);
+  }) where
+    no_element : (i : ℕ) (handle : Handle) → slice_get [] i ≡ Some handle → ⊥
+    no_element i handle at = none-some handle at
+
+  -- one command more
+  pub has_run_more : (old mid new : Domain T U) (commands : List (Command T U)) (replies : List (Reply T U)) (table table' : List Held) (command : Command T U) (reply : Reply T U) (made : Held)
+      → HasRun old mid commands replies table → Carries defaults mid new table command reply table' made
+      → (default_value : T) (default_header : U) → defaults.IsDefaultValue default_value → defaults.IsDefaultHeader default_header
+      → HasRun old new (commands ++ command ∷ []) (replies ++ reply ∷ []) (table' ++ made ∷ [])
+  has_run_more old mid new commands replies table table' command reply made ran carries default_value default_header is_value is_header = λ m s shown.
+      let before = ran m s shown in
+      let comes = carries before.2 before.3 before.1 before.0 before.4 before.6 default_value default_header is_value is_header in
+      let more = run_more fixed_handlers defaults m before.2 s before.3 [] before.1 commands replies before.0 before.5
+      comes.default_value comes.default_header comes.is_default_value comes.is_default_header command reply comes.outcome comes.step comes.replied in
+      let once = received_once fixed_handlers defaults m (messages_after comes.outcome.event before.2) s comes.outcome.state (before.1 ++ comes.outcome.handle ∷ [])
+      (commands ++ command ∷ []) (replies ++ reply ∷ []) (before.0 ++ comes.outcome.event ∷ []) shown.well_formed more in
+      (
+        before.0 ++ comes.outcome.event ∷ [],
+        before.1 ++ comes.outcome.handle ∷ [],
+        messages_after comes.outcome.event before.2,
+        comes.outcome.state,
+        comes.shown,
+        more,
+        subst (IsTable comes.outcome.state (before.1 ++ comes.outcome.handle ∷ []) (before.0 ++ comes.outcome.event ∷ [])) (sym (map-append kept_of table' (made ∷ []))) (comes.follows once),
+      )
+
+  -- what ran so far is kept, where the domain showed some state at the start
+  pub still_keeps : (old new : Domain T U) (commands : List (Command T U)) (replies : List (Reply T U)) (table : List Held)
+      → (m : Messages T U) (s : State T U) → Shows old m s → HasRun old new commands replies table → Keeps new table
+  still_keeps old new commands replies table m s shown ran =
+      let now = ran m s shown in (now.2, now.3, now.1, now.0, now.4, now.6)
+
+  -- it is a run
+  pub is_run : (old new : Domain T U) (commands : List (Command T U)) (replies : List (Reply T U)) (table : List Held) → HasRun old new commands replies table
+      → (m : Messages T U) (s : State T U) → Shows old m s
+      → (events : List (Event T U)) × (m' : Messages T U) × (s' : State T U) × Shows new m' s' × Run fixed_handlers defaults m s commands replies events m' s'
+  is_run old new commands replies table ran = λ m s shown.
+      let now = ran m s shown in
+      (now.0, now.2, now.3, now.4, run_of fixed_handlers defaults m now.2 s now.3 [] now.1 commands replies now.0 now.5)

@@ -1,0 +1,61 @@
+use Rattle.std.proofs.Common.{◌≡◌, ◌<◌, ◌+◌, arith, length, List, [], ◌∷◌, ◌++◌, take, get_or, sym, ap, subst, ◌∙◌}
+use Rattle.std.proofs.lemmas.List.{take_more, take_all}
+use Rattle.std.proofs.lemmas.List.Elements.{All-get_or}
+use Rattle.iox2_runs.specs.Holdings.{defaults_of}
+use Rattle.iox2_runs.specs.Supported.{IsSupported}
+use Rattle.iox2_runs.specs.declared.command.Command.{Command}
+use Rattle.iox2_runs.proofs.RunLoop.{has_run_none, has_run_more, still_keeps, is_run}
+use Rattle.iox2_runs.proofs.runs.run.Goals as goal
+
+pub loop-command-init : goal.loop-command-init
+loop-command-init g c = record {
+  ran = rw (c.in-Ok.ensures.items, c.in-Ok-with_capacity.ensures.items) (has_run_none {T = g.row.T.Denot} {U = g.row.U.Denot} (defaults_of g.T.Default.is_default g.U.Default.is_default) c.args.domain.now);
+  made = omega (arith, c.in-Ok-with_capacity.ensures.len);
+  replied = omega (arith, c.in-Ok.ensures.len);
+  room = omega (arith, c.in-Ok-with_capacity.ensures.capacity, c.len-2.ensures);
+  reply_room = omega (arith, c.in-Ok.ensures.capacity, c.len.ensures);
+}
+
+pub carry_out-reply-requires-clause-supported : goal.carry_out-reply-requires-clause-supported
+carry_out-reply-requires-clause-supported g c =
+    let i = c.loop-command.command-index in
+    let x = c.command-item.result in
+    let inside : i < length c.args.commands.items = omega (arith, ap length c.deref-command-items.ensures.value, c.loop-command-test.true) in
+    let here : x ≡ get_or c.args.commands.items i x = c.command-item.is ∙ ap (λ (ys : List (Command g.row.T.Denot g.row.U.Denot)). get_or ys i x) c.deref-command-items.ensures.value in
+    subst IsSupported (sym here) (All-get_or IsSupported c.args.commands.items i x inside c.requires)
+
+pub carry_out-reply-requires-clause-keeps : goal.carry_out-reply-requires-clause-keeps
+carry_out-reply-requires-clause-keeps g c =
+    still_keeps {T = g.row.T.Denot} {U = g.row.U.Denot} (defaults_of g.T.Default.is_default g.U.Default.is_default) c.args.domain.now c.loop-command.domain _ _ c.loop-command.table.items
+    c.config.ensures.shown.0 _ c.config.ensures.shown.1 c.loop-command.invariant.ran
+
+pub push_reserved-requires-in-loop-command : goal.push_reserved-requires-in-loop-command
+push_reserved-requires-in-loop-command g c =
+    omega (arith, c.carry_out-reply.ensures.room.len, c.carry_out-reply.ensures.room.capacity, c.loop-command.invariant.made, c.loop-command.invariant.room, ap length c.deref-command-items.ensures.value, c.loop-command-test.true)
+
+pub loop-command-preserved : goal.loop-command-preserved
+loop-command-preserved g c =
+    let xs = c.args.commands.items in
+    let i = c.loop-command.command-index in
+    let x = c.command-item.result in
+    let inside : i < length xs = omega (arith, ap length c.deref-command-items.ensures.value, c.loop-command-test.true) in
+    let here : x ≡ get_or xs i x = c.command-item.is ∙ ap (λ (ys : List (Command g.row.T.Denot g.row.U.Denot)). get_or ys i x) c.deref-command-items.ensures.value in
+    let more : take (i + 1) xs ≡ take i xs ++ x ∷ [] = take_more xs i x inside ∙ ap (λ (y : Command g.row.T.Denot g.row.U.Denot). take i xs ++ y ∷ []) (sym here) in
+    record {
+      ran = rw (more, c.push_reserved.ensures.items, c.push_reserved-in-loop-command.ensures.items)
+          (has_run_more {T = g.row.T.Denot} {U = g.row.U.Denot} (defaults_of g.T.Default.is_default g.U.Default.is_default) c.args.domain.now c.loop-command.domain c.carry_out-reply.new.domain
+          (take i xs) c.loop-command.replies.items c.loop-command.table.items c.carry_out-reply.new.table.items x c.carry_out-reply.result.0 c.carry_out-reply.result.1
+          c.loop-command.invariant.ran c.carry_out-reply.ensures.carries c.default-default_value.result c.default-default_header.result c.default-default_value.ensures c.default-default_header.ensures);
+      made = omega (arith, c.push_reserved-in-loop-command.ensures.len, c.carry_out-reply.ensures.room.len, c.loop-command.invariant.made);
+      replied = omega (arith, c.push_reserved.ensures.len, c.loop-command.invariant.replied);
+      room = omega (arith, c.push_reserved-in-loop-command.ensures.capacity, c.carry_out-reply.ensures.room.capacity, c.loop-command.invariant.room);
+      reply_room = omega (arith, c.push_reserved.ensures.capacity, c.loop-command.invariant.reply_room);
+    }
+
+pub returns-clause-ran : goal.returns-clause-ran
+returns-clause-ran g c =
+    let xs = c.args.commands.items in
+    let i = c.loop-command.command-index in
+    let all : take i xs ≡ xs = take_all i xs (omega (arith, ap length c.deref-command-items.ensures.value, c.loop-command-test.false)) in
+    rw all at (is_run {T = g.row.T.Denot} {U = g.row.U.Denot} (defaults_of g.T.Default.is_default g.U.Default.is_default) c.args.domain.now c.loop-command.domain
+    (take i xs) c.loop-command.replies.items c.loop-command.table.items c.loop-command.invariant.ran)

@@ -1,0 +1,89 @@
+//! Runs of commands on a domain.
+ghost use Rattle.std.specs.Prelude.{◌≡◌, List, IfOk, IfErr};
+ghost use Rattle.std.specs.List.{All};
+ghost use Rattle.iox2_store.specs.Environments.{fixed_handlers};
+ghost use Rattle.iox2_store.specs.State.{State, Messages};
+ghost use Rattle.iox2_pubsub.specs.Shows.{Shows};
+ghost use Rattle.iox2_runs.specs.Rooms.{SameRoom};
+ghost use Rattle.iox2_runs.specs.Holdings.{Keeps, Carries, defaults_of};
+ghost use Rattle.iox2_runs.specs.Outcomes.{Event};
+ghost use Rattle.iox2_runs.specs.Runs.{Run};
+ghost use Rattle.iox2_runs.specs.Supported.{IsSupported};
+ghost use Rattle.iox2_runs.specs.declared.runs.held.Held.TheVariants.{Nothing};
+
+mod held;
+mod loans;
+mod ports;
+mod samples;
+
+use crate::command::Command;
+use crate::reply::Reply;
+use held::{disown_all, Held};
+use iox2_pubsub::Domain;
+use std::alloc::Global;
+
+// Carries out one command, and answers what it made too.
+fn carry_out<T: Copy + Default + Drop, U: Copy + Default + Drop>(
+    domain: &mut Domain<T, U>,
+    table: &mut Vec<Held>,
+    command: Command<T, U>,
+) -> (Reply<T, U>, Held)
+    requires supported { IsSupported command }
+    requires keeps { Keeps domain.old table.old.items }
+    ensures carries { Carries (defaults_of T.is_default U.is_default) domain.old domain.new table.old.items command result.0 table.new.items result.1 }
+    ensures room { SameRoom table.old table.new }
+{
+    match command {
+        Command::CreatePublisher { loans, .. } => ports::create_publisher(domain, table, loans),
+        Command::CreateSubscriber { buffer, .. } => {
+            ports::create_subscriber(domain, table, buffer)
+        }
+        Command::LoanUninit { of } => loans::loan_uninit(domain, table, of),
+        Command::WriteAll { of, value } => {
+            (loans::write_all(domain, table, of, value), Held::Nothing)
+        }
+        Command::Send { of } => (loans::send(domain, table, of), Held::Nothing),
+        Command::Receive { of } => samples::receive(domain, table, of),
+        Command::Read { of, at } => (samples::read(domain, table, of, at), Held::Nothing),
+        Command::Release { of } => (samples::release(domain, table, of), Held::Nothing),
+        Command::Nothing => (Reply::Done, Held::Nothing),
+        _ => unreachable!(),
+    }
+}
+
+/// Carries out the commands on the domain, one after the other, and answers a reply for each.
+///
+/// What the commands made is spent at the end: ports stay in the domain, loans stay out and
+/// messages stay borrowed. The memory for the replies and for what the commands make is taken
+/// first. Where it is refused the commands are handed back, and none was carried out.
+///
+/// So far a publisher discards what a full receiver doesn't take, has one segment and no handlers,
+/// and a command is one of those that make ports or take a message from its loan to its release.
+pub fn run<T: Copy + Default + Drop, U: Copy + Default + Drop>(
+    alloc: Global,
+    domain: &mut Domain<T, U>,
+    commands: Vec<Command<T, U>>,
+) -> Result<Vec<Reply<T, U>>, Vec<Command<T, U>>>
+    requires { All IsSupported commands.items }
+    ensures ran { IfOk result (λ replies. (m : Messages T U) (s : State T U) → Shows domain.old m s
+        → (events : List (Event T U)) × (m' : Messages T U) × (s' : State T U) × Shows domain.new m' s'
+        × Run fixed_handlers (defaults_of T.is_default U.is_default) m s commands.items replies.items events m' s') }
+    ensures refused { IfErr result (λ given. (given.items ≡ commands.items) × (domain.new ≡ domain.old)) }
+{
+    let Ok(mut replies) = Vec::with_capacity(alloc, commands.len()) else {
+        return Err(commands);
+    };
+    let Ok(mut table) = Vec::with_capacity(alloc, commands.len()) else {
+        return Err(commands);
+    };
+    let default_value = T::default();
+    let default_header = U::default();
+    domain.config();
+    for command in &commands {
+        let (reply, made) = carry_out(domain, &mut table, *command);
+        replies.push_reserved(reply);
+        table.push_reserved(made);
+    }
+    disown_all(table);
+    Ok(replies)
+}
