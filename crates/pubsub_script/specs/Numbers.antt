@@ -1,0 +1,11 @@
+-- The numbers of a script.
+use Rattle.std.specs.Prelude.{ℕ, List, ◌^◌, ◌<◌}
+use Rattle.std.specs.Str.Parse.{IsNumeral, digits_value}
+
+-- A word is a number where it has decimal digits alone, at least one, and its value fits 64 bits.
+abbrev pub IsNumber : List ℕ → Type 0
+IsNumber word = IsNumeral 10 word × (digits_value 10 word < 2 ^ 64)
+
+-- The value of a number.
+abbrev pub value_of : List ℕ → ℕ
+value_of word = digits_value 10 word

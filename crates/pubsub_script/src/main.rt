@@ -1,0 +1,91 @@
+//! Runs a script of publish-subscribe calls: reads it from standard input, and prints a line for
+//! each reply.
+#![tactic(auto)]
+
+ghost use Rattle.std.specs.Prelude.{◌≡◌, ◌≢◌, ◌⊎◌, IfErr, OnOk};
+ghost use Rattle.pubsub_script.specs.declared.failure.ScriptError.TheVariants.{OutputFailed};
+ghost use Rattle.pubsub_script.specs.Script.{IsStatus, PrintsReplies};
+
+mod failure;
+mod lines;
+mod parse;
+mod print;
+mod source;
+#[cfg(test)]
+mod tests;
+
+use failure::ScriptError;
+use iox2_pubsub::Domain;
+use iox2_runs::{Reply, run};
+use parse::Script;
+use std::alloc::Global;
+use std::io;
+use std::io::{Read, Write};
+use std::process::ExitCode;
+
+/// Runs the script that `input` holds, and writes a line for each reply to `output`. Answers the
+/// exit status:
+///
+/// - 0: all replies are written.
+/// - 2: a line isn't one of a script. Nothing ran, and nothing is written to `output`.
+/// - 3: memory was refused. Nothing is written to `output`.
+/// - 4: `input` or `output` failed.
+///
+/// After any status but 0 a line on `errors` says what was wrong. That it can't be written changes
+/// nothing.
+pub fn script<R: Read, W: Write, E: Write>(
+    alloc: Global,
+    input: &mut R,
+    output: &mut W,
+    errors: &mut E,
+) -> u8
+    ensures status { IsStatus result }
+    ensures printed { result ≡ 0 → PrintsReplies (W.contents output.old) (W.contents output.new) }
+    ensures untouched { (result ≡ 2) ⊎ (result ≡ 3) → output.new ≡ output.old }
+    ensures quiet { result ≡ 0 → errors.new ≡ errors.old }
+{
+    match print_replies(alloc, input, output) {
+        Ok(()) => 0,
+        Err(error) => {
+            let _ = writeln!(errors, "{error}");
+            error.status()
+        }
+    }
+}
+
+fn print_replies<R: Read, W: Write>(
+    alloc: Global,
+    input: &mut R,
+    output: &mut W,
+) -> Result<(), ScriptError>
+    ensures ok { OnOk result (PrintsReplies (W.contents output.old) (W.contents output.new)) }
+    ensures err { IfErr result (λ error. error ≢ OutputFailed → output.new ≡ output.old) }
+{
+    let replies = replies_of(alloc, input)?;
+    let text = print::reply_lines(alloc, &replies)?;
+    let Ok(()) = output.write_all(text.as_bytes()) else {
+        return Err(ScriptError::OutputFailed);
+    };
+    let Ok(()) = output.flush() else {
+        return Err(ScriptError::OutputFailed);
+    };
+    Ok(())
+}
+
+fn replies_of<R: Read>(alloc: Global, input: &mut R) -> Result<Vec<Reply<u64, u64>>, ScriptError> {
+    let text = source::read_to_end(alloc, input)?;
+    let script = Script::parse(alloc, &text)?;
+    let Ok(mut domain) = Domain::new(alloc, script.config) else {
+        return Err(ScriptError::OutOfMemory);
+    };
+    let Ok(replies) = run(alloc, &mut domain, script.commands) else {
+        return Err(ScriptError::OutOfMemory);
+    };
+    Ok(replies)
+}
+
+fn main(rt: HostRuntime) -> ExitCode {
+    let mut output = io::writer(&rt);
+    let status = script(rt.alloc(), &mut rt.stdin(), &mut output, &mut rt.stderr());
+    ExitCode::from(status)
+}

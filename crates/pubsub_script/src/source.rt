@@ -1,0 +1,43 @@
+//! The text of a script.
+ghost use Rattle.std.specs.Prelude.{◌≡◌, IfOk, IfSome};
+ghost use Rattle.pubsub_script.specs.Reading.{MovesBytes};
+
+use crate::failure::ScriptError;
+use std::alloc::Global;
+use std::io::{ErrorKind, Read};
+
+/// All that `input` gives.
+///
+/// `InputFailed` where a read fails, `OutOfMemory` where the text finds no room.
+pub fn read_to_end<R: Read>(alloc: Global, input: &mut R) -> Result<Vec<u8>, ScriptError>
+    ensures { IfOk result (λ text. IfSome (R.remaining input.old) (λ bytes. text.items ≡ bytes)) }
+{
+    let mut text = Vec::new(alloc);
+    for _ in 0..u64::MAX {
+        if read_more(input, &mut text)? {
+            return Ok(text);
+        }
+    }
+    Err(ScriptError::InputFailed)
+}
+
+/// Adds what one read gives to the text, and answers whether the input is at its end. A read that
+/// was interrupted adds nothing.
+fn read_more<R: Read>(input: &mut R, text: &mut Vec<u8>) -> Result<bool, ScriptError>
+    ensures { IfOk result (MovesBytes (R.remaining input.old) (R.remaining input.new) text.old.items text.new.items) }
+{
+    let mut chunk = [0; 1024];
+    match input.read(&mut chunk) {
+        Ok(count) => {
+            text.extend_from_slice(&chunk[..count])?;
+            Ok(count == 0)
+        }
+        Err(error) => {
+            if error.kind() == ErrorKind::Interrupted {
+                Ok(false)
+            } else {
+                Err(ScriptError::InputFailed)
+            }
+        }
+    }
+}

@@ -1,0 +1,276 @@
+mod streams;
+
+use super::script;
+use std::alloc::Global;
+use std::test::Fail;
+use streams::{Dribble, Narrow, NoFlush};
+
+/// What a script comes to.
+#[derive(Drop)]
+struct Outcome {
+    status: u8,
+    replies: Vec<u8>,
+    errors: Vec<u8>,
+}
+
+fn outcome_of(alloc: Global, mut text: &[u8]) -> Outcome {
+    let mut replies = Vec::new(alloc);
+    let mut errors = Vec::new(alloc);
+    let status = script(alloc, &mut text, &mut replies, &mut errors);
+    Outcome {
+        status,
+        replies,
+        errors,
+    }
+}
+
+const WORKED: &[u8] = b"\
+domain 1 1 2 1 0 0 keep
+sub 3
+sub 2
+sub 2
+pub 1 discard
+loan 4
+loan 4
+send 5
+write 5 7
+read 5
+send 5
+recv 2
+read 11
+recv 2
+release 11
+read 11
+";
+
+const WORKED_REPLIES: &[u8] = b"\
+err SubscriberCreateError::BufferSizeExceedsMaxSupportedBufferSizeOfService
+ok
+err SubscriberCreateError::ExceedsMaxSupportedSubscribers
+ok
+ok
+err LoanError::ExceedsMaxLoans
+skipped
+ok
+ok 7
+ok 1
+sample
+ok 7
+none
+ok
+skipped
+";
+
+#[test]
+fn a_message_is_sent_received_and_released(rt: HostRuntime) {
+    let outcome = outcome_of(rt.alloc(), WORKED);
+    assert_eq!(rt; outcome.status, 0);
+    assert_eq!(rt; outcome.replies.as_slice(), WORKED_REPLIES);
+    assert_eq!(rt; outcome.errors.as_slice(), b"".as_slice());
+}
+
+#[test]
+fn a_domain_line_alone_prints_nothing(rt: HostRuntime) {
+    for text in [
+        b"domain 1 1 1 1 0 0 keep\n".as_slice(),
+        b"domain 1 1 1 1 0 0 keep".as_slice(),
+        b"  domain   01 001 0 0 00 18446744073709551615 keep \r\n".as_slice(),
+    ] {
+        let outcome = outcome_of(rt.alloc(), text);
+        assert_eq!(rt; outcome.status, 0, "at {text:?}");
+        assert_eq!(rt; outcome.replies.as_slice(), b"".as_slice());
+        assert_eq!(rt; outcome.errors.as_slice(), b"".as_slice());
+    }
+}
+
+#[test]
+fn the_first_line_is_a_domain_line(rt: HostRuntime) {
+    for text in [
+        b"".as_slice(),
+        b"\n".as_slice(),
+        b"  \n".as_slice(),
+        b"\r\n".as_slice(),
+        b"sub 1\n".as_slice(),
+        b"domain\n".as_slice(),
+        b"domain 1 1 1 1 0 0\n".as_slice(),
+        b"domain 1 1 1 1 0 keep\n".as_slice(),
+        b"domain 1 1 1 1 0 0 keep 0\n".as_slice(),
+        b"domain 1 1 1 1 0 0 Keep\n".as_slice(),
+        b"domain 1 1 1 1 0 0 keep\r".as_slice(),
+        b"domain 1 1 1 1 0 0 keep\r\r\n".as_slice(),
+        b"domain 1 1 x 1 0 0 keep\n".as_slice(),
+        b"domain 1 1 1 -1 0 0 keep\n".as_slice(),
+        b"domain 1 1 1 1 0 18446744073709551616 keep\n".as_slice(),
+        b"domain 1 1 1 1 0 0 k\xC3ep\n".as_slice(),
+        b"\nsub x\n".as_slice(),
+        // What later scripts may ask for.
+        b"domain 2 1 1 1 0 0 keep\n".as_slice(),
+        b"domain 1 0 1 1 0 0 keep\n".as_slice(),
+        b"domain 1 1 1 1 1 0 keep\n".as_slice(),
+        b"domain 1 1 1 1 0 0 overflow\n".as_slice(),
+    ] {
+        let outcome = outcome_of(rt.alloc(), text);
+        assert_eq!(rt; outcome.status, 2, "at {text:?}");
+        assert_eq!(rt; outcome.replies.as_slice(), b"".as_slice());
+        assert_eq!(rt;
+            outcome.errors.as_slice(),
+            b"line 1: bad command\n".as_slice()
+        );
+    }
+}
+
+#[test]
+fn a_malformed_line_is_named(rt: HostRuntime) -> Result<(), Fail> {
+    for line in [
+        b"".as_slice(),
+        b"  ".as_slice(),
+        b"nothing".as_slice(),
+        b"domain 1 1 1 1 0 0 keep".as_slice(),
+        b"sub".as_slice(),
+        b"sub x".as_slice(),
+        b"sub 1 1".as_slice(),
+        b"sub +1".as_slice(),
+        b"sub -1".as_slice(),
+        b"sub 1.0".as_slice(),
+        b"sub 0x1".as_slice(),
+        b"sub 18446744073709551616".as_slice(),
+        b"sub 00000000000000000000018446744073709551616".as_slice(),
+        b"Sub 1".as_slice(),
+        b"sub1".as_slice(),
+        b"sub\t1".as_slice(),
+        b"\tsub 1".as_slice(),
+        b"su\rb 1".as_slice(),
+        b"sub \r1".as_slice(),
+        b"sub 1\r".as_slice(),
+        b"sub 1 \r".as_slice(),
+        b"sub \xFF".as_slice(),
+        b"sub 1\xC2\xA0".as_slice(),
+        b"sub \xD9\xA1".as_slice(),
+        b"sub 1 2 3 4 5 6 7 8".as_slice(),
+        b"pub".as_slice(),
+        b"pub 1".as_slice(),
+        b"pub discard".as_slice(),
+        b"pub 1 discards".as_slice(),
+        b"pub 1 discard 1".as_slice(),
+        b"loan".as_slice(),
+        b"loan 1 1".as_slice(),
+        b"write 1".as_slice(),
+        b"write 1 1 1".as_slice(),
+        b"write 1 18446744073709551616".as_slice(),
+        b"send".as_slice(),
+        b"send 1 1".as_slice(),
+        b"recv".as_slice(),
+        b"recv 1 1".as_slice(),
+        b"read".as_slice(),
+        b"read 1 0".as_slice(),
+        b"release".as_slice(),
+        b"release 1 1".as_slice(),
+        // What later scripts may ask for.
+        b"pub 1 retry".as_slice(),
+        b"copy 1 1".as_slice(),
+        b"has 1".as_slice(),
+        b"discard 1".as_slice(),
+        b"retry 1".as_slice(),
+        b"giveup 1".as_slice(),
+        b"update 1".as_slice(),
+        b"close 1".as_slice(),
+    ] {
+        let mut text = Vec::new(rt.alloc());
+        text.extend_from_slice(b"domain 1 1 1 1 0 0 keep\nsub 1\r\n")?;
+        text.extend_from_slice(line)?;
+        text.extend_from_slice(b"\r\nsub x")?;
+        let outcome = outcome_of(rt.alloc(), text.as_slice());
+        assert_eq!(rt; outcome.status, 2, "at {line:?}");
+        assert_eq!(rt; outcome.replies.as_slice(), b"".as_slice());
+        assert_eq!(rt;
+            outcome.errors.as_slice(),
+            b"line 3: bad command\n".as_slice()
+        );
+    }
+    Ok(())
+}
+
+#[test]
+fn an_unterminated_last_line_keeps_its_carriage_return(rt: HostRuntime) {
+    let outcome = outcome_of(rt.alloc(), b"domain 1 1 1 1 0 0 keep\nloan 0\r");
+    assert_eq!(rt; outcome.status, 2);
+    assert_eq!(rt;
+        outcome.errors.as_slice(),
+        b"line 2: bad command\n".as_slice()
+    );
+}
+
+#[test]
+fn a_number_that_names_nothing_is_skipped(rt: HostRuntime) {
+    for line in [
+        b"domain 1 1 1 1 0 0 keep\nloan 0".as_slice(),
+        b"domain 1 1 1 1 0 0 keep\nloan 1\n".as_slice(),
+        b"domain 1 1 1 1 0 0 keep\n  send   02 \n".as_slice(),
+        b"domain 1 1 1 1 0 0 keep\nrecv 18446744073709551615\r\n".as_slice(),
+        b"domain 1 1 1 1 0 0 keep\nwrite 0 18446744073709551615".as_slice(),
+        b"domain 1 1 1 1 0 0 keep\nread 00000000000000000000000000001".as_slice(),
+        b"domain 1 1 1 1 0 0 keep\nrelease 1".as_slice(),
+    ] {
+        let outcome = outcome_of(rt.alloc(), line);
+        assert_eq!(rt; outcome.status, 0, "at {line:?}");
+        assert_eq!(rt; outcome.replies.as_slice(), b"skipped\n".as_slice());
+        assert_eq!(rt; outcome.errors.as_slice(), b"".as_slice());
+    }
+}
+
+#[test]
+fn a_script_may_come_in_pieces(rt: HostRuntime) {
+    let mut input = Dribble::new(WORKED, None);
+    let mut replies = Vec::new(rt.alloc());
+    let mut errors = Vec::new(rt.alloc());
+    let status = script(rt.alloc(), &mut input, &mut replies, &mut errors);
+    assert_eq!(rt; status, 0);
+    assert_eq!(rt; replies.as_slice(), WORKED_REPLIES);
+    assert_eq!(rt; errors.as_slice(), b"".as_slice());
+}
+
+#[test]
+fn a_fault_of_the_input_comes_first(rt: HostRuntime) {
+    for (text, most) in [
+        (WORKED, 0),
+        (WORKED, 100),
+        (b"bad\n".as_slice(), 2),
+        (b"bad\n".as_slice(), 4),
+    ] {
+        let mut input = Dribble::new(text, Some(most));
+        let mut replies = Vec::new(rt.alloc());
+        let mut errors = Vec::new(rt.alloc());
+        let status = script(rt.alloc(), &mut input, &mut replies, &mut errors);
+        assert_eq!(rt; status, 4, "after {most}");
+        assert_eq!(rt; replies.as_slice(), b"".as_slice());
+        assert_eq!(rt; errors.as_slice(), b"input failed\n".as_slice());
+    }
+}
+
+#[test]
+fn a_fault_of_the_output_ends_the_printing(rt: HostRuntime) {
+    for room in [0, 1, 76, 200] {
+        let mut input = WORKED;
+        let mut output = Narrow::new(room);
+        let mut errors = Vec::new(rt.alloc());
+        let status = script(rt.alloc(), &mut input, &mut output, &mut errors);
+        assert_eq!(rt; status, 4, "with room for {room}");
+        assert_eq!(rt; output.room(), 0);
+        assert_eq!(rt; errors.as_slice(), b"output failed\n".as_slice());
+    }
+    let mut input = WORKED;
+    let mut errors = Vec::new(rt.alloc());
+    let status = script(rt.alloc(), &mut input, &mut NoFlush, &mut errors);
+    assert_eq!(rt; status, 4);
+    assert_eq!(rt; errors.as_slice(), b"output failed\n".as_slice());
+}
+
+#[test]
+fn a_fault_of_the_errors_changes_nothing(rt: HostRuntime) {
+    let mut input = b"bad".as_slice();
+    let mut replies = Vec::new(rt.alloc());
+    let mut errors = Narrow::new(5);
+    let status = script(rt.alloc(), &mut input, &mut replies, &mut errors);
+    assert_eq!(rt; status, 2);
+    assert_eq!(rt; replies.as_slice(), b"".as_slice());
+}
