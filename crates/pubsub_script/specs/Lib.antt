@@ -4,3 +4,5 @@ pub mod Numbers
 pub mod Reading
 pub mod Replies
 pub mod Script
+pub mod ScriptText
+pub mod Words

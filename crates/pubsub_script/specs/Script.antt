@@ -1,13 +1,37 @@
 -- How a script ends.
-use Rattle.std.specs.Prelude.{ℕ, List, Option, ◌≡◌, ◌⊎◌}
+use Rattle.std.specs.Prelude.{ℕ, List, Option, IfSome, ◌≡◌, ◌⊎◌}
 use Rattle.std.specs.Io.KnownBytes.{Appends}
+use Rattle.iox2_store.specs.declared.service_config.ServiceConfig.{ServiceConfig}
+use Rattle.iox2_runs.specs.declared.command.Command.{Command}
 use Rattle.iox2_runs.specs.declared.reply.Reply.{Reply}
 use Rattle.pubsub_script.specs.Replies.{reply_lines}
+use Rattle.pubsub_script.specs.ScriptText.{IsMalformedAt, IsScript}
+use Rattle.pubsub_script.specs.declared.failure.ScriptError.{ScriptError}
+use Rattle.pubsub_script.specs.declared.failure.ScriptError.TheVariants.{BadCommand, OutOfMemory, InputFailed, OutputFailed}
 
 -- The exit status is 0, 2, 3 or 4.
 abbrev pub IsStatus : ℕ → Type 0
 IsStatus status = (status ≡ 0) ⊎ (status ≡ 2) ⊎ (status ≡ 3) ⊎ (status ≡ 4)
 
--- The output grows by lines of replies, and by nothing else.
-abbrev pub PrintsReplies : Option (List ℕ) → Option (List ℕ) → Type 0
-PrintsReplies old new = (replies : List (Reply ℕ ℕ)) × Appends old new (reply_lines replies)
+-- The text is all that the input had left, where that is known.
+abbrev pub IsAllOf : Option (List ℕ) → List ℕ → Type 0
+IsAllOf input text = IfSome input (λ bytes. text ≡ bytes)
+
+-- The input was a script, and these are its replies.
+abbrev pub AreReplies : Option (List ℕ) → List (Reply ℕ ℕ) → Type 0
+AreReplies input replies = (text : List ℕ) × (config : ServiceConfig) × (commands : List (Command ℕ ℕ)) × IsAllOf input text × IsScript text config commands
+
+-- The input was a script, and the output grew by a line for each of its replies, and by nothing else.
+abbrev pub PrintsReplies : (input output output' : Option (List ℕ)) → Type 0
+PrintsReplies input output output' = (replies : List (Reply ℕ ℕ)) × AreReplies input replies × Appends output output' (reply_lines replies)
+
+-- The input was no script: this is its first malformed line.
+abbrev pub IsMalformedInput : Option (List ℕ) → ℕ → Type 0
+IsMalformedInput input line = (text : List ℕ) × IsAllOf input text × IsMalformedAt text line
+
+-- A malformed line is blamed only where it is the first such line of the input.
+abbrev pub IsFailure : Option (List ℕ) → ScriptError → Type 0
+IsFailure input (BadCommand line) = IsMalformedInput input line
+IsFailure input OutOfMemory = Unit {0}
+IsFailure input InputFailed = Unit {0}
+IsFailure input OutputFailed = Unit {0}

@@ -2,9 +2,9 @@
 //! each reply.
 #![tactic(auto)]
 
-ghost use Rattle.std.specs.Prelude.{◌≡◌, ◌≢◌, ◌⊎◌, IfErr, OnOk};
+ghost use Rattle.std.specs.Prelude.{◌≡◌, ◌≢◌, ◌⊎◌, ℕ, IfErr, IfOk, OnOk};
 ghost use Rattle.pubsub_script.specs.declared.failure.ScriptError.TheVariants.{OutputFailed};
-ghost use Rattle.pubsub_script.specs.Script.{IsStatus, PrintsReplies};
+ghost use Rattle.pubsub_script.specs.Script.{AreReplies, IsFailure, IsMalformedInput, IsStatus, PrintsReplies};
 
 mod failure;
 mod lines;
@@ -40,7 +40,8 @@ pub fn script<R: Read, W: Write, E: Write>(
     errors: &mut E,
 ) -> u8
     ensures status { IsStatus result }
-    ensures printed { result ≡ 0 → PrintsReplies (W.contents output.old) (W.contents output.new) }
+    ensures printed { result ≡ 0 → PrintsReplies (R.remaining input.old) (W.contents output.old) (W.contents output.new) }
+    ensures malformed { result ≡ 2 → (line : ℕ) × IsMalformedInput (R.remaining input.old) line }
     ensures untouched { (result ≡ 2) ⊎ (result ≡ 3) → output.new ≡ output.old }
     ensures quiet { result ≡ 0 → errors.new ≡ errors.old }
 {
@@ -58,8 +59,9 @@ fn print_replies<R: Read, W: Write>(
     input: &mut R,
     output: &mut W,
 ) -> Result<(), ScriptError>
-    ensures ok { OnOk result (PrintsReplies (W.contents output.old) (W.contents output.new)) }
-    ensures err { IfErr result (λ error. error ≢ OutputFailed → output.new ≡ output.old) }
+    ensures ok { OnOk result (PrintsReplies (R.remaining input.old) (W.contents output.old) (W.contents output.new)) }
+    ensures err { IfErr result (IsFailure (R.remaining input.old)) }
+    ensures untouched { IfErr result (λ error. error ≢ OutputFailed → output.new ≡ output.old) }
 {
     let replies = replies_of(alloc, input)?;
     let text = print::reply_lines(alloc, &replies)?;
@@ -72,7 +74,10 @@ fn print_replies<R: Read, W: Write>(
     Ok(())
 }
 
-fn replies_of<R: Read>(alloc: Global, input: &mut R) -> Result<Vec<Reply<u64, u64>>, ScriptError> {
+fn replies_of<R: Read>(alloc: Global, input: &mut R) -> Result<Vec<Reply<u64, u64>>, ScriptError>
+    ensures ok { IfOk result (λ replies. AreReplies (R.remaining input.old) replies.items) }
+    ensures err { IfErr result (IsFailure (R.remaining input.old)) }
+{
     let text = source::read_to_end(alloc, input)?;
     let script = Script::parse(alloc, &text)?;
     let Ok(mut domain) = Domain::new(alloc, script.config) else {

@@ -1,7 +1,11 @@
 //! What the lines of a script ask for.
-ghost use Rattle.std.specs.Prelude.{◌≡◌, ◌↔◌, All, IfOk, IfSome, IsSome};
-ghost use Rattle.pubsub_script.specs.Commands.{IsScriptCommand, IsScriptConfig};
-ghost use Rattle.pubsub_script.specs.Numbers.{IsNumber, value_of};
+ghost use Rattle.std.specs.Prelude.{◌≡◌, ◌↔◌, ◌<◌, ℕ, IfErr, IfNone, IfOk, IfSome, IsSome, length};
+ghost use Rattle.iox2_store.specs.declared.service_config.ServiceConfig.{ServiceConfig};
+ghost use Rattle.iox2_runs.specs.declared.command.Command.{Command};
+ghost use Rattle.pubsub_script.specs.Commands.{IsCommandLine, IsDomainLine, NamesCommand, NamesDomain};
+ghost use Rattle.pubsub_script.specs.Numbers.{IsNumber, position_of, value_of};
+ghost use Rattle.pubsub_script.specs.ScriptText.{IsRefused, IsScript};
+ghost use Rattle.pubsub_script.specs.Words.{line_words, texts, words_in};
 
 use crate::failure::ScriptError;
 use crate::lines::Lines;
@@ -26,16 +30,19 @@ impl Script {
     /// `OutOfMemory` where there is no room for the commands, which are counted before any line is
     /// judged. `BadCommand` names the first malformed line; a text without any line has it at 1.
     pub fn parse(alloc: Global, text: &[u8]) -> Result<Script, ScriptError>
-        ensures config { IfOk result (λ script. IsScriptConfig script.config) }
-        ensures commands { IfOk result (λ script. All IsScriptCommand script.commands.items) }
+        ensures ok { IfOk result (λ script. IsScript text.now script.config script.commands.items) }
+        ensures err { IfErr result (IsRefused text.now) }
     {
-        let mut commands = Vec::with_capacity(alloc, Lines::new(text).count())?;
-        let mut lines = Lines::new(text);
-        let Some(config) = lines.next().and_then(parse_domain) else {
+        let mut commands = Vec::with_capacity(alloc, Lines { rest: text }.count())?;
+        let mut lines = Lines { rest: text };
+        let Some(first) = lines.next() else {
+            return Err(ScriptError::BadCommand(1));
+        };
+        let Some(config) = domain_of(first) else {
             return Err(ScriptError::BadCommand(1));
         };
         for line in lines {
-            let Some(command) = parse_command(line) else {
+            let Some(command) = command_of(line) else {
                 return Err(ScriptError::BadCommand(commands.len() + 2));
             };
             commands.push(command)?;
@@ -44,15 +51,37 @@ impl Script {
     }
 }
 
+fn domain_of(line: &[u8]) -> Option<ServiceConfig>
+    ensures reads { IfSome result (NamesDomain line.now) }
+    ensures refuses { IfNone result ((config : ServiceConfig) → ¬ NamesDomain line.now config) }
+{
+    let Ok(text) = str::from_utf8(line) else {
+        return None;
+    };
+    let words = split_words(text)?;
+    parse_domain(&words)
+}
+
+fn command_of(line: &[u8]) -> Option<Command<u64, u64>>
+    ensures reads { IfSome result (NamesCommand line.now) }
+    ensures refuses { IfNone result ((command : Command ℕ ℕ) → ¬ NamesCommand line.now command) }
+{
+    let Ok(text) = str::from_utf8(line) else {
+        return None;
+    };
+    let words = split_words(text)?;
+    parse_command(&words)
+}
+
 /// The settings that a domain line names: `domain P S B R H E keep`.
 ///
 /// Here `P` and `S`, the greatest numbers of publishers and subscribers, are 1, and `H`, the
 /// history size, is 0. `B` is the greatest buffer, `R` the greatest number of borrowed samples, and
 /// `E` the room for departed publishers. `keep` says that a full buffer keeps what it has.
-fn parse_domain(line: &[u8]) -> Option<ServiceConfig>
-    ensures { IfSome result IsScriptConfig }
+fn parse_domain(words: &[&str]) -> Option<ServiceConfig>
+    ensures reads { IfSome result (IsDomainLine (words_in words.now)) }
+    ensures refuses { IfNone result ((config : ServiceConfig) → ¬ IsDomainLine (words_in words.now) config) }
 {
-    let words = split_words(line)?;
     let [
         "domain",
         publishers,
@@ -62,7 +91,7 @@ fn parse_domain(line: &[u8]) -> Option<ServiceConfig>
         history,
         expired,
         "keep",
-    ] = words.as_slice()
+    ] = *words
     else {
         return None;
     };
@@ -88,11 +117,11 @@ fn parse_domain(line: &[u8]) -> Option<ServiceConfig>
 }
 
 /// The command that a line after the first names.
-fn parse_command(line: &[u8]) -> Option<Command<u64, u64>>
-    ensures { IfSome result IsScriptCommand }
+fn parse_command(words: &[&str]) -> Option<Command<u64, u64>>
+    ensures reads { IfSome result (IsCommandLine (words_in words.now)) }
+    ensures refuses { IfNone result ((command : Command ℕ ℕ) → ¬ IsCommandLine (words_in words.now) command) }
 {
-    let words = split_words(line)?;
-    Some(match words.as_slice() {
+    let command = match *words {
         ["pub", loans, "discard"] => Command::CreatePublisher {
             loans: parse_size(loans)?,
             strategy: BackpressureStrategy::DiscardData,
@@ -127,20 +156,24 @@ fn parse_command(line: &[u8]) -> Option<Command<u64, u64>>
             of: parse_name(of)?,
         },
         _ => return None,
-    })
+    };
+    Some(command)
 }
 
 /// The most words that a line has: those of the domain line.
 const MOST_WORDS: usize = 8;
 
-/// The words of a line, which spaces part. None where they are more than any line has, or the line
-/// isn't UTF-8.
-fn split_words(line: &[u8]) -> Option<ArrayVec<&str, MOST_WORDS>> {
-    let line = str::from_utf8(line).ok()?;
+/// The words of a line, which spaces part. None where they are more than any line has.
+fn split_words(line: &str) -> Option<ArrayVec<&str, MOST_WORDS>>
+    ensures splits { IfSome result (λ words. texts words.items ≡ line_words line.now) }
+    ensures refuses { IfNone result (MOST_WORDS < length (line_words line.now)) }
+{
     let mut words = ArrayVec::new();
     for word in line.split(' ') {
         if !word.is_empty() {
-            words.try_push(word).ok()?;
+            let Ok(()) = words.try_push(word) else {
+                return None;
+            };
         }
     }
     Some(words)
@@ -148,7 +181,10 @@ fn split_words(line: &[u8]) -> Option<ArrayVec<&str, MOST_WORDS>> {
 
 /// The position, counted from 0, of the command with this number, counted from 1. 0 names no
 /// command, and neither does the position that it gets: no list is so long.
-fn parse_name(word: &str) -> Option<usize> {
+fn parse_name(word: &str) -> Option<usize>
+    ensures known { IsSome result ↔ IsNumber word.now }
+    ensures value { IfSome result (λ of. of ≡ position_of (value_of word.now)) }
+{
     Some(parse_size(word)?.wrapping_sub(1))
 }
 

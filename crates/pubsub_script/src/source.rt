@@ -1,6 +1,7 @@
 //! The text of a script.
-ghost use Rattle.std.specs.Prelude.{◌≡◌, IfOk, IfSome};
-ghost use Rattle.pubsub_script.specs.Reading.{MovesBytes};
+ghost use Rattle.std.specs.Prelude.{IfErr, IfOk};
+ghost use Rattle.pubsub_script.specs.Reading.{IsReadFailure, MovesBytes};
+ghost use Rattle.pubsub_script.specs.Script.{IsAllOf};
 
 use crate::failure::ScriptError;
 use std::alloc::Global;
@@ -10,7 +11,8 @@ use std::io::{ErrorKind, Read};
 ///
 /// `InputFailed` where a read fails, `OutOfMemory` where the text finds no room.
 pub fn read_to_end<R: Read>(alloc: Global, input: &mut R) -> Result<Vec<u8>, ScriptError>
-    ensures { IfOk result (λ text. IfSome (R.remaining input.old) (λ bytes. text.items ≡ bytes)) }
+    ensures ok { IfOk result (λ text. IsAllOf (R.remaining input.old) text.items) }
+    ensures err { IfErr result IsReadFailure }
 {
     let mut text = Vec::new(alloc);
     for _ in 0..u64::MAX {
@@ -24,7 +26,8 @@ pub fn read_to_end<R: Read>(alloc: Global, input: &mut R) -> Result<Vec<u8>, Scr
 /// Adds what one read gives to the text, and answers whether the input is at its end. A read that
 /// was interrupted adds nothing.
 fn read_more<R: Read>(input: &mut R, text: &mut Vec<u8>) -> Result<bool, ScriptError>
-    ensures { IfOk result (MovesBytes (R.remaining input.old) (R.remaining input.new) text.old.items text.new.items) }
+    ensures ok { IfOk result (MovesBytes (R.remaining input.old) (R.remaining input.new) text.old.items text.new.items) }
+    ensures err { IfErr result IsReadFailure }
 {
     let mut chunk = [0; 1024];
     match input.read(&mut chunk) {

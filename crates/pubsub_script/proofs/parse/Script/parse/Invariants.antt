@@ -1,7 +1,10 @@
--- Each line so far is a command.
-use Rattle.std.proofs.Common.{All}
-use Rattle.pubsub_script.specs.Commands.{IsScriptCommand}
+-- The first line names the settings, and each line so far after it a command.
+use Rattle.std.proofs.Common.{ℕ, ◌≡◌, List, ◌∷◌, ◌++◌}
+use Rattle.std.specs.Str.Lines.{lines}
+use Rattle.pubsub_script.specs.Commands.{NamesDomain}
+use Rattle.pubsub_script.specs.ScriptText.{NamesCommands}
 use Rattle.pubsub_script.proofs.parse.Script.parse.Given as goal
 
 abbrev pub invariant-loop-line : goal.invariant-loop-line
-invariant-loop-line l = All IsScriptCommand l.commands.items
+invariant-loop-line l = (first : List ℕ) × (before : List (List ℕ)) × (lines l.text ≡ first ∷ (before ++ lines l.line-iterator.rest.now))
+    × NamesDomain first l.config × NamesCommands before l.commands.items
