@@ -1,6 +1,6 @@
 -- Lemmas on what a line names.
-use Rattle.std.proofs.Common.{ℕ, ◌≡◌, ◌<◌, List, [], length, Bor, refl, sym, ap, subst, ◌∙◌, arith}
-use Rattle.std.specs.Prelude.{slice_index_or, Option, Some, None, IfSome, IfNone}
+use Rattle.std.proofs.Common.{ℕ, ◌≡◌, ◌<◌, List, [], length, Bor, sym, ap, subst, ◌∙◌, arith}
+use Rattle.std.specs.Prelude.{Option, Some, None, IfSome, IfNone}
 use Rattle.std.specs.Str.{IsUtf8}
 use Rattle.std.proofs.Math.ListN.{get_or-map}
 use Rattle.std.proofs.lemmas.List.{length-map}

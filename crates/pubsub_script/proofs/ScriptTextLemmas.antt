@@ -1,5 +1,5 @@
 -- Lemmas on texts that are scripts.
-use Rattle.std.proofs.Common.{ℕ, zero, suc, ◌<◌, ◌≡◌, ◌+◌, List, [], ◌∷◌, ◌++◌, length, refl, arith}
+use Rattle.std.proofs.Common.{ℕ, zero, suc, ◌≡◌, List, [], ◌∷◌, ◌++◌, length, refl, arith}
 use Rattle.std.specs.List.{All}
 use Rattle.iox2_runs.specs.Supported.{IsSupported}
 use Rattle.iox2_runs.specs.declared.command.Command.{Command}

@@ -1,7 +1,7 @@
-use Rattle.std.proofs.Common.{rules, ◌≡◌, ◌==◌, ◌<◌, ℕ, length, List, refl, sym, ap, ◌∙◌, arith, subst, lit<}
+use Rattle.std.proofs.Common.{◌==◌, ◌<◌, length, refl, subst, lit<}
 use Rattle.std.proofs.lemmas.Iterator.Splits.{YieldsList-from_str_split}
 use Rattle.std.specs.List.{slice_split}
-use Rattle.pubsub_script.specs.Words.{line_words, texts, words_in}
+use Rattle.pubsub_script.specs.Words.{line_words}
 use Rattle.pubsub_script.proofs.WordLemmas.{word-stored, word-refused, piece-left_out, all-stored}
 use Rattle.pubsub_script.proofs.parse.split_words.Goals as goal
 

@@ -1,6 +1,5 @@
-use Rattle.std.proofs.Common.{ℕ, ◌≡◌, ◌∷◌, ◌+◌, ◌-◌, ◌∙◌, ap, sym, length, take, drop, arith}
+use Rattle.std.proofs.Common.{◌+◌, ◌-◌, sym, length, drop, arith}
 use Rattle.std.proofs.lemmas.List.{length-drop, take_all}
-use Rattle.std.specs.Str.Lines.{lines}
 use Rattle.pubsub_script.proofs.LineFeeds.{lines-cons, lines-last}
 use Rattle.pubsub_script.proofs.lines.LinesIterator.next.Goals as goal
 

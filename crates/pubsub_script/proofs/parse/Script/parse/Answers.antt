@@ -1,4 +1,4 @@
-use Rattle.std.proofs.Common.{◌≡◌, ◌+◌, [], ◌∷◌, ◌++◌, length, sym, ap, ◌∙◌, append_assoc, append-nil, inr, arith}
+use Rattle.std.proofs.Common.{[], ◌∷◌, ◌++◌, sym, ap, ◌∙◌, append_assoc, append-nil, inr, arith}
 use Rattle.std.specs.Str.Lines.{lines}
 use Rattle.pubsub_script.proofs.ScriptTextLemmas.{NamesCommands-append, NamesCommands-length}
 use Rattle.pubsub_script.proofs.parse.Script.parse.Goals as goal
