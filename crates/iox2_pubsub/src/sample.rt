@@ -45,7 +45,8 @@ impl Sample {
     pub fn origin(&self) -> UniquePublisherId
         ensures { result ≡ self.now.publisher }
     {
-        self.publisher
+        let Sample { publisher, .. } = self;
+        *publisher
     }
 
     /// The message's value, where each message is a single value.
