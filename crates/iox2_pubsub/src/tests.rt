@@ -4,6 +4,7 @@ ghost use Rattle.iox2_store.specs.declared.service_config.TypeVariant.TheVariant
 mod loans;
 mod payloads;
 mod publishers;
+mod samples;
 mod sends;
 mod subscribers;
 
