@@ -27,14 +27,22 @@ module _ {T U : Type 0} (defaults : Defaults T U) where
 
   -- at the start nothing ran
   pub has_run_none : (domain : Domain T U) → HasRun domain domain [] [] []
-  has_run_none domain = λ m s shown. ([], [], m, s, shown, (refl, refl, refl), record {
-    count = refl;
-    kept = λ i handle entry at. absurd (no_element i handle at);
-    loans_below = λ i n at. absurd (no_element i _ at);
-    loans_apart = λ i j n at. absurd (no_element i _ at);
-    samples_received = λ i p q n at. absurd (no_element i _ at);
-    samples_apart = λ i j p q n at. absurd (no_element i _ at);
-  }) where
+  has_run_none domain = λ m s shown. (
+    [],
+    [],
+    m,
+    s,
+    shown,
+    (refl, refl, refl),
+    record {
+      count = refl;
+      kept = λ i handle entry at. absurd (no_element i handle at);
+      loans_below = λ i n at. absurd (no_element i _ at);
+      loans_apart = λ i j n at. absurd (no_element i _ at);
+      samples_received = λ i p q n at. absurd (no_element i _ at);
+      samples_apart = λ i j p q n at. absurd (no_element i _ at);
+    },
+  ) where
     no_element : (i : ℕ) (handle : Handle) → slice_get [] i ≡ Some handle → ⊥
     no_element i handle at = none-some handle at
 
@@ -49,8 +57,7 @@ module _ {T U : Type 0} (defaults : Defaults T U) where
       let more = run_more fixed_handlers defaults m before.2 s before.3 [] before.1 commands replies before.0 before.5
       comes.default_value comes.default_header comes.is_default_value comes.is_default_header command reply comes.outcome comes.step comes.replied in
       let once = received_once fixed_handlers defaults m (messages_after comes.outcome.event before.2) s comes.outcome.state (before.1 ++ comes.outcome.handle ∷ [])
-      (commands ++ command ∷ []) (replies ++ reply ∷ []) (before.0 ++ comes.outcome.event ∷ []) shown.well_formed more in
-      (
+      (commands ++ command ∷ []) (replies ++ reply ∷ []) (before.0 ++ comes.outcome.event ∷ []) shown.well_formed more in (
         before.0 ++ comes.outcome.event ∷ [],
         before.1 ++ comes.outcome.handle ∷ [],
         messages_after comes.outcome.event before.2,

@@ -16,9 +16,17 @@ module _ {T U : Type 0} (environment : Environment) (defaults : Defaults T U) wh
   pub run_of : (m m' : Messages T U) (s s' : State T U) (handles handles' : List Handle) (commands : List (Command T U)) (replies : List (Reply T U)) (events : List (Event T U))
       → RunTo environment defaults m s handles commands replies events m' s' handles' → RunFrom environment defaults m s handles commands replies events m' s'
   run_of m m' s s' handles handles' [] [] [] h = (h.0, h.1)
-  run_of m m' s s' handles handles' (command ∷ commands) (reply ∷ replies) (event ∷ events) h =
-      (h.0, h.1, h.2, h.3, h.4, h.5, h.6, h.7,
-      run_of (messages_after (h.4).event m) m' (h.4).state s' (handles ++ (h.4).handle ∷ []) handles' commands replies events h.8)
+  run_of m m' s s' handles handles' (command ∷ commands) (reply ∷ replies) (event ∷ events) h = (
+    h.0,
+    h.1,
+    h.2,
+    h.3,
+    h.4,
+    h.5,
+    h.6,
+    h.7,
+    run_of (messages_after (h.4).event m) m' (h.4).state s' (handles ++ (h.4).handle ∷ []) handles' commands replies events h.8,
+  )
   run_of m m' s s' handles handles' [] [] (event ∷ events) h = absurd h
   run_of m m' s s' handles handles' [] (reply ∷ replies) events h = absurd h
   run_of m m' s s' handles handles' (command ∷ commands) [] events h = absurd h
@@ -32,16 +40,31 @@ module _ {T U : Type 0} (environment : Environment) (defaults : Defaults T U) wh
       → RunTo environment defaults m s handles (commands ++ command ∷ []) (replies ++ reply ∷ []) (events ++ o.event ∷ []) (messages_after o.event m') o.state (handles' ++ o.handle ∷ [])
   run_more m m' s s' handles handles' [] [] [] h default_value default_header is_value is_header command reply o step same =
       subst (λ (hs : List Handle). RunTo environment defaults m s handles (command ∷ []) (reply ∷ []) (o.event ∷ []) (messages_after o.event m') o.state (hs ++ o.handle ∷ [])) (sym h.2)
-      (subst (λ (n : Messages T U). RunTo environment defaults m s handles (command ∷ []) (reply ∷ []) (o.event ∷ []) (messages_after o.event n) o.state (handles ++ o.handle ∷ [])) (sym h.0)
-      (default_value, default_header, is_value, is_header, o,
-      subst (λ (n : Messages T U). Step environment default_value default_header n s handles command o) h.0
-      (subst (λ (t : State T U). Step environment default_value default_header m' t handles command o) h.1
-      (subst (λ (hs : List Handle). Step environment default_value default_header m' s' hs command o) h.2 step)),
-      same, refl, (refl, refl, refl)))
-  run_more m m' s s' handles handles' (first ∷ commands) (r ∷ replies) (e ∷ events) h default_value default_header is_value is_header command reply o step same =
-      (h.0, h.1, h.2, h.3, h.4, h.5, h.6, h.7,
-      run_more (messages_after (h.4).event m) m' (h.4).state s' (handles ++ (h.4).handle ∷ []) handles' commands replies events h.8
-      default_value default_header is_value is_header command reply o step same)
+      (subst (λ (n : Messages T U). RunTo environment defaults m s handles (command ∷ []) (reply ∷ []) (o.event ∷ []) (messages_after o.event n) o.state (handles ++ o.handle ∷ [])) (sym h.0) (
+        default_value,
+        default_header,
+        is_value,
+        is_header,
+        o,
+        subst (λ (n : Messages T U). Step environment default_value default_header n s handles command o) h.0
+            (subst (λ (t : State T U). Step environment default_value default_header m' t handles command o) h.1
+            (subst (λ (hs : List Handle). Step environment default_value default_header m' s' hs command o) h.2 step)),
+        same,
+        refl,
+        (refl, refl, refl),
+      ))
+  run_more m m' s s' handles handles' (first ∷ commands) (r ∷ replies) (e ∷ events) h default_value default_header is_value is_header command reply o step same = (
+    h.0,
+    h.1,
+    h.2,
+    h.3,
+    h.4,
+    h.5,
+    h.6,
+    h.7,
+    run_more (messages_after (h.4).event m) m' (h.4).state s' (handles ++ (h.4).handle ∷ []) handles' commands replies events h.8
+        default_value default_header is_value is_header command reply o step same,
+  )
   run_more m m' s s' handles handles' [] [] (e ∷ events) h default_value default_header is_value is_header command reply o step same = absurd h
   run_more m m' s s' handles handles' [] (r ∷ replies) events h default_value default_header is_value is_header command reply o step same = absurd h
   run_more m m' s s' handles handles' (first ∷ commands) [] events h default_value default_header is_value is_header command reply o step same = absurd h

@@ -257,10 +257,12 @@ module _ {T U : Type 0} (defaults : Defaults T U) (Shown : Messages T U → Stat
         replied = refl;
         shown = shown;
         follows = λ once. table_next s s' handles events table w (Loan_handle s.next_message) No_event (Kept_unwritten new_service p s.next_message) table (omega (arith, next.next)) refl
-            (all_still s s' handles events table w (remain_of s s' stay) next.others (λ i p q n _. same_borrowed s s' stay p q n))
-            (ours, refl,
-            ((next.loan, next.there, next.publisher, next.unwritten), (free.0, free.1, free.2 ((named.2).2).2)),
-            (ap (λ (c : ServiceConfig). c.variant) stay.config ∙ single.0, ap (λ (c : ServiceConfig). c.units_per_element) stay.config ∙ single.1))
+            (all_still s s' handles events table w (remain_of s s' stay) next.others (λ i p q n _. same_borrowed s s' stay p q n)) (
+              ours,
+              refl,
+              ((next.loan, next.there, next.publisher, next.unwritten), (free.0, free.1, free.2 ((named.2).2).2)),
+              (ap (λ (c : ServiceConfig). c.variant) stay.config ∙ single.0, ap (λ (c : ServiceConfig). c.units_per_element) stay.config ∙ single.1),
+            )
             (λ n e. let same : s.next_message ≡ n = cc in (omega arith, omega (arith, next.next)))
             (λ p q n e. let clash : Loan_handle s.next_message ≡ Sample_handle p q n = e in absurd (cc)) once;
       }

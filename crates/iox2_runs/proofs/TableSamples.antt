@@ -86,9 +86,9 @@ module _ {T U : Type 0} (environment : Environment) (s : State T U) (q : ℕ) wh
       took mid first loans box b e =
           let borrowed : box.borrowed ≡ (mid.mailboxes p q).borrowed ++ n ∷ [] = ap (λ (v : Mailbox). v.borrowed) b.2 in
           let same : (k : ℕ) → k ≢ n → is_borrowed k box ≡ is_borrowed k (mid.mailboxes p q) = λ k away.
-              ap (λ (ns : List ℕ). contains ns k) borrowed ∙ contains-append (mid.mailboxes p q).borrowed (n ∷ []) k
-              ∙ ap (λ (v : Bool). contains (mid.mailboxes p q).borrowed k || (v || false)) (ne_eqb n k (λ e. away (sym e)))
-              ∙ or_false (contains (mid.mailboxes p q).borrowed k) in
+          ap (λ (ns : List ℕ). contains ns k) borrowed ∙ contains-append (mid.mailboxes p q).borrowed (n ∷ []) k
+          ∙ ap (λ (v : Bool). contains (mid.mailboxes p q).borrowed k || (v || false)) (ne_eqb n k (λ e. away (sym e)))
+          ∙ or_false (contains (mid.mailboxes p q).borrowed k) in
           subst (IsReceived p n) (sym e) (record {
             remain = record { config = first.config; publishers = first.publishers; subscribers = first.subscribers };
             loans = loans;
@@ -228,9 +228,12 @@ module _ {T U : Type 0} (defaults : Defaults T U) (Shown : Messages T U → Stat
             (all_still s s' handles events table w got.remain (λ k _. ap (λ (f : ℕ → Option (Loan T U)). f k) got.loans)
             (λ i p' q' k there. got.others p' q' k (λ e_p e_q e_n.
             let again : slice_get handles i ≡ Some (Sample_handle p q n) = there ∙ ap (λ v. Some (Sample_handle v q' k)) e_p ∙ ap (λ v. Some (Sample_handle p v k)) e_q ∙ ap (λ v. Some (Sample_handle p q v)) e_n in
-            not_again s handles events table w p q n (once p q) i again)))
-            (ours, refl, got.now,
-            (ap (λ (c : ServiceConfig). c.variant) same ∙ single.0, ap (λ (c : ServiceConfig). c.units_per_element) same ∙ single.1))
+            not_again s handles events table w p q n (once p q) i again))) (
+              ours,
+              refl,
+              got.now,
+              (ap (λ (c : ServiceConfig). c.variant) same ∙ single.0, ap (λ (c : ServiceConfig). c.units_per_element) same ∙ single.1),
+            )
             (λ k e. let clash : Sample_handle p q n ≡ Loan_handle k = e in absurd (cc))
             (λ p' q' k e. sample_event T U p p' q q' n k e) once;
       }

@@ -18,7 +18,7 @@ mod samples;
 
 use crate::command::Command;
 use crate::reply::Reply;
-use held::{disown_all, Held};
+use held::{Held, disown_all};
 use iox2_pubsub::Domain;
 use std::alloc::Global;
 

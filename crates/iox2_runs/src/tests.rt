@@ -114,13 +114,22 @@ fn a_message_goes_from_its_loan_to_its_release(rt: HostRuntime) -> Result<(), Fa
         Ok(replies) => replies,
         Err(_) => Vec::new(rt.alloc()),
     };
-    assert_eq!(rt; replies.get(0).copied(), Some(Reply::SubscriberMade(UniqueSubscriberId::new(1))));
-    assert_eq!(rt; replies.get(1).copied(), Some(Reply::PublisherMade(UniquePublisherId::new(2))));
+    assert_eq!(rt;
+        replies.get(0).copied(),
+        Some(Reply::SubscriberMade(UniqueSubscriberId::new(1)))
+    );
+    assert_eq!(rt;
+        replies.get(1).copied(),
+        Some(Reply::PublisherMade(UniquePublisherId::new(2)))
+    );
     assert_eq!(rt; replies.get(2).copied(), Some(Reply::Loaned));
     assert_eq!(rt; replies.get(3).copied(), Some(Reply::Done));
     assert_eq!(rt; replies.get(4).copied(), Some(Reply::Delivered(1)));
     assert_eq!(rt; replies.get(5).copied(), Some(Reply::Skipped));
-    assert_eq!(rt; replies.get(6).copied(), Some(Reply::Sample(UniquePublisherId::new(2))));
+    assert_eq!(rt;
+        replies.get(6).copied(),
+        Some(Reply::Sample(UniquePublisherId::new(2)))
+    );
     assert_eq!(rt; replies.get(7).copied(), Some(Reply::Cell(Some(5))));
     assert_eq!(rt; replies.get(8).copied(), Some(Reply::Done));
     Ok(())

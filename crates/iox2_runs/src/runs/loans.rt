@@ -7,7 +7,7 @@ ghost use Rattle.iox2_runs.specs.Holdings.{Keeps, Carries, defaults_of};
 ghost use Rattle.iox2_runs.specs.declared.command.Command.TheVariants.{LoanUninit, WriteAll, Send};
 ghost use Rattle.iox2_runs.specs.declared.runs.held.Held.TheVariants.{Nothing};
 
-use super::held::{put, take, Held};
+use super::held::{Held, put, take};
 use crate::reply::Reply;
 use iox2_pubsub::{Domain, SendOutcome};
 

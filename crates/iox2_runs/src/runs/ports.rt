@@ -59,9 +59,7 @@ pub(crate) fn create_subscriber<T: Default + Drop, U: Default + Drop>(
 }
 
 // What a creation of a subscriber replies, and what it made.
-fn subscriber_made<T, U>(
-    created: Result<Subscriber, SubscriberCreateError>,
-) -> (Reply<T, U>, Held)
+fn subscriber_made<T, U>(created: Result<Subscriber, SubscriberCreateError>) -> (Reply<T, U>, Held)
     ensures { MatchResult created (λ subscriber. result ≡ (SubscriberMade subscriber.id, HeldSubscriber subscriber)) (λ e. result ≡ (SubscriberRefused e, Nothing)) }
 {
     match created {
