@@ -2,6 +2,10 @@
 use Rattle.std.specs.Prelude.{ℕ, List, Option, IfSome, ◌≡◌, ◌⊎◌}
 use Rattle.std.specs.Io.KnownBytes.{Appends}
 use Rattle.iox2_store.specs.declared.service_config.ServiceConfig.{ServiceConfig}
+use Rattle.iox2_store.specs.Environments.{fixed_handlers}
+use Rattle.iox2_store.specs.State.{State, Messages, fresh, no_messages}
+use Rattle.iox2_runs.specs.Outcomes.{Event}
+use Rattle.iox2_runs.specs.Runs.{Run, only_defaults}
 use Rattle.iox2_runs.specs.declared.command.Command.{Command}
 use Rattle.iox2_runs.specs.declared.reply.Reply.{Reply}
 use Rattle.pubsub_script.specs.Replies.{reply_lines}
@@ -17,9 +21,15 @@ IsStatus status = (status ≡ 0) ⊎ (status ≡ 2) ⊎ (status ≡ 3) ⊎ (stat
 abbrev pub IsAllOf : Option (List ℕ) → List ℕ → Type 0
 IsAllOf input text = IfSome input (λ bytes. text ≡ bytes)
 
--- The input was a script, and these are its replies.
+-- On a new domain with these settings, a run of the commands has these replies.
+abbrev pub RunsTo : ServiceConfig → List (Command ℕ ℕ) → List (Reply ℕ ℕ) → Type 0
+RunsTo config commands replies =
+    (events : List (Event ℕ ℕ)) × (m' : Messages ℕ ℕ) × (s' : State ℕ ℕ) × Run fixed_handlers (only_defaults 0 0) no_messages (fresh config) commands replies events m' s'
+
+-- The input was a script, and these are the replies of a run of its commands.
 abbrev pub AreReplies : Option (List ℕ) → List (Reply ℕ ℕ) → Type 0
-AreReplies input replies = (text : List ℕ) × (config : ServiceConfig) × (commands : List (Command ℕ ℕ)) × IsAllOf input text × IsScript text config commands
+AreReplies input replies =
+    (text : List ℕ) × (config : ServiceConfig) × (commands : List (Command ℕ ℕ)) × IsAllOf input text × IsScript text config commands × RunsTo config commands replies
 
 -- The input was a script, and the output grew by a line for each of its replies, and by nothing else.
 abbrev pub PrintsReplies : (input output output' : Option (List ℕ)) → Type 0
