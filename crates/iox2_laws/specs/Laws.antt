@@ -1,4 +1,4 @@
--- The laws of the machine that its operations don't name.
+-- Laws of single states of the machine, and what no operation lowers.
 use Rattle.std.specs.Prelude.{ℕ, List, length, ◌≡◌, ◌≤◌}
 use Rattle.iox2_store.specs.Numbers.{contains, size, IsOnce}
 use Rattle.iox2_store.specs.State.{State, fresh}

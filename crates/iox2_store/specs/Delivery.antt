@@ -83,8 +83,8 @@ module _ (environment : Environment) (c : ServiceConfig) (p : ℕ) (strategy : B
     elapsed_time = elapsed;
   }
 
-  -- A closed receiver is skipped. One with room, and with safe overflow each, takes the message. For any other the
-  -- handler or the strategy decides.
+  -- A closed receiver is skipped. An open one takes the message where it has room, or where safe overflow is on. Else the
+  -- handler decides, or the strategy where there is no handler.
   abbrev pub Put : (q retries : ℕ) → Duration → (buffer : Option ℕ) → Mailbox → PutResult → Mailbox → Type 0
   Put q retries elapsed None box result box' = (result ≡ Skipped) × (box' ≡ box)
   Put q retries elapsed (Some buffer) box result box' =

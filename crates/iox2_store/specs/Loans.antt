@@ -75,9 +75,10 @@ module _ {T U : Type 0} where
   abbrev pub IsGuaranteed : State T U → (p : ℕ) → Publisher → (len : ℕ) → Type 0
   IsGuaranteed s p x len = (size (held s p x) < x.slots) × (len ≤ known_length x)
 
-  -- Past the limits, a dynamic publisher's loan adds at most one segment, and none where it is guaranteed; any other has
-  -- to fit. It is refused as out of memory only with all segments made, and as an internal failure only where memory is
-  -- refused, no segment fits or the message counter is at its end; a guaranteed one only at the end of the counter.
+  -- Past the limits, a dynamic publisher grants a loan with the segments that it has, or with one more. A guaranteed loan
+  -- needs no further segment, and is refused only where the message counter is at its end. A loan that isn't guaranteed is
+  -- granted only where a segment of its length fits. `OutOfMemory` is answered only where all segments were made, and
+  -- `InternalFailure` only where memory is refused, no segment fits or the counter is at its end.
   abbrev pub DynamicLoan : Environment → (default_header : U) → State T U → (p : ℕ) → Publisher → (len : ℕ) → State T U → Option LoanError → Type 0
   DynamicLoan environment default_header s p x len s' None =
       (s.next_message < last_number) × (IsGuaranteed s p x len ⊎ (segment_fits s.config x.slots len ≡ true)) × (segments : ℕ)

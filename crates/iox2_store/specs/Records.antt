@@ -17,7 +17,7 @@ pub record Entry (T U : Type 0) : Type 0 where
   pub user_header : U
   pub values : List T
 
--- A message that isn't sent yet and lies in its publisher's user's hands. A cell is written or not.
+-- A message that isn't sent yet, which the user of its publisher has. Each of its cells is written or not.
 -- (iceoryx2: `sample_mut_uninit.rs`, `SampleMutUninit`, and `sample_mut.rs`, `SampleMut`.)
 pub record Loan (T U : Type 0) : Type 0 where
   pub publisher : ℕ
