@@ -1,11 +1,10 @@
 -- A domain shows the state that it keeps, with the messages that it keeps.
-use Rattle.std.proofs.Common.{◌≡◌, ℕ, ◌≤◌, ◌<◌, refl, sym, ap, ◌∙◌, arith}
+use Rattle.std.proofs.Common.{◌≡◌, ℕ, ◌≤◌, ◌<◌, refl, arith}
 use Rattle.std.proofs.lemmas.Option.{none-some}
 use Rattle.std.specs.declared.option.Option.{Option}
 use Rattle.std.specs.declared.option.Option.TheVariants.{None, Some}
 use Rattle.std.specs.Option.{option_and_then}
-use Rattle.iox2_store.specs.Records.{Entry, Loan}
-use Rattle.iox2_store.specs.State.{State}
+use Rattle.iox2_store.specs.Records.{Loan}
 use Rattle.iox2_pubsub.specs.Kept.{KeptMessage, Lent_message, Sent_message, loan_in, entry_in, message_numbered, state_of, entries_of}
 use Rattle.iox2_pubsub.specs.Fields.{Fields, kept_of}
 use Rattle.iox2_pubsub.specs.Invariant.{IsDomain}

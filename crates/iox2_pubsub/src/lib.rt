@@ -15,6 +15,12 @@ mod subscriber;
 mod tests;
 
 pub use domain::Domain;
+pub use iox2_store::{
+    AllocationStrategy, BackpressureStrategy, ConnectionFailure, DomainCreateError, Header, Key,
+    LoanError, PublisherCreateError, ReceiveError, SendError, ServiceConfig, SharedMemoryOpenError,
+    SubscriberCreateError, TypeVariant, UniqueNodeId, UniquePublisherId, UniqueSubscriberId,
+    ZeroCopyCreationError,
+};
 pub use port_factory::publisher::PortFactoryPublisher;
 pub use port_factory::subscriber::PortFactorySubscriber;
 pub use publisher::Publisher;
