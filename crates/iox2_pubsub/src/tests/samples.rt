@@ -24,6 +24,8 @@ fn a_sent_message_is_received_read_and_released(rt: HostRuntime) -> Result<(), F
         .publisher_builder()
         .create(&mut domain)
         .expect(&rt, "a publisher");
+    assert_eq!(rt; subscriber.id().value(), 1);
+    assert_eq!(rt; publisher.id().value(), 2);
     let loan = publisher.loan_uninit(&mut domain).expect(&rt, "a loan");
     assert_eq!(rt; domain.config().units_per_element, 1);
     let message = loan.write_payload(&mut domain, Reading { celsius: 21 });
@@ -36,6 +38,8 @@ fn a_sent_message_is_received_read_and_released(rt: HostRuntime) -> Result<(), F
             assert_eq!(rt; domain.config().units_per_element, 1);
             assert_eq!(rt; sample.payload(&domain).celsius, 21);
             assert_eq!(rt; sample.header(&domain).publisher_id, publisher.id());
+            assert_eq!(rt; sample.header(&domain).node_id.value(), 3);
+            assert_eq!(rt; sample.header(&domain).number_of_elements(), 1);
             assert_eq!(rt; sample.origin(), publisher.id());
             let key = sample.key();
             assert_eq!(rt; key.port, subscriber.id().value());
