@@ -19,9 +19,10 @@ use Rattle.iox2_runs.specs.Outcomes.{Handle, Publisher_handle, Subscriber_handle
 use Rattle.iox2_runs.specs.Fills.{is_granted}
 use Rattle.iox2_runs.specs.FillingCommands.{loan_command, sends, rounds, subscriber_filled, subscribers_filled, filling_length}
 use Rattle.iox2_runs.specs.declared.command.Command.{Command}
+use Rattle.iox2_runs.proofs.GrowingLists.{found_earlier}
 use Rattle.iox2_runs.proofs.FillingNumbers.{numbers_from, length-numbers_from, within_numbers_from, IsOnce-numbers_from, ports_from, occupants-ports_from, recent, length-flat_map_each}
 use Rattle.iox2_runs.proofs.FillingRuns.{Leads, leads_append, leads_further}
-use Rattle.iox2_runs.proofs.FillingShape.{filler, IsFilling, handle_kept, handle_new, named_next}
+use Rattle.iox2_runs.proofs.FillingShape.{filler, IsFilling, handle_new, named_next}
 use Rattle.iox2_runs.proofs.FillingLoans.{IsLoaned, loan_step}
 use Rattle.iox2_runs.proofs.FillingUpdates.{IsUpdated, update_step}
 use Rattle.iox2_runs.proofs.FillingPorts.{IsMade, subscriber_step}
@@ -135,7 +136,7 @@ module _ {T U : Type 0} (c : ServiceConfig) (most available : ℕ) (value : T) (
         low = omega (arith, f.apart);
         named = named_next (handles ++ new ∷ []) last (suc position) (position + 2) (omega arith)
             (named_next handles new position (suc position) refl (f.full).named);
-        subscriber = handle_kept (handles ++ new ∷ []) last position (Subscriber_handle (2 + made))
+        subscriber = found_earlier (handles ++ new ∷ []) (last ∷ []) position (Subscriber_handle (2 + made))
             (handle_new handles new position ((f.full).named).count ∙ ap (λ h. Some h) e);
       }
 
@@ -194,7 +195,7 @@ module _ {T U : Type 0} (c : ServiceConfig) (most available : ℕ) (value : T) (
         λ dv' dh' m' o' step' w'.
             let up : IsUpdated c most available o.state sent made boxes new.filling o' =
             update_step c most available o.state sent made boxes new.filling dv' dh' m' (handles ++ o.handle ∷ []) o'
-            (handle_kept handles o.handle 0 (Publisher_handle 1) ((f.full).named).publisher) step' w' in
+            (found_earlier handles (o.handle ∷ []) 0 (Publisher_handle 1) ((f.full).named).publisher) step' w' in
             inr (
               ap is_granted up.reply,
               fills_last sent sent' made f.bound (position + 2) position' position o'.state ((handles ++ o.handle ∷ []) ++ o'.handle ∷ []) e (omega arith) more
@@ -254,7 +255,7 @@ module _ {T U : Type 0} (c : ServiceConfig) (most available : ℕ) (value : T) (
           full = f.full;
           apart = f.apart;
           enough = f.enough;
-          publisher = handle_kept handles o.handle 0 (Publisher_handle 1) f.publisher;
+          publisher = found_earlier handles (o.handle ∷ []) 0 (Publisher_handle 1) f.publisher;
         }),
       ))
       (loan_step c most available s sent out made (ports_from 2 made) false f.boxes f.filling dv dh m handles o units (omega arith) (omega arith) f.publisher

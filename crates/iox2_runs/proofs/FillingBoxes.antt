@@ -10,6 +10,7 @@ use Rattle.iox2_store.specs.declared.service_config.ServiceConfig.{ServiceConfig
 use Rattle.iox2_laws.proofs.Puts.{put_at-other}
 use Rattle.iox2_laws.proofs.NumberLemmas.{contains_in_append, contains_left, contains_right, contains_one, contains_first, contains_later, contains_in_last_n, length-last_n, absent_from, IsOnce-append, contains_in_flat_map}
 use Rattle.iox2_laws.proofs.MailboxLemmas.{contains_in_appended}
+use Rattle.iox2_runs.proofs.GrowingLists.{longer}
 use Rattle.iox2_runs.proofs.FillingNumbers.{numbers_from, within_numbers_from, flat_map_agrees, flat_map_push, recent}
 use Rattle.iox2_runs.proofs.FillingDeliveries.{taken}
 use Rattle.iox2_runs.proofs.FillingReceives.{one_received}
@@ -92,7 +93,7 @@ opening_taken c box least more lent bound n e some later h =
       | true ↦ λ room.
           let low : length box.waiting < buffer_limit c = ltb-true (length box.waiting) (buffer_limit c) room in
           let count : length (with_appended (buffer_limit c) n box).waiting ≡ suc (length box.waiting) =
-          ap (λ b. length (cond b box.waiting (drop 1 box.waiting) ++ n ∷ [])) room ∙ one_longer box.waiting in
+          ap (λ b. length (cond b box.waiting (drop 1 box.waiting) ++ n ∷ [])) room ∙ longer box.waiting n in
           record {
             at_least = omega (arith, h.at_least, count);
             at_most = omega (arith, count);
@@ -103,9 +104,6 @@ opening_taken c box least more lent bound n e some later h =
           let high : buffer_limit c ≤ length box.waiting = ltb-false (length box.waiting) (buffer_limit c) room in
           record { at_least = omega arith; at_most = h.at_most; borrows = h.borrows; above = h.above }
     ] refl
-  where
-    one_longer : (ws : List ℕ) → length (ws ++ n ∷ []) ≡ suc (length ws)
-    one_longer ws = omega (arith, length-append ws (n ∷ []))
 
 -- what is received was there
 received_was_there : (ws bs : List ℕ) (n : ℕ) → contains (drop 1 ws ++ (bs ++ take 1 ws)) n ≡ true → contains (ws ++ bs) n ≡ true

@@ -1,7 +1,6 @@
 -- The states through which the commands lead that fill every slot of a publisher.
-use Rattle.std.proofs.Common.{◌≡◌, ℕ, zero, suc, ◌+◌, ◌-◌, ◌≤◌, ◌<◌, Bool, true, false, cond, List, [], ◌∷◌, ◌++◌, length, refl, sym, ap, subst, ◌∙◌, arith, Option, None, Some, is_none, option_map, option_and_then}
+use Rattle.std.proofs.Common.{◌≡◌, ℕ, suc, ◌+◌, ◌-◌, ◌≤◌, ◌<◌, Bool, true, false, cond, List, [], ◌∷◌, ◌++◌, length, sym, ap, subst, ◌∙◌, arith, Option, None, Some, is_none, option_map, option_and_then}
 use Rattle.std.specs.Prelude.{slice_get, MatchOption}
-use Rattle.std.proofs.lemmas.Option.{none-some}
 use Rattle.std.proofs.lemmas.List.{length-append}
 use Rattle.iox2_store.specs.Limits.{buffer_limit}
 use Rattle.iox2_store.specs.Mailbox.{Mailbox}
@@ -14,6 +13,7 @@ use Rattle.iox2_store.specs.declared.backpressure.BackpressureStrategy.TheVarian
 use Rattle.iox2_store.specs.declared.degradation.DegradationAction.TheVariants.{Warn}
 use Rattle.iox2_runs.specs.Outcomes.{Handle, Publisher_handle, Subscriber_handle, Loan_handle, Outcome}
 use Rattle.iox2_runs.specs.Step.{publisher_at, unblocked_at, subscriber_at, loan_at, unwritten_at, written_at}
+use Rattle.iox2_runs.proofs.GrowingLists.{found_earlier, found_last}
 use Rattle.iox2_runs.proofs.FillingNumbers.{numbers_from, ports_from, recent}
 
 -- the publisher, with that limit of loans and so many slots
@@ -124,22 +124,13 @@ pub record IsNamed (handles : List Handle) (position : ℕ) : Type 0 where
   pub count : length handles ≡ position
   pub publisher : slice_get handles 0 ≡ Some (Publisher_handle 1)
 
--- an earlier handle stays where it is
-pub handle_kept : (handles : List Handle) (new : Handle) (of : ℕ) (h : Handle) → slice_get handles of ≡ Some h → slice_get (handles ++ new ∷ []) of ≡ Some h
-handle_kept [] new of h e = absurd (none-some h e)
-handle_kept (x ∷ xs) new zero h e = e
-handle_kept (x ∷ xs) new (suc of) h e = handle_kept xs new of h e
-
 -- a new handle stands at the command's position
 pub handle_new : (handles : List Handle) (new : Handle) (position : ℕ) → length handles ≡ position → slice_get (handles ++ new ∷ []) position ≡ Some new
-handle_new [] new zero e = refl
-handle_new [] new (suc position) e = absurd (omega arith)
-handle_new (x ∷ xs) new zero e = absurd (omega arith)
-handle_new (x ∷ xs) new (suc position) e = handle_new xs new position (omega arith)
+handle_new handles new position e = subst (λ (i : ℕ). slice_get (handles ++ new ∷ []) i ≡ Some new) e (found_last handles new)
 
 -- one command later
 pub named_next : (handles : List Handle) (new : Handle) (position next : ℕ) → next ≡ suc position → IsNamed handles position → IsNamed (handles ++ new ∷ []) next
 named_next handles new position next e h = record {
   count = omega (arith, length-append handles (new ∷ []), h.count);
-  publisher = handle_kept handles new 0 (Publisher_handle 1) h.publisher;
+  publisher = found_earlier handles (new ∷ []) 0 (Publisher_handle 1) h.publisher;
 }

@@ -12,9 +12,10 @@ use Rattle.iox2_runs.specs.Fills.{is_granted}
 use Rattle.iox2_runs.specs.FillingCommands.{loan_command, sends, rounds}
 use Rattle.iox2_runs.specs.declared.command.Command.{Command}
 use Rattle.iox2_runs.specs.declared.command.Command.TheVariants.{WriteAll, Send, Receive}
+use Rattle.iox2_runs.proofs.GrowingLists.{found_earlier}
 use Rattle.iox2_runs.proofs.FillingNumbers.{ports_from}
 use Rattle.iox2_runs.proofs.FillingRuns.{Leads}
-use Rattle.iox2_runs.proofs.FillingShape.{IsFilling, IsNamed, handle_kept, handle_new, named_next}
+use Rattle.iox2_runs.proofs.FillingShape.{IsFilling, IsNamed, handle_new, named_next}
 use Rattle.iox2_runs.proofs.FillingLoans.{IsLoaned, loan_step, IsWritten, write_step}
 use Rattle.iox2_runs.proofs.FillingDeliveries.{Delivers, taken, delivers_to_none, delivers_to_last}
 use Rattle.iox2_runs.proofs.FillingSends.{IsSent, send_step}
@@ -72,14 +73,14 @@ module _ {T U : Type 0} (c : ServiceConfig) (most available : ℕ) (value : T) (
                   let handles2 : List Handle = handles1 ++ o'.handle ∷ [] in
                   let sent_so : IsSent c most available o'.state sent made boxes wanted wrote.filling delivers o'' =
                   send_step c most available o'.state sent made boxes wanted wrote.filling delivers position (suc sent + 0) dv'' dh'' m'' handles2 o'' (omega arith)
-                  (handle_kept handles1 o'.handle position _ loan1) wrote.loan step'' w'' in
+                  (found_earlier handles1 (o'.handle ∷ []) position _ loan1) wrote.loan step'' w'' in
                   inr (
                     ap is_granted sent_so.reply,
                     next o''.state (handles2 ++ o''.handle ∷ []) sent_so.filling
                         (named_next handles2 o''.handle (position + 2) (position + 3) (omega arith)
                         (named_next handles1 o'.handle (position + 1) (position + 2) (omega arith)
                         (named_next handles o.handle position (position + 1) (omega arith) named)))
-                        (λ of h e. handle_kept handles2 o''.handle of h (handle_kept handles1 o'.handle of h (handle_kept handles o.handle of h e))),
+                        (λ of h e. found_earlier handles2 (o''.handle ∷ []) of h (found_earlier handles1 (o'.handle ∷ []) of h (found_earlier handles (o.handle ∷ []) of h e))),
                   ),
             ),
       ))
@@ -155,7 +156,7 @@ module _ {T U : Type 0} (c : ServiceConfig) (most available : ℕ) (value : T) (
         (opening_received c (f.boxes (2 + made)) 0 lent bound f.opening);
     low = f.low;
     named = named_next handles new position (suc position) refl f.named;
-    subscriber = handle_kept handles new from _ f.subscriber;
+    subscriber = found_earlier handles (new ∷ []) from _ f.subscriber;
   }
 
   pub serving_rounds : (count sent sent' made bound position position' from lent lent' : ℕ) → sent' ≡ sent + count → position' ≡ position + 4 * count

@@ -21,6 +21,7 @@ use Rattle.iox2_runs.specs.declared.command.Command.{Command}
 use Rattle.iox2_runs.specs.declared.command.Command.TheVariants.{Nothing, Receive, HasSamples, Update, Release, Read, ReadHeader, ReadUserHeader, Close}
 use Rattle.iox2_runs.specs.declared.reply.Reply.{Reply}
 use Rattle.iox2_runs.specs.declared.reply.Reply.TheVariants.{PublisherMade, SubscriberMade}
+use Rattle.iox2_runs.proofs.GrowingLists.{found_earlier}
 use Rattle.iox2_runs.proofs.StepLaws.{IsSound, step_sound}
 use Rattle.iox2_runs.proofs.AlikeViews.{View, view_of}
 use Rattle.iox2_runs.proofs.AlikeReceives.{sent_part, IsAlike, alike_equal, alike_sym, alike_trans}
@@ -249,12 +250,6 @@ module _ {T U : Type 0} (default_value : T) (default_header : U) where
 
 -- ---- lists of commands
 
--- the beginning of a list
-front : {X : Type 0} (xs ys : List X) (i : ℕ) (x : X) → slice_get xs i ≡ Some x → slice_get (xs ++ ys) i ≡ Some x
-front [] ys i x e = absurd (none-some x e)
-front (y ∷ xs) ys zero x e = e
-front (y ∷ xs) ys (suc i) x e = front xs ys i x e
-
 -- what is found in a list stands below its length
 found_below : {X : Type 0} (xs : List X) (i : ℕ) (x : X) → slice_get xs i ≡ Some x → i < length xs
 found_below [] i x e = absurd (none-some x e)
@@ -336,7 +331,7 @@ module _ {T U : Type 0} (default_value : T) (default_header : U) (c : ServiceCon
       let awaits : Awaits position q (length handles) (o.reply ∷ later) a.next_port = subst (λ (v : List (Reply T U)). Awaits position q (length handles) v a.next_port) are stand.awaits in
       let one_more : length (handles ++ o.handle ∷ []) ≡ length handles + 1 = length-append handles (o.handle ∷ []) in
       let here : slice_get whole (length handles) ≡ Some command =
-      front beginning after (length handles) command (subst (λ (n : ℕ). slice_get beginning n ≡ Some command) (plus_zero (length handles)) (stand.comes 0 command refl)) in
+      found_earlier beginning after (length handles) command (subst (λ (n : ℕ). slice_get beginning n ≡ Some command) (plus_zero (length handles)) (stand.comes 0 command refl)) in
       let replied : (i : ℕ) (reply : Reply T U) → slice_get (o.reply ∷ later) i ≡ Some reply → slice_get all_replies (length handles + i) ≡ Some reply =
       λ i reply e. stand.replied i reply (ap (λ (v : List (Reply T U)). slice_get v i) are ∙ e) in
       let fits' : Fits b handles' other o' = step_fits default_value default_header m' b handles' other o' k in
@@ -468,7 +463,7 @@ subscribers_are_isolated {T} {U} default_value default_header c position q comma
       handles_seen = refl;
     })
     h k agree in
-    (ends.0, λ i of command here e t. ends.1 i of command (front commands later of (Receive position) here) e t)
+    (ends.0, λ i of command here e t. ends.1 i of command (found_earlier commands later of (Receive position) here) e t)
   where
     zero_plus : (n : ℕ) → n ≡ 0 + n
     zero_plus n = omega arith

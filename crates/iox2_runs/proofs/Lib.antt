@@ -1,3 +1,4 @@
+pub mod GrowingLists
 pub mod Named
 pub mod StepLaws
 pub mod Lift

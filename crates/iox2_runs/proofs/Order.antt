@@ -1,9 +1,8 @@
 -- What a subscriber receives from a publisher is a part of what that publisher sent, in the same order.
-use Rattle.std.proofs.Common.{◌≡◌, ℕ, zero, suc, ◌<◌, true, false, cond, ◌&&◌, not, List, [], ◌∷◌, ◌++◌, refl, sym, ap, subst, ◌∙◌, arith, eqb, ltb, Some}
-use Rattle.std.specs.Prelude.{slice_get}
+use Rattle.std.proofs.Common.{◌≡◌, ℕ, ◌<◌, true, false, cond, ◌&&◌, not, List, [], ◌∷◌, ◌++◌, refl, sym, ap, subst, ◌∙◌, arith, eqb, ltb, ⊎_elim}
 use Rattle.std.proofs.lemmas.Bool.{true≢false, eqb-true, eq-eqb, ne_eqb, ltb-true, ltb-false}
 use Rattle.std.proofs.lemmas.List.{append-nil}
-use Rattle.std.proofs.lemmas.Option.{none-some, same_Some}
+use Rattle.std.proofs.lemmas.Option.{none-some}
 use Rattle.iox2_store.specs.Numbers.{put_at, is_nil, IsOnce}
 use Rattle.iox2_store.specs.Mailbox.{Mailbox, has_numbers}
 use Rattle.iox2_store.specs.Records.{Environment}
@@ -17,21 +16,12 @@ use Rattle.iox2_runs.specs.Runs.{Defaults, any_defaults, Run, sent, received, Is
 use Rattle.iox2_runs.specs.RunLaws.{ReceivesInOrder}
 use Rattle.iox2_runs.specs.declared.command.Command.{Command}
 use Rattle.iox2_runs.specs.declared.reply.Reply.{Reply}
+use Rattle.iox2_runs.proofs.GrowingLists.{old_or_last}
 use Rattle.iox2_runs.proofs.StepLaws.{IsSound, step_sound}
 use Rattle.iox2_runs.proofs.RunInduction.{Past, no_past, past_with, run_induction}
 use Rattle.iox2_runs.proofs.Subsequences.{IsSubsequence-nil, IsSubsequence-same, IsSubsequence-trans, IsSubsequence-front, once_part}
 use Rattle.iox2_runs.proofs.Ordered.{Ordered}
 use Rattle.iox2_runs.proofs.OrderCommands.{IsNew, AllNew, out_after, got_then, Goes, command_goes}
-
--- ---- lists that grow at the end
-
--- a further element of a list is the last, or it was there before
-found_last : {A : Type 0} (xs : List A) (x : A) (P : A → Type 0) → ((i : ℕ) (a : A) → slice_get xs i ≡ Some a → P a) → P x → (i : ℕ) (a : A)
-    → slice_get (xs ++ x ∷ []) i ≡ Some a → P a
-found_last [] x P old new zero a e = subst P (same_Some x a e) new
-found_last [] x P old new (suc i) a e = absurd (none-some a e)
-found_last (y ∷ xs) x P old new zero a e = old zero a e
-found_last (y ∷ xs) x P old new (suc i) a e = found_last xs x P (λ j. old (suc j)) new i a e
 
 -- a list that grows where the keys agree
 grows : (f : ℕ → List ℕ) (p n i : ℕ) → f i ++ cond (eqb p i) (n ∷ []) [] ≡ put_at f p (f p ++ n ∷ []) i
@@ -146,7 +136,7 @@ module _ {T U : Type 0} where
           ordered = ordered_same p0 n0 (out_after (λ p. sent p past.events) o.event) (λ p. sent p (past.events ++ o.event ∷ []))
               (got_then (λ p q. received p q past.events) o.event) (λ p q. received p q (past.events ++ o.event ∷ [])) o.state
               (sent_after past.events o.event) (received_after past.events o.event) goes.ordered;
-          handles_new = found_last past.handles o.handle (IsNew p0 n0) k.handles_new goes.handle;
+          handles_new = λ i handle e. ⊎_elim (λ old. k.handles_new i handle old) (λ new. subst (IsNew p0 n0) new.1 goes.handle) (old_or_last past.handles o.handle i handle e);
         }
 
     -- What was received is a part of what was sent.

@@ -27,11 +27,15 @@ use Rattle.iox2_laws.proofs.Cases.{by_option, by_bool}
 use Rattle.iox2_laws.proofs.Puts.{at_each}
 use Rattle.iox2_runs.proofs.MailboxWalks.{sender_side_keeps, receiver_side_keeps, deliver_keeps}
 
--- Publishers stay, and no send of theirs is blocked where none was; open subscribers stay open; and what is borrowed is what was.
-pub record PortsStay {T U : Type 0} (s s' : State T U) : Type 0 where
+-- Publishers stay, and no send of theirs is blocked where none was; open subscribers stay open.
+pub record Remain {T U : Type 0} (s s' : State T U) : Type 0 where
   pub config : s'.config ≡ s.config
   pub publishers : (p : ℕ) (x : Publisher) → s.publishers p ≡ Some x → (x' : Publisher) × (s'.publishers p ≡ Some x') × (x.blocked ≡ None → x'.blocked ≡ None)
   pub subscribers : (q : ℕ) (y : Subscriber) → s.subscribers q ≡ Some y → y.is_open ≡ true → (y' : Subscriber) × (s'.subscribers q ≡ Some y') × (y'.is_open ≡ true)
+
+-- The ports remain so, and what is borrowed is what was.
+pub record PortsStay {T U : Type 0} (s s' : State T U) : Type 0 where
+  pub remain : Remain s s'
   pub borrowed : (p q : ℕ) → (s'.mailboxes p q).borrowed ≡ (s.mailboxes p q).borrowed
 
 -- the mailbox has what was borrowed there
@@ -62,13 +66,15 @@ put_subscriber subscribers i z stays q y e o =
 
 module _ {T U : Type 0} where
   pub ports_stay_themselves : (s : State T U) → PortsStay s s
-  ports_stay_themselves s = record { config = refl; publishers = λ p x e. (x, e, λ free. free); subscribers = λ q y e o. (y, e, o); borrowed = λ p q. refl }
+  ports_stay_themselves s = record { remain = record { config = refl; publishers = λ p x e. (x, e, λ free. free); subscribers = λ q y e o. (y, e, o) }; borrowed = λ p q. refl }
 
   pub ports_stay_trans : (s s' s'' : State T U) → PortsStay s s' → PortsStay s' s'' → PortsStay s s''
   ports_stay_trans s s' s'' a b = record {
-    config = b.config ∙ a.config;
-    publishers = λ p x e. let v = a.publishers p x e in let u = b.publishers p v.0 v.1 in (u.0, u.1, λ free. u.2 (v.2 free));
-    subscribers = λ q y e o. let v = a.subscribers q y e o in b.subscribers q v.0 v.1 v.2;
+    remain = record {
+      config = (b.remain).config ∙ (a.remain).config;
+      publishers = λ p x e. let v = (a.remain).publishers p x e in let u = (b.remain).publishers p v.0 v.1 in (u.0, u.1, λ free. u.2 (v.2 free));
+      subscribers = λ q y e o. let v = (a.remain).subscribers q y e o in (b.remain).subscribers q v.0 v.1 v.2;
+    };
     borrowed = λ p q. b.borrowed p q ∙ a.borrowed p q;
   }
 
@@ -84,9 +90,11 @@ module _ {T U : Type 0} where
       sender_side_keeps (SameBorrowed (s.mailboxes p)) (λ i box same. same) environment (s.config).service_id p x.degradation_handler x.history
       (receiving_buffer s) (has_receiver_end s p) (λ i buffer box same. same) s.subscriber_places (sender_side s p x) h.0 failure (λ i. refl) h.1 in
       subst (PortsStay s) (sym h.2) (record {
-        config = refl;
-        publishers = put_publisher s.publishers p (record x { ends = (h.0).ends; is_due = false }) (λ z e. same_publisher s.publishers p x z present e);
-        subscribers = λ q y e o. (y, e, o);
+        remain = record {
+          config = refl;
+          publishers = put_publisher s.publishers p (record x { ends = (h.0).ends; is_due = false }) (λ z e. same_publisher s.publishers p x z present e);
+          subscribers = λ q y e o. (y, e, o);
+        };
         borrowed = λ i q. at_each s.mailboxes p (h.0).mailboxes (λ i row. (row q).borrowed ≡ (s.mailboxes i q).borrowed) i (λ _. are q) (λ _. refl);
       }))
       (λ _ h. subst (PortsStay s) (sym h.0) (ports_stay_themselves s)))
@@ -101,10 +109,12 @@ module _ {T U : Type 0} where
       receiver_side_keeps (SameBorrowed (λ p. s.mailboxes p q)) (λ i box same. same) environment (s.config).service_id q y.degradation_handler (expired_limit s.config)
       (λ p. has_sender_end s p q) s.publisher_places (receiver_side s q y) h.0 failure (λ i. refl) h.1 in
       subst (PortsStay s) (sym h.2) (record {
-        config = refl;
-        publishers = λ p x e. (x, e, λ free. free);
-        subscribers = put_subscriber s.subscribers q (record y { ends = (h.0).ends; expired = (h.0).expired; is_due = (h.0).is_due })
-            (λ z e o. ap (λ (v : Subscriber). v.is_open) (same_Some y z (sym present ∙ e)) ∙ o);
+        remain = record {
+          config = refl;
+          publishers = λ p x e. (x, e, λ free. free);
+          subscribers = put_subscriber s.subscribers q (record y { ends = (h.0).ends; expired = (h.0).expired; is_due = (h.0).is_due })
+              (λ z e o. ap (λ (v : Subscriber). v.is_open) (same_Some y z (sym present ∙ e)) ∙ o);
+        };
         borrowed = λ p i. at_each (s.mailboxes p) q ((h.0).mailboxes p) (λ i box. box.borrowed ≡ (s.mailboxes p i).borrowed) i (λ _. are p) (λ _. refl);
       }))
       (λ _ h. subst (PortsStay s) (sym h.0) (ports_stay_themselves s)))
@@ -113,21 +123,25 @@ module _ {T U : Type 0} where
 
   pub warning_stays : (s : State T U) (warning : ConnectionFailure → Warning) (failure : Option ConnectionFailure) → PortsStay s (with_failure_warning s warning failure)
   warning_stays s warning None = ports_stay_themselves s
-  warning_stays s warning (Some failure) = record { config = refl; publishers = λ p x e. (x, e, λ free. free); subscribers = λ q y e o. (y, e, o); borrowed = λ p q. refl }
+  warning_stays s warning (Some failure) = record { remain = record { config = refl; publishers = λ p x e. (x, e, λ free. free); subscribers = λ q y e o. (y, e, o) }; borrowed = λ p q. refl }
 
   new_publisher_stays : (s : State T U) (given : PublisherSettings) (place : ℕ) → PortsStay s (with_new_publisher s given place)
   new_publisher_stays s given place = record {
-    config = refl;
-    publishers = put_publisher s.publishers s.next_port (new_publisher s given place) (λ x e free. refl);
-    subscribers = λ q y e o. (record y { is_due = true }, ap (option_map {T = Subscriber} (λ z. record z { is_due = true })) e, o);
+    remain = record {
+      config = refl;
+      publishers = put_publisher s.publishers s.next_port (new_publisher s given place) (λ x e free. refl);
+      subscribers = λ q y e o. (record y { is_due = true }, ap (option_map {T = Subscriber} (λ z. record z { is_due = true })) e, o);
+    };
     borrowed = λ p q. refl;
   }
 
   new_subscriber_stays : (s : State T U) (given : SubscriberSettings) (place : ℕ) → PortsStay s (with_new_subscriber s given place)
   new_subscriber_stays s given place = record {
-    config = refl;
-    publishers = λ p x e. (record x { is_due = true }, ap (option_map {T = Publisher} (λ z. record z { is_due = true })) e, λ free. free);
-    subscribers = put_subscriber s.subscribers s.next_port (new_subscriber given place) (λ y e o. refl);
+    remain = record {
+      config = refl;
+      publishers = λ p x e. (record x { is_due = true }, ap (option_map {T = Publisher} (λ z. record z { is_due = true })) e, λ free. free);
+      subscribers = put_subscriber s.subscribers s.next_port (new_subscriber given place) (λ y e o. refl);
+    };
     borrowed = λ p q. refl;
   }
 
@@ -169,22 +183,26 @@ module _ {T U : Type 0} where
 
   granted_stays : (default_header : U) (s : State T U) (p : ℕ) (x : Publisher) → s.publishers p ≡ Some x → (len segments : ℕ) → PortsStay s (loan_granted default_header s p x len segments)
   granted_stays default_header s p x present len segments = record {
-    config = refl;
-    publishers = put_publisher s.publishers p (record x { loans = x.loans ++ s.next_message ∷ []; longest_granted = max x.longest_granted len; segments = segments }) (λ z e. same_publisher s.publishers p x z present e);
-    subscribers = λ q y e o. (y, e, o);
+    remain = record {
+      config = refl;
+      publishers = put_publisher s.publishers p (record x { loans = x.loans ++ s.next_message ∷ []; longest_granted = max x.longest_granted len; segments = segments }) (λ z e. same_publisher s.publishers p x z present e);
+      subscribers = λ q y e o. (y, e, o);
+    };
     borrowed = λ p q. refl;
   }
 
   pub loan_set_stays : (s : State T U) (n : ℕ) (l : Option (Loan T U)) → PortsStay s (with_loan s n l)
-  loan_set_stays s n l = record { config = refl; publishers = λ p x e. (x, e, λ free. free); subscribers = λ q y e o. (y, e, o); borrowed = λ p q. refl }
+  loan_set_stays s n l = record { remain = record { config = refl; publishers = λ p x e. (x, e, λ free. free); subscribers = λ q y e o. (y, e, o) }; borrowed = λ p q. refl }
 
   -- a publisher that may be there is changed
   pub publisher_changed_stays : (s : State T U) (i : ℕ) (f : Publisher → Publisher) → ((x : Publisher) → x.blocked ≡ None → (f x).blocked ≡ None) → PortsStay s (publisher_changed s i f)
   publisher_changed_stays s i f stays = record {
-    config = refl;
-    publishers = λ p x e. at_each s.publishers i (option_map f (s.publishers i)) (λ k o. s.publishers k ≡ Some x → (x' : Publisher) × (o ≡ Some x') × (x.blocked ≡ None → x'.blocked ≡ None)) p
-        (λ here old. (f x, ap (option_map f) old, stays x)) (λ apart old. (x, old, λ free. free)) e;
-    subscribers = λ q y e o. (y, e, o);
+    remain = record {
+      config = refl;
+      publishers = λ p x e. at_each s.publishers i (option_map f (s.publishers i)) (λ k o. s.publishers k ≡ Some x → (x' : Publisher) × (o ≡ Some x') × (x.blocked ≡ None → x'.blocked ≡ None)) p
+          (λ here old. (f x, ap (option_map f) old, stays x)) (λ apart old. (x, old, λ free. free)) e;
+      subscribers = λ q y e o. (y, e, o);
+    };
     borrowed = λ p q. refl;
   }
 
@@ -205,9 +223,11 @@ module _ {T U : Type 0} where
       (λ i buffer box same. same) retries elapsed place ends count has_failed (s.mailboxes p) h.0 h.1 (λ q. refl) h.2).0 in
       let mid : State T U = with_mailboxes s p h.1 in
       let first : PortsStay s mid = record {
-        config = refl;
-        publishers = λ p x e. (x, e, λ free. free);
-        subscribers = λ q y e o. (y, e, o);
+        remain = record {
+          config = refl;
+          publishers = λ p x e. (x, e, λ free. free);
+          subscribers = λ q y e o. (y, e, o);
+        };
         borrowed = λ i q. at_each s.mailboxes p h.1 (λ i row. (row q).borrowed ≡ (s.mailboxes i q).borrowed) i (λ _. are q) (λ _. refl);
       } in
       ports_stay_trans s mid s' first (concluded_stays mid p n h.0 s' result free h.3))

@@ -1,7 +1,7 @@
 -- What a run has reached: what it sent is kept, what it holds was sent, and its handles name what it made.
-use Rattle.std.proofs.Common.{◌≡◌, ℕ, zero, suc, ◌≤◌, ◌<◌, Bool, true, false, cond, List, [], ◌∷◌, ◌++◌, length, refl, sym, ap, subst, ◌∙◌, arith, eqb, Some, ◌⊎◌, inl, inr, ⊎_elim}
-use Rattle.std.specs.Prelude.{slice_get, ◌==◌, ◌&&◌}
-use Rattle.std.proofs.lemmas.Option.{none-some, same_Some}
+use Rattle.std.proofs.Common.{◌≡◌, ℕ, suc, ◌≤◌, ◌<◌, Bool, true, false, cond, List, [], ◌∷◌, ◌++◌, refl, sym, ap, subst, ◌∙◌, arith, eqb, Some, ◌⊎◌, inl, inr, ⊎_elim}
+use Rattle.std.specs.Prelude.{◌==◌, ◌&&◌}
+use Rattle.std.proofs.lemmas.Option.{none-some}
 use Rattle.std.proofs.lemmas.Bool.{eq-eqb, or_parts}
 use Rattle.iox2_store.specs.Numbers.{put_at, contains, IsOnce}
 use Rattle.iox2_store.specs.Records.{Entry, Environment}
@@ -15,36 +15,11 @@ use Rattle.iox2_runs.specs.Step.{Step}
 use Rattle.iox2_runs.specs.Runs.{received}
 use Rattle.iox2_runs.specs.RunLaws.{WasSent}
 use Rattle.iox2_runs.specs.declared.command.Command.{Command}
+use Rattle.iox2_runs.proofs.GrowingLists.{old_or_last}
 use Rattle.iox2_runs.proofs.StepLaws.{IsSound, step_sound}
 use Rattle.iox2_runs.proofs.Owned.{IsOwn, AreOwn}
 use Rattle.iox2_runs.proofs.Follows.{IsTraced}
 use Rattle.iox2_runs.proofs.ReadSteps.{Past, scope_of, past_after, IsTold, step_told}
-
--- ---- lists that grow at their end
-
--- what is found in the longer list was there, or it is the last
-pub found_in_longer : {A : Type 0} (xs : List A) (x : A) (k : ℕ) (a : A) → slice_get (xs ++ x ∷ []) k ≡ Some a
-    → (slice_get xs k ≡ Some a) ⊎ ((k ≡ length xs) × (x ≡ a))
-found_in_longer [] x zero a e = inr (refl, same_Some x a e)
-found_in_longer [] x (suc k) a e = absurd (none-some a e)
-found_in_longer (y ∷ xs) x zero a e = inl e
-found_in_longer (y ∷ xs) x (suc k) a e = ⊎_elim (λ old. inl old) (λ new. inr (ap suc new.0, new.1)) (found_in_longer xs x k a e)
-
--- what was found stays where it is
-pub found_earlier : {A : Type 0} (xs : List A) (x : A) (k : ℕ) (a : A) → slice_get xs k ≡ Some a → slice_get (xs ++ x ∷ []) k ≡ Some a
-found_earlier [] x k a e = absurd (none-some a e)
-found_earlier (y ∷ xs) x zero a e = e
-found_earlier (y ∷ xs) x (suc k) a e = found_earlier xs x k a e
-
--- the last stands behind all others
-pub found_last : {A : Type 0} (xs : List A) (x : A) → slice_get (xs ++ x ∷ []) (length xs) ≡ Some x
-found_last [] x = refl
-found_last (y ∷ xs) x = found_last xs x
-
--- the list is one longer
-pub longer : {A : Type 0} (xs : List A) (x : A) → length (xs ++ x ∷ []) ≡ suc (length xs)
-longer [] x = refl
-longer (y ∷ xs) x = ap suc (longer xs x)
 
 -- no number is below one that isn't above it
 not_below : {a b : ℕ} → a ≤ b → b < a → ⊥
@@ -146,7 +121,7 @@ module _ {T U : Type 0} where
       messages = omega (arith, reached.messages, a.next_message);
       traced = told.traced;
       own = λ k handle e. ⊎_elim (λ old. reached.own k handle old) (λ new. subst (IsOwn past.first_port past.first_message) new.1 told.own)
-          (found_in_longer handles o.handle k handle e);
+          (old_or_last handles o.handle k handle e);
       below = λ p n entry w. ⊎_elim (λ old. let low : n < s.next_message = reached.below p n entry old in omega (arith, a.next_message))
           (λ new. sound.sent_below p n entry new) w;
       kept = kept_after past m o.event reached.kept (λ p n entry e. (told.sent p n entry e).0);

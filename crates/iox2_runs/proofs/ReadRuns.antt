@@ -19,7 +19,8 @@ use Rattle.iox2_runs.specs.declared.command.Command.{Command}
 use Rattle.iox2_runs.specs.declared.command.Command.TheVariants.{Read, ReadHeader, ReadUserHeader, Release}
 use Rattle.iox2_runs.specs.declared.reply.Reply.{Reply}
 use Rattle.iox2_runs.specs.declared.reply.Reply.TheVariants.{Skipped, Sample, Cell, Header, UserHeader}
-use Rattle.iox2_runs.proofs.Reached.{found_in_longer, found_earlier, found_last, longer, rest_absent, rest_once, received_first, HasReached, started, start, told, goes_on, sent_in_all}
+use Rattle.iox2_runs.proofs.GrowingLists.{old_or_last, found_earlier, found_last, longer}
+use Rattle.iox2_runs.proofs.Reached.{rest_absent, rest_once, received_first, HasReached, started, start, told, goes_on, sent_in_all}
 use Rattle.iox2_runs.proofs.ReadSteps.{Past, past_after, IsSpared, IsTold}
 
 module _ {T U : Type 0} where
@@ -143,9 +144,9 @@ module _ {T U : Type 0} where
       held_reads environment defaults (past_after past (h.4).event) (messages_after (h.4).event m) (h.4).state
       (handles ++ (h.4).handle ∷ []) commands replies events m' s'
       (goes_on environment h.0 h.1 past m s handles reached command h.4 h.5) h.8 at p q n entry (inl sent)
-      (found_earlier handles (h.4).handle at (Sample_handle p q n) named)
+      (found_earlier handles ((h.4).handle ∷ []) at (Sample_handle p q n) named)
       (λ k e. ⊎_elim (λ old. only k old)
-      (λ new. absurd (again p q n event events (sym h.7 ∙ tells.sampled p q n new.1) never)) (found_in_longer handles (h.4).handle k (Sample_handle p q n) e))
+      (λ new. absurd (again p q n event events (sym h.7 ∙ tells.sampled p q n new.1) never)) (old_or_last handles (h.4).handle k (Sample_handle p q n) e))
       (rest_absent p q n event events never) (tells.borrowed p q n spared held)
       i (λ j low e. unreleased (suc j) (omega arith) e)
   held_reads environment defaults past m s handles _ _ _ m' s' reached h at p q n entry sent named only never held i unreleased = absurd h
@@ -202,7 +203,7 @@ module _ {T U : Type 0} where
             (handles ++ (h.4).handle ∷ []) commands replies events m' s'
             (goes_on environment h.0 h.1 past m s handles reached command h.4 h.5) h.8 at p q n (got.0).0 (inl (got.0).1) last
             (λ k f. ⊎_elim (λ old. absurd (again p q n event events this (never p q n k old))) (λ new. new.0 ∙ sym here)
-            (found_in_longer handles (h.4).handle k (Sample_handle p q n) f))
+            (old_or_last handles (h.4).handle k (Sample_handle p q n) f))
             (once_only p q n event events this (once p q)) got.2),
       )
   reads_from environment defaults past m s handles (command ∷ commands) (reply ∷ replies) (event ∷ events) m' s' reached h never once
@@ -213,7 +214,7 @@ module _ {T U : Type 0} where
       (handles ++ (h.4).handle ∷ []) commands replies events m' s'
       (goes_on environment h.0 h.1 past m s handles reached command h.4 h.5) h.8
       (λ p q n k f. ⊎_elim (λ old. rest_absent p q n event events (never p q n k old))
-      (λ new. once_only p q n event events (sym h.7 ∙ tells.sampled p q n new.1) (once p q)) (found_in_longer handles (h.4).handle k (Sample_handle p q n) f))
+      (λ new. once_only p q n event events (sym h.7 ∙ tells.sampled p q n new.1) (once p q)) (old_or_last handles (h.4).handle k (Sample_handle p q n) f))
       (λ p q. rest_once p q event events (once p q))
       of at p q n (omega (arith, longer handles (h.4).handle)) e in
       (rest.0, sent_in_all past p n rest.0 (h.4).event event (take of events) h.7 rest.1, reads_later command commands reply replies at of rest.0 rest.2)

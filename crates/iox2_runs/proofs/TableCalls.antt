@@ -23,7 +23,7 @@ use Rattle.iox2_runs.specs.declared.command.Command.TheVariants.{Nothing, WriteA
 use Rattle.iox2_runs.specs.declared.reply.Reply.{Reply}
 use Rattle.iox2_runs.specs.declared.reply.Reply.TheVariants.{Done, Skipped, Delivered}
 use Rattle.iox2_runs.proofs.PortsStay.{PortsStay, ports_stay_themselves, send_stays, loan_set_stays}
-use Rattle.iox2_runs.proofs.TableSteps.{Remain, table_next, all_still, others_still}
+use Rattle.iox2_runs.proofs.TableSteps.{table_next, all_still, others_still}
 use Rattle.iox2_runs.proofs.TableLooks.{Lacks, is_unwritten, is_written, lacks_unwritten, lacks_written, handle_of, has_unwritten, has_written}
 
 -- a fact by cases, in one of the two
@@ -37,10 +37,6 @@ pub set_length : {A : Type 0} (xs : List A) (i : ℕ) (x : A) → length (slice_
 set_length [] i x = refl
 set_length (y ∷ xs) zero x = refl
 set_length (y ∷ xs) (suc i) x = ap suc (set_length xs i x)
-
--- the ports remain
-pub remain_of : {T U : Type 0} (s s' : State T U) → PortsStay s s' → Remain s s'
-remain_of s s' stay = record { config = stay.config; publishers = stay.publishers; subscribers = stay.subscribers }
 
 -- what is borrowed is what was
 pub same_borrowed : {T U : Type 0} (s s' : State T U) → PortsStay s s' → (p q n : ℕ) → is_borrowed n (s'.mailboxes p q) ≡ is_borrowed n (s.mailboxes p q)
@@ -63,7 +59,7 @@ module _ {T U : Type 0} (defaults : Defaults T U) (Shown : Messages T U → Stat
     replied = refl;
     shown = shown;
     follows = λ once. table_next s s' handles events table w No_handle No_event Nothing_kept table rises refl
-        (all_still s s' handles events table w (remain_of s s' stay) loans (λ i p q n _. same_borrowed s s' stay p q n))
+        (all_still s s' handles events table w stay.remain loans (λ i p q n _. same_borrowed s s' stay p q n))
         tt (λ n e. let clash : No_handle ≡ Loan_handle n = e in absurd (cc)) (λ p q n e. let clash : No_handle ≡ Sample_handle p q n = e in absurd (cc)) once;
   }
 
@@ -99,7 +95,7 @@ module _ {T U : Type 0} (defaults : Defaults T U) (Shown : Messages T U → Stat
         replied = refl;
         shown = shown l found.3;
         follows = λ once. table_next s s' handles events table w No_handle No_event Nothing_kept (slice_set table of (Kept_written service p n)) (omega arith) (set_length table of (Kept_written service p n))
-            (others_still s s' handles events table w (remain_of s s' stay) of named.0 (Kept_written service p n) named.1
+            (others_still s s' handles events table w stay.remain of named.0 (Kept_written service p n) named.1
             ((named.2).0, (named.2).1, ((written l value, put_at-same s.loans n (Some (written l value)), found.4, refl), ((named.2).2).1), (named.2).3)
             (λ k low other. put_at-other s.loans n (Some (written l value)) k (ne_eqb k n (λ e. other ((named.2).1 ∙ ap Loan_handle (sym e)))))
             (λ i p q n _ _. refl))
@@ -134,7 +130,7 @@ module _ {T U : Type 0} (defaults : Defaults T U) (Shown : Messages T U → Stat
         replied = refl;
         shown = shown;
         follows = λ once. table_next s s' handles events table w No_handle (Message_sent l.publisher n (entry_of l)) Nothing_kept (slice_set table of Nothing_kept) rises (set_length table of Nothing_kept)
-            (others_still s s' handles events table w (remain_of s s' stay) of named.0 Nothing_kept named.1
+            (others_still s s' handles events table w stay.remain of named.0 Nothing_kept named.1
             (subst (IsSpent s') (sym (named.2).1) (ap (λ (f : ℕ → Option (Loan T U)). f n) loans ∙ put_at-same s.loans n None))
             (λ k low other. ap (λ (f : ℕ → Option (Loan T U)). f k) loans ∙ put_at-other s.loans n None k (ne_eqb k n (λ e. other ((named.2).1 ∙ ap Loan_handle (sym e)))))
             (λ i p q n _ _. same_borrowed s s' stay p q n))

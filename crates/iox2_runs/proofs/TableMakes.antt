@@ -39,7 +39,7 @@ use Rattle.iox2_runs.specs.declared.reply.Reply.TheVariants.{Skipped, PublisherM
 use Rattle.iox2_runs.proofs.PortsStay.{PortsStay, update_publisher_stays, update_subscriber_stays, warning_stays, create_publisher_stays, create_subscriber_stays, grant_loan_stays, ports_stay_trans}
 use Rattle.iox2_runs.proofs.TableSteps.{table_next, all_still}
 use Rattle.iox2_runs.proofs.TableLooks.{Lacks, is_publisher, lacks_publisher, has_publisher, handle_of}
-use Rattle.iox2_runs.proofs.TableCalls.{remain_of, same_borrowed, quiet_comes, skip_comes, at_none, at_some}
+use Rattle.iox2_runs.proofs.TableCalls.{same_borrowed, quiet_comes, skip_comes, at_none, at_some}
 
 module _ {T U : Type 0} (environment : Environment) (s : State T U) where
   -- a publisher that was made is there, and free
@@ -54,7 +54,7 @@ module _ {T U : Type 0} (environment : Environment) (s : State T U) where
           let new : State T U = with_new_publisher s given place in
           let stay : PortsStay new s' = subst (PortsStay new) (sym i.3)
           (ports_stay_trans new i.0 _ (update_publisher_stays environment new s.next_port i.0 i.1 i.2) (warning_stays i.0 (PublisherPartlyConnected s.next_port) i.1)) in
-          let v = stay.publishers s.next_port (new_publisher s given place) (put_at-same s.publishers s.next_port (Some (new_publisher s given place))) in
+          let v = (stay.remain).publishers s.next_port (new_publisher s given place) (put_at-same s.publishers s.next_port (Some (new_publisher s given place))) in
           (v.0, v.1, v.2 refl)
 
   -- a subscriber that was made is there, and open
@@ -73,7 +73,7 @@ module _ {T U : Type 0} (environment : Environment) (s : State T U) where
           let new : State T U = with_new_subscriber s given place in
           let stay : PortsStay new s' = subst (PortsStay new) (sym i.3)
           (ports_stay_trans new i.0 _ (update_subscriber_stays environment new s.next_port i.0 i.1 i.2) (warning_stays i.0 (SubscriberPartlyConnected s.next_port) i.1)) in
-          stay.subscribers s.next_port (new_subscriber given place) (put_at-same s.subscribers s.next_port (Some (new_subscriber given place))) refl
+          (stay.remain).subscribers s.next_port (new_subscriber given place) (put_at-same s.subscribers s.next_port (Some (new_subscriber given place))) refl
 
   -- a loan that was granted is the next number's, and nothing else changed of the loans
   pub record IsNextLoan (p : ℕ) (s' : State T U) : Type 0 where
@@ -141,7 +141,7 @@ module _ {T U : Type 0} (defaults : Defaults T U) (Shown : Messages T U → Stat
     replied = refl;
     shown = shown;
     follows = λ once. table_next s s' handles events table w handle No_event entry table rises refl
-        (all_still s s' handles events table w (remain_of s s' stay) (λ n _. ap (λ (f : ℕ → Option (Loan T U)). f n) loans) (λ i p q n _. same_borrowed s s' stay p q n))
+        (all_still s s' handles events table w stay.remain (λ n _. ap (λ (f : ℕ → Option (Loan T U)). f n) loans) (λ i p q n _. same_borrowed s s' stay p q n))
         new (λ n e. absurd (no_loan n e)) (λ p q n e. absurd (no_sample p q n e)) once;
   }
 
@@ -247,7 +247,7 @@ module _ {T U : Type 0} (defaults : Defaults T U) (Shown : Messages T U → Stat
       let named = handle_of s handles events table w of (Kept_publisher service p) at in
       let stay : PortsStay s s' = grant_loan_stays fixed_handlers header false 1 s p s' None h in
       let next : IsNextLoan fixed_handlers s p s' = loan_next fixed_handlers s header false 1 p s' h in
-      let free = stay.publishers p ((named.2).2).0 ((named.2).2).1 in record {
+      let free = (stay.remain).publishers p ((named.2).2).0 ((named.2).2).1 in record {
         default_value = default_value;
         default_header = header;
         is_default_value = is_default_value;
@@ -257,11 +257,11 @@ module _ {T U : Type 0} (defaults : Defaults T U) (Shown : Messages T U → Stat
         replied = refl;
         shown = shown;
         follows = λ once. table_next s s' handles events table w (Loan_handle s.next_message) No_event (Kept_unwritten new_service p s.next_message) table (omega (arith, next.next)) refl
-            (all_still s s' handles events table w (remain_of s s' stay) next.others (λ i p q n _. same_borrowed s s' stay p q n)) (
+            (all_still s s' handles events table w stay.remain next.others (λ i p q n _. same_borrowed s s' stay p q n)) (
               ours,
               refl,
               ((next.loan, next.there, next.publisher, next.unwritten), (free.0, free.1, free.2 ((named.2).2).2)),
-              (ap (λ (c : ServiceConfig). c.variant) stay.config ∙ single.0, ap (λ (c : ServiceConfig). c.units_per_element) stay.config ∙ single.1),
+              (ap (λ (c : ServiceConfig). c.variant) (stay.remain).config ∙ single.0, ap (λ (c : ServiceConfig). c.units_per_element) (stay.remain).config ∙ single.1),
             )
             (λ n e. let same : s.next_message ≡ n = cc in (omega arith, omega (arith, next.next)))
             (λ p q n e. let clash : Loan_handle s.next_message ≡ Sample_handle p q n = e in absurd (cc)) once;

@@ -26,8 +26,8 @@ use Rattle.iox2_runs.specs.declared.command.Command.TheVariants.{Receive as Rece
 use Rattle.iox2_runs.specs.declared.reply.Reply.{Reply}
 use Rattle.iox2_runs.specs.declared.reply.Reply.TheVariants.{Done, Skipped, Sample as SampleReply}
 use Rattle.iox2_runs.proofs.TableLooks.{Lacks, is_subscriber, is_sample, lacks_subscriber, lacks_sample, has_subscriber, has_sample, handle_of}
-use Rattle.iox2_runs.proofs.PortsStay.{PortsStay, ports_stay_themselves, update_subscriber_stays}
-use Rattle.iox2_runs.proofs.TableSteps.{Remain, table_next, all_still, others_still, not_again}
+use Rattle.iox2_runs.proofs.PortsStay.{PortsStay, Remain, ports_stay_themselves, update_subscriber_stays}
+use Rattle.iox2_runs.proofs.TableSteps.{table_next, all_still, others_still, not_again}
 use Rattle.iox2_runs.proofs.TableCalls.{same_borrowed, quiet_comes, skip_comes, at_none, at_some, set_length}
 
 -- ---- what changes of what is borrowed
@@ -90,7 +90,7 @@ module _ {T U : Type 0} (environment : Environment) (s : State T U) (q : ℕ) wh
           ∙ ap (λ (v : Bool). contains (mid.mailboxes p q).borrowed k || (v || false)) (ne_eqb n k (λ e. away (sym e)))
           ∙ or_false (contains (mid.mailboxes p q).borrowed k) in
           subst (IsReceived p n) (sym e) (record {
-            remain = record { config = first.config; publishers = first.publishers; subscribers = first.subscribers };
+            remain = record { config = (first.remain).config; publishers = (first.remain).publishers; subscribers = (first.remain).subscribers };
             loans = loans;
             now = this_borrowed mid p q n box n ∙ ap (λ (ns : List ℕ). contains ns n) borrowed ∙ contains_right (mid.mailboxes p q).borrowed (n ∷ []) n (contains_first n []);
             others = λ i j k other. others_borrowed mid p q n box same i j k other ∙ same_borrowed s mid first i j k;

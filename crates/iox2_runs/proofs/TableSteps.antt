@@ -1,35 +1,19 @@
 -- What a run keeps of what its commands made, after one command more.
-use Rattle.std.proofs.Common.{◌≡◌, ℕ, Bool, zero, suc, ◌≤◌, ◌<◌, true, false, List, [], ◌∷◌, ◌++◌, length, refl, sym, ap, subst, ◌∙◌, None, Some, ◌⊎◌, inl, inr, ⊎_elim, arith}
+use Rattle.std.proofs.Common.{◌≡◌, ℕ, Bool, zero, suc, ◌≤◌, ◌<◌, true, false, List, [], ◌∷◌, ◌++◌, length, refl, sym, ap, subst, ◌∙◌, Some, ◌⊎◌, inl, inr, ⊎_elim, arith}
 use Rattle.std.specs.Prelude.{◌≢◌, slice_get, slice_set}
 use Rattle.std.proofs.lemmas.Bool.{true≢false, eq-eqb, cases_eq}
-use Rattle.std.proofs.lemmas.Option.{none-some, same_Some, slice_get_within}
+use Rattle.std.proofs.lemmas.Option.{same_Some, slice_get_within}
 use Rattle.iox2_store.specs.Numbers.{contains, IsOnce}
 use Rattle.iox2_store.specs.Mailbox.{is_borrowed}
-use Rattle.iox2_store.specs.Records.{Publisher, Subscriber}
 use Rattle.iox2_store.specs.State.{State}
 use Rattle.iox2_store.specs.declared.service_config.ServiceConfig.{ServiceConfig}
 use Rattle.iox2_runs.specs.Outcomes.{Handle, No_handle, Publisher_handle, Subscriber_handle, Loan_handle, Blocked_handle, Sample_handle, Event, Message_received}
 use Rattle.iox2_runs.specs.Runs.{received}
 use Rattle.iox2_runs.specs.Tables.{Kept, Nothing_kept, Kept_publisher, Kept_subscriber, Kept_unwritten, Kept_written, Kept_sample, IsFree, HasLoan, IsSingle, IsKept, IsTable}
 use Rattle.iox2_laws.proofs.NumberLemmas.{IsOnce-apart, contains_left, contains_right, contains_first}
+use Rattle.iox2_runs.proofs.GrowingLists.{old_or_last, longer}
+use Rattle.iox2_runs.proofs.PortsStay.{Remain}
 use Rattle.iox2_runs.proofs.Order.{received-append}
-
--- a further element of a list is one of the old ones or the last
-pub old_or_last : {A : Type 0} (xs : List A) (x : A) (i : ℕ) (a : A) → slice_get (xs ++ x ∷ []) i ≡ Some a → (slice_get xs i ≡ Some a) ⊎ ((i ≡ length xs) × (x ≡ a))
-old_or_last [] x zero a e = inr (refl, same_Some x a e)
-old_or_last [] x (suc i) a e = absurd (none-some a e)
-old_or_last (y ∷ xs) x zero a e = inl e
-old_or_last (y ∷ xs) x (suc i) a e = ⊎_elim (λ old. inl old) (λ last. inr (ap suc last.0, last.1)) (old_or_last xs x i a e)
-
-longer : {A : Type 0} (xs : List A) (x : A) → length (xs ++ x ∷ []) ≡ suc (length xs)
-longer [] x = refl
-longer (y ∷ xs) x = ap suc (longer xs x)
-
--- Publishers and open subscribers remain.
-pub record Remain {T U : Type 0} (s s' : State T U) : Type 0 where
-  pub config : s'.config ≡ s.config
-  pub publishers : (p : ℕ) (x : Publisher) → s.publishers p ≡ Some x → (x' : Publisher) × (s'.publishers p ≡ Some x') × (x.blocked ≡ None → x'.blocked ≡ None)
-  pub subscribers : (q : ℕ) (y : Subscriber) → s.subscribers q ≡ Some y → y.is_open ≡ true → (y' : Subscriber) × (s'.subscribers q ≡ Some y') × (y'.is_open ≡ true)
 
 module _ {T U : Type 0} (s s' : State T U) (remain : Remain s s') where
   same : {service : ℕ} → service ≡ (s.config).service_id → service ≡ (s'.config).service_id
