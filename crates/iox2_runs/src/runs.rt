@@ -22,6 +22,20 @@ use held::{Held, disown_all};
 use iox2_pubsub::Domain;
 use std::alloc::Global;
 
+// There is a default value of the type.
+fn has_default<T: Default + Drop>()
+    ensures { (value : T) × T.is_default value }
+{
+    T::default();
+}
+
+// There is a state that the domain shows.
+fn shows_a_state<T: Drop, U: Default + Drop>(domain: &Domain<T, U>)
+    ensures { (m : Messages T U) × (s : State T U) × Shows domain.now m s }
+{
+    domain.config();
+}
+
 // Carries out one command, and answers what it made too.
 fn carry_out<T: Copy + Default + Drop, U: Copy + Default + Drop>(
     domain: &mut Domain<T, U>,
@@ -76,9 +90,11 @@ pub fn run<T: Copy + Default + Drop, U: Copy + Default + Drop>(
     let Ok(mut table) = Vec::with_capacity(alloc, commands.len()) else {
         return Err(commands);
     };
-    let default_value = T::default();
-    let default_header = U::default();
-    domain.config();
+    // The proof of the loop rests on these facts: a step names default values, and what the table
+    // holds is live in a state that the domain shows.
+    has_default::<T>();
+    has_default::<U>();
+    shows_a_state(domain);
     for command in &commands {
         let (reply, made) = carry_out(domain, &mut table, *command);
         replies.push_reserved(reply);

@@ -27,7 +27,7 @@ carry_out-reply-requires-clause-supported g c =
 pub carry_out-reply-requires-clause-keeps : goal.carry_out-reply-requires-clause-keeps
 carry_out-reply-requires-clause-keeps g c =
     still_keeps {T = g.row.T.Denot} {U = g.row.U.Denot} (defaults_of g.T.Default.is_default g.U.Default.is_default) c.args.domain.now c.loop-command.domain _ _ c.loop-command.table.items
-    c.config.ensures.shown.0 _ c.config.ensures.shown.1 c.loop-command.invariant.ran
+    c.shows_a_state.ensures.0 c.shows_a_state.ensures.1 c.shows_a_state.ensures.2 c.loop-command.invariant.ran
 
 pub push_reserved-requires-in-loop-command : goal.push_reserved-requires-in-loop-command
 push_reserved-requires-in-loop-command g c =
@@ -45,7 +45,7 @@ loop-command-preserved g c =
       ran = rw (more, c.push_reserved.ensures.items, c.push_reserved-in-loop-command.ensures.items)
           (has_run_more {T = g.row.T.Denot} {U = g.row.U.Denot} (defaults_of g.T.Default.is_default g.U.Default.is_default) c.args.domain.now c.loop-command.domain c.carry_out-reply.new.domain
           (take i xs) c.loop-command.replies.items c.loop-command.table.items c.carry_out-reply.new.table.items x c.carry_out-reply.result.0 c.carry_out-reply.result.1
-          c.loop-command.invariant.ran c.carry_out-reply.ensures.carries c.default-default_value.result c.default-default_header.result c.default-default_value.ensures c.default-default_header.ensures);
+          c.loop-command.invariant.ran c.carry_out-reply.ensures.carries c.has_default.ensures.0 c.has_default-2.ensures.0 c.has_default.ensures.1 c.has_default-2.ensures.1);
       made = omega (arith, c.push_reserved-in-loop-command.ensures.len, c.carry_out-reply.ensures.room.len, c.loop-command.invariant.made);
       replied = omega (arith, c.push_reserved.ensures.len, c.loop-command.invariant.replied);
       room = omega (arith, c.push_reserved-in-loop-command.ensures.capacity, c.carry_out-reply.ensures.room.capacity, c.loop-command.invariant.room);
