@@ -5,11 +5,11 @@ use Rattle.std.specs.declared.option.Option.{Option}
 use Rattle.std.specs.declared.option.Option.TheVariants.{None, Some}
 use Rattle.std.specs.Option.{option_and_then}
 use Rattle.iox2_store.specs.Records.{Loan}
-use Rattle.iox2_pubsub.specs.Kept.{KeptMessage, Lent_message, Sent_message, loan_in, entry_in, message_numbered, state_of, entries_of}
-use Rattle.iox2_pubsub.specs.Fields.{Fields, kept_of}
-use Rattle.iox2_pubsub.specs.Invariant.{IsDomain}
-use Rattle.iox2_pubsub.specs.Shows.{Shows}
-use Rattle.iox2_pubsub.proofs.Messages.{message_numbered-there, has_number}
+use Rattle.iox2_domain.specs.Kept.{KeptMessage, Lent_message, Sent_message, loan_in, entry_in, message_numbered, state_of, entries_of}
+use Rattle.iox2_domain.specs.Fields.{Fields, kept_of}
+use Rattle.iox2_domain.specs.Invariant.{IsDomain}
+use Rattle.iox2_domain.specs.Shows.{Shows}
+use Rattle.iox2_domain.proofs.Messages.{message_numbered-there, has_number}
 
 module _ {T U : Type 0} (f : Fields T U) (sound : IsDomain f) where
   -- what is kept has a number that was given out

@@ -11,11 +11,11 @@ use Rattle.iox2_store.specs.State.{fresh, no_messages}
 use Rattle.iox2_store.specs.declared.service_config.ServiceConfig.{ServiceConfig}
 use Rattle.iox2_ends.specs.LookUp.{IsOnly}
 use Rattle.iox2_laws.proofs.Enough.{fresh_is_well_formed}
-use Rattle.iox2_pubsub.specs.Fields.{Fields, kept_of}
-use Rattle.iox2_pubsub.specs.Invariant.{IsDomain, IsLinked, HasBooks, IsNumbered, IsSupported, HasOnlyOpenPorts}
-use Rattle.iox2_pubsub.specs.FreshFields.{IsFresh}
+use Rattle.iox2_domain.specs.Fields.{Fields, kept_of}
+use Rattle.iox2_domain.specs.Invariant.{IsDomain, IsLinked, HasBooks, IsNumbered, IsSupported, HasOnlyOpenPorts}
+use Rattle.iox2_domain.specs.FreshFields.{IsFresh}
 use Rattle.iox2_store.specs.Shows.{In_history, In_mailbox, In_blocked_send}
-use Rattle.iox2_pubsub.specs.Shows.{Shows, KeepsEntries}
+use Rattle.iox2_domain.specs.Shows.{Shows, KeepsEntries}
 
 -- at no place of an empty list stands anything
 nothing_at : {A : Type 0} (i : ℕ) (x : A) → slice_index_or {A = Option A} [] i None ≡ Some x → ⊥

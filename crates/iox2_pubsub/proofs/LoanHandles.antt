@@ -7,15 +7,15 @@ use Rattle.iox2_store.specs.State.{State, Messages, with_loan}
 use Rattle.iox2_store.specs.Loans.{written}
 use Rattle.iox2_store.specs.SingleCalls.{HoldsLoan}
 use Rattle.iox2_laws.proofs.Puts.{found_put}
-use Rattle.iox2_pubsub.specs.Kept.{Kept, state_of}
-use Rattle.iox2_pubsub.specs.Fields.{Fields, kept_of}
+use Rattle.iox2_domain.specs.Kept.{Kept, state_of}
+use Rattle.iox2_domain.specs.Fields.{Fields, kept_of}
 use Rattle.iox2_pubsub.specs.Handles.{IsUnwrittenLoanHandle, IsWrittenLoanHandle}
 use Rattle.iox2_store.specs.declared.header.Header.{Header}
-use Rattle.iox2_pubsub.specs.Invariant.{IsDomain}
-use Rattle.iox2_pubsub.specs.LoanCalls.{HoldsUnwritten, HoldsWritten, HasLoanHeader, WritesLoan}
-use Rattle.iox2_pubsub.specs.Reaches.{Reaches}
-use Rattle.iox2_pubsub.specs.Shows.{Shows}
-use Rattle.iox2_pubsub.proofs.ReachesShows.{reaches-shows}
+use Rattle.iox2_domain.specs.Invariant.{IsDomain}
+use Rattle.iox2_domain.specs.LoanCalls.{HoldsUnwritten, HoldsWritten, HasLoanHeader, WritesLoan}
+use Rattle.iox2_domain.specs.Reaches.{Reaches}
+use Rattle.iox2_domain.specs.Shows.{Shows}
+use Rattle.iox2_domain.proofs.ReachesShows.{reaches-shows}
 
 module _ {T U : Type 0} (inside kept : Kept T U) (view : inside ≡ kept) where
   -- what holds of the state that is kept holds of each that is shown

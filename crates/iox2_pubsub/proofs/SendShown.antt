@@ -11,10 +11,10 @@ use Rattle.iox2_store.specs.Sends.{Send, Delivered_to}
 use Rattle.iox2_store.specs.State.{State, Messages}
 use Rattle.iox2_laws.proofs.Puts.{put_at-same, put_at-other}
 use Rattle.iox2_laws.proofs.SendLaws.{send_advances}
-use Rattle.iox2_pubsub.specs.Fields.{Fields, kept_of}
-use Rattle.iox2_pubsub.specs.Kept.{state_of}
-use Rattle.iox2_pubsub.specs.SendCalls.{SendsLoan}
-use Rattle.iox2_pubsub.specs.Shows.{Shows}
+use Rattle.iox2_domain.specs.Fields.{Fields, kept_of}
+use Rattle.iox2_domain.specs.Kept.{state_of}
+use Rattle.iox2_domain.specs.SentLoans.{SendsLoan}
+use Rattle.iox2_domain.specs.Shows.{Shows}
 
 module _ {T U : Type 0} (f g : Fields T U) (n count : ℕ) (sends : SendsLoan f g n count) (m : Messages T U) (s : State T U) (l : Loan T U)
     (shown : Shows (kept_of f) m s) (out : s.loans n ≡ Some l) where

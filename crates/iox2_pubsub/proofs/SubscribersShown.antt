@@ -6,13 +6,13 @@ use Rattle.iox2_store.specs.Ports.{buffer_for, CreateSubscriber}
 use Rattle.iox2_store.specs.Records.{SubscriberSettings}
 use Rattle.iox2_store.specs.State.{State, Messages}
 use Rattle.iox2_store.specs.declared.errors.SubscriberCreateError.{SubscriberCreateError}
-use Rattle.iox2_pubsub.specs.Kept.{Kept, state_of}
-use Rattle.iox2_pubsub.specs.Fields.{Fields, kept_of}
+use Rattle.iox2_domain.specs.Kept.{Kept, state_of}
+use Rattle.iox2_domain.specs.Fields.{Fields, kept_of}
 use Rattle.iox2_pubsub.specs.Handles.{IsSubscriberHandle}
-use Rattle.iox2_pubsub.specs.Reaches.{Reaches}
-use Rattle.iox2_pubsub.specs.Shows.{Shows}
-use Rattle.iox2_pubsub.proofs.ReachesShows.{reaches-shows-same}
-use Rattle.iox2_pubsub.proofs.SubscriberCreations.{create-keeps, create-open}
+use Rattle.iox2_domain.specs.Reaches.{Reaches}
+use Rattle.iox2_domain.specs.Shows.{Shows}
+use Rattle.iox2_domain.proofs.ReachesShows.{reaches-shows-same}
+use Rattle.iox2_domain.proofs.SubscriberCreations.{create-keeps, create-open}
 
 module _ {T U : Type 0} (old new : Fields T U) (before : Kept T U) (is_before : kept_of old ≡ before) where
   was : (m : Messages T U) (s : State T U) → Shows before m s → Shows (kept_of old) m s

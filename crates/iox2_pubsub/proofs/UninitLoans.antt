@@ -14,17 +14,17 @@ use Rattle.iox2_store.specs.declared.errors.LoanError.{LoanError}
 use Rattle.iox2_ends.specs.LookUp.{look_up}
 use Rattle.iox2_store.specs.declared.key.Key.{Key}
 use Rattle.iox2_pubsub.specs.Handles.{IsPublisherHandle, IsUnwrittenLoanHandle, IsLoanKey}
-use Rattle.iox2_pubsub.specs.Ports.{PublisherFields}
-use Rattle.iox2_pubsub.specs.Kept.{Kept, Named, state_of, is_named}
-use Rattle.iox2_pubsub.specs.Fields.{Fields, kept_of, publisher_of, contents_at}
-use Rattle.iox2_pubsub.specs.Invariant.{is_publisher}
-use Rattle.iox2_pubsub.specs.Lending.{LoanReaches, LoanCall}
-use Rattle.iox2_pubsub.specs.LoanSlots.{LiesInSlot}
-use Rattle.iox2_pubsub.specs.Shows.{Shows}
-use Rattle.iox2_pubsub.proofs.Containers.{look_up-map}
-use Rattle.iox2_pubsub.proofs.Messages.{message_in-parts}
-use Rattle.iox2_pubsub.proofs.ReachesShows.{reaches-shows, reaches-shows-same}
-use Rattle.iox2_pubsub.proofs.RecountedState.{loan-publisher}
+use Rattle.iox2_domain.specs.Ports.{PublisherFields}
+use Rattle.iox2_domain.specs.Kept.{Kept, Named, state_of, is_named}
+use Rattle.iox2_domain.specs.Fields.{Fields, kept_of, publisher_of, contents_at}
+use Rattle.iox2_domain.specs.Invariant.{is_publisher}
+use Rattle.iox2_domain.specs.Lending.{LoanReaches, LoanCall}
+use Rattle.iox2_domain.specs.LoanSlots.{LiesInSlot}
+use Rattle.iox2_domain.specs.Shows.{Shows}
+use Rattle.iox2_domain.proofs.Containers.{look_up-map}
+use Rattle.iox2_domain.proofs.Messages.{message_in-parts}
+use Rattle.iox2_domain.proofs.ReachesShows.{reaches-shows, reaches-shows-same}
+use Rattle.iox2_domain.proofs.RecountedState.{loan-publisher}
 
 module _ {T U : Type 0} (f : Fields T U) where
   abbrev state : State T U

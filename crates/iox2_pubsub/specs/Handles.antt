@@ -5,7 +5,7 @@ use Rattle.iox2_store.specs.Mailbox.{is_borrowed}
 use Rattle.iox2_store.specs.Records.{Loan}
 use Rattle.iox2_store.specs.declared.key.Key.{Key}
 use Rattle.iox2_store.specs.SingleCalls.{HoldsPublisher, HoldsSubscriber, HoldsLoan, HoldsSample}
-use Rattle.iox2_pubsub.specs.Kept.{Kept, state_of}
+use Rattle.iox2_domain.specs.Kept.{Kept, state_of}
 
 module _ {T U : Type 0} (kept : Kept T U) (service_id : ℕ) where
   -- The domain has this number, and the publisher wasn't closed.

@@ -6,7 +6,7 @@ use Rattle.std.specs.declared.result.Result.{Result}
 use Rattle.std.specs.declared.result.Result.TheVariants.{Ok, Err}
 use Rattle.iox2_store.specs.Receives.{ReceiveResult, Got_sample, No_sample, Receive_error}
 use Rattle.iox2_store.specs.declared.errors.ReceiveError.{ReceiveError}
-use Rattle.iox2_pubsub.specs.Kept.{Kept}
+use Rattle.iox2_domain.specs.Kept.{Kept}
 use Rattle.iox2_pubsub.specs.Handles.{IsSampleHandle}
 use Rattle.iox2_pubsub.specs.declared.sample.Sample.{Sample}
 

@@ -1,36 +1,13 @@
 //! A domain: all ports of a service, and what lies between them.
 ghost use Rattle.std.specs.Prelude.{◌≡◌, false, IfOk};
 ghost use Rattle.iox2_store.specs.State.{Messages, fresh, no_messages};
-ghost use Rattle.iox2_pubsub.specs.Kept.{state_of};
-ghost use Rattle.iox2_pubsub.specs.Invariant.{IsSupported};
+ghost use Rattle.iox2_domain.specs.Kept.{state_of};
+ghost use Rattle.iox2_domain.specs.Invariant.{IsSupported};
 ghost use Rattle.iox2_store.specs.declared.service_config.TypeVariant.TheVariants.{FixedSize};
-ghost use Rattle.iox2_pubsub.specs.Shows.{Shows};
+ghost use Rattle.iox2_domain.specs.Shows.{Shows};
 
-mod connects;
-mod deliveries;
-mod keys;
-mod loan_calls;
-mod loan_slots;
-mod loans;
-mod open_ports;
-mod places;
-mod publisher_entry;
-mod publisher_state;
-mod receipts;
-mod reclaims;
-mod sample_reads;
-mod sample_slots;
-mod segments;
-mod sends;
-mod state;
-mod subscriber_entry;
-mod subscriber_state;
-mod updates;
-mod warnings;
-
-use circular_buffer::HeapCircularBuffer;
+use iox2_domain::DomainState;
 use iox2_store::{DomainCreateError, ServiceConfig, TypeVariant};
-use state::DomainState;
 use std::alloc::Global;
 use std::marker::Model;
 
@@ -43,9 +20,9 @@ pub struct Domain<T, U> {
 }
 
 impl<T, U> Model for Domain<T, U> {
-    ghost use Rattle.iox2_pubsub.specs.Kept.{Kept};
-    ghost use Rattle.iox2_pubsub.specs.Fields.{kept_of};
-    ghost use Rattle.iox2_pubsub.specs.Invariant.{IsDomain};
+    ghost use Rattle.iox2_domain.specs.Kept.{Kept};
+    ghost use Rattle.iox2_domain.specs.Fields.{kept_of};
+    ghost use Rattle.iox2_domain.specs.Invariant.{IsDomain};
 
     ghost Value = { Kept T U };
 
@@ -80,7 +57,7 @@ impl<T: Drop, U: Default + Drop> Domain<T, U> {
         ensures supported { IsSupported self.now.config }
         ensures shown { (messages : Messages T U) × Shows self.now messages (state_of self.now) }
     {
-        &self.state.config
+        self.state.config()
     }
 
     /// What the payload of each message is: so far a single value.
@@ -88,6 +65,6 @@ impl<T: Drop, U: Default + Drop> Domain<T, U> {
         ensures value { result ≡ (self.now.config).variant }
         ensures single { (self.now.config).variant ≡ FixedSize }
     {
-        self.state.config.variant
+        self.state.config().variant
     }
 }

@@ -58,7 +58,7 @@ impl<T: Drop, U: Default + Drop> Domain<T, U> {
     pub fn holds_publisher(&self, key: Key) -> bool
         ensures { IsTrue result ↔ IsPublisherKey self.now key }
     {
-        if key.service_id != self.state.config.service_id || key.message != 0 {
+        if key.service_id != self.state.config().service_id || key.message != 0 {
             return false;
         }
         self.state.has_publisher(key.port)

@@ -12,7 +12,7 @@ impl Subscriber {
     ghost use Rattle.iox2_store.specs.State.{State, Messages};
     ghost use Rattle.iox2_pubsub.specs.Handles.{IsSubscriberHandle};
     ghost use Rattle.iox2_pubsub.specs.ReceivedSamples.{received, IsHeldIfAny};
-    ghost use Rattle.iox2_pubsub.specs.Shows.{Shows};
+    ghost use Rattle.iox2_domain.specs.Shows.{Shows};
 
     /// Updates the subscriber's connections and receives a message: from a publisher of which it
     /// may borrow one more, the one that has waited longest. `None` where no message waits.

@@ -24,7 +24,7 @@ impl Sample {
     ghost use Rattle.iox2_store.specs.Releases.{released};
     ghost use Rattle.iox2_store.specs.State.{State, Messages};
     ghost use Rattle.iox2_pubsub.specs.Handles.{IsSampleHandle};
-    ghost use Rattle.iox2_pubsub.specs.Shows.{Shows};
+    ghost use Rattle.iox2_domain.specs.Shows.{Shows};
 
     /// Names the sample among all that its domain has: by its subscriber and its number.
     ///
@@ -133,7 +133,7 @@ impl<T: Drop, U: Default + Drop> Domain<T, U> {
     pub fn holds_sample(&self, key: Key) -> bool
         ensures { IsTrue result ↔ IsSampleKey self.now key }
     {
-        if key.service_id != self.state.config.service_id {
+        if key.service_id != self.state.config().service_id {
             return false;
         }
         self.state.has_sample(key.port, key.message)

@@ -20,8 +20,8 @@ impl SampleMut {
     ghost use Rattle.std.specs.Prelude.{Some};
     ghost use Rattle.iox2_store.specs.State.{State, Messages};
     ghost use Rattle.iox2_pubsub.specs.Handles.{IsWrittenLoanHandle};
-    ghost use Rattle.iox2_pubsub.specs.LoanCalls.{HasCell, HasLoanHeader};
-    ghost use Rattle.iox2_pubsub.specs.Shows.{Shows};
+    ghost use Rattle.iox2_domain.specs.LoanCalls.{HasCell, HasLoanHeader};
+    ghost use Rattle.iox2_domain.specs.Shows.{Shows};
 
     /// The payload.
     ///

@@ -23,8 +23,8 @@ impl SampleMutUninit {
     ghost use Rattle.iox2_store.specs.State.{State, Messages, with_loan};
     ghost use Rattle.iox2_store.specs.Loans.{written};
     ghost use Rattle.iox2_pubsub.specs.Handles.{IsUnwrittenLoanHandle, IsWrittenLoanHandle};
-    ghost use Rattle.iox2_pubsub.specs.LoanCalls.{HasCell, HasLoanHeader};
-    ghost use Rattle.iox2_pubsub.specs.Shows.{Shows};
+    ghost use Rattle.iox2_domain.specs.LoanCalls.{HasCell, HasLoanHeader};
+    ghost use Rattle.iox2_domain.specs.Shows.{Shows};
 
     /// Writes the payload, and makes the loan one that may be sent.
     ///

@@ -14,7 +14,7 @@ impl SampleMut {
     ghost use Rattle.iox2_store.specs.State.{State, Messages};
     ghost use Rattle.iox2_pubsub.specs.Handles.{IsWrittenLoanHandle};
     ghost use Rattle.iox2_pubsub.specs.SendCalls.{Sends};
-    ghost use Rattle.iox2_pubsub.specs.Shows.{Shows};
+    ghost use Rattle.iox2_domain.specs.Shows.{Shows};
 
     /// Sends the message to every subscriber that is open. One whose buffer is full doesn't get it.
     /// Answers how many subscribers took it.

@@ -16,10 +16,10 @@ use Rattle.iox2_store.specs.declared.errors.SubscriberCreateError.{SubscriberCre
 use Rattle.iox2_store.specs.declared.service_config.TypeVariant.{TypeVariant}
 use Rattle.iox2_store.specs.declared.service_config.TypeVariant.TheVariants.{FixedSize}
 use Rattle.iox2_laws.proofs.PortLaws.{create_publisher_advances, create_subscriber_advances}
-use Rattle.iox2_pubsub.specs.Kept.{Kept as Domain}
-use Rattle.iox2_pubsub.specs.Shows.{Shows}
+use Rattle.iox2_domain.specs.Kept.{Kept as Domain}
+use Rattle.iox2_domain.specs.Shows.{Shows}
 use Rattle.iox2_pubsub.specs.Handles.{IsSubscriberHandle}
-use Rattle.iox2_pubsub.specs.NewPublisher.{plain_publisher}
+use Rattle.iox2_domain.specs.NewPublisher.{plain_publisher}
 use Rattle.iox2_pubsub.specs.declared.publisher.Publisher.{Publisher as PublisherHandle}
 use Rattle.iox2_pubsub.specs.declared.subscriber.Subscriber.{Subscriber as SubscriberHandle}
 use Rattle.iox2_runs.specs.Runs.{Defaults}

@@ -12,9 +12,9 @@ use Rattle.iox2_store.specs.declared.errors.ReceiveError.{ReceiveError}
 use Rattle.iox2_store.specs.declared.service_config.TypeVariant.TheVariants.{FixedSize}
 use Rattle.iox2_laws.proofs.ReceiveLaws.{receive_advances}
 use Rattle.iox2_laws.proofs.ReleaseLaws.{released_advances}
-use Rattle.iox2_pubsub.specs.Kept.{Kept as Domain}
-use Rattle.iox2_pubsub.specs.Shows.{Shows}
-use Rattle.iox2_pubsub.specs.LoanCalls.{HasCell}
+use Rattle.iox2_domain.specs.Kept.{Kept as Domain}
+use Rattle.iox2_domain.specs.Shows.{Shows}
+use Rattle.iox2_domain.specs.LoanCalls.{HasCell}
 use Rattle.iox2_pubsub.specs.declared.sample_mut_uninit.SampleMutUninit.{SampleMutUninit}
 use Rattle.iox2_pubsub.specs.declared.sample_mut.SampleMut.{SampleMut}
 use Rattle.iox2_pubsub.specs.declared.subscriber.Subscriber.{Subscriber as SubscriberHandle}

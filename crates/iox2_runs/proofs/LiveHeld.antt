@@ -2,7 +2,7 @@
 use Rattle.std.proofs.Common.{◌≡◌, ℕ, List, map, subst}
 use Rattle.std.specs.Prelude.{slice_index_or}
 use Rattle.iox2_store.specs.State.{State}
-use Rattle.iox2_pubsub.specs.Kept.{Kept as Domain, state_of}
+use Rattle.iox2_domain.specs.Kept.{Kept as Domain, state_of}
 use Rattle.iox2_pubsub.specs.Handles.{IsPublisherHandle, IsSubscriberHandle, IsUnwrittenLoanHandle, IsWrittenLoanHandle, IsSampleHandle}
 use Rattle.iox2_pubsub.specs.declared.publisher.Publisher.{Publisher as PublisherHandle}
 use Rattle.iox2_pubsub.specs.declared.subscriber.Subscriber.{Subscriber as SubscriberHandle}

@@ -5,8 +5,8 @@ use Rattle.std.proofs.lemmas.List.{map-append}
 use Rattle.std.proofs.lemmas.Option.{none-some}
 use Rattle.iox2_store.specs.Environments.{fixed_handlers}
 use Rattle.iox2_store.specs.State.{State, Messages}
-use Rattle.iox2_pubsub.specs.Kept.{Kept as Domain}
-use Rattle.iox2_pubsub.specs.Shows.{Shows}
+use Rattle.iox2_domain.specs.Kept.{Kept as Domain}
+use Rattle.iox2_domain.specs.Shows.{Shows}
 use Rattle.iox2_runs.specs.Outcomes.{Handle, Event, messages_after}
 use Rattle.iox2_runs.specs.Runs.{Defaults, RunTo, Run}
 use Rattle.iox2_runs.specs.Tables.{IsTable}

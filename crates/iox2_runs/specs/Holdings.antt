@@ -1,8 +1,8 @@
 -- What a run's table keeps, and what the function of one command ensures.
 use Rattle.std.specs.Prelude.{List, [], ◌∷◌, ◌++◌, map}
 use Rattle.iox2_store.specs.State.{State, Messages}
-use Rattle.iox2_pubsub.specs.Kept.{Kept as Domain}
-use Rattle.iox2_pubsub.specs.Shows.{Shows}
+use Rattle.iox2_domain.specs.Kept.{Kept as Domain}
+use Rattle.iox2_domain.specs.Shows.{Shows}
 use Rattle.iox2_runs.specs.Outcomes.{Handle, Event}
 use Rattle.iox2_runs.specs.Runs.{Defaults}
 use Rattle.iox2_runs.specs.Tables.{Kept, Nothing_kept, Kept_publisher, Kept_subscriber, Kept_unwritten, Kept_written, Kept_sample, IsTable}

@@ -3,7 +3,7 @@ ghost use Rattle.std.specs.Prelude.{◌≡◌, List, IfOk, IfErr};
 ghost use Rattle.std.specs.List.{All};
 ghost use Rattle.iox2_store.specs.Environments.{fixed_handlers};
 ghost use Rattle.iox2_store.specs.State.{State, Messages};
-ghost use Rattle.iox2_pubsub.specs.Shows.{Shows};
+ghost use Rattle.iox2_domain.specs.Shows.{Shows};
 ghost use Rattle.iox2_runs.specs.Rooms.{SameRoom};
 ghost use Rattle.iox2_runs.specs.Holdings.{Keeps, Carries, defaults_of};
 ghost use Rattle.iox2_runs.specs.Outcomes.{Event};

@@ -4,8 +4,8 @@ ghost use Rattle.iox2_store.specs.Environments.{fixed_handlers};
 ghost use Rattle.iox2_store.specs.Ports.{CreatePublisher};
 ghost use Rattle.iox2_store.specs.State.{State, Messages};
 ghost use Rattle.iox2_pubsub.specs.Handles.{IsPublisherHandle};
-ghost use Rattle.iox2_pubsub.specs.NewPublisher.{plain_publisher};
-ghost use Rattle.iox2_pubsub.specs.Shows.{Shows};
+ghost use Rattle.iox2_domain.specs.NewPublisher.{plain_publisher};
+ghost use Rattle.iox2_domain.specs.Shows.{Shows};
 
 use crate::domain::Domain;
 use crate::publisher::Publisher;
@@ -24,7 +24,7 @@ pub struct PortFactoryPublisher {
 
 impl Model for PortFactoryPublisher {
     ghost use Rattle.iox2_store.specs.Records.{PublisherSettings};
-    ghost use Rattle.iox2_pubsub.specs.NewPublisher.{plain_publisher};
+    ghost use Rattle.iox2_domain.specs.NewPublisher.{plain_publisher};
 
     ghost Value = { PublisherSettings };
 
@@ -39,7 +39,7 @@ impl<T: Drop, U: Default + Drop> Domain<T, U> {
         ensures { result ≡ plain_publisher (self.now.config).publisher_max_loaned_samples }
     {
         PortFactoryPublisher {
-            max_loaned_samples: self.state.config.publisher_max_loaned_samples,
+            max_loaned_samples: self.state.config().publisher_max_loaned_samples,
         }
     }
 }
@@ -79,8 +79,8 @@ impl PortFactoryPublisher {
             (λ e. CreatePublisher fixed_handlers s self s' (Some e)) }
         ensures held { IfOk result (λ publisher. IsPublisherHandle domain.new publisher.service_id publisher.id) }
     {
-        let service_id = domain.state.config.service_id;
-        let id = UniquePublisherId::new(domain.state.next_port);
+        let service_id = domain.state.config().service_id;
+        let id = UniquePublisherId::new(domain.state.next_port());
         let place = match domain.state.create_publisher(self.max_loaned_samples) {
             Ok(place) => place,
             Err(e) => return Err(e),

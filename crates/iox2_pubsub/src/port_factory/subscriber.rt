@@ -4,7 +4,7 @@ ghost use Rattle.iox2_store.specs.Environments.{fixed_handlers};
 ghost use Rattle.iox2_store.specs.Ports.{default_subscriber_settings, buffer_for, CreateSubscriber};
 ghost use Rattle.iox2_store.specs.State.{State, Messages};
 ghost use Rattle.iox2_pubsub.specs.Handles.{IsSubscriberHandle};
-ghost use Rattle.iox2_pubsub.specs.Shows.{Shows};
+ghost use Rattle.iox2_domain.specs.Shows.{Shows};
 
 use crate::domain::Domain;
 use crate::subscriber::Subscriber;
@@ -21,7 +21,7 @@ pub struct PortFactorySubscriber {
 
 impl Model for PortFactorySubscriber {
     ghost use Rattle.iox2_store.specs.Records.{SubscriberSettings};
-    ghost use Rattle.iox2_pubsub.specs.SubscriberEntry.{asked_for};
+    ghost use Rattle.iox2_domain.specs.SubscriberEntry.{asked_for};
 
     ghost Value = { SubscriberSettings };
 
@@ -59,8 +59,8 @@ impl PortFactorySubscriber {
             (λ error. CreateSubscriber fixed_handlers s self s' (Some error)) }
         ensures held { IfOk result (λ subscriber. IsSubscriberHandle domain.new subscriber.service_id subscriber.id) }
     {
-        let service_id = domain.state.config.service_id;
-        let id = UniqueSubscriberId::new(domain.state.next_port);
+        let service_id = domain.state.config().service_id;
+        let id = UniqueSubscriberId::new(domain.state.next_port());
         let place = domain.state.create_subscriber(self.buffer_size)?;
         Ok(Subscriber {
             service_id,
@@ -79,7 +79,7 @@ impl<T: Drop, U: Default + Drop> Domain<T, U> {
         ensures { result ≡ default_subscriber_settings self.now.config }
     {
         PortFactorySubscriber {
-            buffer_size: self.state.config.subscriber_max_buffer_size.max(1),
+            buffer_size: self.state.config().subscriber_max_buffer_size.max(1),
         }
     }
 }

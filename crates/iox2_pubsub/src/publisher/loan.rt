@@ -9,8 +9,8 @@ use iox2_store::{Key, LoanError};
 impl Publisher {
     ghost use Rattle.iox2_store.specs.State.{State, Messages};
     ghost use Rattle.iox2_pubsub.specs.Handles.{IsPublisherHandle, IsUnwrittenLoanHandle};
-    ghost use Rattle.iox2_pubsub.specs.Lending.{LoanCall};
-    ghost use Rattle.iox2_pubsub.specs.Shows.{Shows};
+    ghost use Rattle.iox2_domain.specs.Lending.{LoanCall};
+    ghost use Rattle.iox2_domain.specs.Shows.{Shows};
 
     /// Lends a message of a single value, whose payload isn't written and whose user header has
     /// its default value. The loan is out until its message was sent. It takes no memory.
@@ -36,7 +36,7 @@ impl Publisher {
         let Some(place) = domain.state.find_publisher(self.id.value(), self.place) else {
             unreachable!();
         };
-        let number = domain.state.next_message;
+        let number = domain.state.next_message();
         let slot = domain.state.loan(place)?;
         Ok(SampleMutUninit {
             service_id: self.service_id,
@@ -56,7 +56,7 @@ impl<T: Drop, U: Default + Drop> Domain<T, U> {
     pub fn holds_loan(&self, key: Key) -> bool
         ensures { IsTrue result ↔ IsLoanKey self.now key }
     {
-        if key.service_id != self.state.config.service_id {
+        if key.service_id != self.state.config().service_id {
             return false;
         }
         self.state.find_loan(key.port, key.message, 0).is_some()

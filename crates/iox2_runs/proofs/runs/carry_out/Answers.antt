@@ -1,4 +1,4 @@
-use Rattle.iox2_pubsub.specs.Shows.{Shows}
+use Rattle.iox2_domain.specs.Shows.{Shows}
 use Rattle.iox2_runs.specs.Holdings.{kept_of}
 use Rattle.std.proofs.Common.{map}
 use Rattle.iox2_runs.proofs.TableCalls.{nothing_comes}

@@ -1,5 +1,5 @@
-use Rattle.iox2_pubsub.specs.Fields.{kept_of}
-use Rattle.iox2_pubsub.specs.Kept.{entries_of}
+use Rattle.iox2_domain.specs.Fields.{kept_of}
+use Rattle.iox2_domain.specs.Kept.{entries_of}
 use Rattle.iox2_pubsub.proofs.AlwaysShows.{shows_itself}
 use Rattle.iox2_pubsub.proofs.domain.Domain.config.Goals as goal
 

@@ -1,6 +1,6 @@
 use Rattle.std.proofs.Common.{◌≡◌, ap, sym, subst}
 use Rattle.iox2_store.specs.SingleCalls.{HoldsSample}
-use Rattle.iox2_pubsub.specs.Kept.{Kept, state_of}
+use Rattle.iox2_domain.specs.Kept.{Kept, state_of}
 use Rattle.iox2_pubsub.proofs.domain.Domain.holds_sample.Goals as goal
 
 pub returns : goal.returns

@@ -1,5 +1,5 @@
 use Rattle.std.proofs.Common.{ap, sym, ◌∙◌}
-use Rattle.iox2_pubsub.specs.Kept.{Kept, entries_of}
+use Rattle.iox2_domain.specs.Kept.{Kept, entries_of}
 use Rattle.iox2_pubsub.proofs.sample.Sample.payload.Goals as goal
 
 pub returns : goal.returns

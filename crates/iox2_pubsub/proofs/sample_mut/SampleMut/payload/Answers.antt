@@ -1,6 +1,6 @@
 use Rattle.std.proofs.Common.{Some}
 use Rattle.iox2_store.specs.State.{State}
-use Rattle.iox2_pubsub.specs.LoanCalls.{HasCell}
+use Rattle.iox2_domain.specs.LoanCalls.{HasCell}
 use Rattle.iox2_pubsub.proofs.LoanHandles.{of-shown, written-held}
 use Rattle.iox2_pubsub.proofs.sample_mut.SampleMut.payload.Goals as goal
 

@@ -1,8 +1,8 @@
 use Rattle.std.proofs.Common.{sym, subst}
-use Rattle.iox2_pubsub.specs.Fields.{kept_of}
-use Rattle.iox2_pubsub.specs.Kept.{Kept, state_of}
-use Rattle.iox2_pubsub.specs.LoanCalls.{HoldsWritten}
-use Rattle.iox2_pubsub.specs.Shows.{Shows}
+use Rattle.iox2_domain.specs.Fields.{kept_of}
+use Rattle.iox2_domain.specs.Kept.{Kept, state_of}
+use Rattle.iox2_domain.specs.LoanCalls.{HoldsWritten}
+use Rattle.iox2_domain.specs.Shows.{Shows}
 use Rattle.iox2_pubsub.proofs.SendShown.{machine-sends, send-shown}
 use Rattle.iox2_pubsub.proofs.sample_mut.SampleMut.send.Goals as goal
 

@@ -1,5 +1,5 @@
 use Rattle.iox2_store.specs.State.{State}
-use Rattle.iox2_pubsub.specs.LoanCalls.{HasLoanHeader}
+use Rattle.iox2_domain.specs.LoanCalls.{HasLoanHeader}
 use Rattle.iox2_pubsub.proofs.LoanHandles.{of-shown, unwritten-loan, header-origin}
 use Rattle.iox2_pubsub.proofs.sample_mut_uninit.SampleMutUninit.header.Goals as goal
 

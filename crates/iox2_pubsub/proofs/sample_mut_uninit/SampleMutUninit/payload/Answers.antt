@@ -1,5 +1,5 @@
 use Rattle.iox2_store.specs.State.{State}
-use Rattle.iox2_pubsub.specs.LoanCalls.{HasCell}
+use Rattle.iox2_domain.specs.LoanCalls.{HasCell}
 use Rattle.iox2_pubsub.proofs.LoanHandles.{of-shown, unwritten-held}
 use Rattle.iox2_pubsub.proofs.sample_mut_uninit.SampleMutUninit.payload.Goals as goal
 

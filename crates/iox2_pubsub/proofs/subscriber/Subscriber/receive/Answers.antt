@@ -1,6 +1,6 @@
 use Rattle.std.proofs.Common.{ℕ, ap, sym, ◌∙◌, Ok, Err, Some, None, refl, Option}
-use Rattle.iox2_pubsub.specs.declared.domain.receipts.Receipt.{Receipt}
-use Rattle.iox2_pubsub.proofs.Reception.{reception-at, reception-shows, reception-holds}
+use Rattle.iox2_domain.specs.declared.receipts.Receipt.{Receipt}
+use Rattle.iox2_pubsub.proofs.ReceptionShown.{reception-at, reception-shows, reception-holds}
 use Rattle.iox2_pubsub.proofs.subscriber.Subscriber.receive.Goals as goal
 
 pub returns-in-Err-clause-receives : goal.returns-in-Err-clause-receives

@@ -2,7 +2,7 @@ use Rattle.std.proofs.Common.{◌≡◌, ap, subst, ◌∙◌, None, Some}
 use Rattle.iox2_store.specs.Environments.{fixed_handlers}
 use Rattle.iox2_store.specs.Records.{PublisherSettings}
 use Rattle.iox2_store.specs.Ports.{CreatePublisher}
-use Rattle.iox2_pubsub.specs.NewPublisher.{plain_publisher}
+use Rattle.iox2_domain.specs.NewPublisher.{plain_publisher}
 use Rattle.iox2_runs.proofs.CarriedPorts.{publisher_carried, publisher_denied}
 use Rattle.iox2_runs.proofs.runs.ports.create_publisher.Goals as goal
 

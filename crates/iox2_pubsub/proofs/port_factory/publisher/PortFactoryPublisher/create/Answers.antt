@@ -5,12 +5,11 @@ use Rattle.iox2_store.specs.Ports.{CreatePublisher}
 use Rattle.iox2_store.specs.Records.{PublisherSettings}
 use Rattle.iox2_store.specs.SingleCalls.{HoldsPublisher}
 use Rattle.iox2_store.specs.State.{State}
-use Rattle.iox2_pubsub.specs.Kept.{Kept, state_of}
-use Rattle.iox2_pubsub.specs.declared.domain.Domain.TheInside.{Inside}
-use Rattle.iox2_pubsub.specs.Fields.{kept_of}
-use Rattle.iox2_pubsub.specs.Handles.{IsPublisherHandle}
-use Rattle.iox2_pubsub.specs.Shows.{Shows}
-use Rattle.iox2_pubsub.proofs.PublisherCreations.{created-shows, created-held}
+use Rattle.iox2_store.specs.declared.service_config.ServiceConfig.{ServiceConfig}
+use Rattle.iox2_domain.specs.Kept.{Kept, state_of}
+use Rattle.iox2_domain.specs.Fields.{kept_of}
+use Rattle.iox2_domain.specs.Shows.{Shows}
+use Rattle.iox2_pubsub.proofs.PublishersShown.{created-shows, created-held}
 use Rattle.iox2_pubsub.proofs.port_factory.publisher.PortFactoryPublisher.create.Goals as goal
 
 pub returns-in-Err-clause-creates : goal.returns-in-Err-clause-creates
@@ -29,7 +28,7 @@ returns-clause-creates g c m s shows =
       made.0,
       next.0,
       (
-        c.new-id.ensures ∙ ap (λ (d : Inside g.row.T.Denot g.row.U.Denot). d.state.next_port) c.domain-inside.view_is ∙ sym (ap (λ (u : State g.row.T.Denot g.row.U.Denot). u.next_port) shown.state),
+        c.new-id.ensures ∙ c.next_port.ensures ∙ sym (ap (λ (u : State g.row.T.Denot g.row.U.Denot). u.next_port) shown.state),
         subst (λ (given : PublisherSettings). CreatePublisher fixed_handlers s given made.0 None) c.self.view_is next.1,
       ),
     )
@@ -37,6 +36,7 @@ returns-clause-creates g c m s shows =
 pub returns-clause-held : goal.returns-clause-held
 returns-clause-held g c =
     let made = c.in-Ok.ensures.step in
-    let held = subst (λ (d : Inside g.row.T.Denot g.row.U.Denot). IsPublisherHandle (kept_of c.create_publisher.new.self) d.state.config.service_id d.state.next_port) (sym c.domain-inside.view_is)
-    (created-held {T = g.row.T.Denot} {U = g.row.U.Denot} c.domain.inside.state c.create_publisher.new.self c.self.inside.max_loaned_samples fixed_handlers made.0 made.1 made.2) in
-    (held.0, subst (HoldsPublisher (state_of (kept_of c.create_publisher.new.self))) (sym c.new-id.ensures) held.1)
+    let held = created-held {T = g.row.T.Denot} {U = g.row.U.Denot} c.domain.inside.state c.create_publisher.new.self c.self.inside.max_loaned_samples fixed_handlers made.0 made.1 made.2 in (
+      ap (λ (config : ServiceConfig). config.service_id) c.config.ensures ∙ held.0,
+      subst (HoldsPublisher (state_of (kept_of c.create_publisher.new.self))) (sym (c.new-id.ensures ∙ c.next_port.ensures)) held.1,
+    )

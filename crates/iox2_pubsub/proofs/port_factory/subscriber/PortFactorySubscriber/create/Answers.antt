@@ -1,7 +1,7 @@
 use Rattle.std.proofs.Common.{◌≡◌, ◌∙◌, ap, max, arith}
 use Rattle.std.proofs.lemmas.Result.{err_from_is_err_and}
-use Rattle.iox2_pubsub.specs.SubscriberEntry.{asked_for}
-use Rattle.iox2_pubsub.specs.declared.domain.Domain.TheInside.{Inside}
+use Rattle.iox2_domain.specs.SubscriberEntry.{asked_for}
+use Rattle.iox2_store.specs.declared.service_config.ServiceConfig.{ServiceConfig}
 use Rattle.iox2_pubsub.proofs.SubscribersShown.{made-shown, made-held, refused-shown}
 use Rattle.iox2_pubsub.proofs.port_factory.subscriber.PortFactorySubscriber.create.Goals as goal
 
@@ -18,10 +18,10 @@ returns-clause-creates g c =
     let size : c.max.result ≡ max 1 c.self.inside.buffer_size = grind (arith, c.max.ensures) in
     made-shown {T = g.row.T.Denot} {U = g.row.U.Denot} c.domain.inside.state c.create_subscriber.new.self c.args.domain.now c.domain.view_is
     (asked_for c.self.inside.buffer_size) c.args.self c.self.view_is c.in_ok-place.ensures c.new-id.result c.max.result
-    (c.new-id.ensures ∙ ap (λ (d : Inside g.row.T.Denot g.row.U.Denot). d.state.next_port) c.domain-inside.view_is) size
+    (c.new-id.ensures ∙ c.next_port.ensures) size
 
 pub returns-clause-held : goal.returns-clause-held
 returns-clause-held g c =
     made-held {T = g.row.T.Denot} {U = g.row.U.Denot} c.domain.inside.state c.create_subscriber.new.self (asked_for c.self.inside.buffer_size) c.in_ok-place.ensures _ c.new-id.result
-    (ap (λ (d : Inside g.row.T.Denot g.row.U.Denot). d.state.config.service_id) c.domain-inside.view_is)
-    (c.new-id.ensures ∙ ap (λ (d : Inside g.row.T.Denot g.row.U.Denot). d.state.next_port) c.domain-inside.view_is)
+    (ap (λ (config : ServiceConfig). config.service_id) c.config.ensures)
+    (c.new-id.ensures ∙ c.next_port.ensures)

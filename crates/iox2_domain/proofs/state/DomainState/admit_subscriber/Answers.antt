@@ -1,0 +1,20 @@
+use Rattle.std.proofs.Common.{◌≡◌, ◌∙◌, max, ap, map, arith}
+use Rattle.std.proofs.lemmas.List.{with_items_is}
+use Rattle.std.specs.Option.{option_map}
+use Rattle.iox2_domain.specs.Ports.{due, entering}
+use Rattle.iox2_domain.specs.Placed.{placed}
+use Rattle.iox2_domain.proofs.SubscriberEntries.{has-entered}
+use Rattle.iox2_domain.proofs.state.DomainState.admit_subscriber.Goals as goal
+
+pub returns : goal.returns
+returns g c =
+    let all_due : c.make_all_due.new.publishers ≡ map (option_map due) c.self.inside.publishers.items = c.make_all_due.ensures ∙ ap (map (option_map due)) c.deref_mut.ensures.value in
+    let size : c.max.result ≡ max 1 c.args.asked = grind (arith, c.max.ensures) in
+    has-entered {T = g.row.T.Denot} {U = g.row.U.Denot} c.args.self.now c.args.asked _ c.self.view_is c.requires.agrees c.args.place c.in-Ok.subscriber
+    c.warn_of_expired_buffer.new.warnings _ _ c.requires.has_place
+    (c.in-Ok.ensures.enters ∙ ap (λ id. entering id c.args.place c.max.result c.in-Ok.subscriber.place_room c.in-Ok.subscriber.expired_room) c.new-id.ensures
+    ∙ ap (λ size. entering c.self.inside.next_port c.args.place size c.in-Ok.subscriber.place_room c.in-Ok.subscriber.expired_room) size)
+    c.in-Ok.ensures.room
+    (rw (← c.new-id.ensures) c.warn_of_expired_buffer.ensures)
+    (with_items_is c.self.inside.publishers c.make_all_due.new.publishers (c.make_all_due.auto.publishers ∙ c.deref_mut.ensures.len) ∙ all_due)
+    (c.put_at_place.ensures.items ∙ ap (λ ys. placed ys c.args.place c.in-Ok.subscriber) c.in-Ok-try_reserve.ensures.items)

@@ -1,0 +1,86 @@
+use Rattle.std.proofs.Common.{◌≡◌, ◌∙◌, true, false, ap, sym, subst, is_some}
+use Rattle.std.proofs.lemmas.List.{with_items_is}
+use Rattle.std.specs.declared.option.Option.TheVariants.{None, Some}
+use Rattle.circular_buffer.specs.Buffer.{buffer}
+use Rattle.iox2_store.specs.Limits.{warning_limit}
+use Rattle.iox2_store.specs.State.{warned}
+use Rattle.iox2_domain.specs.Fields.{Fields}
+use Rattle.iox2_domain.specs.Updates.{receiver_key, sender_key, changed_at, with_receiver_key, MakesConnection}
+use Rattle.iox2_domain.proofs.Standing.{receiver-room, some-buffer}
+use Rattle.iox2_domain.proofs.ReceiverAnswers.{keeps-as, joins-as, makes-as, misses-as}
+use Rattle.iox2_domain.proofs.state.DomainState.connect_receiver.Goals as goal
+
+pub returns-then-is_some : goal.returns-then-is_some
+returns-then-is_some g c = λ y at due.
+    let old = c.args.self.now in
+    let same : c.deref.result.now ≡ old.subscribers = c.deref.ensures.value ∙ ap (λ (f : Fields g.row.T.Denot g.row.U.Denot). f.subscribers) c.self.view_is in
+    let some : is_some (receiver_key old.subscribers c.args.place c.args.at) ≡ true =
+    ap (λ xs. is_some (receiver_key xs c.args.place c.args.at)) (sym same) ∙ ap is_some (sym c.subscriber_key.ensures) ∙ sym c.is_some.ensures ∙ c.if-is_some.true in
+    keeps-as old c.requires.agrees c.args.at c.args.place y at due c.requires.publisher some
+
+pub set_subscriber_key-requires-clause-room : goal.set_subscriber_key-requires-clause-room
+set_subscriber_key-requires-clause-room g c = λ y at.
+    let old = c.args.self.now in
+    let same : c.deref_mut.result.now ≡ old.subscribers = c.deref_mut.ensures.value ∙ ap (λ (f : Fields g.row.T.Denot g.row.U.Denot). f.subscribers) c.self.view_is in
+    let there = c.requires.agrees.open_ports.publishers c.args.at c.requires.publisher in
+    receiver-room old c.requires.agrees c.args.at c.args.place there.0 y there.1 (rw same at at)
+
+pub set_subscriber_key-requires-2-clause-room : goal.set_subscriber_key-requires-2-clause-room
+set_subscriber_key-requires-2-clause-room g c = λ y at.
+    let old = c.args.self.now in
+    let same : c.deref_mut-2.result.now ≡ old.subscribers = c.deref_mut-2.ensures.value ∙ ap (λ (f : Fields g.row.T.Denot g.row.U.Denot). f.subscribers) c.self.view_is in
+    let there = c.requires.agrees.open_ports.publishers c.args.at c.requires.publisher in
+    receiver-room old c.requires.agrees c.args.at c.args.place there.0 y there.1 (rw same at at)
+
+pub make_connection-requires : goal.make_connection-requires
+make_connection-requires g c =
+    let apart = c.ports_at-buffer.ensures in
+    rw apart.buffer_is (some-buffer c.args.self.now c.requires.agrees c.args.place apart.subscriber apart.subscriber_stands)
+
+pub returns-in-Some : goal.returns-in-Some
+returns-in-Some g c = λ y at due.
+    let old = c.args.self.now in
+    let viewed = c.self.view_is in
+    let subscribers : c.self.inside.subscribers.items ≡ old.subscribers = ap (λ (f : Fields g.row.T.Denot g.row.U.Denot). f.subscribers) viewed in
+    let publishers : c.self.inside.publishers.items ≡ old.publishers = ap (λ (f : Fields g.row.T.Denot g.row.U.Denot). f.publishers) viewed in
+    let none : is_some (receiver_key old.subscribers c.args.place c.args.at) ≡ false =
+    ap (λ xs. is_some (receiver_key xs c.args.place c.args.at)) (sym (c.deref.ensures.value ∙ subscribers)) ∙ ap is_some (sym c.subscriber_key.ensures) ∙ sym c.is_some.ensures ∙ c.if-is_some.false in
+    let key : sender_key old.publishers c.args.at c.args.place ≡ Some c.in-Some.key =
+    ap (λ ys. sender_key ys c.args.at c.args.place) (sym (c.deref-2.ensures.value ∙ publishers)) ∙ sym c.publisher_key.ensures ∙ c.in-Some.is in
+    let written : _ ≡ changed_at (with_receiver_key c.args.at c.in-Some.key) old.subscribers c.args.place =
+    with_items_is c.self.inside.subscribers c.set_subscriber_key.new.subscribers (c.set_subscriber_key.auto.subscribers ∙ c.deref_mut.ensures.len)
+    ∙ c.set_subscriber_key.ensures ∙ ap (λ xs. changed_at (with_receiver_key c.args.at c.in-Some.key) xs c.args.place) (c.deref_mut.ensures.value ∙ subscribers) in
+    joins-as old c.requires.agrees c.args.at c.args.place y at due none c.requires.publisher c.in-Some.key key _ (λ k. record (viewed k) { subscribers = written k })
+
+pub returns-in_default-make_connection : goal.returns-in_default-make_connection
+returns-in_default-make_connection g c = λ y at due.
+    let old = c.args.self.now in
+    let viewed = c.self.view_is in
+    let subscribers : c.self.inside.subscribers.items ≡ old.subscribers = ap (λ (f : Fields g.row.T.Denot g.row.U.Denot). f.subscribers) viewed in
+    let publishers : c.self.inside.publishers.items ≡ old.publishers = ap (λ (f : Fields g.row.T.Denot g.row.U.Denot). f.publishers) viewed in
+    let none : is_some (receiver_key old.subscribers c.args.place c.args.at) ≡ false =
+    ap (λ xs. is_some (receiver_key xs c.args.place c.args.at)) (sym (c.deref.ensures.value ∙ subscribers)) ∙ ap is_some (sym c.subscriber_key.ensures) ∙ sym c.is_some.ensures ∙ c.if-is_some.false in
+    let nobody : sender_key old.publishers c.args.at c.args.place ≡ None =
+    ap (λ ys. sender_key ys c.args.at c.args.place) (sym (c.deref-2.ensures.value ∙ publishers)) ∙ sym c.publisher_key.ensures ∙ c.in_default.is in
+    misses-as old c.requires.agrees c.args.at c.args.place y at due none nobody _ _ c.ports_at-buffer.ensures c.make_connection.new.connections c.warn.new.warnings
+    (c.in_default-make_connection.ensures.refused ∙ (λ k. record (viewed k).connections { capacity = c.make_connection.new.connections.capacity }))
+    (c.warn.ensures ∙ (λ k. buffer (warned (viewed k).warnings.items (c.not_made.ensures k)) warning_limit))
+    _ (λ k. record (viewed k) { connections = c.make_connection.new.connections; warnings = c.warn.new.warnings })
+
+pub returns : goal.returns
+returns g c = λ y at due.
+    let old = c.args.self.now in
+    let viewed = c.self.view_is in
+    let subscribers : c.self.inside.subscribers.items ≡ old.subscribers = ap (λ (f : Fields g.row.T.Denot g.row.U.Denot). f.subscribers) viewed in
+    let publishers : c.self.inside.publishers.items ≡ old.publishers = ap (λ (f : Fields g.row.T.Denot g.row.U.Denot). f.publishers) viewed in
+    let none : is_some (receiver_key old.subscribers c.args.place c.args.at) ≡ false =
+    ap (λ xs. is_some (receiver_key xs c.args.place c.args.at)) (sym (c.deref.ensures.value ∙ subscribers)) ∙ ap is_some (sym c.subscriber_key.ensures) ∙ sym c.is_some.ensures ∙ c.if-is_some.false in
+    let nobody : sender_key old.publishers c.args.at c.args.place ≡ None =
+    ap (λ ys. sender_key ys c.args.at c.args.place) (sym (c.deref-2.ensures.value ∙ publishers)) ∙ sym c.publisher_key.ensures ∙ c.in_default.is in
+    let written : _ ≡ changed_at (with_receiver_key c.args.at c.in-Ok.key) old.subscribers c.args.place =
+    with_items_is c.self.inside.subscribers c.set_subscriber_key-2.new.subscribers (c.set_subscriber_key-2.auto.subscribers ∙ c.deref_mut-2.ensures.len)
+    ∙ c.set_subscriber_key-2.ensures ∙ ap (λ xs. changed_at (with_receiver_key c.args.at c.in-Ok.key) xs c.args.place) (c.deref_mut-2.ensures.value ∙ subscribers) in
+    makes-as old c.requires.agrees c.args.at c.args.place y at due none nobody _ _ c.ports_at-buffer.ensures c.in-Ok.key c.make_connection.new.connections
+    (subst (λ (f : Fields g.row.T.Denot g.row.U.Denot). MakesConnection f.connections c.ports_at-buffer.result.0 c.ports_at-buffer.result.1 (f.config).subscriber_max_borrowed_samples c.in-Ok.key c.make_connection.new.connections)
+    viewed c.in-Ok.ensures.made)
+    _ (λ k. record (viewed k) { subscribers = written k; connections = c.make_connection.new.connections })

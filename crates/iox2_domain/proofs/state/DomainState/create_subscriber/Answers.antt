@@ -1,0 +1,30 @@
+use Rattle.std.proofs.Common.{refl, sym, ◌∙◌, Some}
+use Rattle.std.proofs.lemmas.Result.{err_from_is_err_and}
+use Rattle.iox2_store.specs.Environments.{fixed_handlers}
+use Rattle.iox2_domain.specs.Kept.{state_of}
+use Rattle.iox2_domain.specs.Fields.{kept_of}
+use Rattle.iox2_domain.proofs.SubscriberEntries.{created-reaches, created-refused, created-made}
+use Rattle.iox2_domain.proofs.state.DomainState.create_subscriber.Goals as goal
+
+pub returns-in_err-place : goal.returns-in_err-place
+returns-in_err-place g c =
+    let refused = err_from_is_err_and c.from_residual.result c.from_residual.ensures.1 in
+    rw (refused.1, refused.2) (
+      created-refused {T = g.row.T.Denot} {U = g.row.U.Denot} c.args.self.now c.args.asked fixed_handlers c.in_err-place.field-0.0 (sym c.place_for_subscriber.ensures ∙ c.in_err-place.was),
+      refl,
+    )
+
+pub returns-in_err-admit_subscriber : goal.returns-in_err-admit_subscriber
+returns-in_err-admit_subscriber g c =
+    let refused = err_from_is_err_and c.from_residual-in_err-admit_subscriber.result c.from_residual-in_err-admit_subscriber.ensures.1 in
+    let why = c.in_err-admit_subscriber.ensures in
+    rw (refused.1, refused.2) (
+      created-made {T = g.row.T.Denot} {U = g.row.U.Denot} c.args.self.now c.args.asked fixed_handlers c.in_ok-place.place (state_of (kept_of c.args.self.now))
+          (Some c.in_err-admit_subscriber.field-0.0) (sym c.place_for_subscriber.ensures ∙ c.in_ok-place.was) (tt, refl, why.1),
+      why.0,
+    )
+
+pub returns : goal.returns
+returns g c =
+    created-reaches {T = g.row.T.Denot} {U = g.row.U.Denot} c.args.self.now c.args.asked c.admit_subscriber.new.self c.update_subscriber.new.self c.in_ok-place.place
+    (sym c.place_for_subscriber.ensures ∙ c.in_ok-place.was) c.in_ok-admit_subscriber.ensures c.update_subscriber.ensures

@@ -1,0 +1,39 @@
+use Rattle.std.proofs.Common.{◌≡◌, None, Some, slice_index_or, sym, ◌∙◌, ap, subst}
+use Rattle.iox2_ends.specs.Receivers.{HasReclaimed}
+use Rattle.iox2_domain.specs.Ports.{PublisherFields}
+use Rattle.iox2_domain.specs.Fields.{Fields}
+use Rattle.iox2_domain.specs.Invariant.{IsDomain}
+use Rattle.iox2_domain.proofs.Parts.{parts_of}
+use Rattle.iox2_domain.proofs.PublisherBooks.{read-there, book-there, sender-linked, book-covers}
+use Rattle.iox2_domain.proofs.ReclaimSteps.{publisher-reclaims}
+use Rattle.iox2_domain.proofs.state.DomainState.reclaim.Goals as goal
+
+pub index_mut-requires : goal.index_mut-requires
+index_mut-requires g c =
+    book-there _ (parts_of _ (subst (IsDomain {T = g.row.T.Denot} {U = g.row.U.Denot}) (sym c.self.view_is) c.requires.agrees)) c.args.place _
+    (read-there _ c.args.place _ _ (ap (λ (f : Fields g.row.T.Denot g.row.U.Denot). slice_index_or f.publishers c.args.place None) c.self.view_is ∙ c.requires.stands.1) c.index.ensures ∙ c.in-Some.is ∙ ap Some (sym c.publisher.view_is))
+
+pub reclaim_all-requires-clause-linked : goal.reclaim_all-requires-clause-linked
+reclaim_all-requires-clause-linked g c =
+    rw (c.value.ensures, c.deref.ensures.value)
+    (sender-linked _ (parts_of _ (subst (IsDomain {T = g.row.T.Denot} {U = g.row.U.Denot}) (sym c.self.view_is) c.requires.agrees)) c.args.place _
+    (read-there _ c.args.place _ _ (ap (λ (f : Fields g.row.T.Denot g.row.U.Denot). slice_index_or f.publishers c.args.place None) c.self.view_is ∙ c.requires.stands.1) c.index.ensures ∙ c.in-Some.is ∙ ap Some (sym c.publisher.view_is)))
+
+pub reclaim_all-requires-clause-covered : goal.reclaim_all-requires-clause-covered
+reclaim_all-requires-clause-covered g c =
+    rw c.value.ensures
+    (book-covers _ (parts_of _ (subst (IsDomain {T = g.row.T.Denot} {U = g.row.U.Denot}) (sym c.self.view_is) c.requires.agrees)) c.args.place _
+    (read-there _ c.args.place _ _ (ap (λ (f : Fields g.row.T.Denot g.row.U.Denot). slice_index_or f.publishers c.args.place None) c.self.view_is ∙ c.requires.stands.1) c.index.ensures ∙ c.in-Some.is ∙ ap Some (sym c.publisher.view_is)) _ c.index_mut.ensures.value)
+
+pub returns-clause-reaches : goal.returns-clause-reaches
+returns-clause-reaches g c =
+    publisher-reclaims _ _ c.self.view_is (subst (IsDomain {T = g.row.T.Denot} {U = g.row.U.Denot}) (sym c.self.view_is) c.requires.agrees) c.args.place _
+    (read-there _ c.args.place _ _ (ap (λ (f : Fields g.row.T.Denot g.row.U.Denot). slice_index_or f.publishers c.args.place None) c.self.view_is ∙ c.requires.stands.1) c.index.ensures ∙ c.in-Some.is ∙ ap Some (sym c.publisher.view_is)) _ _ c.index_mut.ensures.value _ c.reclaim_all.ensures.book
+    (rw c.value.ensures at c.reclaim_all.ensures.reclaims)
+
+pub returns-clause-reclaimed : goal.returns-clause-reclaimed
+returns-clause-reclaimed g c = λ x at.
+    let same : Some c.in-Some.publisher ≡ Some x = sym (read-there _ c.args.place _ _ (ap (λ (f : Fields g.row.T.Denot g.row.U.Denot). slice_index_or f.publishers c.args.place None) c.self.view_is ∙ c.requires.stands.1) c.index.ensures ∙ c.in-Some.is) ∙ ap (λ (f : Fields g.row.T.Denot g.row.U.Denot). slice_index_or f.publishers c.args.place None) c.self.view_is ∙ at in
+    let is : c.in-Some.publisher ≡ x = cc in
+    subst (λ (y : PublisherFields). HasReclaimed c.reclaim_all.new.connections y.places) (c.publisher.view_is ∙ is)
+    (rw c.deref.ensures.value at c.reclaim_all.ensures.all)

@@ -1,0 +1,58 @@
+-- A publisher's message is delivered, and its send ends.
+use Rattle.std.specs.Prelude.{◌≡◌, ◌⊎◌, ℕ, ◌-◌, false, List, map, slice_index, slice_set}
+use Rattle.std.specs.declared.option.Option.TheVariants.{None, Some}
+use Rattle.std.specs.Option.{option_map}
+use Rattle.slab.specs.Slab.{Slab, get, with_value}
+use Rattle.iox2_store.specs.Delivery.{Complete, Deliver, no_time}
+use Rattle.iox2_store.specs.Environments.{fixed_handlers}
+use Rattle.iox2_store.specs.Link.{Link}
+use Rattle.iox2_store.specs.Loans.{entry_of}
+use Rattle.iox2_store.specs.Numbers.{put_at, without}
+use Rattle.iox2_store.specs.Records.{Entry, Loan}
+use Rattle.iox2_store.specs.Sends.{Publish, Delivered_to}
+use Rattle.iox2_store.specs.SlotBook.{Book}
+use Rattle.iox2_store.specs.declared.slots.mark.SlotMark.TheVariants.{Sent}
+use Rattle.iox2_ends.specs.Counters.{with_counters}
+use Rattle.iox2_ends.specs.Mailboxes.{mailboxes_of, sender_ends}
+use Rattle.iox2_ends.specs.Receivers.{buffers_of}
+use Rattle.iox2_ends.specs.Recounts.{Recounts}
+use Rattle.iox2_domain.specs.Ports.{PublisherFields}
+use Rattle.iox2_domain.specs.Kept.{state_of, entries_of}
+use Rattle.iox2_domain.specs.Fields.{Fields, kept_of}
+use Rattle.iox2_domain.specs.Invariant.{IsDomain, details_of}
+
+-- The slot of the publisher x went to its receivers, of which so many took it. Connections and counters changed together, and
+-- nothing else did.
+pub record DeliversTo {T U : Type 0} (old : Fields T U) (x : PublisherFields) (slot count : ℕ) (new : Fields T U) : Type 0 where
+  pub book : Book
+  pub stands : get old.books x.book ≡ Some book
+  pub holders : List ℕ
+  pub connections : Slab Link
+  pub delivered : new ≡ record old { connections = connections; books = with_value old.books x.book (with_counters book holders) }
+  pub recounts : Recounts x.id book.holders old.connections holders connections
+  pub delivers : (number : ℕ → ℕ → ℕ)
+      → Deliver fixed_handlers old.config x.id x.strategy None (buffers_of (map (option_map details_of) old.subscribers)) (number x.id slot)
+      0 no_time 0 (sender_ends old.connections x.places) 0 false (mailboxes_of number old.connections x.id) (Complete count false) (mailboxes_of number connections x.id)
+
+-- The publisher without the loan in the slot.
+abbrev pub with_loan_out : (slot : ℕ) → PublisherFields → PublisherFields
+with_loan_out slot x = record x { loans = without slot x.loans }
+
+-- The book with the slot's message sent, and one holder less of it.
+abbrev pub with_sent : (slot : ℕ) → Book → Book
+with_sent slot book = record book { marks = slice_set book.marks slot Sent; holders = slice_set book.holders slot (slice_index book.holders slot - 1) }
+
+-- The fields after the publisher x, which stands at that place, has sent the loan in the slot of its book.
+abbrev pub with_send_ended : {T U : Type 0} → Fields T U → (place : ℕ) → PublisherFields → (slot : ℕ) → Book → Fields T U
+with_send_ended f place x slot book = record f {
+  publishers = slice_set f.publishers place (Some (with_loan_out slot x));
+  books = with_value f.books x.book (with_sent slot book);
+}
+
+-- The loan n of the publisher p was published, and so many receivers took it. Its entry may be newly kept, and no other is.
+pub record Publishes {T U : Type 0} (old new : Fields T U) (p n : ℕ) (l : Loan T U) (count : ℕ) : Type 0 where
+  pub agrees : IsDomain new
+  pub publishes : Publish fixed_handlers (state_of (kept_of old)) p n (state_of (kept_of new)) (Delivered_to count)
+  pub loans : (state_of (kept_of new)).loans ≡ put_at (state_of (kept_of old)).loans n None
+  pub entries : (m : ℕ) (entry : Entry T U) → entries_of (kept_of new) m ≡ Some entry
+      → ((m ≡ n) × (entry ≡ entry_of l)) ⊎ (entries_of (kept_of old) m ≡ Some entry)

@@ -1,0 +1,216 @@
+-- What always holds of the fields of a domain.
+use Rattle.std.specs.Prelude.{◌≡◌, ◌⊎◌, ℕ, Bool, true, false, ◌+◌, ◌*◌, ◌<◌, ◌≤◌, ◌==◌, ◌&&◌, cond, List, [], length, map, nat_lt, sum_by, slice_get, slice_index, slice_index_or, Contains, IsSomeAnd}
+use Rattle.std.specs.List.{All}
+use Rattle.std.specs.declared.option.Option.{Option}
+use Rattle.std.specs.declared.option.Option.TheVariants.{None, Some}
+use Rattle.std.specs.Option.{option_map, option_map_or}
+use Rattle.slab.specs.Slab.{Slab, get}
+use Rattle.iox2_store.specs.Limits.{expired_limit, warning_limit}
+use Rattle.iox2_store.specs.Link.{Link}
+use Rattle.iox2_store.specs.SlotBook.{Book, IsAligned, holders_at}
+use Rattle.iox2_store.specs.SlotContents.{ContentState}
+use Rattle.iox2_store.specs.Loans.{is_static}
+use Rattle.iox2_store.specs.WellFormed.{IsWellFormed}
+use Rattle.iox2_store.specs.declared.allocation.AllocationStrategy.TheVariants.{Static}
+use Rattle.iox2_store.specs.declared.backpressure.BackpressureStrategy.TheVariants.{DiscardData}
+use Rattle.iox2_store.specs.declared.service_config.ServiceConfig.{ServiceConfig}
+use Rattle.iox2_store.specs.declared.service_config.TypeVariant.TheVariants.{FixedSize}
+use Rattle.iox2_store.specs.declared.slots.mark.SlotMark.{SlotMark}
+use Rattle.iox2_store.specs.declared.slots.mark.SlotMark.TheVariants.{Unwritten, Written, Sent}
+use Rattle.iox2_ends.specs.LookUp.{look_up, IsOnly}
+use Rattle.iox2_ends.specs.Homes.{IsApart, IsSenderLinked}
+use Rattle.iox2_ends.specs.Finds.{IsReceiverLinked}
+use Rattle.iox2_ends.specs.Receivers.{KnowsReceivers}
+use Rattle.iox2_ends.specs.Counters.{times, stands}
+use Rattle.iox2_ends.specs.declared.sender.ReceiverDetails.{ReceiverDetails}
+use Rattle.iox2_domain.specs.Ports.{PublisherFields, SubscriberFields}
+use Rattle.iox2_domain.specs.Kept.{KeptMessage, state_of, header_of, length_of}
+use Rattle.iox2_domain.specs.Fields.{Fields, kept_of, is_book_of, message_in, contents_at}
+use Rattle.iox2_domain.specs.Shows.{KeepsEntries}
+
+-- ---- ports
+
+-- The publisher has this id.
+abbrev pub is_publisher : ℕ → PublisherFields → Bool
+is_publisher p x = x.id == p
+
+-- The subscriber has this id.
+abbrev pub is_subscriber : ℕ → SubscriberFields → Bool
+is_subscriber q y = y.id == q
+
+-- The subscriber, as a publisher that delivers sees it.
+abbrev pub details_of : SubscriberFields → ReceiverDetails
+details_of y = record { port_id = y.id; buffer_size = y.buffer; is_open = y.is_open }
+
+-- No call that can't fail has to make room for the publisher.
+pub record HasPublisherRoom (config : ServiceConfig) (x : PublisherFields) : Type 0 where
+  pub loans : x.max_loaned_samples ≤ x.loan_room
+  pub history : (x.history).capacity ≡ config.history_size
+  pub places : config.max_subscribers ≤ x.place_room
+
+-- No call that can't fail has to make room for the subscriber.
+pub record HasSubscriberRoom (config : ServiceConfig) (y : SubscriberFields) : Type 0 where
+  pub places : config.max_publishers ≤ y.place_room
+  pub expired : expired_limit config ≤ y.expired_room
+
+-- ---- connections
+
+-- The publisher has the connection at that key, at the place where the connection says.
+pub record SenderHas (publishers : List (Option PublisherFields)) (key : ℕ) (c : Link) : Type 0 where
+  pub publisher : PublisherFields
+  pub stands : slice_index_or publishers c.home.publisher_place None ≡ Some publisher
+  pub is_its : publisher.id ≡ c.home.publisher
+  pub has : slice_index_or publisher.places c.home.subscriber_place None ≡ Some key
+
+-- The subscriber has the connection at that key, at the place where the connection says or among the expired ones.
+pub record ReceiverHas (subscribers : List (Option SubscriberFields)) (key : ℕ) (c : Link) : Type 0 where
+  pub subscriber : SubscriberFields
+  pub stands : slice_index_or subscribers c.home.subscriber_place None ≡ Some subscriber
+  pub is_its : subscriber.id ≡ c.home.subscriber
+  pub has : (slice_index_or subscriber.places c.home.publisher_place None ≡ Some key) ⊎ Contains subscriber.expired key
+
+-- Every port and every connection know of each other.
+pub record IsLinked {T U : Type 0} (f : Fields T U) : Type 0 where
+  pub senders : (i : ℕ) (x : PublisherFields) → slice_index_or f.publishers i None ≡ Some x → IsSenderLinked x.id f.connections x.places
+  pub receivers : (i : ℕ) (y : SubscriberFields) → slice_index_or f.subscribers i None ≡ Some y
+      → IsReceiverLinked y.id (f.config).subscriber_max_borrowed_samples f.connections y.places
+  pub expired : (i : ℕ) (y : SubscriberFields) → slice_index_or f.subscribers i None ≡ Some y
+      → IsReceiverLinked y.id (f.config).subscriber_max_borrowed_samples f.connections (map Some y.expired)
+  -- No connection is left that neither of its ports has.
+  pub ends : (key : ℕ) (c : Link) → get f.connections key ≡ Some c → SenderHas f.publishers key c ⊎ ReceiverHas f.subscribers key c
+  -- A subscriber knows a connection at the place that this names.
+  pub receiver_places : (i place key : ℕ) (y : SubscriberFields) (c : Link) → slice_index_or f.subscribers i None ≡ Some y
+      → slice_index_or y.places place None ≡ Some key → get f.connections key ≡ Some c → c.home.publisher_place ≡ place
+  -- What a connection says of its ports is so while they are there.
+  pub knows : KnowsReceivers f.connections (map (option_map details_of) f.subscribers)
+  pub knows_publishers : (key i : ℕ) (c : Link) (x : PublisherFields) → get f.connections key ≡ Some c → slice_index_or f.publishers i None ≡ Some x
+      → x.id ≡ c.home.publisher → i ≡ c.home.publisher_place
+  -- So many messages may be borrowed in each connection.
+  pub limits : (key : ℕ) (c : Link) → get f.connections key ≡ Some c → c.limit ≡ (f.config).subscriber_max_borrowed_samples
+  -- Slots that were given back lie where their publisher reclaims them.
+  pub returned : (key : ℕ) (c : Link) → get f.connections key ≡ Some c → SenderHas f.publishers key c ⊎ (c.returned ≡ [])
+
+-- ---- books
+
+-- The book is aligned, and there are contents for each of its slots.
+pub record IsBook {T U : Type 0} (b : Book) (contents : Option (List (ContentState T U))) : Type 0 where
+  pub aligned : IsAligned b
+  pub shaped : IsSomeAnd contents (λ cs. length cs ≡ length b.holders)
+
+-- The publisher's book has at least its slots, and no more where its memory doesn't grow. Each has room for the publisher's
+-- first longest slice.
+pub record HasBook {T U : Type 0} (f : Fields T U) (x : PublisherFields) : Type 0 where
+  pub book : Book
+  pub stands : get f.books x.book ≡ Some book
+  pub is_its : book.publisher ≡ x.id
+  pub slots : x.slots ≤ length book.holders
+  pub no_more : is_static x.allocation ≡ true → length book.holders ≡ x.slots
+  pub room : IsSomeAnd (slice_index_or f.contents x.book None) (All (λ content. x.initial_max_slice_len * (f.config).units_per_element ≤ content.room))
+
+-- Each book has its contents, and each publisher its book. Nothing else has contents.
+pub record HasBooks {T U : Type 0} (f : Fields T U) : Type 0 where
+  pub one_each : (p : ℕ) → IsOnly (is_book_of p) f.books.slots
+  pub books : (key : ℕ) (b : Book) → get f.books key ≡ Some b → IsBook b (slice_index_or f.contents key None)
+  pub publishers : (i : ℕ) (x : PublisherFields) → slice_index_or f.publishers i None ≡ Some x → HasBook f x
+  pub no_others : (key : ℕ) → get f.books key ≡ None → slice_index_or f.contents key None ≡ None
+
+-- ---- slots
+
+-- How many hold the slot of the publisher p, by its book.
+abbrev pub holders_of : Slab Book → (p slot : ℕ) → ℕ
+holders_of books p slot = option_map_or (λ b. holders_at b slot) (look_up (is_book_of p) books.slots) 0
+
+-- A slot with this mark is a loan.
+abbrev pub is_lent : SlotMark → Bool
+is_lent Unwritten = true
+is_lent Written = true
+is_lent Sent = false
+
+-- The slot is a loan that is out.
+abbrev pub is_loan_in : Book → (slot : ℕ) → Bool
+is_loan_in b slot = nat_lt 0 (holders_at b slot) && option_map_or is_lent (slice_get b.marks slot) false
+
+-- How often the publisher itself has the slot, as a loan or in its history. Of one that is gone, loans may still be out.
+abbrev pub own_holders : {T U : Type 0} → Fields T U → (p slot : ℕ) → ℕ
+own_holders f p slot =
+    option_map_or (λ (x : PublisherFields). times slot x.loans + times slot (x.history).items) (look_up (is_publisher p) f.publishers)
+    (option_map_or (λ b. cond (is_loan_in b slot) 1 0) (look_up (is_book_of p) f.books.slots) 0)
+
+-- Each slot has as many holders as there are places where it stands.
+pub record IsCounted {T U : Type 0} (f : Fields T U) : Type 0 where
+  pub at : (p slot : ℕ) → holders_of f.books p slot ≡ own_holders f p slot + sum_by (stands p slot) f.connections.slots
+
+-- The slot of the book at the key is held and has this number.
+pub record HasNumber (books : Slab Book) (key slot n : ℕ) : Type 0 where
+  pub book : Book
+  pub stands : get books key ≡ Some book
+  pub held : 0 < holders_at book slot
+  pub number : slice_index book.numbers slot ≡ n
+
+-- No two held slots have the same number, and each number was given out.
+pub record IsNumbered (next_message : ℕ) (books : Slab Book) : Type 0 where
+  pub one : (key key' slot slot' number : ℕ) → HasNumber books key slot number → HasNumber books key' slot' number → (key ≡ key') × (slot ≡ slot')
+  pub below : (key slot number : ℕ) → HasNumber books key slot number → number < next_message
+
+-- ---- messages
+
+-- The elements of a loan or a sent message are as many as its header says, and one where each message is a single value.
+pub record HasShape {T U : Type 0} (c : ServiceConfig) (m : KeptMessage T U) : Type 0 where
+  pub length : length_of m ≡ (header_of m).number_of_elements * c.units_per_element
+  pub single : c.variant ≡ FixedSize → (header_of m).number_of_elements ≡ 1
+
+-- What lies in each held slot has its shape.
+pub record HasShapes {T U : Type 0} (f : Fields T U) : Type 0 where
+  pub at : (key slot : ℕ) (b : Book) (m : KeptMessage T U) → get f.books key ≡ Some b
+      → message_in b (contents_at f.contents key) slot ≡ Some m → HasShape f.config m
+
+-- ---- what isn't there yet
+
+-- The settings that a domain may have.
+pub record IsSupported (c : ServiceConfig) : Type 0 where
+  pub single_values : c.variant ≡ FixedSize
+  pub one_publisher : c.max_publishers ≡ 1
+  pub one_subscriber : c.max_subscribers ≡ 1
+  pub no_history : c.history_size ≡ 0
+  pub no_overflow : c.enable_safe_overflow ≡ false
+
+-- The publisher discards what a full receiver doesn't take, and has one segment, of single values.
+pub record IsPlain (x : PublisherFields) : Type 0 where
+  pub strategy : x.strategy ≡ DiscardData
+  pub allocation : x.allocation ≡ Static
+  pub length : x.initial_max_slice_len ≡ 1
+
+-- No port was closed: each place is taken, each subscriber is open, and the ports of each connection and each book stand
+-- at their places.
+pub record HasOnlyOpenPorts {T U : Type 0} (f : Fields T U) : Type 0 where
+  pub publishers : (i : ℕ) → i < length f.publishers → (x : PublisherFields) × (slice_index_or f.publishers i None ≡ Some x)
+  pub subscribers : (i : ℕ) → i < length f.subscribers → (y : SubscriberFields) × (slice_index_or f.subscribers i None ≡ Some y)
+  pub are_open : (i : ℕ) (y : SubscriberFields) → slice_index_or f.subscribers i None ≡ Some y → (y.is_open ≡ true) × (y.expired ≡ [])
+  pub senders : (key : ℕ) (c : Link) → get f.connections key ≡ Some c
+      → (x : PublisherFields) × (slice_index_or f.publishers c.home.publisher_place None ≡ Some x) × (x.id ≡ c.home.publisher)
+  pub receivers : (key : ℕ) (c : Link) → get f.connections key ≡ Some c
+      → (y : SubscriberFields) × (slice_index_or f.subscribers c.home.subscriber_place None ≡ Some y) × (y.id ≡ c.home.subscriber)
+  pub books : (key : ℕ) (b : Book) → get f.books key ≡ Some b
+      → (i : ℕ) × (x : PublisherFields) × (slice_index_or f.publishers i None ≡ Some x) × (x.id ≡ b.publisher) × (x.book ≡ key)
+
+-- ---- the whole
+
+-- The fields agree with one another, and what they keep is a well-formed state with an entry for each message that
+-- somebody holds.
+pub record IsDomain {T U : Type 0} (f : Fields T U) : Type 0 where
+  pub publisher_ids : (p : ℕ) → IsOnly (is_publisher p) f.publishers
+  pub subscriber_ids : (q : ℕ) → IsOnly (is_subscriber q) f.subscribers
+  pub apart : IsApart f.connections
+  pub linked : IsLinked f
+  pub books : HasBooks f
+  pub counted : IsCounted f
+  pub numbered : IsNumbered f.next_message f.books
+  pub publisher_room : (i : ℕ) (x : PublisherFields) → slice_index_or f.publishers i None ≡ Some x → HasPublisherRoom f.config x
+  pub subscriber_room : (i : ℕ) (y : SubscriberFields) → slice_index_or f.subscribers i None ≡ Some y → HasSubscriberRoom f.config y
+  pub warning_room : (f.warnings).capacity ≡ warning_limit
+  pub shapes : HasShapes f
+  pub supported : IsSupported f.config
+  pub plain : (i : ℕ) (x : PublisherFields) → slice_index_or f.publishers i None ≡ Some x → IsPlain x
+  pub open_ports : HasOnlyOpenPorts f
+  pub well_formed : IsWellFormed (state_of (kept_of f))
+  pub entries : KeepsEntries (kept_of f)

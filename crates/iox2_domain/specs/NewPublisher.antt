@@ -1,0 +1,82 @@
+-- A publisher enters a domain, with its book and the contents of its slots.
+use Rattle.std.specs.Prelude.{◌≡◌, ◌≢◌, ◌≤◌, ◌==◌, ℕ, true, cond, nat_lt, List, [], length, replicate, slice_index_or}
+use Rattle.std.specs.List.{All}
+use Rattle.std.specs.declared.option.Option.{Option}
+use Rattle.std.specs.declared.option.Option.TheVariants.{None, Some}
+use Rattle.std.specs.declared.result.Result.{Result}
+use Rattle.std.specs.declared.result.Result.TheVariants.{Ok, Err}
+use Rattle.slab.specs.Slab.{Slab, get, Updates}
+use Rattle.circular_buffer.specs.Buffer.{Buffer}
+use Rattle.iox2_store.specs.Limits.{last_number}
+use Rattle.iox2_store.specs.Records.{PublisherSettings, Fixed}
+use Rattle.iox2_store.specs.SlotBook.{Book, IsAligned}
+use Rattle.iox2_store.specs.SlotContents.{ContentState}
+use Rattle.iox2_store.specs.declared.allocation.AllocationStrategy.TheVariants.{Static}
+use Rattle.iox2_store.specs.declared.backpressure.BackpressureStrategy.TheVariants.{DiscardData}
+use Rattle.iox2_store.specs.declared.degradation.DegradationAction.TheVariants.{Warn}
+use Rattle.iox2_store.specs.declared.errors.PublisherCreateError.{PublisherCreateError}
+use Rattle.iox2_store.specs.declared.errors.PublisherCreateError.TheVariants.{UnableToCreatePortTag, ExceedsMaxSupportedPublishers}
+use Rattle.iox2_domain.specs.Ports.{PublisherFields, SubscriberFields}
+use Rattle.iox2_domain.specs.Fields.{Fields}
+use Rattle.iox2_domain.specs.Placed.{lowest_empty}
+
+-- The settings of a publisher that discards what a full receiver doesn't take, has one segment of single values, and no
+-- handlers.
+abbrev pub plain_publisher : (max_loaned_samples : ℕ) → PublisherSettings
+plain_publisher max_loaned_samples = record {
+  max_loaned_samples = max_loaned_samples;
+  backpressure_strategy = DiscardData;
+  allocation_strategy = Static;
+  initial_max_slice_len = 1;
+  asked_slots = None;
+  degradation_handler = Fixed Warn;
+  backpressure_handler = None;
+}
+
+-- A publisher that was just made, with these slots and with room for so many loans and connections.
+abbrev pub entering_publisher : (id place book max_loaned_samples slots : ℕ) (loan_room : ℕ) (history : Buffer ℕ) (place_room : ℕ) → PublisherFields
+entering_publisher id place book max_loaned_samples slots loan_room history place_room = record {
+  id = id;
+  place = place;
+  book = book;
+  max_loaned_samples = max_loaned_samples;
+  slots = slots;
+  strategy = DiscardData;
+  allocation = Static;
+  initial_max_slice_len = 1;
+  longest_granted = 0;
+  segments = 1;
+  loans = [];
+  loan_room = loan_room;
+  history = history;
+  places = [];
+  place_room = place_room;
+  is_due = true;
+}
+
+module _ {T U : Type 0} where
+  -- The lowest free place for a publisher, or the first reason to refuse it.
+  abbrev pub place_for_publisher : Fields T U → Result ℕ PublisherCreateError
+  place_for_publisher f =
+      cond (f.next_port == last_number) (Err UnableToCreatePortTag)
+      (cond (nat_lt (lowest_empty f.publishers) (f.config).max_publishers) (Ok (lowest_empty f.publishers)) (Err ExceedsMaxSupportedPublishers))
+
+-- The subscriber, due for an update.
+abbrev pub subscriber_due : SubscriberFields → SubscriberFields
+subscriber_due y = record y { is_due = true }
+
+-- A book of the publisher, none of whose slots is held, is among the books now, at a key that had none. At that key are
+-- contents for its slots, each with room for so many elements. Nothing else changes.
+pub record BookEnters {T U : Type 0} (publisher slots room key : ℕ) (old_books : Slab Book) (old_contents : List (Option (List (ContentState T U))))
+    (books : Slab Book) (contents : List (Option (List (ContentState T U)))) : Type 0 where
+  pub book : Book
+  pub vacant : get old_books key ≡ None
+  pub updates : Updates old_books books key (Some book)
+  pub is_its : book.publisher ≡ publisher
+  pub unused : book.holders ≡ replicate slots 0
+  pub aligned : IsAligned book
+  pub slot_contents : List (ContentState T U)
+  pub contents_here : slice_index_or contents key None ≡ Some slot_contents
+  pub contents_others : (k : ℕ) → k ≢ key → slice_index_or contents k None ≡ slice_index_or old_contents k None
+  pub contents_length : length slot_contents ≡ slots
+  pub has_room : All (λ content. room ≤ content.room) slot_contents

@@ -1,0 +1,14 @@
+-- What a step on the fields of a domain comes to.
+use Rattle.std.specs.Prelude.{◌≡◌, ℕ}
+use Rattle.std.specs.declared.option.Option.TheVariants.{Some}
+use Rattle.iox2_store.specs.Records.{Entry}
+use Rattle.iox2_store.specs.State.{State}
+use Rattle.iox2_domain.specs.Kept.{state_of, entries_of}
+use Rattle.iox2_domain.specs.Fields.{Fields, kept_of}
+use Rattle.iox2_domain.specs.Invariant.{IsDomain}
+
+-- The fields agree and keep this state afterwards, and keep no entry that they didn't keep before.
+pub record Reaches {T U : Type 0} (old new : Fields T U) (s : State T U) : Type 0 where
+  pub agrees : IsDomain new
+  pub state : state_of (kept_of new) ≡ s
+  pub entries : (n : ℕ) (entry : Entry T U) → entries_of (kept_of new) n ≡ Some entry → entries_of (kept_of old) n ≡ Some entry

@@ -1,0 +1,48 @@
+-- What a receive comes to.
+use Rattle.std.specs.Prelude.{◌≡◌, ℕ, MatchOption}
+use Rattle.std.specs.declared.option.Option.{Option}
+use Rattle.std.specs.declared.option.Option.TheVariants.{None, Some}
+use Rattle.std.specs.declared.result.Result.{Result}
+use Rattle.std.specs.declared.result.Result.TheVariants.{Ok, Err}
+use Rattle.slab.specs.Slab.{get}
+use Rattle.iox2_store.specs.Link.{Link}
+use Rattle.iox2_store.specs.State.{State}
+use Rattle.iox2_store.specs.Environments.{fixed_handlers}
+use Rattle.iox2_store.specs.Receives.{ReceiveResult, Got_sample, No_sample, Receive_error, TakeSample, Receive}
+use Rattle.iox2_store.specs.declared.errors.ReceiveError.{ReceiveError}
+use Rattle.iox2_ends.specs.Homes.{SameHomes}
+use Rattle.iox2_ends.specs.Takes.{KeepsOtherKeys, SameStands, TakesSlot}
+use Rattle.iox2_domain.specs.Kept.{state_of}
+use Rattle.iox2_domain.specs.Fields.{Fields, kept_of, numbers_of}
+use Rattle.iox2_domain.specs.Reaches.{Reaches}
+use Rattle.iox2_domain.specs.declared.receipts.Receipt.{Receipt}
+
+-- What the machine answers where a call answers this.
+abbrev pub receive_result : Result (Option Receipt) ReceiveError → ReceiveResult
+receive_result (Ok None) = No_sample
+receive_result (Ok (Some receipt)) = Got_sample receipt.publisher receipt.number
+receive_result (Err e) = Receive_error e
+
+module _ {T U : Type 0} where
+  -- The message that waited longest in the connection at the key is borrowed, and no other field changes.
+  pub record TakesFrom (old : Fields T U) (key : ℕ) (receipt : Receipt) (new : Fields T U) : Type 0 where
+    pub link : Link
+    pub stands : get old.connections key ≡ Some link
+    pub only : new ≡ record old { connections = new.connections }
+    pub takes : TakesSlot old.connections key receipt.slot new.connections
+    pub homes : SameHomes old.connections new.connections
+    pub others : KeepsOtherKeys key old.connections new.connections
+    pub stay : SameStands old.connections new.connections
+    pub publisher_is : receipt.publisher ≡ link.home.publisher
+    pub number_is : receipt.number ≡ numbers_of old.books link.home.publisher receipt.slot
+
+  -- The subscriber q takes what it may receive, as the machine does.
+  abbrev pub TakesAs : (old : Fields T U) (q : ℕ) → Result (Option Receipt) ReceiveError → (new : Fields T U) → Type 0
+  TakesAs old q result new =
+      (s' : State T U) × Reaches old new s'
+      × MatchOption ((state_of (kept_of old)).subscribers q) ⊥ (λ y. TakeSample (state_of (kept_of old)) q y s' (receive_result result))
+
+  -- The subscriber q receives, as the machine does.
+  abbrev pub ReceivesAs : (old : Fields T U) (q : ℕ) → Result (Option Receipt) ReceiveError → (new : Fields T U) → Type 0
+  ReceivesAs old q result new =
+      (s' : State T U) × Reaches old new s' × Receive fixed_handlers (state_of (kept_of old)) q s' (receive_result result)

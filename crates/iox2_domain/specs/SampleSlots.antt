@@ -1,0 +1,42 @@
+-- Where borrowed messages lie.
+use Rattle.std.specs.Prelude.{◌≡◌, ◌≢◌, ℕ, true, map, slice_index, Contains}
+use Rattle.std.specs.declared.option.Option.TheVariants.{Some}
+use Rattle.slab.specs.Slab.{Slab, get}
+use Rattle.iox2_store.specs.Link.{Link}
+use Rattle.iox2_store.specs.Numbers.{contains}
+use Rattle.iox2_store.specs.SlotBook.{Book}
+use Rattle.iox2_domain.specs.Fields.{Fields, numbers_of}
+use Rattle.iox2_domain.specs.declared.sample_slots.SampleSlot.{SampleSlot}
+
+-- The book at the key is this publisher's.
+pub record IsBookOf (books : Slab Book) (publisher key : ℕ) : Type 0 where
+  pub book : Book
+  pub stands : get books key ≡ Some book
+  pub is_its : book.publisher ≡ publisher
+
+-- No borrowed slot has this number.
+abbrev pub HasNoneNumbered : Link → Book → (number : ℕ) → Type 0
+HasNoneNumbered c book number = (slot : ℕ) → Contains c.borrowed slot → slice_index book.numbers slot ≢ number
+
+-- A borrowed slot has this number.
+pub record IsNumberedSlot (c : Link) (book : Book) (number slot : ℕ) : Type 0 where
+  pub borrowed : Contains c.borrowed slot
+  pub number_is : slice_index book.numbers slot ≡ number
+
+-- The publisher's message with this number lies there, borrowed by the subscriber.
+pub record LiesBorrowed {T U : Type 0} (f : Fields T U) (subscriber publisher number : ℕ) (at : SampleSlot) : Type 0 where
+  pub connection : Link
+  pub book : Book
+  pub has_connection : get f.connections at.connection ≡ Some connection
+  pub has_book : get f.books at.book ≡ Some book
+  pub subscriber_is : connection.home.subscriber ≡ subscriber
+  pub publisher_is : connection.home.publisher ≡ publisher
+  pub book_is : book.publisher ≡ publisher
+  pub slot_is : IsNumberedSlot connection book number at.slot
+
+-- The subscriber has borrowed a message with this number in the connection at the key.
+pub record BorrowsAt {T U : Type 0} (f : Fields T U) (key subscriber number : ℕ) : Type 0 where
+  pub connection : Link
+  pub stands : get f.connections key ≡ Some connection
+  pub subscriber_is : connection.home.subscriber ≡ subscriber
+  pub is_borrowed : contains (map (numbers_of f.books connection.home.publisher) connection.borrowed) number ≡ true

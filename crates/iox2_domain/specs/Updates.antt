@@ -1,0 +1,64 @@
+-- What an update changes of a port and of a domain's fields.
+use Rattle.std.specs.Prelude.{◌≡◌, ℕ, Bool, false, List, slice_index_or, slice_set}
+use Rattle.std.specs.declared.option.Option.{Option}
+use Rattle.std.specs.declared.option.Option.TheVariants.{None, Some}
+use Rattle.std.specs.Option.{option_map, option_map_or, option_and_then}
+use Rattle.slab.specs.Slab.{Slab, Updates, get}
+use Rattle.iox2_store.specs.Link.{Link, empty_link}
+use Rattle.iox2_store.specs.Places.{set_place}
+use Rattle.iox2_store.specs.declared.connection.Home.{Home}
+use Rattle.iox2_domain.specs.Ports.{PublisherFields, SubscriberFields}
+
+-- The list with the record at the place changed so, if there is one.
+abbrev pub changed_at : {A : Type 0} → (A → A) → List (Option A) → (place : ℕ) → List (Option A)
+changed_at change xs place = slice_set xs place (option_map change (slice_index_or xs place None))
+
+-- The publisher, with the key of its connection at a subscriber's place.
+abbrev pub with_sender_key : (place key : ℕ) → PublisherFields → PublisherFields
+with_sender_key place key x = record x { places = set_place x.places place (Some key) }
+
+-- The subscriber, with the key of its connection at a publisher's place.
+abbrev pub with_receiver_key : (place key : ℕ) → SubscriberFields → SubscriberFields
+with_receiver_key place key y = record y { places = set_place y.places place (Some key) }
+
+-- The publisher, due no more.
+abbrev pub updated_publisher : PublisherFields → PublisherFields
+updated_publisher x = record x { is_due = false }
+
+-- The subscriber, due no more.
+abbrev pub updated_subscriber : SubscriberFields → SubscriberFields
+updated_subscriber y = record y { is_due = false }
+
+-- The key of the publisher's connection at a subscriber's place.
+abbrev pub sender_key : List (Option PublisherFields) → (at place : ℕ) → Option ℕ
+sender_key publishers at place = option_and_then (λ (x : PublisherFields). slice_index_or x.places place None) (slice_index_or publishers at None)
+
+-- The key of the subscriber's connection at a publisher's place.
+abbrev pub receiver_key : List (Option SubscriberFields) → (at place : ℕ) → Option ℕ
+receiver_key subscribers at place = option_and_then (λ (y : SubscriberFields). slice_index_or y.places place None) (slice_index_or subscribers at None)
+
+-- A connection in which no slot stands was made at a key that was free.
+pub record MakesConnection (old : Slab Link) (home : Home) (buffer limit key : ℕ) (new : Slab Link) : Type 0 where
+  pub was_free : get old key ≡ None
+  pub made : Updates old new key (Some (empty_link home buffer limit))
+
+-- Where the connection stands of the publisher x at the place i and the subscriber y at the place j.
+abbrev pub home_of : (i j : ℕ) → PublisherFields → SubscriberFields → Home
+home_of i j x y = record { publisher = x.id; subscriber = y.id; publisher_place = i; subscriber_place = j }
+
+-- A publisher stands at the place i, and a subscriber with that buffer at the place j; this is where their connection stands.
+pub record StandApart (publishers : List (Option PublisherFields)) (subscribers : List (Option SubscriberFields)) (i j : ℕ) (home : Home) (buffer : ℕ) : Type 0 where
+  pub publisher : PublisherFields
+  pub subscriber : SubscriberFields
+  pub publisher_stands : slice_index_or publishers i None ≡ Some publisher
+  pub subscriber_stands : slice_index_or subscribers j None ≡ Some subscriber
+  pub home_is : home ≡ home_of i j publisher subscriber
+  pub buffer_is : buffer ≡ subscriber.buffer
+
+-- The publisher at the place is due for an update.
+abbrev pub is_publisher_due : List (Option PublisherFields) → (place : ℕ) → Bool
+is_publisher_due publishers place = option_map_or (λ (x : PublisherFields). x.is_due) (slice_index_or publishers place None) false
+
+-- The subscriber at the place is due for an update.
+abbrev pub is_subscriber_due : List (Option SubscriberFields) → (place : ℕ) → Bool
+is_subscriber_due subscribers place = option_map_or (λ (y : SubscriberFields). y.is_due) (slice_index_or subscribers place None) false

@@ -1,0 +1,128 @@
+//! Ports get their connections, one place after the other.
+ghost use Rattle.std.specs.Prelude.{◌≡◌, ◌<◌, false, Some, None, length, slice_index_or, IfOk, OnErr};
+ghost use Rattle.iox2_store.specs.declared.warning.Warning.TheVariants.{ConnectionNotMade};
+ghost use Rattle.iox2_domain.specs.Ports.{PublisherFields, SubscriberFields};
+ghost use Rattle.iox2_domain.specs.Updates.{MakesConnection, StandApart, home_of};
+
+use crate::keys::{publisher_key, set_publisher_key, set_subscriber_key, subscriber_key};
+use crate::publisher_state::PublisherState;
+use crate::state::DomainState;
+use crate::subscriber_state::SubscriberState;
+use crate::warnings::warn;
+use iox2_store::{Connection, Home, UniquePublisherId, UniqueSubscriberId, Warning};
+use slab::Slab;
+use std::alloc::{AllocError, Global};
+
+fn home_of(
+    at: usize,
+    place: usize,
+    publisher: &PublisherState,
+    subscriber: &SubscriberState,
+) -> Home
+    ensures { result ≡ home_of at place publisher.now subscriber.now }
+{
+    Home {
+        publisher: publisher.id.value(),
+        subscriber: subscriber.id.value(),
+        publisher_place: at,
+        subscriber_place: place,
+    }
+}
+
+// That the connection which was to stand there wasn't made.
+fn not_made(home: Home) -> Warning
+    ensures { result ≡ ConnectionNotMade home.publisher home.subscriber }
+{
+    Warning::ConnectionNotMade {
+        sender: UniquePublisherId::new(home.publisher),
+        receiver: UniqueSubscriberId::new(home.subscriber),
+    }
+}
+
+// Makes a connection in which no slot stands, and answers its key.
+fn make_connection(
+    alloc: Global,
+    connections: &mut Slab<Connection>,
+    home: Home,
+    buffer: usize,
+    limit: usize,
+) -> Result<usize, AllocError>
+    requires { 0 < buffer }
+    ensures made { IfOk result (λ key. MakesConnection connections.old home buffer limit key connections.new) }
+    ensures refused { OnErr result (connections.new ≡ record connections.old { capacity = connections.new.capacity }) }
+{
+    let connection = Connection::new(alloc, home, buffer, limit)?;
+    match connections.insert(connection) {
+        Ok(key) => Ok(key),
+        Err(_) => Err(AllocError),
+    }
+}
+
+impl<T: Drop, U: Default + Drop> DomainState<T, U> {
+    ghost use Rattle.iox2_domain.specs.Invariant.{IsDomain};
+    ghost use Rattle.iox2_domain.specs.Connects.{ConnectsSender, ConnectsReceiver};
+
+    // Where the connection of the ports at these places stands, and how many slots may wait there.
+    fn ports_at(&self, at: usize, place: usize) -> (Home, usize)
+        requires agrees { IsDomain self.now }
+        requires publisher { at < length self.now.publishers }
+        requires subscriber { place < length self.now.subscribers }
+        ensures { StandApart self.now.publishers self.now.subscribers at place result.0 result.1 }
+    {
+        let (Some(publisher), Some(subscriber)) = (&self.publishers[at], &self.subscribers[place])
+        else {
+            unreachable!()
+        };
+        (home_of(at, place, publisher, subscriber), subscriber.buffer)
+    }
+
+    /// The publisher at a place that isn't due gets its connection with the subscriber at another.
+    /// One that it has stays. Where memory for a new one is refused, that is a warning.
+    pub(crate) fn connect_sender(&mut self, at: usize, place: usize)
+        requires agrees { IsDomain self.old }
+        requires publisher { at < length self.old.publishers }
+        requires subscriber { place < length self.old.subscribers }
+        ensures { (x : PublisherFields) → slice_index_or self.old.publishers at None ≡ Some x → x.is_due ≡ false
+            → ConnectsSender self.old at place x self.new }
+    {
+        if publisher_key(&self.publishers, at, place).is_some() {
+            return;
+        }
+        if let Some(key) = subscriber_key(&self.subscribers, place, at) {
+            set_publisher_key(&mut self.publishers, at, place, key);
+            return;
+        }
+        let (home, buffer) = self.ports_at(at, place);
+        let limit = self.config.subscriber_max_borrowed_samples;
+        let Ok(key) = make_connection(self.alloc, &mut self.connections, home, buffer, limit) else {
+            warn(&mut self.warnings, not_made(home));
+            return;
+        };
+        set_publisher_key(&mut self.publishers, at, place, key);
+    }
+
+    /// The subscriber at a place that isn't due gets its connection with the publisher at another.
+    /// One that it has stays. Where memory for a new one is refused, that is a warning.
+    pub(crate) fn connect_receiver(&mut self, place: usize, at: usize)
+        requires agrees { IsDomain self.old }
+        requires publisher { at < length self.old.publishers }
+        requires subscriber { place < length self.old.subscribers }
+        ensures { (y : SubscriberFields) → slice_index_or self.old.subscribers place None ≡ Some y → y.is_due ≡ false
+            → ConnectsReceiver self.old place at y self.new }
+    {
+        if subscriber_key(&self.subscribers, place, at).is_some() {
+            return;
+        }
+        if let Some(key) = publisher_key(&self.publishers, at, place) {
+            set_subscriber_key(&mut self.subscribers, place, at, key);
+            return;
+        }
+        let (home, buffer) = self.ports_at(at, place);
+        let limit = self.config.subscriber_max_borrowed_samples;
+        let Ok(key) = make_connection(self.alloc, &mut self.connections, home, buffer, limit) else {
+            warn(&mut self.warnings, not_made(home));
+            return;
+        };
+        set_subscriber_key(&mut self.subscribers, place, at, key);
+    }
+}

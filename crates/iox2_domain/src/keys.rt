@@ -1,0 +1,106 @@
+//! Where the ports have the keys of their connections.
+ghost use Rattle.std.specs.Prelude.{◌≡◌, ◌<◌, Some, None, length, slice_index_or, vec_capacity};
+ghost use Rattle.iox2_store.specs.Places.{set_place};
+ghost use Rattle.iox2_domain.specs.Updates.{changed_at, with_sender_key, with_receiver_key, sender_key, receiver_key};
+
+use crate::publisher_state::PublisherState;
+use crate::subscriber_state::SubscriberState;
+
+// Sets the key at a place; the list grows where it is too short.
+fn set_key(places: &mut Vec<Option<usize>>, place: usize, key: usize)
+    requires room { place < vec_capacity places.old }
+    ensures items { places.new.items ≡ set_place places.old.items place (Some key) }
+    ensures same_room { vec_capacity places.new ≡ vec_capacity places.old }
+{
+    while places.len() <= place {
+        places.push_reserved(None);
+    }
+    places[place] = Some(key);
+}
+
+fn key_at(places: &[Option<usize>], place: usize) -> Option<usize>
+    ensures { result ≡ slice_index_or places.now place None }
+{
+    match places.get(place) {
+        Some(key) => *key,
+        None => None,
+    }
+}
+
+impl PublisherState {
+    fn set_key(&mut self, place: usize, key: usize)
+        requires { place < self.old.place_room }
+        ensures { self.new ≡ with_sender_key place key self.old }
+    {
+        set_key(&mut self.places, place, key);
+    }
+}
+
+impl SubscriberState {
+    fn set_key(&mut self, place: usize, key: usize)
+        requires { place < self.old.place_room }
+        ensures { self.new ≡ with_receiver_key place key self.old }
+    {
+        set_key(&mut self.places, place, key);
+    }
+}
+
+/// The key that the publisher at a place has for its connection with the subscriber at another.
+pub(crate) fn publisher_key(
+    publishers: &[Option<PublisherState>],
+    at: usize,
+    place: usize,
+) -> Option<usize>
+    ensures { result ≡ sender_key publishers.now at place }
+{
+    match publishers.get(at) {
+        Some(Some(publisher)) => key_at(&publisher.places, place),
+        _ => None,
+    }
+}
+
+/// The key that the subscriber at a place has for its connection with the publisher at another.
+pub(crate) fn subscriber_key(
+    subscribers: &[Option<SubscriberState>],
+    at: usize,
+    place: usize,
+) -> Option<usize>
+    ensures { result ≡ receiver_key subscribers.now at place }
+{
+    match subscribers.get(at) {
+        Some(Some(subscriber)) => key_at(&subscriber.places, place),
+        _ => None,
+    }
+}
+
+/// Gives the publisher at a place the key of its connection with the subscriber at another.
+pub(crate) fn set_publisher_key(
+    publishers: &mut [Option<PublisherState>],
+    at: usize,
+    place: usize,
+    key: usize,
+)
+    requires stands { at < length publishers.old }
+    requires room { (x : _) → slice_index_or publishers.old at None ≡ Some x → place < x.place_room }
+    ensures { publishers.new ≡ changed_at (with_sender_key place key) publishers.old at }
+{
+    if let Some(publisher) = &mut publishers[at] {
+        publisher.set_key(place, key);
+    }
+}
+
+/// Gives the subscriber at a place the key of its connection with the publisher at another.
+pub(crate) fn set_subscriber_key(
+    subscribers: &mut [Option<SubscriberState>],
+    at: usize,
+    place: usize,
+    key: usize,
+)
+    requires stands { at < length subscribers.old }
+    requires room { (y : _) → slice_index_or subscribers.old at None ≡ Some y → place < y.place_room }
+    ensures { subscribers.new ≡ changed_at (with_receiver_key place key) subscribers.old at }
+{
+    if let Some(subscriber) = &mut subscribers[at] {
+        subscriber.set_key(place, key);
+    }
+}

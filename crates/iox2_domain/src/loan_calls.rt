@@ -1,0 +1,100 @@
+//! Calls on a loan that is out.
+ghost use Rattle.std.specs.Prelude.{◌≡◌, length, IsSomeAnd};
+ghost use Rattle.std.specs.Option.{option_map};
+ghost use Rattle.iox2_store.specs.SlotContents.{SomeAt, with_changed, written_content};
+
+use crate::state::DomainState;
+use iox2_store::{Contents, Header, SlotMark};
+
+impl<T: Drop, U: Default + Drop> DomainState<T, U> {
+    ghost use Rattle.std.specs.Prelude.{Some};
+    ghost use Rattle.iox2_store.specs.SingleCalls.{HoldsLoan};
+    ghost use Rattle.iox2_domain.specs.Kept.{state_of};
+    ghost use Rattle.iox2_domain.specs.Fields.{kept_of};
+    ghost use Rattle.iox2_domain.specs.Invariant.{IsDomain};
+    ghost use Rattle.iox2_domain.specs.LoanCalls.{HoldsUnwritten, HoldsWritten, HasCell, HasLoanHeader, CanWrite, WritesSlot, WritesLoan};
+
+    /// Writes the value of a publisher's unwritten loan of one element, and answers the slot in
+    /// which it lies. It is looked for in the slot `hint` first.
+    pub fn write_loan(&mut self, publisher: u128, number: u128, hint: usize, value: T) -> usize
+        requires agrees { IsDomain self.old }
+        requires single { (self.old.config).units_per_element ≡ 1 }
+        requires held { HoldsUnwritten (state_of (kept_of self.old)) publisher number }
+        ensures { WritesLoan self.old self.new number value }
+    {
+        let Some((key, slot)) = self.find_loan(publisher, number, hint) else {
+            unreachable!()
+        };
+        self.write_slot(key, slot, value);
+        slot
+    }
+
+    // Writes the value of the one cell in a slot.
+    fn write_slot(&mut self, key: usize, slot: usize, value: T)
+        requires { CanWrite self.old key slot }
+        ensures { WritesSlot self.old self.new key slot value }
+    {
+        self.books[key].set_mark(slot, SlotMark::Written);
+        write_content(&mut self.contents[key], slot, value);
+    }
+
+    /// The cell of a publisher's unwritten loan of one element. The loan is looked for in the slot
+    /// `hint` first.
+    pub fn loan_cell(&self, publisher: u128, number: u128, hint: usize) -> &Option<T>
+        requires agrees { IsDomain self.now }
+        requires single { (self.now.config).units_per_element ≡ 1 }
+        requires held { HoldsUnwritten (state_of (kept_of self.now)) publisher number }
+        ensures { HasCell (state_of (kept_of self.now)) number result.now }
+    {
+        let Some((key, slot)) = self.find_loan(publisher, number, hint) else {
+            unreachable!()
+        };
+        let Some(contents) = &self.contents[key] else {
+            unreachable!()
+        };
+        contents.cell(slot)
+    }
+
+    /// The value of a publisher's written loan of one element. The loan is looked for in the slot
+    /// `hint` first.
+    pub fn loan_value(&self, publisher: u128, number: u128, hint: usize) -> &T
+        requires agrees { IsDomain self.now }
+        requires single { (self.now.config).units_per_element ≡ 1 }
+        requires held { HoldsWritten (state_of (kept_of self.now)) publisher number }
+        ensures { HasCell (state_of (kept_of self.now)) number (Some result.now) }
+    {
+        let Some((key, slot)) = self.find_loan(publisher, number, hint) else {
+            unreachable!()
+        };
+        let Some(contents) = &self.contents[key] else {
+            unreachable!()
+        };
+        contents.value(slot)
+    }
+
+    /// The header of a publisher's loan. The loan is looked for in the slot `hint` first.
+    pub fn loan_header(&self, publisher: u128, number: u128, hint: usize) -> &Header
+        requires agrees { IsDomain self.now }
+        requires held { HoldsLoan (state_of (kept_of self.now)) publisher number }
+        ensures { HasLoanHeader (state_of (kept_of self.now)) number result.now }
+    {
+        let Some((key, slot)) = self.find_loan(publisher, number, hint) else {
+            unreachable!()
+        };
+        self.books[key].header(slot)
+    }
+}
+
+// Writes the value of the one cell in a slot of contents that are there.
+fn write_content<T: Drop, U: Default + Drop>(
+    contents: &mut Option<Contents<T, U>>,
+    slot: usize,
+    value: T,
+)
+    requires { IsSomeAnd contents.old (λ cs. SomeAt cs slot (λ content. length content.cells ≡ 1)) }
+    ensures { contents.new ≡ option_map (λ cs. with_changed cs slot (written_content value)) contents.old }
+{
+    if let Some(contents) = contents {
+        contents.write_payload(slot, value);
+    }
+}

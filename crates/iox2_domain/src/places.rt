@@ -1,0 +1,110 @@
+//! The places of a domain's ports.
+ghost use Rattle.std.specs.Prelude.{◌≡◌, ◌==◌, ◌<◌, ◌↔◌, ℕ, cond, nat_lt, slice_index_or, vec_capacity, IsTrue, IsSomeAnd, MatchOption};
+ghost use Rattle.iox2_ends.specs.LookUp.{look_up};
+ghost use Rattle.iox2_domain.specs.Placed.{placed, lowest_empty};
+
+use crate::publisher_state::PublisherState;
+use crate::state::DomainState;
+use crate::subscriber_state::SubscriberState;
+
+/// A port has an id, which no other port of its side has.
+pub(crate) trait Port {
+    ghost number: { Self → ℕ };
+
+    /// The number of its id.
+    fn number(&self) -> u128
+        ensures { result ≡ number self.now };
+}
+
+impl Port for PublisherState {
+    ghost number = { λ x. x.id };
+
+    fn number(&self) -> u128 {
+        self.id.value()
+    }
+}
+
+impl Port for SubscriberState {
+    ghost number = { λ y. y.id };
+
+    fn number(&self) -> u128 {
+        self.id.value()
+    }
+}
+
+/// The lowest place at which nothing stands, where it is below the limit.
+pub(crate) fn free_place<P>(places: &[Option<P>], limit: usize) -> Option<usize>
+    ensures { result ≡ cond (nat_lt (lowest_empty places.now) limit) (Some (lowest_empty places.now)) None }
+{
+    let place = lowest_place(places);
+    if place < limit { Some(place) } else { None }
+}
+
+fn lowest_place<P>(places: &[Option<P>]) -> usize
+    ensures { result ≡ lowest_empty places.now }
+{
+    for place in 0..places.len() {
+        if places[place].is_none() {
+            return place;
+        }
+    }
+    places.len()
+}
+
+/// Puts something at a place, for which there is room. The list grows where it is too short.
+pub(crate) fn put_at_place<P: Drop>(places: &mut Vec<Option<P>>, place: usize, value: P)
+    requires { place < vec_capacity places.old }
+    ensures items { places.new.items ≡ placed places.old.items place value }
+    ensures capacity { vec_capacity places.new ≡ vec_capacity places.old }
+{
+    while places.len() <= place {
+        places.push_reserved(None);
+    }
+    places[place] = Some(value);
+}
+
+// This port stands at the place.
+fn stands_at<P: Port>(ports: &[Option<P>], place: usize, id: u128) -> bool
+    ensures { IsTrue result ↔ IsSomeAnd (slice_index_or ports.now place None) (λ x. P.number x ≡ id) }
+{
+    if place >= ports.len() {
+        return false;
+    }
+    match &ports[place] {
+        Some(port) => port.number() == id,
+        None => false,
+    }
+}
+
+fn find_place<P: Port>(ports: &[Option<P>], id: u128, hint: usize) -> Option<usize>
+    ensures { MatchOption result (look_up (λ x. P.number x == id) ports.now ≡ None) (λ i. IsSomeAnd (slice_index_or ports.now i None) (λ x. P.number x ≡ id)) }
+{
+    if stands_at(ports, hint, id) {
+        return Some(hint);
+    }
+    for place in 0..ports.len() {
+        if stands_at(ports, place, id) {
+            return Some(place);
+        }
+    }
+    None
+}
+
+impl<T: Drop, U: Default + Drop> DomainState<T, U> {
+    ghost use Rattle.iox2_domain.specs.Ports.{PublisherFields, SubscriberFields};
+    ghost use Rattle.iox2_domain.specs.Invariant.{is_publisher, is_subscriber};
+
+    /// The place of the publisher with an id. It is looked for at the hint first.
+    pub fn find_publisher(&self, id: u128, hint: usize) -> Option<usize>
+        ensures { MatchOption result (look_up (is_publisher id) self.now.publishers ≡ None) (λ i. (x : PublisherFields) × (slice_index_or self.now.publishers i None ≡ Some x) × (x.id ≡ id)) }
+    {
+        find_place(&self.publishers, id, hint)
+    }
+
+    /// The place of the subscriber with an id. It is looked for at the hint first.
+    pub fn find_subscriber(&self, id: u128, hint: usize) -> Option<usize>
+        ensures { MatchOption result (look_up (is_subscriber id) self.now.subscribers ≡ None) (λ i. (y : SubscriberFields) × (slice_index_or self.now.subscribers i None ≡ Some y) × (y.id ≡ id)) }
+    {
+        find_place(&self.subscribers, id, hint)
+    }
+}

@@ -1,0 +1,120 @@
+//! What a domain has of a publisher.
+ghost use Rattle.std.specs.Prelude.{◌≡◌, [], map, IfOk};
+ghost use Rattle.std.specs.Option.{option_map};
+ghost use Rattle.iox2_domain.specs.Ports.{due};
+
+use circular_buffer::HeapCircularBuffer;
+use iox2_store::{AllocationStrategy, BackpressureStrategy, ServiceConfig, UniquePublisherId};
+use std::alloc::{AllocError, Global};
+use std::marker::Model;
+
+/// A publisher that wasn't closed. It knows its slots by their numbers in its book, and its
+/// connections by their keys.
+///
+/// iceoryx2's `PublisherSharedState` (`src/port/publisher.rs`) and `Sender`
+/// (`src/port/details/sender.rs`).
+#[derive(Drop)]
+pub(crate) struct PublisherState {
+    pub(crate) id: UniquePublisherId,
+    pub(crate) place: usize,
+    pub(crate) book: usize,
+    pub(crate) max_loaned_samples: usize,
+    pub(crate) slots: usize,
+    pub(crate) strategy: BackpressureStrategy,
+    pub(crate) allocation: AllocationStrategy,
+    pub(crate) initial_max_slice_len: usize,
+    pub(crate) longest_granted: usize,
+    pub(crate) segments: usize,
+    // The slots of the loans that are out, by rising number of the message.
+    pub(crate) loans: Vec<usize>,
+    // The slots of the last messages sent.
+    pub(crate) history: HeapCircularBuffer<usize>,
+    // At each subscriber's place the key of the connection with it.
+    pub(crate) places: Vec<Option<usize>>,
+    pub(crate) is_due: bool,
+}
+
+impl Model for PublisherState {
+    ghost use Rattle.std.specs.Prelude.{vec_capacity};
+    ghost use Rattle.iox2_domain.specs.Ports.{PublisherFields};
+
+    ghost Value = { PublisherFields };
+
+    ghost view = { λ x. record {
+      id = x.id;
+      place = x.place;
+      book = x.book;
+      max_loaned_samples = x.max_loaned_samples;
+      slots = x.slots;
+      strategy = x.strategy;
+      allocation = x.allocation;
+      initial_max_slice_len = x.initial_max_slice_len;
+      longest_granted = x.longest_granted;
+      segments = x.segments;
+      loans = x.loans.items;
+      loan_room = vec_capacity x.loans;
+      history = x.history;
+      places = x.places.items;
+      place_room = vec_capacity x.places;
+      is_due = x.is_due;
+    } };
+}
+
+impl PublisherState {
+    ghost use Rattle.circular_buffer.specs.Buffer.{buffer};
+    ghost use Rattle.iox2_domain.specs.Invariant.{HasPublisherRoom};
+    ghost use Rattle.iox2_domain.specs.NewPublisher.{entering_publisher};
+
+    /// A publisher of single values that enters at a place, with a book of so many slots at a key,
+    /// and with room for all the loans, the history and the connections that it may get. It
+    /// discards what a full receiver doesn't take, and makes no further segment.
+    pub(crate) fn new(
+        alloc: Global,
+        config: &ServiceConfig,
+        id: UniquePublisherId,
+        place: usize,
+        book: usize,
+        max_loaned_samples: usize,
+        slots: usize,
+    ) -> Result<Self, AllocError>
+        ensures enters { IfOk result (λ x. x ≡ entering_publisher id place book max_loaned_samples slots x.loan_room (buffer [] (config.now).history_size) x.place_room) }
+        ensures room { IfOk result (HasPublisherRoom config.now) }
+    {
+        let loans = Vec::with_capacity(alloc, max_loaned_samples)?;
+        let history = HeapCircularBuffer::with_capacity(alloc, config.history_size)?;
+        let places = Vec::with_capacity(alloc, config.max_subscribers)?;
+        Ok(PublisherState {
+            id,
+            place,
+            book,
+            max_loaned_samples,
+            slots,
+            strategy: BackpressureStrategy::DiscardData,
+            allocation: AllocationStrategy::Static,
+            initial_max_slice_len: 1,
+            longest_granted: 0,
+            segments: 1,
+            loans,
+            history,
+            places,
+            is_due: true,
+        })
+    }
+}
+
+/// Each publisher is due for an update.
+pub(crate) fn make_all_due(publishers: &mut [Option<PublisherState>])
+    ensures { publishers.new ≡ map (option_map due) publishers.old }
+{
+    for place in 0..publishers.len() {
+        make_due(&mut publishers[place]);
+    }
+}
+
+fn make_due(publisher: &mut Option<PublisherState>)
+    ensures { publisher.new ≡ option_map due publisher.old }
+{
+    if let Some(publisher) = publisher {
+        publisher.is_due = true;
+    }
+}

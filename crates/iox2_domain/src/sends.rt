@@ -1,0 +1,35 @@
+//! A loan is sent.
+ghost use Rattle.std.specs.Prelude.{◌≡◌};
+
+use crate::state::DomainState;
+
+impl<T: Drop, U: Default + Drop> DomainState<T, U> {
+    ghost use Rattle.iox2_domain.specs.Kept.{state_of};
+    ghost use Rattle.iox2_domain.specs.Fields.{kept_of};
+    ghost use Rattle.iox2_domain.specs.Invariant.{IsDomain};
+    ghost use Rattle.iox2_domain.specs.LoanCalls.{HoldsWritten};
+    ghost use Rattle.iox2_domain.specs.SentLoans.{SendsLoan};
+
+    /// Sends a publisher's written loan to its receivers, and answers how many took it. The
+    /// publisher's connections are updated and its slots reclaimed first. The loan is looked for in
+    /// the slot `hint` first.
+    ///
+    /// iceoryx2's `PublisherSharedState::send_sample` (`src/port/publisher.rs`).
+    pub fn send_loan(&mut self, publisher: u128, number: u128, hint: usize) -> usize
+        requires agrees { IsDomain self.old }
+        requires held { HoldsWritten (state_of (kept_of self.old)) publisher number }
+        ensures { SendsLoan self.old self.new number result }
+    {
+        let Some(place) = self.find_publisher(publisher, 0) else {
+            unreachable!()
+        };
+        self.update_publisher(place);
+        self.reclaim(place);
+        let Some((_, slot)) = self.find_loan(publisher, number, hint) else {
+            unreachable!()
+        };
+        let count = self.deliver_slot(place, slot);
+        self.end_send(place, slot);
+        count
+    }
+}

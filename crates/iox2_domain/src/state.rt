@@ -1,0 +1,92 @@
+//! The fields of a domain.
+ghost use Rattle.std.specs.Prelude.{◌≡◌, IfOk};
+ghost use Rattle.iox2_domain.specs.FreshFields.{IsFresh};
+
+use crate::publisher_state::PublisherState;
+use crate::subscriber_state::SubscriberState;
+use circular_buffer::HeapCircularBuffer;
+use iox2_store::{Connection, Contents, ServiceConfig, SlotBook, Warning};
+use slab::Slab;
+use std::alloc::{AllocError, Global};
+use std::marker::Model;
+
+// So many warnings are kept.
+const WARNING_LIMIT: usize = 32;
+
+/// All that a domain keeps.
+#[derive(Drop)]
+pub struct DomainState<T, U> {
+    pub(crate) alloc: Global,
+    pub(crate) config: ServiceConfig,
+    pub(crate) next_port: u128,
+    pub(crate) next_message: u128,
+    pub(crate) warnings: HeapCircularBuffer<Warning>,
+    // At each place the publisher that stands there.
+    pub(crate) publishers: Vec<Option<PublisherState>>,
+    // At each place the subscriber that stands there.
+    pub(crate) subscribers: Vec<Option<SubscriberState>>,
+    pub(crate) connections: Slab<Connection>,
+    pub(crate) books: Slab<SlotBook>,
+    // At the key of each book what lies in its slots.
+    pub(crate) contents: Vec<Option<Contents<T, U>>>,
+}
+
+impl<T, U> Model for DomainState<T, U> {
+    ghost use Rattle.iox2_domain.specs.Fields.{Fields};
+
+    ghost Value = { Fields T U };
+
+    ghost view = { λ state. record {
+      config = state.config;
+      next_port = state.next_port;
+      next_message = state.next_message;
+      warnings = state.warnings;
+      publishers = state.publishers.items;
+      subscribers = state.subscribers.items;
+      connections = state.connections;
+      books = state.books;
+      contents = state.contents.items;
+    } };
+}
+
+impl<T: Drop, U: Default + Drop> DomainState<T, U> {
+    /// No port, connection or message.
+    pub fn new(alloc: Global, config: ServiceConfig) -> Result<Self, AllocError>
+        ensures { IfOk result (IsFresh config) }
+    {
+        let warnings = HeapCircularBuffer::with_capacity(alloc, WARNING_LIMIT)?;
+        Ok(DomainState {
+            alloc,
+            config,
+            next_port: 1,
+            next_message: 1,
+            warnings,
+            publishers: Vec::new(alloc),
+            subscribers: Vec::new(alloc),
+            connections: Slab::new(alloc),
+            books: Slab::new(alloc),
+            contents: Vec::new(alloc),
+        })
+    }
+
+    /// The settings of the service.
+    pub fn config(&self) -> &ServiceConfig
+        ensures { result.now ≡ self.now.config }
+    {
+        &self.config
+    }
+
+    /// The id of the next port.
+    pub fn next_port(&self) -> u128
+        ensures { result ≡ self.now.next_port }
+    {
+        self.next_port
+    }
+
+    /// The number of the next message.
+    pub fn next_message(&self) -> u128
+        ensures { result ≡ self.now.next_message }
+    {
+        self.next_message
+    }
+}

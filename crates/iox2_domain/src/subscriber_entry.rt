@@ -1,0 +1,100 @@
+//! A subscriber enters a domain.
+ghost use Rattle.std.specs.Prelude.{◌≡◌, cond, nat_lt, slice_index_or, MatchResult};
+ghost use Rattle.circular_buffer.specs.Buffer.{buffer};
+ghost use Rattle.iox2_store.specs.Limits.{warning_limit};
+ghost use Rattle.iox2_store.specs.Environments.{fixed_handlers};
+ghost use Rattle.iox2_store.specs.Ports.{with_new_subscriber, CreateSubscriber};
+ghost use Rattle.iox2_store.specs.State.{State, warned};
+ghost use Rattle.iox2_store.specs.declared.errors.SubscriberCreateError.TheVariants.{FailedToDeployThreadsafetyPolicy};
+ghost use Rattle.iox2_store.specs.declared.warning.Warning.TheVariants.{ExpiredBufferRaised};
+
+use crate::places::{free_place, put_at_place};
+use crate::publisher_state::make_all_due;
+use crate::state::DomainState;
+use crate::subscriber_state::SubscriberState;
+use crate::warnings::warn;
+use circular_buffer::HeapCircularBuffer;
+use iox2_store::{ServiceConfig, SubscriberCreateError, UniqueSubscriberId, Warning};
+
+// It is warned where the setting for expired publishers is too small for what may be borrowed.
+fn warn_of_expired_buffer(
+    warnings: &mut HeapCircularBuffer<Warning>,
+    config: &ServiceConfig,
+    subscriber: UniqueSubscriberId,
+)
+    requires { warnings.old.capacity ≡ warning_limit }
+    ensures { warnings.new ≡ buffer (cond (nat_lt (config.now).subscriber_expired_connection_buffer (config.now).subscriber_max_borrowed_samples) (warned warnings.old.items (ExpiredBufferRaised subscriber)) warnings.old.items) warning_limit }
+{
+    if config.subscriber_expired_connection_buffer < config.subscriber_max_borrowed_samples {
+        warn(warnings, Warning::ExpiredBufferRaised { subscriber });
+    }
+}
+
+impl<T: Drop, U: Default + Drop> DomainState<T, U> {
+    ghost use Rattle.iox2_domain.specs.Ports.{SubscriberFields};
+    ghost use Rattle.iox2_domain.specs.Kept.{state_of};
+    ghost use Rattle.iox2_domain.specs.Fields.{kept_of};
+    ghost use Rattle.iox2_domain.specs.Invariant.{IsDomain};
+    ghost use Rattle.iox2_domain.specs.Reaches.{Reaches};
+    ghost use Rattle.iox2_domain.specs.SubscriberEntry.{asked_for, place_for_subscriber};
+
+    /// The place for a subscriber that asks for a buffer of that size, or why it is refused.
+    pub(crate) fn place_for_subscriber(&self, asked: usize) -> Result<usize, SubscriberCreateError>
+        ensures { result ≡ place_for_subscriber self.now asked }
+    {
+        if self.next_port == u128::MAX {
+            return Err(SubscriberCreateError::UnableToCreatePortTag);
+        }
+        if asked.max(1) > self.config.subscriber_max_buffer_size.max(1) {
+            return Err(SubscriberCreateError::BufferSizeExceedsMaxSupportedBufferSizeOfService);
+        }
+        match free_place(&self.subscribers, self.config.max_subscribers) {
+            Some(place) => Ok(place),
+            None => Err(SubscriberCreateError::ExceedsMaxSupportedSubscribers),
+        }
+    }
+
+    /// A subscriber enters at the place that it has, and every publisher is due for an update.
+    ///
+    /// Where memory is refused nothing changes.
+    pub(crate) fn admit_subscriber(
+        &mut self,
+        place: usize,
+        asked: usize,
+    ) -> Result<(), SubscriberCreateError>
+        requires agrees { IsDomain self.old }
+        requires has_place { place_for_subscriber self.old asked ≡ Ok place }
+        ensures { MatchResult result
+            (λ _. Reaches self.old self.new (with_new_subscriber (state_of (kept_of self.old)) (asked_for asked) place) × (y : SubscriberFields) × (slice_index_or self.new.subscribers place None ≡ Some y) × (y.id ≡ self.old.next_port))
+            (λ e. (self.new ≡ self.old) × (e ≡ FailedToDeployThreadsafetyPolicy)) }
+    {
+        let id = UniqueSubscriberId::new(self.next_port);
+        let entering = SubscriberState::new(self.alloc, &self.config, id, place, asked.max(1));
+        let Ok(subscriber) = entering else {
+            return Err(SubscriberCreateError::FailedToDeployThreadsafetyPolicy);
+        };
+        let Ok(()) = self.subscribers.try_reserve(1) else {
+            return Err(SubscriberCreateError::FailedToDeployThreadsafetyPolicy);
+        };
+        warn_of_expired_buffer(&mut self.warnings, &self.config, id);
+        make_all_due(&mut self.publishers);
+        put_at_place(&mut self.subscribers, place, subscriber);
+        self.next_port += 1;
+        Ok(())
+    }
+
+    /// A subscriber is made, and its connections with the publishers that are there.
+    ///
+    /// Where it is refused nothing changes.
+    pub fn create_subscriber(&mut self, asked: usize) -> Result<usize, SubscriberCreateError>
+        requires { IsDomain self.old }
+        ensures { MatchResult result
+            (λ place. (s' : State T U) × CreateSubscriber fixed_handlers (state_of (kept_of self.old)) (asked_for asked) s' None × Reaches self.old self.new s')
+            (λ e. CreateSubscriber fixed_handlers (state_of (kept_of self.old)) (asked_for asked) (state_of (kept_of self.old)) (Some e) × (self.new ≡ self.old)) }
+    {
+        let place = self.place_for_subscriber(asked)?;
+        self.admit_subscriber(place, asked)?;
+        self.update_subscriber(place);
+        Ok(place)
+    }
+}

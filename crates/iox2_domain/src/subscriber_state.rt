@@ -1,0 +1,109 @@
+//! What a domain has of a subscriber.
+ghost use Rattle.std.specs.Prelude.{◌≡◌, IfOk, map};
+ghost use Rattle.std.specs.Option.{option_map};
+ghost use Rattle.iox2_domain.specs.NewPublisher.{subscriber_due};
+
+use iox2_ends::sender::{Receiver, ReceiverDetails};
+use iox2_store::{ServiceConfig, UniqueSubscriberId};
+use std::alloc::{AllocError, Global};
+use std::marker::Model;
+
+/// A subscriber that wasn't closed, or that was closed and has borrowed messages. It knows its
+/// connections by their keys.
+///
+/// iceoryx2's `SubscriberSharedState` (`src/port/subscriber.rs`) and `Receiver`
+/// (`src/port/details/receiver.rs`).
+#[derive(Drop)]
+pub(crate) struct SubscriberState {
+    pub(crate) id: UniqueSubscriberId,
+    pub(crate) place: usize,
+    pub(crate) is_open: bool,
+    pub(crate) buffer: usize,
+    // At each publisher's place the key of the connection with it.
+    pub(crate) places: Vec<Option<usize>>,
+    // The keys of the connections with departed publishers, in order of entry.
+    pub(crate) expired: Vec<usize>,
+    pub(crate) is_due: bool,
+}
+
+impl Model for SubscriberState {
+    ghost use Rattle.std.specs.Prelude.{vec_capacity};
+    ghost use Rattle.iox2_domain.specs.Ports.{SubscriberFields};
+
+    ghost Value = { SubscriberFields };
+
+    ghost view = { λ y. record {
+      id = y.id;
+      place = y.place;
+      is_open = y.is_open;
+      buffer = y.buffer;
+      places = y.places.items;
+      place_room = vec_capacity y.places;
+      expired = y.expired.items;
+      expired_room = vec_capacity y.expired;
+      is_due = y.is_due;
+    } };
+}
+
+impl Receiver for SubscriberState {
+    ghost use Rattle.iox2_domain.specs.Invariant.{details_of as details_of_subscriber};
+
+    ghost details_of = { details_of_subscriber };
+
+    fn details(&self) -> ReceiverDetails {
+        ReceiverDetails {
+            port_id: self.id.value(),
+            buffer_size: self.buffer,
+            is_open: self.is_open,
+        }
+    }
+}
+
+impl SubscriberState {
+    ghost use Rattle.iox2_domain.specs.Ports.{entering};
+    ghost use Rattle.iox2_domain.specs.Invariant.{HasSubscriberRoom};
+
+    /// A subscriber that enters at a place, with room for all the connections that it may get.
+    pub(crate) fn new(
+        alloc: Global,
+        config: &ServiceConfig,
+        id: UniqueSubscriberId,
+        place: usize,
+        buffer: usize,
+    ) -> Result<Self, AllocError>
+        ensures enters { IfOk result (λ y. y ≡ entering id place buffer y.place_room y.expired_room) }
+        ensures room { IfOk result (HasSubscriberRoom config.now) }
+    {
+        let expired_limit = config
+            .subscriber_expired_connection_buffer
+            .max(config.subscriber_max_borrowed_samples);
+        let places = Vec::with_capacity(alloc, config.max_publishers)?;
+        let expired = Vec::with_capacity(alloc, expired_limit)?;
+        Ok(SubscriberState {
+            id,
+            place,
+            is_open: true,
+            buffer,
+            places,
+            expired,
+            is_due: true,
+        })
+    }
+}
+
+/// Each subscriber is due for an update.
+pub(crate) fn make_all_due(subscribers: &mut [Option<SubscriberState>])
+    ensures { subscribers.new ≡ map (option_map subscriber_due) subscribers.old }
+{
+    for place in 0..subscribers.len() {
+        make_due(&mut subscribers[place]);
+    }
+}
+
+fn make_due(subscriber: &mut Option<SubscriberState>)
+    ensures { subscriber.new ≡ option_map subscriber_due subscriber.old }
+{
+    if let Some(subscriber) = subscriber {
+        subscriber.is_due = true;
+    }
+}

@@ -1,0 +1,39 @@
+-- The creation of a publisher, seen from outside.
+use Rattle.std.proofs.Common.{ℕ, ap, sym, subst, ◌∙◌}
+use Rattle.std.specs.declared.option.Option.{Option}
+use Rattle.std.specs.declared.option.Option.TheVariants.{None}
+use Rattle.iox2_store.specs.Ports.{CreatePublisher}
+use Rattle.iox2_store.specs.Records.{Environment}
+use Rattle.iox2_store.specs.SingleCalls.{HoldsPublisher}
+use Rattle.iox2_store.specs.State.{State, Messages}
+use Rattle.iox2_store.specs.declared.errors.PublisherCreateError.{PublisherCreateError}
+use Rattle.iox2_store.specs.declared.service_config.ServiceConfig.{ServiceConfig}
+use Rattle.iox2_domain.specs.Kept.{state_of}
+use Rattle.iox2_domain.specs.Fields.{Fields, kept_of}
+use Rattle.iox2_domain.specs.NewPublisher.{plain_publisher}
+use Rattle.iox2_pubsub.specs.Handles.{IsPublisherHandle}
+use Rattle.iox2_domain.specs.Reaches.{Reaches}
+use Rattle.iox2_domain.specs.Shows.{Shows}
+use Rattle.iox2_domain.proofs.ReachesShows.{reaches-shows-same}
+use Rattle.iox2_domain.proofs.PublisherCreations.{create-keeps, create-holds}
+
+module _ {T U : Type 0} (f g : Fields T U) (loans : ℕ) (environment : Environment) where
+  -- a domain that shows a state shows the one that a creation comes to
+  pub created-shows : (m : Messages T U) (s t : State T U) (refusal : Option PublisherCreateError) → Shows (kept_of f) m s
+      → CreatePublisher environment (state_of (kept_of f)) (plain_publisher loans) t refusal → Reaches f g t
+      → Shows (kept_of g) m t × CreatePublisher environment s (plain_publisher loans) t refusal
+  created-shows m s t refusal shown made reached =
+      let keeps = create-keeps environment (state_of (kept_of f)) (plain_publisher loans) t refusal made in (
+        reaches-shows-same f g m s t shown reached
+            (keeps.next_message ∙ sym (ap (λ (u : State T U). u.next_message) shown.state)) (keeps.loans ∙ sym (ap (λ (u : State T U). u.loans) shown.state)),
+        subst (λ (u : State T U). CreatePublisher environment u (plain_publisher loans) t refusal) (sym shown.state) made,
+      )
+
+  -- and holds the publisher that was made
+  pub created-held : (t : State T U) → CreatePublisher environment (state_of (kept_of f)) (plain_publisher loans) t None → Reaches f g t
+      → IsPublisherHandle (kept_of g) (f.config).service_id f.next_port
+  created-held t made reached =
+      let keeps = create-keeps environment (state_of (kept_of f)) (plain_publisher loans) t None made in (
+        ap (λ (c : ServiceConfig). c.service_id) (sym (ap (λ (u : State T U). u.config) reached.state ∙ keeps.config)),
+        subst (λ (u : State T U). HoldsPublisher u f.next_port) (sym reached.state) (create-holds environment (state_of (kept_of f)) (plain_publisher loans) t made),
+      )

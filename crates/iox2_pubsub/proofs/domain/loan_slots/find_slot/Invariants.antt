@@ -1,8 +1,0 @@
-use Rattle.std.proofs.Common.{ℕ, ◌<◌}
-use Rattle.std.specs.Prelude.{slice_index}
-use Rattle.iox2_pubsub.specs.LoanSlots.{IsLoanSlot}
-use Rattle.iox2_pubsub.proofs.domain.loan_slots.find_slot.Given as goal
-
--- in no slot so far lies the loan
-abbrev pub invariant-loop-index : goal.invariant-loop-index
-invariant-loop-index l = (i : ℕ) → i < l.index → IsLoanSlot l.book (slice_index l.loans i) l.number → ⊥

@@ -1,5 +1,0 @@
-use Rattle.iox2_pubsub.proofs.OpenPorts.{publisher-held}
-use Rattle.iox2_pubsub.proofs.domain.state.DomainState.has_publisher.Goals as goal
-
-pub returns : goal.returns
-returns g c = rw c.is_some.ensures (publisher-held {T = g.row.T.Denot} {U = g.row.U.Denot} c.args.self.now c.args.id c.requires c.find_publisher.result c.find_publisher.ensures)

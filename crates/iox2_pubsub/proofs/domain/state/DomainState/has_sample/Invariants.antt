@@ -1,7 +1,0 @@
-use Rattle.std.proofs.Common.{◌<◌, ℕ}
-use Rattle.iox2_pubsub.specs.SampleSlots.{BorrowsAt}
-use Rattle.iox2_pubsub.proofs.domain.state.DomainState.has_sample.Given as goal
-
--- in no connection so far the message is borrowed
-abbrev pub invariant-loop-key : goal.invariant-loop-key
-invariant-loop-key g l = (k : ℕ) → k < l.key → BorrowsAt l.self k l.subscriber l.number → ⊥
