@@ -15,12 +15,12 @@ use Rattle.iox2_domain.specs.Shows.{Shows}
 use Rattle.iox2_pubsub.specs.declared.publisher.Publisher.{Publisher as PublisherHandle}
 use Rattle.iox2_pubsub.specs.declared.sample_mut_uninit.SampleMutUninit.{SampleMutUninit}
 use Rattle.iox2_pubsub.specs.declared.sample_mut.SampleMut.{SampleMut}
-use Rattle.iox2_runs.specs.Runs.{Defaults}
+use Rattle.iox2_commands.specs.Runs.{Defaults}
 use Rattle.iox2_runs.specs.Tables.{Kept, Nothing_kept, Kept_unwritten, Kept_written}
 use Rattle.iox2_runs.specs.RunSteps.{Comes}
 use Rattle.iox2_runs.specs.Holdings.{kept_of, Carries}
-use Rattle.iox2_runs.specs.declared.command.Command.TheVariants.{LoanUninit, WriteAll, Send as SendLoan}
-use Rattle.iox2_runs.specs.declared.reply.Reply.TheVariants.{Done, Skipped, Loaned, LoanRefused, Delivered}
+use Rattle.iox2_commands.specs.declared.command.Command.TheVariants.{LoanUninit, WriteAll, Send as SendLoan}
+use Rattle.iox2_commands.specs.declared.reply.Reply.TheVariants.{Done, Skipped, Loaned, LoanRefused, Delivered}
 use Rattle.iox2_runs.specs.declared.runs.held.Held.{Held}
 use Rattle.iox2_runs.specs.declared.runs.held.Held.TheVariants.{Nothing, Publisher as HeldPublisher, Unwritten, Written}
 use Rattle.iox2_runs.proofs.TableLooks.{is_publisher, is_unwritten, is_written, has_written}

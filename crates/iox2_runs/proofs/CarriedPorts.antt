@@ -22,14 +22,14 @@ use Rattle.iox2_pubsub.specs.Handles.{IsSubscriberHandle}
 use Rattle.iox2_domain.specs.NewPublisher.{plain_publisher}
 use Rattle.iox2_pubsub.specs.declared.publisher.Publisher.{Publisher as PublisherHandle}
 use Rattle.iox2_pubsub.specs.declared.subscriber.Subscriber.{Subscriber as SubscriberHandle}
-use Rattle.iox2_runs.specs.Runs.{Defaults}
-use Rattle.iox2_runs.specs.Step.{publisher_settings}
+use Rattle.iox2_commands.specs.Runs.{Defaults}
+use Rattle.iox2_commands.specs.Step.{publisher_settings}
 use Rattle.iox2_runs.specs.Tables.{Kept_publisher, Kept_subscriber}
 use Rattle.iox2_runs.specs.RunSteps.{Comes}
 use Rattle.iox2_runs.specs.Holdings.{kept_of, Carries}
-use Rattle.iox2_runs.specs.declared.command.Command.TheVariants.{CreatePublisher as PublisherCommand, CreateSubscriber as SubscriberCommand}
-use Rattle.iox2_runs.specs.declared.reply.Reply.{Reply}
-use Rattle.iox2_runs.specs.declared.reply.Reply.TheVariants.{PublisherMade, PublisherRefused, SubscriberMade, SubscriberRefused}
+use Rattle.iox2_commands.specs.declared.command.Command.TheVariants.{CreatePublisher as PublisherCommand, CreateSubscriber as SubscriberCommand}
+use Rattle.iox2_commands.specs.declared.reply.Reply.{Reply}
+use Rattle.iox2_commands.specs.declared.reply.Reply.TheVariants.{PublisherMade, PublisherRefused, SubscriberMade, SubscriberRefused}
 use Rattle.iox2_runs.specs.declared.runs.held.Held.{Held}
 use Rattle.iox2_runs.specs.declared.runs.held.Held.TheVariants.{Nothing, Publisher as HeldPublisher, Subscriber as HeldSubscriber}
 use Rattle.iox2_runs.proofs.TableMakes.{publisher_comes, publisher_refused_comes, subscriber_comes, subscriber_refused_comes}

@@ -19,15 +19,15 @@ use Rattle.iox2_pubsub.specs.declared.sample_mut_uninit.SampleMutUninit.{SampleM
 use Rattle.iox2_pubsub.specs.declared.sample_mut.SampleMut.{SampleMut}
 use Rattle.iox2_pubsub.specs.declared.subscriber.Subscriber.{Subscriber as SubscriberHandle}
 use Rattle.iox2_pubsub.specs.declared.sample.Sample.{Sample as SampleHandle}
-use Rattle.iox2_runs.specs.Outcomes.{Handle, Event, replied, skipped}
-use Rattle.iox2_runs.specs.Runs.{Defaults}
-use Rattle.iox2_runs.specs.Step.{Step, sample_at, loan_at, with_cell_at}
+use Rattle.iox2_commands.specs.Outcomes.{Handle, Event, replied, skipped}
+use Rattle.iox2_commands.specs.Runs.{Defaults}
+use Rattle.iox2_commands.specs.Step.{Step, sample_at, loan_at, with_cell_at}
 use Rattle.iox2_runs.specs.Tables.{Kept, Nothing_kept, Kept_sample, IsTable}
 use Rattle.iox2_runs.specs.RunSteps.{Comes}
 use Rattle.iox2_runs.specs.Holdings.{kept_of, Carries}
-use Rattle.iox2_runs.specs.declared.command.Command.TheVariants.{Receive as ReceiveCommand, Release as ReleaseCommand, Read as ReadCommand}
-use Rattle.iox2_runs.specs.declared.reply.Reply.{Reply}
-use Rattle.iox2_runs.specs.declared.reply.Reply.TheVariants.{Done, Skipped, Sample as SampleReply, NoSample, ReceiveRefused, Cell}
+use Rattle.iox2_commands.specs.declared.command.Command.TheVariants.{Receive as ReceiveCommand, Release as ReleaseCommand, Read as ReadCommand}
+use Rattle.iox2_commands.specs.declared.reply.Reply.{Reply}
+use Rattle.iox2_commands.specs.declared.reply.Reply.TheVariants.{Done, Skipped, Sample as SampleReply, NoSample, ReceiveRefused, Cell}
 use Rattle.iox2_runs.specs.declared.runs.held.Held.{Held}
 use Rattle.iox2_runs.specs.declared.runs.held.Held.TheVariants.{Nothing, Subscriber as HeldSubscriber, Unwritten, Written, Sample as HeldSample}
 use Rattle.iox2_runs.proofs.TableLooks.{is_subscriber, is_sample, is_loan, lacks_sample, lacks_loan, has_unwritten, has_written, has_sample}

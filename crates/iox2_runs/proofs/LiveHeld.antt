@@ -9,7 +9,7 @@ use Rattle.iox2_pubsub.specs.declared.subscriber.Subscriber.{Subscriber as Subsc
 use Rattle.iox2_pubsub.specs.declared.sample_mut_uninit.SampleMutUninit.{SampleMutUninit}
 use Rattle.iox2_pubsub.specs.declared.sample_mut.SampleMut.{SampleMut}
 use Rattle.iox2_pubsub.specs.declared.sample.Sample.{Sample as SampleHandle}
-use Rattle.iox2_runs.specs.Outcomes.{Handle}
+use Rattle.iox2_commands.specs.Outcomes.{Handle}
 use Rattle.iox2_runs.specs.Tables.{IsSingle, IsKept}
 use Rattle.iox2_runs.specs.Holdings.{kept_of, Keeps}
 use Rattle.iox2_runs.specs.declared.runs.held.Held.{Held}

@@ -7,12 +7,12 @@ use Rattle.iox2_store.specs.Environments.{fixed_handlers}
 use Rattle.iox2_store.specs.State.{State, Messages}
 use Rattle.iox2_domain.specs.Kept.{Kept as Domain}
 use Rattle.iox2_domain.specs.Shows.{Shows}
-use Rattle.iox2_runs.specs.Outcomes.{Handle, Event, messages_after}
-use Rattle.iox2_runs.specs.Runs.{Defaults, RunTo, Run}
+use Rattle.iox2_commands.specs.Outcomes.{Handle, Event, messages_after}
+use Rattle.iox2_commands.specs.Runs.{Defaults, RunTo, Run}
 use Rattle.iox2_runs.specs.Tables.{IsTable}
 use Rattle.iox2_runs.specs.Holdings.{kept_of, Keeps, Carries}
-use Rattle.iox2_runs.specs.declared.command.Command.{Command}
-use Rattle.iox2_runs.specs.declared.reply.Reply.{Reply}
+use Rattle.iox2_commands.specs.declared.command.Command.{Command}
+use Rattle.iox2_commands.specs.declared.reply.Reply.{Reply}
 use Rattle.iox2_runs.specs.declared.runs.held.Held.{Held}
 use Rattle.iox2_runs.proofs.RunsOn.{run_of, run_more, received_once}
 

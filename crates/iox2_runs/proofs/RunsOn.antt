@@ -4,12 +4,12 @@ use Rattle.iox2_store.specs.Numbers.{IsOnce}
 use Rattle.iox2_store.specs.Records.{Environment}
 use Rattle.iox2_store.specs.State.{State, Messages}
 use Rattle.iox2_store.specs.WellFormed.{IsWellFormed}
-use Rattle.iox2_runs.specs.Outcomes.{Handle, Event, Outcome, messages_after}
-use Rattle.iox2_runs.specs.Step.{Step}
-use Rattle.iox2_runs.specs.Runs.{Defaults, RunFrom, RunTo, received}
-use Rattle.iox2_runs.specs.declared.command.Command.{Command}
-use Rattle.iox2_runs.specs.declared.reply.Reply.{Reply}
-use Rattle.iox2_runs.proofs.Order.{receives_in_order}
+use Rattle.iox2_commands.specs.Outcomes.{Handle, Event, Outcome, messages_after}
+use Rattle.iox2_commands.specs.Step.{Step}
+use Rattle.iox2_commands.specs.Runs.{Defaults, RunFrom, RunTo, received}
+use Rattle.iox2_commands.specs.declared.command.Command.{Command}
+use Rattle.iox2_commands.specs.declared.reply.Reply.{Reply}
+use Rattle.iox2_commands.proofs.Order.{receives_in_order}
 
 module _ {T U : Type 0} (environment : Environment) (defaults : Defaults T U) where
   -- a run that ends with these handles is a run

@@ -13,15 +13,15 @@ use Rattle.iox2_store.specs.Loans.{written, entry_of}
 use Rattle.iox2_store.specs.Sends.{Send, Delivered_to}
 use Rattle.iox2_laws.proofs.LoanKeeping.{send_loans}
 use Rattle.iox2_laws.proofs.Puts.{put_at-same, put_at-other}
-use Rattle.iox2_runs.specs.Outcomes.{Handle, No_handle, Loan_handle, Sample_handle, Event, No_event, Message_sent, Outcome, replied, done, skipped}
-use Rattle.iox2_runs.specs.Runs.{Defaults}
-use Rattle.iox2_runs.specs.Step.{Step}
+use Rattle.iox2_commands.specs.Outcomes.{Handle, No_handle, Loan_handle, Sample_handle, Event, No_event, Message_sent, Outcome, replied, done, skipped}
+use Rattle.iox2_commands.specs.Runs.{Defaults}
+use Rattle.iox2_commands.specs.Step.{Step}
 use Rattle.iox2_runs.specs.Tables.{Kept, Nothing_kept, Kept_unwritten, Kept_written, IsSpent, IsTable}
 use Rattle.iox2_runs.specs.RunSteps.{Comes}
-use Rattle.iox2_runs.specs.declared.command.Command.{Command}
-use Rattle.iox2_runs.specs.declared.command.Command.TheVariants.{Nothing, WriteAll, Send as SendLoan}
-use Rattle.iox2_runs.specs.declared.reply.Reply.{Reply}
-use Rattle.iox2_runs.specs.declared.reply.Reply.TheVariants.{Done, Skipped, Delivered}
+use Rattle.iox2_commands.specs.declared.command.Command.{Command}
+use Rattle.iox2_commands.specs.declared.command.Command.TheVariants.{Nothing, WriteAll, Send as SendLoan}
+use Rattle.iox2_commands.specs.declared.reply.Reply.{Reply}
+use Rattle.iox2_commands.specs.declared.reply.Reply.TheVariants.{Done, Skipped, Delivered}
 use Rattle.iox2_runs.proofs.PortsStay.{PortsStay, ports_stay_themselves, send_stays, loan_set_stays}
 use Rattle.iox2_runs.proofs.TableSteps.{table_next, all_still, others_still}
 use Rattle.iox2_runs.proofs.TableLooks.{Lacks, is_unwritten, is_written, lacks_unwritten, lacks_written, handle_of, has_unwritten, has_written}

@@ -7,8 +7,8 @@ use Rattle.std.proofs.lemmas.Option.{none-some}
 use Rattle.iox2_store.specs.Mailbox.{is_borrowed}
 use Rattle.iox2_store.specs.Records.{Loan, Publisher, Subscriber, BlockedSend}
 use Rattle.iox2_store.specs.State.{State, is_blocked}
-use Rattle.iox2_runs.specs.Outcomes.{Handle, No_handle, Publisher_handle, Subscriber_handle, Loan_handle, Blocked_handle, Sample_handle, Event}
-use Rattle.iox2_runs.specs.Step.{unblocked_at, subscriber_at, loan_at, unwritten_at, written_at, sendable_at, sample_at}
+use Rattle.iox2_commands.specs.Outcomes.{Handle, No_handle, Publisher_handle, Subscriber_handle, Loan_handle, Blocked_handle, Sample_handle, Event}
+use Rattle.iox2_commands.specs.Step.{unblocked_at, subscriber_at, loan_at, unwritten_at, written_at, sendable_at, sample_at}
 use Rattle.iox2_runs.specs.Tables.{Kept, Nothing_kept, Kept_publisher, Kept_subscriber, Kept_unwritten, Kept_written, Kept_sample, IsFree, HasLoan, IsKept, IsTable}
 
 -- What kind of thing is kept.

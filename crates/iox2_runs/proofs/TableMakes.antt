@@ -27,15 +27,15 @@ use Rattle.iox2_store.specs.declared.warning.Warning.TheVariants.{PublisherPartl
 use Rattle.iox2_laws.proofs.Cases.{by_option, by_bool}
 use Rattle.iox2_laws.proofs.Puts.{put_at-same, put_at-other}
 use Rattle.iox2_laws.proofs.LoanKeeping.{create_publisher_loans, create_subscriber_loans}
-use Rattle.iox2_runs.specs.Outcomes.{Handle, Publisher_handle, Subscriber_handle, Loan_handle, Sample_handle, Event, No_event, outcome}
-use Rattle.iox2_runs.specs.Runs.{Defaults}
-use Rattle.iox2_runs.specs.Step.{Step, publisher_settings, if_single_units, if_fixed_size, unblocked_at}
+use Rattle.iox2_commands.specs.Outcomes.{Handle, Publisher_handle, Subscriber_handle, Loan_handle, Sample_handle, Event, No_event, outcome}
+use Rattle.iox2_commands.specs.Runs.{Defaults}
+use Rattle.iox2_commands.specs.Step.{Step, publisher_settings, if_single_units, if_fixed_size, unblocked_at}
 use Rattle.iox2_runs.specs.Tables.{Kept, Nothing_kept, Kept_publisher, Kept_subscriber, Kept_unwritten, IsFree, IsSingle, IsKept, IsTable}
 use Rattle.iox2_runs.specs.RunSteps.{Comes}
-use Rattle.iox2_runs.specs.declared.command.Command.{Command}
-use Rattle.iox2_runs.specs.declared.command.Command.TheVariants.{CreatePublisher as PublisherCommand, CreateSubscriber as SubscriberCommand, LoanUninit}
-use Rattle.iox2_runs.specs.declared.reply.Reply.{Reply}
-use Rattle.iox2_runs.specs.declared.reply.Reply.TheVariants.{Skipped, PublisherMade, PublisherRefused, SubscriberMade, SubscriberRefused, Loaned, LoanRefused}
+use Rattle.iox2_commands.specs.declared.command.Command.{Command}
+use Rattle.iox2_commands.specs.declared.command.Command.TheVariants.{CreatePublisher as PublisherCommand, CreateSubscriber as SubscriberCommand, LoanUninit}
+use Rattle.iox2_commands.specs.declared.reply.Reply.{Reply}
+use Rattle.iox2_commands.specs.declared.reply.Reply.TheVariants.{Skipped, PublisherMade, PublisherRefused, SubscriberMade, SubscriberRefused, Loaned, LoanRefused}
 use Rattle.iox2_runs.proofs.PortsStay.{PortsStay, update_publisher_stays, update_subscriber_stays, warning_stays, create_publisher_stays, create_subscriber_stays, grant_loan_stays, ports_stay_trans}
 use Rattle.iox2_runs.proofs.TableSteps.{table_next, all_still}
 use Rattle.iox2_runs.proofs.TableLooks.{Lacks, is_publisher, lacks_publisher, has_publisher, handle_of}

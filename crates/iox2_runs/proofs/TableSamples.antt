@@ -16,15 +16,15 @@ use Rattle.iox2_laws.proofs.LoanKeeping.{update_subscriber_loans, receive_loans,
 use Rattle.iox2_laws.proofs.Cases.{by_option}
 use Rattle.iox2_laws.proofs.Puts.{put_at-same, put_at-other, at_each}
 use Rattle.iox2_laws.proofs.NumberLemmas.{contains-append, contains_right, contains_first, contains_in_without, contains-without_same, contains-without_other}
-use Rattle.iox2_runs.specs.Outcomes.{Handle, No_handle, Loan_handle, Sample_handle, Event, No_event, Message_received, replied, done, skipped}
-use Rattle.iox2_runs.specs.Runs.{Defaults}
-use Rattle.iox2_runs.specs.Step.{Step, after_receive, if_single_units, subscriber_at}
+use Rattle.iox2_commands.specs.Outcomes.{Handle, No_handle, Loan_handle, Sample_handle, Event, No_event, Message_received, replied, done, skipped}
+use Rattle.iox2_commands.specs.Runs.{Defaults}
+use Rattle.iox2_commands.specs.Step.{Step, after_receive, if_single_units, subscriber_at}
 use Rattle.iox2_runs.specs.Tables.{Kept, Nothing_kept, Kept_subscriber, Kept_sample, IsSingle, IsSpent, IsTable}
 use Rattle.iox2_runs.specs.RunSteps.{Comes}
-use Rattle.iox2_runs.specs.declared.command.Command.{Command}
-use Rattle.iox2_runs.specs.declared.command.Command.TheVariants.{Receive as ReceiveCommand, Release as ReleaseCommand, Read as ReadCommand}
-use Rattle.iox2_runs.specs.declared.reply.Reply.{Reply}
-use Rattle.iox2_runs.specs.declared.reply.Reply.TheVariants.{Done, Skipped, Sample as SampleReply}
+use Rattle.iox2_commands.specs.declared.command.Command.{Command}
+use Rattle.iox2_commands.specs.declared.command.Command.TheVariants.{Receive as ReceiveCommand, Release as ReleaseCommand, Read as ReadCommand}
+use Rattle.iox2_commands.specs.declared.reply.Reply.{Reply}
+use Rattle.iox2_commands.specs.declared.reply.Reply.TheVariants.{Done, Skipped, Sample as SampleReply}
 use Rattle.iox2_runs.proofs.TableLooks.{Lacks, is_subscriber, is_sample, lacks_subscriber, lacks_sample, has_subscriber, has_sample, handle_of}
 use Rattle.iox2_runs.proofs.PortsStay.{PortsStay, Remain, ports_stay_themselves, update_subscriber_stays}
 use Rattle.iox2_runs.proofs.TableSteps.{table_next, all_still, others_still, not_again}

@@ -7,13 +7,13 @@ use Rattle.iox2_store.specs.Numbers.{contains, IsOnce}
 use Rattle.iox2_store.specs.Mailbox.{is_borrowed}
 use Rattle.iox2_store.specs.State.{State}
 use Rattle.iox2_store.specs.declared.service_config.ServiceConfig.{ServiceConfig}
-use Rattle.iox2_runs.specs.Outcomes.{Handle, No_handle, Publisher_handle, Subscriber_handle, Loan_handle, Blocked_handle, Sample_handle, Event, Message_received}
-use Rattle.iox2_runs.specs.Runs.{received}
+use Rattle.iox2_commands.specs.Outcomes.{Handle, No_handle, Publisher_handle, Subscriber_handle, Loan_handle, Blocked_handle, Sample_handle, Event, Message_received}
+use Rattle.iox2_commands.specs.Runs.{received}
 use Rattle.iox2_runs.specs.Tables.{Kept, Nothing_kept, Kept_publisher, Kept_subscriber, Kept_unwritten, Kept_written, Kept_sample, IsFree, HasLoan, IsSingle, IsKept, IsTable}
 use Rattle.iox2_laws.proofs.NumberLemmas.{IsOnce-apart, contains_left, contains_right, contains_first}
-use Rattle.iox2_runs.proofs.GrowingLists.{old_or_last, longer}
+use Rattle.iox2_commands.proofs.GrowingLists.{old_or_last, longer}
 use Rattle.iox2_runs.proofs.PortsStay.{Remain}
-use Rattle.iox2_runs.proofs.Order.{received-append}
+use Rattle.iox2_commands.proofs.Order.{received-append}
 
 module _ {T U : Type 0} (s s' : State T U) (remain : Remain s s') where
   same : {service : ℕ} → service ≡ (s.config).service_id → service ≡ (s'.config).service_id

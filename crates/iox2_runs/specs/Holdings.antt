@@ -3,12 +3,12 @@ use Rattle.std.specs.Prelude.{List, [], ◌∷◌, ◌++◌, map}
 use Rattle.iox2_store.specs.State.{State, Messages}
 use Rattle.iox2_domain.specs.Kept.{Kept as Domain}
 use Rattle.iox2_domain.specs.Shows.{Shows}
-use Rattle.iox2_runs.specs.Outcomes.{Handle, Event}
-use Rattle.iox2_runs.specs.Runs.{Defaults}
+use Rattle.iox2_commands.specs.Outcomes.{Handle, Event}
+use Rattle.iox2_commands.specs.Runs.{Defaults}
 use Rattle.iox2_runs.specs.Tables.{Kept, Nothing_kept, Kept_publisher, Kept_subscriber, Kept_unwritten, Kept_written, Kept_sample, IsTable}
 use Rattle.iox2_runs.specs.RunSteps.{Comes}
-use Rattle.iox2_runs.specs.declared.command.Command.{Command}
-use Rattle.iox2_runs.specs.declared.reply.Reply.{Reply}
+use Rattle.iox2_commands.specs.declared.command.Command.{Command}
+use Rattle.iox2_commands.specs.declared.reply.Reply.{Reply}
 use Rattle.iox2_runs.specs.declared.runs.held.Held.{Held}
 use Rattle.iox2_runs.specs.declared.runs.held.Held.TheVariants.{Nothing, Publisher, Subscriber, Unwritten, Written, Sample}
 

@@ -1,16 +1,5 @@
-pub mod Outcomes
-pub mod Step
-pub mod Runs
-pub mod StoredSteps
 pub mod Tables
 pub mod Supported
 pub mod RunSteps
 pub mod Rooms
 pub mod Holdings
-pub mod Fills
-pub mod FillingCommands
-pub mod Views
-pub mod Isolation
-pub mod Laws
-pub mod RunLaws
-pub mod Existence

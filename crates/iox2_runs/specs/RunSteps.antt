@@ -3,12 +3,12 @@ use Rattle.std.specs.Prelude.{ℕ, List, [], ◌∷◌, ◌++◌, ◌≡◌}
 use Rattle.iox2_store.specs.Numbers.{IsOnce}
 use Rattle.iox2_store.specs.State.{State, Messages}
 use Rattle.iox2_store.specs.Environments.{fixed_handlers}
-use Rattle.iox2_runs.specs.Outcomes.{Handle, Event, Outcome, messages_after}
-use Rattle.iox2_runs.specs.Step.{Step}
-use Rattle.iox2_runs.specs.Runs.{Defaults, received}
+use Rattle.iox2_commands.specs.Outcomes.{Handle, Event, Outcome, messages_after}
+use Rattle.iox2_commands.specs.Step.{Step}
+use Rattle.iox2_commands.specs.Runs.{Defaults, received}
 use Rattle.iox2_runs.specs.Tables.{Kept, IsTable}
-use Rattle.iox2_runs.specs.declared.command.Command.{Command}
-use Rattle.iox2_runs.specs.declared.reply.Reply.{Reply}
+use Rattle.iox2_commands.specs.declared.command.Command.{Command}
+use Rattle.iox2_commands.specs.declared.reply.Reply.{Reply}
 
 -- From these messages, this state and this table, the command steps to what is shown afterwards, with this reply, and the
 -- table follows, where no subscriber has received a message twice.

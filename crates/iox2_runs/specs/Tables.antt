@@ -6,8 +6,8 @@ use Rattle.iox2_store.specs.Mailbox.{is_borrowed}
 use Rattle.iox2_store.specs.Records.{Loan, Publisher, Subscriber}
 use Rattle.iox2_store.specs.State.{State}
 use Rattle.iox2_store.specs.declared.service_config.TypeVariant.TheVariants.{FixedSize}
-use Rattle.iox2_runs.specs.Outcomes.{Handle, No_handle, Publisher_handle, Subscriber_handle, Loan_handle, Blocked_handle, Sample_handle, Event}
-use Rattle.iox2_runs.specs.Runs.{received}
+use Rattle.iox2_commands.specs.Outcomes.{Handle, No_handle, Publisher_handle, Subscriber_handle, Loan_handle, Blocked_handle, Sample_handle, Event}
+use Rattle.iox2_commands.specs.Runs.{received}
 
 -- What a command made that is still in the run's hands, with the service's number.
 pub data Kept : Type 0 where

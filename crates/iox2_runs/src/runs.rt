@@ -6,8 +6,8 @@ ghost use Rattle.iox2_store.specs.State.{State, Messages};
 ghost use Rattle.iox2_domain.specs.Shows.{Shows};
 ghost use Rattle.iox2_runs.specs.Rooms.{SameRoom};
 ghost use Rattle.iox2_runs.specs.Holdings.{Keeps, Carries, defaults_of};
-ghost use Rattle.iox2_runs.specs.Outcomes.{Event};
-ghost use Rattle.iox2_runs.specs.Runs.{Run};
+ghost use Rattle.iox2_commands.specs.Outcomes.{Event};
+ghost use Rattle.iox2_commands.specs.Runs.{Run};
 ghost use Rattle.iox2_runs.specs.Supported.{IsSupported};
 ghost use Rattle.iox2_runs.specs.declared.runs.held.Held.TheVariants.{Nothing};
 
@@ -16,9 +16,8 @@ mod loans;
 mod ports;
 mod samples;
 
-use crate::command::Command;
-use crate::reply::Reply;
 use held::{Held, disown_all};
+use iox2_commands::{Command, Reply};
 use iox2_pubsub::Domain;
 use std::alloc::Global;
 

@@ -2,8 +2,8 @@
 use Rattle.std.proofs.Common.{ℕ, zero, suc, ◌≡◌, List, [], ◌∷◌, ◌++◌, length, refl, arith}
 use Rattle.std.specs.List.{All}
 use Rattle.iox2_runs.specs.Supported.{IsSupported}
-use Rattle.iox2_runs.specs.declared.command.Command.{Command}
-use Rattle.iox2_runs.specs.declared.command.Command.TheVariants as command
+use Rattle.iox2_commands.specs.declared.command.Command.{Command}
+use Rattle.iox2_commands.specs.declared.command.Command.TheVariants as command
 use Rattle.pubsub_script.specs.Commands.{IsCommandLine, NamesCommand}
 use Rattle.pubsub_script.specs.Words.{Words, line_words, words_of}
 use Rattle.pubsub_script.specs.ScriptText.{NamesCommands}

@@ -8,8 +8,8 @@ use Rattle.iox2_store.specs.declared.service_config.TypeVariant.TheVariants.{Fix
 use Rattle.iox2_store.specs.declared.allocation.AllocationStrategy.TheVariants.{Static}
 use Rattle.iox2_store.specs.declared.backpressure.BackpressureStrategy.TheVariants.{DiscardData}
 use Rattle.iox2_store.specs.declared.degradation.DegradationAction.TheVariants.{Warn}
-use Rattle.iox2_runs.specs.declared.command.Command.{Command}
-use Rattle.iox2_runs.specs.declared.command.Command.TheVariants as command
+use Rattle.iox2_commands.specs.declared.command.Command.{Command}
+use Rattle.iox2_commands.specs.declared.command.Command.TheVariants as command
 
 -- The settings that a domain line names: one publisher and one subscriber, single values, no history, no overflow.
 abbrev pub script_config : (buffer borrowed expired : ℕ) → ServiceConfig

@@ -3,8 +3,8 @@ use Rattle.std.specs.Prelude.{ℕ, List, [], ◌∷◌, ◌++◌, codes, Some, N
 use Rattle.std.specs.List.{flat_map}
 use Rattle.std.specs.Fmt.{decimal}
 use Rattle.iox2_store.specs.ErrorTexts.{loan_error_text, send_error_text, receive_error_text, connection_failure_text, publisher_create_error_text, subscriber_create_error_text}
-use Rattle.iox2_runs.specs.declared.reply.Reply.{Reply}
-use Rattle.iox2_runs.specs.declared.reply.Reply.TheVariants as reply
+use Rattle.iox2_commands.specs.declared.reply.Reply.{Reply}
+use Rattle.iox2_commands.specs.declared.reply.Reply.TheVariants as reply
 
 -- The words of a reply: what was asked for, or `ok`; `none` for what isn't there; `err` and the error's text for a
 -- refusal. The last three replies come from no line of a script.

@@ -4,10 +4,10 @@ use Rattle.std.specs.Io.KnownBytes.{Appends}
 use Rattle.iox2_store.specs.declared.service_config.ServiceConfig.{ServiceConfig}
 use Rattle.iox2_store.specs.Environments.{fixed_handlers}
 use Rattle.iox2_store.specs.State.{State, Messages, fresh, no_messages}
-use Rattle.iox2_runs.specs.Outcomes.{Event}
-use Rattle.iox2_runs.specs.Runs.{Run, only_defaults}
-use Rattle.iox2_runs.specs.declared.command.Command.{Command}
-use Rattle.iox2_runs.specs.declared.reply.Reply.{Reply}
+use Rattle.iox2_commands.specs.Outcomes.{Event}
+use Rattle.iox2_commands.specs.Runs.{Run, only_defaults}
+use Rattle.iox2_commands.specs.declared.command.Command.{Command}
+use Rattle.iox2_commands.specs.declared.reply.Reply.{Reply}
 use Rattle.pubsub_script.specs.Replies.{reply_lines}
 use Rattle.pubsub_script.specs.ScriptText.{IsMalformedAt, IsScript}
 use Rattle.pubsub_script.specs.declared.failure.ScriptError.{ScriptError}

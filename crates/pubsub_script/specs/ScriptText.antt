@@ -2,7 +2,7 @@
 use Rattle.std.specs.Prelude.{ℕ, List, [], ◌∷◌, ◌++◌, ◌+◌, ◌≡◌, ◌⊎◌, length}
 use Rattle.std.specs.Str.Lines.{lines}
 use Rattle.iox2_store.specs.declared.service_config.ServiceConfig.{ServiceConfig}
-use Rattle.iox2_runs.specs.declared.command.Command.{Command}
+use Rattle.iox2_commands.specs.declared.command.Command.{Command}
 use Rattle.pubsub_script.specs.Commands.{NamesCommand, NamesDomain}
 use Rattle.pubsub_script.specs.declared.failure.ScriptError.{ScriptError}
 use Rattle.pubsub_script.specs.declared.failure.ScriptError.TheVariants.{BadCommand, OutOfMemory, InputFailed, OutputFailed}

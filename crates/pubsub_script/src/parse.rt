@@ -1,7 +1,7 @@
 //! What the lines of a script ask for.
 ghost use Rattle.std.specs.Prelude.{◌≡◌, ◌↔◌, ◌<◌, ℕ, IfErr, IfNone, IfOk, IfSome, IsSome, length};
 ghost use Rattle.iox2_store.specs.declared.service_config.ServiceConfig.{ServiceConfig};
-ghost use Rattle.iox2_runs.specs.declared.command.Command.{Command};
+ghost use Rattle.iox2_commands.specs.declared.command.Command.{Command};
 ghost use Rattle.pubsub_script.specs.Commands.{IsCommandLine, IsDomainLine, NamesCommand, NamesDomain};
 ghost use Rattle.pubsub_script.specs.Numbers.{IsNumber, position_of, value_of};
 ghost use Rattle.pubsub_script.specs.ScriptText.{IsRefused, IsScript};

@@ -4,11 +4,11 @@ ghost use Rattle.iox2_store.specs.Sends.{Delivered_to};
 ghost use Rattle.iox2_pubsub.specs.SendCalls.{sent_result};
 ghost use Rattle.iox2_runs.specs.Rooms.{SameRoom};
 ghost use Rattle.iox2_runs.specs.Holdings.{Keeps, Carries, defaults_of};
-ghost use Rattle.iox2_runs.specs.declared.command.Command.TheVariants.{LoanUninit, WriteAll, Send};
+ghost use Rattle.iox2_commands.specs.declared.command.Command.TheVariants.{LoanUninit, WriteAll, Send};
 ghost use Rattle.iox2_runs.specs.declared.runs.held.Held.TheVariants.{Nothing};
 
 use super::held::{Held, put, take};
-use crate::reply::Reply;
+use iox2_commands::Reply;
 use iox2_pubsub::{Domain, SendOutcome};
 
 /// Asks the publisher that the command at the position made for a loan, and answers the loan too.

@@ -1,16 +1,16 @@
 //! Commands that make ports.
 ghost use Rattle.std.specs.Prelude.{◌≡◌, ℕ, MatchResult};
-ghost use Rattle.iox2_runs.specs.declared.reply.Reply.TheVariants.{SubscriberMade, SubscriberRefused};
+ghost use Rattle.iox2_commands.specs.declared.reply.Reply.TheVariants.{SubscriberMade, SubscriberRefused};
 ghost use Rattle.iox2_runs.specs.declared.runs.held.Held.TheVariants.{Nothing, Subscriber as HeldSubscriber};
 ghost use Rattle.std.specs.declared.option.Option.TheVariants.{None};
 ghost use Rattle.iox2_store.specs.declared.allocation.AllocationStrategy.TheVariants.{Static};
 ghost use Rattle.iox2_store.specs.declared.backpressure.BackpressureStrategy.TheVariants.{DiscardData};
 ghost use Rattle.iox2_store.specs.declared.degradation.DegradationAction.TheVariants.{Warn};
 ghost use Rattle.iox2_runs.specs.Holdings.{Keeps, Carries, defaults_of};
-ghost use Rattle.iox2_runs.specs.declared.command.Command.TheVariants.{CreatePublisher, CreateSubscriber};
+ghost use Rattle.iox2_commands.specs.declared.command.Command.TheVariants.{CreatePublisher, CreateSubscriber};
 
 use super::held::Held;
-use crate::reply::Reply;
+use iox2_commands::Reply;
 use iox2_pubsub::{Domain, Subscriber};
 use iox2_store::{SubscriberCreateError, TypeVariant};
 

@@ -1,13 +1,13 @@
 //! Commands on samples, and reads.
 ghost use Rattle.std.specs.Prelude.{◌≡◌, ◌==◌, cond};
-ghost use Rattle.iox2_runs.specs.declared.reply.Reply.TheVariants.{Cell, Skipped};
+ghost use Rattle.iox2_commands.specs.declared.reply.Reply.TheVariants.{Cell, Skipped};
 ghost use Rattle.iox2_runs.specs.Rooms.{SameRoom};
 ghost use Rattle.iox2_runs.specs.Holdings.{Keeps, Carries, defaults_of};
-ghost use Rattle.iox2_runs.specs.declared.command.Command.TheVariants.{Read, Receive, Release};
+ghost use Rattle.iox2_commands.specs.declared.command.Command.TheVariants.{Read, Receive, Release};
 ghost use Rattle.iox2_runs.specs.declared.runs.held.Held.TheVariants.{Nothing};
 
 use super::held::{Held, put, take};
-use crate::reply::Reply;
+use iox2_commands::Reply;
 use iox2_pubsub::Domain;
 
 /// Releases the sample that the command at the position received.

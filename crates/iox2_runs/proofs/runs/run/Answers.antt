@@ -3,7 +3,7 @@ use Rattle.std.proofs.lemmas.List.{take_more, take_all}
 use Rattle.std.proofs.lemmas.List.Elements.{All-get_or}
 use Rattle.iox2_runs.specs.Holdings.{defaults_of}
 use Rattle.iox2_runs.specs.Supported.{IsSupported}
-use Rattle.iox2_runs.specs.declared.command.Command.{Command}
+use Rattle.iox2_commands.specs.declared.command.Command.{Command}
 use Rattle.iox2_runs.proofs.RunLoop.{has_run_none, has_run_more, still_keeps, is_run}
 use Rattle.iox2_runs.proofs.runs.run.Goals as goal
 

@@ -1,0 +1,252 @@
+-- An independent state stays independent.
+use Rattle.std.proofs.Common.{◌≡◌, ℕ, Bool, true, false, not, List, [], ◌∷◌, ◌++◌, refl, sym, ap, subst, ◌∙◌, Option, None, Some, is_none, eqb}
+use Rattle.std.specs.Prelude.{nat_lt}
+use Rattle.std.specs.Option.{option_map}
+use Rattle.std.proofs.lemmas.Bool.{true≢false}
+use Rattle.iox2_store.specs.Limits.{worst_case, buffer_limit, last_number}
+use Rattle.iox2_store.specs.Places.{free_place}
+use Rattle.iox2_store.specs.Numbers.{put_at, size, without, last_n}
+use Rattle.iox2_store.specs.Records.{Loan, Publisher, Subscriber, Environment, PublisherSettings, SubscriberSettings}
+use Rattle.iox2_store.specs.State.{State, held, with_loan}
+use Rattle.iox2_store.specs.PublisherUpdate.{UpdatePublisher}
+use Rattle.iox2_store.specs.SubscriberUpdate.{UpdateSubscriber}
+use Rattle.iox2_store.specs.Loans.{GrantLoan, is_static, limit_error, loan_discarded}
+use Rattle.iox2_store.specs.SingleCalls.{GrantWrittenLoan}
+use Rattle.iox2_store.specs.Sends.{Send, SendResult, Publish}
+use Rattle.iox2_store.specs.Receives.{Receive, TakeSample, ReceiveResult, Got_sample, No_sample, Receive_error}
+use Rattle.iox2_store.specs.Releases.{released, pruned, unborrowed}
+use Rattle.iox2_store.specs.Ports.{new_publisher, new_subscriber, with_new_publisher, with_new_subscriber, with_failure_warning, MakePublisher, CreatePublisher, MakeSubscriber, CreateSubscriber, first_segment_fits, buffer_for, slots_for, publisher_gone, publisher_closed, subscribers_pruned}
+use Rattle.iox2_store.specs.declared.service_config.ServiceConfig.{ServiceConfig}
+use Rattle.iox2_store.specs.declared.warning.Warning.{Warning}
+use Rattle.iox2_store.specs.declared.errors.ConnectionFailure.{ConnectionFailure}
+use Rattle.iox2_store.specs.declared.errors.LoanError.{LoanError}
+use Rattle.iox2_store.specs.declared.errors.PublisherCreateError.{PublisherCreateError}
+use Rattle.iox2_store.specs.declared.errors.SubscriberCreateError.{SubscriberCreateError}
+use Rattle.iox2_laws.proofs.Cases.{by_option, by_bool}
+use Rattle.iox2_laws.proofs.PublisherUpdates.{update_publisher_changes}
+use Rattle.iox2_laws.proofs.Puts.{found_put, found_removed, found_mapped, at_each}
+use Rattle.iox2_store.specs.Environments.{ample_memory}
+use Rattle.iox2_commands.specs.Isolation.{IsIndependentPublisher, never_waits}
+use Rattle.iox2_commands.proofs.AlikeViews.{View, view_of}
+use Rattle.iox2_commands.proofs.AlikeSends.{delivered_view, published_view, publish_is}
+use Rattle.iox2_commands.proofs.ApartSteps.{AllOpen, changed_open, released_is}
+
+-- a change of what independence doesn't look at leaves a publisher independent
+independent_changed : (c : ServiceConfig) (x x' : Publisher) → x'.allocation_strategy ≡ x.allocation_strategy → x'.slots ≡ x.slots
+    → x'.max_loaned_samples ≡ x.max_loaned_samples → x'.blocked ≡ x.blocked
+    → x'.backpressure_strategy ≡ x.backpressure_strategy → x'.backpressure_handler ≡ x.backpressure_handler → IsIndependentPublisher c x → IsIndependentPublisher c x'
+independent_changed c x x' e1 e2 e3 e4 e5 e6 k = record {
+  static = ap is_static e1 ∙ k.static;
+  slots = e2 ∙ k.slots ∙ ap (worst_case c) (sym e3);
+  unblocked = e4 ∙ k.unblocked;
+  never_waits = (λ i. never_waits c (e5 i) (not (is_none (e6 i)))) ∙ k.never_waits;
+}
+
+-- of publishers by id
+abbrev pub AllIndependent : ServiceConfig → (ℕ → Option Publisher) → Type 0
+AllIndependent c publishers = (p : ℕ) (x : Publisher) → publishers p ≡ Some x → IsIndependentPublisher c x
+
+-- one independent publisher is written
+put_independent : (c : ServiceConfig) (publishers : ℕ → Option Publisher) (p : ℕ) (x : Publisher) → AllIndependent c publishers → IsIndependentPublisher c x
+    → AllIndependent c (put_at publishers p (Some x))
+put_independent c publishers p x all new i z e = found_put publishers p x (λ _ v. IsIndependentPublisher c v) i z e (λ _. new) (λ _ f. all i z f)
+
+-- one publisher is changed, where it is present
+map_independent : (c : ServiceConfig) (publishers : ℕ → Option Publisher) (p : ℕ) (change : Publisher → Publisher) → AllIndependent c publishers
+    → ((x : Publisher) → IsIndependentPublisher c x → IsIndependentPublisher c (change x))
+    → AllIndependent c (put_at publishers p (option_map change (publishers p)))
+map_independent c publishers p change all go i z e =
+    at_each publishers p (option_map change (publishers p)) (λ _ v. v ≡ Some z → IsIndependentPublisher c z) i
+    (λ _ e. found_mapped change (publishers p) z (IsIndependentPublisher c z) e (λ x f same. subst (IsIndependentPublisher c) (sym same) (go x (all p x f))))
+    (λ _ e. all i z e) e
+
+-- each publisher is changed
+each_independent : (c : ServiceConfig) (publishers : ℕ → Option Publisher) (change : Publisher → Publisher) → AllIndependent c publishers
+    → ((x : Publisher) → IsIndependentPublisher c x → IsIndependentPublisher c (change x))
+    → AllIndependent c (λ p. option_map change (publishers p))
+each_independent c publishers change all go i z e = found_mapped change (publishers i) z (IsIndependentPublisher c z) e (λ x f same. subst (IsIndependentPublisher c) (sym same) (go x (all i x f)))
+
+-- What is told a publisher's factory makes it independent.
+pub record AreIndependentSettings (c : ServiceConfig) (given : PublisherSettings) : Type 0 where
+  pub static : is_static given.allocation_strategy ≡ true
+  pub slots : slots_for c given ≡ worst_case c given.max_loaned_samples
+  pub never_waits : never_waits c given.backpressure_strategy (not (is_none given.backpressure_handler)) ≡ true
+
+module _ {T U : Type 0} where
+  -- Publishers are independent, and subscribers open.
+  pub record StaysOpen (s : State T U) : Type 0 where
+    pub publishers : AllIndependent s.config s.publishers
+    pub all_open : AllOpen s
+
+  -- each subscriber is changed and stays open
+  each_open : (s : State T U) (g : ℕ → Subscriber → Subscriber) → ((r : ℕ) (y : Subscriber) → (g r y).is_open ≡ y.is_open) → AllOpen s
+      → AllOpen (record s { subscribers = λ r. option_map {T = Subscriber} (g r) (s.subscribers r) })
+  each_open s g same all r z e = found_mapped (g r) (s.subscribers r) z (z.is_open ≡ true) e (λ y f h. ap (λ (v : Subscriber). v.is_open) h ∙ same r y ∙ all r y f)
+
+  put_open : (s : State T U) (r : ℕ) (y : Subscriber) → y.is_open ≡ true → AllOpen s → AllOpen (record s { subscribers = put_at s.subscribers r (Some y) })
+  put_open s r y new all i z e = found_put s.subscribers r y (λ _ v. v.is_open ≡ true) i z e (λ _. new) (λ _ f. all i z f)
+
+  -- ---- updates
+
+  -- a publisher's update
+  pub update_publisher_open : (s s' : State T U) (p : ℕ) (failure : Option ConnectionFailure) → UpdatePublisher ample_memory s p s' failure → StaysOpen s → StaysOpen s'
+  update_publisher_open s s' p failure h k =
+      by_option (StaysOpen s') (s.publishers p) _ _ h (λ _ v. absurd v) (λ x e h.
+      by_bool (StaysOpen s') x.is_due _ _ h
+      (λ _ h. subst StaysOpen (sym h.2) (record {
+        publishers = put_independent s.config s.publishers p (record x { ends = (h.0).ends; is_due = false }) k.publishers (independent_changed s.config x _ refl refl refl refl refl refl (k.publishers p x e));
+        all_open = k.all_open;
+      }))
+      (λ _ h. subst StaysOpen (sym h.0) k))
+
+  -- a subscriber's update
+  pub update_subscriber_open : (environment : Environment) (s s' : State T U) (r : ℕ) (failure : Option ConnectionFailure)
+      → UpdateSubscriber environment s r s' failure → StaysOpen s → StaysOpen s'
+  update_subscriber_open environment s s' r failure h k =
+      by_option (StaysOpen s') (s.subscribers r) _ _ h (λ _ v. absurd v) (λ y e h.
+      by_bool (StaysOpen s') y.is_due _ _ h
+      (λ _ h. subst StaysOpen (sym h.2) (record {
+        publishers = k.publishers;
+        all_open = put_open s r (record y { ends = (h.0).ends; expired = (h.0).expired; is_due = (h.0).is_due }) (k.all_open r y e) k.all_open;
+      }))
+      (λ _ h. subst StaysOpen (sym h.0) k))
+
+  take_open : (s s' : State T U) (r : ℕ) (y : Subscriber) (result : ReceiveResult) → TakeSample s r y s' result → StaysOpen s → StaysOpen s'
+  take_open s s' r y (Got_sample p n) h k = subst StaysOpen (sym h.3) (record { publishers = k.publishers; all_open = k.all_open })
+  take_open s s' r y No_sample h k = subst StaysOpen (sym h.1) k
+  take_open s s' r y (Receive_error e) h k = subst StaysOpen (sym h.3) k
+
+  -- a receive
+  pub receive_open : (environment : Environment) (s s' : State T U) (r : ℕ) (result : ReceiveResult) → Receive environment s r s' result → StaysOpen s → StaysOpen s'
+  receive_open environment s s' r result h k =
+      let mid : StaysOpen h.0 = update_subscriber_open environment s h.0 r h.1 h.2 k in
+      by_option (StaysOpen s') h.1 _ _ h.3
+      (λ _ j. by_option (StaysOpen s') ((h.0).subscribers r) _ _ j (λ _ v. absurd v) (λ y _ j. take_open h.0 s' r y result j mid))
+      (λ f _ j. subst StaysOpen (sym j.0) mid)
+
+  -- a release
+  pub released_open : (s : State T U) (p r n : ℕ) → StaysOpen s → StaysOpen (released s p r n)
+  released_open s p r n k = subst StaysOpen (sym (released_is s p r n k.all_open)) (record {
+    publishers = k.publishers;
+    all_open = changed_open (unborrowed s p r n) r (pruned (unborrowed s p r n) r) (λ y. refl) k.all_open;
+  })
+
+  -- ---- loans
+
+  -- a change of a loan
+  pub with_loan_open : (s : State T U) (n : ℕ) (l : Option (Loan T U)) → StaysOpen s → StaysOpen (with_loan s n l)
+  with_loan_open s n l k = record { publishers = k.publishers; all_open = k.all_open }
+
+  -- a loan that is granted or refused
+  pub grant_loan_open : (default_header : U) (checks_length : Bool) (len : ℕ) (s s' : State T U) (p : ℕ) (refusal : Option LoanError)
+      → GrantLoan ample_memory default_header checks_length len s p s' refusal → StaysOpen s → StaysOpen s'
+  grant_loan_open default_header checks_length len s s' p refusal h k =
+      by_option (StaysOpen s') (s.publishers p) _ _ h (λ _ v. absurd v) (λ x e h.
+      by_option (StaysOpen s') (limit_error checks_length x len) _ _ h
+      (λ _ h. by_bool (StaysOpen s') (is_static x.allocation_strategy) _ _ h
+      (λ _ h. by_bool (StaysOpen s') (eqb (size (held s p x)) x.slots) _ _ h (λ _ h. subst StaysOpen (sym h.0) k) (λ _ h.
+      by_bool (StaysOpen s') (eqb s.next_message last_number) _ _ h (λ _ h. subst StaysOpen (sym h.0) k) (λ _ h.
+      subst StaysOpen (sym h.0) (record {
+        publishers = put_independent s.config s.publishers p _ k.publishers (independent_changed s.config x _ refl refl refl refl refl refl (k.publishers p x e));
+        all_open = k.all_open;
+      }))))
+      (λ dynamic _. absurd (true≢false (sym (k.publishers p x e).static ∙ dynamic))))
+      (λ limit _ h. subst StaysOpen (sym h.0) k))
+
+  -- the same for one that is written at once
+  pub grant_written_loan_open : (value : T) (default_header : U) (checks_length : Bool) (len : ℕ) (s s' : State T U) (p : ℕ) (refusal : Option LoanError)
+      → GrantWrittenLoan ample_memory value default_header checks_length len s p s' refusal → StaysOpen s → StaysOpen s'
+  grant_written_loan_open value default_header checks_length len s s' p refusal h k =
+      let mid : StaysOpen h.0 = grant_loan_open default_header checks_length len s h.0 p refusal h.1 k in
+      by_option (StaysOpen s') refusal _ _ h.2
+      (λ _ j. by_option (StaysOpen s') ((h.0).loans s.next_message) _ _ j (λ _ v. absurd v) (λ l _ j. subst StaysOpen (sym j) (with_loan_open h.0 s.next_message _ mid)))
+      (λ e _ j. subst StaysOpen (sym j) mid)
+
+  -- a loan that is given back
+  pub loan_discarded_open : (s : State T U) (n : ℕ) (l : Loan T U) → StaysOpen s → StaysOpen (loan_discarded s n l)
+  loan_discarded_open s n l k = record {
+    publishers = map_independent s.config s.publishers l.publisher (λ x. record x { loans = without n x.loans }) k.publishers (λ x. independent_changed s.config x _ refl refl refl refl refl refl);
+    all_open = k.all_open;
+  }
+
+  -- ---- sends
+
+  -- What a publication leaves of the publishers, which are in every view; the subscribers it leaves alone.
+  publish_open : (s s' : State T U) (p n : ℕ) (x : Publisher) (result : SendResult) → s.publishers p ≡ Some x → Publish ample_memory s p n s' result → StaysOpen s
+      → StaysOpen s'
+  publish_open s s' p n x result e h k =
+      let seen : (q : ℕ) → view_of q s' ≡ delivered_view q p n x.ends (published_view q p n (view_of q s)) = λ q. (publish_is q s s' p n x result e (k.publishers p x e).never_waits h).2 in
+      let independent : AllIndependent s.config (delivered_view 0 p n x.ends (published_view 0 p n (view_of 0 s))).publishers =
+      map_independent s.config (published_view 0 p n (view_of 0 s)).publishers p (λ x. record x { loans = without n x.loans; blocked = None })
+      (map_independent s.config s.publishers p (λ x. record x { history = last_n (s.config).history_size (x.history ++ n ∷ []) }) k.publishers (λ x. independent_changed s.config x _ refl refl refl refl refl refl))
+      (λ x c. independent_changed s.config x _ refl refl refl (sym c.unblocked) refl refl c) in
+      record {
+        publishers = subst (λ (v : View T U). AllIndependent v.config v.publishers) (sym (seen 0)) independent;
+        all_open = λ r y f. k.all_open r y (sym (ap (λ (v : View T U). v.own) (seen r)) ∙ f);
+      }
+
+  -- a send
+  pub send_open : (s s' : State T U) (n : ℕ) (l : Loan T U) (result : SendResult) → Send ample_memory s n l s' result → StaysOpen s → StaysOpen s'
+  send_open s s' n l result h k =
+      by_option (StaysOpen s') (s.publishers l.publisher) _ _ h (λ _ h. subst StaysOpen (sym h.0) (with_loan_open s n None k)) (λ x e h.
+      let mid : StaysOpen h.0 = update_publisher_open s h.0 l.publisher h.1 h.2 k in
+      let changed : (ends : List (Option ℕ)) × (due : Bool) × ((h.0).publishers l.publisher ≡ Some (record x { ends = ends; is_due = due })) = update_publisher_changes ample_memory s l.publisher h.0 h.1 x e h.2 in
+      by_option (StaysOpen s') h.1 _ _ h.3
+      (λ _ j. publish_open h.0 s' l.publisher n (record x { ends = changed.0; is_due = changed.1 }) result changed.2 j mid)
+      (λ f _ j. subst StaysOpen (sym j.0) (loan_discarded_open h.0 n l mid)))
+
+  -- ---- ports
+
+  warning_open : (s : State T U) (warning : ConnectionFailure → Warning) (failure : Option ConnectionFailure) → StaysOpen s → StaysOpen (with_failure_warning s warning failure)
+  warning_open s warning None k = k
+  warning_open s warning (Some e) k = record { publishers = k.publishers; all_open = k.all_open }
+
+  -- an independent publisher that is made or refused
+  pub create_publisher_open : (s s' : State T U) (given : PublisherSettings) (refusal : Option PublisherCreateError) → (refusal ≡ None → AreIndependentSettings s.config given)
+      → CreatePublisher ample_memory s given s' refusal → StaysOpen s → StaysOpen s'
+  create_publisher_open s s' given refusal settings h k =
+      by_bool (StaysOpen s') (eqb s.next_port last_number) _ _ h (λ _ h. subst StaysOpen (sym h.0) k) (λ _ h.
+      by_option (StaysOpen s') (free_place (s.config).max_publishers s.publisher_places) _ _ h (λ _ h. subst StaysOpen (sym h.0) k) (λ place _ h.
+      by_bool (StaysOpen s') (first_segment_fits s.config given) _ _ h (λ _ h. make refusal settings place h) (λ _ h. subst StaysOpen (sym h.0) k)))
+    where
+      new : (place : ℕ) → AreIndependentSettings s.config given → StaysOpen (with_new_publisher s given place)
+      new place settings = record {
+        publishers = put_independent s.config s.publishers s.next_port (new_publisher s given place) k.publishers (record {
+          static = settings.static;
+          slots = settings.slots;
+          unblocked = refl;
+          never_waits = settings.never_waits;
+        });
+        all_open = each_open s (λ r y. record y { is_due = true }) (λ r y. refl) k.all_open;
+      }
+
+      make : (refusal : Option PublisherCreateError) → (refusal ≡ None → AreIndependentSettings s.config given) → (place : ℕ)
+          → MakePublisher ample_memory s given place s' refusal → StaysOpen s'
+      make None settings place h = subst StaysOpen (sym h.3) (warning_open h.0 _ h.1 (update_publisher_open (with_new_publisher s given place) h.0 s.next_port h.1 h.2 (new place (settings refl))))
+      make (Some e) settings place h = absurd h.0
+
+  -- a subscriber that is made or refused
+  pub create_subscriber_open : (s s' : State T U) (given : SubscriberSettings) (refusal : Option SubscriberCreateError)
+      → CreateSubscriber ample_memory s given s' refusal → StaysOpen s → StaysOpen s'
+  create_subscriber_open s s' given refusal h k =
+      by_bool (StaysOpen s') (eqb s.next_port last_number) _ _ h (λ _ h. subst StaysOpen (sym h.0) k) (λ _ h.
+      by_bool (StaysOpen s') (nat_lt (buffer_limit s.config) (buffer_for given)) _ _ h (λ _ h. subst StaysOpen (sym h.0) k) (λ _ h.
+      by_option (StaysOpen s') (free_place (s.config).max_subscribers s.subscriber_places) _ _ h (λ _ h. subst StaysOpen (sym h.0) k) (λ place _ h. make refusal place h)))
+    where
+      new : (place : ℕ) → StaysOpen (with_new_subscriber s given place)
+      new place = record {
+        publishers = each_independent s.config s.publishers (λ x. record x { is_due = true }) k.publishers (λ x. independent_changed s.config x _ refl refl refl refl refl refl);
+        all_open = put_open s s.next_port (new_subscriber given place) refl k.all_open;
+      }
+
+      make : (refusal : Option SubscriberCreateError) (place : ℕ) → MakeSubscriber ample_memory s given place s' refusal → StaysOpen s'
+      make None place h = subst StaysOpen (sym h.3) (warning_open h.0 _ h.1 (update_subscriber_open ample_memory (with_new_subscriber s given place) h.0 s.next_port h.1 h.2 (new place)))
+      make (Some e) place h = absurd h.0
+
+  -- a publisher that is closed
+  pub publisher_closed_open : (s : State T U) (p : ℕ) (x : Publisher) → StaysOpen s → StaysOpen (publisher_closed s p x)
+  publisher_closed_open s p x k = record {
+    publishers = λ i z e. found_removed s.publishers p i z (IsIndependentPublisher s.config z) e (λ _ f. k.publishers i z f);
+    all_open = each_open (subscribers_pruned (publisher_gone s p x)) (λ r y. record y { is_due = true }) (λ r y. refl)
+        (each_open (publisher_gone s p x) (pruned (publisher_gone s p x)) (λ r y. refl) k.all_open);
+  }

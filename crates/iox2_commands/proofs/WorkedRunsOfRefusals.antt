@@ -1,0 +1,604 @@
+-- Worked runs: requests for memory that are refused.
+use Rattle.std.proofs.Common.{◌≡◌, ℕ, false, List, [], ◌∷◌, refl, inl, inr, None, Some}
+use Rattle.iox2_store.specs.State.{State, Messages, fresh, no_messages}
+use Rattle.iox2_store.specs.Delivery.{Accepted, Complete}
+use Rattle.iox2_store.specs.Sends.{Delivered_to}
+use Rattle.iox2_store.specs.Receives.{Got_sample, No_sample}
+use Rattle.iox2_store.specs.declared.allocation.AllocationStrategy.TheVariants.{Static}
+use Rattle.iox2_store.specs.declared.backpressure.BackpressureStrategy.TheVariants.{DiscardData}
+use Rattle.iox2_store.specs.declared.degradation.DegradationAction.TheVariants.{Warn, DegradeAndFail}
+use Rattle.iox2_store.specs.declared.errors.ConnectionFailure.TheVariants.{FailedToEstablishConnection}
+use Rattle.iox2_store.specs.declared.errors.ZeroCopyCreationError.TheVariants.{OutOfMemory as No_memory}
+use Rattle.iox2_store.specs.declared.errors.LoanError.TheVariants.{OutOfMemory}
+use Rattle.iox2_store.specs.declared.errors.SendError.TheVariants.{LoanError as Not_loaned}
+use Rattle.iox2_store.specs.declared.errors.PublisherCreateError.TheVariants.{ExceedsMaxSupportedPublishers, UnableToCreateDataSegment}
+use Rattle.iox2_store.specs.declared.warning.Warning.TheVariants.{ExpiredBufferRaised, ConnectionNotMade, PublisherPartlyConnected}
+use Rattle.iox2_commands.specs.Outcomes.{Event}
+use Rattle.iox2_store.specs.Environments.{ample_memory, fixed_handlers}
+use Rattle.iox2_commands.specs.Runs.{Run, only_defaults}
+use Rattle.iox2_commands.specs.declared.command.Command.TheVariants.{CreatePublisher, CreateSubscriber, LoanUninit, SendCopy, Receive, Read, Release, Close}
+use Rattle.iox2_commands.specs.declared.reply.Reply.TheVariants.{Done, PublisherMade, PublisherRefused, SubscriberMade, Loaned, LoanRefused, Delivered, SendRefused}
+use Rattle.iox2_commands.specs.declared.reply.Reply.TheVariants.{Sample, NoSample, Cell}
+use Rattle.iox2_commands.proofs.WorkedRunDomains.{domain}
+
+-- A second publisher is refused because of their number, before its size counts; the same request is refused because of
+-- its size when there is room. A refusal uses up no id.
+pub too_large_a_publisher_is_refused : (events : List (Event ℕ ℕ)) × (m : Messages ℕ ℕ) × (s : State ℕ ℕ)
+    × Run ample_memory (only_defaults 0 0) no_messages (fresh (domain 1 1 1 1 0 0 false))
+    (CreatePublisher 1 DiscardData Static 1 None Warn None ∷ CreatePublisher 18446744073709551615 DiscardData Static 1 None Warn None ∷ Close 0 ∷
+    CreatePublisher 18446744073709551615 DiscardData Static 1 None Warn None ∷ CreatePublisher 1 DiscardData Static 1 None Warn None ∷ [])
+    (PublisherMade 1 ∷ PublisherRefused ExceedsMaxSupportedPublishers ∷ Done ∷ PublisherRefused UnableToCreateDataSegment ∷ PublisherMade 2 ∷ [])
+    events m s
+    × (s.warnings ≡ [])
+too_large_a_publisher_is_refused = (
+  _ ∷ _ ∷ _ ∷ _ ∷ _ ∷ [],
+  _,
+  _,
+  (
+    0,
+    0,
+    refl,
+    refl,
+    _,
+    (_, None, (_, None, (_, (refl, refl), refl), refl), refl),
+    refl,
+    refl,
+    (
+      0,
+      0,
+      refl,
+      refl,
+      _,
+      (_, Some ExceedsMaxSupportedPublishers, (refl, refl), refl),
+      refl,
+      refl,
+      (
+        0,
+        0,
+        refl,
+        refl,
+        _,
+        refl,
+        refl,
+        refl,
+        (
+          0,
+          0,
+          refl,
+          refl,
+          _,
+          (_, Some UnableToCreateDataSegment, (refl, refl), refl),
+          refl,
+          refl,
+          (
+            0,
+            0,
+            refl,
+            refl,
+            _,
+            (_, None, (_, None, (_, (refl, refl), refl), refl), refl),
+            refl,
+            refl,
+            (refl, refl),
+          ),
+        ),
+      ),
+    ),
+  ),
+  refl,
+)
+
+-- A publisher with two slots instead of three has no slot for a third message that is held, though no loan is out. A
+-- release makes one free.
+pub fewer_slots_run_out : (events : List (Event ℕ ℕ)) × (m : Messages ℕ ℕ) × (s : State ℕ ℕ)
+    × Run ample_memory (only_defaults 0 0) no_messages (fresh (domain 1 1 1 1 0 0 false))
+    (CreateSubscriber (Some 1) Warn ∷ CreatePublisher 1 DiscardData Static 1 (Some 2) Warn None ∷ SendCopy 1 1 ∷ Receive 0 ∷ SendCopy 1 2 ∷ LoanUninit 1 ∷
+    SendCopy 1 3 ∷ Release 3 ∷ LoanUninit 1 ∷ [])
+    (SubscriberMade 1 ∷ PublisherMade 2 ∷ Delivered 1 ∷ Sample 2 ∷ Delivered 1 ∷ LoanRefused OutOfMemory ∷ SendRefused (Not_loaned OutOfMemory) ∷ Done ∷
+    Loaned ∷ [])
+    events m s
+    × (s.warnings ≡ ExpiredBufferRaised 1 ∷ [])
+fewer_slots_run_out = (
+  _ ∷ _ ∷ _ ∷ _ ∷ _ ∷ _ ∷ _ ∷ _ ∷ _ ∷ [],
+  _,
+  _,
+  (
+    0,
+    0,
+    refl,
+    refl,
+    _,
+    (_, None, (_, None, (_, (_, None, None, (refl, refl), (refl, refl), refl), refl), refl), refl),
+    refl,
+    refl,
+    (
+      0,
+      0,
+      refl,
+      refl,
+      _,
+      (_, None, (_, None, (_, (_, None, None, inl (refl, refl), (refl, refl), refl), refl), refl), refl),
+      refl,
+      refl,
+      (
+        0,
+        0,
+        refl,
+        refl,
+        _,
+        (
+          _,
+          None,
+          (_, (refl, refl), refl),
+          (
+            _,
+            Delivered_to 1,
+            (
+              _,
+              None,
+              (refl, refl),
+              (
+                Complete 1 false,
+                _,
+                (Accepted, _, (_, (refl, refl), refl), (refl, refl)),
+                (refl, refl),
+              ),
+            ),
+            refl,
+          ),
+        ),
+        refl,
+        refl,
+        (
+          0,
+          0,
+          refl,
+          refl,
+          _,
+          (
+            _,
+            Got_sample 2 1,
+            (
+              _,
+              None,
+              (
+                _,
+                (
+                  _,
+                  None,
+                  None,
+                  (_, None, None, inl (refl, refl), (refl, refl), refl),
+                  (_, None, None, (refl, refl), (refl, refl), refl),
+                  refl,
+                ),
+                refl,
+              ),
+              ((refl, refl), _, ([], refl, refl), refl),
+            ),
+            refl,
+          ),
+          refl,
+          refl,
+          (
+            0,
+            0,
+            refl,
+            refl,
+            _,
+            (
+              _,
+              None,
+              (_, (refl, refl), refl),
+              (
+                _,
+                Delivered_to 1,
+                (
+                  _,
+                  None,
+                  (refl, refl),
+                  (
+                    Complete 1 false,
+                    _,
+                    (Accepted, _, (_, (refl, refl), refl), (refl, refl)),
+                    (refl, refl),
+                  ),
+                ),
+                refl,
+              ),
+            ),
+            refl,
+            refl,
+            (
+              0,
+              0,
+              refl,
+              refl,
+              _,
+              (_, Some OutOfMemory, (refl, refl), refl),
+              refl,
+              refl,
+              (
+                0,
+                0,
+                refl,
+                refl,
+                _,
+                (_, Some OutOfMemory, (_, (refl, refl), refl), refl),
+                refl,
+                refl,
+                (
+                  0,
+                  0,
+                  refl,
+                  refl,
+                  _,
+                  refl,
+                  refl,
+                  refl,
+                  (
+                    0,
+                    0,
+                    refl,
+                    refl,
+                    _,
+                    (_, None, (refl, refl), refl),
+                    refl,
+                    refl,
+                    (refl, refl),
+                  ),
+                ),
+              ),
+            ),
+          ),
+        ),
+      ),
+    ),
+  ),
+  refl,
+)
+
+-- Memory for a connection is refused to a new subscriber, which is made all the same. Its publisher connects by the
+-- next send, and it receives the message after its own next update.
+pub unconnected_subscriber_connects_later : (events : List (Event ℕ ℕ)) × (m : Messages ℕ ℕ) × (s : State ℕ ℕ)
+    × Run fixed_handlers (only_defaults 0 0) no_messages (fresh (domain 2 1 2 1 0 1 false))
+    (CreatePublisher 1 DiscardData Static 1 None Warn None ∷ CreateSubscriber (Some 2) Warn ∷ SendCopy 0 1 ∷ Receive 1 ∷
+    CreatePublisher 1 DiscardData Static 1 None Warn None ∷ Receive 1 ∷ Read 5 0 ∷ [])
+    (PublisherMade 1 ∷ SubscriberMade 2 ∷ Delivered 1 ∷ NoSample ∷ PublisherMade 3 ∷ Sample 1 ∷ Cell (Some 1) ∷ [])
+    events m s
+    × (s.warnings ≡ ConnectionNotMade 1 2 ∷ [])
+unconnected_subscriber_connects_later = (
+  _ ∷ _ ∷ _ ∷ _ ∷ _ ∷ _ ∷ _ ∷ [],
+  _,
+  _,
+  (
+    0,
+    0,
+    refl,
+    refl,
+    _,
+    (_, None, (_, None, (_, (refl, refl), refl), refl), refl),
+    refl,
+    refl,
+    (
+      0,
+      0,
+      refl,
+      refl,
+      _,
+      (
+        _,
+        None,
+        (
+          _,
+          None,
+          (
+            _,
+            (
+              _,
+              None,
+              None,
+              (_, None, None, inr (refl, _, (Warn, tt, refl, refl, refl), refl), (refl, refl), refl),
+              (
+                _,
+                None,
+                None,
+                (refl, refl),
+                (refl, refl),
+                refl,
+              ),
+              refl,
+            ),
+            refl,
+          ),
+          refl,
+        ),
+        refl,
+      ),
+      refl,
+      refl,
+      (
+        0,
+        0,
+        refl,
+        refl,
+        _,
+        (
+          _,
+          None,
+          (_, (refl, refl), refl),
+          (
+            _,
+            Delivered_to 1,
+            (
+              _,
+              None,
+              (_, (_, None, None, inl (refl, refl), (refl, refl), refl), refl),
+              (
+                Complete 1 false,
+                _,
+                (Accepted, _, (_, (refl, refl), refl), (refl, refl)),
+                (refl, refl),
+              ),
+            ),
+            refl,
+          ),
+        ),
+        refl,
+        refl,
+        (
+          0,
+          0,
+          refl,
+          refl,
+          _,
+          (_, No_sample, (_, None, (refl, refl), (refl, refl)), refl),
+          refl,
+          refl,
+          (
+            0,
+            0,
+            refl,
+            refl,
+            _,
+            (_, None, (_, None, (_, (_, None, None, inl (refl, refl), (refl, refl), refl), refl), refl), refl),
+            refl,
+            refl,
+            (
+              0,
+              0,
+              refl,
+              refl,
+              _,
+              (
+                _,
+                Got_sample 1 1,
+                (
+                  _,
+                  None,
+                  (
+                    _,
+                    (
+                      _,
+                      None,
+                      None,
+                      (_, None, None, inl (refl, refl), (_, None, None, inl (refl, refl), (refl, refl), refl), refl),
+                      (
+                        _,
+                        None,
+                        None,
+                        (refl, refl),
+                        (_, None, None, (refl, refl), (refl, refl), refl),
+                        refl,
+                      ),
+                      refl,
+                    ),
+                    refl,
+                  ),
+                  ((refl, refl), _, ([], refl, refl), refl),
+                ),
+                refl,
+              ),
+              refl,
+              refl,
+              (
+                0,
+                0,
+                refl,
+                refl,
+                _,
+                refl,
+                refl,
+                refl,
+                (refl, refl),
+              ),
+            ),
+          ),
+        ),
+      ),
+    ),
+  ),
+  refl,
+)
+
+-- Memory for a connection is refused to a new publisher, which is made all the same, with a warning of the failure. It
+-- connects when the next subscriber comes.
+pub unconnected_publisher_connects_later : (events : List (Event ℕ ℕ)) × (m : Messages ℕ ℕ) × (s : State ℕ ℕ)
+    × Run fixed_handlers (only_defaults 0 0) no_messages (fresh (domain 1 2 1 1 0 1 false))
+    (CreateSubscriber (Some 1) DegradeAndFail ∷ CreatePublisher 1 DiscardData Static 1 None DegradeAndFail None ∷ SendCopy 1 1 ∷ Receive 0 ∷
+    CreateSubscriber (Some 1) DegradeAndFail ∷ SendCopy 1 2 ∷ Receive 0 ∷ Read 6 0 ∷ [])
+    (SubscriberMade 1 ∷ PublisherMade 2 ∷ Delivered 0 ∷ NoSample ∷ SubscriberMade 3 ∷ Delivered 2 ∷ Sample 2 ∷ Cell (Some 2) ∷ [])
+    events m s
+    × (s.warnings ≡ PublisherPartlyConnected 2 (FailedToEstablishConnection No_memory) ∷ [])
+unconnected_publisher_connects_later = (
+  _ ∷ _ ∷ _ ∷ _ ∷ _ ∷ _ ∷ _ ∷ _ ∷ [],
+  _,
+  _,
+  (
+    0,
+    0,
+    refl,
+    refl,
+    _,
+    (_, None, (_, None, (_, (_, None, None, (refl, refl), (refl, refl), refl), refl), refl), refl),
+    refl,
+    refl,
+    (
+      0,
+      0,
+      refl,
+      refl,
+      _,
+      (
+        _,
+        None,
+        (
+          _,
+          Some (FailedToEstablishConnection No_memory),
+          (
+            _,
+            (
+              _,
+              Some (FailedToEstablishConnection No_memory),
+              None,
+              inr (
+                refl,
+                _,
+                (
+                  DegradeAndFail,
+                  tt,
+                  refl,
+                  refl,
+                  refl,
+                ),
+                refl,
+              ),
+              (refl, refl),
+              refl,
+            ),
+            refl,
+          ),
+          refl,
+        ),
+        refl,
+      ),
+      refl,
+      refl,
+      (
+        0,
+        0,
+        refl,
+        refl,
+        _,
+        (_, None, (_, (refl, refl), refl), (_, Delivered_to 0, (_, None, (refl, refl), (Complete 0 false, _, (refl, refl), (refl, refl))), refl)),
+        refl,
+        refl,
+        (
+          0,
+          0,
+          refl,
+          refl,
+          _,
+          (
+            _,
+            No_sample,
+            (
+              _,
+              None,
+              (
+                _,
+                (_, None, None, (_, None, None, inl (refl, refl), (refl, refl), refl), (_, None, None, (refl, refl), (refl, refl), refl), refl),
+                refl,
+              ),
+              (refl, refl),
+            ),
+            refl,
+          ),
+          refl,
+          refl,
+          (
+            0,
+            0,
+            refl,
+            refl,
+            _,
+            (
+              _,
+              None,
+              (
+                _,
+                None,
+                (
+                  _,
+                  (_, None, None, (_, None, None, inl (refl, refl), (refl, refl), refl), (_, None, None, (refl, refl), (refl, refl), refl), refl),
+                  refl,
+                ),
+                refl,
+              ),
+              refl,
+            ),
+            refl,
+            refl,
+            (
+              0,
+              0,
+              refl,
+              refl,
+              _,
+              (
+                _,
+                None,
+                (_, (refl, refl), refl),
+                (
+                  _,
+                  Delivered_to 2,
+                  (
+                    _,
+                    None,
+                    (
+                      _,
+                      (
+                        _,
+                        None,
+                        None,
+                        inl (refl, refl),
+                        (_, None, None, inl (refl, refl), (refl, refl), refl),
+                        refl,
+                      ),
+                      refl,
+                    ),
+                    (Complete 2 false, _, (Accepted, _, (_, (refl, refl), refl), (Accepted, _, (_, (refl, refl), refl), (refl, refl))), (refl, refl)),
+                  ),
+                  refl,
+                ),
+              ),
+              refl,
+              refl,
+              (
+                0,
+                0,
+                refl,
+                refl,
+                _,
+                (_, Got_sample 2 2, (_, None, (refl, refl), ((refl, refl), _, ([], refl, refl), refl)), refl),
+                refl,
+                refl,
+                (
+                  0,
+                  0,
+                  refl,
+                  refl,
+                  _,
+                  refl,
+                  refl,
+                  refl,
+                  (refl, refl),
+                ),
+              ),
+            ),
+          ),
+        ),
+      ),
+    ),
+  ),
+  refl,
+)

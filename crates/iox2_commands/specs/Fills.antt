@@ -1,0 +1,35 @@
+-- A list of commands that makes a publisher need every slot of the worst case.
+use Rattle.std.specs.Prelude.{ℕ, Bool, true, false, List, ◌≡◌}
+use Rattle.std.specs.List.{list_all}
+use Rattle.std.specs.declared.option.Option.TheVariants.{Some}
+use Rattle.iox2_store.specs.Limits.{worst_case}
+use Rattle.iox2_store.specs.Numbers.{size}
+use Rattle.iox2_store.specs.Records.{Publisher}
+use Rattle.iox2_store.specs.State.{State, Messages, fresh, no_messages, held}
+use Rattle.iox2_store.specs.declared.service_config.ServiceConfig.{ServiceConfig}
+use Rattle.iox2_commands.specs.Outcomes.{Event}
+use Rattle.iox2_store.specs.Environments.{ample_memory}
+use Rattle.iox2_commands.specs.Runs.{Run, any_defaults}
+use Rattle.iox2_commands.specs.declared.command.Command.{Command}
+use Rattle.iox2_commands.specs.declared.reply.Reply.{Reply}
+use Rattle.iox2_commands.specs.declared.reply.Reply.TheVariants.{Skipped, PublisherRefused, SubscriberRefused, LoanRefused, SendRefused, UpdateRefused, ReceiveRefused}
+
+-- The command was neither skipped nor refused.
+abbrev pub is_granted : {T U : Type 0} → Reply T U → Bool
+is_granted Skipped = false
+is_granted (PublisherRefused e) = false
+is_granted (SubscriberRefused e) = false
+is_granted (LoanRefused e) = false
+is_granted (SendRefused e) = false
+is_granted (UpdateRefused e) = false
+is_granted (ReceiveRefused e) = false
+is_granted _ = true
+
+-- Every run of the list on a new domain, with ample memory, skips and refuses no command, and ends with a publisher that
+-- holds the worst case for so many loans.
+abbrev pub Fills : {T U : Type 0} → ServiceConfig → (loans : ℕ) → List (Command T U) → Type 0
+Fills {T} {U} c loans commands =
+    (replies : List (Reply T U)) (events : List (Event T U)) (m : Messages T U) (s : State T U)
+    → Run ample_memory any_defaults no_messages (fresh c) commands replies events m s
+    → (list_all is_granted replies ≡ true)
+    × ((p : ℕ) × (x : Publisher) × (s.publishers p ≡ Some x) × (size (held s p x) ≡ worst_case c loans))

@@ -1,0 +1,11 @@
+pub mod Outcomes
+pub mod Step
+pub mod Runs
+pub mod StoredSteps
+pub mod Fills
+pub mod FillingCommands
+pub mod Views
+pub mod Isolation
+pub mod Laws
+pub mod RunLaws
+pub mod Existence

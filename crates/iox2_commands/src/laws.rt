@@ -1,0 +1,89 @@
+ghost use Rattle.iox2_commands.specs.Laws.{StepsKeepWellFormed, StepsLift};
+ghost use Rattle.iox2_commands.specs.Existence.{EveryListRuns};
+ghost use Rattle.iox2_commands.specs.FillingCommands.{WorstCaseIsReached, WorstCaseIsLeast};
+ghost use Rattle.iox2_commands.specs.Isolation.{CallsLeaveOthersViews, AlikeStatesStayAlike, SubscribersAreIsolated};
+ghost use Rattle.iox2_commands.specs.RunLaws.{ReachedStatesHoldAtMostWorstCase, WorstCaseOfSlotsGrants, LoansAreGranted, SamplesNameTheirPublisher, ReceivesInOrder, ReadsGiveWhatWasSent};
+
+/// Every step from a well-formed state ends in a well-formed one with the same configuration, and no counter falls,
+/// whatever handlers answer and whether or not memory is refused.
+pub fn steps_keep_well_formed<T, U>()
+    ensures { StepsKeepWellFormed T U }
+{}
+
+/// A step on what a domain keeps is a step from each state that it shows, to a state that it shows afterwards.
+pub fn steps_lift<T, U>()
+    ensures { StepsLift T U }
+{}
+
+/// Every list of commands has a run on a new domain with ample memory.
+pub fn every_list_runs<T, U>()
+    ensures { EveryListRuns T U }
+{}
+
+/// In every state that a run from a new domain reaches, the configuration is unchanged, the state is well-formed, and each
+/// publisher holds at most the worst case of different messages and loans for the loans that it has out.
+pub fn reached_states_hold_at_most_worst_case<T, U>()
+    ensures { ReachedStatesHoldAtMostWorstCase T U }
+{}
+
+/// In a well-formed state, a static publisher with the worst case of slots grants every loan of permitted length, and can't
+/// refuse it, while fewer than its limit are out and the message counter isn't at its end.
+pub fn worst_case_of_slots_grants<T, U>()
+    ensures { WorstCaseOfSlotsGrants T U }
+{}
+
+/// In a well-formed state of a service with elements of one unit, each loan command of permitted length at a static
+/// publisher with the worst case of slots, which isn't blocked, has an outcome, and each outcome replies that it is loaned,
+/// while fewer loans than the publisher's limit are out and the message counter isn't at its end.
+pub fn loans_are_granted<T, U>()
+    ensures { LoansAreGranted T U }
+{}
+
+/// In a run from any well-formed state, the reply to a receive names the publisher that sent the message before, and so does
+/// the message's header.
+pub fn samples_name_their_publisher<T, U>()
+    ensures { SamplesNameTheirPublisher T U }
+{}
+
+/// In a run from any well-formed state, a publisher sends each number once. What a subscriber receives from it is a part of
+/// what it sent, in the same order, each message at most once.
+pub fn receives_in_order<T, U>()
+    ensures { ReceivesInOrder T U }
+{}
+
+/// In a run from any well-formed state, each sample has one entry, with which its message was sent before it was received.
+/// Every read through the sample gives that entry, until the sample is released.
+pub fn reads_give_what_was_sent<T, U>()
+    ensures { ReadsGiveWhatWasSent T U }
+{}
+
+/// With ample memory, for each fillable configuration, every run of a stated list of commands skips and refuses none, and
+/// ends with a publisher that holds the worst case of messages and loans.
+pub fn worst_case_is_reached<T, U>()
+    ensures { WorstCaseIsReached T U }
+{}
+
+/// With ample memory and any smaller number of slots, each run of that list refuses a loan for want of slots while fewer
+/// than the publisher's limit are out.
+pub fn worst_case_is_least<T, U>()
+    ensures { WorstCaseIsLeast T U }
+{}
+
+/// With ample memory and no closed subscriber left, a subscriber's receive, `HasSamples`, update, read or release leaves the
+/// view of each other subscriber as it was.
+pub fn calls_leave_others_views<T, U>()
+    ensures { CallsLeaveOthersViews T U }
+{}
+
+/// With ample memory, one command that closes no subscriber, from two independent states with equal views, ends in equal
+/// views. If it is the subscriber's own receive, the replies must be equal.
+pub fn alike_states_stay_alike<T, U>()
+    ensures { AlikeStatesStayAlike T U }
+{}
+
+/// With ample memory, static publishers with the worst case of slots that never block, and no subscriber closed: a
+/// subscriber's view, and all reads through its samples, are the same after a list of commands and after that list with some
+/// calls of other subscribers replaced by `Nothing`, as long as its own receives get the same replies.
+pub fn subscribers_are_isolated<T, U>()
+    ensures { SubscribersAreIsolated T U }
+{}

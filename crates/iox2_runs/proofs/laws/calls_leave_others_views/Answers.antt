@@ -1,5 +1,0 @@
-use Rattle.iox2_runs.proofs.Isolation.{calls_leave_others_views as lemma}
-use Rattle.iox2_runs.proofs.laws.calls_leave_others_views.Goals as goal
-
-pub returns : goal.returns
-returns g c = lemma

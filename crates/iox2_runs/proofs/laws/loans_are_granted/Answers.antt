@@ -1,7 +1,0 @@
-use Rattle.iox2_runs.proofs.EnoughRuns.{loans_are_granted}
-use Rattle.iox2_runs.specs.Laws.{tested_environment}
-use Rattle.iox2_runs.proofs.laws.loans_are_granted.Goals as goal
-
-pub returns : goal.returns
-returns g c = λ may_refuse_memory backpressure degradation.
-    loans_are_granted (tested_environment may_refuse_memory backpressure degradation)

@@ -1,6 +1,0 @@
-use Rattle.iox2_runs.proofs.Order.{receives_in_order_law}
-use Rattle.iox2_runs.proofs.ReadLaws.{reads_law}
-use Rattle.iox2_runs.proofs.laws.reads_give_what_was_sent.Goals as goal
-
-pub returns : goal.returns
-returns g c = reads_law g.row.T.Denot g.row.U.Denot (receives_in_order_law g.row.T.Denot g.row.U.Denot)

@@ -1,5 +1,0 @@
-use Rattle.iox2_runs.proofs.ReadLaws.{samples_law}
-use Rattle.iox2_runs.proofs.laws.samples_name_their_publisher.Goals as goal
-
-pub returns : goal.returns
-returns g c = samples_law g.row.T.Denot g.row.U.Denot

@@ -1,7 +1,0 @@
-use Rattle.iox2_runs.proofs.Lift.{lift}
-use Rattle.iox2_runs.specs.Laws.{tested_environment}
-use Rattle.iox2_runs.proofs.laws.steps_lift.Goals as goal
-
-pub returns : goal.returns
-returns g c = λ may_refuse_memory backpressure degradation default_value default_header old new handles command o moves m s shown.
-    lift (tested_environment may_refuse_memory backpressure degradation) default_value default_header old new handles command o moves m s shown

@@ -1,5 +1,0 @@
-use Rattle.iox2_runs.proofs.Isolation.{subscribers_are_isolated as lemma}
-use Rattle.iox2_runs.proofs.laws.subscribers_are_isolated.Goals as goal
-
-pub returns : goal.returns
-returns g c = lemma

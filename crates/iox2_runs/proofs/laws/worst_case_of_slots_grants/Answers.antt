@@ -1,7 +1,0 @@
-use Rattle.iox2_runs.proofs.EnoughRuns.{worst_case_of_slots_grants}
-use Rattle.iox2_runs.specs.Laws.{tested_environment}
-use Rattle.iox2_runs.proofs.laws.worst_case_of_slots_grants.Goals as goal
-
-pub returns : goal.returns
-returns g c = λ may_refuse_memory backpressure degradation.
-    worst_case_of_slots_grants (tested_environment may_refuse_memory backpressure degradation)
