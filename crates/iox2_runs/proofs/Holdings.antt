@@ -1,6 +1,9 @@
 -- What is kept of what a run holds.
-use Rattle.std.proofs.Common.{◌≡◌, ℕ, zero, suc, Bool, false, List, [], ◌∷◌, map, refl, sym, ap, ◌∙◌, Some}
+use Rattle.std.proofs.Common.{◌≡◌, ℕ, zero, suc, Bool, false, List, [], ◌∷◌, map, refl, sym, ap, ◌∙◌, Option, None, Some, arith}
 use Rattle.std.specs.Prelude.{slice_get, slice_set, slice_index_or}
+use Rattle.std.specs.Borrow.{Bor}
+use Rattle.std.specs.Option.{option_map, unwrap_or}
+use Rattle.std.specs.Slice.{IsItemAt}
 use Rattle.iox2_runs.specs.Tables.{Kept, Nothing_kept}
 use Rattle.iox2_runs.specs.Holdings.{kept_of}
 use Rattle.iox2_runs.specs.declared.runs.held.Held.{Held}
@@ -35,6 +38,16 @@ pub stands : (table : List Held) (of : ℕ) (held : Held) → slice_index_or tab
 stands [] of held at some = absurd (some (sym at))
 stands (h ∷ table) zero held at some = ap (λ k. Some (kept_of k)) at
 stands (h ∷ table) (suc of) held at some = stands table of held at some
+
+-- what a look at a place of the table finds
+pub looked : (table : List Held) (of : ℕ) (found : Option (Bor Held)) (b : Bor Held) (held : Held) → IsItemAt table of found → found ≡ Some b → b.now ≡ held → slice_index_or table of Nothing ≡ held
+looked table of found b held lookup some is =
+    sym (lookup.4 (omega arith) Nothing) ∙ ap (λ (r : Option (Bor Held)). unwrap_or (option_map (λ (x : Bor Held). x.now) r) Nothing) some ∙ is
+
+-- nothing is found past the end of the table
+pub looked_past : (table : List Held) (of : ℕ) (found : Option (Bor Held)) → IsItemAt table of found → found ≡ None → slice_index_or table of Nothing ≡ Nothing
+looked_past table of found lookup none =
+    sym (lookup.4 (omega arith) Nothing) ∙ ap (λ (r : Option (Bor Held)). unwrap_or (option_map (λ (x : Bor Held). x.now) r) Nothing) none
 
 -- a kind that isn't there
 pub lacks : (kind : Kept → Bool) → kind Nothing_kept ≡ false → (table : List Held) (of : ℕ) → kind (kept_of (slice_index_or table of Nothing)) ≡ false → Lacks kind (map kept_of table) of

@@ -14,29 +14,24 @@ use iox2_pubsub::{Domain, SendOutcome};
 /// Asks the publisher that the command at the position made for a loan, and answers the loan too.
 pub(crate) fn loan_uninit<T: Default + Drop, U: Default + Drop>(
     domain: &mut Domain<T, U>,
-    table: &mut Vec<Held>,
+    table: &[Held],
     of: usize,
 ) -> (Reply<T, U>, Held)
-    requires { Keeps domain.old table.old.items }
-    ensures carries { Carries (defaults_of T.is_default U.is_default) domain.old domain.new table.old.items (LoanUninit of) result.0 table.new.items result.1 }
-    ensures room { SameRoom table.old table.new }
+    requires { Keeps domain.old table.now }
+    ensures { Carries (defaults_of T.is_default U.is_default) domain.old domain.new table.now (LoanUninit of) result.0 table.now result.1 }
 {
     if domain.config().units_per_element != 1 {
         return (Reply::Skipped, Held::Nothing);
     }
-    match take(table, of) {
-        Held::Publisher(publisher) => {
-            let loan = publisher.loan_uninit(domain);
-            put(table, of, Held::Publisher(publisher));
-            match loan {
-                Ok(sample) => (Reply::Loaned, Held::Unwritten(sample)),
-                Err(error) => (Reply::LoanRefused(error), Held::Nothing),
-            }
-        }
-        other => {
-            put(table, of, other);
-            (Reply::Skipped, Held::Nothing)
-        }
+    let Some(held) = table.get(of) else {
+        return (Reply::Skipped, Held::Nothing);
+    };
+    match held {
+        Held::Publisher(publisher) => match publisher.loan_uninit(domain) {
+            Ok(sample) => (Reply::Loaned, Held::Unwritten(sample)),
+            Err(error) => (Reply::LoanRefused(error), Held::Nothing),
+        },
+        _ => (Reply::Skipped, Held::Nothing),
     }
 }
 

@@ -35,34 +35,21 @@ pub(crate) fn release<T: Default + Drop, U: Default + Drop>(
 /// Reads the value of the sample or the cell of the loan that the command at the position made.
 pub(crate) fn read<T: Copy + Default + Drop, U: Default + Drop>(
     domain: &Domain<T, U>,
-    table: &mut Vec<Held>,
+    table: &[Held],
     of: usize,
     at: usize,
 ) -> Reply<T, U>
-    requires { Keeps domain.now table.old.items }
-    ensures carries { Carries (defaults_of T.is_default U.is_default) domain.now domain.now table.old.items (Read of at) result table.new.items Nothing }
-    ensures room { SameRoom table.old table.new }
+    requires { Keeps domain.now table.now }
+    ensures { Carries (defaults_of T.is_default U.is_default) domain.now domain.now table.now (Read of at) result table.now Nothing }
 {
-    match take(table, of) {
-        Held::Unwritten(sample) => {
-            let cell = *sample.payload(domain);
-            put(table, of, Held::Unwritten(sample));
-            cell_at(at, cell)
-        }
-        Held::Written(sample) => {
-            let value = *sample.payload(domain);
-            put(table, of, Held::Written(sample));
-            cell_at(at, Some(value))
-        }
-        Held::Sample(sample) => {
-            let value = *sample.payload(domain);
-            put(table, of, Held::Sample(sample));
-            cell_at(at, Some(value))
-        }
-        other => {
-            put(table, of, other);
-            Reply::Skipped
-        }
+    let Some(held) = table.get(of) else {
+        return Reply::Skipped;
+    };
+    match held {
+        Held::Unwritten(sample) => cell_at(at, *sample.payload(domain)),
+        Held::Written(sample) => cell_at(at, Some(*sample.payload(domain))),
+        Held::Sample(sample) => cell_at(at, Some(*sample.payload(domain))),
+        _ => Reply::Skipped,
     }
 }
 
@@ -80,29 +67,24 @@ fn cell_at<T: Drop, U>(at: usize, cell: Option<T>) -> Reply<T, U>
 /// Receives with the subscriber that the command at the position made, and answers the sample too.
 pub(crate) fn receive<T: Default + Drop, U: Default + Drop>(
     domain: &mut Domain<T, U>,
-    table: &mut Vec<Held>,
+    table: &[Held],
     of: usize,
 ) -> (Reply<T, U>, Held)
-    requires { Keeps domain.old table.old.items }
-    ensures carries { Carries (defaults_of T.is_default U.is_default) domain.old domain.new table.old.items (Receive of) result.0 table.new.items result.1 }
-    ensures room { SameRoom table.old table.new }
+    requires { Keeps domain.old table.now }
+    ensures { Carries (defaults_of T.is_default U.is_default) domain.old domain.new table.now (Receive of) result.0 table.now result.1 }
 {
     if domain.config().units_per_element != 1 {
         return (Reply::Skipped, Held::Nothing);
     }
-    match take(table, of) {
-        Held::Subscriber(subscriber) => {
-            let received = subscriber.receive(domain);
-            put(table, of, Held::Subscriber(subscriber));
-            match received {
-                Ok(Some(sample)) => (Reply::Sample(sample.origin()), Held::Sample(sample)),
-                Ok(None) => (Reply::NoSample, Held::Nothing),
-                Err(error) => (Reply::ReceiveRefused(error), Held::Nothing),
-            }
-        }
-        other => {
-            put(table, of, other);
-            (Reply::Skipped, Held::Nothing)
-        }
+    let Some(held) = table.get(of) else {
+        return (Reply::Skipped, Held::Nothing);
+    };
+    match held {
+        Held::Subscriber(subscriber) => match subscriber.receive(domain) {
+            Ok(Some(sample)) => (Reply::Sample(sample.origin()), Held::Sample(sample)),
+            Ok(None) => (Reply::NoSample, Held::Nothing),
+            Err(error) => (Reply::ReceiveRefused(error), Held::Nothing),
+        },
+        _ => (Reply::Skipped, Held::Nothing),
     }
 }
