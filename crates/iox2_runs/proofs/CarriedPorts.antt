@@ -1,13 +1,10 @@
 -- Commands that make ports, with what a run holds.
-use Rattle.std.proofs.Common.{◌≡◌, ℕ, List, [], ◌∷◌, ◌++◌, map, sym, ap, subst, ◌∙◌, Option, None, Some, MatchResult}
-use Rattle.std.specs.Prelude.{IfOk}
-use Rattle.std.specs.declared.result.Result.{Result}
-use Rattle.std.specs.declared.result.Result.TheVariants.{Ok, Err}
+use Rattle.std.proofs.Common.{◌≡◌, ℕ, List, [], ◌∷◌, ◌++◌, map, sym, ap, subst, ◌∙◌, Option, None, Some}
 use Rattle.iox2_store.specs.Limits.{buffer_limit}
 use Rattle.iox2_store.specs.Environments.{fixed_handlers}
 use Rattle.iox2_store.specs.Records.{PublisherSettings, SubscriberSettings, Fixed}
 use Rattle.iox2_store.specs.State.{State, Messages}
-use Rattle.iox2_store.specs.Ports.{CreatePublisher, CreateSubscriber, buffer_for}
+use Rattle.iox2_store.specs.Ports.{CreatePublisher, CreateSubscriber}
 use Rattle.iox2_store.specs.declared.allocation.AllocationStrategy.TheVariants.{Static}
 use Rattle.iox2_store.specs.declared.backpressure.BackpressureStrategy.TheVariants.{DiscardData}
 use Rattle.iox2_store.specs.declared.degradation.DegradationAction.TheVariants.{Warn}
@@ -18,7 +15,6 @@ use Rattle.iox2_store.specs.declared.service_config.TypeVariant.TheVariants.{Fix
 use Rattle.iox2_laws.proofs.PortLaws.{create_publisher_advances, create_subscriber_advances}
 use Rattle.iox2_domain.specs.Kept.{Kept as Domain}
 use Rattle.iox2_domain.specs.Shows.{Shows}
-use Rattle.iox2_pubsub.specs.Handles.{IsSubscriberHandle}
 use Rattle.iox2_domain.specs.NewPublisher.{plain_publisher}
 use Rattle.iox2_pubsub.specs.declared.publisher.Publisher.{Publisher as PublisherHandle}
 use Rattle.iox2_pubsub.specs.declared.subscriber.Subscriber.{Subscriber as SubscriberHandle}
@@ -28,7 +24,6 @@ use Rattle.iox2_runs.specs.Tables.{Kept_publisher, Kept_subscriber}
 use Rattle.iox2_runs.specs.RunSteps.{Comes}
 use Rattle.iox2_runs.specs.Holdings.{kept_of, Carries}
 use Rattle.iox2_commands.specs.declared.command.Command.TheVariants.{CreatePublisher as PublisherCommand, CreateSubscriber as SubscriberCommand}
-use Rattle.iox2_commands.specs.declared.reply.Reply.{Reply}
 use Rattle.iox2_commands.specs.declared.reply.Reply.TheVariants.{PublisherMade, PublisherRefused, SubscriberMade, SubscriberRefused}
 use Rattle.iox2_runs.specs.declared.runs.held.Held.{Held}
 use Rattle.iox2_runs.specs.declared.runs.held.Held.TheVariants.{Nothing, Publisher as HeldPublisher, Subscriber as HeldSubscriber}
@@ -69,17 +64,19 @@ module _ {T U : Type 0} (defaults : Defaults T U) (old new : Domain T U) (table 
       refused.0 e create (create_publisher_advances fixed_handlers s (publisher_settings (s.config).variant loans DiscardData Static len None Warn None) refused.0 (Some e) create).next_message refused.1
 
   pub subscriber_carried : (buffer : Option ℕ) (given : SubscriberSettings) → given ≡ given_for (buffer_limit old.config) buffer
-      → (h : SubscriberHandle) → ((m : Messages T U) (s : State T U) → Shows old m s → (s' : State T U) × Shows new m s' × (CreateSubscriber fixed_handlers s given s' None × (h.id ≡ s.next_port)))
-      → h.service_id ≡ (new.config).service_id
-      → Carries defaults old new table (SubscriberCommand buffer Warn) (SubscriberMade h.id) table (HeldSubscriber h)
-  subscriber_carried buffer given is h creates service = λ m s handles events shown w default_value default_header is_value is_header.
+      → (h : SubscriberHandle) (id : ℕ)
+      → ((m : Messages T U) (s : State T U) → Shows old m s → (s' : State T U) × Shows new m s' × (CreateSubscriber fixed_handlers s given s' None × (h.id ≡ s.next_port)))
+      → h.service_id ≡ (new.config).service_id → id ≡ h.id
+      → Carries defaults old new table (SubscriberCommand buffer Warn) (SubscriberMade id) table (HeldSubscriber h)
+  subscriber_carried buffer given is h id creates service same = λ m s handles events shown w default_value default_header is_value is_header.
       let made = creates m s shown in
       let so : given ≡ given_for (buffer_limit s.config) buffer = is ∙ sym (ap (λ (t : State T U). given_for (buffer_limit t.config) buffer) shown.state) in
       let create = subst (λ (given : SubscriberSettings). CreateSubscriber fixed_handlers s given made.0 None) so (made.2).0 in
-      subst (λ (a : ℕ). Comes defaults (Shows new) m s handles events (SubscriberCommand buffer Warn) (SubscriberMade a) (map kept_of table ++ Kept_subscriber h.service_id a ∷ [])) (sym (made.2).1)
+      let Arrives : (a b : ℕ) → Type 0 = λ a b. Comes defaults (Shows new) m s handles events (SubscriberCommand buffer Warn) (SubscriberMade a) (map kept_of table ++ Kept_subscriber h.service_id b ∷ []) in
+      subst (λ (a : ℕ). Arrives a h.id) (sym (made.2).1 ∙ sym same) (subst (Arrives s.next_port) (sym (made.2).1)
       (subscriber_comes defaults (Shows new) m s handles events (map kept_of table) w default_value default_header is_value is_header buffer Warn
       made.0 create (create_subscriber_advances fixed_handlers s (given_for (buffer_limit s.config) buffer) made.0 None create).next_message made.1 h.service_id
-      (service ∙ sym (ap (λ (t : State T U). (t.config).service_id) (made.1).state)))
+      (service ∙ sym (ap (λ (t : State T U). (t.config).service_id) (made.1).state))))
 
   pub subscriber_denied : (buffer : Option ℕ) (given : SubscriberSettings) → given ≡ given_for (buffer_limit old.config) buffer
       → (e : SubscriberCreateError) → ((m : Messages T U) (s : State T U) → Shows old m s → (s' : State T U) × Shows new m s' × CreateSubscriber fixed_handlers s given s' (Some e))
@@ -90,18 +87,3 @@ module _ {T U : Type 0} (defaults : Defaults T U) (old new : Domain T U) (table 
       let create = subst (λ (given : SubscriberSettings). CreateSubscriber fixed_handlers s given refused.0 (Some e)) so refused.2 in
       subscriber_refused_comes defaults (Shows new) m s handles events (map kept_of table) w default_value default_header is_value is_header buffer Warn
       refused.0 e create (create_subscriber_advances fixed_handlers s (given_for (buffer_limit s.config) buffer) refused.0 (Some e) create).next_message refused.1
-
-  -- either of the two
-  pub subscriber_either : (buffer : Option ℕ) (given : SubscriberSettings) → given ≡ given_for (buffer_limit old.config) buffer
-      → (created : Result SubscriberHandle SubscriberCreateError)
-      → ((m : Messages T U) (s : State T U) → Shows old m s → (s' : State T U) × Shows new m s' × MatchResult created
-      (λ h. CreateSubscriber fixed_handlers s given s' None × (h.id ≡ s.next_port) × (h.buffer_size ≡ buffer_for given)) (λ e. CreateSubscriber fixed_handlers s given s' (Some e)))
-      → IfOk created (λ h. IsSubscriberHandle new h.service_id h.id)
-      → (made : Reply T U × Held) → MatchResult created (λ h. made ≡ (SubscriberMade h.id, HeldSubscriber h)) (λ e. made ≡ (SubscriberRefused e, Nothing))
-      → Carries defaults old new table (SubscriberCommand buffer Warn) made.0 table made.1
-  subscriber_either buffer given is (Ok h) creates held made so =
-      subst (λ (v : Reply T U × Held). Carries defaults old new table (SubscriberCommand buffer Warn) v.0 table v.1) (sym so)
-      (subscriber_carried buffer given is h (λ m s shown. let v = creates m s shown in (v.0, v.1, ((v.2).0, (v.2).1))) held.0)
-  subscriber_either buffer given is (Err e) creates held made so =
-      subst (λ (v : Reply T U × Held). Carries defaults old new table (SubscriberCommand buffer Warn) v.0 table v.1) (sym so)
-      (subscriber_denied buffer given is e creates)

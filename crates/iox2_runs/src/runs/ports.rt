@@ -1,7 +1,5 @@
 //! Commands that make ports.
-ghost use Rattle.std.specs.Prelude.{◌≡◌, ℕ, MatchResult};
-ghost use Rattle.iox2_commands.specs.declared.reply.Reply.TheVariants.{SubscriberMade, SubscriberRefused};
-ghost use Rattle.iox2_runs.specs.declared.runs.held.Held.TheVariants.{Nothing, Subscriber as HeldSubscriber};
+ghost use Rattle.std.specs.Prelude.{ℕ};
 ghost use Rattle.std.specs.declared.option.Option.TheVariants.{None};
 ghost use Rattle.iox2_store.specs.declared.allocation.AllocationStrategy.TheVariants.{Static};
 ghost use Rattle.iox2_store.specs.declared.backpressure.BackpressureStrategy.TheVariants.{DiscardData};
@@ -11,8 +9,8 @@ ghost use Rattle.iox2_commands.specs.declared.command.Command.TheVariants.{Creat
 
 use super::held::Held;
 use iox2_commands::Reply;
-use iox2_pubsub::{Domain, Subscriber};
-use iox2_store::{SubscriberCreateError, TypeVariant};
+use iox2_pubsub::Domain;
+use iox2_store::TypeVariant;
 
 /// Makes a publisher with so many loans, and answers it too.
 pub(crate) fn create_publisher<T: Default + Drop, U: Default + Drop>(
@@ -52,17 +50,11 @@ pub(crate) fn create_subscriber<T: Default + Drop, U: Default + Drop>(
         (CreateSubscriber buffer Warn) result.0 table.now result.1 }
 {
     let factory = domain.subscriber_builder();
-    match buffer {
-        Some(size) => subscriber_made(factory.buffer_size(size).create(domain)),
-        None => subscriber_made(factory.create(domain)),
-    }
-}
-
-// What a creation of a subscriber replies, and what it made.
-fn subscriber_made<T, U>(created: Result<Subscriber, SubscriberCreateError>) -> (Reply<T, U>, Held)
-    ensures { MatchResult created (λ subscriber. result ≡ (SubscriberMade subscriber.id, HeldSubscriber subscriber)) (λ e. result ≡ (SubscriberRefused e, Nothing)) }
-{
-    match created {
+    let factory = match buffer {
+        Some(size) => factory.buffer_size(size),
+        None => factory,
+    };
+    match factory.create(domain) {
         Ok(subscriber) => (
             Reply::SubscriberMade(subscriber.id()),
             Held::Subscriber(subscriber),

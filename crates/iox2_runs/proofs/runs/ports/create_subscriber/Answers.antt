@@ -1,20 +1,26 @@
 use Rattle.std.proofs.Common.{◌≡◌, sym, ap, ◌∙◌}
 use Rattle.iox2_store.specs.Limits.{buffer_limit}
 use Rattle.iox2_store.specs.Records.{SubscriberSettings}
-use Rattle.iox2_runs.proofs.CarriedPorts.{given_for, subscriber_either}
+use Rattle.iox2_runs.proofs.CarriedPorts.{given_for, subscriber_carried, subscriber_denied}
 use Rattle.iox2_runs.proofs.runs.ports.create_subscriber.Goals as goal
+use Rattle.iox2_runs.proofs.runs.ports.create_subscriber.Goals.{in-Some, in-None}
 
-pub returns-in-Some : goal.returns-in-Some
-returns-in-Some g c =
-    let told : c.buffer_size.result ≡ given_for (buffer_limit c.args.domain.now.config) c.args.buffer =
-    c.buffer_size.ensures ∙ ap (λ (given : SubscriberSettings). record given { buffer_size = c.in-Some.size }) c.subscriber_builder-factory.ensures
-    ∙ ap (given_for (buffer_limit c.args.domain.now.config)) (sym c.in-Some.is) in
-    subscriber_either {T = g.row.T.Denot} {U = g.row.U.Denot} _ c.args.domain.now c.create.new.domain c.args.table.now c.args.buffer c.buffer_size.result told
-    c.create.result c.create.ensures.creates c.create.ensures.held c.subscriber_made.result c.subscriber_made.ensures
+pub returns-in-Ok : goal.returns-in-Ok
+returns-in-Ok g c =
+    let told : c.match-buffer.factory ≡ given_for (buffer_limit c.args.domain.now.config) c.args.buffer = elim c.match-buffer.branch [
+      | in-Some w ↦ w.factory-is ∙ w.buffer_size-factory.ensures ∙ ap (λ (given : SubscriberSettings). record given { buffer_size = w.in-Some.size }) c.subscriber_builder-factory.ensures
+          ∙ ap (given_for (buffer_limit c.args.domain.now.config)) (sym w.in-Some.is)
+      | in-None w ↦ w.factory-is ∙ c.subscriber_builder-factory.ensures ∙ ap (given_for (buffer_limit c.args.domain.now.config)) (sym w.in-None.is)
+    ] in
+    subscriber_carried {T = g.row.T.Denot} {U = g.row.U.Denot} _ c.args.domain.now c.create.new.domain c.args.table.now c.args.buffer c.match-buffer.factory told c.in-Ok.subscriber c.id.result
+    (λ m s shown. let made = c.in-Ok.ensures.creates m s shown in (made.0, made.1, ((made.2).0, (made.2).1))) c.in-Ok.ensures.held.0 c.id.ensures
 
-pub returns-in-None : goal.returns-in-None
-returns-in-None g c =
-    let told : c.subscriber_builder-factory.result ≡ given_for (buffer_limit c.args.domain.now.config) c.args.buffer =
-    c.subscriber_builder-factory.ensures ∙ ap (given_for (buffer_limit c.args.domain.now.config)) (sym c.in-None.is) in
-    subscriber_either {T = g.row.T.Denot} {U = g.row.U.Denot} _ c.args.domain.now c.create-in-None.new.domain c.args.table.now c.args.buffer c.subscriber_builder-factory.result told
-    c.create-in-None.result c.create-in-None.ensures.creates c.create-in-None.ensures.held c.subscriber_made-in-None.result c.subscriber_made-in-None.ensures
+pub returns-in-Err : goal.returns-in-Err
+returns-in-Err g c =
+    let told : c.match-buffer.factory ≡ given_for (buffer_limit c.args.domain.now.config) c.args.buffer = elim c.match-buffer.branch [
+      | in-Some w ↦ w.factory-is ∙ w.buffer_size-factory.ensures ∙ ap (λ (given : SubscriberSettings). record given { buffer_size = w.in-Some.size }) c.subscriber_builder-factory.ensures
+          ∙ ap (given_for (buffer_limit c.args.domain.now.config)) (sym w.in-Some.is)
+      | in-None w ↦ w.factory-is ∙ c.subscriber_builder-factory.ensures ∙ ap (given_for (buffer_limit c.args.domain.now.config)) (sym w.in-None.is)
+    ] in
+    subscriber_denied {T = g.row.T.Denot} {U = g.row.U.Denot} _ c.args.domain.now c.create.new.domain c.args.table.now c.args.buffer c.match-buffer.factory told c.in-Err.error
+    c.in-Err.ensures.creates
