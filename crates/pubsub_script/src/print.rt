@@ -42,12 +42,10 @@ fn push_reply(text: &mut String, reply: &Reply<u64, u64>) -> Result<(), AllocErr
         Reply::NoSample | Reply::Cell(None) => text.push_str("none"),
         Reply::Has(true) => text.push_str("true"),
         Reply::Has(false) => text.push_str("false"),
-        Reply::Done
-        | Reply::PublisherMade(_)
-        | Reply::SubscriberMade(_)
-        | Reply::Loaned
-        | Reply::Unwritten
-        | Reply::Header(_)
-        | Reply::UserHeader(_) => text.push_str("ok"),
+        Reply::Done | Reply::PublisherMade(_) | Reply::SubscriberMade(_) | Reply::Loaned => {
+            text.push_str("ok")
+        }
+        // No line of a script gets these replies.
+        Reply::Unwritten | Reply::Header(_) | Reply::UserHeader(_) => text.push_str("ok"),
     }
 }
