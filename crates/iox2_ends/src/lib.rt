@@ -4,5 +4,3 @@
 
 pub mod receiver;
 pub mod sender;
-#[cfg(test)]
-mod tests;

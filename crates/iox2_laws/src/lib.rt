@@ -2,7 +2,5 @@
 #![tactic(auto)]
 
 mod laws;
-#[cfg(test)]
-mod tests;
 
 pub use laws::{fresh_is_well_formed, holds_at_most_worst_case, size_is_length};

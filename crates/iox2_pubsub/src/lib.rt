@@ -11,8 +11,6 @@ mod sample_mut_uninit;
 mod sample_send;
 mod send_outcome;
 mod subscriber;
-#[cfg(test)]
-mod tests;
 
 pub use domain::Domain;
 pub use iox2_store::{

@@ -2,8 +2,6 @@
 #![tactic(auto)]
 
 mod runs;
-#[cfg(test)]
-mod tests;
 
 pub use iox2_commands::{
     Command, Reply, alike_states_stay_alike, calls_leave_others_views, every_list_runs,

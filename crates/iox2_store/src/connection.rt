@@ -6,9 +6,6 @@ use circular_buffer::HeapCircularBuffer;
 use std::alloc::{AllocError, Global};
 use std::marker::Model;
 
-#[cfg(test)]
-mod tests;
-
 /// Between which two ports a connection stands, and at which place each of them knows it. It never
 /// changes.
 #[derive(Debug, Clone, Copy, PartialEq, Eq)]

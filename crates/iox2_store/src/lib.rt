@@ -12,8 +12,6 @@ mod ids;
 mod key;
 mod service_config;
 mod slots;
-#[cfg(test)]
-mod tests;
 mod warning;
 
 pub use allocation::{AllocationStrategy, DataSegmentType};

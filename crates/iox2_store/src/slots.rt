@@ -3,8 +3,6 @@ mod book;
 mod content;
 mod contents;
 mod mark;
-#[cfg(test)]
-mod tests;
 
 pub use book::SlotBook;
 pub use contents::Contents;

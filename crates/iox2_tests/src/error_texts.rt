@@ -1,4 +1,4 @@
-use crate::{
+use iox2_store::{
     ConnectionFailure, LoanError, PublisherCreateError, ReceiveError, SendError,
     SharedMemoryOpenError, SubscriberCreateError, ZeroCopyCreationError,
 };

@@ -7,7 +7,7 @@ use Rattle.iox2_store.specs.Link.{Link, empty_link}
 use Rattle.iox2_store.specs.declared.connection.Home.{Home}
 use Rattle.iox2_ends.specs.Counters.{stands, IsCovered}
 use Rattle.iox2_ends.proofs.Counts.{IsCovered-follows}
-use Rattle.iox2_ends.proofs.tests.a_message_goes_there_and_back.Goals as goal
+use Rattle.iox2_tests.proofs.deliveries.a_message_goes_there_and_back.Goals as goal
 
 -- a sum of nothing
 sum-zero : {A : Type 0} (f : Option A → ℕ) (xs : List (Option A)) → ((i : ℕ) → f (get_or xs i None) ≡ 0) → sum_by f xs ≡ 0

@@ -1,5 +1,5 @@
-use super::receiver::{Found, find, release, take};
-use super::sender::{Delivery, DeliveryOutcome, ReceiverDetails, deliver, reclaim_all};
+use iox2_ends::receiver::{Found, find, release, take};
+use iox2_ends::sender::{Delivery, DeliveryOutcome, ReceiverDetails, deliver, reclaim_all};
 use iox2_store::{
     AllocationStrategy, BackpressureStrategy, Connection, Header, Home, ServiceConfig, SlotBook,
     TypeVariant, UniqueNodeId, UniquePublisherId,
@@ -63,19 +63,19 @@ fn a_message_goes_there_and_back(rt: HostRuntime) -> Result<(), Fail> {
         &places,
         &[Some(receiver)],
     );
-    assert_eq!(rt; outcome, DeliveryOutcome::Complete { count: 1 });
-    assert!(rt; slot < book.len());
-    assert_eq!(rt; book.holders(slot), 2);
-
-    assert_eq!(rt; find(&connections, &[], &places), Found::Ready(key));
+    let found = find(&connections, &[], &places);
+    assert!(rt; found == Found::Ready(key));
     let received = take(&mut connections, key);
-    assert_eq!(rt; received, slot);
     assert!(rt; connections[key].is_borrowed(received));
     release(&mut connections, key, received);
-    assert_eq!(rt; book.holders(slot), 2);
+    assert!(rt; slot < book.len());
+    let delivered = book.holders(slot);
 
     reclaim_all(1, &mut connections, &mut book, &places);
     assert!(rt; slot < book.len());
-    assert_eq!(rt; book.holders(slot), 1);
+    let reclaimed = book.holders(slot);
+    assert!(rt; outcome == DeliveryOutcome::Complete { count: 1 });
+    assert!(rt; received == slot);
+    assert!(rt; [delivered, reclaimed] == [2, 1]);
     Ok(())
 }

@@ -1,0 +1,57 @@
+//! What several tests start from.
+
+use iox2_pubsub::{Domain, DomainCreateError, Publisher, SendOutcome};
+use iox2_store::{AllocationStrategy, BackpressureStrategy, ServiceConfig, TypeVariant};
+use std::alloc::Global;
+
+/// A payload that is neither `Copy` nor `Clone`.
+#[derive(Drop)]
+pub(crate) struct Reading {
+    pub(crate) celsius: u64,
+}
+
+/// A user header that is neither `Copy` nor `Clone`.
+#[derive(Default, Drop)]
+pub(crate) struct Station {
+    pub(crate) number: u32,
+}
+
+pub(crate) const SETTINGS: ServiceConfig = ServiceConfig {
+    service_id: 7,
+    node_id: 3,
+    variant: TypeVariant::FixedSize,
+    units_per_element: 1,
+    max_publishers: 1,
+    max_subscribers: 1,
+    subscriber_max_buffer_size: 2,
+    subscriber_max_borrowed_samples: 2,
+    history_size: 0,
+    enable_safe_overflow: false,
+    subscriber_expired_connection_buffer: 1,
+    publisher_max_loaned_samples: 2,
+    backpressure_strategy: BackpressureStrategy::DiscardData,
+    publisher_allocation_strategy: AllocationStrategy::Static,
+};
+
+/// A domain with these settings.
+pub(crate) fn domain(alloc: Global) -> Result<Domain<Reading, Station>, DomainCreateError> {
+    Domain::new(alloc, SETTINGS)
+}
+
+/// Lends, writes and sends a message. `None` where the publisher may not lend.
+pub(crate) fn publish(
+    domain: &mut Domain<Reading, Station>,
+    publisher: &Publisher,
+    celsius: u64,
+) -> Option<SendOutcome> {
+    if !domain.holds_publisher(publisher.key()) {
+        return None;
+    }
+    let loan = publisher.loan_uninit(domain).ok()?;
+    if domain.config().units_per_element != 1 {
+        loan.disown();
+        return None;
+    }
+    let message = loan.write_payload(domain, Reading { celsius });
+    message.send(domain).ok()
+}

@@ -1,0 +1,120 @@
+use crate::fixtures::SETTINGS;
+use iox2_store::{
+    AllocationStrategy, BackpressureInfo, DegradationCause, DegradationInfo, Header, Key,
+    ServiceConfig, TypeVariant, UniqueNodeId, UniquePublisherId, UniqueSubscriberId, Warning,
+};
+use std::time::Duration;
+
+#[test]
+fn ids_keep_their_numbers(rt: HostRuntime) {
+    for number in [0, 1, u128::MAX] {
+        let numbers = [
+            UniqueNodeId::new(number).value(),
+            UniquePublisherId::new(number).value(),
+            UniqueSubscriberId::new(number).value(),
+        ];
+        assert!(rt; numbers == [number; 3]);
+    }
+}
+
+#[test]
+fn ids_compare_by_their_numbers(rt: HostRuntime) {
+    let alike = [
+        UniqueNodeId::new(9) == UniqueNodeId::new(9),
+        UniqueNodeId::new(9) == UniqueNodeId::new(8),
+        UniquePublisherId::new(1) == UniquePublisherId::new(1 << 64),
+        UniqueSubscriberId::new(1) == UniqueSubscriberId::new(2),
+    ];
+    assert!(rt; alike == [true, false, false, false]);
+}
+
+#[test]
+fn a_header_answers_its_fields(rt: HostRuntime) {
+    let header = Header {
+        node_id: UniqueNodeId::new(9),
+        publisher_id: UniquePublisherId::new(2),
+        number_of_elements: 3,
+    };
+    let longer = Header {
+        number_of_elements: 4,
+        ..header
+    };
+    let ids = [header.node_id().value(), header.publisher_id().value()];
+    let is_alike = longer == header;
+    assert!(rt; ids == [9, 2]);
+    assert!(rt; header.number_of_elements() == 3);
+    assert!(rt; !is_alike);
+}
+
+#[test]
+fn settings_compare_by_every_field(rt: HostRuntime) {
+    let other_service = ServiceConfig {
+        service_id: 2,
+        ..SETTINGS
+    };
+    let other_variant = ServiceConfig {
+        variant: TypeVariant::Dynamic,
+        ..SETTINGS
+    };
+    let other_strategy = ServiceConfig {
+        publisher_allocation_strategy: AllocationStrategy::BestFit,
+        ..SETTINGS
+    };
+    let copy = SETTINGS;
+    let alike = [
+        copy == SETTINGS,
+        other_service == SETTINGS,
+        other_variant == SETTINGS,
+        other_strategy == SETTINGS,
+    ];
+    assert!(rt; alike == [true, false, false, false]);
+}
+
+#[test]
+fn keys_compare_by_every_field(rt: HostRuntime) {
+    let port = Key {
+        service_id: 1,
+        port: 2,
+        message: 0,
+    };
+    let copy = port;
+    let alike = [copy == port, Key { message: 1, ..port } == port];
+    assert!(rt; alike == [true, false]);
+}
+
+#[test]
+fn warnings_compare_by_variant_and_field(rt: HostRuntime) {
+    let sender = UniquePublisherId::new(2);
+    let receiver = UniqueSubscriberId::new(1);
+    let warning = Warning::ConnectionNotMade { sender, receiver };
+    let other = Warning::ConnectionNotMade {
+        sender,
+        receiver: UniqueSubscriberId::new(3),
+    };
+    let alike = [
+        warning == Warning::ConnectionNotMade { sender, receiver },
+        warning == Warning::ExpiredDataDiscarded { sender, receiver },
+        warning == other,
+    ];
+    assert!(rt; alike == [true, false, false]);
+}
+
+#[test]
+fn what_a_handler_is_told_may_be_let_go(rt: HostRuntime) {
+    let info = BackpressureInfo {
+        service_id: 1,
+        sender_port_id: 2,
+        receiver_port_id: 3,
+        retries: 4,
+        elapsed_time: Duration::from_millis(5),
+    };
+    assert!(rt; info.elapsed_time == Duration::from_micros(5000));
+    let info = DegradationInfo {
+        service_id: 1,
+        sender_port_id: 2,
+        receiver_port_id: 3,
+    };
+    assert!(rt; info.receiver_port_id == 3);
+    let cause = DegradationCause::FailedToEstablishConnection;
+    assert!(rt; !matches!(cause, DegradationCause::ConnectionCorrupted));
+}

@@ -1,0 +1,53 @@
+use crate::fixtures::SETTINGS;
+use iox2_pubsub::Domain;
+use iox2_runs::{Command, Reply, run};
+use iox2_store::{
+    AllocationStrategy, BackpressureStrategy, DegradationAction, UniquePublisherId,
+    UniqueSubscriberId,
+};
+use std::test::Fail;
+
+const COMMANDS: [Command<u64, u8>; 9] = [
+    Command::CreateSubscriber {
+        buffer: Some(1),
+        degradation: DegradationAction::Warn,
+    },
+    Command::CreatePublisher {
+        loans: 1,
+        strategy: BackpressureStrategy::DiscardData,
+        allocation: AllocationStrategy::Static,
+        initial_max_slice_len: 1,
+        override_slots: None,
+        degradation: DegradationAction::Warn,
+        backpressure: None,
+    },
+    Command::LoanUninit { of: 1 },
+    Command::WriteAll { of: 2, value: 5 },
+    Command::Send { of: 2 },
+    Command::Send { of: 2 },
+    Command::Receive { of: 0 },
+    Command::Read { of: 6, at: 0 },
+    Command::Release { of: 6 },
+];
+
+#[test]
+fn a_message_goes_from_its_loan_to_its_release(rt: HostRuntime) -> Result<(), Fail> {
+    let mut domain: Domain<u64, u8> = Domain::new(rt.alloc(), SETTINGS)?;
+    let commands = Vec::from_array(rt.alloc(), COMMANDS)?;
+    let replies = run(rt.alloc(), &mut domain, commands)
+        .ok()
+        .ok_or("no memory")?;
+    let expected: [Reply<u64, u8>; 9] = [
+        Reply::SubscriberMade(UniqueSubscriberId::new(1)),
+        Reply::PublisherMade(UniquePublisherId::new(2)),
+        Reply::Loaned,
+        Reply::Done,
+        Reply::Delivered(1),
+        Reply::Skipped,
+        Reply::Sample(UniquePublisherId::new(2)),
+        Reply::Cell(Some(5)),
+        Reply::Done,
+    ];
+    assert!(rt; replies.as_slice() == expected.as_slice());
+    Ok(())
+}

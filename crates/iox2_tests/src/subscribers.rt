@@ -1,0 +1,128 @@
+use crate::fixtures::{Reading, Station, domain};
+use iox2_pubsub::Domain;
+use iox2_store::{Key, SubscriberCreateError};
+use std::test::Fail;
+
+const FIRST: Key = Key {
+    service_id: 7,
+    port: 1,
+    message: 0,
+};
+
+// Why a subscriber with that buffer isn't made.
+fn refusal(
+    domain: &mut Domain<Reading, Station>,
+    buffer_size: usize,
+) -> Option<SubscriberCreateError> {
+    let factory = domain.subscriber_builder().buffer_size(buffer_size);
+    match factory.create(domain) {
+        Ok(subscriber) => {
+            subscriber.disown();
+            None
+        }
+        Err(error) => Some(error),
+    }
+}
+
+#[test]
+fn a_subscriber_has_the_first_id_and_the_largest_buffer(rt: HostRuntime) -> Result<(), Fail> {
+    let mut domain = domain(rt.alloc())?;
+    let subscriber = domain.subscriber_builder().create(&mut domain)?;
+    let id = subscriber.id().value();
+    let buffer_size = subscriber.buffer_size();
+    let key = subscriber.key();
+    subscriber.disown();
+    assert!(rt; id == 1);
+    assert!(rt; buffer_size == 2);
+    assert!(rt; key == FIRST);
+    Ok(())
+}
+
+#[test]
+fn a_domain_holds_its_subscriber_alone(rt: HostRuntime) -> Result<(), Fail> {
+    let mut domain = domain(rt.alloc())?;
+    let before = domain.holds_subscriber(FIRST);
+    let subscriber = domain.subscriber_builder().create(&mut domain)?;
+    subscriber.disown();
+    let elsewhere = Key {
+        service_id: 8,
+        ..FIRST
+    };
+    let message = Key {
+        message: 1,
+        ..FIRST
+    };
+    let held = [
+        domain.holds_subscriber(FIRST),
+        domain.holds_subscriber(elsewhere),
+        domain.holds_subscriber(Key { port: 2, ..FIRST }),
+        domain.holds_subscriber(message),
+    ];
+    assert!(rt; !before);
+    assert!(rt; held == [true, false, false, false]);
+    Ok(())
+}
+
+#[test]
+fn a_buffer_of_none_is_one_of_one(rt: HostRuntime) -> Result<(), Fail> {
+    let mut domain = domain(rt.alloc())?;
+    let factory = domain.subscriber_builder().buffer_size(0);
+    let subscriber = factory.create(&mut domain)?;
+    let buffer_size = subscriber.buffer_size();
+    subscriber.disown();
+    assert!(rt; buffer_size == 1);
+    Ok(())
+}
+
+#[test]
+fn a_refused_subscriber_uses_up_no_id(rt: HostRuntime) -> Result<(), Fail> {
+    let mut domain = domain(rt.alloc())?;
+    let first = refusal(&mut domain, 3);
+    let subscriber = domain.subscriber_builder().create(&mut domain)?;
+    let id = subscriber.id().value();
+    subscriber.disown();
+    let second = refusal(&mut domain, 2);
+    let third = refusal(&mut domain, 3);
+    let too_large = SubscriberCreateError::BufferSizeExceedsMaxSupportedBufferSizeOfService;
+    let too_many = SubscriberCreateError::ExceedsMaxSupportedSubscribers;
+    assert!(rt; id == 1);
+    assert!(rt; [first, second, third] == [Some(too_large), Some(too_many), Some(too_large)]);
+    Ok(())
+}
+
+#[test]
+fn ports_of_both_sides_share_their_ids(rt: HostRuntime) -> Result<(), Fail> {
+    let mut domain = domain(rt.alloc())?;
+    let publisher = domain.publisher_builder().create(&mut domain)?;
+    let published = publisher.key();
+    publisher.disown();
+    let subscriber = domain.subscriber_builder().create(&mut domain)?;
+    let subscribed = subscriber.key();
+    subscriber.disown();
+    let publishers = [
+        domain.holds_publisher(published),
+        domain.holds_publisher(subscribed),
+    ];
+    let subscribers = [
+        domain.holds_subscriber(published),
+        domain.holds_subscriber(subscribed),
+    ];
+    assert!(rt; [published.port, subscribed.port] == [1, 2]);
+    assert!(rt; publishers == [true, false]);
+    assert!(rt; subscribers == [false, true]);
+    Ok(())
+}
+
+#[test]
+fn a_creation_that_lacked_memory_used_up_no_id(rt: HostRuntime) -> Result<(), Fail> {
+    let mut domain = domain(rt.alloc())?;
+    // Each allocation of the first try fails in turn where the tests run so.
+    let subscriber = match domain.subscriber_builder().create(&mut domain) {
+        Ok(subscriber) => subscriber,
+        Err(_) => domain.subscriber_builder().create(&mut domain)?,
+    };
+    let id = subscriber.id().value();
+    subscriber.disown();
+    assert!(rt; id == 1);
+    Ok(())
+}
