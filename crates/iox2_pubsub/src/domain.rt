@@ -7,19 +7,22 @@ ghost use Rattle.iox2_store.specs.declared.service_config.TypeVariant.TheVariant
 ghost use Rattle.iox2_domain.specs.Shows.{Shows};
 
 use iox2_domain::DomainState;
-use iox2_store::{DomainCreateError, ServiceConfig, TypeVariant};
+use iox2_store::{BackpressureFn, DegradationFn, DomainCreateError, ServiceConfig, TypeVariant};
 use std::alloc::Global;
-use std::marker::Model;
+use std::marker::{Model, PhantomData};
 
-/// A service and all of its ports, whose messages have payloads of `T` and user headers of `U`.
+/// A service and all of its ports, whose messages have payloads of `T` and user headers of `U`, and
+/// whose ports may have handlers of `F` and `G`, by default boxes. No port has one yet.
 ///
 /// This library's own, where iceoryx2 has a `Service` and shared memory.
 #[derive(Drop)]
-pub struct Domain<T, U> {
+pub struct Domain<T, U, F = Box<dyn BackpressureFn>, G = Box<dyn DegradationFn>> {
     pub(crate) state: DomainState<T, U>,
+    backpressure: PhantomData<F>,
+    degradation: PhantomData<G>,
 }
 
-impl<T, U> Model for Domain<T, U> {
+impl<T, U, F, G> Model for Domain<T, U, F, G> {
     ghost use Rattle.iox2_domain.specs.Kept.{Kept};
     ghost use Rattle.iox2_domain.specs.Fields.{kept_of};
     ghost use Rattle.iox2_domain.specs.Invariant.{IsDomain};
@@ -48,9 +51,15 @@ impl<T: Drop, U: Default + Drop> Domain<T, U> {
         let Ok(state) = DomainState::new(alloc, config) else {
             return Err(DomainCreateError::OutOfMemory);
         };
-        Ok(Domain { state })
+        Ok(Domain {
+            state,
+            backpressure: PhantomData,
+            degradation: PhantomData,
+        })
     }
+}
 
+impl<T: Drop, U: Default + Drop, F: BackpressureFn, G: DegradationFn> Domain<T, U, F, G> {
     /// The domain's settings. A domain always shows some state, with some messages.
     pub fn config(&self) -> &ServiceConfig
         ensures value { result.now ≡ self.now.config }

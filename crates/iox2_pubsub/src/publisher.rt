@@ -4,7 +4,7 @@ ghost use Rattle.std.specs.Prelude.{◌≡◌};
 mod loan;
 
 use crate::domain::Domain;
-use iox2_store::{Key, UniquePublisherId};
+use iox2_store::{BackpressureFn, DegradationFn, Key, UniquePublisherId};
 
 /// Sends messages to every subscriber of its domain. It is a value to be spent: the domain keeps
 /// the publisher until that is closed.
@@ -49,7 +49,7 @@ impl Publisher {
     }
 }
 
-impl<T: Drop, U: Default + Drop> Domain<T, U> {
+impl<T: Drop, U: Default + Drop, F: BackpressureFn, G: DegradationFn> Domain<T, U, F, G> {
     ghost use Rattle.std.specs.Prelude.{IsTrue, ◌↔◌};
     ghost use Rattle.iox2_pubsub.specs.Handles.{IsPublisherKey};
 

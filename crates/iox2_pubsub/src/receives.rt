@@ -4,7 +4,7 @@ ghost use Rattle.std.specs.Prelude.{◌≡◌};
 use crate::domain::Domain;
 use crate::sample::Sample;
 use crate::subscriber::Subscriber;
-use iox2_store::{ReceiveError, UniquePublisherId};
+use iox2_store::{BackpressureFn, DegradationFn, ReceiveError, UniquePublisherId};
 
 impl Subscriber {
     ghost use Rattle.iox2_store.specs.Environments.{fixed_handlers};
@@ -22,9 +22,9 @@ impl Subscriber {
     /// is a warning of the domain.
     ///
     /// iceoryx2's `Subscriber::receive` (`src/port/subscriber.rs`).
-    pub fn receive<T: Drop, U: Default + Drop>(
+    pub fn receive<T: Drop, U: Default + Drop, F: BackpressureFn, G: DegradationFn>(
         &self,
-        domain: &mut Domain<T, U>,
+        domain: &mut Domain<T, U, F, G>,
     ) -> Result<Option<Sample>, ReceiveError>
         requires { IsSubscriberHandle domain.old self.now.service_id self.now.id }
         ensures receives { (m : Messages T U) (s : State T U) → Shows domain.old m s

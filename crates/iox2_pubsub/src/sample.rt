@@ -2,7 +2,9 @@
 ghost use Rattle.std.specs.Prelude.{◌≡◌};
 
 use crate::domain::Domain;
-use iox2_store::{Header, Key, UniquePublisherId, UniqueSubscriberId};
+use iox2_store::{
+    BackpressureFn, DegradationFn, Header, Key, UniquePublisherId, UniqueSubscriberId,
+};
 
 /// A message that a subscriber has received and not yet released. It is a value to be spent: until
 /// it is released the message counts among those that the subscriber has borrowed.
@@ -52,7 +54,10 @@ impl Sample {
     /// The message's value, where each message is a single value.
     ///
     /// iceoryx2's `Sample::payload` (`src/sample.rs`).
-    pub fn payload<'a, T: Drop, U: Default + Drop>(&self, domain: &'a Domain<T, U>) -> &'a T
+    pub fn payload<'a, T: Drop, U: Default + Drop, F: BackpressureFn, G: DegradationFn>(
+        &self,
+        domain: &'a Domain<T, U, F, G>,
+    ) -> &'a T
         requires held { IsSampleHandle domain.now self.now.service_id self.now.subscriber self.now.publisher self.now.number }
         requires single { (domain.now.config).units_per_element ≡ 1 }
         ensures { (m : Messages T U) (s : State T U) → Shows domain.now m s
@@ -70,7 +75,10 @@ impl Sample {
     /// The message's header.
     ///
     /// iceoryx2's `Sample::header` (`src/sample.rs`).
-    pub fn header<'a, T: Drop, U: Default + Drop>(&self, domain: &'a Domain<T, U>) -> &'a Header
+    pub fn header<'a, T: Drop, U: Default + Drop, F: BackpressureFn, G: DegradationFn>(
+        &self,
+        domain: &'a Domain<T, U, F, G>,
+    ) -> &'a Header
         requires { IsSampleHandle domain.now self.now.service_id self.now.subscriber self.now.publisher self.now.number }
         ensures header { (m : Messages T U) (s : State T U) → Shows domain.now m s
             → (entry : Entry T U) × (m self.now.number ≡ Some entry) × (entry.header ≡ result.now) }
@@ -89,7 +97,10 @@ impl Sample {
     /// it. Takes no memory.
     ///
     /// iceoryx2's `Sample`, when it is dropped (`src/sample.rs`).
-    pub fn release<T: Drop, U: Default + Drop>(self, domain: &mut Domain<T, U>)
+    pub fn release<T: Drop, U: Default + Drop, F: BackpressureFn, G: DegradationFn>(
+        self,
+        domain: &mut Domain<T, U, F, G>,
+    )
         requires { IsSampleHandle domain.old self.service_id self.subscriber self.publisher self.number }
         ensures { (m : Messages T U) (s : State T U) → Shows domain.old m s
             → (s' : State T U) × Shows domain.new m s' × (s' ≡ released s self.publisher self.subscriber self.number) }
@@ -125,7 +136,7 @@ impl Sample {
     }
 }
 
-impl<T: Drop, U: Default + Drop> Domain<T, U> {
+impl<T: Drop, U: Default + Drop, F: BackpressureFn, G: DegradationFn> Domain<T, U, F, G> {
     ghost use Rattle.std.specs.Prelude.{IsTrue, ◌↔◌};
     ghost use Rattle.iox2_pubsub.specs.Handles.{IsSampleKey};
 

@@ -2,7 +2,7 @@
 ghost use Rattle.std.specs.Prelude.{◌≡◌};
 
 use crate::domain::Domain;
-use iox2_store::{Header, Key, UniquePublisherId};
+use iox2_store::{BackpressureFn, DegradationFn, Header, Key, UniquePublisherId};
 
 /// A loan whose payload is written. It is a value to be spent: the domain keeps the loan until its
 /// message was sent.
@@ -26,7 +26,10 @@ impl SampleMut {
     /// The payload.
     ///
     /// iceoryx2's `SampleMut::payload` (`src/sample_mut.rs`).
-    pub fn payload<'a, T: Drop, U: Default + Drop>(&self, domain: &'a Domain<T, U>) -> &'a T
+    pub fn payload<'a, T: Drop, U: Default + Drop, F: BackpressureFn, G: DegradationFn>(
+        &self,
+        domain: &'a Domain<T, U, F, G>,
+    ) -> &'a T
         requires held { IsWrittenLoanHandle domain.now self.now.service_id self.now.publisher self.now.number }
         requires single { (domain.now.config).units_per_element ≡ 1 }
         ensures { (m : Messages T U) (s : State T U) → Shows domain.now m s → HasCell s self.now.number (Some result.now) }
@@ -39,7 +42,10 @@ impl SampleMut {
     /// Where the message comes from, and of how many elements it is.
     ///
     /// iceoryx2's `SampleMut::header` (`src/sample_mut.rs`).
-    pub fn header<'a, T: Drop, U: Default + Drop>(&self, domain: &'a Domain<T, U>) -> &'a Header
+    pub fn header<'a, T: Drop, U: Default + Drop, F: BackpressureFn, G: DegradationFn>(
+        &self,
+        domain: &'a Domain<T, U, F, G>,
+    ) -> &'a Header
         requires { IsWrittenLoanHandle domain.now self.now.service_id self.now.publisher self.now.number }
         ensures header { (m : Messages T U) (s : State T U) → Shows domain.now m s → HasLoanHeader s self.now.number result.now }
         ensures origin { (result.now).publisher_id ≡ self.now.publisher }

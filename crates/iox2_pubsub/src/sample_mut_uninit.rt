@@ -3,7 +3,7 @@ ghost use Rattle.std.specs.Prelude.{◌≡◌};
 
 use crate::domain::Domain;
 use crate::sample_mut::SampleMut;
-use iox2_store::{Header, Key, UniquePublisherId};
+use iox2_store::{BackpressureFn, DegradationFn, Header, Key, UniquePublisherId};
 
 /// A loan whose payload isn't written. It is a value to be spent: the domain keeps the loan until
 /// its message was sent.
@@ -29,9 +29,9 @@ impl SampleMutUninit {
     /// Writes the payload, and makes the loan one that may be sent.
     ///
     /// iceoryx2's `SampleMutUninit::write_payload` (`src/sample_mut_uninit.rs`).
-    pub fn write_payload<T: Drop, U: Default + Drop>(
+    pub fn write_payload<T: Drop, U: Default + Drop, F: BackpressureFn, G: DegradationFn>(
         self,
-        domain: &mut Domain<T, U>,
+        domain: &mut Domain<T, U, F, G>,
         value: T,
     ) -> SampleMut
         requires held { IsUnwrittenLoanHandle domain.old self.service_id self.publisher self.number }
@@ -62,7 +62,10 @@ impl SampleMutUninit {
     /// The payload, and `None` where it isn't written.
     ///
     /// iceoryx2's `SampleMutUninit::payload` (`src/sample_mut_uninit.rs`).
-    pub fn payload<'a, T: Drop, U: Default + Drop>(&self, domain: &'a Domain<T, U>) -> &'a Option<T>
+    pub fn payload<'a, T: Drop, U: Default + Drop, F: BackpressureFn, G: DegradationFn>(
+        &self,
+        domain: &'a Domain<T, U, F, G>,
+    ) -> &'a Option<T>
         requires held { IsUnwrittenLoanHandle domain.now self.now.service_id self.now.publisher self.now.number }
         requires single { (domain.now.config).units_per_element ≡ 1 }
         ensures { (m : Messages T U) (s : State T U) → Shows domain.now m s → HasCell s self.now.number result.now }
@@ -75,7 +78,10 @@ impl SampleMutUninit {
     /// Where the message comes from, and of how many elements it is.
     ///
     /// iceoryx2's `SampleMutUninit::header` (`src/sample_mut_uninit.rs`).
-    pub fn header<'a, T: Drop, U: Default + Drop>(&self, domain: &'a Domain<T, U>) -> &'a Header
+    pub fn header<'a, T: Drop, U: Default + Drop, F: BackpressureFn, G: DegradationFn>(
+        &self,
+        domain: &'a Domain<T, U, F, G>,
+    ) -> &'a Header
         requires { IsUnwrittenLoanHandle domain.now self.now.service_id self.now.publisher self.now.number }
         ensures header { (m : Messages T U) (s : State T U) → Shows domain.now m s → HasLoanHeader s self.now.number result.now }
         ensures origin { (result.now).publisher_id ≡ self.now.publisher }

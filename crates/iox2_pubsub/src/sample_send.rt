@@ -4,7 +4,7 @@ ghost use Rattle.std.specs.Prelude.{◌≡◌};
 use crate::domain::Domain;
 use crate::sample_mut::SampleMut;
 use crate::send_outcome::SendOutcome;
-use iox2_store::SendError;
+use iox2_store::{BackpressureFn, DegradationFn, SendError};
 
 impl SampleMut {
     ghost use Rattle.std.specs.Prelude.{Some, IsOk};
@@ -25,9 +25,9 @@ impl SampleMut {
     /// it is refused, that subscriber doesn't get the message, and the domain keeps a warning.
     ///
     /// iceoryx2's `SampleMut::send` (`src/sample_mut.rs`).
-    pub fn send<T: Drop, U: Default + Drop>(
+    pub fn send<T: Drop, U: Default + Drop, F: BackpressureFn, G: DegradationFn>(
         self,
-        domain: &mut Domain<T, U>,
+        domain: &mut Domain<T, U, F, G>,
     ) -> Result<SendOutcome, SendError>
         requires { IsWrittenLoanHandle domain.old self.service_id self.publisher self.number }
         ensures ok { IsOk result }

@@ -2,7 +2,7 @@
 ghost use Rattle.std.specs.Prelude.{◌≡◌};
 
 use crate::domain::Domain;
-use iox2_store::{Key, UniqueSubscriberId};
+use iox2_store::{BackpressureFn, DegradationFn, Key, UniqueSubscriberId};
 
 /// Receives the messages of every publisher of its domain. It is a value to be spent: the domain
 /// keeps the subscriber until that is closed.
@@ -58,7 +58,7 @@ impl Subscriber {
     }
 }
 
-impl<T: Drop, U: Default + Drop> Domain<T, U> {
+impl<T: Drop, U: Default + Drop, F: BackpressureFn, G: DegradationFn> Domain<T, U, F, G> {
     ghost use Rattle.std.specs.Prelude.{IsTrue, ◌↔◌};
     ghost use Rattle.iox2_pubsub.specs.Handles.{IsSubscriberKey};
 

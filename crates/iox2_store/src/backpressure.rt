@@ -1,4 +1,7 @@
 //! What happens where a message finds a receiver's buffer full, in a service without safe overflow.
+ghost use Rattle.iox2_store.specs.declared.backpressure.BackpressureAction.{BackpressureAction};
+ghost use Rattle.iox2_store.specs.declared.backpressure.BackpressureInfo.{BackpressureInfo};
+
 use std::time::Duration;
 
 /// What a publisher does at a full buffer, where it has no handler or its handler leaves it to
@@ -85,4 +88,24 @@ pub struct BackpressureInfo {
     /// The time since the handler was first asked about this delivery. It is zero then, and
     /// afterwards what the caller who tries again says, since the library reads no clock.
     pub elapsed_time: Duration,
+}
+
+/// What a publisher asks at a full buffer. `allows` says which answers it may give.
+///
+/// iceoryx2's `port::BackpressureFn` (`src/port/mod.rs`), there a trait of closures.
+pub trait BackpressureFn: Drop {
+    ghost allows: { Self → BackpressureInfo → BackpressureAction → Type 0 };
+
+    /// What to do at this buffer.
+    fn call(&self, info: &BackpressureInfo) -> BackpressureAction
+        ensures { allows self.now info.now result };
+}
+
+/// A box answers what is in it.
+impl BackpressureFn for Box<dyn BackpressureFn> {
+    ghost allows = { λ b. (BackpressureFn-box b).allows b.value };
+
+    fn call(&self, info: &BackpressureInfo) -> BackpressureAction {
+        (**self).call(info)
+    }
 }

@@ -1,4 +1,7 @@
 //! What happens where a port can't make one of its connections.
+ghost use Rattle.iox2_store.specs.declared.degradation.DegradationAction.{DegradationAction};
+ghost use Rattle.iox2_store.specs.declared.degradation.DegradationCause.{DegradationCause};
+ghost use Rattle.iox2_store.specs.declared.degradation.DegradationInfo.{DegradationInfo};
 
 /// A handler's answer to a degradation.
 ///
@@ -37,4 +40,24 @@ pub struct DegradationInfo {
     pub sender_port_id: u128,
     /// The id of the subscriber at its other end.
     pub receiver_port_id: u128,
+}
+
+/// What a port asks where it can't make a connection. `allows` says which answers it may give.
+///
+/// iceoryx2's `port::DegradationFn` (`src/port/mod.rs`), there a trait of closures.
+pub trait DegradationFn: Drop {
+    ghost allows: { Self → DegradationCause → DegradationInfo → DegradationAction → Type 0 };
+
+    /// What to do without this connection.
+    fn call(&self, cause: DegradationCause, info: &DegradationInfo) -> DegradationAction
+        ensures { allows self.now cause info.now result };
+}
+
+/// A box answers what is in it.
+impl DegradationFn for Box<dyn DegradationFn> {
+    ghost allows = { λ b. (DegradationFn-box b).allows b.value };
+
+    fn call(&self, cause: DegradationCause, info: &DegradationInfo) -> DegradationAction {
+        (**self).call(cause, info)
+    }
 }

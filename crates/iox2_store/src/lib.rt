@@ -16,10 +16,11 @@ mod warning;
 
 pub use allocation::{AllocationStrategy, DataSegmentType};
 pub use backpressure::{
-    BackpressureAction, BackpressureInfo, BackpressureStrategy, BackpressureToReceiverAction,
+    BackpressureAction, BackpressureFn, BackpressureInfo, BackpressureStrategy,
+    BackpressureToReceiverAction,
 };
 pub use connection::{Connection, Home, PutOutcome};
-pub use degradation::{DegradationAction, DegradationCause, DegradationInfo};
+pub use degradation::{DegradationAction, DegradationCause, DegradationFn, DegradationInfo};
 pub use errors::{
     ConnectionFailure, DomainCreateError, LoanError, PublisherCreateError, ReceiveError, SendError,
     SharedMemoryOpenError, SubscriberCreateError, ZeroCopyCreationError,

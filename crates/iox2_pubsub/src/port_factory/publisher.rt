@@ -9,7 +9,7 @@ ghost use Rattle.iox2_domain.specs.Shows.{Shows};
 
 use crate::domain::Domain;
 use crate::publisher::Publisher;
-use iox2_store::{PublisherCreateError, UniquePublisherId};
+use iox2_store::{BackpressureFn, DegradationFn, PublisherCreateError, UniquePublisherId};
 use std::marker::Model;
 
 /// Makes a publisher. It begins with the loans that the domain's settings allow a publisher. So far
@@ -31,7 +31,7 @@ impl Model for PortFactoryPublisher {
     ghost view = { λ factory. plain_publisher factory.max_loaned_samples };
 }
 
-impl<T: Drop, U: Default + Drop> Domain<T, U> {
+impl<T: Drop, U: Default + Drop, F: BackpressureFn, G: DegradationFn> Domain<T, U, F, G> {
     /// A factory of publishers, with as many loans as the domain's settings allow a publisher.
     ///
     /// iceoryx2's `publisher_builder` of a service's factory of ports.
@@ -69,9 +69,9 @@ impl PortFactoryPublisher {
     ///
     /// iceoryx2's `PortFactoryPublisher::create` (`src/service/port_factory/publisher.rs`) and
     /// `Publisher::new` (`src/port/publisher.rs`).
-    pub fn create<T: Drop, U: Default + Drop>(
+    pub fn create<T: Drop, U: Default + Drop, F: BackpressureFn, G: DegradationFn>(
         self,
-        domain: &mut Domain<T, U>,
+        domain: &mut Domain<T, U, F, G>,
     ) -> Result<Publisher, PublisherCreateError>
         ensures creates { (m : Messages T U) (s : State T U) → Shows domain.old m s → (s' : State T U) × Shows domain.new m s'
             × MatchResult result

@@ -8,7 +8,7 @@ ghost use Rattle.iox2_domain.specs.Shows.{Shows};
 
 use crate::domain::Domain;
 use crate::subscriber::Subscriber;
-use iox2_store::{SubscriberCreateError, UniqueSubscriberId};
+use iox2_store::{BackpressureFn, DegradationFn, SubscriberCreateError, UniqueSubscriberId};
 use std::marker::Model;
 
 /// Makes a subscriber. It begins with the largest buffer that the domain allows.
@@ -50,9 +50,9 @@ impl PortFactorySubscriber {
     ///
     /// iceoryx2's `PortFactorySubscriber::create` (`src/service/port_factory/subscriber.rs`) and
     /// `Subscriber::new` (`src/port/subscriber.rs`).
-    pub fn create<T: Drop, U: Default + Drop>(
+    pub fn create<T: Drop, U: Default + Drop, F: BackpressureFn, G: DegradationFn>(
         self,
-        domain: &mut Domain<T, U>,
+        domain: &mut Domain<T, U, F, G>,
     ) -> Result<Subscriber, SubscriberCreateError>
         ensures creates { (m : Messages T U) (s : State T U) → Shows domain.old m s → (s' : State T U) × Shows domain.new m s' × MatchResult result
             (λ subscriber. CreateSubscriber fixed_handlers s self s' None × (subscriber.id ≡ s.next_port) × (subscriber.buffer_size ≡ buffer_for self))
@@ -71,7 +71,7 @@ impl PortFactorySubscriber {
     }
 }
 
-impl<T: Drop, U: Default + Drop> Domain<T, U> {
+impl<T: Drop, U: Default + Drop, F: BackpressureFn, G: DegradationFn> Domain<T, U, F, G> {
     /// A factory of subscribers, with the largest buffer that the domain allows.
     ///
     /// iceoryx2's `subscriber_builder` of a service's factory of ports.

@@ -4,7 +4,7 @@ ghost use Rattle.std.specs.Prelude.{◌≡◌, IfOk};
 use crate::domain::Domain;
 use crate::publisher::Publisher;
 use crate::sample_mut_uninit::SampleMutUninit;
-use iox2_store::{Key, LoanError};
+use iox2_store::{BackpressureFn, DegradationFn, Key, LoanError};
 
 impl Publisher {
     ghost use Rattle.iox2_store.specs.State.{State, Messages};
@@ -23,9 +23,9 @@ impl Publisher {
     /// left. Nothing changes then.
     ///
     /// iceoryx2's `Publisher::loan_uninit` (`src/port/publisher.rs`).
-    pub fn loan_uninit<T: Drop, U: Default + Drop>(
+    pub fn loan_uninit<T: Drop, U: Default + Drop, F: BackpressureFn, G: DegradationFn>(
         &self,
-        domain: &mut Domain<T, U>,
+        domain: &mut Domain<T, U, F, G>,
     ) -> Result<SampleMutUninit, LoanError>
         requires { IsPublisherHandle domain.old self.now.service_id self.now.id }
         ensures lends { (m : Messages T U) (s : State T U) → Shows domain.old m s → (s' : State T U) × Shows domain.new m s' × LoanCall U.is_default s self.now.id result s' }
@@ -47,7 +47,7 @@ impl Publisher {
     }
 }
 
-impl<T: Drop, U: Default + Drop> Domain<T, U> {
+impl<T: Drop, U: Default + Drop, F: BackpressureFn, G: DegradationFn> Domain<T, U, F, G> {
     ghost use Rattle.std.specs.Prelude.{IsTrue, ◌↔◌};
     ghost use Rattle.iox2_pubsub.specs.Handles.{IsLoanKey};
 

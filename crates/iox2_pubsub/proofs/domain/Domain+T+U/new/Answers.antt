@@ -1,5 +1,5 @@
 use Rattle.iox2_pubsub.proofs.Fresh.{new_is_domain, new_is_shown}
-use Rattle.iox2_pubsub.proofs.domain.Domain.new.Goals as goal
+use Rattle.iox2_pubsub.proofs.domain.Domain+T+U.new.Goals as goal
 
 pub returns : goal.returns
 returns g c = new_is_shown {T = g.row.T.Denot} {U = g.row.U.Denot} c.args.config c.in-Ok.state c.in-Ok.ensures
