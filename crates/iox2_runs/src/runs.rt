@@ -19,6 +19,7 @@ mod samples;
 use held::{Held, disown_all};
 use iox2_commands::{Command, Reply};
 use iox2_pubsub::Domain;
+use iox2_store::{BackpressureFn, DegradationFn};
 use std::alloc::Global;
 
 // There is a default value of the type.
@@ -29,15 +30,22 @@ fn has_default<T: Default + Drop>()
 }
 
 // There is a state that the domain shows.
-fn shows_a_state<T: Drop, U: Default + Drop>(domain: &Domain<T, U>)
+fn shows_a_state<T: Drop, U: Default + Drop, F: BackpressureFn, G: DegradationFn>(
+    domain: &Domain<T, U, F, G>,
+)
     ensures { (m : Messages T U) × (s : State T U) × Shows domain.now m s }
 {
     domain.config();
 }
 
 // Carries out one command, and answers what it made too.
-fn carry_out<T: Copy + Default + Drop, U: Copy + Default + Drop>(
-    domain: &mut Domain<T, U>,
+fn carry_out<
+    T: Copy + Default + Drop,
+    U: Copy + Default + Drop,
+    F: BackpressureFn,
+    G: DegradationFn,
+>(
+    domain: &mut Domain<T, U, F, G>,
     table: &mut Vec<Held>,
     command: Command<T, U>,
 ) -> (Reply<T, U>, Held)
@@ -72,9 +80,9 @@ fn carry_out<T: Copy + Default + Drop, U: Copy + Default + Drop>(
 ///
 /// So far a publisher discards what a full receiver doesn't take, has one segment and no handlers,
 /// and a command is one of those that make ports or take a message from its loan to its release.
-pub fn run<T: Copy + Default + Drop, U: Copy + Default + Drop>(
+pub fn run<T: Copy + Default + Drop, U: Copy + Default + Drop, F: BackpressureFn, G: DegradationFn>(
     alloc: Global,
-    domain: &mut Domain<T, U>,
+    domain: &mut Domain<T, U, F, G>,
     commands: Vec<Command<T, U>>,
 ) -> Result<Vec<Reply<T, U>>, Vec<Command<T, U>>>
     requires { All IsSupported commands.items }

@@ -10,13 +10,15 @@ ghost use Rattle.iox2_runs.specs.declared.runs.held.Held.TheVariants.{Nothing};
 use super::held::{Held, put, take};
 use iox2_commands::Reply;
 use iox2_pubsub::{Domain, SendOutcome};
+use iox2_store::{BackpressureFn, DegradationFn};
 
 /// Asks the publisher that the command at the position made for a loan, and answers the loan too.
-pub(crate) fn loan_uninit<T: Default + Drop, U: Default + Drop>(
-    domain: &mut Domain<T, U>,
-    table: &[Held],
-    of: usize,
-) -> (Reply<T, U>, Held)
+pub(crate) fn loan_uninit<
+    T: Default + Drop,
+    U: Default + Drop,
+    F: BackpressureFn,
+    G: DegradationFn,
+>(domain: &mut Domain<T, U, F, G>, table: &[Held], of: usize) -> (Reply<T, U>, Held)
     requires { Keeps domain.old table.now }
     ensures { Carries (defaults_of T.is_default U.is_default) domain.old domain.new table.now (LoanUninit of) result.0 table.now result.1 }
 {
@@ -36,8 +38,8 @@ pub(crate) fn loan_uninit<T: Default + Drop, U: Default + Drop>(
 }
 
 /// Writes the loan that the command at the position made.
-pub(crate) fn write_all<T: Default + Drop, U: Default + Drop>(
-    domain: &mut Domain<T, U>,
+pub(crate) fn write_all<T: Default + Drop, U: Default + Drop, F: BackpressureFn, G: DegradationFn>(
+    domain: &mut Domain<T, U, F, G>,
     table: &mut Vec<Held>,
     of: usize,
     value: T,
@@ -60,8 +62,8 @@ pub(crate) fn write_all<T: Default + Drop, U: Default + Drop>(
 }
 
 /// Sends the loan that the command at the position made.
-pub(crate) fn send<T: Default + Drop, U: Default + Drop>(
-    domain: &mut Domain<T, U>,
+pub(crate) fn send<T: Default + Drop, U: Default + Drop, F: BackpressureFn, G: DegradationFn>(
+    domain: &mut Domain<T, U, F, G>,
     table: &mut Vec<Held>,
     of: usize,
 ) -> Reply<T, U>

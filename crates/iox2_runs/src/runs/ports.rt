@@ -10,14 +10,15 @@ ghost use Rattle.iox2_commands.specs.declared.command.Command.TheVariants.{Creat
 use super::held::Held;
 use iox2_commands::Reply;
 use iox2_pubsub::Domain;
-use iox2_store::TypeVariant;
+use iox2_store::{BackpressureFn, DegradationFn, TypeVariant};
 
 /// Makes a publisher with so many loans, and answers it too.
-pub(crate) fn create_publisher<T: Default + Drop, U: Default + Drop>(
-    domain: &mut Domain<T, U>,
-    table: &[Held],
-    loans: usize,
-) -> (Reply<T, U>, Held)
+pub(crate) fn create_publisher<
+    T: Default + Drop,
+    U: Default + Drop,
+    F: BackpressureFn,
+    G: DegradationFn,
+>(domain: &mut Domain<T, U, F, G>, table: &[Held], loans: usize) -> (Reply<T, U>, Held)
     requires { Keeps domain.old table.now }
     ensures { (len : ℕ) → Carries (defaults_of T.is_default U.is_default) domain.old domain.new table.now
         (CreatePublisher loans DiscardData Static len None Warn None) result.0 table.now result.1 }
@@ -40,11 +41,12 @@ pub(crate) fn create_publisher<T: Default + Drop, U: Default + Drop>(
 }
 
 /// Makes a subscriber with that buffer, or with the largest, and answers it too.
-pub(crate) fn create_subscriber<T: Default + Drop, U: Default + Drop>(
-    domain: &mut Domain<T, U>,
-    table: &[Held],
-    buffer: Option<usize>,
-) -> (Reply<T, U>, Held)
+pub(crate) fn create_subscriber<
+    T: Default + Drop,
+    U: Default + Drop,
+    F: BackpressureFn,
+    G: DegradationFn,
+>(domain: &mut Domain<T, U, F, G>, table: &[Held], buffer: Option<usize>) -> (Reply<T, U>, Held)
     requires { Keeps domain.old table.now }
     ensures { Carries (defaults_of T.is_default U.is_default) domain.old domain.new table.now
         (CreateSubscriber buffer Warn) result.0 table.now result.1 }

@@ -9,10 +9,11 @@ ghost use Rattle.iox2_runs.specs.declared.runs.held.Held.TheVariants.{Nothing};
 use super::held::{Held, put, take};
 use iox2_commands::Reply;
 use iox2_pubsub::Domain;
+use iox2_store::{BackpressureFn, DegradationFn};
 
 /// Releases the sample that the command at the position received.
-pub(crate) fn release<T: Default + Drop, U: Default + Drop>(
-    domain: &mut Domain<T, U>,
+pub(crate) fn release<T: Default + Drop, U: Default + Drop, F: BackpressureFn, G: DegradationFn>(
+    domain: &mut Domain<T, U, F, G>,
     table: &mut Vec<Held>,
     of: usize,
 ) -> Reply<T, U>
@@ -33,12 +34,12 @@ pub(crate) fn release<T: Default + Drop, U: Default + Drop>(
 }
 
 /// Reads the value of the sample or the cell of the loan that the command at the position made.
-pub(crate) fn read<T: Copy + Default + Drop, U: Default + Drop>(
-    domain: &Domain<T, U>,
-    table: &[Held],
-    of: usize,
-    at: usize,
-) -> Reply<T, U>
+pub(crate) fn read<
+    T: Copy + Default + Drop,
+    U: Default + Drop,
+    F: BackpressureFn,
+    G: DegradationFn,
+>(domain: &Domain<T, U, F, G>, table: &[Held], of: usize, at: usize) -> Reply<T, U>
     requires { Keeps domain.now table.now }
     ensures { Carries (defaults_of T.is_default U.is_default) domain.now domain.now table.now (Read of at) result table.now Nothing }
 {
@@ -65,8 +66,8 @@ fn cell_at<T: Drop, U>(at: usize, cell: Option<T>) -> Reply<T, U>
 }
 
 /// Receives with the subscriber that the command at the position made, and answers the sample too.
-pub(crate) fn receive<T: Default + Drop, U: Default + Drop>(
-    domain: &mut Domain<T, U>,
+pub(crate) fn receive<T: Default + Drop, U: Default + Drop, F: BackpressureFn, G: DegradationFn>(
+    domain: &mut Domain<T, U, F, G>,
     table: &[Held],
     of: usize,
 ) -> (Reply<T, U>, Held)
