@@ -19,6 +19,8 @@ mod errors;
 #[cfg(test)]
 mod fixtures;
 #[cfg(test)]
+mod handlers;
+#[cfg(test)]
 mod laws;
 #[cfg(test)]
 mod loans;
