@@ -1,4 +1,1 @@
-pub mod LineFeeds
-pub mod LineLemmas
-pub mod ScriptTextLemmas
-pub mod WordLemmas
+pub mod SupportedCommands

@@ -1,8 +1,8 @@
 -- Reading a text to its end.
 use Rattle.std.specs.Prelude.{ℕ, Bool, List, Option, ◌++◌, ◌≡◌, ◌⊎◌, IsTrue}
 use Rattle.std.specs.Io.KnownBytes.{Consumes, IsAtEnd}
-use Rattle.pubsub_script.specs.declared.failure.ScriptError.{ScriptError}
-use Rattle.pubsub_script.specs.declared.failure.ScriptError.TheVariants.{OutOfMemory, InputFailed}
+use Rattle.script_text.specs.declared.failure.ScriptError.{ScriptError}
+use Rattle.script_text.specs.declared.failure.ScriptError.TheVariants.{OutOfMemory, InputFailed}
 
 -- A read moved bytes from the front of what the reader has left to the end of the text, and may have found the reader
 -- at its end.

@@ -8,10 +8,10 @@ use Rattle.iox2_commands.specs.Outcomes.{Event}
 use Rattle.iox2_commands.specs.Runs.{Run, only_defaults}
 use Rattle.iox2_commands.specs.declared.command.Command.{Command}
 use Rattle.iox2_commands.specs.declared.reply.Reply.{Reply}
-use Rattle.pubsub_script.specs.Replies.{reply_lines}
-use Rattle.pubsub_script.specs.ScriptText.{IsMalformedAt, IsScript}
-use Rattle.pubsub_script.specs.declared.failure.ScriptError.{ScriptError}
-use Rattle.pubsub_script.specs.declared.failure.ScriptError.TheVariants.{BadCommand, OutOfMemory, InputFailed, OutputFailed}
+use Rattle.script_text.specs.Replies.{reply_lines}
+use Rattle.script_text.specs.ScriptText.{IsMalformedAt, IsScript}
+use Rattle.script_text.specs.declared.failure.ScriptError.{ScriptError}
+use Rattle.script_text.specs.declared.failure.ScriptError.TheVariants.{BadCommand, OutOfMemory, InputFailed, OutputFailed}
 
 -- The exit status is 0, 2, 3 or 4.
 abbrev pub IsStatus : ℕ → Type 0

@@ -3,21 +3,16 @@
 #![tactic(auto)]
 
 ghost use Rattle.std.specs.Prelude.{◌≡◌, ◌≢◌, ◌⊎◌, ℕ, IfErr, IfOk, OnOk};
-ghost use Rattle.pubsub_script.specs.declared.failure.ScriptError.TheVariants.{OutputFailed};
+ghost use Rattle.script_text.specs.declared.failure.ScriptError.TheVariants.{OutputFailed};
 ghost use Rattle.pubsub_script.specs.Script.{AreReplies, IsFailure, IsMalformedInput, IsStatus, PrintsReplies};
 
-mod failure;
-mod lines;
-mod parse;
-mod print;
 mod source;
 #[cfg(test)]
 mod tests;
 
-use failure::ScriptError;
 use iox2_pubsub::Domain;
 use iox2_runs::{Reply, run};
-use parse::Script;
+use script_text::{Script, ScriptError, reply_lines};
 use std::alloc::Global;
 use std::io;
 use std::io::{Read, Write};
@@ -65,7 +60,7 @@ fn print_replies<R: Read, W: Write>(
     ensures untouched { IfErr result (λ error. error ≢ OutputFailed → output.new ≡ output.old) }
 {
     let replies = replies_of(alloc, input)?;
-    let text = print::reply_lines(alloc, &replies)?;
+    let text = reply_lines(alloc, &replies)?;
     let Ok(()) = output.write_all(text.as_bytes()) else {
         return Err(ScriptError::OutputFailed);
     };

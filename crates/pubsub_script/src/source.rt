@@ -3,7 +3,7 @@ ghost use Rattle.std.specs.Prelude.{IfErr, IfOk};
 ghost use Rattle.pubsub_script.specs.Reading.{IsReadFailure, MovesBytes};
 ghost use Rattle.pubsub_script.specs.Script.{IsAllOf};
 
-use crate::failure::ScriptError;
+use script_text::ScriptError;
 use std::alloc::Global;
 use std::io::{ErrorKind, Read};
 

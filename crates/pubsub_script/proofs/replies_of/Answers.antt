@@ -1,5 +1,5 @@
 use Rattle.iox2_store.specs.State.{fresh, no_messages}
-use Rattle.pubsub_script.proofs.ScriptTextLemmas.{All-supported}
+use Rattle.pubsub_script.proofs.SupportedCommands.{All-supported}
 use Rattle.pubsub_script.proofs.replies_of.Goals as goal
 
 pub run-requires : goal.run-requires

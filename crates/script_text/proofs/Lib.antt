@@ -1,0 +1,4 @@
+pub mod LineFeeds
+pub mod LineLemmas
+pub mod ScriptTextLemmas
+pub mod WordLemmas

@@ -1,0 +1,82 @@
+-- Lemmas on what a line names.
+use Rattle.std.proofs.Common.{ℕ, ◌≡◌, ◌<◌, List, [], length, Bor, sym, ap, subst, ◌∙◌, arith}
+use Rattle.std.specs.Prelude.{Option, Some, None, IfSome, IfNone}
+use Rattle.std.specs.Str.{IsUtf8}
+use Rattle.std.proofs.Math.ListN.{get_or-map}
+use Rattle.std.proofs.lemmas.List.{length-map}
+use Rattle.iox2_store.specs.declared.service_config.ServiceConfig.{ServiceConfig}
+use Rattle.iox2_commands.specs.declared.command.Command.{Command}
+use Rattle.iox2_commands.specs.declared.command.Command.TheVariants as command
+use Rattle.script_text.specs.Commands.{IsCommandLine, IsDomainLine, NamesCommand, NamesDomain}
+use Rattle.script_text.specs.Words.{Words, line_words, texts, words_in, words_of}
+
+-- The words that code holds are those of its list of texts.
+pub words_in-texts : (words : List (Bor (List ℕ))) → words_in words ≡ words_of (texts words)
+words_in-texts words =
+    λ k. record {
+      count = sym (length-map words (λ (x : Bor (List ℕ)). x.now)) k;
+      word = λ i. sym (get_or-map (λ (x : Bor (List ℕ)). x.now) words i (record { ref_ptr = (0, 0); now = [] })) k;
+    }
+
+-- The words that code holds are those of the line, where its texts are.
+pub words_in-line : (line : List ℕ) (words : List (Bor (List ℕ))) → texts words ≡ line_words line → words_in words ≡ words_of (line_words line)
+words_in-line line words same = words_in-texts words ∙ ap words_of same
+
+-- What the words name, the line names.
+pub domain-named : (line : List ℕ) (words : List (Bor (List ℕ))) (result : Option ServiceConfig) → IsUtf8 line → texts words ≡ line_words line
+    → IfSome result (IsDomainLine (words_in words)) → IfSome result (NamesDomain line)
+domain-named line words None text same names = tt
+domain-named line words (Some config) text same names = (text, subst (λ z. IsDomainLine z config) (words_in-line line words same) names)
+
+-- Where the words name nothing, the line names nothing.
+pub domain-refused : (line : List ℕ) (words : List (Bor (List ℕ))) (result : Option ServiceConfig) → texts words ≡ line_words line
+    → IfNone result ((config : ServiceConfig) → ¬ IsDomainLine (words_in words) config) → IfNone result ((config : ServiceConfig) → ¬ NamesDomain line config)
+domain-refused line words None same refused = λ config named. refused config (subst (λ z. IsDomainLine z config) (sym (words_in-line line words same)) named.1)
+domain-refused line words (Some found) same refused = tt
+
+-- A line with more than 8 words names no settings.
+pub domain-long : (line : List ℕ) → 8 < length (line_words line) → (config : ServiceConfig) → ¬ NamesDomain line config
+domain-long line long config named = omega (arith, long, (named.1).form.0)
+
+-- What the words name, the line names.
+pub command-named : (line : List ℕ) (words : List (Bor (List ℕ))) (result : Option (Command ℕ ℕ)) → IsUtf8 line → texts words ≡ line_words line
+    → IfSome result (IsCommandLine (words_in words)) → IfSome result (NamesCommand line)
+command-named line words None text same names = tt
+command-named line words (Some c) text same names = (text, subst (λ z. IsCommandLine z c) (words_in-line line words same) names)
+
+-- Where the words name nothing, the line names nothing.
+pub command-refused : (line : List ℕ) (words : List (Bor (List ℕ))) (result : Option (Command ℕ ℕ)) → texts words ≡ line_words line
+    → IfNone result ((c : Command ℕ ℕ) → ¬ IsCommandLine (words_in words) c) → IfNone result ((c : Command ℕ ℕ) → ¬ NamesCommand line c)
+command-refused line words None same refused = λ c named. refused c (subst (λ z. IsCommandLine z c) (sym (words_in-line line words same)) named.1)
+command-refused line words (Some found) same refused = tt
+
+-- More than 8 words name no command.
+pub words-long : (words : Words) → 8 < words.count → (c : Command ℕ ℕ) → ¬ IsCommandLine words c
+words-long words long (command.CreatePublisher a b d e f h k) names = omega (arith, long, names.0.0)
+words-long words long (command.CreateSubscriber a b) names = omega (arith, long, names.0.0)
+words-long words long (command.LoanUninit a) names = omega (arith, long, names.0.0)
+words-long words long (command.WriteAll a b) names = omega (arith, long, names.0.0)
+words-long words long (command.Send a) names = omega (arith, long, names.0.0)
+words-long words long (command.Receive a) names = omega (arith, long, names.0.0)
+words-long words long (command.Read a b) names = omega (arith, long, names.0.0)
+words-long words long (command.Release a) names = omega (arith, long, names.0.0)
+words-long words long command.Nothing names = names
+words-long words long (command.Loan a) names = names
+words-long words long (command.LoanSlice a b) names = names
+words-long words long (command.WriteCell a b d) names = names
+words-long words long (command.AssumeInit a) names = names
+words-long words long (command.WriteHeader a b) names = names
+words-long words long (command.SetPayload a b d) names = names
+words-long words long (command.SendCopy a b) names = names
+words-long words long (command.Discard a) names = names
+words-long words long (command.Retry a b) names = names
+words-long words long (command.GiveUp a) names = names
+words-long words long (command.Update a) names = names
+words-long words long (command.HasSamples a) names = names
+words-long words long (command.ReadHeader a) names = names
+words-long words long (command.ReadUserHeader a) names = names
+words-long words long (command.Close a) names = names
+
+-- A line with more than 8 words names no command.
+pub command-long : (line : List ℕ) → 8 < length (line_words line) → (c : Command ℕ ℕ) → ¬ NamesCommand line c
+command-long line long c named = words-long (words_of (line_words line)) long c named.1

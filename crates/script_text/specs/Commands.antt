@@ -1,0 +1,81 @@
+-- What the lines of a script ask for.
+use Rattle.std.specs.Prelude.{ℕ, List, codes, Some, None, ◌≡◌, false}
+use Rattle.std.specs.Str.{IsUtf8}
+use Rattle.script_text.specs.Numbers.{IsNumber, value_of, position_of}
+use Rattle.script_text.specs.Words.{Words, line_words, words_of}
+use Rattle.iox2_store.specs.declared.service_config.ServiceConfig.{ServiceConfig}
+use Rattle.iox2_store.specs.declared.service_config.TypeVariant.TheVariants.{FixedSize}
+use Rattle.iox2_store.specs.declared.allocation.AllocationStrategy.TheVariants.{Static}
+use Rattle.iox2_store.specs.declared.backpressure.BackpressureStrategy.TheVariants.{DiscardData}
+use Rattle.iox2_store.specs.declared.degradation.DegradationAction.TheVariants.{Warn}
+use Rattle.iox2_commands.specs.declared.command.Command.{Command}
+use Rattle.iox2_commands.specs.declared.command.Command.TheVariants as command
+
+-- The settings that a domain line names: one publisher and one subscriber, single values, no history, no overflow.
+abbrev pub script_config : (buffer borrowed expired : ℕ) → ServiceConfig
+script_config buffer borrowed expired = record {
+  service_id = 1;
+  node_id = 1;
+  variant = FixedSize;
+  units_per_element = 1;
+  max_publishers = 1;
+  max_subscribers = 1;
+  subscriber_max_buffer_size = buffer;
+  subscriber_max_borrowed_samples = borrowed;
+  history_size = 0;
+  enable_safe_overflow = false;
+  subscriber_expired_connection_buffer = expired;
+  publisher_max_loaned_samples = 1;
+  backpressure_strategy = DiscardData;
+  publisher_allocation_strategy = Static;
+}
+
+-- There are so many words, and the first is this one.
+abbrev pub HasForm : Words → List ℕ → ℕ → Type 0
+HasForm words name count = (words.count ≡ count) × (words.word 0 ≡ name)
+
+-- The word at this place is the number.
+abbrev pub IsNumberAt : Words → ℕ → ℕ → Type 0
+IsNumberAt words i number = IsNumber (words.word i) × (number ≡ value_of (words.word i))
+
+-- The word at this place is the number of a command, counted from 1, whose position is counted from 0.
+abbrev pub IsNameAt : Words → ℕ → ℕ → Type 0
+IsNameAt words i of = IsNumber (words.word i) × (of ≡ position_of (value_of (words.word i)))
+
+-- `domain P S B R H E keep`, where P and S are 1 and H is 0, names the settings with B, R and E.
+pub record IsDomainLine (words : Words) (config : ServiceConfig) : Type 0 where
+  pub form : HasForm words (codes "domain") 8
+  pub publishers : IsNumberAt words 1 1
+  pub subscribers : IsNumberAt words 2 1
+  pub buffer : IsNumber (words.word 3)
+  pub borrowed : IsNumber (words.word 4)
+  pub history : IsNumberAt words 5 0
+  pub expired : IsNumber (words.word 6)
+  pub keep : words.word 7 ≡ codes "keep"
+  pub settings : config ≡ script_config (value_of (words.word 3)) (value_of (words.word 4)) (value_of (words.word 6))
+
+-- What the words of a line after the first ask for.
+abbrev pub IsCommandLine : Words → Command ℕ ℕ → Type 0
+-- `pub L discard`: a publisher with so many loans that discards, whose memory is static.
+IsCommandLine words (command.CreatePublisher loans strategy allocation initial_max_slice_len override_slots degradation backpressure) =
+    HasForm words (codes "pub") 3 × IsNumberAt words 1 loans × (words.word 2 ≡ codes "discard") × (strategy ≡ DiscardData)
+    × (allocation ≡ Static) × (initial_max_slice_len ≡ 1) × (override_slots ≡ None) × (degradation ≡ Warn) × (backpressure ≡ None)
+-- `sub B`: a subscriber with this buffer.
+IsCommandLine words (command.CreateSubscriber buffer degradation) =
+    HasForm words (codes "sub") 2 × IsNumber (words.word 1) × (buffer ≡ Some (value_of (words.word 1))) × (degradation ≡ Warn)
+-- `loan N`, `write N V`, `send N`, `recv N`, `read N`, `release N`: calls of a single value.
+IsCommandLine words (command.LoanUninit of) = HasForm words (codes "loan") 2 × IsNameAt words 1 of
+IsCommandLine words (command.WriteAll of value) = HasForm words (codes "write") 3 × IsNameAt words 1 of × IsNumberAt words 2 value
+IsCommandLine words (command.Send of) = HasForm words (codes "send") 2 × IsNameAt words 1 of
+IsCommandLine words (command.Receive of) = HasForm words (codes "recv") 2 × IsNameAt words 1 of
+IsCommandLine words (command.Read of at) = HasForm words (codes "read") 2 × IsNameAt words 1 of × (at ≡ 0)
+IsCommandLine words (command.Release of) = HasForm words (codes "release") 2 × IsNameAt words 1 of
+IsCommandLine words _ = ⊥
+
+-- A line is UTF-8, and its words name these settings.
+abbrev pub NamesDomain : List ℕ → ServiceConfig → Type 0
+NamesDomain line config = IsUtf8 line × IsDomainLine (words_of (line_words line)) config
+
+-- A line is UTF-8, and its words name this command.
+abbrev pub NamesCommand : List ℕ → Command ℕ ℕ → Type 0
+NamesCommand line c = IsUtf8 line × IsCommandLine (words_of (line_words line)) c

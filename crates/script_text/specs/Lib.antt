@@ -1,0 +1,6 @@
+pub mod Commands
+pub mod Failures
+pub mod Numbers
+pub mod Replies
+pub mod ScriptText
+pub mod Words

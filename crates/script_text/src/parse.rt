@@ -1,0 +1,203 @@
+//! What the lines of a script ask for.
+ghost use Rattle.std.specs.Prelude.{◌≡◌, ◌↔◌, ◌<◌, ℕ, IfErr, IfNone, IfOk, IfSome, IsSome, length};
+ghost use Rattle.iox2_store.specs.declared.service_config.ServiceConfig.{ServiceConfig};
+ghost use Rattle.iox2_commands.specs.declared.command.Command.{Command};
+ghost use Rattle.script_text.specs.Commands.{IsCommandLine, IsDomainLine, NamesCommand, NamesDomain};
+ghost use Rattle.script_text.specs.Numbers.{IsNumber, position_of, value_of};
+ghost use Rattle.script_text.specs.ScriptText.{IsRefused, IsScript};
+ghost use Rattle.script_text.specs.Words.{line_words, texts, words_in};
+
+use crate::failure::ScriptError;
+use crate::lines::Lines;
+use arrayvec::ArrayVec;
+use iox2_commands::Command;
+use iox2_store::{
+    AllocationStrategy, BackpressureStrategy, DegradationAction, ServiceConfig, TypeVariant,
+};
+use std::alloc::Global;
+
+/// A script: the settings of its domain, which its first line names, and the commands of its other
+/// lines.
+#[derive(Drop)]
+pub struct Script {
+    pub config: ServiceConfig,
+    pub commands: Vec<Command<u64, u64>>,
+}
+
+impl Script {
+    /// The script that the text is.
+    ///
+    /// `OutOfMemory` where there is no room for the commands, which are counted before any line is
+    /// judged. `BadCommand` names the first malformed line; a text without any line has it at 1.
+    pub fn parse(alloc: Global, text: &[u8]) -> Result<Script, ScriptError>
+        ensures ok { IfOk result (λ script. IsScript text.now script.config script.commands.items) }
+        ensures err { IfErr result (IsRefused text.now) }
+    {
+        let mut commands = Vec::with_capacity(alloc, Lines { rest: text }.count())?;
+        let mut lines = Lines { rest: text };
+        let Some(first) = lines.next() else {
+            return Err(ScriptError::BadCommand(1));
+        };
+        let Some(config) = domain_of(first) else {
+            return Err(ScriptError::BadCommand(1));
+        };
+        for line in lines {
+            let Some(command) = command_of(line) else {
+                return Err(ScriptError::BadCommand(commands.len() + 2));
+            };
+            commands.push(command)?;
+        }
+        Ok(Script { config, commands })
+    }
+}
+
+fn domain_of(line: &[u8]) -> Option<ServiceConfig>
+    ensures reads { IfSome result (NamesDomain line.now) }
+    ensures refuses { IfNone result ((config : ServiceConfig) → ¬ NamesDomain line.now config) }
+{
+    let Ok(text) = str::from_utf8(line) else {
+        return None;
+    };
+    let words = split_words(text)?;
+    parse_domain(&words)
+}
+
+fn command_of(line: &[u8]) -> Option<Command<u64, u64>>
+    ensures reads { IfSome result (NamesCommand line.now) }
+    ensures refuses { IfNone result ((command : Command ℕ ℕ) → ¬ NamesCommand line.now command) }
+{
+    let Ok(text) = str::from_utf8(line) else {
+        return None;
+    };
+    let words = split_words(text)?;
+    parse_command(&words)
+}
+
+/// The settings that a domain line names: `domain P S B R H E keep`.
+///
+/// Here `P` and `S`, the greatest numbers of publishers and subscribers, are 1, and `H`, the
+/// history size, is 0. `B` is the greatest buffer, `R` the greatest number of borrowed samples, and
+/// `E` the room for departed publishers. `keep` says that a full buffer keeps what it has.
+fn parse_domain(words: &[&str]) -> Option<ServiceConfig>
+    ensures reads { IfSome result (IsDomainLine (words_in words.now)) }
+    ensures refuses { IfNone result ((config : ServiceConfig) → ¬ IsDomainLine (words_in words.now) config) }
+{
+    let [
+        "domain",
+        publishers,
+        subscribers,
+        buffer,
+        borrowed,
+        history,
+        expired,
+        "keep",
+    ] = *words
+    else {
+        return None;
+    };
+    if parse_size(publishers)? != 1 || parse_size(subscribers)? != 1 || parse_size(history)? != 0 {
+        return None;
+    }
+    Some(ServiceConfig {
+        service_id: 1,
+        node_id: 1,
+        variant: TypeVariant::FixedSize,
+        units_per_element: 1,
+        max_publishers: 1,
+        max_subscribers: 1,
+        subscriber_max_buffer_size: parse_size(buffer)?,
+        subscriber_max_borrowed_samples: parse_size(borrowed)?,
+        history_size: 0,
+        enable_safe_overflow: false,
+        subscriber_expired_connection_buffer: parse_size(expired)?,
+        publisher_max_loaned_samples: 1,
+        backpressure_strategy: BackpressureStrategy::DiscardData,
+        publisher_allocation_strategy: AllocationStrategy::Static,
+    })
+}
+
+/// The command that a line after the first names.
+fn parse_command(words: &[&str]) -> Option<Command<u64, u64>>
+    ensures reads { IfSome result (IsCommandLine (words_in words.now)) }
+    ensures refuses { IfNone result ((command : Command ℕ ℕ) → ¬ IsCommandLine (words_in words.now) command) }
+{
+    let command = match *words {
+        ["pub", loans, "discard"] => Command::CreatePublisher {
+            loans: parse_size(loans)?,
+            strategy: BackpressureStrategy::DiscardData,
+            allocation: AllocationStrategy::Static,
+            initial_max_slice_len: 1,
+            override_slots: None,
+            degradation: DegradationAction::Warn,
+            backpressure: None,
+        },
+        ["sub", buffer] => Command::CreateSubscriber {
+            buffer: Some(parse_size(buffer)?),
+            degradation: DegradationAction::Warn,
+        },
+        ["write", of, value] => Command::WriteAll {
+            of: parse_name(of)?,
+            value: parse_number(value)?,
+        },
+        [call, of] => {
+            let of = parse_name(of)?;
+            match call {
+                "loan" => Command::LoanUninit { of },
+                "send" => Command::Send { of },
+                "recv" => Command::Receive { of },
+                "read" => Command::Read { of, at: 0 },
+                "release" => Command::Release { of },
+                _ => return None,
+            }
+        }
+        _ => return None,
+    };
+    Some(command)
+}
+
+/// The most words that a line has: those of the domain line.
+const MOST_WORDS: usize = 8;
+
+/// The words of a line, which spaces part. None where they are more than any line has.
+fn split_words(line: &str) -> Option<ArrayVec<&str, MOST_WORDS>>
+    ensures splits { IfSome result (λ words. texts words.items ≡ line_words line.now) }
+    ensures refuses { IfNone result (MOST_WORDS < length (line_words line.now)) }
+{
+    let mut words = ArrayVec::new();
+    for word in line.split(' ') {
+        if !word.is_empty() {
+            let Ok(()) = words.try_push(word) else {
+                return None;
+            };
+        }
+    }
+    Some(words)
+}
+
+/// The position, counted from 0, of the command with this number, counted from 1. 0 names no
+/// command, and neither does the position that it gets: no list is so long.
+fn parse_name(word: &str) -> Option<usize>
+    ensures known { IsSome result ↔ IsNumber word.now }
+    ensures value { IfSome result (λ of. of ≡ position_of (value_of word.now)) }
+{
+    Some(parse_size(word)?.wrapping_sub(1))
+}
+
+fn parse_size(word: &str) -> Option<usize>
+    ensures known { IsSome result ↔ IsNumber word.now }
+    ensures value { IfSome result (λ size. size ≡ value_of word.now) }
+{
+    Some(parse_number(word)? as usize)
+}
+
+/// The number that a word is: one or more decimal digits, whose value fits. It may begin with
+/// zeros, and has no sign.
+fn parse_number(word: &str) -> Option<u64>
+    ensures known { IsSome result ↔ IsNumber word.now }
+    ensures value { IfSome result (λ number. number ≡ value_of word.now) }
+{
+    if word.starts_with('+') {
+        return None;
+    }
+    word.parse().ok()
+}
