@@ -24,12 +24,15 @@ fn a_slot_is_borrowed(rt: HostRuntime) -> Result<(), Fail> {
     let ready = [connection.has_data(), connection.can_receive()];
     let taken = connection.take();
     let borrowed = [connection.is_borrowed(7), connection.is_borrowed(8)];
+    let is_listed = connection.borrowed() == [7].as_slice();
     let full = connection.can_receive();
+    drop(connection);
     assert!(rt; [empty, full] == [false, false]);
     assert!(rt; put == PutOutcome::Taken);
     assert!(rt; ready == [true, true]);
     assert!(rt; taken == Some(7));
     assert!(rt; borrowed == [true, false]);
+    assert!(rt; is_listed);
     Ok(())
 }
 
@@ -42,6 +45,7 @@ fn a_borrowed_slot_goes_back(rt: HostRuntime) -> Result<(), Fail> {
     connection.release(7);
     let borrowed = connection.is_borrowed(7);
     let reclaimed = [connection.reclaim(), connection.reclaim()];
+    drop(connection);
     assert!(rt; !borrowed);
     assert!(rt; reclaimed == [Some(7), None]);
     Ok(())
@@ -53,6 +57,7 @@ fn a_full_connection_overwrites_or_refuses(rt: HostRuntime) -> Result<(), Fail> 
     let room = [connection.put(7, false), connection.put(8, true)];
     let full = [connection.put(9, false), connection.put(9, true)];
     let taken = connection.take();
+    drop(connection);
     assert!(rt; room == [PutOutcome::Taken, PutOutcome::Taken]);
     assert!(rt; full == [PutOutcome::Full, PutOutcome::Overwrote(7)]);
     assert!(rt; taken == Some(8));

@@ -1,26 +1,29 @@
 use crate::fixtures::{Reading, Station};
 use iox2_store::Contents;
-use std::test::Fail;
 
 #[test]
-fn a_loan_starts_with_empty_cells(rt: HostRuntime) -> Result<(), Fail> {
-    let mut contents: Contents<Reading, Station> = Contents::new(rt.alloc(), 2, 3)?;
+fn a_loan_starts_with_empty_cells(rt: HostRuntime) {
+    let mut contents: Contents<Reading, Station> = Contents::new(rt.alloc(), 2, 3).expect(
+        &rt, "room",
+    );
     contents.start(0, 3);
     contents.start(1, 1);
     let station = contents.user_header(1).number;
     let is_empty = contents.cell(1).is_none();
     let cells = [contents.cells(0).len(), contents.cells(1).len()];
     let values = contents.values(1).len();
+    drop(contents);
     assert!(rt; station == 0);
     assert!(rt; is_empty);
     assert!(rt; cells == [3, 1]);
     assert!(rt; values == 0);
-    Ok(())
 }
 
 #[test]
-fn a_payload_is_written_and_read(rt: HostRuntime) -> Result<(), Fail> {
-    let mut contents: Contents<Reading, Station> = Contents::new(rt.alloc(), 2, 3)?;
+fn a_payload_is_written_and_read(rt: HostRuntime) {
+    let mut contents: Contents<Reading, Station> = Contents::new(rt.alloc(), 2, 3).expect(
+        &rt, "room",
+    );
     contents.start(0, 3);
     contents.start(1, 1);
     contents.write_payload(1, Reading { celsius: 21 });
@@ -29,9 +32,9 @@ fn a_payload_is_written_and_read(rt: HostRuntime) -> Result<(), Fail> {
     let cells = [contents.cells(0).len(), contents.cells(1).len()];
     contents.start(1, 2);
     let again = [contents.values(1).len(), contents.cells(1).len()];
+    drop(contents);
     assert!(rt; celsius == 21);
     assert!(rt; values == 1);
     assert!(rt; cells == [3, 0]);
     assert!(rt; again == [0, 2]);
-    Ok(())
 }

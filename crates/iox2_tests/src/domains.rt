@@ -1,11 +1,12 @@
 use crate::fixtures::{SETTINGS, domain};
 use iox2_store::TypeVariant;
-use std::test::Fail;
 
 #[test]
-fn a_new_domain_has_its_settings(rt: HostRuntime) -> Result<(), Fail> {
-    let domain = domain(rt.alloc())?;
-    assert!(rt; *domain.config() == SETTINGS);
-    assert!(rt; domain.variant() == TypeVariant::FixedSize);
-    Ok(())
+fn a_new_domain_has_its_settings(rt: HostRuntime) {
+    let domain = domain(&rt, rt.alloc());
+    let is_alike = *domain.config() == SETTINGS;
+    let variant = domain.variant();
+    drop(domain);
+    assert!(rt; is_alike);
+    assert!(rt; variant == TypeVariant::FixedSize);
 }

@@ -2,56 +2,75 @@ use iox2_store::{
     ConnectionFailure, LoanError, PublisherCreateError, ReceiveError, SendError,
     SharedMemoryOpenError, SubscriberCreateError, ZeroCopyCreationError,
 };
-use std::test::Fail;
+use std::alloc::Global;
+use std::fmt::Display;
 
-#[test]
-fn errors_print_their_types_and_variants(rt: HostRuntime) -> Result<(), Fail> {
-    let text = LoanError::ExceedsMaxLoans.to_string(rt.alloc())?;
-    assert_eq!(rt; text.as_str(), "LoanError::ExceedsMaxLoans");
-    let text = SendError::UnableToDeliver.to_string(rt.alloc())?;
-    assert_eq!(rt; text.as_str(), "SendError::UnableToDeliver");
-    let text = ReceiveError::ExceedsMaxBorrows.to_string(rt.alloc())?;
-    assert_eq!(rt; text.as_str(), "ReceiveError::ExceedsMaxBorrows");
-    let text = PublisherCreateError::UnableToCreateDataSegment.to_string(rt.alloc())?;
-    assert_eq!(rt;
-        text.as_str(),
-        "PublisherCreateError::UnableToCreateDataSegment"
-    );
-    let text = SubscriberCreateError::FailedToDeployThreadsafetyPolicy.to_string(rt.alloc())?;
-    assert_eq!(rt;
-        text.as_str(),
-        "SubscriberCreateError::FailedToDeployThreadsafetyPolicy"
-    );
-    Ok(())
+// Whether the error prints so.
+fn prints<E: Display>(alloc: Global, error: &E, expected: &str) -> bool {
+    match error.to_string(alloc) {
+        Ok(text) => text.as_str() == expected,
+        Err(_) => false,
+    }
 }
 
 #[test]
-fn errors_print_their_causes_in_parentheses(rt: HostRuntime) -> Result<(), Fail> {
+fn errors_print_their_types_and_variants(rt: HostRuntime) {
+    let printed = [
+        prints(
+            rt.alloc(),
+            &LoanError::ExceedsMaxLoans,
+            "LoanError::ExceedsMaxLoans",
+        ),
+        prints(
+            rt.alloc(),
+            &SendError::UnableToDeliver,
+            "SendError::UnableToDeliver",
+        ),
+        prints(
+            rt.alloc(),
+            &ReceiveError::ExceedsMaxBorrows,
+            "ReceiveError::ExceedsMaxBorrows",
+        ),
+        prints(
+            rt.alloc(),
+            &PublisherCreateError::UnableToCreateDataSegment,
+            "PublisherCreateError::UnableToCreateDataSegment",
+        ),
+        prints(
+            rt.alloc(),
+            &SubscriberCreateError::FailedToDeployThreadsafetyPolicy,
+            "SubscriberCreateError::FailedToDeployThreadsafetyPolicy",
+        ),
+    ];
+    assert!(rt; printed == [true; 5]);
+}
+
+#[test]
+fn errors_print_their_causes_in_parentheses(rt: HostRuntime) {
     let refused = SendError::LoanError(LoanError::OutOfMemory);
-    let text = format!(in rt.alloc(); "err {refused}")?;
-    assert_eq!(rt; text.as_str(), "err SendError::LoanError(OutOfMemory)");
     let full = ConnectionFailure::FailedToEstablishConnection(
         ZeroCopyCreationError::ExpiredConnectionBufferFull,
-    );
-    let text = format!(in rt.alloc(); "{full}")?;
-    assert_eq!(rt;
-        text.as_str(),
-        "ConnectionFailure::FailedToEstablishConnection(ExpiredConnectionBufferFull)"
-    );
-    let failed = ReceiveError::ConnectionFailure(full);
-    let text = format!(in rt.alloc(); "{failed}")?;
-    assert_eq!(rt;
-        text.as_str(),
-        "ReceiveError::ConnectionFailure(FailedToEstablishConnection(ExpiredConnectionBufferFull))"
     );
     let unmapped = ConnectionFailure::UnableToMapSendersDataSegment(
         SharedMemoryOpenError::InternalError,
     );
-    let failed = SendError::ConnectionError(unmapped);
-    let text = format!(in rt.alloc(); "{failed}")?;
-    assert_eq!(rt;
-        text.as_str(),
-        "SendError::ConnectionError(UnableToMapSendersDataSegment(InternalError))"
-    );
-    Ok(())
+    let printed = [
+        prints(rt.alloc(), &refused, "SendError::LoanError(OutOfMemory)"),
+        prints(
+            rt.alloc(),
+            &full,
+            "ConnectionFailure::FailedToEstablishConnection(ExpiredConnectionBufferFull)",
+        ),
+        prints(
+            rt.alloc(),
+            &ReceiveError::ConnectionFailure(full),
+            "ReceiveError::ConnectionFailure(FailedToEstablishConnection(ExpiredConnectionBufferFull))",
+        ),
+        prints(
+            rt.alloc(),
+            &SendError::ConnectionError(unmapped),
+            "SendError::ConnectionError(UnableToMapSendersDataSegment(InternalError))",
+        ),
+    ];
+    assert!(rt; printed == [true; 4]);
 }

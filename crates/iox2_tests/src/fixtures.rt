@@ -1,8 +1,11 @@
 //! What several tests start from.
 
-use iox2_pubsub::{Domain, DomainCreateError, Publisher, SendOutcome};
+ghost use Rattle.iox2_pubsub.specs.Handles.{IsUnwrittenLoanHandle};
+
+use iox2_pubsub::{Domain, Publisher, SampleMutUninit, SendOutcome};
 use iox2_store::{AllocationStrategy, BackpressureStrategy, ServiceConfig, TypeVariant};
 use std::alloc::Global;
+use std::process::Abort;
 
 /// A payload that is neither `Copy` nor `Clone`.
 #[derive(Drop)]
@@ -34,8 +37,19 @@ pub(crate) const SETTINGS: ServiceConfig = ServiceConfig {
 };
 
 /// A domain with these settings.
-pub(crate) fn domain(alloc: Global) -> Result<Domain<Reading, Station>, DomainCreateError> {
-    Domain::new(alloc, SETTINGS)
+pub(crate) fn domain(rt: &impl Abort, alloc: Global) -> Domain<Reading, Station> {
+    Domain::new(alloc, SETTINGS).expect(rt, "a domain")
+}
+
+/// A loan of the domain's first publisher, which is made for it.
+pub(crate) fn lend(rt: &impl Abort, domain: &mut Domain<Reading, Station>) -> SampleMutUninit
+    ensures { IsUnwrittenLoanHandle domain.new result.service_id result.publisher result.number }
+{
+    let factory = domain.publisher_builder();
+    let publisher = factory.create(domain).expect(rt, "a publisher");
+    let loan = publisher.loan_uninit(domain).expect(rt, "a loan");
+    publisher.disown();
+    loan
 }
 
 /// Lends, writes and sends a message. `None` where the publisher may not lend.

@@ -1,50 +1,66 @@
-use crate::fixtures::domain;
+use crate::fixtures::{Reading, Station, domain, lend};
+use iox2_pubsub::{Domain, Publisher};
 use iox2_store::{Key, LoanError};
-use std::test::Fail;
 
-#[test]
-fn a_domain_holds_its_loan_alone(rt: HostRuntime) -> Result<(), Fail> {
-    let mut domain = domain(rt.alloc())?;
-    let publisher = domain.publisher_builder().create(&mut domain)?;
-    let port = publisher.key().port;
-    let loan = publisher.loan_uninit(&mut domain).expect(&rt, "a loan");
-    let key = loan.key();
-    loan.disown();
-    publisher.disown();
-    let elsewhere = Key {
-        service_id: 8,
-        ..key
-    };
-    let held = [
-        domain.holds_loan(key),
-        domain.holds_loan(elsewhere),
-        domain.holds_loan(Key { port: 2, ..key }),
-        domain.holds_loan(Key { message: 2, ..key }),
-    ];
-    assert!(rt; [key.service_id, key.port, key.message] == [7, port, 1]);
-    assert!(rt; held == [true, false, false, false]);
-    Ok(())
+const FIRST: Key = Key {
+    service_id: 7,
+    port: 1,
+    message: 1,
+};
+
+// The key of a loan that stays out. `None` where the domain doesn't hold the publisher.
+fn lent(
+    domain: &mut Domain<Reading, Station>,
+    publisher: &Publisher,
+) -> Option<Result<Key, LoanError>> {
+    if !domain.holds_publisher(publisher.key()) {
+        return None;
+    }
+    match publisher.loan_uninit(domain) {
+        Ok(loan) => {
+            let key = loan.key();
+            loan.disown();
+            Some(Ok(key))
+        }
+        Err(error) => Some(Err(error)),
+    }
 }
 
 #[test]
-fn a_publisher_lends_as_much_as_it_may(rt: HostRuntime) -> Result<(), Fail> {
-    let mut domain = domain(rt.alloc())?;
-    let factory = domain.publisher_builder().max_loaned_samples(1);
-    let publisher = factory.create(&mut domain)?;
-    let loan = publisher.loan_uninit(&mut domain).expect(&rt, "a loan");
+fn a_domain_holds_its_loan_alone(rt: HostRuntime) {
+    let mut domain = domain(&rt, rt.alloc());
+    let loan = lend(&rt, &mut domain);
     let key = loan.key();
     loan.disown();
-
-    assert!(rt; domain.holds_publisher(publisher.key()));
-    let refusal = match publisher.loan_uninit(&mut domain) {
-        Ok(second) => {
-            second.disown();
-            None
-        }
-        Err(error) => Some(error),
+    let elsewhere = Key {
+        service_id: 8,
+        ..FIRST
     };
+    let held = [
+        domain.holds_loan(FIRST),
+        domain.holds_loan(elsewhere),
+        domain.holds_loan(Key { port: 2, ..FIRST }),
+        domain.holds_loan(Key {
+            message: 2,
+            ..FIRST
+        }),
+    ];
+    drop(domain);
+    assert!(rt; key == FIRST);
+    assert!(rt; held == [true, false, false, false]);
+}
+
+#[test]
+fn a_publisher_lends_as_much_as_it_may(rt: HostRuntime) {
+    let mut domain = domain(&rt, rt.alloc());
+    let factory = domain.publisher_builder().max_loaned_samples(1);
+    let publisher = factory.create(&mut domain).expect(&rt, "a publisher");
+    let first = lent(&mut domain, &publisher);
+    let second = lent(&mut domain, &publisher);
     publisher.disown();
-    assert!(rt; refusal == Some(LoanError::ExceedsMaxLoans));
-    assert!(rt; domain.holds_loan(key));
-    Ok(())
+    let is_held = domain.holds_loan(FIRST);
+    drop(domain);
+    assert!(rt; first == Some(Ok(FIRST)));
+    assert!(rt; second == Some(Err(LoanError::ExceedsMaxLoans)));
+    assert!(rt; is_held);
 }

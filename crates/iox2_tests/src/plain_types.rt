@@ -46,27 +46,24 @@ fn a_header_answers_its_fields(rt: HostRuntime) {
     assert!(rt; !is_alike);
 }
 
+// Whether they are the settings of the fixtures.
+fn is_alike(settings: &ServiceConfig) -> bool {
+    *settings == SETTINGS
+}
+
 #[test]
 fn settings_compare_by_every_field(rt: HostRuntime) {
-    let other_service = ServiceConfig {
-        service_id: 2,
-        ..SETTINGS
-    };
-    let other_variant = ServiceConfig {
-        variant: TypeVariant::Dynamic,
-        ..SETTINGS
-    };
-    let other_strategy = ServiceConfig {
-        publisher_allocation_strategy: AllocationStrategy::BestFit,
-        ..SETTINGS
-    };
-    let copy = SETTINGS;
-    let alike = [
-        copy == SETTINGS,
-        other_service == SETTINGS,
-        other_variant == SETTINGS,
-        other_strategy == SETTINGS,
-    ];
+    let mut settings = SETTINGS;
+    let copy = is_alike(&settings);
+    settings.service_id = 2;
+    let other_service = is_alike(&settings);
+    settings.service_id = SETTINGS.service_id;
+    settings.variant = TypeVariant::Dynamic;
+    let other_variant = is_alike(&settings);
+    settings.variant = SETTINGS.variant;
+    settings.publisher_allocation_strategy = AllocationStrategy::BestFit;
+    let other_strategy = is_alike(&settings);
+    let alike = [copy, other_service, other_variant, other_strategy];
     assert!(rt; alike == [true, false, false, false]);
 }
 

@@ -5,7 +5,6 @@ use iox2_store::{
     AllocationStrategy, BackpressureStrategy, DegradationAction, UniquePublisherId,
     UniqueSubscriberId,
 };
-use std::test::Fail;
 
 const COMMANDS: [Command<u64, u8>; 9] = [
     Command::CreateSubscriber {
@@ -31,12 +30,12 @@ const COMMANDS: [Command<u64, u8>; 9] = [
 ];
 
 #[test]
-fn a_message_goes_from_its_loan_to_its_release(rt: HostRuntime) -> Result<(), Fail> {
-    let mut domain: Domain<u64, u8> = Domain::new(rt.alloc(), SETTINGS)?;
-    let commands = Vec::from_array(rt.alloc(), COMMANDS)?;
-    let replies = run(rt.alloc(), &mut domain, commands)
-        .ok()
-        .ok_or("no memory")?;
+fn a_message_goes_from_its_loan_to_its_release(rt: HostRuntime) {
+    let mut domain: Domain<u64, u8> = Domain::new(rt.alloc(), SETTINGS).expect(&rt, "a domain");
+    let commands = Vec::from_array(rt.alloc(), COMMANDS).expect(&rt, "commands");
+    let outcome = run(rt.alloc(), &mut domain, commands);
+    drop(domain);
+    let replies = outcome.ok().expect(&rt, "replies");
     let expected: [Reply<u64, u8>; 9] = [
         Reply::SubscriberMade(UniqueSubscriberId::new(1)),
         Reply::PublisherMade(UniquePublisherId::new(2)),
@@ -49,5 +48,4 @@ fn a_message_goes_from_its_loan_to_its_release(rt: HostRuntime) -> Result<(), Fa
         Reply::Done,
     ];
     assert!(rt; replies.as_slice() == expected.as_slice());
-    Ok(())
 }

@@ -1,62 +1,71 @@
-use crate::fixtures::{domain, publish};
-use std::test::Fail;
+ghost use Rattle.std.specs.Prelude.{IfSome};
+ghost use Rattle.iox2_pubsub.specs.Handles.{IsSampleHandle};
+
+use crate::fixtures::{Reading, Station, domain, publish};
+use iox2_pubsub::{Domain, Sample, Subscriber};
+use std::process::Abort;
+
+// A subscriber for which a message waits.
+fn subscribed(rt: &impl Abort, domain: &mut Domain<Reading, Station>) -> Subscriber {
+    let factory = domain.subscriber_builder();
+    let subscriber = factory.create(domain).expect(rt, "a subscriber");
+    let factory = domain.publisher_builder();
+    let publisher = factory.create(domain).expect(rt, "a publisher");
+    publish(domain, &publisher, 21);
+    publisher.disown();
+    subscriber
+}
+
+// What the subscriber receives next.
+fn received(
+    rt: &impl Abort,
+    domain: &mut Domain<Reading, Station>,
+    subscriber: &Subscriber,
+) -> Option<Sample>
+    ensures { IfSome result (λ sample. IsSampleHandle domain.new sample.service_id sample.subscriber sample.publisher sample.number) }
+{
+    assert!(rt; domain.holds_subscriber(subscriber.key()));
+    subscriber.receive(domain).expect(rt, "an answer")
+}
 
 #[test]
-fn a_sent_message_is_received_and_read(rt: HostRuntime) -> Result<(), Fail> {
-    let mut domain = domain(rt.alloc())?;
-    let subscriber = domain.subscriber_builder().create(&mut domain)?;
-    let factory = domain.publisher_builder();
-    let publisher = factory.create(&mut domain).expect(&rt, "a publisher");
-    let origin = publisher.id().value();
-    publish(&mut domain, &publisher, 21);
-    publisher.disown();
-
-    assert!(rt; domain.holds_subscriber(subscriber.key()));
-    let received = subscriber.receive(&mut domain).expect(&rt, "an answer");
+fn a_sent_message_is_received_and_read(rt: HostRuntime) {
+    let mut domain = domain(&rt, rt.alloc());
+    let subscriber = subscribed(&rt, &mut domain);
+    let sample = received(&rt, &mut domain, &subscriber).expect(&rt, "a sample");
     subscriber.disown();
-    let sample = received.expect(&rt, "a sample");
     assert!(rt; domain.config().units_per_element == 1);
     let celsius = sample.payload(&domain).celsius;
     let header = *sample.header(&domain);
     let origins = [sample.origin().value(), header.publisher_id.value()];
     sample.disown();
+    drop(domain);
     assert!(rt; celsius == 21);
-    assert!(rt; origins == [origin, origin]);
+    assert!(rt; origins == [2, 2]);
     assert!(rt; header.node_id.value() == 3);
     assert!(rt; header.number_of_elements() == 1);
-    Ok(())
 }
 
 #[test]
-fn a_sample_is_released(rt: HostRuntime) -> Result<(), Fail> {
-    let mut domain = domain(rt.alloc())?;
-    let subscriber = domain.subscriber_builder().create(&mut domain)?;
-    let factory = domain.publisher_builder();
-    let publisher = factory.create(&mut domain).expect(&rt, "a publisher");
-    publish(&mut domain, &publisher, 21);
-    publisher.disown();
-
+fn a_sample_is_released(rt: HostRuntime) {
+    let mut domain = domain(&rt, rt.alloc());
+    let subscriber = subscribed(&rt, &mut domain);
     let port = subscriber.id().value();
-    assert!(rt; domain.holds_subscriber(subscriber.key()));
-    let received = subscriber.receive(&mut domain).expect(&rt, "an answer");
-    let sample = received.expect(&rt, "a sample");
+    let sample = received(&rt, &mut domain, &subscriber).expect(&rt, "a sample");
     let key = sample.key();
     let before = domain.holds_sample(key);
     sample.release(&mut domain);
     let after = domain.holds_sample(key);
-
-    assert!(rt; domain.holds_subscriber(subscriber.key()));
-    let received = subscriber.receive(&mut domain).expect(&rt, "an answer");
-    subscriber.disown();
-    let is_last = match received {
+    let is_last = match received(&rt, &mut domain, &subscriber) {
         Some(second) => {
             second.disown();
             false
         }
         None => true,
     };
+    subscriber.disown();
+    drop(domain);
     assert!(rt; key.port == port);
     assert!(rt; [before, after] == [true, false]);
     assert!(rt; is_last);
-    Ok(())
 }

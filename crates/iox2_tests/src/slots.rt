@@ -1,5 +1,6 @@
 use iox2_store::{Header, SlotBook, SlotMark, UniqueNodeId, UniquePublisherId};
-use std::test::Fail;
+use std::alloc::Global;
+use std::process::Abort;
 
 // The header of a message with so many elements.
 fn header(elements: u64) -> Header {
@@ -10,66 +11,70 @@ fn header(elements: u64) -> Header {
     }
 }
 
+// A book of a publisher with so many slots.
+fn book(rt: &impl Abort, alloc: Global, slots: usize) -> SlotBook {
+    SlotBook::new(alloc, UniquePublisherId::new(3), slots).expect(rt, "a book")
+}
+
 #[test]
-fn as_many_slots_are_taken_as_there_are(rt: HostRuntime) -> Result<(), Fail> {
-    let mut book = SlotBook::new(rt.alloc(), UniquePublisherId::new(3), 2)?;
+fn as_many_slots_are_taken_as_there_are(rt: HostRuntime) {
+    let mut book = book(&rt, rt.alloc(), 2);
     let publisher = book.publisher().value();
     let slots = book.len();
-    let mut full = [false; 3];
-    full[0] = book.is_full();
+    let empty = book.is_full();
     let first = book.take(5, header(1));
-    full[1] = book.is_full();
+    let half = book.is_full();
     let second = book.take(6, header(2));
-    full[2] = book.is_full();
+    let full = book.is_full();
     let third = book.take(7, header(3));
+    drop(book);
     assert!(rt; publisher == 3);
     assert!(rt; slots == 2);
-    assert!(rt; full == [false, false, true]);
+    assert!(rt; [empty, half, full] == [false, false, true]);
     assert!(rt; first.is_some());
     assert!(rt; second.is_some());
     assert!(rt; first != second);
     assert!(rt; third == None);
-    Ok(())
 }
 
 #[test]
-fn slots_keep_what_their_messages_are(rt: HostRuntime) -> Result<(), Fail> {
-    let mut book = SlotBook::new(rt.alloc(), UniquePublisherId::new(3), 2)?;
-    let first = book.take(5, header(1)).ok_or("a free slot")?;
-    let second = book.take(6, header(2)).ok_or("another free slot")?;
+fn slots_keep_what_their_messages_are(rt: HostRuntime) {
+    let mut book = book(&rt, rt.alloc(), 2);
+    let first = book.take(5, header(1)).expect(&rt, "a free slot");
+    let second = book.take(6, header(2)).expect(&rt, "another free slot");
     let numbers = [book.number(first), book.number(second)];
     let elements = book.header(second).number_of_elements();
+    drop(book);
     assert!(rt; numbers == [5, 6]);
     assert!(rt; elements == 2);
-    Ok(())
 }
 
 #[test]
-fn a_slot_keeps_how_far_its_message_came(rt: HostRuntime) -> Result<(), Fail> {
-    let mut book = SlotBook::new(rt.alloc(), UniquePublisherId::new(3), 1)?;
-    let slot = book.take(5, header(1)).ok_or("a free slot")?;
+fn a_slot_keeps_how_far_its_message_came(rt: HostRuntime) {
+    let mut book = book(&rt, rt.alloc(), 1);
+    let slot = book.take(5, header(1)).expect(&rt, "a free slot");
     let before = book.mark(slot);
     book.set_mark(slot, SlotMark::Sent);
     let after = book.mark(slot);
+    drop(book);
     assert!(rt; before == SlotMark::Unwritten);
     assert!(rt; after == SlotMark::Sent);
-    Ok(())
 }
 
 #[test]
-fn a_slot_is_held_and_released(rt: HostRuntime) -> Result<(), Fail> {
-    let mut book = SlotBook::new(rt.alloc(), UniquePublisherId::new(3), 1)?;
+fn a_slot_is_held_and_released(rt: HostRuntime) {
+    let mut book = book(&rt, rt.alloc(), 1);
     let unused = book.is_unused();
-    let slot = book.take(5, header(1)).ok_or("a free slot")?;
+    let slot = book.take(5, header(1)).expect(&rt, "a free slot");
     book.hold(slot);
     let holders = book.holders(slot);
     let first = book.release(slot);
     let used = book.is_unused();
     let last = book.release(slot);
     let again = book.take(6, header(1));
+    drop(book);
     assert!(rt; holders == 2);
     assert!(rt; [first, last] == [false, true]);
     assert!(rt; [unused, used] == [true, false]);
     assert!(rt; again == Some(slot));
-    Ok(())
 }

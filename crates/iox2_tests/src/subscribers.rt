@@ -1,7 +1,6 @@
 use crate::fixtures::{Reading, Station, domain};
 use iox2_pubsub::Domain;
 use iox2_store::{Key, SubscriberCreateError};
-use std::test::Fail;
 
 const FIRST: Key = Key {
     service_id: 7,
@@ -25,24 +24,26 @@ fn refusal(
 }
 
 #[test]
-fn a_subscriber_has_the_first_id_and_the_largest_buffer(rt: HostRuntime) -> Result<(), Fail> {
-    let mut domain = domain(rt.alloc())?;
-    let subscriber = domain.subscriber_builder().create(&mut domain)?;
+fn a_subscriber_has_the_first_id_and_the_largest_buffer(rt: HostRuntime) {
+    let mut domain = domain(&rt, rt.alloc());
+    let factory = domain.subscriber_builder();
+    let subscriber = factory.create(&mut domain).expect(&rt, "a subscriber");
     let id = subscriber.id().value();
     let buffer_size = subscriber.buffer_size();
     let key = subscriber.key();
     subscriber.disown();
+    drop(domain);
     assert!(rt; id == 1);
     assert!(rt; buffer_size == 2);
     assert!(rt; key == FIRST);
-    Ok(())
 }
 
 #[test]
-fn a_domain_holds_its_subscriber_alone(rt: HostRuntime) -> Result<(), Fail> {
-    let mut domain = domain(rt.alloc())?;
+fn a_domain_holds_its_subscriber_alone(rt: HostRuntime) {
+    let mut domain = domain(&rt, rt.alloc());
     let before = domain.holds_subscriber(FIRST);
-    let subscriber = domain.subscriber_builder().create(&mut domain)?;
+    let factory = domain.subscriber_builder();
+    let subscriber = factory.create(&mut domain).expect(&rt, "a subscriber");
     subscriber.disown();
     let elsewhere = Key {
         service_id: 8,
@@ -58,45 +59,48 @@ fn a_domain_holds_its_subscriber_alone(rt: HostRuntime) -> Result<(), Fail> {
         domain.holds_subscriber(Key { port: 2, ..FIRST }),
         domain.holds_subscriber(message),
     ];
+    drop(domain);
     assert!(rt; !before);
     assert!(rt; held == [true, false, false, false]);
-    Ok(())
 }
 
 #[test]
-fn a_buffer_of_none_is_one_of_one(rt: HostRuntime) -> Result<(), Fail> {
-    let mut domain = domain(rt.alloc())?;
+fn a_buffer_of_none_is_one_of_one(rt: HostRuntime) {
+    let mut domain = domain(&rt, rt.alloc());
     let factory = domain.subscriber_builder().buffer_size(0);
-    let subscriber = factory.create(&mut domain)?;
+    let subscriber = factory.create(&mut domain).expect(&rt, "a subscriber");
     let buffer_size = subscriber.buffer_size();
     subscriber.disown();
+    drop(domain);
     assert!(rt; buffer_size == 1);
-    Ok(())
 }
 
 #[test]
-fn a_refused_subscriber_uses_up_no_id(rt: HostRuntime) -> Result<(), Fail> {
-    let mut domain = domain(rt.alloc())?;
+fn a_refused_subscriber_uses_up_no_id(rt: HostRuntime) {
+    let mut domain = domain(&rt, rt.alloc());
     let first = refusal(&mut domain, 3);
-    let subscriber = domain.subscriber_builder().create(&mut domain)?;
+    let factory = domain.subscriber_builder();
+    let subscriber = factory.create(&mut domain).expect(&rt, "a subscriber");
     let id = subscriber.id().value();
     subscriber.disown();
     let second = refusal(&mut domain, 2);
     let third = refusal(&mut domain, 3);
+    drop(domain);
     let too_large = SubscriberCreateError::BufferSizeExceedsMaxSupportedBufferSizeOfService;
     let too_many = SubscriberCreateError::ExceedsMaxSupportedSubscribers;
     assert!(rt; id == 1);
     assert!(rt; [first, second, third] == [Some(too_large), Some(too_many), Some(too_large)]);
-    Ok(())
 }
 
 #[test]
-fn ports_of_both_sides_share_their_ids(rt: HostRuntime) -> Result<(), Fail> {
-    let mut domain = domain(rt.alloc())?;
-    let publisher = domain.publisher_builder().create(&mut domain)?;
+fn ports_of_both_sides_share_their_ids(rt: HostRuntime) {
+    let mut domain = domain(&rt, rt.alloc());
+    let factory = domain.publisher_builder();
+    let publisher = factory.create(&mut domain).expect(&rt, "a publisher");
     let published = publisher.key();
     publisher.disown();
-    let subscriber = domain.subscriber_builder().create(&mut domain)?;
+    let factory = domain.subscriber_builder();
+    let subscriber = factory.create(&mut domain).expect(&rt, "a subscriber");
     let subscribed = subscriber.key();
     subscriber.disown();
     let publishers = [
@@ -107,22 +111,26 @@ fn ports_of_both_sides_share_their_ids(rt: HostRuntime) -> Result<(), Fail> {
         domain.holds_subscriber(published),
         domain.holds_subscriber(subscribed),
     ];
+    drop(domain);
     assert!(rt; [published.port, subscribed.port] == [1, 2]);
     assert!(rt; publishers == [true, false]);
     assert!(rt; subscribers == [false, true]);
-    Ok(())
 }
 
 #[test]
-fn a_creation_that_lacked_memory_used_up_no_id(rt: HostRuntime) -> Result<(), Fail> {
-    let mut domain = domain(rt.alloc())?;
+fn a_creation_that_lacked_memory_used_up_no_id(rt: HostRuntime) {
+    let mut domain = domain(&rt, rt.alloc());
+    let factory = domain.subscriber_builder();
     // Each allocation of the first try fails in turn where the tests run so.
-    let subscriber = match domain.subscriber_builder().create(&mut domain) {
+    let subscriber = match factory.create(&mut domain) {
         Ok(subscriber) => subscriber,
-        Err(_) => domain.subscriber_builder().create(&mut domain)?,
+        Err(_) => {
+            let again = domain.subscriber_builder();
+            again.create(&mut domain).expect(&rt, "a subscriber")
+        }
     };
     let id = subscriber.id().value();
     subscriber.disown();
+    drop(domain);
     assert!(rt; id == 1);
-    Ok(())
 }
