@@ -33,16 +33,17 @@ const CONFIG: ServiceConfig = ServiceConfig {
 
 #[test]
 fn a_message_goes_there_and_back(rt: HostRuntime) -> Result<(), Fail> {
+    let connection = Connection::new(rt.alloc(), HOME, 2, 1)?;
+    let mut book = SlotBook::new(rt.alloc(), UniquePublisherId::new(1), 1)?;
     let mut connections = Slab::new(rt.alloc());
     connections.reserve(1)?;
-    let key = connections.insert_reserved(Connection::new(rt.alloc(), HOME, 2, 1)?);
+    let key = connections.insert_reserved(connection);
     let places = [Some(key)];
     let header = Header {
         node_id: UniqueNodeId::new(1),
         publisher_id: UniquePublisherId::new(1),
         number_of_elements: 1,
     };
-    let mut book = SlotBook::new(rt.alloc(), UniquePublisherId::new(1), 1)?;
     let slot = book.take(1, header).unwrap();
     let receiver = ReceiverDetails {
         port_id: 2,
@@ -74,6 +75,8 @@ fn a_message_goes_there_and_back(rt: HostRuntime) -> Result<(), Fail> {
     reclaim_all(1, &mut connections, &mut book, &places);
     assert!(rt; slot < book.len());
     let reclaimed = book.holders(slot);
+    drop(connections);
+    drop(book);
     assert!(rt; outcome == DeliveryOutcome::Complete { count: 1 });
     assert!(rt; received == slot);
     assert!(rt; [delivered, reclaimed] == [2, 1]);

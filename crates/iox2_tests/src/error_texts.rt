@@ -13,6 +13,14 @@ fn prints<E: Display>(alloc: Global, error: &E, expected: &str) -> bool {
     }
 }
 
+// Whether the error prints so behind a word.
+fn prints_behind<E: Display>(alloc: Global, error: &E, expected: &str) -> bool {
+    match format!(in alloc; "err {error}") {
+        Ok(text) => text.as_str() == expected,
+        Err(_) => false,
+    }
+}
+
 #[test]
 fn errors_print_their_types_and_variants(rt: HostRuntime) {
     let printed = [
@@ -55,7 +63,11 @@ fn errors_print_their_causes_in_parentheses(rt: HostRuntime) {
         SharedMemoryOpenError::InternalError,
     );
     let printed = [
-        prints(rt.alloc(), &refused, "SendError::LoanError(OutOfMemory)"),
+        prints_behind(
+            rt.alloc(),
+            &refused,
+            "err SendError::LoanError(OutOfMemory)",
+        ),
         prints(
             rt.alloc(),
             &full,

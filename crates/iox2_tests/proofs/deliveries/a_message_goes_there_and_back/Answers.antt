@@ -33,14 +33,14 @@ covered-first old new key p home buffer limit holders empty u = record { at = λ
 
 pub deliver-outcome-requires-clause-covered : goal.deliver-outcome-requires-clause-covered
 deliver-outcome-requires-clause-covered g c =
-    covered-first c.reserve.new.self _ _ _ _ 2 1 _ (ap (λ (s : Slab Link). s.slots) c.reserve.ensures.rest_kept ∙ c.new-connections.ensures.empty) (rw c.in_ok-new.ensures at c.insert_reserved-key.ensures.updates)
+    covered-first c.reserve.new.self _ _ _ _ 2 1 _ (ap (λ (s : Slab Link). s.slots) c.reserve.ensures.rest_kept ∙ c.new-connections.ensures.empty) (rw c.in_ok-connection.ensures at c.insert_reserved-key.ensures.updates)
 
 pub reclaim_all-requires-clause-covered : goal.reclaim_all-requires-clause-covered
 reclaim_all-requires-clause-covered g c =
     IsCovered-follows 1 _ _ _ _
     (IsCovered-follows 1 _ _ _ _
     (IsCovered-follows 1 _ _ _ _
-    (covered-first c.reserve.new.self _ _ _ _ 2 1 _ (ap (λ (s : Slab Link). s.slots) c.reserve.ensures.rest_kept ∙ c.new-connections.ensures.empty) (rw c.in_ok-new.ensures at c.insert_reserved-key.ensures.updates))
+    (covered-first c.reserve.new.self _ _ _ _ 2 1 _ (ap (λ (s : Slab Link). s.slots) c.reserve.ensures.rest_kept ∙ c.new-connections.ensures.empty) (rw c.in_ok-connection.ensures at c.insert_reserved-key.ensures.updates))
     c.deliver-outcome.ensures.recounts.counters)
     (c.take-received.ensures.stands.follows 1 c.deliver-outcome.new.book.holders))
     (c.release.ensures.stands.follows 1 c.deliver-outcome.new.book.holders)
