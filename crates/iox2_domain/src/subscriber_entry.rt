@@ -1,5 +1,5 @@
 //! A subscriber enters a domain.
-ghost use Rattle.std.specs.Prelude.{◌≡◌, cond, nat_lt, slice_index_or, MatchResult};
+ghost use Rattle.std.specs.Prelude.{◌≡◌, cond, nat_lt, slice_index_or, IfOk, MatchResult};
 ghost use Rattle.circular_buffer.specs.Buffer.{buffer};
 ghost use Rattle.iox2_store.specs.Limits.{warning_limit};
 ghost use Rattle.iox2_store.specs.Environments.{fixed_handlers};
@@ -83,13 +83,15 @@ impl<T: Drop, U: Default + Drop> DomainState<T, U> {
         Ok(())
     }
 
-    /// A subscriber is made, and its connections with the publishers that are there.
+    /// A subscriber is made, and its connections with the publishers that are there. Answers its
+    /// place.
     ///
     /// Where it is refused nothing changes.
     pub fn create_subscriber(&mut self, asked: usize) -> Result<usize, SubscriberCreateError>
         requires { IsDomain self.old }
-        ensures { MatchResult result
-            (λ place. (s' : State T U) × CreateSubscriber fixed_handlers (state_of (kept_of self.old)) (asked_for asked) s' None × Reaches self.old self.new s')
+        ensures stands { IfOk result (λ place. (y : SubscriberFields) × (slice_index_or self.new.subscribers place None ≡ Some y) × (y.id ≡ self.old.next_port)) }
+        ensures step { MatchResult result
+            (λ _. (s' : State T U) × CreateSubscriber fixed_handlers (state_of (kept_of self.old)) (asked_for asked) s' None × Reaches self.old self.new s')
             (λ e. CreateSubscriber fixed_handlers (state_of (kept_of self.old)) (asked_for asked) (state_of (kept_of self.old)) (Some e) × (self.new ≡ self.old)) }
     {
         let place = self.place_for_subscriber(asked)?;

@@ -10,18 +10,18 @@ returns-in_err-place-clause-creates g c =
     let refused = err_from_is_err_and c.from_residual.result c.from_residual.ensures.1 in
     rw (refused.1, refused.2) (
     refused-shown {T = g.row.T.Denot} {U = g.row.U.Denot} c.domain.inside.state c.create_subscriber.new.self c.args.domain.now c.domain.view_is
-    (asked_for c.self.inside.buffer_size) c.args.self c.self.view_is c.in_err-place.field-0.0 c.in_err-place.ensures
+    (asked_for c.self.inside.buffer_size) c.args.self c.self.view_is c.in_err-place.field-0.0 c.in_err-place.ensures.step
     )
 
 pub returns-clause-creates : goal.returns-clause-creates
 returns-clause-creates g c =
     let size : c.max.result ≡ max 1 c.self.inside.buffer_size = grind (arith, c.max.ensures) in
     made-shown {T = g.row.T.Denot} {U = g.row.U.Denot} c.domain.inside.state c.create_subscriber.new.self c.args.domain.now c.domain.view_is
-    (asked_for c.self.inside.buffer_size) c.args.self c.self.view_is c.in_ok-place.ensures c.new-id.result c.max.result
+    (asked_for c.self.inside.buffer_size) c.args.self c.self.view_is c.in_ok-place.ensures.step c.new-id.result c.max.result
     (c.new-id.ensures ∙ c.next_port.ensures) size
 
 pub returns-clause-held : goal.returns-clause-held
 returns-clause-held g c =
-    made-held {T = g.row.T.Denot} {U = g.row.U.Denot} c.domain.inside.state c.create_subscriber.new.self (asked_for c.self.inside.buffer_size) c.in_ok-place.ensures _ c.new-id.result
+    made-held {T = g.row.T.Denot} {U = g.row.U.Denot} c.domain.inside.state c.create_subscriber.new.self (asked_for c.self.inside.buffer_size) c.in_ok-place.ensures.step _ c.new-id.result
     (ap (λ (config : ServiceConfig). config.service_id) c.config.ensures)
     (c.new-id.ensures ∙ c.next_port.ensures)
