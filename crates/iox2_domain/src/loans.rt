@@ -46,7 +46,11 @@ impl<T: Drop, U: Default + Drop> DomainState<T, U> {
     ghost use Rattle.iox2_domain.specs.Invariant.{IsDomain};
 
     /// The publisher at a place lends a slot for a single value, with a default user header, and
-    /// answers which. A loan that is refused changes nothing that can be seen. It takes no memory.
+    /// answers which. It takes no memory.
+    ///
+    /// `ExceedsMaxLoans` where as many loans are out as the publisher may have, then `OutOfMemory`
+    /// where each of its slots is held, then `InternalFailure` where no message number is left.
+    /// Nothing changes then that can be seen.
     pub fn loan(&mut self, place: usize) -> Result<usize, LoanError>
         requires agrees { IsDomain self.old }
         requires stands { (x : PublisherFields) × (slice_index_or self.old.publishers place None ≡ Some x) }

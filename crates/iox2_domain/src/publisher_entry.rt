@@ -84,7 +84,14 @@ impl<T: Drop, U: Default + Drop> DomainState<T, U> {
         Ok(())
     }
 
-    /// Makes a publisher, and connects it with the subscribers that there are. Answers its place.
+    /// Makes a publisher that may have so many loans out, and connects it with the subscribers that
+    /// there are. Answers its place.
+    ///
+    /// `UnableToCreatePortTag` where no id is left, then `ExceedsMaxSupportedPublishers` where no
+    /// place is free, then `UnableToCreateDataSegment` where the segment's size doesn't fit `usize`.
+    /// After that `UnableToCreateDataSegment` or `FailedToDeployThreadsafetyPolicy` where memory for
+    /// the segment or for the port is refused. No id is used then, and nothing changes that can be
+    /// seen.
     pub fn create_publisher(
         &mut self,
         max_loaned_samples: usize,

@@ -10,9 +10,13 @@ use iox2_store::ReceiveError;
 /// A message that was received: whose it is, its number, and where it lies.
 #[derive(Clone, Copy)]
 pub struct Receipt {
+    /// The id of the publisher that sent it.
     pub publisher: u128,
+    /// Its number.
     pub number: u128,
+    /// The key of the connection that it came by.
     pub connection: usize,
+    /// Its slot in the publisher's book.
     pub slot: usize,
 }
 
@@ -60,8 +64,11 @@ impl<T: Drop, U: Default + Drop> DomainState<T, U> {
         }
     }
 
-    /// The subscriber at a place is updated, and then borrows a message, if one waits of which it may
-    /// borrow one more.
+    /// The subscriber at a place is updated, and then borrows the message that has waited longest in
+    /// some connection. `None` where no message waits.
+    ///
+    /// `ExceedsMaxBorrows` where messages wait, but only where as many are borrowed as may be. The
+    /// update stands then.
     pub fn receive_at(&mut self, place: usize) -> Result<Option<Receipt>, ReceiveError>
         requires agrees { IsDomain self.old }
         requires stands { (y : SubscriberFields) × (slice_index_or self.old.subscribers place None ≡ Some y) }
@@ -72,7 +79,7 @@ impl<T: Drop, U: Default + Drop> DomainState<T, U> {
     }
 
     /// The subscriber gives back a message that it has borrowed, which is looked for at the hints
-    /// first.
+    /// first. Its slot is free again once the publisher reclaims it and nobody else holds it.
     pub fn give_back(
         &mut self,
         subscriber: u128,

@@ -13,7 +13,7 @@ use std::marker::Model;
 // So many warnings are kept.
 const WARNING_LIMIT: usize = 32;
 
-/// All that a domain keeps.
+/// All that a domain keeps. Each call asks that its fields agree (`IsDomain`) and leaves them so.
 #[derive(Drop)]
 pub struct DomainState<T, U> {
     pub(crate) alloc: Global,
@@ -50,7 +50,7 @@ impl<T, U> Model for DomainState<T, U> {
 }
 
 impl<T: Drop, U: Default + Drop> DomainState<T, U> {
-    /// No port, connection or message.
+    /// No port, connection or message. Fails where memory for the warnings is refused.
     pub fn new(alloc: Global, config: ServiceConfig) -> Result<Self, AllocError>
         ensures { IfOk result (IsFresh config) }
     {

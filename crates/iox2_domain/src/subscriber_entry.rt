@@ -83,10 +83,13 @@ impl<T: Drop, U: Default + Drop> DomainState<T, U> {
         Ok(())
     }
 
-    /// A subscriber is made, and its connections with the publishers that are there. Answers its
-    /// place.
+    /// Makes a subscriber with a buffer of that size, at least 1, and connects it with the publishers
+    /// that there are. Answers its place.
     ///
-    /// Where it is refused nothing changes.
+    /// `UnableToCreatePortTag` where no id is left, then
+    /// `BufferSizeExceedsMaxSupportedBufferSizeOfService`, then `ExceedsMaxSupportedSubscribers`
+    /// where no place is free, then `FailedToDeployThreadsafetyPolicy` where memory is refused.
+    /// Nothing changes then.
     pub fn create_subscriber(&mut self, asked: usize) -> Result<usize, SubscriberCreateError>
         requires { IsDomain self.old }
         ensures stands { IfOk result (λ place. (y : SubscriberFields) × (slice_index_or self.new.subscribers place None ≡ Some y) × (y.id ≡ self.old.next_port)) }
