@@ -5,7 +5,7 @@ use Rattle.std.specs.declared.option.Option.TheVariants.{None, Some}
 use Rattle.std.specs.Option.{MatchOption}
 use Rattle.std.specs.Prelude.{IsSomeAnd}
 use Rattle.std.specs.List.{All}
-use Rattle.std.proofs.lemmas.List.{length-map}
+use Rattle.std.proofs.lemmas.List.{length-map, get_or-set_same}
 use Rattle.slab.specs.Slab.{get, with_value}
 use Rattle.iox2_store.specs.Limits.{last_number}
 use Rattle.iox2_store.specs.Loans.{is_static, loan_granted, GrantLoan}
@@ -17,20 +17,24 @@ use Rattle.iox2_store.specs.State.{State, held}
 use Rattle.iox2_store.specs.declared.errors.LoanError.{LoanError}
 use Rattle.iox2_store.specs.declared.errors.LoanError.TheVariants.{OutOfMemory, ExceedsMaxLoans, InternalFailure}
 use Rattle.iox2_ends.specs.Receivers.{HasReclaimed}
+use Rattle.iox2_ends.proofs.MailboxChanges.{within_if_some}
 use Rattle.iox2_store.specs.Environments.{ample_memory}
 use Rattle.iox2_domain.specs.Ports.{PublisherFields}
-use Rattle.iox2_domain.specs.Kept.{state_of}
-use Rattle.iox2_domain.specs.Fields.{Fields, kept_of, publisher_of, numbers_of}
+use Rattle.iox2_domain.specs.Kept.{Lent_message, state_of}
+use Rattle.iox2_domain.specs.Fields.{Fields, kept_of, publisher_of, numbers_of, contents_at}
 use Rattle.iox2_domain.specs.Invariant.{IsDomain}
 use Rattle.iox2_domain.specs.Lending.{with_taken_slot, header_for, lending, CanLend, LoanDecided, Lends}
+use Rattle.iox2_domain.specs.LoanSlots.{IsLoanSlot, LiesInSlot}
 use Rattle.iox2_domain.specs.Reaches.{Reaches}
 use Rattle.iox2_domain.proofs.ConnectionEnds.{publisher-stands}
+use Rattle.iox2_domain.proofs.LoanSlots.{lies-in-slot, loan-lent as lent-slot}
+use Rattle.iox2_domain.proofs.Messages.{message_in-parts, message_at-slot}
 use Rattle.iox2_domain.proofs.HeldSlots.{its_book, size-full, size-free}
 use Rattle.iox2_domain.proofs.LendingSteps.{contents-of}
 use Rattle.iox2_domain.proofs.PublisherBooks.{book-own}
 use Rattle.iox2_domain.proofs.Parts.{parts_of}
-use Rattle.iox2_domain.proofs.Taken.{CanTake}
-use Rattle.iox2_domain.proofs.Granted.{with_granted, lends-limited, lends-full, lends-failed, lends-granted}
+use Rattle.iox2_domain.proofs.Taken.{CanTake, taken_book, taken_books, begun_contents, lent, taken-stands, lent-lies}
+use Rattle.iox2_domain.proofs.Granted.{lender, with_granted, lends-limited, lends-full, lends-failed, lends-granted}
 use Rattle.iox2_domain.proofs.GrantedAgrees.{granted-reaches}
 
 -- where not each slot has a holder some slot is free
@@ -163,3 +167,21 @@ module _ {T U : Type 0} (f : Fields T U) (sound : IsDomain f) (i : ℕ) (x : Pub
     lent-grants =
         lends-granted ample_memory user_header state x.id machine here (few_numbers reclaimed few lends.book lends.stood) (sound.plain i x at).allocation
         (some_room reclaimed few lends.book lends.stood slot lends.within lends.free) more
+
+    -- the loan lies in the slot
+    pub lent-in_slot : LiesInSlot new x.id f.next_message x.book slot
+    lent-in_slot = subst (λ (g : Fields T U). LiesInSlot g x.id f.next_message x.book slot) (sym new-is)
+        (lies-in-slot (with_granted f sound i x at slot can user_header) (granted-reaches f sound i x at slot can user_header reclaimed few more).agrees
+        i (lender f sound i x at slot can user_header) (taken_book f sound x slot can user_header) slot f.next_message
+        (get_or-set_same f.publishers i (Some (lender f sound i x at slot can user_header)) None (within_if_some f.publishers i x at))
+        (taken-stands f sound x slot can user_header) is-loan)
+      where
+        lies : List (ContentState T U)
+        lies = contents_at (begun_contents f sound x slot can user_header) x.book
+
+        is-loan : IsLoanSlot (taken_book f sound x slot can user_header) slot f.next_message
+        is-loan =
+            (lent-slot (taken_book f sound x slot can user_header) lies slot f.next_message (lent f sound x slot can user_header)
+            (message_in-parts (taken_book f sound x slot can user_header) lies slot (Lent_message f.next_message (lent f sound x slot can user_header))
+            (sym (message_at-slot (begun_contents f sound x slot can user_header) (taken_books f sound x slot can user_header) x.book slot
+            (taken_book f sound x slot can user_header) (taken-stands f sound x slot can user_header)) ∙ lent-lies f sound x slot can user_header))).0

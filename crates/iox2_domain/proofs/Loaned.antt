@@ -14,10 +14,11 @@ use Rattle.iox2_domain.specs.Kept.{state_of}
 use Rattle.iox2_domain.specs.Fields.{Fields, kept_of, publisher_of}
 use Rattle.iox2_domain.specs.Invariant.{IsDomain}
 use Rattle.iox2_domain.specs.Lending.{CanLend, LoanDecided, Lends, LoanReaches}
+use Rattle.iox2_domain.specs.LoanSlots.{LiesInSlot}
 use Rattle.iox2_domain.specs.Reaches.{Reaches}
 use Rattle.iox2_domain.proofs.ConnectionEnds.{publisher-stands}
 use Rattle.iox2_domain.proofs.ReachesShows.{reaches-then}
-use Rattle.iox2_domain.proofs.Lent.{lent-reaches, lent-grants}
+use Rattle.iox2_domain.proofs.Lent.{lent-reaches, lent-grants, lent-in_slot}
 
 module _ {T U : Type 0} (is_default : U → Type 0) (f mid : Fields T U) (sound : IsDomain f) (i : ℕ) (stands : (x : PublisherFields) × (get_or f.publishers i None ≡ Some x))
     (reached : Reaches f mid (state_of (kept_of f))) (same : mid.publishers ≡ f.publishers) where
@@ -77,3 +78,26 @@ module _ {T U : Type 0} (is_default : U → Type 0) (f mid : Fields T U) (sound 
             lent-grants mid reached.agrees i x at_mid (reclaimed x stands.1) few can.more is_default slot new its,
             lent-reaches mid reached.agrees i x at_mid (reclaimed x stands.1) few can.more is_default slot new its,
           ))
+
+  -- the loan lies in the slot that is lent
+  pub loan-lies : (reclaimed : (z : PublisherFields) → get_or f.publishers i None ≡ Some z → HasReclaimed mid.connections z.places) → LoanDecided mid i None → (slot : ℕ) (new : Fields T U)
+      → IsSomeAnd (get_or mid.publishers i None) (λ z. Lends is_default mid i z slot new)
+      → IsSomeAnd (get_or f.publishers i None) (λ z. (key : ℕ) × LiesInSlot new z.id f.next_message key slot)
+  loan-lies reclaimed free slot new lends =
+      subst (λ (o : Option PublisherFields). IsSomeAnd o (λ z. (key : ℕ) × LiesInSlot new z.id f.next_message key slot)) (sym stands.1) (
+        x.book,
+        subst (λ (n : ℕ). LiesInSlot new x.id n x.book slot) (ap (λ (s : State T U). s.next_message) reached.state)
+            (lent-in_slot mid reached.agrees i x at_mid (reclaimed x stands.1) few can.more is_default slot new its),
+      )
+    where
+      its : Lends is_default mid i x slot new
+      its = subst (λ (o : Option PublisherFields). IsSomeAnd o (λ z. Lends is_default mid i z slot new)) at_mid lends
+
+      can : CanLend mid i
+      can = may-lend free
+
+      few : length x.loans < x.max_loaned_samples
+      few =
+          let found : Some can.publisher ≡ Some x = sym can.stands ∙ at_mid in
+          let is : can.publisher ≡ x = cc in
+          subst (λ (z : PublisherFields). length z.loans < z.max_loaned_samples) is can.few

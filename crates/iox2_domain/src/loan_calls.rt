@@ -1,5 +1,5 @@
 //! Calls on a loan that is out.
-ghost use Rattle.std.specs.Prelude.{◌≡◌, length, IsSomeAnd};
+ghost use Rattle.std.specs.Prelude.{◌≡◌, ℕ, length, IsSomeAnd};
 ghost use Rattle.std.specs.Option.{option_map};
 ghost use Rattle.iox2_store.specs.SlotContents.{SomeAt, with_changed, written_content};
 
@@ -13,6 +13,7 @@ impl<T: Drop, U: Default + Drop> DomainState<T, U> {
     ghost use Rattle.iox2_domain.specs.Fields.{kept_of};
     ghost use Rattle.iox2_domain.specs.Invariant.{IsDomain};
     ghost use Rattle.iox2_domain.specs.LoanCalls.{HoldsUnwritten, HoldsWritten, HasCell, HasLoanHeader, CanWrite, WritesSlot, WritesLoan};
+    ghost use Rattle.iox2_domain.specs.LoanSlots.{LiesInSlot};
 
     /// Writes the value of a publisher's unwritten loan of one element, and answers the slot in
     /// which it lies. It is looked for in the slot `hint` first.
@@ -20,7 +21,8 @@ impl<T: Drop, U: Default + Drop> DomainState<T, U> {
         requires agrees { IsDomain self.old }
         requires single { (self.old.config).units_per_element ≡ 1 }
         requires held { HoldsUnwritten (state_of (kept_of self.old)) publisher number }
-        ensures { WritesLoan self.old self.new number value }
+        ensures writes { WritesLoan self.old self.new number value }
+        ensures lies { (key : ℕ) × LiesInSlot self.old publisher number key result }
     {
         let Some((key, slot)) = self.find_loan(publisher, number, hint) else {
             unreachable!()

@@ -1,9 +1,10 @@
 //! A publisher lends the slots of its book.
-ghost use Rattle.std.specs.Prelude.{◌≡◌, ◌<◌, ◌≤◌, length, slice_index_or, None, Some, IsSomeAnd};
+ghost use Rattle.std.specs.Prelude.{◌≡◌, ◌<◌, ◌≤◌, ℕ, length, slice_index_or, None, Some, IfOk, IsSomeAnd};
 ghost use Rattle.std.specs.Option.{option_map};
 ghost use Rattle.iox2_store.specs.SlotContents.{SomeAt};
 ghost use Rattle.iox2_ends.specs.Receivers.{HasReclaimed};
 ghost use Rattle.iox2_domain.specs.Lending.{lending, Starts, CanLend, LoanDecided, Lends, LoanReaches};
+ghost use Rattle.iox2_domain.specs.LoanSlots.{LiesInSlot};
 
 use crate::publisher_state::PublisherState;
 use crate::state::DomainState;
@@ -54,7 +55,8 @@ impl<T: Drop, U: Default + Drop> DomainState<T, U> {
     pub fn loan(&mut self, place: usize) -> Result<usize, LoanError>
         requires agrees { IsDomain self.old }
         requires stands { (x : PublisherFields) × (slice_index_or self.old.publishers place None ≡ Some x) }
-        ensures { IsSomeAnd (slice_index_or self.old.publishers place None) (λ x. LoanReaches U.is_default self.old x result self.new) }
+        ensures reaches { IsSomeAnd (slice_index_or self.old.publishers place None) (λ x. LoanReaches U.is_default self.old x result self.new) }
+        ensures lies { IfOk result (λ slot. IsSomeAnd (slice_index_or self.old.publishers place None) (λ x. (key : ℕ) × LiesInSlot self.new x.id self.old.next_message key slot)) }
     {
         self.reclaim(place);
         if let Some(refusal) = self.loan_refusal(place) {

@@ -9,8 +9,11 @@ write_slot-requires g c =
     can-write {T = g.row.T.Denot} {U = g.row.U.Denot} c.args.self.now c.requires.agrees c.args.publisher c.args.number c.in-Some.key c.in-Some.slot c.in-Some.ensures
     c.requires.single (is-unwritten c.args.self.now c.requires.agrees c.args.publisher c.args.number c.in-Some.key c.in-Some.slot c.in-Some.ensures c.requires.held)
 
-pub returns : goal.returns
-returns g c =
+pub returns-clause-lies : goal.returns-clause-lies
+returns-clause-lies g c = (c.in-Some.key, c.in-Some.ensures)
+
+pub returns-clause-writes : goal.returns-clause-writes
+returns-clause-writes g c =
     write-done {T = g.row.T.Denot} {U = g.row.U.Denot} c.args.self.now c.requires.agrees c.args.publisher c.args.number c.in-Some.key c.in-Some.slot c.in-Some.ensures
     c.requires.single (is-unwritten c.args.self.now c.requires.agrees c.args.publisher c.args.number c.in-Some.key c.in-Some.slot c.in-Some.ensures c.requires.held)
     c.write_slot.new.self c.args.value c.write_slot.ensures

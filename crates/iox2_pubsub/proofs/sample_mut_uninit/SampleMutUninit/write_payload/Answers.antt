@@ -9,9 +9,9 @@ write_loan-slot-requires-clause-held g c =
 pub returns-clause-written : goal.returns-clause-written
 returns-clause-written g c =
     write-shown {T = g.row.T.Denot} {U = g.row.U.Denot} c.domain.inside.state c.write_loan-slot.new.self c.args.domain.now c.domain.view_is
-    c.args.self.number c.args.value c.write_loan-slot.ensures
+    c.args.self.number c.args.value c.write_loan-slot.ensures.writes
 
 pub returns-clause-held : goal.returns-clause-held
 returns-clause-held g c =
     write-held {T = g.row.T.Denot} {U = g.row.U.Denot} c.domain.inside.state c.write_loan-slot.new.self c.args.domain.now c.domain.view_is
-    c.args.self.number c.args.value c.write_loan-slot.ensures c.args.self.service_id c.args.self.publisher c.requires.held
+    c.args.self.number c.args.value c.write_loan-slot.ensures.writes c.args.self.service_id c.args.self.publisher c.requires.held
