@@ -2,25 +2,45 @@ mod streams;
 
 use super::script;
 use std::alloc::Global;
+use std::io::Read;
+use std::process::Abort;
 use std::test::Fail;
 use streams::{Dribble, Narrow, NoFlush};
 
 /// What a script comes to.
 #[derive(Drop)]
-struct Outcome {
+struct Outcome<'a> {
+    text: &'a [u8],
     status: u8,
     replies: Vec<u8>,
     errors: Vec<u8>,
 }
 
-fn outcome_of(alloc: Global, mut text: &[u8]) -> Outcome {
-    let mut replies = Vec::new(alloc);
-    let mut errors = Vec::new(alloc);
-    let status = script(alloc, &mut text, &mut replies, &mut errors);
-    Outcome {
-        status,
-        replies,
-        errors,
+impl<'a> Outcome<'a> {
+    /// Runs a script that stands in a slice.
+    fn of(alloc: Global, text: &'a [u8]) -> Self {
+        let mut input = text;
+        Outcome::of_input(alloc, text, &mut input)
+    }
+
+    /// Runs a script of which `input` gives the text.
+    fn of_input<R: Read>(alloc: Global, text: &'a [u8], input: &mut R) -> Self {
+        let mut replies = Vec::new(alloc);
+        let mut errors = Vec::new(alloc);
+        let status = script(alloc, input, &mut replies, &mut errors);
+        Outcome {
+            text,
+            status,
+            replies,
+            errors,
+        }
+    }
+
+    /// Asserts the status and what was written to both streams.
+    fn assert(&self, rt: &impl Abort, status: u8, replies: &[u8], errors: &[u8]) {
+        assert_eq!(rt; self.status, status, "at {:?}", self.text);
+        assert_eq!(rt; self.replies.as_slice(), replies, "at {:?}", self.text);
+        assert_eq!(rt; self.errors.as_slice(), errors, "at {:?}", self.text);
     }
 }
 
@@ -63,10 +83,7 @@ skipped
 
 #[test]
 fn a_message_is_sent_received_and_released(rt: HostRuntime) {
-    let outcome = outcome_of(rt.alloc(), WORKED);
-    assert_eq!(rt; outcome.status, 0);
-    assert_eq!(rt; outcome.replies.as_slice(), WORKED_REPLIES);
-    assert_eq!(rt; outcome.errors.as_slice(), b"".as_slice());
+    Outcome::of(rt.alloc(), WORKED).assert(&rt, 0, WORKED_REPLIES, b"");
 }
 
 #[test]
@@ -76,10 +93,7 @@ fn a_domain_line_alone_prints_nothing(rt: HostRuntime) {
         b"domain 1 1 1 1 0 0 keep".as_slice(),
         b"  domain   01 001 0 0 00 18446744073709551615 keep \r\n".as_slice(),
     ] {
-        let outcome = outcome_of(rt.alloc(), text);
-        assert_eq!(rt; outcome.status, 0, "at {text:?}");
-        assert_eq!(rt; outcome.replies.as_slice(), b"".as_slice());
-        assert_eq!(rt; outcome.errors.as_slice(), b"".as_slice());
+        Outcome::of(rt.alloc(), text).assert(&rt, 0, b"", b"");
     }
 }
 
@@ -109,13 +123,7 @@ fn the_first_line_is_a_domain_line(rt: HostRuntime) {
         b"domain 1 1 1 1 1 0 keep\n".as_slice(),
         b"domain 1 1 1 1 0 0 overflow\n".as_slice(),
     ] {
-        let outcome = outcome_of(rt.alloc(), text);
-        assert_eq!(rt; outcome.status, 2, "at {text:?}");
-        assert_eq!(rt; outcome.replies.as_slice(), b"".as_slice());
-        assert_eq!(rt;
-            outcome.errors.as_slice(),
-            b"line 1: bad command\n".as_slice()
-        );
+        Outcome::of(rt.alloc(), text).assert(&rt, 2, b"", b"line 1: bad command\n");
     }
 }
 
@@ -179,30 +187,24 @@ fn a_malformed_line_is_named(rt: HostRuntime) -> Result<(), Fail> {
         text.extend_from_slice(b"domain 1 1 1 1 0 0 keep\nsub 1\r\n")?;
         text.extend_from_slice(line)?;
         text.extend_from_slice(b"\r\nsub x")?;
-        let outcome = outcome_of(rt.alloc(), text.as_slice());
-        assert_eq!(rt; outcome.status, 2, "at {line:?}");
-        assert_eq!(rt; outcome.replies.as_slice(), b"".as_slice());
-        assert_eq!(rt;
-            outcome.errors.as_slice(),
-            b"line 3: bad command\n".as_slice()
-        );
+        Outcome::of(rt.alloc(), text.as_slice()).assert(&rt, 2, b"", b"line 3: bad command\n");
     }
     Ok(())
 }
 
 #[test]
 fn an_unterminated_last_line_keeps_its_carriage_return(rt: HostRuntime) {
-    let outcome = outcome_of(rt.alloc(), b"domain 1 1 1 1 0 0 keep\nloan 0\r");
-    assert_eq!(rt; outcome.status, 2);
-    assert_eq!(rt;
-        outcome.errors.as_slice(),
-        b"line 2: bad command\n".as_slice()
+    Outcome::of(rt.alloc(), b"domain 1 1 1 1 0 0 keep\nloan 0\r").assert(
+        &rt,
+        2,
+        b"",
+        b"line 2: bad command\n",
     );
 }
 
 #[test]
 fn a_number_that_names_nothing_is_skipped(rt: HostRuntime) {
-    for line in [
+    for text in [
         b"domain 1 1 1 1 0 0 keep\nloan 0".as_slice(),
         b"domain 1 1 1 1 0 0 keep\nloan 1\n".as_slice(),
         b"domain 1 1 1 1 0 0 keep\n  send   02 \n".as_slice(),
@@ -211,22 +213,14 @@ fn a_number_that_names_nothing_is_skipped(rt: HostRuntime) {
         b"domain 1 1 1 1 0 0 keep\nread 00000000000000000000000000001".as_slice(),
         b"domain 1 1 1 1 0 0 keep\nrelease 1".as_slice(),
     ] {
-        let outcome = outcome_of(rt.alloc(), line);
-        assert_eq!(rt; outcome.status, 0, "at {line:?}");
-        assert_eq!(rt; outcome.replies.as_slice(), b"skipped\n".as_slice());
-        assert_eq!(rt; outcome.errors.as_slice(), b"".as_slice());
+        Outcome::of(rt.alloc(), text).assert(&rt, 0, b"skipped\n", b"");
     }
 }
 
 #[test]
 fn a_script_may_come_in_pieces(rt: HostRuntime) {
     let mut input = Dribble::new(WORKED, None);
-    let mut replies = Vec::new(rt.alloc());
-    let mut errors = Vec::new(rt.alloc());
-    let status = script(rt.alloc(), &mut input, &mut replies, &mut errors);
-    assert_eq!(rt; status, 0);
-    assert_eq!(rt; replies.as_slice(), WORKED_REPLIES);
-    assert_eq!(rt; errors.as_slice(), b"".as_slice());
+    Outcome::of_input(rt.alloc(), WORKED, &mut input).assert(&rt, 0, WORKED_REPLIES, b"");
 }
 
 #[test]
@@ -238,12 +232,7 @@ fn a_fault_of_the_input_comes_first(rt: HostRuntime) {
         (b"bad\n".as_slice(), 4),
     ] {
         let mut input = Dribble::new(text, Some(most));
-        let mut replies = Vec::new(rt.alloc());
-        let mut errors = Vec::new(rt.alloc());
-        let status = script(rt.alloc(), &mut input, &mut replies, &mut errors);
-        assert_eq!(rt; status, 4, "after {most}");
-        assert_eq!(rt; replies.as_slice(), b"".as_slice());
-        assert_eq!(rt; errors.as_slice(), b"input failed\n".as_slice());
+        Outcome::of_input(rt.alloc(), text, &mut input).assert(&rt, 4, b"", b"input failed\n");
     }
 }
 
@@ -254,9 +243,10 @@ fn a_fault_of_the_output_ends_the_printing(rt: HostRuntime) {
         let mut output = Narrow::new(room);
         let mut errors = Vec::new(rt.alloc());
         let status = script(rt.alloc(), &mut input, &mut output, &mut errors);
-        assert_eq!(rt; status, 4, "with room for {room}");
-        assert_eq!(rt; output.room(), 0);
-        assert_eq!(rt; errors.as_slice(), b"output failed\n".as_slice());
+        assert!(rt;
+            status == 4 && output.room() == 0 && errors.as_slice() == b"output failed\n".as_slice(),
+            "with room for {room}"
+        );
     }
     let mut input = WORKED;
     let mut errors = Vec::new(rt.alloc());
