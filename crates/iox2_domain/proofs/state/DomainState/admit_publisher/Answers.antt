@@ -9,8 +9,12 @@ use Rattle.iox2_domain.specs.Ports.{PublisherFields}
 use Rattle.iox2_domain.specs.Fields.{Fields}
 use Rattle.iox2_domain.specs.Placed.{placed}
 use Rattle.iox2_domain.proofs.Placed.{placed-here}
+use Rattle.iox2_domain.proofs.ReachesShows.{reaches-same}
 use Rattle.iox2_domain.proofs.PublisherEntries.{entered-reaches-as, room-reaches, numbered-low}
 use Rattle.iox2_domain.proofs.state.DomainState.admit_publisher.Goals as goal
+
+pub returns-in_default-entering-clause-step : goal.returns-in_default-entering-clause-step
+returns-in_default-entering-clause-step g c = (reaches-same c.args.self.now c.requires.agrees, inr refl)
 
 pub returns-in_default-try_reserve-clause-step : goal.returns-in_default-try_reserve-clause-step
 returns-in_default-try_reserve-clause-step g c = (

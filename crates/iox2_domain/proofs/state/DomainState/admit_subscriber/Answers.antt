@@ -1,10 +1,13 @@
-use Rattle.std.proofs.Common.{◌≡◌, ◌∙◌, max, ap, map, arith}
+use Rattle.std.proofs.Common.{◌≡◌, ◌∙◌, max, ap, map, refl, arith}
 use Rattle.std.proofs.lemmas.List.{with_items_is}
 use Rattle.std.specs.Option.{option_map}
 use Rattle.iox2_domain.specs.Ports.{due, entering}
 use Rattle.iox2_domain.specs.Placed.{placed}
 use Rattle.iox2_domain.proofs.SubscriberEntries.{has-entered}
 use Rattle.iox2_domain.proofs.state.DomainState.admit_subscriber.Goals as goal
+
+pub returns-in_default : goal.returns-in_default
+returns-in_default g c = (refl, refl)
 
 pub returns : goal.returns
 returns g c =

@@ -1,0 +1,33 @@
+use Rattle.std.proofs.Common.{◌≡◌, ◌-◌, slice_set, None, Some, ap, sym, ◌∙◌}
+use Rattle.std.specs.Prelude.{slice_index_or}
+use Rattle.slab.specs.Slab.{get, with_value}
+use Rattle.iox2_store.specs.SlotBook.{Book, with_holders, holders_at}
+use Rattle.iox2_domain.specs.Deliveries.{with_loan_out, with_sent, with_send_ended}
+use Rattle.iox2_domain.specs.Fields.{Fields}
+use Rattle.iox2_domain.specs.Ports.{PublisherFields}
+use Rattle.iox2_domain.proofs.PublisherBooks.{read-there}
+use Rattle.iox2_domain.proofs.state.DomainState.end_send.Goals as goal
+
+pub returns : goal.returns
+returns g c = λ x b at has.
+    let there : slice_index_or c.self.inside.publishers.items c.args.place None ≡ Some x = ap (λ (f : Fields g.row.T.Denot g.row.U.Denot). slice_index_or f.publishers c.args.place None) c.self.view_is ∙ at in
+    let read : Some x ≡ Some c.in-Some.publisher = sym there ∙ read-there _ c.args.place _ _ there c.index_mut.ensures.value ∙ c.in-Some.is in
+    let publisher : c.in-Some.publisher ≡ x = cc in
+    let out : c.remove_loan.new.self ≡ with_loan_out c.args.slot x = c.remove_loan.ensures ∙ ap (with_loan_out c.args.slot) publisher in
+    let key : c.publisher.inside.book ≡ x.book = ap (λ (p : PublisherFields). p.book) (c.publisher.view_is ∙ out) in
+    let found : Some c.index_mut-book.result.now ≡ Some b =
+    sym c.index_mut-book.ensures.value ∙ ap (get c.self.inside.books) key ∙ ap (λ (f : Fields g.row.T.Denot g.row.U.Denot). get f.books x.book) c.self.view_is ∙ has in
+    let book : c.index_mut-book.result.now ≡ b = cc in
+    let sent : c.release.new.self ≡ with_sent c.args.slot b =
+    c.release.ensures.released ∙ ap (λ (z : Book). with_holders z c.args.slot (holders_at z c.args.slot - 1)) c.set_mark.ensures ∙ ap (with_sent c.args.slot) book in
+    (λ i. record {
+      config = c.self.inside.config;
+      next_port = c.self.inside.next_port;
+      next_message = c.self.inside.next_message;
+      warnings = c.self.inside.warnings;
+      publishers = slice_set c.self.inside.publishers.items c.args.place (Some (out i));
+      subscribers = c.self.inside.subscribers.items;
+      connections = c.self.inside.connections;
+      books = with_value c.self.inside.books (key i) (sent i);
+      contents = c.self.inside.contents.items;
+    }) ∙ ap (λ (f : Fields g.row.T.Denot g.row.U.Denot). with_send_ended f c.args.place x c.args.slot b) c.self.view_is
