@@ -1,33 +1,19 @@
-//! Tests of the libraries, which call their public items as a user does. It holds nothing else: a
-//! crate with tests is proved twice, so the libraries have none.
+//! Tests of the libraries above `iox2_store`, which call their public items as a user does. It holds
+//! nothing else: a crate with tests is proved twice, so the libraries have none.
 #![tactic(auto)]
 
 #[cfg(test)]
 mod commands;
 #[cfg(test)]
-mod connections;
-#[cfg(test)]
-mod contents;
-#[cfg(test)]
-mod deliveries;
-#[cfg(test)]
 mod domains;
 #[cfg(test)]
-mod error_texts;
-#[cfg(test)]
-mod errors;
-#[cfg(test)]
 mod fixtures;
-#[cfg(test)]
-mod handlers;
 #[cfg(test)]
 mod laws;
 #[cfg(test)]
 mod loans;
 #[cfg(test)]
 mod payloads;
-#[cfg(test)]
-mod plain_types;
 #[cfg(test)]
 mod publishers;
 #[cfg(test)]
@@ -37,6 +23,6 @@ mod samples;
 #[cfg(test)]
 mod sends;
 #[cfg(test)]
-mod slots;
+mod settings;
 #[cfg(test)]
 mod subscribers;

@@ -1,6 +1,6 @@
 mod streams;
 
-use super::script;
+use script_runner::script;
 use std::alloc::Global;
 use std::io::Read;
 use std::process::Abort;

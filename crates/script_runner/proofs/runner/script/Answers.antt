@@ -2,8 +2,8 @@ use Rattle.std.proofs.Common.{inl, inr, refl}
 use Rattle.script_text.specs.Failures.{status_of}
 use Rattle.script_text.specs.declared.failure.ScriptError.{ScriptError}
 use Rattle.script_text.specs.declared.failure.ScriptError.TheVariants.{BadCommand, OutOfMemory, InputFailed, OutputFailed}
-use Rattle.pubsub_script.specs.Script.{IsStatus}
-use Rattle.pubsub_script.proofs.script.Goals as goal
+use Rattle.script_runner.specs.Script.{IsStatus}
+use Rattle.script_runner.proofs.runner.script.Goals as goal
 
 IsStatus-status_of : (error : ScriptError) → IsStatus (status_of error)
 IsStatus-status_of (BadCommand line) = inr (inl refl)

@@ -1,5 +1,16 @@
-use crate::fixtures::{Reading, Station};
 use iox2_store::Contents;
+
+/// A payload that is neither `Copy` nor `Clone`.
+#[derive(Drop)]
+struct Reading {
+    celsius: u64,
+}
+
+/// A user header that is neither `Copy` nor `Clone`.
+#[derive(Default, Drop)]
+struct Station {
+    number: u32,
+}
 
 #[test]
 fn a_loan_starts_with_empty_cells(rt: HostRuntime) {

@@ -1,6 +1,6 @@
 use Rattle.std.proofs.Common.{[]}
 use Rattle.std.proofs.KnownBytes.{Consumes-nil, Consumes-trans, Consumes-all}
-use Rattle.pubsub_script.proofs.source.read_to_end.Goals as goal
+use Rattle.script_runner.proofs.source.read_to_end.Goals as goal
 
 pub loop-init : goal.loop-init
 loop-init g c = rw c.new-text.ensures.items (Consumes-nil _)

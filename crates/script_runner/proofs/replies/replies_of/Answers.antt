@@ -1,6 +1,6 @@
 use Rattle.iox2_store.specs.State.{fresh, no_messages}
-use Rattle.pubsub_script.proofs.SupportedCommands.{All-supported}
-use Rattle.pubsub_script.proofs.replies_of.Goals as goal
+use Rattle.script_runner.proofs.SupportedCommands.{All-supported}
+use Rattle.script_runner.proofs.replies.replies_of.Goals as goal
 
 pub run-requires : goal.run-requires
 run-requires g c = All-supported _ _ c.in_ok-script.ensures.ok.names

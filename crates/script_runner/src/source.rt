@@ -1,7 +1,7 @@
 //! The text of a script.
 ghost use Rattle.std.specs.Prelude.{IfErr, IfOk};
-ghost use Rattle.pubsub_script.specs.Reading.{IsReadFailure, MovesBytes};
-ghost use Rattle.pubsub_script.specs.Script.{IsAllOf};
+ghost use Rattle.script_runner.specs.Reading.{IsReadFailure, MovesBytes};
+ghost use Rattle.script_runner.specs.Script.{IsAllOf};
 
 use script_text::ScriptError;
 use std::alloc::Global;

@@ -1,0 +1,18 @@
+//! Tests of `iox2_store`, which call its public items as a user does. It holds nothing else: a crate
+//! with tests is proved twice, so the library has none.
+#![tactic(auto)]
+
+#[cfg(test)]
+mod connections;
+#[cfg(test)]
+mod contents;
+#[cfg(test)]
+mod error_texts;
+#[cfg(test)]
+mod errors;
+#[cfg(test)]
+mod handlers;
+#[cfg(test)]
+mod plain_types;
+#[cfg(test)]
+mod slots;
