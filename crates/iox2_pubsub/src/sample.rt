@@ -63,13 +63,11 @@ impl Sample {
         ensures { (m : Messages T U) (s : State T U) → Shows domain.now m s
             → (entry : Entry T U) × (m self.now.number ≡ Some entry) × (entry.values ≡ result.now ∷ []) }
     {
-        domain.state.sample_payload(
-            self.subscriber.value(),
-            self.publisher.value(),
-            self.number,
-            self.connection,
-            self.slot,
-        )
+        let receiver = self.subscriber.value();
+        let sender = self.publisher.value();
+        domain
+            .state
+            .sample_payload(receiver, sender, self.number, self.connection, self.slot)
     }
 
     /// The message's header.
@@ -84,13 +82,11 @@ impl Sample {
             → (entry : Entry T U) × (m self.now.number ≡ Some entry) × (entry.header ≡ result.now) }
         ensures origin { (result.now).publisher_id ≡ self.now.publisher }
     {
-        domain.state.sample_header(
-            self.subscriber.value(),
-            self.publisher.value(),
-            self.number,
-            self.connection,
-            self.slot,
-        )
+        let receiver = self.subscriber.value();
+        let sender = self.publisher.value();
+        domain
+            .state
+            .sample_header(receiver, sender, self.number, self.connection, self.slot)
     }
 
     /// Gives the message back to its publisher, which may use its slot again once nobody else has

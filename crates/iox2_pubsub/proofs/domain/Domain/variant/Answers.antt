@@ -1,4 +1,12 @@
+use Rattle.std.proofs.Common.{ap, ◌∙◌}
+use Rattle.iox2_store.specs.declared.service_config.ServiceConfig.{ServiceConfig}
+use Rattle.iox2_domain.specs.Kept.{Kept}
 use Rattle.iox2_pubsub.proofs.domain.Domain.variant.Goals as goal
+
+pub returns-clause-value : goal.returns-clause-value
+returns-clause-value g c =
+    ap (λ (config : ServiceConfig). config.variant)
+    (c.config.ensures ∙ ap (λ (k : Kept g.row.T.Denot g.row.U.Denot). k.config) c.self.view_is)
 
 pub returns-clause-single : goal.returns-clause-single
 returns-clause-single g c = rw (← c.self.view_is) c.self.invariant.supported.single_values

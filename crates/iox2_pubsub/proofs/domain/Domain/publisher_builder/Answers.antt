@@ -1,0 +1,10 @@
+use Rattle.std.proofs.Common.{ap, ◌∙◌}
+use Rattle.iox2_store.specs.declared.service_config.ServiceConfig.{ServiceConfig}
+use Rattle.iox2_domain.specs.Kept.{Kept}
+use Rattle.iox2_domain.specs.NewPublisher.{plain_publisher}
+use Rattle.iox2_pubsub.proofs.domain.Domain.publisher_builder.Goals as goal
+
+pub returns : goal.returns
+returns g c =
+    ap (λ (config : ServiceConfig). plain_publisher config.publisher_max_loaned_samples)
+    (c.config.ensures ∙ ap (λ (k : Kept g.row.T.Denot g.row.U.Denot). k.config) c.self.view_is)
