@@ -1,4 +1,5 @@
-use Rattle.std.proofs.Common.{◌∙◌}
+use Rattle.std.proofs.Common.{ap, ◌∙◌}
+use Rattle.iox2_domain.specs.Kept.{Kept}
 use Rattle.iox2_pubsub.proofs.UninitLoans.{err-shown, ok-shown, ok-held}
 use Rattle.iox2_pubsub.proofs.publisher.Publisher.loan_uninit.Goals as goal
 
@@ -16,3 +17,6 @@ pub returns-clause-held : goal.returns-clause-held
 returns-clause-held g c =
     ok-held {T = g.row.T.Denot} {U = g.row.U.Denot} g.U.Default.is_default c.domain.inside.state c.loan.new.self c.in-Some.place c.args.self.now.id c.loan.result
     (c.in-Some.ensures.0, c.in-Some.ensures.1, c.in-Some.ensures.2 ∙ c.value.ensures) c.loan.ensures.reaches c.args.self.now.service_id c.in_ok-slot.slot _ c.in_ok-slot.was c.next_message-number.ensures c.args.domain.now c.domain.view_is c.requires
+
+pub returns-clause-number : goal.returns-clause-number
+returns-clause-number g c = c.next_message-number.ensures ∙ ap (λ (k : Kept g.row.T.Denot g.row.U.Denot). k.next_message) c.domain.view_is
