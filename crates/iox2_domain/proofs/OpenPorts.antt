@@ -3,6 +3,7 @@ use Rattle.std.proofs.Common.{◌≡◌, ◌↔◌, ℕ, List, true, get_or, is_
 use Rattle.std.proofs.lemmas.List.{get_or_default}
 use Rattle.std.specs.declared.option.Option.{Option}
 use Rattle.std.specs.declared.option.Option.TheVariants.{None, Some}
+use Rattle.std.specs.Prelude.{IsSomeAnd}
 use Rattle.std.specs.Option.{option_map}
 use Rattle.iox2_store.specs.Records.{Publisher, Subscriber}
 use Rattle.iox2_store.specs.SingleCalls.{HoldsPublisher, HoldsSubscriber}
@@ -65,3 +66,12 @@ pub read-at : {A : Type 0} (xs : List (Option A)) (i : ℕ) (o : Option A) (x y 
 read-at xs i o x y at read is =
     let same : Some y ≡ Some x = sym is ∙ read ∙ get_or_default xs i o None (within_if_some xs i x at) ∙ at in
     cc
+
+-- whoever stands where a search found it is there
+pub found-at : {A : Type 0} (P : Type 0) (has_id : A → Type 0) (xs : List (Option A)) (found : Option ℕ) → MatchOption found P (λ i. IsSomeAnd (get_or xs i None) has_id)
+    → MatchOption found P (λ i. (x : A) × (get_or xs i None ≡ Some x) × has_id x)
+found-at P has_id xs None none = none
+found-at {A} P has_id xs (Some i) is = by (get_or xs i None) refl is where
+  by : (o : Option A) → get_or xs i None ≡ o → IsSomeAnd o has_id → (x : A) × (get_or xs i None ≡ Some x) × has_id x
+  by None e is = absurd is
+  by (Some x) e is = (x, e, is)
