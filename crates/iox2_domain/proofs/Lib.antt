@@ -13,6 +13,7 @@ pub mod NobodyGoes
 pub mod Released
 pub mod ConnectionSlots
 pub mod SampleSlots
+pub mod BorrowedSlots
 pub mod ReceiptSteps
 pub mod SampleEntries
 pub mod SampleReads

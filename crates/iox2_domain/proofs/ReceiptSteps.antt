@@ -26,10 +26,11 @@ use Rattle.iox2_domain.specs.Receipts.{receive_result, TakesFrom, TakesAs}
 use Rattle.iox2_domain.specs.SampleSlots.{IsBookOf, LiesBorrowed}
 use Rattle.iox2_domain.specs.declared.receipts.Receipt.{Receipt}
 use Rattle.iox2_domain.specs.declared.sample_slots.SampleSlot.{SampleSlot}
+use Rattle.iox2_domain.proofs.BorrowedSlots.{lies-there}
 use Rattle.iox2_domain.proofs.ConnectionEnds.{subscriber-stands}
 use Rattle.iox2_domain.proofs.ConnectionSlots.{book-numbers, waiting-held, index-got}
 use Rattle.iox2_domain.proofs.ReachesShows.{reaches-same}
-use Rattle.iox2_domain.proofs.Received.{receiver, takes-nothing, takes-at_limit, takes-message, takes-reaches}
+use Rattle.iox2_domain.proofs.Received.{receiver, found-ready, takes-nothing, takes-at_limit, takes-message, takes-reaches}
 use Rattle.iox2_domain.proofs.Reconnected.{with_mailboxes}
 use Rattle.iox2_domain.proofs.Released.{releases-reaches}
 
@@ -59,10 +60,10 @@ module _ {T U : Type 0} (f now : Fields T U) (same : f ≡ now) (sound : IsDomai
       in_range b.holders slot (waiting-held now sound key book c b has.stands has.has_book has.book_is slot (rw has.stands at here))
 
   -- the first slot that waits is taken
-  pub takes-from : (receipt : Receipt) → receipt.publisher ≡ c.home.publisher → slice_get b.numbers receipt.slot ≡ Some receipt.number → (new : Slab Link)
+  pub takes-from : (receipt : Receipt) → receipt.connection ≡ key → receipt.publisher ≡ c.home.publisher → slice_get b.numbers receipt.slot ≡ Some receipt.number → (new : Slab Link)
       → TakesSlot f.connections key receipt.slot new → SameHomes f.connections new → KeepsOtherKeys key f.connections new → SameStands f.connections new
       → TakesFrom now key receipt (record f { connections = new })
-  takes-from receipt publisher number new takes homes others stay = record {
+  takes-from receipt connection publisher number new takes homes others stay = record {
     link = c;
     stands = has.stands;
     only = ap (λ (h : Fields T U). record h { connections = new }) same;
@@ -70,6 +71,7 @@ module _ {T U : Type 0} (f now : Fields T U) (same : f ≡ now) (sound : IsDomai
     homes = subst (λ (h : Fields T U). SameHomes h.connections new) same homes;
     others = subst (λ (h : Fields T U). KeepsOtherKeys key h.connections new) same others;
     stay = subst (λ (h : Fields T U). SameStands h.connections new) same stay;
+    connection_is = connection;
     publisher_is = publisher;
     number_is = sym (book-numbers now sound key book c b has.stands has.has_book has.book_is receipt.slot ∙ index-got b.numbers receipt.slot receipt.number number);
   }
@@ -83,22 +85,26 @@ module _ {T U : Type 0} (f : Fields T U) (sound : IsDomain f) (i : ℕ) (y : Sub
 
   -- a message is taken
   pub takes-ready : (key : ℕ) (receipt : Receipt) (new : Fields T U) → Finds f.connections y.expired y.places (Found.Ready key) → TakesFrom f key receipt new → TakesAs f y.id (Ok (Some receipt)) new
-  takes-ready key receipt new finds from = (
-    with_mailboxes (state_of (kept_of f)) (mailboxes_of (numbers_of f.books) new.connections),
-    subst (λ (h : Fields T U). Reaches f h (with_mailboxes (state_of (kept_of f)) (mailboxes_of (numbers_of f.books) new.connections))) (sym from.only)
-        (takes-reaches f sound i y at_y key receipt.slot from.link from.stands new.connections finds from.takes from.homes from.others from.stay),
-    its-result (with_mailboxes (state_of (kept_of f)) (mailboxes_of (numbers_of f.books) new.connections)) (Got_sample receipt.publisher receipt.number)
-        (subst (λ (p : ℕ). TakeSample (state_of (kept_of f)) y.id (receiver f sound i y at_y) (with_mailboxes (state_of (kept_of f)) (mailboxes_of (numbers_of f.books) new.connections)) (Got_sample p receipt.number)) (sym from.publisher_is)
-        (subst (λ (n : ℕ). TakeSample (state_of (kept_of f)) y.id (receiver f sound i y at_y) (with_mailboxes (state_of (kept_of f)) (mailboxes_of (numbers_of f.books) new.connections)) (Got_sample (from.link).home.publisher n)) (sym from.number_is)
-        (takes-message f sound i y at_y key receipt.slot from.link from.stands new.connections finds from.takes))),
-  )
+  takes-ready key receipt new finds from =
+      let reached : Reaches f new (with_mailboxes (state_of (kept_of f)) (mailboxes_of (numbers_of f.books) new.connections)) =
+      subst (λ (h : Fields T U). Reaches f h (with_mailboxes (state_of (kept_of f)) (mailboxes_of (numbers_of f.books) new.connections))) (sym from.only)
+      (takes-reaches f sound i y at_y key receipt.slot from.link from.stands new.connections finds from.takes from.homes from.others from.stay) in (
+        with_mailboxes (state_of (kept_of f)) (mailboxes_of (numbers_of f.books) new.connections),
+        reached,
+        its-result (with_mailboxes (state_of (kept_of f)) (mailboxes_of (numbers_of f.books) new.connections)) (Got_sample receipt.publisher receipt.number)
+            (subst (λ (p : ℕ). TakeSample (state_of (kept_of f)) y.id (receiver f sound i y at_y) (with_mailboxes (state_of (kept_of f)) (mailboxes_of (numbers_of f.books) new.connections)) (Got_sample p receipt.number)) (sym from.publisher_is)
+            (subst (λ (n : ℕ). TakeSample (state_of (kept_of f)) y.id (receiver f sound i y at_y) (with_mailboxes (state_of (kept_of f)) (mailboxes_of (numbers_of f.books) new.connections)) (Got_sample (from.link).home.publisher n)) (sym from.number_is)
+            (takes-message f sound i y at_y key receipt.slot from.link from.stands new.connections finds from.takes))),
+        lies-there f.connections new.connections key receipt.slot from.link from.stands from.homes reached.agrees.apart from.takes new y.id receipt refl from.connection_is refl from.publisher_is
+            (found-ready f sound i y at_y key receipt.slot from.link from.stands new.connections finds from.takes).0,
+      )
 
   -- none can be taken
   pub takes-none : Finds f.connections y.expired y.places Found.Nothing → TakesAs f y.id (Ok None) f
-  takes-none finds = (state_of (kept_of f), reaches-same f sound, its-result (state_of (kept_of f)) (receive_result (Ok None)) (takes-nothing f sound i y at_y finds))
+  takes-none finds = (state_of (kept_of f), reaches-same f sound, its-result (state_of (kept_of f)) (receive_result (Ok None)) (takes-nothing f sound i y at_y finds), tt)
 
   pub takes-too_many : Finds f.connections y.expired y.places Found.AtLimit → TakesAs f y.id (Err ExceedsMaxBorrows) f
-  takes-too_many finds = (state_of (kept_of f), reaches-same f sound, its-result (state_of (kept_of f)) (receive_result (Err ExceedsMaxBorrows)) (takes-at_limit f sound i y at_y finds))
+  takes-too_many finds = (state_of (kept_of f), reaches-same f sound, its-result (state_of (kept_of f)) (receive_result (Err ExceedsMaxBorrows)) (takes-at_limit f sound i y at_y finds), tt)
 
 -- ---- giving back
 

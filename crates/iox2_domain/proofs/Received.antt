@@ -61,7 +61,7 @@ module _ {T U : Type 0} (f : Fields T U) (sound : IsDomain f) (i : ℕ) (y : Sub
     abbrev pub number_taken : ℕ
     number_taken = numbers_of f.books c.home.publisher slot
 
-    found-ready : (c.home.subscriber ≡ y.id) × (MayReceiveFrom (f.config).subscriber_max_borrowed_samples receiver (λ p. (state_of (kept_of f)).mailboxes p y.id) c.home.publisher)
+    pub found-ready : (c.home.subscriber ≡ y.id) × (MayReceiveFrom (f.config).subscriber_max_borrowed_samples receiver (λ p. (state_of (kept_of f)).mailboxes p y.id) c.home.publisher)
     found-ready = subst (λ o. IsSomeAnd o (λ (d : Link). (d.home.subscriber ≡ y.id) × (MayReceiveFrom (f.config).subscriber_max_borrowed_samples receiver (λ p. (state_of (kept_of f)).mailboxes p y.id) d.home.publisher)))
         at_c (found-for (Found.Ready key) finds)
 

@@ -43,6 +43,7 @@ module _ {T U : Type 0} where
       updates,
       subst (λ (s : State T U). MatchOption (s.subscribers q) ⊥ (λ y. TakeSample s q y takes.0 (receive_result result))) reached.state takes.2,
     ),
+    takes.3,
   )
 
   -- the same at a subscriber's place

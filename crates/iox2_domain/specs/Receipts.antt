@@ -1,5 +1,5 @@
 -- What a receive comes to.
-use Rattle.std.specs.Prelude.{◌≡◌, ℕ, MatchOption}
+use Rattle.std.specs.Prelude.{◌≡◌, ℕ, Contains, MatchOption}
 use Rattle.std.specs.declared.option.Option.{Option}
 use Rattle.std.specs.declared.option.Option.TheVariants.{None, Some}
 use Rattle.std.specs.declared.result.Result.{Result}
@@ -33,16 +33,33 @@ module _ {T U : Type 0} where
     pub homes : SameHomes old.connections new.connections
     pub others : KeepsOtherKeys key old.connections new.connections
     pub stay : SameStands old.connections new.connections
+    pub connection_is : receipt.connection ≡ key
     pub publisher_is : receipt.publisher ≡ link.home.publisher
     pub number_is : receipt.number ≡ numbers_of old.books link.home.publisher receipt.slot
 
-  -- The subscriber q takes what it may receive, as the machine does.
+  -- The connection that the receipt names stands between its publisher and the subscriber q, and the slot that it names is
+  -- borrowed there.
+  pub record LiesAt (f : Fields T U) (q : ℕ) (receipt : Receipt) : Type 0 where
+    pub connection : Link
+    pub stands : get f.connections receipt.connection ≡ Some connection
+    pub publisher_is : connection.home.publisher ≡ receipt.publisher
+    pub subscriber_is : connection.home.subscriber ≡ q
+    pub borrowed : Contains connection.borrowed receipt.slot
+
+  -- The same of what a call answers.
+  abbrev pub LiesIfAny : Fields T U → (q : ℕ) → Result (Option Receipt) ReceiveError → Type 0
+  LiesIfAny f q (Ok None) = Unit {0}
+  LiesIfAny f q (Ok (Some receipt)) = LiesAt f q receipt
+  LiesIfAny f q (Err e) = Unit {0}
+
+  -- The subscriber q takes what it may receive, as the machine does, and it lies where it is said.
   abbrev pub TakesAs : (old : Fields T U) (q : ℕ) → Result (Option Receipt) ReceiveError → (new : Fields T U) → Type 0
   TakesAs old q result new =
       (s' : State T U) × Reaches old new s'
       × MatchOption ((state_of (kept_of old)).subscribers q) ⊥ (λ y. TakeSample (state_of (kept_of old)) q y s' (receive_result result))
+      × LiesIfAny new q result
 
-  -- The subscriber q receives, as the machine does.
+  -- The subscriber q receives, as the machine does, and what it receives lies where it is said.
   abbrev pub ReceivesAs : (old : Fields T U) (q : ℕ) → Result (Option Receipt) ReceiveError → (new : Fields T U) → Type 0
   ReceivesAs old q result new =
-      (s' : State T U) × Reaches old new s' × Receive fixed_handlers (state_of (kept_of old)) q s' (receive_result result)
+      (s' : State T U) × Reaches old new s' × Receive fixed_handlers (state_of (kept_of old)) q s' (receive_result result) × LiesIfAny new q result

@@ -65,7 +65,7 @@ impl<T: Drop, U: Default + Drop> DomainState<T, U> {
     }
 
     /// The subscriber at a place is updated, and then borrows the message that has waited longest in
-    /// some connection. `None` where no message waits.
+    /// some connection. `None` where no message waits. The message lies where the receipt says.
     ///
     /// `ExceedsMaxBorrows` where messages wait, but only where as many are borrowed as may be. The
     /// update stands then.
