@@ -109,11 +109,5 @@ free_next slots free has =
     let P : ℕ → Type 0 = λ n. HasFree (replicate slots 0 ++ 0 ∷ []) (free ++ n ∷ []) in
     rw replicate_next (subst P (length-replicate slots 0) (free_extended (replicate slots 0) free has))
 
--- What the search needs where a slot is taken, released, or asked for.
-pub ruleset taking = (popped_within, popped_count, free_popped, none_free)
-
-pub ruleset releasing = (free_kept, free_pushed, free_room)
-
-pub ruleset looking_for_free = (free_none, none_free_length)
-
-pub ruleset counting_free = (all_free, free_all)
+-- What the search needs where a slot is taken.
+pub ruleset taking = (popped_within, none_free)

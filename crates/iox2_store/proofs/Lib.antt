@@ -1,3 +1,4 @@
 pub mod EachOnce
 pub mod FreeSlots
 pub mod LinkLemmas
+pub mod SlotReads

@@ -1,10 +1,12 @@
 -- What a connection's calls are to the lists of its slots.
-use Rattle.std.proofs.Common.{◌≡◌, ℕ, ◌<◌, ◌==◌, List, [], ◌∷◌, ◌++◌, length, drop, refl, Option, Some, None, get_or, arith, ap, sym, ◌∙◌, inl, inr, eq-eqb, Contains, lt-ltb, position}
+use Rattle.std.proofs.Common.{◌≡◌, ℕ, ◌<◌, ◌==◌, List, [], ◌∷◌, ◌++◌, ◌-◌, true, length, drop, refl, Option, Some, None, get_or, arith, ap, sym, ◌∙◌, inl, inr, eq-eqb, Contains, lt-ltb, position}
 use Rattle.std.proofs.lemmas.Bool.{cases_lt, false≢true}
 use Rattle.std.proofs.lemmas.List.Sums.{fails_before_first}
+use Rattle.std.proofs.lemmas.List.{length-append}
 use Rattle.std.specs.List.{position_or_len}
 use Rattle.std.specs.Prelude.{slice_get}
-use Rattle.iox2_store.specs.Link.{Link, IsTaken, IsReclaimed}
+use Rattle.iox2_store.specs.Link.{Link, IsPut, IsTaken, IsReclaimed}
+use Rattle.iox2_store.specs.declared.connection.PutOutcome.TheVariants.{Overwrote}
 
 -- the first place of a number that stands in a list
 pub position_of_contained : (xs : List ℕ) (x : ℕ) → Contains xs x → (position_or_len (λ y. y == x) xs < length xs) × (position (λ y. y == x) xs ≡ Some (position_or_len (λ y. y == x) xs))
@@ -26,3 +28,11 @@ taken_first c d (x ∷ xs) slot w e f = let g : Some slot ≡ Some x = e in let 
 pub reclaimed_first : (c d : Link) (xs : List ℕ) (o : Option ℕ) → c.returned ≡ xs → o ≡ slice_get xs 0 → d ≡ record c { returned = drop 1 xs } → IsReclaimed c o d
 reclaimed_first c d [] o r e f = rw e (r, f ∙ ap (λ (ys : List ℕ). let l : Link = record c { returned = ys } in l) (sym r))
 reclaimed_first c d (x ∷ xs) o r e f = rw e (xs, r, f)
+
+-- a slot went behind the waiting ones of a full ring
+pub put_over : (c d : Link) (xs : List ℕ) (slot oldest : ℕ) → c.waiting ≡ xs → 0 < c.buffer → length xs ≡ c.buffer → Some oldest ≡ slice_get (xs ++ slot ∷ []) 0 → d ≡ record c { waiting = drop (length (xs ++ slot ∷ []) - c.buffer) (xs ++ slot ∷ []) } → IsPut c slot true (Overwrote oldest) d
+put_over c d [] slot oldest w room full e f = absurd (omega arith)
+put_over c d (x ∷ xs) slot oldest w room full e f =
+    let first : oldest ≡ x = let g : Some oldest ≡ Some x = e in cc in
+    let one : length (x ∷ xs ++ slot ∷ []) - c.buffer ≡ 1 = omega (arith, length-append xs (slot ∷ [])) in
+    (refl, ap length w ∙ full, (xs, w ∙ ap (λ (y : ℕ). y ∷ xs) (sym first), rw one at f))

@@ -105,7 +105,6 @@ impl SlotBook {
     }
 
     /// Counts one holder more of a slot that has one.
-    #[tactic(auto, using(crate::proofs::FreeSlots::free_kept))]
     pub fn hold(&mut self, slot: usize)
         requires held { IsHeld self.old slot }
         requires fits { holders_at self.old slot + 1 < 2 ^ 128 }
@@ -116,7 +115,7 @@ impl SlotBook {
 
     /// Counts one holder less of a slot that has one, and answers whether it was the last. The slot
     /// is then free.
-    #[tactic(auto, using(crate::proofs::FreeSlots::releasing))]
+    #[tactic(auto, using(crate::proofs::FreeSlots::free_room))]
     pub fn release(&mut self, slot: usize) -> bool
         requires { IsHeld self.old slot }
         ensures released { self.new ≡ with_holders self.old slot (holders_at self.old slot - 1) }
@@ -187,7 +186,6 @@ impl SlotBook {
     }
 
     /// Whether every slot has a holder, so that none can be taken.
-    #[tactic(auto, using(crate::proofs::FreeSlots::looking_for_free))]
     pub fn is_full(&self) -> bool
         ensures { IsTrue result ↔ All (λ n. 0 < n) self.now.holders }
     {
@@ -195,7 +193,6 @@ impl SlotBook {
     }
 
     /// Whether no slot has a holder, so that the book may go.
-    #[tactic(auto, using(crate::proofs::FreeSlots::counting_free))]
     pub fn is_unused(&self) -> bool
         ensures { IsTrue result ↔ All (λ n. n ≡ 0) self.now.holders }
     {

@@ -9,3 +9,6 @@ returns-in-UnableToDeliver-clause-writes g c = rw c.in-UnableToDeliver.is (searc
 
 pub returns-in-InternalError-clause-writes : goal.returns-in-InternalError-clause-writes
 returns-in-InternalError-clause-writes g c = rw c.in-InternalError.is (search rules)
+
+pub returns-in-LoanError-clause-writes : goal.returns-in-LoanError-clause-writes
+returns-in-LoanError-clause-writes g c = rw c.in-LoanError.is (search rules)

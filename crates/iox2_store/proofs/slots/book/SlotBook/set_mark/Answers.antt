@@ -1,0 +1,5 @@
+use Rattle.std.proofs.Common.{refl}
+use Rattle.iox2_store.proofs.slots.book.SlotBook.set_mark.Goals as goal
+
+pub returns : goal.returns
+returns c = rw (← c.self.view_is) refl
