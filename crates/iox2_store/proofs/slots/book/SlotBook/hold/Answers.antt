@@ -1,4 +1,4 @@
-use Rattle.std.proofs.Common.{refl, arith}
+use Rattle.std.proofs.Common.{arith}
 use Rattle.std.proofs.lemmas.List.{get_or_read, length-set}
 use Rattle.iox2_store.proofs.FreeSlots.{free_kept}
 use Rattle.iox2_store.proofs.slots.book.SlotBook.hold.Goals as goal
@@ -17,4 +17,5 @@ invariant_of-self c =
 pub returns : goal.returns
 returns c =
     let before = rw (← c.self.view_is) at c.requires.held in
-    rw (← c.self.view_is, get_or_read c.self.inside.holders.items _ _ before.in_bounds c.index_mut.ensures.value 0) refl
+    let read = get_or_read c.self.inside.holders.items _ _ before.in_bounds c.index_mut.ensures.value 0 in
+    rw (← c.self.view_is) cc
