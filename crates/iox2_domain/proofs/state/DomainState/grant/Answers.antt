@@ -1,5 +1,10 @@
-use Rattle.std.proofs.Common.{rules, ◌≡◌, vec_len, length, slice_index_or, None, Some, refl, sym, subst, ap, ◌∙◌}
+use Rattle.std.proofs.Common.{rules, arith, ◌≡◌, ◌<◌, vec_len, length, slice_index_or, None, Some, refl, sym, subst, ap, ◌∙◌}
+use Rattle.std.specs.Prelude.{IsSomeAnd}
+use Rattle.std.specs.declared.option.Option.{Option}
+use Rattle.iox2_store.specs.Limits.{last_number}
+use Rattle.iox2_ends.proofs.MailboxChanges.{within_if_some}
 use Rattle.iox2_domain.specs.Fields.{Fields}
+use Rattle.iox2_domain.specs.Ports.{PublisherFields}
 use Rattle.iox2_domain.specs.Invariant.{IsDomain}
 use Rattle.iox2_domain.specs.Lending.{CanLend}
 use Rattle.iox2_domain.proofs.Parts.{parts_of}
@@ -41,3 +46,32 @@ returns g c =
     g.U.Default.is_default _ _ c.in-Some-take.slot _ c.index_mut.ensures.value
     (λ t. record { node_id = c.new.ensures t; publisher_id = c.publisher.inside.id; number_of_elements = 1 }) c.in-Some-take.ensures.taken
     _ _ c.index_mut-2.ensures.value c.start.ensures _ _ c.index_mut-3.ensures.value c.lend.ensures)
+
+pub index-requires : goal.index-requires
+index-requires g c =
+    let there : slice_index_or c.self.inside.publishers.items c.args.place None ≡ Some c.requires.can.publisher = ap (λ (f : Fields g.row.T.Denot g.row.U.Denot). slice_index_or f.publishers c.args.place None) c.self.view_is ∙ c.requires.can.stands in
+    let long : vec_len c.self.inside.publishers ≡ length c.self.inside.publishers.items = search rules in
+    rw long (within_if_some c.self.inside.publishers.items c.args.place c.requires.can.publisher there)
+
+pub unreachable-requires : goal.unreachable-requires
+unreachable-requires g c =
+    let there : slice_index_or c.self.inside.publishers.items c.args.place None ≡ Some c.requires.can.publisher = ap (λ (f : Fields g.row.T.Denot g.row.U.Denot). slice_index_or f.publishers c.args.place None) c.self.view_is ∙ c.requires.can.stands in
+    c.in_default.not-Some c.requires.can.publisher (sym (read-there _ c.args.place _ _ there c.index.ensures) ∙ there)
+
+pub overflow_add-self : goal.overflow_add-self
+overflow_add-self g c =
+    let low : c.self.inside.next_message < last_number = subst (λ (f : Fields g.row.T.Denot g.row.U.Denot). f.next_message < last_number) (sym c.self.view_is) c.requires.can.more in
+    omega arith
+
+pub index_mut-requires-3 : goal.index_mut-requires-3
+index_mut-requires-3 g c =
+    let there : slice_index_or c.self.inside.publishers.items c.args.place None ≡ Some c.requires.can.publisher = ap (λ (f : Fields g.row.T.Denot g.row.U.Denot). slice_index_or f.publishers c.args.place None) c.self.view_is ∙ c.requires.can.stands in
+    let long : vec_len c.self.inside.publishers ≡ length c.self.inside.publishers.items = search rules in
+    rw long (within_if_some c.self.inside.publishers.items c.args.place c.requires.can.publisher there)
+
+pub lend-requires : goal.lend-requires
+lend-requires g c =
+    let there : slice_index_or c.self.inside.publishers.items c.args.place None ≡ Some c.requires.can.publisher = ap (λ (f : Fields g.row.T.Denot g.row.U.Denot). slice_index_or f.publishers c.args.place None) c.self.view_is ∙ c.requires.can.stands in
+    let room = (c.requires.agrees).publisher_room c.args.place c.requires.can.publisher c.requires.can.stands in
+    subst (λ (o : Option PublisherFields). IsSomeAnd o (λ x. length x.loans < x.loan_room)) (sym there ∙ read-there _ c.args.place _ _ there c.index_mut-3.ensures.value)
+    (omega (arith, c.requires.can.few, room.loans))
