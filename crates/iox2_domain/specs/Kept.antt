@@ -1,4 +1,4 @@
--- What a domain keeps, and the machine's state that this is. No slot number and no capacity stands here.
+-- What a domain keeps, and the machine's state that this is. No key of a connection, no hint and no room stands here.
 use Rattle.std.specs.Prelude.{ℕ, Bool, ◌&&◌, ◌==◌, List, [], ◌∷◌, length, map}
 use Rattle.std.specs.declared.option.Option.{Option}
 use Rattle.std.specs.declared.option.Option.TheVariants.{None, Some}

@@ -39,7 +39,7 @@ impl<T: Drop, U: Default + Drop> Domain<T, U> {
     /// publisher and one subscriber are open, and a publisher keeps no history and overwrites
     /// nothing.
     ///
-    /// Fails where memory runs out.
+    /// Fails with `DomainCreateError::OutOfMemory` where memory is refused.
     pub fn new(alloc: Global, config: ServiceConfig) -> Result<Self, DomainCreateError>
         requires fixed_size { config.variant ≡ FixedSize }
         requires one_publisher { config.max_publishers ≡ 1 }

@@ -14,10 +14,11 @@ mod subscriber;
 
 pub use domain::Domain;
 pub use iox2_store::{
-    AllocationStrategy, BackpressureStrategy, ConnectionFailure, DomainCreateError, Header, Key,
-    LoanError, PublisherCreateError, ReceiveError, SendError, ServiceConfig, SharedMemoryOpenError,
-    SubscriberCreateError, TypeVariant, UniqueNodeId, UniquePublisherId, UniqueSubscriberId,
-    ZeroCopyCreationError,
+    AllocationStrategy, BackpressureAction, BackpressureFn, BackpressureInfo, BackpressureStrategy,
+    ConnectionFailure, DegradationAction, DegradationCause, DegradationFn, DegradationInfo,
+    DomainCreateError, Header, Key, LoanError, PublisherCreateError, ReceiveError, SendError,
+    ServiceConfig, SharedMemoryOpenError, SubscriberCreateError, TypeVariant, UniqueNodeId,
+    UniquePublisherId, UniqueSubscriberId, ZeroCopyCreationError,
 };
 pub use port_factory::publisher::PortFactoryPublisher;
 pub use port_factory::subscriber::PortFactorySubscriber;

@@ -18,8 +18,9 @@ impl Subscriber {
     /// may borrow one more, the one that has waited longest. `None` where no message waits.
     ///
     /// Fails with `ReceiveError::ExceedsMaxBorrows` where messages wait, but of each publisher that
-    /// they come from as many are borrowed as may be. Where memory for a connection is refused, that
-    /// is a warning of the domain.
+    /// they come from as many are borrowed as may be. The update stands then, and no message moves.
+    /// Where memory for a connection is refused, that is a warning of the domain. The other errors
+    /// aren't answered yet.
     ///
     /// iceoryx2's `Subscriber::receive` (`src/port/subscriber.rs`).
     pub fn receive<T: Drop, U: Default + Drop, F: BackpressureFn, G: DegradationFn>(

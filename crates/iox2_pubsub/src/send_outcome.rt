@@ -3,7 +3,6 @@
 /// What came of a message that was sent.
 ///
 /// This library's own, where iceoryx2's `SampleMut::send` answers the number of receivers alone.
-#[derive(Debug, Clone, Copy, PartialEq, Eq)]
 pub enum SendOutcome {
     /// So many subscribers took it.
     Delivered(usize),

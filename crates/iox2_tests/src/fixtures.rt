@@ -52,12 +52,13 @@ pub(crate) fn lend(rt: &impl Abort, domain: &mut Domain<Reading, Station>) -> Sa
     loan
 }
 
-/// Lends, writes and sends a message. `None` where the publisher may not lend.
+/// Lends, writes and sends a message, and answers how many subscribers took it. `None` where the
+/// publisher may not lend.
 pub(crate) fn publish(
     domain: &mut Domain<Reading, Station>,
     publisher: &Publisher,
     celsius: u64,
-) -> Option<SendOutcome> {
+) -> Option<usize> {
     if !domain.holds_publisher(publisher.key()) {
         return None;
     }
@@ -67,5 +68,12 @@ pub(crate) fn publish(
         return None;
     }
     let message = loan.write_payload(domain, Reading { celsius });
-    message.send(domain).ok()
+    message.send(domain).ok().map(receiver_count)
+}
+
+/// How many subscribers took a message.
+pub(crate) fn receiver_count(outcome: SendOutcome) -> usize {
+    match outcome {
+        SendOutcome::Delivered(count) => count,
+    }
 }

@@ -37,32 +37,18 @@ fn a_publisher_is_made_and_a_second_is_refused(rt: HostRuntime) {
 }
 
 #[test]
-fn slots_that_do_not_fit_are_refused_and_use_up_no_id(rt: HostRuntime) {
+fn slots_that_cannot_be_had_are_refused_and_use_up_no_id(rt: HostRuntime) {
     let mut domain = domain(&rt, rt.alloc());
-    let refusal = refusal(&mut domain, usize::MAX);
+    // The first number of slots doesn't fit, and there is no memory for the second.
+    let refusals = [
+        refusal(&mut domain, usize::MAX),
+        refusal(&mut domain, usize::MAX / 2),
+    ];
     let factory = domain.publisher_builder();
     let publisher = factory.create(&mut domain).expect(&rt, "a publisher");
     let id = publisher.id().value();
     publisher.disown();
     drop(domain);
-    assert!(rt; refusal == Some(PublisherCreateError::UnableToCreateDataSegment));
-    assert!(rt; id == 1);
-}
-
-#[test]
-fn a_creation_that_lacked_memory_used_up_no_id(rt: HostRuntime) {
-    let mut domain = domain(&rt, rt.alloc());
-    let factory = domain.publisher_builder();
-    // Each allocation of the first try fails in turn where the tests run so.
-    let publisher = match factory.create(&mut domain) {
-        Ok(publisher) => publisher,
-        Err(_) => {
-            let again = domain.publisher_builder();
-            again.create(&mut domain).expect(&rt, "a publisher")
-        }
-    };
-    let id = publisher.id().value();
-    publisher.disown();
-    drop(domain);
+    assert!(rt; refusals == [Some(PublisherCreateError::UnableToCreateDataSegment); 2]);
     assert!(rt; id == 1);
 }

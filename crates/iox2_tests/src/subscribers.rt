@@ -116,21 +116,3 @@ fn ports_of_both_sides_share_their_ids(rt: HostRuntime) {
     assert!(rt; publishers == [true, false]);
     assert!(rt; subscribers == [false, true]);
 }
-
-#[test]
-fn a_creation_that_lacked_memory_used_up_no_id(rt: HostRuntime) {
-    let mut domain = domain(&rt, rt.alloc());
-    let factory = domain.subscriber_builder();
-    // Each allocation of the first try fails in turn where the tests run so.
-    let subscriber = match factory.create(&mut domain) {
-        Ok(subscriber) => subscriber,
-        Err(_) => {
-            let again = domain.subscriber_builder();
-            again.create(&mut domain).expect(&rt, "a subscriber")
-        }
-    };
-    let id = subscriber.id().value();
-    subscriber.disown();
-    drop(domain);
-    assert!(rt; id == 1);
-}

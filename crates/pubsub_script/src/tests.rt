@@ -86,6 +86,83 @@ fn a_message_is_sent_received_and_released(rt: HostRuntime) {
     Outcome::of(rt.alloc(), WORKED).assert(&rt, 0, WORKED_REPLIES, b"");
 }
 
+/// Fills the three slots of a publisher with one loan: one is borrowed, one waits and one is lent.
+const FULL: &[u8] = b"\
+domain 1 1 1 1 0 0 keep
+sub 1
+pub 1 discard
+loan 2
+write 3 5
+send 3
+recv 1
+loan 2
+write 7 6
+send 7
+loan 2
+loan 2
+recv 1
+read 6
+release 6
+recv 1
+read 15
+";
+
+const FULL_REPLIES: &[u8] = b"\
+ok
+ok
+ok
+ok
+ok 1
+sample
+ok
+ok
+ok 1
+ok
+err LoanError::ExceedsMaxLoans
+err ReceiveError::ExceedsMaxBorrows
+ok 5
+ok
+sample
+ok 6
+";
+
+#[test]
+fn each_slot_is_used_and_each_limit_is_met(rt: HostRuntime) {
+    Outcome::of(rt.alloc(), FULL).assert(&rt, 0, FULL_REPLIES, b"");
+}
+
+/// Asks for more loans than the publisher may have out, for too large a buffer, and for one of none.
+const REFUSED: &[u8] = b"\
+domain 1 1 1 1 0 0 keep
+pub 2 discard
+loan 1
+loan 1
+loan 1
+sub 2
+sub 0
+recv 6
+";
+
+const REFUSED_REPLIES: &[u8] = b"\
+ok
+ok
+ok
+err LoanError::ExceedsMaxLoans
+err SubscriberCreateError::BufferSizeExceedsMaxSupportedBufferSizeOfService
+ok
+none
+";
+
+#[test]
+fn what_is_past_a_limit_is_refused(rt: HostRuntime) {
+    Outcome::of(rt.alloc(), REFUSED).assert(&rt, 0, REFUSED_REPLIES, b"");
+    Outcome::of(
+        rt.alloc(),
+        b"domain 1 1 1 1 0 0 keep\npub 0 discard\nloan 1\n",
+    )
+    .assert(&rt, 0, b"ok\nerr LoanError::ExceedsMaxLoans\n", b"");
+}
+
 #[test]
 fn a_domain_line_alone_prints_nothing(rt: HostRuntime) {
     for text in [

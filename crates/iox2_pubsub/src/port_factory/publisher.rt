@@ -63,9 +63,10 @@ impl PortFactoryPublisher {
     ///
     /// Fails, in this order, with `UnableToCreatePortTag` where the domain has no ids left, with
     /// `ExceedsMaxSupportedPublishers` where as many publishers are open as may be, with
-    /// `UnableToCreateDataSegment` where the number of slots or their size doesn't fit `usize` or
-    /// memory for them is refused, and with `FailedToDeployThreadsafetyPolicy` where memory for
-    /// the publisher's state is. No id is then used, and the domain stays as it is.
+    /// `UnableToCreateDataSegment` where the number of slots or their size doesn't fit `usize`.
+    /// After these, where memory is refused: with `UnableToCreateDataSegment` if it was for the
+    /// slots, with `FailedToDeployThreadsafetyPolicy` if it was for the publisher's state. No id is
+    /// then used, and the domain stays as it is.
     ///
     /// iceoryx2's `PortFactoryPublisher::create` (`src/service/port_factory/publisher.rs`) and
     /// `Publisher::new` (`src/port/publisher.rs`).

@@ -17,9 +17,9 @@ impl Publisher {
     ///
     /// # Errors
     ///
-    /// `ExceedsMaxLoans` where as many loans are out as the publisher may have at a time.
-    /// `OutOfMemory` where each of its slots holds a loan, or a message that is kept for later
-    /// subscribers, waits or is borrowed. `InternalFailure` where the domain has no message number
+    /// In this order: `ExceedsMaxLoans` where as many loans are out as the publisher may have at a
+    /// time; `OutOfMemory` where each of its slots holds a loan, or a message that is kept for later
+    /// subscribers, waits or is borrowed; `InternalFailure` where the domain has no message number
     /// left. Nothing changes then.
     ///
     /// iceoryx2's `Publisher::loan_uninit` (`src/port/publisher.rs`).
