@@ -182,7 +182,7 @@ module _ {T U : Type 0} (f : Fields T U) (sound : IsDomain f) (j : ℕ) (y : Sub
     numbered = sound.numbered;
     publisher_room = sound.publisher_room;
     subscriber_room = λ k z at_z. elim (stood k z at_z) [
-      | inl here ↦ rw here.1 (let has = sound.subscriber_room j y at in record { places = has.places; expired = has.expired })
+      | inl here ↦ rw here.1 (let has = sound.subscriber_room j y at in record { places = has.places })
       | inr old ↦ sound.subscriber_room k z old
     ];
     warning_room = room;

@@ -126,7 +126,7 @@ module _ {T U : Type 0} (f : Fields T U) where
     numbered = sound.numbered;
     publisher_room = sound.publisher_room;
     subscriber_room = λ i y at. let was = was_there i y at in let has = sound.subscriber_room i was.0 was.1 in
-        rw was.2 (record { places = has.places; expired = has.expired });
+        rw was.2 (record { places = has.places });
     warning_room = sound.warning_room;
     shapes = record { at = sound.shapes.at };
     supported = sound.supported;

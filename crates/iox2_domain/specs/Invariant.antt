@@ -5,7 +5,7 @@ use Rattle.std.specs.declared.option.Option.{Option}
 use Rattle.std.specs.declared.option.Option.TheVariants.{None, Some}
 use Rattle.std.specs.Option.{option_map, option_map_or}
 use Rattle.slab.specs.Slab.{Slab, get}
-use Rattle.iox2_store.specs.Limits.{expired_limit, warning_limit}
+use Rattle.iox2_store.specs.Limits.{warning_limit}
 use Rattle.iox2_store.specs.Link.{Link}
 use Rattle.iox2_store.specs.SlotBook.{Book, IsAligned, holders_at}
 use Rattle.iox2_store.specs.SlotContents.{ContentState}
@@ -51,7 +51,6 @@ pub record HasPublisherRoom (config : ServiceConfig) (x : PublisherFields) : Typ
 -- No call that can't fail has to make room for the subscriber.
 pub record HasSubscriberRoom (config : ServiceConfig) (y : SubscriberFields) : Type 0 where
   pub places : config.max_publishers ≤ y.place_room
-  pub expired : expired_limit config ≤ y.expired_room
 
 -- ---- connections
 

@@ -31,7 +31,6 @@ pub record SubscriberFields : Type 0 where
   pub places : List (Option ℕ)  -- by the publisher's place, the keys of its connections
   pub place_room : ℕ  -- so many fit with no allocation
   pub expired : List ℕ  -- the keys of its connections with departed publishers, in order of entry
-  pub expired_room : ℕ  -- so many fit with no allocation
   pub is_due : Bool
 
 -- The publisher, due for an update.
@@ -39,8 +38,8 @@ abbrev pub due : PublisherFields → PublisherFields
 due x = record x { is_due = true }
 
 -- A subscriber that was just made, with room for so many connections.
-abbrev pub entering : (id place buffer place_room expired_room : ℕ) → SubscriberFields
-entering id place buffer place_room expired_room = record {
+abbrev pub entering : (id place buffer place_room : ℕ) → SubscriberFields
+entering id place buffer place_room = record {
   id = id;
   place = place;
   is_open = true;
@@ -48,6 +47,5 @@ entering id place buffer place_room expired_room = record {
   places = [];
   place_room = place_room;
   expired = [];
-  expired_room = expired_room;
   is_due = true;
 }

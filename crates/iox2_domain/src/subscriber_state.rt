@@ -40,7 +40,6 @@ impl Model for SubscriberState {
       places = y.places.items;
       place_room = vec_capacity y.places;
       expired = y.expired.items;
-      expired_room = vec_capacity y.expired;
       is_due = y.is_due;
     } };
 }
@@ -71,21 +70,17 @@ impl SubscriberState {
         place: usize,
         buffer: usize,
     ) -> Result<Self, AllocError>
-        ensures enters { IfOk result (λ y. y ≡ entering id place buffer y.place_room y.expired_room) }
+        ensures enters { IfOk result (λ y. y ≡ entering id place buffer y.place_room) }
         ensures room { IfOk result (HasSubscriberRoom config.now) }
     {
-        let expired_limit = config
-            .subscriber_expired_connection_buffer
-            .max(config.subscriber_max_borrowed_samples);
         let places = Vec::with_capacity(alloc, config.max_publishers)?;
-        let expired = Vec::with_capacity(alloc, expired_limit)?;
         Ok(SubscriberState {
             id,
             place,
             is_open: true,
             buffer,
             places,
-            expired,
+            expired: Vec::new(alloc),
             is_due: true,
         })
     }

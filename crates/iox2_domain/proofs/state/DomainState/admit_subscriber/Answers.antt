@@ -15,8 +15,8 @@ returns g c =
     let size : c.max.result ≡ max 1 c.args.asked = grind (arith, c.max.ensures) in
     has-entered {T = g.row.T.Denot} {U = g.row.U.Denot} c.args.self.now c.args.asked _ c.self.view_is c.requires.agrees c.args.place c.in-Ok.subscriber
     c.warn_of_expired_buffer.new.warnings _ _ c.requires.has_place
-    (c.in-Ok.ensures.enters ∙ ap (λ id. entering id c.args.place c.max.result c.in-Ok.subscriber.place_room c.in-Ok.subscriber.expired_room) c.new-id.ensures
-    ∙ ap (λ size. entering c.self.inside.next_port c.args.place size c.in-Ok.subscriber.place_room c.in-Ok.subscriber.expired_room) size)
+    (c.in-Ok.ensures.enters ∙ ap (λ id. entering id c.args.place c.max.result c.in-Ok.subscriber.place_room) c.new-id.ensures
+    ∙ ap (λ size. entering c.self.inside.next_port c.args.place size c.in-Ok.subscriber.place_room) size)
     c.in-Ok.ensures.room
     (rw (← c.new-id.ensures) c.warn_of_expired_buffer.ensures)
     (with_items_is c.self.inside.publishers c.make_all_due.new.publishers (c.make_all_due.auto.publishers ∙ c.deref_mut.ensures.len) ∙ all_due)
