@@ -84,6 +84,12 @@ skipped
 #[test]
 fn a_message_is_sent_received_and_released(rt: HostRuntime) {
     Outcome::of(rt.alloc(), WORKED).assert(&rt, 0, WORKED_REPLIES, b"");
+    // Room is taken when connections are made, so a limit may be any number.
+    Outcome::of(
+        rt.alloc(),
+        b"domain 1 1 1 1 0 18446744073709551615 keep\nsub 1\npub 1 discard\n",
+    )
+    .assert(&rt, 0, b"ok\nok\n", b"");
 }
 
 /// Fills the three slots of a publisher with one loan: one is borrowed, one waits and one is lent.
