@@ -14,10 +14,10 @@ use Rattle.iox2_laws.proofs.PortLaws.{new_subscriber_keeps}
 use Rattle.iox2_domain.specs.Ports.{SubscriberFields}
 use Rattle.iox2_domain.specs.Kept.{Named, state_of, ids}
 use Rattle.iox2_domain.specs.Fields.{Fields, kept_of, subscriber_of}
-use Rattle.iox2_domain.specs.Invariant.{IsDomain, HasSubscriberRoom}
+use Rattle.iox2_domain.specs.Invariant.{IsDomain}
 use Rattle.iox2_domain.proofs.Due.{with_publishers_due, publishers_due-are, publishers_due-agree}
 use Rattle.iox2_domain.specs.SubscriberEntry.{asked_for}
-use Rattle.iox2_domain.proofs.Entered.{with_entered, newcomer, entered-is}
+use Rattle.iox2_domain.proofs.Entered.{with_entered, entered-is}
 use Rattle.iox2_domain.proofs.EnteredAgrees.{entered-agrees}
 
 module _ {T U : Type 0} (f : Fields T U) where
@@ -49,8 +49,7 @@ module _ {T U : Type 0} (f : Fields T U) (sound : IsDomain f) (warnings : Buffer
 
   -- the invariant is kept
   pub admitted-agrees : warnings.items ≡ (with_buffer_warning (state_of (kept_of f)) f.next_port).warnings → warnings.capacity ≡ warning_limit
-      → HasSubscriberRoom f.config (newcomer (with_publishers_due f) (publishers_due-agree f sound) warnings place asked place_room free)
       → buffer_for (asked_for asked) ≤ buffer_limit f.config → place < (f.config).max_subscribers → place ≤ length f.subscribers → IsDomain with_admitted
-  admitted-agrees warned room rooms fits low next =
-      entered-agrees (with_publishers_due f) (publishers_due-agree f sound) warnings place asked place_room free room rooms next
+  admitted-agrees warned room fits low next =
+      entered-agrees (with_publishers_due f) (publishers_due-agree f sound) warnings place asked place_room free room next
       (rw (admitted-is warned) (new_subscriber_keeps (state_of (kept_of f)) sound.well_formed (asked_for asked) place fits low (occupant-free f f.subscribers place free)))

@@ -180,6 +180,8 @@ module _ {T U : Type 0} (f : Fields T U) (key : ℕ) (b d : Book) (at : get f.bo
     receiver_places = linked.receiver_places;
     knows = linked.knows;
     knows_publishers = linked.knows_publishers;
+    sender_rooms = linked.sender_rooms;
+    receiver_rooms = linked.receiver_rooms;
     limits = linked.limits;
     returned = linked.returned;
   }

@@ -69,6 +69,9 @@ module _ {T U : Type 0} (f : Fields T U) where
     knows = linked.knows;
     knows_publishers = λ key i c x at_c at_x same. let was = is_due i x at_x in
         linked.knows_publishers key i c was.0 at_c was.1 (sym (ap (λ (z : PublisherFields). z.id) was.2) ∙ same);
+    sender_rooms = λ key i c x at_c at_x same. let was = is_due i x at_x in
+        rw was.2 (linked.sender_rooms key i c was.0 at_c was.1 (sym (ap (λ (z : PublisherFields). z.id) was.2) ∙ same));
+    receiver_rooms = linked.receiver_rooms;
     limits = linked.limits;
     returned = λ key c at. reclaims key c (linked.returned key c at);
   } where
@@ -141,8 +144,7 @@ module _ {T U : Type 0} (f : Fields T U) where
     counted = counted-due sound.counted;
     numbered = sound.numbered;
     publisher_room = λ i x at. let was = is_due i x at in let has = sound.publisher_room i was.0 was.1 in
-        rw was.2 (record { loans = has.loans; history = has.history; places = has.places });
-    subscriber_room = sound.subscriber_room;
+        rw was.2 (record { loans = has.loans; history = has.history });
     warning_room = sound.warning_room;
     shapes = record { at = sound.shapes.at };
     supported = sound.supported;

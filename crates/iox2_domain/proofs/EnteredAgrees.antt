@@ -14,7 +14,7 @@ use Rattle.iox2_ends.specs.declared.sender.ReceiverDetails.{ReceiverDetails}
 use Rattle.iox2_domain.specs.Ports.{SubscriberFields}
 use Rattle.iox2_domain.specs.Kept.{state_of}
 use Rattle.iox2_domain.specs.Fields.{Fields, kept_of}
-use Rattle.iox2_domain.specs.Invariant.{IsDomain, IsLinked, HasBooks, HasOnlyOpenPorts, SenderHas, ReceiverHas, HasSubscriberRoom, details_of}
+use Rattle.iox2_domain.specs.Invariant.{IsDomain, IsLinked, HasBooks, HasOnlyOpenPorts, SenderHas, ReceiverHas, details_of}
 use Rattle.iox2_domain.proofs.Containers.{map-at, viewed}
 use Rattle.iox2_domain.specs.Placed.{placed}
 use Rattle.iox2_domain.proofs.Views.{held-before}
@@ -48,6 +48,14 @@ module _ {T U : Type 0} (f : Fields T U) (sound : IsDomain f) (warnings : Buffer
     ends = λ key c at. by key c (sound.linked.ends key c at);
     receiver_places = λ i at key y c at_y at_key at_c. places i at key y c (was i y at_y) at_key at_c;
     knows_publishers = sound.linked.knows_publishers;
+    sender_rooms = sound.linked.sender_rooms;
+    receiver_rooms = λ key i c y at_c at_y same. elim (was i y at_y) [
+      | inl e ↦
+          let next : y.id ≡ f.next_port = ap (λ (z : SubscriberFields). z.id) e in
+          let low : c.home.subscriber < f.next_port = subscriber-known f sound key c at_c in
+          absurd (omega arith)
+      | inr old ↦ sound.linked.receiver_rooms key i c y at_c old same
+    ];
     limits = sound.linked.limits;
     returned = sound.linked.returned;
     knows = record { at = λ key i c d at_c at_d same. knows key i c d at_c (viewed details_of (placed f.subscribers place new) i d at_d) same };
@@ -111,8 +119,8 @@ module _ {T U : Type 0} (f : Fields T U) (sound : IsDomain f) (warnings : Buffer
   }
 
   -- the invariant is kept
-  pub entered-agrees : warnings.capacity ≡ warning_limit → HasSubscriberRoom f.config new → place ≤ length f.subscribers → IsWellFormed (state_of (kept_of after)) → IsDomain after
-  entered-agrees room rooms low well = record {
+  pub entered-agrees : warnings.capacity ≡ warning_limit → place ≤ length f.subscribers → IsWellFormed (state_of (kept_of after)) → IsDomain after
+  entered-agrees room low well = record {
     publisher_ids = sound.publisher_ids;
     subscriber_ids = ids_apart f sound warnings place asked place_room free;
     apart = sound.apart;
@@ -121,7 +129,6 @@ module _ {T U : Type 0} (f : Fields T U) (sound : IsDomain f) (warnings : Buffer
     counted = record { at = sound.counted.at };
     numbered = sound.numbered;
     publisher_room = sound.publisher_room;
-    subscriber_room = λ i y at. elim (was i y at) [ inl e ↦ rw e rooms | inr old ↦ sound.subscriber_room i y old ];
     warning_room = room;
     shapes = record { at = sound.shapes.at };
     supported = sound.supported;

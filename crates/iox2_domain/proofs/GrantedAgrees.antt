@@ -260,12 +260,11 @@ module _ {T U : Type 0} (f : Fields T U) (sound : IsDomain f) (i : ℕ) (x : Pub
       publisher_ids = changed-ids_apart mid i x new_lender at refl sound.publisher_ids;
       subscriber_ids = sound.subscriber_ids;
       apart = sound.apart;
-      linked = changed-linked_same mid i x new_lender at refl linked refl;
+      linked = changed-linked_same mid i x new_lender at refl linked keeps.place_room refl;
       books = changed-books mid i x new_lender at refl taken-books keeps;
       counted = granted-counted;
       numbered = taken-numbered f sound x slot can user_header;
       publisher_room = changed-room mid i x new_lender at refl sound.publisher_room keeps;
-      subscriber_room = sound.subscriber_room;
       warning_room = sound.warning_room;
       shapes = granted-shapes;
       supported = sound.supported;
@@ -283,6 +282,8 @@ module _ {T U : Type 0} (f : Fields T U) (sound : IsDomain f) (i : ℕ) (x : Pub
         receiver_places = sound.linked.receiver_places;
         knows = sound.linked.knows;
         knows_publishers = sound.linked.knows_publishers;
+        sender_rooms = sound.linked.sender_rooms;
+        receiver_rooms = sound.linked.receiver_rooms;
         limits = sound.linked.limits;
         returned = sound.linked.returned;
       }

@@ -74,6 +74,8 @@ pub mod LoanAlone
 pub mod SentSlots
 pub mod SendEnded
 pub mod Published
+pub mod Grown
+pub mod MadeRoom
 pub mod SenderAnswers
 pub mod SenderWalk
 pub mod SenderUpdates

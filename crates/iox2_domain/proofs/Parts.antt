@@ -5,11 +5,11 @@ use Rattle.iox2_store.specs.Limits.{warning_limit}
 use Rattle.iox2_store.specs.WellFormed.{IsWellFormed}
 use Rattle.iox2_ends.specs.LookUp.{IsOnly}
 use Rattle.iox2_ends.specs.Homes.{IsApart}
-use Rattle.iox2_domain.specs.Ports.{PublisherFields, SubscriberFields}
+use Rattle.iox2_domain.specs.Ports.{PublisherFields}
 use Rattle.iox2_domain.specs.Kept.{state_of}
 use Rattle.iox2_domain.specs.Fields.{Fields, kept_of}
 use Rattle.iox2_domain.specs.Shows.{KeepsEntries}
-use Rattle.iox2_domain.specs.Invariant.{IsDomain, IsLinked, HasBooks, IsCounted, IsNumbered, HasPublisherRoom, HasSubscriberRoom, HasShapes, IsSupported, IsPlain, HasOnlyOpenPorts, is_publisher, is_subscriber}
+use Rattle.iox2_domain.specs.Invariant.{IsDomain, IsLinked, HasBooks, IsCounted, IsNumbered, HasPublisherRoom, HasShapes, IsSupported, IsPlain, HasOnlyOpenPorts, is_publisher, is_subscriber}
 
 -- the fields agree with one another, in the midst of a step
 pub record HasParts {T U : Type 0} (f : Fields T U) : Type 0 where
@@ -21,7 +21,6 @@ pub record HasParts {T U : Type 0} (f : Fields T U) : Type 0 where
   pub counted : IsCounted f
   pub numbered : IsNumbered f.next_message f.books
   pub publisher_room : (i : ℕ) (x : PublisherFields) → slice_index_or f.publishers i None ≡ Some x → HasPublisherRoom f.config x
-  pub subscriber_room : (i : ℕ) (y : SubscriberFields) → slice_index_or f.subscribers i None ≡ Some y → HasSubscriberRoom f.config y
   pub warning_room : (f.warnings).capacity ≡ warning_limit
   pub shapes : HasShapes f
   pub supported : IsSupported f.config
@@ -40,7 +39,6 @@ module _ {T U : Type 0} (f : Fields T U) where
     counted = sound.counted;
     numbered = sound.numbered;
     publisher_room = sound.publisher_room;
-    subscriber_room = sound.subscriber_room;
     warning_room = sound.warning_room;
     shapes = sound.shapes;
     supported = sound.supported;
@@ -59,7 +57,6 @@ module _ {T U : Type 0} (f : Fields T U) where
     counted = parts.counted;
     numbered = parts.numbered;
     publisher_room = parts.publisher_room;
-    subscriber_room = parts.subscriber_room;
     warning_room = parts.warning_room;
     shapes = parts.shapes;
     supported = parts.supported;

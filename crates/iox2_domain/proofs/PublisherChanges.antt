@@ -166,11 +166,11 @@ module _ {T U : Type 0} (f : Fields T U) (i : ℕ) (x y : PublisherFields) (at :
   -- ---- what holds still, part by part
 
   -- its connections still know it, where the new places have those keys of the old ones that lead to connections of its own
-  pub changed-linked : IsLinked f → IsSenderLinked y.id f.connections y.places
+  pub changed-linked : IsLinked f → x.place_room ≤ y.place_room → IsSenderLinked y.id f.connections y.places
       → ((key : ℕ) (c : Link) → get f.connections key ≡ Some c → c.home.publisher ≡ x.id → get_or x.places c.home.subscriber_place None ≡ Some key
       → get_or y.places c.home.subscriber_place None ≡ Some key)
       → IsLinked (with_publisher f i y)
-  changed-linked linked sender still = record {
+  changed-linked linked room sender still = record {
     senders = λ k z here. elim (changed-was k z here) [ inl is ↦ rw is.1 sender | inr away ↦ linked.senders k z away.1 ];
     receivers = linked.receivers;
     expired = linked.expired;
@@ -181,6 +181,13 @@ module _ {T U : Type 0} (f : Fields T U) (i : ℕ) (x y : PublisherFields) (at :
       | inl is ↦ linked.knows_publishers key k c x at_c (rw is.0 at) (sym id ∙ sym (ap (λ (w : PublisherFields). w.id) is.1) ∙ same)
       | inr away ↦ linked.knows_publishers key k c z at_c away.1 same
     ];
+    sender_rooms = λ key k c z at_c at_z same. elim (changed-was k z at_z) [
+      | inl is ↦
+          let low : c.home.subscriber_place < x.place_room = linked.sender_rooms key k c x at_c (rw is.0 at) (sym id ∙ sym (ap (λ (w : PublisherFields). w.id) is.1) ∙ same) in
+          rw is.1 (omega arith)
+      | inr away ↦ linked.sender_rooms key k c z at_c away.1 same
+    ];
+    receiver_rooms = linked.receiver_rooms;
     limits = linked.limits;
     returned = λ key c at_c. reclaims key c at_c (linked.returned key c at_c);
   } where
@@ -208,9 +215,9 @@ module _ {T U : Type 0} (f : Fields T U) (i : ℕ) (x y : PublisherFields) (at :
     reclaims key c at_c (inr none) = inr none
 
   -- with its old places it is linked as before
-  pub changed-linked_same : IsLinked f → y.places ≡ x.places → IsLinked (with_publisher f i y)
-  changed-linked_same linked same =
-      changed-linked linked (rw (id, same) (linked.senders i x at)) (λ key c at_c its has. ap (λ (ps : List (Option ℕ)). get_or ps c.home.subscriber_place None) same ∙ has)
+  pub changed-linked_same : IsLinked f → x.place_room ≤ y.place_room → y.places ≡ x.places → IsLinked (with_publisher f i y)
+  changed-linked_same linked room same =
+      changed-linked linked room (rw (id, same) (linked.senders i x at)) (λ key c at_c its has. ap (λ (ps : List (Option ℕ)). get_or ps c.home.subscriber_place None) same ∙ has)
 
   -- it has its book
   pub changed-books : HasBooks f → KeepsSettings x y → HasBooks (with_publisher f i y)
@@ -243,7 +250,6 @@ module _ {T U : Type 0} (f : Fields T U) (i : ℕ) (x y : PublisherFields) (at :
     mine has = record {
       loans = let most = keeps.max_loaned_samples in let room = keeps.loan_room in let enough = has.loans in omega arith;
       history = keeps.history_room ∙ has.history;
-      places = let room = keeps.place_room in let enough = has.places in omega arith;
     }
 
   -- it is still plain

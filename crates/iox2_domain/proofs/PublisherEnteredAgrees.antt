@@ -78,6 +78,14 @@ module _ {T U : Type 0} (f : Fields T U) (place loans loan_room place_room key :
           absurd (omega arith)
       | inr old ↦ enters.sound.linked.knows_publishers k i c x at_c old same
     ];
+    sender_rooms = λ k i c x at_c at_x same. elim (was i x at_x) [
+      | inl e ↦
+          let next : x.id ≡ f.next_port = ap (λ (z : PublisherFields). z.id) e.1 in
+          let low : c.home.publisher < f.next_port = sender_before f enters.sound slots units key books contents enters.book k c at_c in
+          absurd (omega arith)
+      | inr old ↦ enters.sound.linked.sender_rooms k i c x at_c old same
+    ];
+    receiver_rooms = enters.sound.linked.receiver_rooms;
     limits = enters.sound.linked.limits;
     returned = λ k c at. reclaims k c (enters.sound.linked.returned k c at);
   } where
@@ -249,7 +257,6 @@ module _ {T U : Type 0} (f : Fields T U) (place loans loan_room place_room key :
     counted = counted;
     numbered = numbered-still f enters.sound slots units key books contents enters.book;
     publisher_room = λ i x at. elim (was i x at) [ inl e ↦ rw e.1 rooms | inr old ↦ enters.sound.publisher_room i x old ];
-    subscriber_room = enters.sound.subscriber_room;
     warning_room = enters.sound.warning_room;
     shapes = record { at = shaped };
     supported = enters.sound.supported;

@@ -58,7 +58,6 @@ module _ {T U : Type 0} (f : Fields T U) where
     counted = record { at = sound.counted.at };
     numbered = numbered sound.numbered;
     publisher_room = sound.publisher_room;
-    subscriber_room = sound.subscriber_room;
     warning_room = sound.warning_room;
     shapes = record { at = sound.shapes.at };
     supported = sound.supported;
@@ -76,6 +75,8 @@ module _ {T U : Type 0} (f : Fields T U) where
       receiver_places = l.receiver_places;
       knows = l.knows;
       knows_publishers = l.knows_publishers;
+      sender_rooms = l.sender_rooms;
+      receiver_rooms = l.receiver_rooms;
       limits = l.limits;
       returned = l.returned;
     }

@@ -1,5 +1,5 @@
 -- A domain's fields agree with the new keys of a subscriber.
-use Rattle.std.proofs.Common.{◌≡◌, ℕ, ◌+◌, List, Bool, get_or, slice_set, refl, ap, sym, ◌∙◌, inl, inr, ◌⊎◌}
+use Rattle.std.proofs.Common.{◌≡◌, ◌<◌, ℕ, ◌+◌, arith, List, Bool, get_or, slice_set, refl, ap, sym, ◌∙◌, inl, inr, ◌⊎◌}
 use Rattle.std.proofs.lemmas.List.{length-set}
 use Rattle.std.specs.declared.option.Option.{Option}
 use Rattle.std.specs.declared.option.Option.TheVariants.{None, Some}
@@ -27,18 +27,18 @@ use Rattle.iox2_domain.proofs.ReceiverChanges.{FitsReceiver, IsNewOfReceiver, wi
 use Rattle.iox2_domain.proofs.Standing.{one-publisher, one-subscriber}
 
 module _ {T U : Type 0} (f : Fields T U) (sound : IsDomain f) (j : ℕ) (y : SubscriberFields) (at : get_or f.subscribers j None ≡ Some y)
-    (keys : List (Option ℕ)) (is_due : Bool) (connections : Slab Link) (warnings : Buffer Warning) (fits : FitsReceiver f j y keys connections) where
+    (keys : List (Option ℕ)) (place_room : ℕ) (is_due : Bool) (connections : Slab Link) (warnings : Buffer Warning) (fits : FitsReceiver f j y keys place_room connections) where
   abbrev changed : SubscriberFields
-  changed = with_keys y keys is_due
+  changed = with_keys y keys place_room is_due
 
   abbrev subscribers : List (Option SubscriberFields)
   subscribers = slice_set f.subscribers j (Some changed)
 
   abbrev after : Fields T U
-  after = with_receiver f j y keys is_due connections warnings
+  after = with_receiver f j y keys place_room is_due connections warnings
 
   abbrev New : (key : ℕ) → Link → Type 0
-  New key c = IsNewOfReceiver f j y keys key c
+  New key c = IsNewOfReceiver f j y keys place_room key c
 
   stood : (k : ℕ) (z : SubscriberFields) → get_or subscribers k None ≡ Some z → ((k ≡ j) × (z ≡ changed)) ⊎ (get_or f.subscribers k None ≡ Some z)
   stood = changed-stood f.subscribers j y changed at
@@ -112,6 +112,22 @@ module _ {T U : Type 0} (f : Fields T U) (sound : IsDomain f) (j : ℕ) (y : Sub
             (place ∙ sym new.subscriber_place, new.buffer ∙ sym (ap (λ (z : SubscriberFields). z.buffer) is) ∙ ap (λ (r : ReceiverDetails). r.buffer_size) details)
       ]
 
+  receiver_room : (key k : ℕ) (c : Link) (z : SubscriberFields) → get_or subscribers k None ≡ Some z → z.id ≡ c.home.subscriber
+      → (get f.connections key ≡ Some c) ⊎ New key c → ((k ≡ j) × (z ≡ changed)) ⊎ (get_or f.subscribers k None ≡ Some z) → c.home.publisher_place < z.place_room
+  receiver_room key k c z at_z same (inl old) (inl here) =
+      let low : c.home.publisher_place < y.place_room = sound.linked.receiver_rooms key j c y old at (sym (ap (λ (w : SubscriberFields). w.id) here.1) ∙ same) in
+      let grows = fits.grows in
+      let enough : c.home.publisher_place < place_room = omega arith in
+      rw here.1 enough
+  receiver_room key k c z at_z same (inl old) (inr was_there) = sound.linked.receiver_rooms key k c z old was_there same
+  receiver_room key k c z at_z same (inr new) _ =
+      let w = was k z at_z in
+      let id : w.0.id ≡ y.id = ap (λ (r : ReceiverDetails). r.port_id) w.2 ∙ same ∙ new.subscriber in
+      let place : k ≡ j = one-subscriber f sound k j w.0 y w.1 at id in
+      let one : Some z ≡ Some changed = sym at_z ∙ ap (λ (n : ℕ). get_or subscribers n None) place ∙ changed-here f.subscribers j y changed at in
+      let is : z ≡ changed = cc in
+      rw is new.room
+
   linked : IsLinked after
   linked = record {
     senders = λ k z at_z. sender_linked f.connections connections fits.extends z.id z.places (sound.linked.senders k z at_z);
@@ -133,6 +149,15 @@ module _ {T U : Type 0} (f : Fields T U) (sound : IsDomain f) (j : ℕ) (y : Sub
       | inl old ↦ sound.linked.knows_publishers key k c z old at_z same
       | inr new ↦ one-publisher f sound k c.home.publisher_place z new.publisher at_z new.stands (same ∙ sym new.is_its)
     ];
+    sender_rooms = λ key k c z at_c at_z same. elim (fits.news key c at_c) [
+      | inl old ↦ sound.linked.sender_rooms key k c z old at_z same
+      | inr new ↦
+          let place : k ≡ c.home.publisher_place = one-publisher f sound k c.home.publisher_place z new.publisher at_z new.stands (same ∙ sym new.is_its) in
+          let one : Some z ≡ Some new.publisher = sym at_z ∙ ap (λ (n : ℕ). get_or f.publishers n None) place ∙ new.stands in
+          let is : z ≡ new.publisher = cc in
+          rw is new.publisher_room
+    ];
+    receiver_rooms = λ key k c z at_c at_z same. receiver_room key k c z at_z same (fits.news key c at_c) (stood k z at_z);
     limits = λ key c at_c. elim (fits.news key c at_c) [ inl old ↦ sound.linked.limits key c old | inr new ↦ new.limit ];
     returned = λ key c at_c. elim (fits.news key c at_c) [ inl old ↦ sound.linked.returned key c old | inr new ↦ inr new.returned ];
   }
@@ -181,10 +206,6 @@ module _ {T U : Type 0} (f : Fields T U) (sound : IsDomain f) (j : ℕ) (y : Sub
     counted = counted;
     numbered = sound.numbered;
     publisher_room = sound.publisher_room;
-    subscriber_room = λ k z at_z. elim (stood k z at_z) [
-      | inl here ↦ rw here.1 (let has = sound.subscriber_room j y at in record { places = has.places })
-      | inr old ↦ sound.subscriber_room k z old
-    ];
     warning_room = room;
     shapes = record { at = sound.shapes.at };
     supported = sound.supported;
@@ -193,5 +214,5 @@ module _ {T U : Type 0} (f : Fields T U) (sound : IsDomain f) (j : ℕ) (y : Sub
     well_formed = well;
     entries = λ p n held. sound.entries p n (held-before (state_of (kept_of f)) (state_of (kept_of after)) p n
         (λ q. ap (λ (boxes : ℕ → ℕ → Mailbox). boxes p q) (mailboxes-same f sound connections fits.extends))
-        (λ w at_w. (w, ap (λ (s : State T U). s.publishers p) (sym (receiver-is f sound j y at keys is_due connections warnings fits)) ∙ at_w, record { history = refl; blocked = refl })) held);
+        (λ w at_w. (w, ap (λ (s : State T U). s.publishers p) (sym (receiver-is f sound j y at keys place_room is_due connections warnings fits)) ∙ at_w, record { history = refl; blocked = refl })) held);
   }

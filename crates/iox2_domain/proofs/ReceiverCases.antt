@@ -1,5 +1,5 @@
 -- What a subscriber's update comes to at one publisher's place.
-use Rattle.std.proofs.Common.{◌≡◌, ℕ, false, List, get_or, slice_set, refl, ap, sym, subst, ◌∙◌, inl, inr}
+use Rattle.std.proofs.Common.{◌<◌, le_refl, ◌≡◌, ℕ, false, List, get_or, slice_set, refl, ap, sym, subst, ◌∙◌, inl, inr}
 use Rattle.std.proofs.lemmas.List.{set-get_or}
 use Rattle.std.specs.declared.option.Option.{Option}
 use Rattle.std.specs.declared.option.Option.TheVariants.{None, Some}
@@ -103,6 +103,7 @@ module _ {T U : Type 0} (f : Fields T U) (sound : IsDomain f) (i j : ℕ) (x : P
         let extends = (receiver_fits-same f sound j y at_y f.connections.capacity).extends in
         steps-connect f sound i j x y at_x at_y due (keys_with key) f.connections f.warnings (record {
           extends = extends;
+          grows = le_refl y.place_room;
           linked = linked-with f.connections key joined.0 (sound.linked.receivers j y at_y) own.stands own.subscriber (sound.linked.limits key joined.0 own.stands);
           places = places-with f.connections key joined.0 extends own.stands own.publisher_place;
           keeps = set_place-keeps y.places i key none;
@@ -123,11 +124,12 @@ module _ {T U : Type 0} (f : Fields T U) (sound : IsDomain f) (i j : ℕ) (x : P
       extends-made key new made = made-extends f.connections new (home_of i j x y) y.buffer most key sound.apart nobody made
 
       -- a connection is made
-      pub makes-connection : (key : ℕ) (new : Slab Link) → MakesConnection f.connections (home_of i j x y) y.buffer (f.config).subscriber_max_borrowed_samples key new
+      pub makes-connection : j < x.place_room → i < y.place_room → (key : ℕ) (new : Slab Link) → MakesConnection f.connections (home_of i j x y) y.buffer (f.config).subscriber_max_borrowed_samples key new
           → ConnectsReceiver f j i y (connected_receiver f j y (set_place y.places i (Some key)) new f.warnings)
-      makes-connection key new made =
+      makes-connection room_x room key new made =
           steps-connect f sound i j x y at_x at_y due (keys_with key) new f.warnings (record {
             extends = extends-made key new made;
+            grows = le_refl y.place_room;
             linked = linked-with new key link (receiver_linked f.connections new (extends-made key new made) y.id most y.places (sound.linked.receivers j y at_y)) made.made.changed refl refl;
             places = places-with new key link (extends-made key new made) made.made.changed refl;
             keeps = set_place-keeps y.places i key none;
@@ -137,12 +139,14 @@ module _ {T U : Type 0} (f : Fields T U) (sound : IsDomain f) (i j : ℕ) (x : P
                 subscriber = refl;
                 subscriber_place = refl;
                 has = set_place-here y.places i (Some key);
+                room = room;
                 limit = refl;
                 buffer = refl;
                 returned = refl;
                 publisher = x;
                 stands = at_x;
                 is_its = refl;
+                publisher_room = room_x;
               }))
             ];
           }) sound.warning_room

@@ -64,13 +64,15 @@ module _ {T U : Type 0} (f : Fields T U) (sound : IsDomain f) (i j : ℕ) (x : P
   present = subscriber-stands f sound j y at_y
 
   -- the machine's step is done where the fields change so
-  pub steps-connect : (keys : List (Option ℕ)) (connections : Slab Link) (warnings : Buffer Warning) → FitsReceiver f j y keys connections
+  pub steps-connect : (keys : List (Option ℕ)) (connections : Slab Link) (warnings : Buffer Warning) → FitsReceiver f j y keys y.place_room connections
       → warnings.capacity ≡ warning_limit → StepsReceiver f i y (receiver_side_with f y keys connections warnings)
       → ConnectsReceiver f j i y (connected_receiver f j y keys connections warnings)
   steps-connect keys connections warnings fits room step = record {
-    agrees = receiver-agrees f sound j y at_y keys y.is_due connections warnings fits room (rw state well);
+    agrees = receiver-agrees f sound j y at_y keys y.place_room y.is_due connections warnings fits room (rw state well);
     keys = keys;
+    place_room = y.place_room;
     fields = refl;
+    others = refl;
     side = receiver_side_with f y keys connections warnings;
     settled = refl;
     steps = step;
@@ -78,7 +80,7 @@ module _ {T U : Type 0} (f : Fields T U) (sound : IsDomain f) (i j : ℕ) (x : P
   } where
     state : state_of (kept_of (connected_receiver f j y keys connections warnings)) ≡ with_receiver_side s y.id Q (receiver_side_with f y keys connections warnings)
     state =
-        receiver-is f sound j y at_y keys y.is_due connections warnings fits
+        receiver-is f sound j y at_y keys y.place_room y.is_due connections warnings fits
         ∙ (λ k. record s {
           subscribers = put_at s.subscribers y.id (Some (record Q { ends = receiver_ends connections keys; is_due = due k }));
           mailboxes = λ p. put_at-same (s.mailboxes p) y.id k;

@@ -81,7 +81,6 @@ module _ {T U : Type 0} (f : Fields T U) (sound : IsDomain f) (key : ℕ) (c : L
       counted = counted-still;
       numbered = sound.numbered;
       publisher_room = sound.publisher_room;
-      subscriber_room = sound.subscriber_room;
       warning_room = sound.warning_room;
       shapes = record { at = sound.shapes.at };
       supported = sound.supported;

@@ -243,7 +243,6 @@ module _ {T U : Type 0} (f : Fields T U) (parts : HasParts f) (p key : ℕ) (b :
     counted = recounted-counted;
     numbered = numbered;
     publisher_room = parts.publisher_room;
-    subscriber_room = parts.subscriber_room;
     warning_room = parts.warning_room;
     shapes = shapes;
     supported = parts.supported;

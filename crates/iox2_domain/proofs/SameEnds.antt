@@ -1,5 +1,5 @@
 -- Connections change, and none is made, goes or moves: the ends of all ports stay.
-use Rattle.std.proofs.Common.{◌≡◌, ℕ, map, get_or, refl, ap, sym, subst, ◌∙◌, inl, inr, ◌⊎◌, Option, None, Some}
+use Rattle.std.proofs.Common.{◌<◌, ◌≡◌, ℕ, map, get_or, refl, ap, sym, subst, ◌∙◌, inl, inr, ◌⊎◌, Option, None, Some}
 use Rattle.std.specs.Prelude.{IsSomeAnd, Contains, []}
 use Rattle.std.specs.Option.{option_map}
 use Rattle.slab.specs.Slab.{Slab, get}
@@ -110,6 +110,12 @@ module _ {T U : Type 0} (f : Fields T U) (new : Slab Link) (same : SameHomes f.c
     knows_publishers = λ key i c x at_c at_x is. let b = before key c at_c in
         linked.knows_publishers key i b.0 x b.1 at_x (is ∙ sym (ap (λ (t : Home × ℕ × ℕ). t.0.publisher) b.2))
         ∙ ap (λ (t : Home × ℕ × ℕ). t.0.publisher_place) b.2;
+    sender_rooms = λ key i c x at_c at_x is. let b = before key c at_c in
+        subst (λ (n : ℕ). n < x.place_room) (ap (λ (t : Home × ℕ × ℕ). t.0.subscriber_place) b.2)
+        (linked.sender_rooms key i b.0 x b.1 at_x (is ∙ sym (ap (λ (t : Home × ℕ × ℕ). t.0.publisher) b.2)));
+    receiver_rooms = λ key i c y at_c at_y is. let b = before key c at_c in
+        subst (λ (n : ℕ). n < y.place_room) (ap (λ (t : Home × ℕ × ℕ). t.0.publisher_place) b.2)
+        (linked.receiver_rooms key i b.0 y b.1 at_y (is ∙ sym (ap (λ (t : Home × ℕ × ℕ). t.0.subscriber) b.2)));
     limits = λ key c at. let b = before key c at in sym (ap (λ (t : Home × ℕ × ℕ). t.2) b.2) ∙ linked.limits key b.0 b.1;
     returned = returned;
   } where

@@ -282,12 +282,11 @@ module _ {T U : Type 0} (f : Fields T U) (parts : HasParts f) (i : ℕ) (x : Pub
     publisher_ids = changed-ids_apart f i x (with_loan_out slot x) here refl parts.publisher_ids;
     subscriber_ids = parts.subscriber_ids;
     apart = parts.apart;
-    linked = changed-linked_same between i x (with_loan_out slot x) here refl (linked-book f x.book b (with_sent slot b) at (sent-keeps b slot) parts.linked) refl;
+    linked = changed-linked_same between i x (with_loan_out slot x) here refl (linked-book f x.book b (with_sent slot b) at (sent-keeps b slot) parts.linked) keeps.place_room refl;
     books = changed-books between i x (with_loan_out slot x) here refl (books-changed f x.book b (with_sent slot b) at (sent-keeps b slot) parts.books aligned) keeps;
     counted = ended-counted;
     numbered = ended-numbered;
     publisher_room = changed-room f i x (with_loan_out slot x) here refl parts.publisher_room keeps;
-    subscriber_room = parts.subscriber_room;
     warning_room = parts.warning_room;
     shapes = ended-shapes;
     supported = parts.supported;

@@ -40,7 +40,7 @@ module _ {T U : Type 0} (f0 : Fields T U) (sound : IsDomain f0) (p n place : ℕ
 
   -- the publisher after its update
   abbrev sender : PublisherFields
-  sender = record found.0 { places = u.keys; is_due = false }
+  sender = record found.0 { places = u.keys; place_room = u.place_room; is_due = false }
 
   pub sender-stands : get_or f1.publishers place None ≡ Some sender
   sender-stands = ap (λ (f : Fields T U). get_or f.publishers place None) u.fields

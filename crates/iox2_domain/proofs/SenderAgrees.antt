@@ -1,5 +1,5 @@
 -- A domain's fields agree with the new keys of a publisher.
-use Rattle.std.proofs.Common.{◌≡◌, ℕ, ◌+◌, true, false, List, Bool, get_or, slice_set, refl, ap, sym, ◌∙◌, inl, inr, ◌⊎◌, cond, eqb}
+use Rattle.std.proofs.Common.{◌≡◌, ◌<◌, ℕ, ◌+◌, arith, true, false, List, Bool, get_or, slice_set, refl, ap, sym, ◌∙◌, inl, inr, ◌⊎◌, cond, eqb}
 use Rattle.std.proofs.lemmas.List.{length-set}
 use Rattle.std.specs.declared.option.Option.{Option}
 use Rattle.std.specs.declared.option.Option.TheVariants.{None, Some}
@@ -32,18 +32,18 @@ use Rattle.iox2_domain.proofs.Standing.{one-publisher, one-subscriber}
 use Rattle.iox2_domain.proofs.SenderChanges.{FitsSender, IsNewOfSender, with_keys, with_sender, port_after, sender-is, mailboxes-same}
 
 module _ {T U : Type 0} (f : Fields T U) (sound : IsDomain f) (i : ℕ) (x : PublisherFields) (at : get_or f.publishers i None ≡ Some x)
-    (keys : List (Option ℕ)) (is_due : Bool) (connections : Slab Link) (warnings : Buffer Warning) (fits : FitsSender f i x keys connections) where
+    (keys : List (Option ℕ)) (place_room : ℕ) (is_due : Bool) (connections : Slab Link) (warnings : Buffer Warning) (fits : FitsSender f i x keys place_room connections) where
   abbrev changed : PublisherFields
-  changed = with_keys x keys is_due
+  changed = with_keys x keys place_room is_due
 
   abbrev publishers : List (Option PublisherFields)
   publishers = slice_set f.publishers i (Some changed)
 
   abbrev after : Fields T U
-  after = with_sender f i x keys is_due connections warnings
+  after = with_sender f i x keys place_room is_due connections warnings
 
   abbrev New : (key : ℕ) → Link → Type 0
-  New key c = IsNewOfSender f i x keys key c
+  New key c = IsNewOfSender f i x keys place_room key c
 
   stood : (k : ℕ) (z : PublisherFields) → get_or publishers k None ≡ Some z → ((k ≡ i) × (z ≡ changed)) ⊎ (get_or f.publishers k None ≡ Some z)
   stood = changed-stood f.publishers i x changed at
@@ -110,12 +110,36 @@ module _ {T U : Type 0} (f : Fields T U) (sound : IsDomain f) (i : ℕ) (x : Pub
           | inl old ↦ sound.linked.knows_publishers key k c old_z.0 old old_z.1 (old_z.2 ∙ same)
           | inr new ↦ one-publisher f sound k i old_z.0 x old_z.1 at (old_z.2 ∙ same ∙ new.publisher) ∙ sym new.publisher_place
         ];
+    sender_rooms = λ key k c z at_c at_z same. sender_room key k c z at_z same (fits.news key c at_c) (stood k z at_z);
+    receiver_rooms = λ key k c y at_c at_y same. elim (fits.news key c at_c) [
+      | inl old ↦ sound.linked.receiver_rooms key k c y old at_y same
+      | inr new ↦
+          let place : k ≡ c.home.subscriber_place = one-subscriber f sound k c.home.subscriber_place y new.subscriber at_y new.stands (same ∙ sym new.is_its) in
+          let one : Some y ≡ Some new.subscriber = sym at_y ∙ ap (λ (n : ℕ). get_or f.subscribers n None) place ∙ new.stands in
+          let is : y ≡ new.subscriber = cc in
+          rw is new.subscriber_room
+    ];
     limits = λ key c at_c. elim (fits.news key c at_c) [ inl old ↦ sound.linked.limits key c old | inr new ↦ new.limit ];
     returned = λ key c at_c. elim (fits.news key c at_c) [
       | inl old ↦ elim (sound.linked.returned key c old) [ inl has ↦ inl (has-still key c has) | inr none ↦ inr none ]
       | inr new ↦ inl (has-new key c new)
     ];
   } where
+    sender_room : (key k : ℕ) (c : Link) (z : PublisherFields) → get_or publishers k None ≡ Some z → z.id ≡ c.home.publisher
+        → (get f.connections key ≡ Some c) ⊎ New key c → ((k ≡ i) × (z ≡ changed)) ⊎ (get_or f.publishers k None ≡ Some z) → c.home.subscriber_place < z.place_room
+    sender_room key k c z at_z same (inl old) (inl here) =
+        let low : c.home.subscriber_place < x.place_room = sound.linked.sender_rooms key i c x old at (sym (ap (λ (w : PublisherFields). w.id) here.1) ∙ same) in
+        let grows = fits.grows in
+        let enough : c.home.subscriber_place < place_room = omega arith in
+        rw here.1 enough
+    sender_room key k c z at_z same (inl old) (inr was_there) = sound.linked.sender_rooms key k c z old was_there same
+    sender_room key k c z at_z same (inr new) _ =
+        let old_z = was k z at_z in
+        let place : k ≡ i = one-publisher f sound k i old_z.0 x old_z.1 at (old_z.2 ∙ same ∙ new.publisher) in
+        let one : Some z ≡ Some changed = sym at_z ∙ ap (λ (n : ℕ). get_or publishers n None) place ∙ changed-here f.publishers i x changed at in
+        let is : z ≡ changed = cc in
+        rw is new.room
+
     known : (key q : ℕ) (c : Link) → get connections key ≡ Some c → (o : Option Link) → get f.connections key ≡ o → IsSomeAnd o (IsReceivers q (f.config).subscriber_max_borrowed_samples) → get f.connections key ≡ Some c
     known key q c at_c None e h = absurd h
     known key q c at_c (Some d) e h = e ∙ sym (fits.extends.grows key d e) ∙ at_c
@@ -195,8 +219,8 @@ module _ {T U : Type 0} (f : Fields T U) (sound : IsDomain f) (i : ℕ) (x : Pub
   -- a publisher holds what it held
   held : (p : ℕ) (y : Publisher) → (state_of (kept_of after)).publishers p ≡ Some y → (z : Publisher) × ((state_of (kept_of f)).publishers p ≡ Some z) × KeepsHeld z y
   held p y at_y =
-      let is = ap (λ (s : State T U). s.publishers p) (sender-is f sound i x at keys is_due connections warnings fits) in
-      found_put (state_of (kept_of f)).publishers x.id (port_after f sound i x at keys is_due connections warnings fits)
+      let is = ap (λ (s : State T U). s.publishers p) (sender-is f sound i x at keys place_room is_due connections warnings fits) in
+      found_put (state_of (kept_of f)).publishers x.id (port_after f sound i x at keys place_room is_due connections warnings fits)
       (λ n w. (z : Publisher) × ((state_of (kept_of f)).publishers n ≡ Some z) × KeepsHeld z w) p y (sym is ∙ at_y)
       (λ _. ((publisher_of f.books f.connections x).port, publisher-stands f sound i x at, record { history = refl; blocked = refl }))
       (λ _ old. (y, old, record { history = refl; blocked = refl }))
@@ -212,10 +236,9 @@ module _ {T U : Type 0} (f : Fields T U) (sound : IsDomain f) (i : ℕ) (x : Pub
     counted = counted;
     numbered = sound.numbered;
     publisher_room = λ k z at_z. elim (stood k z at_z) [
-      | inl here ↦ rw here.1 (let has = sound.publisher_room i x at in record { loans = has.loans; history = has.history; places = has.places })
+      | inl here ↦ rw here.1 (let has = sound.publisher_room i x at in record { loans = has.loans; history = has.history })
       | inr old ↦ sound.publisher_room k z old
     ];
-    subscriber_room = sound.subscriber_room;
     warning_room = room;
     shapes = record { at = sound.shapes.at };
     supported = sound.supported;

@@ -1,5 +1,5 @@
 -- What a publisher's update comes to at one subscriber's place.
-use Rattle.std.proofs.Common.{◌≡◌, ℕ, false, List, get_or, slice_set, refl, ap, sym, subst, ◌∙◌, inl, inr}
+use Rattle.std.proofs.Common.{◌≡◌, ◌<◌, ℕ, le_refl, false, List, get_or, slice_set, refl, ap, sym, subst, ◌∙◌, inl, inr}
 use Rattle.std.proofs.lemmas.List.{set-get_or}
 use Rattle.std.specs.declared.option.Option.{Option}
 use Rattle.std.specs.declared.option.Option.TheVariants.{None, Some}
@@ -87,6 +87,7 @@ module _ {T U : Type 0} (f : Fields T U) (sound : IsDomain f) (i j : ℕ) (x : P
         let own = joined.1 in
         steps-connect f sound i j x y at_x at_y due (keys_with key) f.connections f.warnings (record {
           extends = (fits-same f sound i x at_x f.connections.capacity).extends;
+          grows = le_refl x.place_room;
           linked = linked-with f.connections key joined.0 (sound.linked.senders i x at_x) own.stands own.publisher own.subscriber_place;
           keeps = set_place-keeps x.places j key none;
           news = λ k c there. inl there;
@@ -109,11 +110,12 @@ module _ {T U : Type 0} (f : Fields T U) (sound : IsDomain f) (i j : ℕ) (x : P
       extends key new made = made-extends f.connections new (home_of i j x y) y.buffer most key sound.apart nobody made
 
       -- a connection is made
-      pub makes-connection : (key : ℕ) (new : Slab Link) → MakesConnection f.connections (home_of i j x y) y.buffer (f.config).subscriber_max_borrowed_samples key new
+      pub makes-connection : j < x.place_room → i < y.place_room → (key : ℕ) (new : Slab Link) → MakesConnection f.connections (home_of i j x y) y.buffer (f.config).subscriber_max_borrowed_samples key new
           → ConnectsSender f i j x (connected_sender f i x (set_place x.places j (Some key)) new f.warnings)
-      makes-connection key new made =
+      makes-connection room room_y key new made =
           steps-connect f sound i j x y at_x at_y due (keys_with key) new f.warnings (record {
             extends = extends key new made;
+            grows = le_refl x.place_room;
             linked = linked-with new key link (sender_linked f.connections new (extends key new made) x.id x.places (sound.linked.senders i x at_x)) made.made.changed refl refl;
             keeps = set_place-keeps x.places j key none;
             news = λ k c at. elim (made-news f.connections new (home_of i j x y) y.buffer most key sound.apart nobody made k c at) [
@@ -122,10 +124,12 @@ module _ {T U : Type 0} (f : Fields T U) (sound : IsDomain f) (i j : ℕ) (x : P
                 publisher = refl;
                 publisher_place = refl;
                 has = set_place-here x.places j (Some key);
+                room = room;
                 limit = refl;
                 subscriber = y;
                 stands = at_y;
                 is_its = refl;
+                subscriber_room = room_y;
                 buffer = refl;
               }))
             ];

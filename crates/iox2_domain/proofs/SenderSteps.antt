@@ -67,13 +67,15 @@ module _ {T U : Type 0} (f : Fields T U) (sound : IsDomain f) (i j : ℕ) (x : P
   present = publisher-stands f sound i x at_x
 
   -- the machine's step is done where the fields change so
-  pub steps-connect : (keys : List (Option ℕ)) (connections : Slab Link) (warnings : Buffer Warning) → FitsSender f i x keys connections
+  pub steps-connect : (keys : List (Option ℕ)) (connections : Slab Link) (warnings : Buffer Warning) → FitsSender f i x keys x.place_room connections
       → warnings.capacity ≡ warning_limit → StepsSender f j x (side_with f x keys connections warnings)
       → ConnectsSender f i j x (connected_sender f i x keys connections warnings)
   steps-connect keys connections warnings fits room step = record {
-    agrees = sender-agrees f sound i x at_x keys x.is_due connections warnings fits room (rw state well);
+    agrees = sender-agrees f sound i x at_x keys x.place_room x.is_due connections warnings fits room (rw state well);
     keys = keys;
+    place_room = x.place_room;
     fields = refl;
+    others = refl;
     side = side_with f x keys connections warnings;
     steps = step;
     state = state;
@@ -83,7 +85,7 @@ module _ {T U : Type 0} (f : Fields T U) (sound : IsDomain f) (i j : ℕ) (x : P
 
     state : state_of (kept_of (connected_sender f i x keys connections warnings)) ≡ with_sender_side s x.id P (side_with f x keys connections warnings)
     state =
-        sender-is f sound i x at_x keys x.is_due connections warnings fits
+        sender-is f sound i x at_x keys x.place_room x.is_due connections warnings fits
         ∙ (λ k. record s {
           publishers = put_at s.publishers x.id (Some (record P { ends = sender_ends connections keys; is_due = due k }));
           mailboxes = put_at-same s.mailboxes x.id k;

@@ -20,7 +20,7 @@ use Rattle.iox2_domain.specs.Ports.{PublisherFields}
 use Rattle.iox2_domain.specs.Kept.{state_of, entries_of}
 use Rattle.iox2_domain.specs.Fields.{Fields, kept_of, publisher_of, subscriber_of}
 use Rattle.iox2_domain.specs.Invariant.{IsDomain}
-use Rattle.iox2_domain.specs.Updates.{is_publisher_due}
+use Rattle.iox2_domain.specs.Updates.{is_publisher_due, subscriber_but_room}
 use Rattle.iox2_domain.specs.Connects.{ConnectsSender, UpdatesPublisher}
 use Rattle.iox2_domain.proofs.ConnectionEnds.{publisher-stands}
 use Rattle.iox2_domain.proofs.Changed.{changed-here}
@@ -33,7 +33,9 @@ use Rattle.iox2_domain.proofs.SenderWalk.{AtPlace, publisher_mid, state-again, s
 pub record WalksSender {T U : Type 0} (f : Fields T U) (i : ℕ) (x : PublisherFields) (j : ℕ) (f' : Fields T U) : Type 0 where
   pub agrees : IsDomain f'
   pub keys : List (Option ℕ)
-  pub fields : f' ≡ record f { publishers = slice_set f.publishers i (Some (record x { places = keys; is_due = false })); connections = f'.connections; warnings = f'.warnings }
+  pub place_room : ℕ
+  pub fields : f' ≡ record f { publishers = slice_set f.publishers i (Some (record x { places = keys; place_room = place_room; is_due = false })); subscribers = f'.subscribers; connections = f'.connections; warnings = f'.warnings }
+  pub others : map (option_map subscriber_but_room) f'.subscribers ≡ map (option_map subscriber_but_room) f.subscribers
   pub side : SenderSide
   pub state : state_of (kept_of f') ≡ with_sender_side (state_of (kept_of f)) x.id (publisher_of f.books f.connections x).port side
   pub walk : (end : SenderSide)
@@ -59,16 +61,18 @@ module _ {T U : Type 0} (f : Fields T U) (sound : IsDomain f) (i : ℕ) (x : Pub
 
   settled-is : state_of (kept_of settled) ≡ with_sender_side s x.id P (sender_side s x.id P)
   settled-is =
-      sender-is f sound i x at x.places false f.connections f.warnings (fits-same f sound i x at f.connections.capacity)
+      sender-is f sound i x at x.places x.place_room false f.connections f.warnings (fits-same f sound i x at f.connections.capacity)
       ∙ (λ k. record s { publishers = put_at s.publishers x.id (Some (record P { is_due = false })); mailboxes = put_at-own s.mailboxes x.id k })
 
   -- the walk begins where the publisher is due no more
   pub walk-begins : WalksSender f i x 0 settled
   walk-begins = record {
-    agrees = sender-agrees f sound i x at x.places false f.connections f.warnings (fits-same f sound i x at f.connections.capacity) sound.warning_room
+    agrees = sender-agrees f sound i x at x.places x.place_room false f.connections f.warnings (fits-same f sound i x at f.connections.capacity) sound.warning_room
         (rw settled-is (with_sender_side_keeps s sound.well_formed x.id P present refl (sender_side s x.id P) (sender_side_begins s sound.well_formed x.id P present)));
     keys = x.places;
+    place_room = x.place_room;
     fields = refl;
+    others = refl;
     side = sender_side s x.id P;
     state = settled-is;
     walk = λ end rest. rest;
@@ -82,7 +86,7 @@ module _ {T U : Type 0} (f : Fields T U) (sound : IsDomain f) (i : ℕ) (x : Pub
   module _ (j : ℕ) (f' : Fields T U) (walks : WalksSender f i x j f') where
     -- the publisher on its way
     abbrev pub walking : PublisherFields
-    walking = record x { places = walks.keys; is_due = false }
+    walking = record x { places = walks.keys; place_room = walks.place_room; is_due = false }
 
     pub walking-stands : get_or f'.publishers i None ≡ Some walking
     walking-stands = ap (λ (g : Fields T U). get_or g.publishers i None) walks.fields ∙ changed-here f.publishers i x walking at
@@ -99,10 +103,12 @@ module _ {T U : Type 0} (f : Fields T U) (sound : IsDomain f) (i : ℕ) (x : Pub
     walk-more low f'' step = record {
       agrees = step.agrees;
       keys = step.keys;
+      place_room = step.place_room;
       fields = step.fields
-          ∙ (λ k. record (walks.fields k) { publishers = slice_set ((walks.fields k).publishers) i (Some (record x { places = step.keys; is_due = false })); connections = f''.connections; warnings = f''.warnings })
-          ∙ ap (λ (xs : List (Option PublisherFields)). record f { publishers = xs; connections = f''.connections; warnings = f''.warnings })
-          (set-set f.publishers i (Some walking) (Some (record x { places = step.keys; is_due = false })));
+          ∙ (λ k. record (walks.fields k) { publishers = slice_set ((walks.fields k).publishers) i (Some (record x { places = step.keys; place_room = step.place_room; is_due = false })); subscribers = f''.subscribers; connections = f''.connections; warnings = f''.warnings })
+          ∙ ap (λ (xs : List (Option PublisherFields)). record f { publishers = xs; subscribers = f''.subscribers; connections = f''.connections; warnings = f''.warnings })
+          (set-set f.publishers i (Some walking) (Some (record x { places = step.keys; place_room = step.place_room; is_due = false })));
+      others = step.others ∙ walks.others;
       side = step.side;
       state = step.state ∙ (λ k. with_sender_side (walks.state k) x.id (port-is k) step.side) ∙ state-again s x.id P present walks.side step.side;
       walk = λ end rest. walks.walk end (walk-goes-on s x.id P present j walks.side step.side end (omega (arith, listed)) machine rest);
@@ -124,7 +130,9 @@ module _ {T U : Type 0} (f : Fields T U) (sound : IsDomain f) (i : ℕ) (x : Pub
       updates = due-updates s x.id P present due walks.side (walks.walk walks.side (walk-ends s x.id P present j walks.side (omega (arith, listed))));
       reaches = record { agrees = walks.agrees; state = walks.state; entries = same-entries };
       keys = walks.keys;
+      place_room = walks.place_room;
       fields = walks.fields;
+      others = walks.others;
     }
 
   -- a publisher that isn't due is as it is
@@ -134,6 +142,8 @@ module _ {T U : Type 0} (f : Fields T U) (sound : IsDomain f) (i : ℕ) (x : Pub
     updates = machine-idle s x.id P present due;
     reaches = record { agrees = sound; state = refl; entries = λ n entry e. e };
     keys = x.places;
+    place_room = x.place_room;
+    others = refl;
     fields = sym (ap (λ (xs : List (Option PublisherFields)). record f { publishers = xs }) (ap (slice_set f.publishers i) (ap (λ b. Some (record x { is_due = b })) (sym due) ∙ sym at) ∙ set-get_or f.publishers i None));
   }
 
@@ -143,7 +153,8 @@ due-at xs i x at = ap (λ o. option_map_or (λ (z : PublisherFields). z.is_due) 
 
 -- how many places there are on the way
 pub walking-publishers : {T U : Type 0} (f : Fields T U) (i : ℕ) (x : PublisherFields) (j : ℕ) (f' : Fields T U) → WalksSender f i x j f' → length f'.publishers ≡ length f.publishers
-walking-publishers f i x j f' walks = ap (λ g. length g.publishers) walks.fields ∙ length-set f.publishers i (Some (record x { places = walks.keys; is_due = false }))
+walking-publishers f i x j f' walks = ap (λ g. length g.publishers) walks.fields ∙ length-set f.publishers i (Some (record x { places = walks.keys; place_room = walks.place_room; is_due = false }))
 
 pub walking-subscribers : {T U : Type 0} (f : Fields T U) (i : ℕ) (x : PublisherFields) (j : ℕ) (f' : Fields T U) → WalksSender f i x j f' → length f'.subscribers ≡ length f.subscribers
-walking-subscribers f i x j f' walks = ap (λ g. length g.subscribers) walks.fields
+walking-subscribers f i x j f' walks =
+    sym (length-map f'.subscribers (option_map subscriber_but_room)) ∙ ap length walks.others ∙ length-map f.subscribers (option_map subscriber_but_room)

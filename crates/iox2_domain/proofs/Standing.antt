@@ -75,19 +75,6 @@ module _ {T U : Type 0} (f : Fields T U) (sound : IsDomain f) where
   pub one-subscriber : (j k : ℕ) (y z : SubscriberFields) → get_or f.subscribers j None ≡ Some y → get_or f.subscribers k None ≡ Some z → y.id ≡ z.id → j ≡ k
   one-subscriber j k y z at_y at_z same = (sound.subscriber_ids z.id).one j k y z at_y at_z (eq-eqb y.id z.id same) (eq-eqb z.id z.id refl)
 
-  -- ---- room
-
-  -- the publisher has room for a key at a subscriber's place, and back
-  pub sender-room : (i j : ℕ) (x : PublisherFields) (y : SubscriberFields) → get_or f.publishers i None ≡ Some x → get_or f.subscribers j None ≡ Some y → j < x.place_room
-  sender-room i j x y at_x at_y =
-      let low : j < length (state_of (kept_of f)).subscriber_places = occupied_within _ j y.id (subscriber-listed j y at_y) in
-      omega (arith, sound.well_formed.subscriber_places.bound, (sound.publisher_room i x at_x).places)
-
-  pub receiver-room : (i j : ℕ) (x : PublisherFields) (y : SubscriberFields) → get_or f.publishers i None ≡ Some x → get_or f.subscribers j None ≡ Some y → i < y.place_room
-  receiver-room i j x y at_x at_y =
-      let low : i < length (state_of (kept_of f)).publisher_places = occupied_within _ i x.id (publisher-listed i x at_x) in
-      omega (arith, sound.well_formed.publisher_places.bound, (sound.subscriber_room j y at_y).places)
-
   -- a subscriber has some room for messages
   pub some-buffer : (j : ℕ) (y : SubscriberFields) → get_or f.subscribers j None ≡ Some y → 0 < y.buffer
   some-buffer j y at_y = (sound.well_formed.subscribers y.id _ (subscriber-stands f sound j y at_y)).some_room
@@ -187,3 +174,14 @@ module _ {T U : Type 0} (f : Fields T U) (sound : IsDomain f) where
           let parts = both _ _ e in
           absurd (ends key c at (eqb-true c.home.publisher x.id parts.0) (eqb-true c.home.subscriber y.id parts.1) (sound.linked.ends key c at))
       by key c at false e = refl
+
+    -- the ports of a connection that one of them has have room for its key
+    pub sender-room : (key : ℕ) → get_or y.places i None ≡ Some key → j < x.place_room
+    sender-room key at =
+        let joined = receiver-joins key at in
+        subst (λ (n : ℕ). n < x.place_room) joined.1.subscriber_place (sound.linked.sender_rooms key i joined.0 x joined.1.stands at_x (sym joined.1.publisher))
+
+    pub receiver-room : (key : ℕ) → get_or x.places j None ≡ Some key → i < y.place_room
+    receiver-room key at =
+        let joined = sender-joins key at in
+        subst (λ (n : ℕ). n < y.place_room) joined.1.publisher_place (sound.linked.receiver_rooms key j joined.0 y joined.1.stands at_y (sym joined.1.subscriber))

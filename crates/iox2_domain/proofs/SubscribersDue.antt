@@ -70,6 +70,9 @@ module _ {T U : Type 0} (f : Fields T U) where
         linked.receiver_places i place key was.0 c was.1 (ap (λ (z : SubscriberFields). get_or z.places place None) (sym was.2) ∙ at_key) at_c;
     knows = record { at = λ key i c d at_c at_d same. knows key i c d at_c (viewed details_of (map (option_map subscriber_due) f.subscribers) i d at_d) same };
     knows_publishers = linked.knows_publishers;
+    sender_rooms = linked.sender_rooms;
+    receiver_rooms = λ key i c y at_c at_y same. let was = was_there i y at_y in
+        rw was.2 (linked.receiver_rooms key i c was.0 at_c was.1 (sym (ap (λ (z : SubscriberFields). z.id) was.2) ∙ same));
     limits = linked.limits;
     returned = linked.returned;
   } where
@@ -125,8 +128,6 @@ module _ {T U : Type 0} (f : Fields T U) where
     counted = record { at = sound.counted.at };
     numbered = sound.numbered;
     publisher_room = sound.publisher_room;
-    subscriber_room = λ i y at. let was = was_there i y at in let has = sound.subscriber_room i was.0 was.1 in
-        rw was.2 (record { places = has.places });
     warning_room = sound.warning_room;
     shapes = record { at = sound.shapes.at };
     supported = sound.supported;

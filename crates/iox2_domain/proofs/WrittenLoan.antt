@@ -194,7 +194,6 @@ module _ {T U : Type 0} (f : Fields T U) (sound : IsDomain f) (single : (f.confi
         counted = slot-counted f sound key slot at.book at.stands cs at_c Written (written_content value);
         numbered = slot-numbered f sound key slot at.book at.stands cs at_c Written (written_content value);
         publisher_room = sound.publisher_room;
-        subscriber_room = sound.subscriber_room;
         warning_room = sound.warning_room;
         shapes = write-shapes;
         supported = sound.supported;
@@ -212,6 +211,8 @@ module _ {T U : Type 0} (f : Fields T U) (sound : IsDomain f) (single : (f.confi
           receiver_places = sound.linked.receiver_places;
           knows = sound.linked.knows;
           knows_publishers = sound.linked.knows_publishers;
+          sender_rooms = sound.linked.sender_rooms;
+          receiver_rooms = sound.linked.receiver_rooms;
           limits = sound.linked.limits;
           returned = sound.linked.returned;
         }

@@ -1,7 +1,8 @@
 -- An update of a port, and a step of it at one place of the other side.
-use Rattle.std.specs.Prelude.{◌≡◌, ℕ, false, List, slice_set}
+use Rattle.std.specs.Prelude.{◌≡◌, ◌≤◌, ℕ, false, List, map, slice_set}
 use Rattle.std.specs.declared.option.Option.{Option}
 use Rattle.std.specs.declared.option.Option.TheVariants.{None, Some}
+use Rattle.std.specs.Option.{option_map}
 use Rattle.iox2_store.specs.Environments.{fixed_handlers}
 use Rattle.iox2_store.specs.Limits.{expired_limit}
 use Rattle.iox2_store.specs.Places.{occupant}
@@ -12,15 +13,28 @@ use Rattle.iox2_domain.specs.Ports.{PublisherFields, SubscriberFields}
 use Rattle.iox2_domain.specs.Kept.{state_of}
 use Rattle.iox2_domain.specs.Fields.{Fields, kept_of, publisher_of, subscriber_of}
 use Rattle.iox2_domain.specs.Invariant.{IsDomain}
+use Rattle.iox2_domain.specs.Updates.{changed_at, with_sender_room, with_receiver_room, sender_room, receiver_room, publisher_but_room, subscriber_but_room}
 use Rattle.iox2_domain.specs.Reaches.{Reaches}
 
 module _ {T U : Type 0} where
+  -- The ports at the places i and j may have got more room for keys. Nothing else changed but connections.
+  pub record MakesRoom (f : Fields T U) (i j : ℕ) (f' : Fields T U) : Type 0 where
+    pub sender : sender_room f.publishers i ≤ sender_room f'.publishers i
+    pub receiver : receiver_room f.subscribers j ≤ receiver_room f'.subscribers j
+    pub fields : f' ≡ record f {
+      publishers = changed_at (with_sender_room (sender_room f'.publishers i)) f.publishers i;
+      subscribers = changed_at (with_receiver_room (receiver_room f'.subscribers j)) f.subscribers j;
+      connections = f'.connections;
+    }
+
   -- The publisher x at the place i, which isn't due, has done the machine's step at the subscriber's place j, and nothing
-  -- changed but its keys, connections and warnings.
+  -- changed but its keys, connections, warnings and the room for keys.
   pub record ConnectsSender (f : Fields T U) (i j : ℕ) (x : PublisherFields) (f' : Fields T U) : Type 0 where
     pub agrees : IsDomain f'
     pub keys : List (Option ℕ)
-    pub fields : f' ≡ record f { publishers = slice_set f.publishers i (Some (record x { places = keys })); connections = f'.connections; warnings = f'.warnings }
+    pub place_room : ℕ
+    pub fields : f' ≡ record f { publishers = slice_set f.publishers i (Some (record x { places = keys; place_room = place_room })); subscribers = f'.subscribers; connections = f'.connections; warnings = f'.warnings }
+    pub others : map (option_map subscriber_but_room) f'.subscribers ≡ map (option_map subscriber_but_room) f.subscribers
     pub side : SenderSide
     pub steps : UpdateSenderPlace fixed_handlers (f.config).service_id x.id (publisher_of f.books f.connections x).port.degradation_handler
         (publisher_of f.books f.connections x).port.history (receiving_buffer (state_of (kept_of f))) (has_receiver_end (state_of (kept_of f)) x.id)
@@ -28,11 +42,13 @@ module _ {T U : Type 0} where
     pub state : state_of (kept_of f') ≡ with_sender_side (state_of (kept_of f)) x.id (publisher_of f.books f.connections x).port side
 
   -- The subscriber y at the place j, which isn't due, has done the machine's step at the publisher's place i, and nothing
-  -- changed but its keys, connections and warnings.
+  -- changed but its keys, connections, warnings and the room for keys.
   pub record ConnectsReceiver (f : Fields T U) (j i : ℕ) (y : SubscriberFields) (f' : Fields T U) : Type 0 where
     pub agrees : IsDomain f'
     pub keys : List (Option ℕ)
-    pub fields : f' ≡ record f { subscribers = slice_set f.subscribers j (Some (record y { places = keys })); connections = f'.connections; warnings = f'.warnings }
+    pub place_room : ℕ
+    pub fields : f' ≡ record f { subscribers = slice_set f.subscribers j (Some (record y { places = keys; place_room = place_room })); publishers = f'.publishers; connections = f'.connections; warnings = f'.warnings }
+    pub others : map (option_map publisher_but_room) f'.publishers ≡ map (option_map publisher_but_room) f.publishers
     pub side : ReceiverSide
     pub settled : side.is_due ≡ false
     pub steps : ConnectAtPlace fixed_handlers (f.config).service_id y.id (subscriber_of f.books f.connections y).port.degradation_handler
@@ -40,18 +56,24 @@ module _ {T U : Type 0} where
         i (occupant (state_of (kept_of f)).publisher_places i) (receiver_side (state_of (kept_of f)) y.id (subscriber_of f.books f.connections y).port) side None
     pub state : state_of (kept_of f') ≡ with_receiver_side (state_of (kept_of f)) y.id (subscriber_of f.books f.connections y).port side
 
-  -- The publisher x at the place i is updated, and nothing changed but its keys, its mark, connections and warnings.
+  -- The publisher x at the place i is updated, and nothing changed but its keys, its mark, connections, warnings and the room
+  -- for keys.
   pub record UpdatesPublisher (f : Fields T U) (i : ℕ) (x : PublisherFields) (f' : Fields T U) : Type 0 where
     pub after : State T U
     pub updates : UpdatePublisher fixed_handlers (state_of (kept_of f)) x.id after None
     pub reaches : Reaches f f' after
     pub keys : List (Option ℕ)
-    pub fields : f' ≡ record f { publishers = slice_set f.publishers i (Some (record x { places = keys; is_due = false })); connections = f'.connections; warnings = f'.warnings }
+    pub place_room : ℕ
+    pub fields : f' ≡ record f { publishers = slice_set f.publishers i (Some (record x { places = keys; place_room = place_room; is_due = false })); subscribers = f'.subscribers; connections = f'.connections; warnings = f'.warnings }
+    pub others : map (option_map subscriber_but_room) f'.subscribers ≡ map (option_map subscriber_but_room) f.subscribers
 
-  -- The subscriber y at the place j is updated, and nothing changed but its keys, its mark, connections and warnings.
+  -- The subscriber y at the place j is updated, and nothing changed but its keys, its mark, connections, warnings and the room
+  -- for keys.
   pub record UpdatesSubscriber (f : Fields T U) (j : ℕ) (y : SubscriberFields) (f' : Fields T U) : Type 0 where
     pub after : State T U
     pub updates : UpdateSubscriber fixed_handlers (state_of (kept_of f)) y.id after None
     pub reaches : Reaches f f' after
     pub keys : List (Option ℕ)
-    pub fields : f' ≡ record f { subscribers = slice_set f.subscribers j (Some (record y { places = keys; is_due = false })); connections = f'.connections; warnings = f'.warnings }
+    pub place_room : ℕ
+    pub fields : f' ≡ record f { subscribers = slice_set f.subscribers j (Some (record y { places = keys; place_room = place_room; is_due = false })); publishers = f'.publishers; connections = f'.connections; warnings = f'.warnings }
+    pub others : map (option_map publisher_but_room) f'.publishers ≡ map (option_map publisher_but_room) f.publishers

@@ -46,11 +46,6 @@ details_of y = record { port_id = y.id; buffer_size = y.buffer; is_open = y.is_o
 pub record HasPublisherRoom (config : ServiceConfig) (x : PublisherFields) : Type 0 where
   pub loans : x.max_loaned_samples ≤ x.loan_room
   pub history : (x.history).capacity ≡ config.history_size
-  pub places : config.max_subscribers ≤ x.place_room
-
--- No call that can't fail has to make room for the subscriber.
-pub record HasSubscriberRoom (config : ServiceConfig) (y : SubscriberFields) : Type 0 where
-  pub places : config.max_publishers ≤ y.place_room
 
 -- ---- connections
 
@@ -84,6 +79,11 @@ pub record IsLinked {T U : Type 0} (f : Fields T U) : Type 0 where
   pub knows : KnowsReceivers f.connections (map (option_map details_of) f.subscribers)
   pub knows_publishers : (key i : ℕ) (c : Link) (x : PublisherFields) → get f.connections key ≡ Some c → slice_index_or f.publishers i None ≡ Some x
       → x.id ≡ c.home.publisher → i ≡ c.home.publisher_place
+  -- Both ports of a connection have room for its key at the other's place.
+  pub sender_rooms : (key i : ℕ) (c : Link) (x : PublisherFields) → get f.connections key ≡ Some c → slice_index_or f.publishers i None ≡ Some x
+      → x.id ≡ c.home.publisher → c.home.subscriber_place < x.place_room
+  pub receiver_rooms : (key i : ℕ) (c : Link) (y : SubscriberFields) → get f.connections key ≡ Some c → slice_index_or f.subscribers i None ≡ Some y
+      → y.id ≡ c.home.subscriber → c.home.publisher_place < y.place_room
   -- So many messages may be borrowed in each connection.
   pub limits : (key : ℕ) (c : Link) → get f.connections key ≡ Some c → c.limit ≡ (f.config).subscriber_max_borrowed_samples
   -- Slots that were given back lie where their publisher reclaims them.
@@ -205,7 +205,6 @@ pub record IsDomain {T U : Type 0} (f : Fields T U) : Type 0 where
   pub counted : IsCounted f
   pub numbered : IsNumbered f.next_message f.books
   pub publisher_room : (i : ℕ) (x : PublisherFields) → slice_index_or f.publishers i None ≡ Some x → HasPublisherRoom f.config x
-  pub subscriber_room : (i : ℕ) (y : SubscriberFields) → slice_index_or f.subscribers i None ≡ Some y → HasSubscriberRoom f.config y
   pub warning_room : (f.warnings).capacity ≡ warning_limit
   pub shapes : HasShapes f
   pub supported : IsSupported f.config

@@ -21,6 +21,30 @@ with_sender_key place key x = record x { places = set_place x.places place (Some
 abbrev pub with_receiver_key : (place key : ℕ) → SubscriberFields → SubscriberFields
 with_receiver_key place key y = record y { places = set_place y.places place (Some key) }
 
+-- The publisher, with room for so many keys.
+abbrev pub with_sender_room : (room : ℕ) → PublisherFields → PublisherFields
+with_sender_room room x = record x { place_room = room }
+
+-- The subscriber, with room for so many keys.
+abbrev pub with_receiver_room : (room : ℕ) → SubscriberFields → SubscriberFields
+with_receiver_room room y = record y { place_room = room }
+
+-- How many keys the publisher at a place has room for.
+abbrev pub sender_room : List (Option PublisherFields) → (at : ℕ) → ℕ
+sender_room publishers at = option_map_or (λ (x : PublisherFields). x.place_room) (slice_index_or publishers at None) 0
+
+-- How many keys the subscriber at a place has room for.
+abbrev pub receiver_room : List (Option SubscriberFields) → (at : ℕ) → ℕ
+receiver_room subscribers at = option_map_or (λ (y : SubscriberFields). y.place_room) (slice_index_or subscribers at None) 0
+
+-- The publisher, whatever room it has for keys.
+abbrev pub publisher_but_room : PublisherFields → PublisherFields
+publisher_but_room x = with_sender_room 0 x
+
+-- The subscriber, whatever room it has for keys.
+abbrev pub subscriber_but_room : SubscriberFields → SubscriberFields
+subscriber_but_room y = with_receiver_room 0 y
+
 -- The publisher, due no more.
 abbrev pub updated_publisher : PublisherFields → PublisherFields
 updated_publisher x = record x { is_due = false }

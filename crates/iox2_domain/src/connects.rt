@@ -1,10 +1,13 @@
 //! Ports get their connections, one place after the other.
-ghost use Rattle.std.specs.Prelude.{◌≡◌, ◌<◌, false, Some, None, length, slice_index_or, IfOk, OnErr};
+ghost use Rattle.std.specs.Prelude.{◌≡◌, ◌<◌, false, Some, None, length, slice_index_or, IfOk, OnOk, OnErr};
 ghost use Rattle.iox2_store.specs.declared.warning.Warning.TheVariants.{ConnectionNotMade};
 ghost use Rattle.iox2_domain.specs.Ports.{PublisherFields, SubscriberFields};
 ghost use Rattle.iox2_domain.specs.Updates.{MakesConnection, StandApart, home_of};
 
-use crate::keys::{publisher_key, set_publisher_key, set_subscriber_key, subscriber_key};
+use crate::keys::{
+    publisher_key, reserve_publisher_key, reserve_subscriber_key, set_publisher_key,
+    set_subscriber_key, subscriber_key,
+};
 use crate::publisher_state::PublisherState;
 use crate::state::DomainState;
 use crate::subscriber_state::SubscriberState;
@@ -60,7 +63,7 @@ fn make_connection(
 
 impl<T: Drop, U: Default + Drop> DomainState<T, U> {
     ghost use Rattle.iox2_domain.specs.Invariant.{IsDomain};
-    ghost use Rattle.iox2_domain.specs.Connects.{ConnectsSender, ConnectsReceiver};
+    ghost use Rattle.iox2_domain.specs.Connects.{MakesRoom, ConnectsSender, ConnectsReceiver};
 
     // Where the connection of the ports at these places stands, and how many slots may wait there.
     fn ports_at(&self, at: usize, place: usize) -> (Home, usize)
@@ -74,6 +77,30 @@ impl<T: Drop, U: Default + Drop> DomainState<T, U> {
             unreachable!()
         };
         (home_of(at, place, publisher, subscriber), subscriber.buffer)
+    }
+
+    // Makes a connection in which no slot stands, with room for its key in the ports at these places,
+    // and answers its key.
+    fn make_between(
+        &mut self,
+        at: usize,
+        place: usize,
+        home: Home,
+        buffer: usize,
+    ) -> Result<usize, AllocError>
+        requires publisher { at < length self.old.publishers }
+        requires subscriber { place < length self.old.subscribers }
+        requires buffer { 0 < buffer }
+        ensures grows { MakesRoom self.old at place self.new }
+        ensures sender_room { OnOk result ((x : PublisherFields) → slice_index_or self.new.publishers at None ≡ Some x → place < x.place_room) }
+        ensures receiver_room { OnOk result ((y : SubscriberFields) → slice_index_or self.new.subscribers place None ≡ Some y → at < y.place_room) }
+        ensures made { IfOk result (λ key. MakesConnection (self.old).connections home buffer (self.old).config.subscriber_max_borrowed_samples key (self.new).connections) }
+        ensures refused { OnErr result ((self.new).connections ≡ record (self.old).connections { capacity = (self.new).connections.capacity }) }
+    {
+        reserve_publisher_key(&mut self.publishers, at, place)?;
+        reserve_subscriber_key(&mut self.subscribers, place, at)?;
+        let limit = self.config.subscriber_max_borrowed_samples;
+        make_connection(self.alloc, &mut self.connections, home, buffer, limit)
     }
 
     /// The publisher at a place that isn't due gets its connection with the subscriber at another.
@@ -93,8 +120,7 @@ impl<T: Drop, U: Default + Drop> DomainState<T, U> {
             return;
         }
         let (home, buffer) = self.ports_at(at, place);
-        let limit = self.config.subscriber_max_borrowed_samples;
-        let Ok(key) = make_connection(self.alloc, &mut self.connections, home, buffer, limit) else {
+        let Ok(key) = self.make_between(at, place, home, buffer) else {
             warn(&mut self.warnings, not_made(home));
             return;
         };
@@ -118,8 +144,7 @@ impl<T: Drop, U: Default + Drop> DomainState<T, U> {
             return;
         }
         let (home, buffer) = self.ports_at(at, place);
-        let limit = self.config.subscriber_max_borrowed_samples;
-        let Ok(key) = make_connection(self.alloc, &mut self.connections, home, buffer, limit) else {
+        let Ok(key) = self.make_between(at, place, home, buffer) else {
             warn(&mut self.warnings, not_made(home));
             return;
         };

@@ -1,10 +1,12 @@
 //! Where the ports have the keys of their connections.
-ghost use Rattle.std.specs.Prelude.{◌≡◌, ◌<◌, Some, None, length, slice_index_or, vec_capacity};
+ghost use Rattle.std.specs.Prelude.{◌≡◌, ◌<◌, ◌≤◌, Some, None, length, slice_index_or, vec_capacity, OnOk};
 ghost use Rattle.iox2_store.specs.Places.{set_place};
-ghost use Rattle.iox2_domain.specs.Updates.{changed_at, with_sender_key, with_receiver_key, sender_key, receiver_key};
+ghost use Rattle.iox2_domain.specs.Updates.{changed_at, with_sender_key, with_receiver_key, with_sender_room, with_receiver_room, sender_key, receiver_key, sender_room, receiver_room};
 
+use crate::places::reserve_place;
 use crate::publisher_state::PublisherState;
 use crate::subscriber_state::SubscriberState;
+use std::alloc::AllocError;
 
 // Sets the key at a place; the list grows where it is too short.
 fn set_key(places: &mut Vec<Option<usize>>, place: usize, key: usize)
@@ -28,6 +30,14 @@ fn key_at(places: &[Option<usize>], place: usize) -> Option<usize>
 }
 
 impl PublisherState {
+    fn reserve_key(&mut self, place: usize) -> Result<(), AllocError>
+        ensures same { self.new ≡ with_sender_room self.new.place_room self.old }
+        ensures grows { self.old.place_room ≤ self.new.place_room }
+        ensures room { OnOk result (place < self.new.place_room) }
+    {
+        reserve_place(&mut self.places, place)
+    }
+
     fn set_key(&mut self, place: usize, key: usize)
         requires { place < self.old.place_room }
         ensures { self.new ≡ with_sender_key place key self.old }
@@ -37,6 +47,14 @@ impl PublisherState {
 }
 
 impl SubscriberState {
+    fn reserve_key(&mut self, place: usize) -> Result<(), AllocError>
+        ensures same { self.new ≡ with_receiver_room self.new.place_room self.old }
+        ensures grows { self.old.place_room ≤ self.new.place_room }
+        ensures room { OnOk result (place < self.new.place_room) }
+    {
+        reserve_place(&mut self.places, place)
+    }
+
     fn set_key(&mut self, place: usize, key: usize)
         requires { place < self.old.place_room }
         ensures { self.new ≡ with_receiver_key place key self.old }
@@ -70,6 +88,42 @@ pub(crate) fn subscriber_key(
     match subscribers.get(at) {
         Some(Some(subscriber)) => key_at(&subscriber.places, place),
         _ => None,
+    }
+}
+
+/// Makes room in the publisher at a place for the key of its connection with the subscriber at
+/// another.
+pub(crate) fn reserve_publisher_key(
+    publishers: &mut [Option<PublisherState>],
+    at: usize,
+    place: usize,
+) -> Result<(), AllocError>
+    requires stands { at < length publishers.old }
+    ensures same { publishers.new ≡ changed_at (with_sender_room (sender_room publishers.new at)) publishers.old at }
+    ensures grows { sender_room publishers.old at ≤ sender_room publishers.new at }
+    ensures room { OnOk result ((x : _) → slice_index_or publishers.new at None ≡ Some x → place < x.place_room) }
+{
+    match &mut publishers[at] {
+        Some(publisher) => publisher.reserve_key(place),
+        None => Ok(()),
+    }
+}
+
+/// Makes room in the subscriber at a place for the key of its connection with the publisher at
+/// another.
+pub(crate) fn reserve_subscriber_key(
+    subscribers: &mut [Option<SubscriberState>],
+    at: usize,
+    place: usize,
+) -> Result<(), AllocError>
+    requires stands { at < length subscribers.old }
+    ensures same { subscribers.new ≡ changed_at (with_receiver_room (receiver_room subscribers.new at)) subscribers.old at }
+    ensures grows { receiver_room subscribers.old at ≤ receiver_room subscribers.new at }
+    ensures room { OnOk result ((y : _) → slice_index_or subscribers.new at None ≡ Some y → place < y.place_room) }
+{
+    match &mut subscribers[at] {
+        Some(subscriber) => subscriber.reserve_key(place),
+        None => Ok(()),
     }
 }
 

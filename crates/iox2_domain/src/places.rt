@@ -1,11 +1,12 @@
 //! The places of a domain's ports.
-ghost use Rattle.std.specs.Prelude.{◌≡◌, ◌==◌, ◌<◌, ◌↔◌, ℕ, cond, nat_lt, slice_index_or, vec_capacity, IsTrue, IsSomeAnd, MatchOption};
+ghost use Rattle.std.specs.Prelude.{◌≡◌, ◌==◌, ◌<◌, ◌≤◌, ◌↔◌, ℕ, cond, nat_lt, slice_index_or, vec_capacity, IsTrue, IsSomeAnd, MatchOption, OnOk};
 ghost use Rattle.iox2_ends.specs.LookUp.{look_up};
 ghost use Rattle.iox2_domain.specs.Placed.{placed, lowest_empty};
 
 use crate::publisher_state::PublisherState;
 use crate::state::DomainState;
 use crate::subscriber_state::SubscriberState;
+use std::alloc::AllocError;
 
 /// A port has an id, which no other port of its side has.
 pub(crate) trait Port {
@@ -107,4 +108,20 @@ impl<T: Drop, U: Default + Drop> DomainState<T, U> {
     {
         find_place(&self.subscribers, id, hint)
     }
+}
+
+/// Makes room for a place, past the end of the list too.
+pub(crate) fn reserve_place<A>(places: &mut Vec<Option<A>>, place: usize) -> Result<(), AllocError>
+    ensures items { places.new.items ≡ places.old.items }
+    ensures grows { vec_capacity places.old ≤ vec_capacity places.new }
+    ensures room { OnOk result (place < vec_capacity places.new) }
+{
+    let len = places.len();
+    if place < len {
+        return Ok(());
+    }
+    let Some(additional) = (place - len).checked_add(1) else {
+        return Err(AllocError);
+    };
+    places.try_reserve(additional)
 }

@@ -66,8 +66,8 @@ impl PublisherState {
     ghost use Rattle.iox2_domain.specs.NewPublisher.{entering_publisher};
 
     /// A publisher of single values that enters at a place, with a book of so many slots at a key,
-    /// and with room for all the loans, the history and the connections that it may get. It
-    /// discards what a full receiver doesn't take, and makes no further segment.
+    /// and with room for all the loans and the history that it may get. It discards what a full receiver
+    /// doesn't take, and makes no further segment.
     pub(crate) fn new(
         alloc: Global,
         config: &ServiceConfig,
@@ -82,7 +82,6 @@ impl PublisherState {
     {
         let loans = Vec::with_capacity(alloc, max_loaned_samples)?;
         let history = HeapCircularBuffer::with_capacity(alloc, config.history_size)?;
-        let places = Vec::with_capacity(alloc, config.max_subscribers)?;
         Ok(PublisherState {
             id,
             place,
@@ -96,7 +95,7 @@ impl PublisherState {
             segments: 1,
             loans,
             history,
-            places,
+            places: Vec::new(alloc),
             is_due: true,
         })
     }

@@ -1,12 +1,12 @@
 //! The memory of a publisher: a book of its slots, and their contents at the book's key.
-ghost use Rattle.std.specs.Prelude.{◌≡◌, ◌<◌, vec_capacity, None, Some, IfOk, OnOk, OnErr, IsTrue, SomeIff};
+ghost use Rattle.std.specs.Prelude.{◌≡◌, None, Some, OnOk, OnErr, IsTrue, SomeIff};
 ghost use Rattle.slab.specs.Slab.{Updates, get};
 ghost use Rattle.iox2_store.specs.Limits.{worst_case as slots_at_most, fits};
 ghost use Rattle.iox2_store.specs.Ports.{first_segment_fits};
 ghost use Rattle.iox2_domain.specs.NewPublisher.{plain_publisher};
 ghost use Rattle.iox2_domain.specs.Placed.{placed};
 
-use crate::places::put_at_place;
+use crate::places::{put_at_place, reserve_place};
 use iox2_store::{Contents, ServiceConfig, SlotBook};
 use slab::Slab;
 use std::alloc::AllocError;
@@ -33,21 +33,6 @@ pub(crate) fn first_segment(config: &ServiceConfig, loans: usize) -> Option<usiz
     let slots = worst_case(config, loans)?;
     slots.checked_mul(config.units_per_element)?;
     Some(slots)
-}
-
-// Makes room for a place, past the end of the list too.
-fn reserve_place<A>(places: &mut Vec<Option<A>>, place: usize) -> Result<(), AllocError>
-    ensures items { places.new.items ≡ places.old.items }
-    ensures room { OnOk result (place < vec_capacity places.new) }
-{
-    let len = places.len();
-    if place < len {
-        return Ok(());
-    }
-    let Some(additional) = (place - len).checked_add(1) else {
-        return Err(AllocError);
-    };
-    places.try_reserve(additional)
 }
 
 /// Keeps a book and the contents of its slots at one key, which the books had vacant. Where memory

@@ -69,10 +69,7 @@ impl<T: Drop, U: Default + Drop> DomainState<T, U> {
             (λ e. (self.new ≡ self.old) × (e ≡ FailedToDeployThreadsafetyPolicy)) }
     {
         let id = UniqueSubscriberId::new(self.next_port);
-        let entering = SubscriberState::new(self.alloc, &self.config, id, place, asked.max(1));
-        let Ok(subscriber) = entering else {
-            return Err(SubscriberCreateError::FailedToDeployThreadsafetyPolicy);
-        };
+        let subscriber = SubscriberState::new(self.alloc, id, place, asked.max(1));
         let Ok(()) = self.subscribers.try_reserve(1) else {
             return Err(SubscriberCreateError::FailedToDeployThreadsafetyPolicy);
         };

@@ -1,11 +1,11 @@
 //! What a domain has of a subscriber.
-ghost use Rattle.std.specs.Prelude.{◌≡◌, IfOk, map};
+ghost use Rattle.std.specs.Prelude.{◌≡◌, map};
 ghost use Rattle.std.specs.Option.{option_map};
 ghost use Rattle.iox2_domain.specs.NewPublisher.{subscriber_due};
 
 use iox2_ends::sender::{Receiver, ReceiverDetails};
-use iox2_store::{ServiceConfig, UniqueSubscriberId};
-use std::alloc::{AllocError, Global};
+use iox2_store::UniqueSubscriberId;
+use std::alloc::Global;
 use std::marker::Model;
 
 /// A subscriber that wasn't closed, or that was closed and has borrowed messages. It knows its
@@ -60,29 +60,25 @@ impl Receiver for SubscriberState {
 
 impl SubscriberState {
     ghost use Rattle.iox2_domain.specs.Ports.{entering};
-    ghost use Rattle.iox2_domain.specs.Invariant.{HasSubscriberRoom};
 
-    /// A subscriber that enters at a place, with room for all the connections that it may get.
+    /// A subscriber that enters at a place.
     pub(crate) fn new(
         alloc: Global,
-        config: &ServiceConfig,
         id: UniqueSubscriberId,
         place: usize,
         buffer: usize,
-    ) -> Result<Self, AllocError>
-        ensures enters { IfOk result (λ y. y ≡ entering id place buffer y.place_room) }
-        ensures room { IfOk result (HasSubscriberRoom config.now) }
+    ) -> Self
+        ensures { result ≡ entering id place buffer result.place_room }
     {
-        let places = Vec::with_capacity(alloc, config.max_publishers)?;
-        Ok(SubscriberState {
+        SubscriberState {
             id,
             place,
             is_open: true,
             buffer,
-            places,
+            places: Vec::new(alloc),
             expired: Vec::new(alloc),
             is_due: true,
-        })
+        }
     }
 }
 

@@ -68,6 +68,8 @@ module _ {T U : Type 0} (config : ServiceConfig) (v c v' c' : ℕ) where
     knows = record { at = λ key i d y at _ _. absurd (nothing_at key d at) };
     receiver_places = λ i place key y d at _ _. absurd (nothing_at i y at);
     knows_publishers = λ key i d x at _ _. absurd (nothing_at key d at);
+    sender_rooms = λ key i d x at _ _. absurd (nothing_at key d at);
+    receiver_rooms = λ key i d y at _ _. absurd (nothing_at key d at);
     limits = λ key d at. absurd (nothing_at key d at);
     returned = λ key d at. absurd (nothing_at key d at);
   }
@@ -100,7 +102,6 @@ module _ {T U : Type 0} (config : ServiceConfig) (v c v' c' : ℕ) where
     counted = record { at = λ p slot. refl };
     numbered = numbered v' c';
     publisher_room = λ i x at. absurd (nothing_at i x at);
-    subscriber_room = λ i y at. absurd (nothing_at i y at);
     warning_room = refl;
     shapes = record { at = λ key slot b m at _. absurd (nothing_at key b at) };
     supported = supported;

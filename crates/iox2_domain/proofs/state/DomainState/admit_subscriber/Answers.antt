@@ -7,17 +7,29 @@ use Rattle.iox2_domain.proofs.SubscriberEntries.{has-entered}
 use Rattle.iox2_domain.proofs.state.DomainState.admit_subscriber.Goals as goal
 
 pub returns-in_default : goal.returns-in_default
-returns-in_default g c = (refl, refl)
+returns-in_default g c = (
+  (λ k. record {
+    config = c.self.inside.config;
+    next_port = c.self.inside.next_port;
+    next_message = c.self.inside.next_message;
+    warnings = c.self.inside.warnings;
+    publishers = c.self.inside.publishers.items;
+    subscribers = c.in_default.ensures.items k;
+    connections = c.self.inside.connections;
+    books = c.self.inside.books;
+    contents = c.self.inside.contents.items;
+  }) ∙ c.self.view_is,
+  refl,
+)
 
 pub returns : goal.returns
 returns g c =
     let all_due : c.make_all_due.new.publishers ≡ map (option_map due) c.self.inside.publishers.items = c.make_all_due.ensures ∙ ap (map (option_map due)) c.deref_mut.ensures.value in
     let size : c.max.result ≡ max 1 c.args.asked = grind (arith, c.max.ensures) in
-    has-entered {T = g.row.T.Denot} {U = g.row.U.Denot} c.args.self.now c.args.asked _ c.self.view_is c.requires.agrees c.args.place c.in-Ok.subscriber
+    has-entered {T = g.row.T.Denot} {U = g.row.U.Denot} c.args.self.now c.args.asked _ c.self.view_is c.requires.agrees c.args.place c.new-subscriber.result
     c.warn_of_expired_buffer.new.warnings _ _ c.requires.has_place
-    (c.in-Ok.ensures.enters ∙ ap (λ id. entering id c.args.place c.max.result c.in-Ok.subscriber.place_room) c.new-id.ensures
-    ∙ ap (λ size. entering c.self.inside.next_port c.args.place size c.in-Ok.subscriber.place_room) size)
-    c.in-Ok.ensures.room
+    (c.new-subscriber.ensures ∙ ap (λ id. entering id c.args.place c.max.result c.new-subscriber.result.place_room) c.new-id.ensures
+    ∙ ap (λ size. entering c.self.inside.next_port c.args.place size c.new-subscriber.result.place_room) size)
     (rw (← c.new-id.ensures) c.warn_of_expired_buffer.ensures)
     (with_items_is c.self.inside.publishers c.make_all_due.new.publishers (c.make_all_due.auto.publishers ∙ c.deref_mut.ensures.len) ∙ all_due)
-    (c.put_at_place.ensures.items ∙ ap (λ ys. placed ys c.args.place c.in-Ok.subscriber) c.in-Ok-try_reserve.ensures.items)
+    (c.put_at_place.ensures.items ∙ ap (λ ys. placed ys c.args.place c.new-subscriber.result) c.in-Ok.ensures.items)

@@ -1,13 +1,14 @@
-use Rattle.std.proofs.Common.{◌≡◌, ◌∙◌, true, false, ap, sym, subst, is_some}
+use Rattle.std.proofs.Common.{◌≡◌, ◌∙◌, true, false, ap, sym, is_some}
 use Rattle.std.proofs.lemmas.List.{with_items_is}
 use Rattle.std.specs.declared.option.Option.TheVariants.{None, Some}
 use Rattle.circular_buffer.specs.Buffer.{buffer}
 use Rattle.iox2_store.specs.Limits.{warning_limit}
 use Rattle.iox2_store.specs.State.{warned}
+use Rattle.iox2_store.specs.declared.warning.Warning.TheVariants.{ConnectionNotMade}
 use Rattle.iox2_domain.specs.Fields.{Fields}
-use Rattle.iox2_domain.specs.Updates.{receiver_key, sender_key, changed_at, with_receiver_key, MakesConnection}
-use Rattle.iox2_domain.proofs.Standing.{receiver-room, some-buffer}
-use Rattle.iox2_domain.proofs.ReceiverAnswers.{keeps-as, joins-as, makes-as, misses-as}
+use Rattle.iox2_domain.specs.Updates.{receiver_key, sender_key, changed_at, with_receiver_key}
+use Rattle.iox2_domain.proofs.Standing.{some-buffer}
+use Rattle.iox2_domain.proofs.ReceiverAnswers.{joins-room, keeps-as, joins-as, makes-as, misses-as}
 use Rattle.iox2_domain.proofs.state.DomainState.connect_receiver.Goals as goal
 
 pub returns-then-is_some : goal.returns-then-is_some
@@ -22,18 +23,18 @@ pub set_subscriber_key-requires-clause-room : goal.set_subscriber_key-requires-c
 set_subscriber_key-requires-clause-room g c = λ y at.
     let old = c.args.self.now in
     let same : c.deref_mut.result.now ≡ old.subscribers = c.deref_mut.ensures.value ∙ ap (λ (f : Fields g.row.T.Denot g.row.U.Denot). f.subscribers) c.self.view_is in
-    let there = c.requires.agrees.open_ports.publishers c.args.at c.requires.publisher in
-    receiver-room old c.requires.agrees c.args.at c.args.place there.0 y there.1 (rw same at at)
+    let publishers : c.self.inside.publishers.items ≡ old.publishers = ap (λ (f : Fields g.row.T.Denot g.row.U.Denot). f.publishers) c.self.view_is in
+    let key : sender_key old.publishers c.args.at c.args.place ≡ Some c.in-Some.key =
+    ap (λ zs. sender_key zs c.args.at c.args.place) (sym (c.deref-2.ensures.value ∙ publishers)) ∙ sym c.publisher_key.ensures ∙ c.in-Some.is in
+    joins-room old c.requires.agrees c.args.at c.args.place y (rw same at at) c.requires.publisher c.in-Some.key key
 
 pub set_subscriber_key-requires-2-clause-room : goal.set_subscriber_key-requires-2-clause-room
 set_subscriber_key-requires-2-clause-room g c = λ y at.
-    let old = c.args.self.now in
-    let same : c.deref_mut-2.result.now ≡ old.subscribers = c.deref_mut-2.ensures.value ∙ ap (λ (f : Fields g.row.T.Denot g.row.U.Denot). f.subscribers) c.self.view_is in
-    let there = c.requires.agrees.open_ports.publishers c.args.at c.requires.publisher in
-    receiver-room old c.requires.agrees c.args.at c.args.place there.0 y there.1 (rw same at at)
+    let same : c.deref_mut-2.result.now ≡ c.make_between.new.self.subscribers = c.deref_mut-2.ensures.value ∙ ap (λ (f : Fields g.row.T.Denot g.row.U.Denot). f.subscribers) c.self-2.view_is in
+    c.in-Ok.ensures.receiver_room y (rw same at at)
 
-pub make_connection-requires : goal.make_connection-requires
-make_connection-requires g c =
+pub make_between-requires-clause-buffer : goal.make_between-requires-clause-buffer
+make_between-requires-clause-buffer g c =
     let apart = c.ports_at-buffer.ensures in
     rw apart.buffer_is (some-buffer c.args.self.now c.requires.agrees c.args.place apart.subscriber apart.subscriber_stands)
 
@@ -52,8 +53,8 @@ returns-in-Some g c = λ y at due.
     ∙ c.set_subscriber_key.ensures ∙ ap (λ xs. changed_at (with_receiver_key c.args.at c.in-Some.key) xs c.args.place) (c.deref_mut.ensures.value ∙ subscribers) in
     joins-as old c.requires.agrees c.args.at c.args.place y at due none c.requires.publisher c.in-Some.key key _ (λ k. record (viewed k) { subscribers = written k })
 
-pub returns-in_default-make_connection : goal.returns-in_default-make_connection
-returns-in_default-make_connection g c = λ y at due.
+pub returns-in_default-make_between : goal.returns-in_default-make_between
+returns-in_default-make_between g c = λ y at due.
     let old = c.args.self.now in
     let viewed = c.self.view_is in
     let subscribers : c.self.inside.subscribers.items ≡ old.subscribers = ap (λ (f : Fields g.row.T.Denot g.row.U.Denot). f.subscribers) viewed in
@@ -62,10 +63,11 @@ returns-in_default-make_connection g c = λ y at due.
     ap (λ xs. is_some (receiver_key xs c.args.place c.args.at)) (sym (c.deref.ensures.value ∙ subscribers)) ∙ ap is_some (sym c.subscriber_key.ensures) ∙ sym c.is_some.ensures ∙ c.if-is_some.false in
     let nobody : sender_key old.publishers c.args.at c.args.place ≡ None =
     ap (λ ys. sender_key ys c.args.at c.args.place) (sym (c.deref-2.ensures.value ∙ publishers)) ∙ sym c.publisher_key.ensures ∙ c.in_default.is in
-    misses-as old c.requires.agrees c.args.at c.args.place y at due none nobody _ _ c.ports_at-buffer.ensures c.make_connection.new.connections c.warn.new.warnings
-    (c.in_default-make_connection.ensures.refused ∙ (λ k. record (viewed k).connections { capacity = c.make_connection.new.connections.capacity }))
-    (c.warn.ensures ∙ (λ k. buffer (warned (viewed k).warnings.items (c.not_made.ensures k)) warning_limit))
-    _ (λ k. record (viewed k) { connections = c.make_connection.new.connections; warnings = c.warn.new.warnings })
+    let mid = c.make_between.new.self in
+    misses-as old c.requires.agrees c.args.at c.args.place y at due none nobody _ _ c.ports_at-buffer.ensures mid c.make_between.ensures.grows c.warn.new.warnings
+    c.in_default-make_between.ensures.refused
+    (c.warn.ensures ∙ (λ k. buffer (warned (c.self-2.view_is k).warnings.items (c.not_made.ensures k)) warning_limit) ∙ ap (λ (f : Fields g.row.T.Denot g.row.U.Denot). buffer (warned f.warnings.items (ConnectionNotMade c.ports_at-buffer.result.0.publisher c.ports_at-buffer.result.0.subscriber)) warning_limit) c.make_between.ensures.grows.fields)
+    _ (λ k. record (c.self-2.view_is k) { warnings = c.warn.new.warnings })
 
 pub returns : goal.returns
 returns g c = λ y at due.
@@ -77,10 +79,11 @@ returns g c = λ y at due.
     ap (λ xs. is_some (receiver_key xs c.args.place c.args.at)) (sym (c.deref.ensures.value ∙ subscribers)) ∙ ap is_some (sym c.subscriber_key.ensures) ∙ sym c.is_some.ensures ∙ c.if-is_some.false in
     let nobody : sender_key old.publishers c.args.at c.args.place ≡ None =
     ap (λ ys. sender_key ys c.args.at c.args.place) (sym (c.deref-2.ensures.value ∙ publishers)) ∙ sym c.publisher_key.ensures ∙ c.in_default.is in
-    let written : _ ≡ changed_at (with_receiver_key c.args.at c.in-Ok.key) old.subscribers c.args.place =
-    with_items_is c.self.inside.subscribers c.set_subscriber_key-2.new.subscribers (c.set_subscriber_key-2.auto.subscribers ∙ c.deref_mut-2.ensures.len)
-    ∙ c.set_subscriber_key-2.ensures ∙ ap (λ xs. changed_at (with_receiver_key c.args.at c.in-Ok.key) xs c.args.place) (c.deref_mut-2.ensures.value ∙ subscribers) in
-    makes-as old c.requires.agrees c.args.at c.args.place y at due none nobody _ _ c.ports_at-buffer.ensures c.in-Ok.key c.make_connection.new.connections
-    (subst (λ (f : Fields g.row.T.Denot g.row.U.Denot). MakesConnection f.connections c.ports_at-buffer.result.0 c.ports_at-buffer.result.1 (f.config).subscriber_max_borrowed_samples c.in-Ok.key c.make_connection.new.connections)
-    viewed c.in-Ok.ensures.made)
-    _ (λ k. record (viewed k) { subscribers = written k; connections = c.make_connection.new.connections })
+    let mid = c.make_between.new.self in
+    let written : _ ≡ changed_at (with_receiver_key c.args.at c.in-Ok.key) mid.subscribers c.args.place =
+    with_items_is c.self-2.inside.subscribers c.set_subscriber_key-2.new.subscribers (c.set_subscriber_key-2.auto.subscribers ∙ c.deref_mut-2.ensures.len)
+    ∙ c.set_subscriber_key-2.ensures
+    ∙ ap (λ zs. changed_at (with_receiver_key c.args.at c.in-Ok.key) zs c.args.place) (c.deref_mut-2.ensures.value ∙ ap (λ (f : Fields g.row.T.Denot g.row.U.Denot). f.subscribers) c.self-2.view_is) in
+    makes-as old c.requires.agrees c.args.at c.args.place y at due none nobody _ _ c.ports_at-buffer.ensures mid c.make_between.ensures.grows
+    c.in-Ok.ensures.sender_room c.in-Ok.ensures.receiver_room c.in-Ok.key c.in-Ok.ensures.made
+    _ (λ k. record (c.self-2.view_is k) { subscribers = written k })

@@ -1,13 +1,14 @@
-use Rattle.std.proofs.Common.{◌≡◌, ◌∙◌, true, false, ap, sym, subst, is_some}
+use Rattle.std.proofs.Common.{◌≡◌, ◌∙◌, true, false, ap, sym, is_some}
 use Rattle.std.proofs.lemmas.List.{with_items_is}
 use Rattle.std.specs.declared.option.Option.TheVariants.{None, Some}
 use Rattle.circular_buffer.specs.Buffer.{buffer}
 use Rattle.iox2_store.specs.Limits.{warning_limit}
 use Rattle.iox2_store.specs.State.{warned}
+use Rattle.iox2_store.specs.declared.warning.Warning.TheVariants.{ConnectionNotMade}
 use Rattle.iox2_domain.specs.Fields.{Fields}
-use Rattle.iox2_domain.specs.Updates.{sender_key, receiver_key, changed_at, with_sender_key, MakesConnection}
-use Rattle.iox2_domain.proofs.Standing.{sender-room, some-buffer}
-use Rattle.iox2_domain.proofs.SenderAnswers.{keeps-as, joins-as, makes-as, misses-as}
+use Rattle.iox2_domain.specs.Updates.{sender_key, receiver_key, changed_at, with_sender_key}
+use Rattle.iox2_domain.proofs.Standing.{some-buffer}
+use Rattle.iox2_domain.proofs.SenderAnswers.{joins-room, keeps-as, joins-as, makes-as, misses-as}
 use Rattle.iox2_domain.proofs.state.DomainState.connect_sender.Goals as goal
 
 pub returns-then-is_some : goal.returns-then-is_some
@@ -22,18 +23,18 @@ pub set_publisher_key-requires-clause-room : goal.set_publisher_key-requires-cla
 set_publisher_key-requires-clause-room g c = λ x at.
     let old = c.args.self.now in
     let same : c.deref_mut.result.now ≡ old.publishers = c.deref_mut.ensures.value ∙ ap (λ (f : Fields g.row.T.Denot g.row.U.Denot). f.publishers) c.self.view_is in
-    let there = c.requires.agrees.open_ports.subscribers c.args.place c.requires.subscriber in
-    sender-room old c.requires.agrees c.args.at c.args.place x there.0 (rw same at at) there.1
+    let subscribers : c.self.inside.subscribers.items ≡ old.subscribers = ap (λ (f : Fields g.row.T.Denot g.row.U.Denot). f.subscribers) c.self.view_is in
+    let key : receiver_key old.subscribers c.args.place c.args.at ≡ Some c.in-Some.key =
+    ap (λ zs. receiver_key zs c.args.place c.args.at) (sym (c.deref-2.ensures.value ∙ subscribers)) ∙ sym c.subscriber_key.ensures ∙ c.in-Some.is in
+    joins-room old c.requires.agrees c.args.at c.args.place x (rw same at at) c.requires.subscriber c.in-Some.key key
 
 pub set_publisher_key-requires-2-clause-room : goal.set_publisher_key-requires-2-clause-room
 set_publisher_key-requires-2-clause-room g c = λ x at.
-    let old = c.args.self.now in
-    let same : c.deref_mut-2.result.now ≡ old.publishers = c.deref_mut-2.ensures.value ∙ ap (λ (f : Fields g.row.T.Denot g.row.U.Denot). f.publishers) c.self.view_is in
-    let there = c.requires.agrees.open_ports.subscribers c.args.place c.requires.subscriber in
-    sender-room old c.requires.agrees c.args.at c.args.place x there.0 (rw same at at) there.1
+    let same : c.deref_mut-2.result.now ≡ c.make_between.new.self.publishers = c.deref_mut-2.ensures.value ∙ ap (λ (f : Fields g.row.T.Denot g.row.U.Denot). f.publishers) c.self-2.view_is in
+    c.in-Ok.ensures.sender_room x (rw same at at)
 
-pub make_connection-requires : goal.make_connection-requires
-make_connection-requires g c =
+pub make_between-requires-clause-buffer : goal.make_between-requires-clause-buffer
+make_between-requires-clause-buffer g c =
     let apart = c.ports_at-buffer.ensures in
     rw apart.buffer_is (some-buffer c.args.self.now c.requires.agrees c.args.place apart.subscriber apart.subscriber_stands)
 
@@ -52,8 +53,8 @@ returns-in-Some g c = λ x at due.
     ∙ c.set_publisher_key.ensures ∙ ap (λ xs. changed_at (with_sender_key c.args.place c.in-Some.key) xs c.args.at) (c.deref_mut.ensures.value ∙ publishers) in
     joins-as old c.requires.agrees c.args.at c.args.place x at due none c.requires.subscriber c.in-Some.key key _ (λ k. record (viewed k) { publishers = written k })
 
-pub returns-in_default-make_connection : goal.returns-in_default-make_connection
-returns-in_default-make_connection g c = λ x at due.
+pub returns-in_default-make_between : goal.returns-in_default-make_between
+returns-in_default-make_between g c = λ x at due.
     let old = c.args.self.now in
     let viewed = c.self.view_is in
     let publishers : c.self.inside.publishers.items ≡ old.publishers = ap (λ (f : Fields g.row.T.Denot g.row.U.Denot). f.publishers) viewed in
@@ -62,10 +63,11 @@ returns-in_default-make_connection g c = λ x at due.
     ap (λ xs. is_some (sender_key xs c.args.at c.args.place)) (sym (c.deref.ensures.value ∙ publishers)) ∙ ap is_some (sym c.publisher_key.ensures) ∙ sym c.is_some.ensures ∙ c.if-is_some.false in
     let nobody : receiver_key old.subscribers c.args.place c.args.at ≡ None =
     ap (λ ys. receiver_key ys c.args.place c.args.at) (sym (c.deref-2.ensures.value ∙ subscribers)) ∙ sym c.subscriber_key.ensures ∙ c.in_default.is in
-    misses-as old c.requires.agrees c.args.at c.args.place x at due none nobody _ _ c.ports_at-buffer.ensures c.make_connection.new.connections c.warn.new.warnings
-    (c.in_default-make_connection.ensures.refused ∙ (λ k. record (viewed k).connections { capacity = c.make_connection.new.connections.capacity }))
-    (c.warn.ensures ∙ (λ k. buffer (warned (viewed k).warnings.items (c.not_made.ensures k)) warning_limit))
-    _ (λ k. record (viewed k) { connections = c.make_connection.new.connections; warnings = c.warn.new.warnings })
+    let mid = c.make_between.new.self in
+    misses-as old c.requires.agrees c.args.at c.args.place x at due none nobody _ _ c.ports_at-buffer.ensures mid c.make_between.ensures.grows c.warn.new.warnings
+    c.in_default-make_between.ensures.refused
+    (c.warn.ensures ∙ (λ k. buffer (warned (c.self-2.view_is k).warnings.items (c.not_made.ensures k)) warning_limit) ∙ ap (λ (f : Fields g.row.T.Denot g.row.U.Denot). buffer (warned f.warnings.items (ConnectionNotMade c.ports_at-buffer.result.0.publisher c.ports_at-buffer.result.0.subscriber)) warning_limit) c.make_between.ensures.grows.fields)
+    _ (λ k. record (c.self-2.view_is k) { warnings = c.warn.new.warnings })
 
 pub returns : goal.returns
 returns g c = λ x at due.
@@ -77,10 +79,11 @@ returns g c = λ x at due.
     ap (λ xs. is_some (sender_key xs c.args.at c.args.place)) (sym (c.deref.ensures.value ∙ publishers)) ∙ ap is_some (sym c.publisher_key.ensures) ∙ sym c.is_some.ensures ∙ c.if-is_some.false in
     let nobody : receiver_key old.subscribers c.args.place c.args.at ≡ None =
     ap (λ ys. receiver_key ys c.args.place c.args.at) (sym (c.deref-2.ensures.value ∙ subscribers)) ∙ sym c.subscriber_key.ensures ∙ c.in_default.is in
-    let written : _ ≡ changed_at (with_sender_key c.args.place c.in-Ok.key) old.publishers c.args.at =
-    with_items_is c.self.inside.publishers c.set_publisher_key-2.new.publishers (c.set_publisher_key-2.auto.publishers ∙ c.deref_mut-2.ensures.len)
-    ∙ c.set_publisher_key-2.ensures ∙ ap (λ xs. changed_at (with_sender_key c.args.place c.in-Ok.key) xs c.args.at) (c.deref_mut-2.ensures.value ∙ publishers) in
-    makes-as old c.requires.agrees c.args.at c.args.place x at due none nobody _ _ c.ports_at-buffer.ensures c.in-Ok.key c.make_connection.new.connections
-    (subst (λ (f : Fields g.row.T.Denot g.row.U.Denot). MakesConnection f.connections c.ports_at-buffer.result.0 c.ports_at-buffer.result.1 (f.config).subscriber_max_borrowed_samples c.in-Ok.key c.make_connection.new.connections)
-    viewed c.in-Ok.ensures.made)
-    _ (λ k. record (viewed k) { publishers = written k; connections = c.make_connection.new.connections })
+    let mid = c.make_between.new.self in
+    let written : _ ≡ changed_at (with_sender_key c.args.place c.in-Ok.key) mid.publishers c.args.at =
+    with_items_is c.self-2.inside.publishers c.set_publisher_key-2.new.publishers (c.set_publisher_key-2.auto.publishers ∙ c.deref_mut-2.ensures.len)
+    ∙ c.set_publisher_key-2.ensures
+    ∙ ap (λ zs. changed_at (with_sender_key c.args.place c.in-Ok.key) zs c.args.at) (c.deref_mut-2.ensures.value ∙ ap (λ (f : Fields g.row.T.Denot g.row.U.Denot). f.publishers) c.self-2.view_is) in
+    makes-as old c.requires.agrees c.args.at c.args.place x at due none nobody _ _ c.ports_at-buffer.ensures mid c.make_between.ensures.grows
+    c.in-Ok.ensures.sender_room c.in-Ok.ensures.receiver_room c.in-Ok.key c.in-Ok.ensures.made
+    _ (λ k. record (c.self-2.view_is k) { publishers = written k })

@@ -64,8 +64,8 @@ pub returns-clause-stands : goal.returns-clause-stands
 returns-clause-stands g c =
     let entered = c.in_default-admit_publisher.ensures in
     let updated = c.update_publisher.ensures entered.stands.0 entered.stands.1 in (
-      record (entered.stands.0) { places = updated.keys; is_due = false },
+      record (entered.stands.0) { places = updated.keys; place_room = updated.place_room; is_due = false },
       ap (λ (f : Fields g.row.T.Denot g.row.U.Denot). get_or f.publishers c.in-Ok.place None) updated.fields
-          ∙ get_or-set_same c.admit_publisher.new.self.publishers c.in-Ok.place (Some (record (entered.stands.0) { places = updated.keys; is_due = false })) None (within_if_some c.admit_publisher.new.self.publishers c.in-Ok.place entered.stands.0 entered.stands.1),
+          ∙ get_or-set_same c.admit_publisher.new.self.publishers c.in-Ok.place (Some (record (entered.stands.0) { places = updated.keys; place_room = updated.place_room; is_due = false })) None (within_if_some c.admit_publisher.new.self.publishers c.in-Ok.place entered.stands.0 entered.stands.1),
       entered.stands.2,
     )
