@@ -66,8 +66,8 @@ impl PublisherState {
     ghost use Rattle.iox2_domain.specs.NewPublisher.{entering_publisher};
 
     /// A publisher of single values that enters at a place, with a book of so many slots at a key,
-    /// and with room for all the loans and the history that it may get. It discards what a full receiver
-    /// doesn't take, and makes no further segment.
+    /// and with room for all the loans and the history that it may get. It discards what a full
+    /// receiver doesn't take, and makes no further segment.
     pub(crate) fn new(
         alloc: Global,
         config: &ServiceConfig,

@@ -62,12 +62,7 @@ impl SubscriberState {
     ghost use Rattle.iox2_domain.specs.Ports.{entering};
 
     /// A subscriber that enters at a place.
-    pub(crate) fn new(
-        alloc: Global,
-        id: UniqueSubscriberId,
-        place: usize,
-        buffer: usize,
-    ) -> Self
+    pub(crate) fn new(alloc: Global, id: UniqueSubscriberId, place: usize, buffer: usize) -> Self
         ensures { result ≡ entering id place buffer result.place_room }
     {
         SubscriberState {
