@@ -15,8 +15,9 @@ pub enum TypeVariant {
 /// The settings of a domain: the limits that all of its ports share, and what a publisher gets
 /// where its factory sets nothing else.
 ///
-/// This library's own. Every number may be anything that its type holds; where numbers ask for
-/// more memory than there can be, it is the creation of a port that is refused.
+/// This library's own. Every number may be anything that its type holds. Where one asks for more
+/// memory than there can be, the creation of a port is refused, or a connection isn't made, which is
+/// a warning.
 #[derive(Debug, Clone, Copy, PartialEq, Eq)]
 pub struct ServiceConfig {
     /// Names the domain. Its handles carry this number, so two domains need two numbers if their

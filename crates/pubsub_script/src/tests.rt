@@ -84,7 +84,11 @@ skipped
 #[test]
 fn a_message_is_sent_received_and_released(rt: HostRuntime) {
     Outcome::of(rt.alloc(), WORKED).assert(&rt, 0, WORKED_REPLIES, b"");
-    // Room is taken when connections are made, so a limit may be any number.
+}
+
+// Room is taken when connections are made, and not for what may come.
+#[test]
+fn a_limit_may_be_any_number(rt: HostRuntime) {
     Outcome::of(
         rt.alloc(),
         b"domain 1 1 1 1 0 18446744073709551615 keep\nsub 1\npub 1 discard\n",
