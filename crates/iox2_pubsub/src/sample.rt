@@ -135,10 +135,13 @@ impl Sample {
 impl<T: Drop, U: Default + Drop, F: BackpressureFn, G: DegradationFn> Domain<T, U, F, G> {
     ghost use Rattle.std.specs.Prelude.{IsTrue, ◌↔◌};
     ghost use Rattle.iox2_pubsub.specs.Handles.{IsSampleKey};
+    ghost use Rattle.iox2_domain.specs.Shows.{KeepsEntries};
 
-    /// Whether the key is that of a sample of this domain that wasn't released. This library's own.
+    /// Whether the key is that of a sample of this domain that wasn't released. From which publisher
+    /// the message is borrowed, its header says: that is the sample's `origin`. This library's own.
     pub fn holds_sample(&self, key: Key) -> bool
-        ensures { IsTrue result ↔ IsSampleKey self.now key }
+        ensures held { IsTrue result ↔ IsSampleKey self.now key }
+        ensures entries { KeepsEntries self.now }
     {
         if key.service_id != self.state.config().service_id {
             return false;
