@@ -5,6 +5,8 @@
 #[cfg(test)]
 mod commands;
 #[cfg(test)]
+mod deliveries;
+#[cfg(test)]
 mod domains;
 #[cfg(test)]
 mod fixtures;
