@@ -1,6 +1,6 @@
 use Rattle.iox2_domain.specs.Shows.{Shows}
 use Rattle.iox2_runs.specs.Holdings.{kept_of}
-use Rattle.std.proofs.Common.{map, sym}
+use Rattle.std.proofs.Common.{map, sym, refl}
 use Rattle.iox2_runs.proofs.TableCalls.{nothing_comes}
 use Rattle.iox2_runs.proofs.runs.carry_out.Goals as goal
 
@@ -25,3 +25,64 @@ returns-in-Nothing-clause-carries g c = rw c.in-Nothing.is (λ m s handles event
 
 pub returns-in-LoanUninit-clause-carries : goal.returns-in-LoanUninit-clause-carries
 returns-in-LoanUninit-clause-carries g c = rw (c.in-LoanUninit.is, sym c.deref-in-LoanUninit.ensures.value) c.loan_uninit.ensures
+
+pub create_publisher-requires : goal.create_publisher-requires
+create_publisher-requires g c = rw c.deref.ensures.value c.requires.keeps
+
+pub create_subscriber-requires : goal.create_subscriber-requires
+create_subscriber-requires g c = rw c.deref-in-CreateSubscriber.ensures.value c.requires.keeps
+
+pub loan_uninit-requires : goal.loan_uninit-requires
+loan_uninit-requires g c = rw c.deref-in-LoanUninit.ensures.value c.requires.keeps
+
+pub write_all-requires : goal.write_all-requires
+write_all-requires g c = c.requires.keeps
+
+pub send-requires : goal.send-requires
+send-requires g c = c.requires.keeps
+
+pub receive-requires : goal.receive-requires
+receive-requires g c = rw c.deref-in-Receive.ensures.value c.requires.keeps
+
+pub read-requires : goal.read-requires
+read-requires g c = rw c.deref-in-Read.ensures.value c.requires.keeps
+
+pub release-requires : goal.release-requires
+release-requires g c = c.requires.keeps
+
+pub returns-in-CreatePublisher-clause-room : goal.returns-in-CreatePublisher-clause-room
+returns-in-CreatePublisher-clause-room g c = record { len = refl; capacity = refl }
+
+pub returns-in-CreateSubscriber-clause-room : goal.returns-in-CreateSubscriber-clause-room
+returns-in-CreateSubscriber-clause-room g c = record { len = refl; capacity = refl }
+
+pub returns-in-LoanUninit-clause-room : goal.returns-in-LoanUninit-clause-room
+returns-in-LoanUninit-clause-room g c = record { len = refl; capacity = refl }
+
+pub returns-in-WriteAll-clause-room : goal.returns-in-WriteAll-clause-room
+returns-in-WriteAll-clause-room g c = c.write_all.ensures.room
+
+pub returns-in-Send-clause-room : goal.returns-in-Send-clause-room
+returns-in-Send-clause-room g c = c.send.ensures.room
+
+pub returns-in-Receive-clause-room : goal.returns-in-Receive-clause-room
+returns-in-Receive-clause-room g c = record { len = refl; capacity = refl }
+
+pub returns-in-Read-clause-room : goal.returns-in-Read-clause-room
+returns-in-Read-clause-room g c = record { len = refl; capacity = refl }
+
+pub returns-in-Release-clause-room : goal.returns-in-Release-clause-room
+returns-in-Release-clause-room g c = c.release.ensures.room
+
+pub returns-in-Nothing-clause-room : goal.returns-in-Nothing-clause-room
+returns-in-Nothing-clause-room g c = record { len = refl; capacity = refl }
+
+pub returns-in-CreatePublisher-clause-carries : goal.returns-in-CreatePublisher-clause-carries
+returns-in-CreatePublisher-clause-carries g c =
+    let told = rw c.in-CreatePublisher.is at c.requires.supported in
+    rw (c.in-CreatePublisher.is, told.0, told.1, told.2, told.3, told.4, sym c.deref.ensures.value) (c.create_publisher.ensures c.in-CreatePublisher.initial_max_slice_len)
+
+pub returns-in-CreateSubscriber-clause-carries : goal.returns-in-CreateSubscriber-clause-carries
+returns-in-CreateSubscriber-clause-carries g c =
+    let told = rw c.in-CreateSubscriber.is at c.requires.supported in
+    rw (c.in-CreateSubscriber.is, told, sym c.deref-in-CreateSubscriber.ensures.value) c.create_subscriber.ensures
