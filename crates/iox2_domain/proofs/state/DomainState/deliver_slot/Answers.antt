@@ -1,4 +1,5 @@
-use Rattle.std.proofs.Common.{◌≡◌, None, Some, slice_index_or, sym, ◌∙◌, ap, subst, arith}
+use Rattle.iox2_ends.proofs.MailboxChanges.{within_if_some}
+use Rattle.std.proofs.Common.{◌≡◌, None, Some, slice_index_or, sym, ◌∙◌, ap, subst, arith, rules, length, vec_len}
 use Rattle.slab.specs.Slab.{get}
 use Rattle.iox2_ends.specs.Deliveries.{no_handlers}
 use Rattle.iox2_ends.specs.Receivers.{HasReclaimed}
@@ -60,3 +61,14 @@ returns g c =
     delivers-to _ _ c.self.view_is c.args.place _ (stands ∙ ap Some (sym c.publisher.view_is)) _ _ c.index_mut.ensures.value _ c.deliver-outcome.ensures.book
     (rw c.value.ensures at c.deliver-outcome.ensures.recounts) c.args.slot c.in-Complete.count
     (rw (c.value.ensures, c.deref.ensures.value, c.deref-2.ensures.value) at delivers)
+
+pub index-requires : goal.index-requires
+index-requires g c =
+    let there : slice_index_or c.self.inside.publishers.items c.args.place None ≡ Some c.requires.stands.0 = ap (λ (f : Fields g.row.T.Denot g.row.U.Denot). slice_index_or f.publishers c.args.place None) c.self.view_is ∙ c.requires.stands.1 in
+    let long : vec_len c.self.inside.publishers ≡ length c.self.inside.publishers.items = search rules in
+    rw long (within_if_some c.self.inside.publishers.items c.args.place c.requires.stands.0 there)
+
+pub unreachable-requires : goal.unreachable-requires
+unreachable-requires g c =
+    let there : slice_index_or c.self.inside.publishers.items c.args.place None ≡ Some c.requires.stands.0 = ap (λ (f : Fields g.row.T.Denot g.row.U.Denot). slice_index_or f.publishers c.args.place None) c.self.view_is ∙ c.requires.stands.1 in
+    c.in_default.not-Some c.requires.stands.0 (sym (read-there _ c.args.place _ _ there c.index.ensures) ∙ there)

@@ -1,4 +1,5 @@
-use Rattle.std.proofs.Common.{◌≡◌, ◌-◌, slice_set, None, Some, ap, sym, ◌∙◌}
+use Rattle.iox2_ends.proofs.MailboxChanges.{within_if_some}
+use Rattle.std.proofs.Common.{◌≡◌, ◌-◌, slice_set, None, Some, ap, sym, ◌∙◌, refl, rules, length, vec_len}
 use Rattle.std.specs.Prelude.{slice_index_or}
 use Rattle.slab.specs.Slab.{get, with_value}
 use Rattle.iox2_store.specs.SlotBook.{Book, with_holders, holders_at}
@@ -31,3 +32,22 @@ returns g c = λ x b at has.
       books = with_value c.self.inside.books (key i) (sent i);
       contents = c.self.inside.contents.items;
     }) ∙ ap (λ (f : Fields g.row.T.Denot g.row.U.Denot). with_send_ended f c.args.place x c.args.slot b) c.self.view_is
+
+pub index_mut-requires : goal.index_mut-requires
+index_mut-requires g c =
+    let there : slice_index_or c.self.inside.publishers.items c.args.place None ≡ Some c.requires.stands.0 = ap (λ (f : Fields g.row.T.Denot g.row.U.Denot). slice_index_or f.publishers c.args.place None) c.self.view_is ∙ c.requires.stands.2 in
+    let long : vec_len c.self.inside.publishers ≡ length c.self.inside.publishers.items = search rules in
+    rw long (within_if_some c.self.inside.publishers.items c.args.place c.requires.stands.0 there)
+
+pub unreachable-requires : goal.unreachable-requires
+unreachable-requires g c =
+    let there : slice_index_or c.self.inside.publishers.items c.args.place None ≡ Some c.requires.stands.0 = ap (λ (f : Fields g.row.T.Denot g.row.U.Denot). slice_index_or f.publishers c.args.place None) c.self.view_is ∙ c.requires.stands.2 in
+    c.in_default.not-Some c.requires.stands.0 (sym (read-there _ c.args.place _ _ there c.index_mut.ensures.value) ∙ there)
+
+pub index_mut-book-requires : goal.index_mut-book-requires
+index_mut-book-requires g c =
+    let there : slice_index_or c.self.inside.publishers.items c.args.place None ≡ Some c.requires.stands.0 = ap (λ (f : Fields g.row.T.Denot g.row.U.Denot). slice_index_or f.publishers c.args.place None) c.self.view_is ∙ c.requires.stands.2 in
+    let is : Some c.requires.stands.0 ≡ Some c.in-Some.publisher = sym there ∙ read-there _ c.args.place _ _ there c.index_mut.ensures.value ∙ c.in-Some.is in
+    let publisher : c.requires.stands.0 ≡ c.in-Some.publisher = cc in
+    let key : c.publisher.inside.book ≡ (c.requires.stands.0).book = ap (λ (p : PublisherFields). p.book) (c.publisher.view_is ∙ c.remove_loan.ensures ∙ ap (with_loan_out c.args.slot) (sym publisher)) in
+    rw (key, ap (λ (f : Fields g.row.T.Denot g.row.U.Denot). get f.books (c.requires.stands.0).book) c.self.view_is ∙ c.requires.stands.3) refl

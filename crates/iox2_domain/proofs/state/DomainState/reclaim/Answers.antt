@@ -1,4 +1,5 @@
-use Rattle.std.proofs.Common.{◌≡◌, None, Some, slice_index_or, sym, ◌∙◌, ap, subst}
+use Rattle.iox2_ends.proofs.MailboxChanges.{within_if_some}
+use Rattle.std.proofs.Common.{◌≡◌, None, Some, slice_index_or, sym, ◌∙◌, ap, subst, rules, length, vec_len}
 use Rattle.iox2_ends.specs.Receivers.{HasReclaimed}
 use Rattle.iox2_domain.specs.Ports.{PublisherFields}
 use Rattle.iox2_domain.specs.Fields.{Fields}
@@ -37,3 +38,14 @@ returns-clause-reclaimed g c = λ x at.
     let is : c.in-Some.publisher ≡ x = cc in
     subst (λ (y : PublisherFields). HasReclaimed c.reclaim_all.new.connections y.places) (c.publisher.view_is ∙ is)
     (rw c.deref.ensures.value at c.reclaim_all.ensures.all)
+
+pub index-requires : goal.index-requires
+index-requires g c =
+    let there : slice_index_or c.self.inside.publishers.items c.args.place None ≡ Some c.requires.stands.0 = ap (λ (f : Fields g.row.T.Denot g.row.U.Denot). slice_index_or f.publishers c.args.place None) c.self.view_is ∙ c.requires.stands.1 in
+    let long : vec_len c.self.inside.publishers ≡ length c.self.inside.publishers.items = search rules in
+    rw long (within_if_some c.self.inside.publishers.items c.args.place c.requires.stands.0 there)
+
+pub unreachable-requires : goal.unreachable-requires
+unreachable-requires g c =
+    let there : slice_index_or c.self.inside.publishers.items c.args.place None ≡ Some c.requires.stands.0 = ap (λ (f : Fields g.row.T.Denot g.row.U.Denot). slice_index_or f.publishers c.args.place None) c.self.view_is ∙ c.requires.stands.1 in
+    c.in_default.not-Some c.requires.stands.0 (sym (read-there _ c.args.place _ _ there c.index.ensures) ∙ there)

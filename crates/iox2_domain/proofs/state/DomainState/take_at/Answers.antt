@@ -1,3 +1,7 @@
+use Rattle.iox2_domain.proofs.PublisherBooks.{read-there}
+use Rattle.iox2_domain.specs.Fields.{Fields}
+use Rattle.iox2_ends.proofs.MailboxChanges.{within_if_some}
+use Rattle.std.proofs.Common.{◌≡◌, ◌∙◌, ap, sym, None, Some, slice_index_or, rules, length, vec_len}
 use Rattle.iox2_domain.proofs.ReceiptSteps.{has-keys, connected-places, at-ready, at-nothing, at-at_limit}
 use Rattle.iox2_domain.proofs.state.DomainState.take_at.Goals as goal
 
@@ -27,3 +31,17 @@ returns-in-Nothing g c =
     (has-keys _ c.args.self.now c.args.place c.index.result.now c.in-Some.subscriber _ c.deref.result.now c.deref-2.result.now c.requires.agrees c.self.view_is c.requires.stands
     c.index.ensures c.in-Some.is c.subscriber.view_is c.deref.ensures.value c.deref-2.ensures.value)
     c.in-Nothing.ensures.finds
+
+pub index-requires : goal.index-requires
+index-requires g c =
+    let there : slice_index_or c.self.inside.subscribers.items c.args.place None ≡ Some c.requires.stands.0 = ap (λ (f : Fields g.row.T.Denot g.row.U.Denot). slice_index_or f.subscribers c.args.place None) c.self.view_is ∙ c.requires.stands.1 in
+    let long : vec_len c.self.inside.subscribers ≡ length c.self.inside.subscribers.items = search rules in
+    rw long (within_if_some c.self.inside.subscribers.items c.args.place c.requires.stands.0 there)
+
+pub unreachable-requires : goal.unreachable-requires
+unreachable-requires g c =
+    let there : slice_index_or c.self.inside.subscribers.items c.args.place None ≡ Some c.requires.stands.0 = ap (λ (f : Fields g.row.T.Denot g.row.U.Denot). slice_index_or f.subscribers c.args.place None) c.self.view_is ∙ c.requires.stands.1 in
+    c.in_default.not-Some c.requires.stands.0 (sym (read-there _ c.args.place _ _ there c.index.ensures) ∙ there)
+
+pub take_from-requires-clause-agrees : goal.take_from-requires-clause-agrees
+take_from-requires-clause-agrees g c = c.requires.agrees
