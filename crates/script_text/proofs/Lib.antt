@@ -1,4 +1,5 @@
 pub mod LineFeeds
 pub mod LineLemmas
+pub mod ReplyLines
 pub mod ScriptTextLemmas
 pub mod WordLemmas
