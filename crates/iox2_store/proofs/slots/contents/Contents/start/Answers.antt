@@ -1,4 +1,5 @@
-use Rattle.iox2_store.proofs.SlotReads.{some_read}
+use Rattle.std.proofs.Common.{rules, ◌≡◌, length, vec_len}
+use Rattle.iox2_store.proofs.SlotReads.{some_read, some_within}
 use Rattle.iox2_store.proofs.slots.contents.Contents.start.Goals as goal
 
 pub returns : goal.returns
@@ -9,3 +10,11 @@ returns g c =
       default = c.start.ensures.default;
       started = rw (← c.self.view_is, read.0) cc;
     }
+
+pub index_mut-requires : goal.index_mut-requires
+index_mut-requires g c =
+    let long : vec_len c.self.inside.slots ≡ length c.self.inside.slots.items = search rules in
+    rw long (some_within c.self.inside.slots.items c.args.slot _ (rw (← c.self.view_is) at c.requires))
+
+pub start-requires : goal.start-requires
+start-requires g c = (some_read c.self.inside.slots.items c.args.slot _ _ (rw (← c.self.view_is) at c.requires) c.index_mut.ensures.value).1
