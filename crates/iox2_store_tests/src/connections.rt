@@ -1,5 +1,9 @@
+ghost use Rattle.std.specs.Prelude.{◌≡◌};
+ghost use Rattle.iox2_store.specs.Link.{empty_link};
+
 use iox2_store::{Connection, Home, PutOutcome};
-use std::test::Fail;
+use std::alloc::Global;
+use std::process::Abort;
 
 const HOME: Home = Home {
     publisher: 1,
@@ -8,17 +12,24 @@ const HOME: Home = Home {
     subscriber_place: 4,
 };
 
-#[test]
-fn a_connection_knows_its_ports(rt: HostRuntime) -> Result<(), Fail> {
-    let connection = Connection::new(rt.alloc(), HOME, 2, 1)?;
-    let home = connection.home();
-    assert!(rt; home == HOME);
-    Ok(())
+// A connection in which two slots may wait and one may be borrowed.
+fn connection(rt: &impl Abort, alloc: Global) -> Connection
+    ensures { result ≡ empty_link result.home 2 1 }
+{
+    Connection::new(alloc, HOME, 2, 1).expect(rt, "a connection")
 }
 
 #[test]
-fn a_slot_is_borrowed(rt: HostRuntime) -> Result<(), Fail> {
-    let mut connection = Connection::new(rt.alloc(), HOME, 2, 1)?;
+fn a_connection_knows_its_ports(rt: HostRuntime) {
+    let connection = connection(&rt, rt.alloc());
+    let home = connection.home();
+    drop(connection);
+    assert!(rt; home == HOME);
+}
+
+#[test]
+fn a_slot_is_borrowed(rt: HostRuntime) {
+    let mut connection = connection(&rt, rt.alloc());
     let empty = connection.has_data();
     let put = connection.put(7, false);
     let ready = [connection.has_data(), connection.can_receive()];
@@ -27,18 +38,14 @@ fn a_slot_is_borrowed(rt: HostRuntime) -> Result<(), Fail> {
     let is_listed = connection.borrowed() == [7].as_slice();
     let full = connection.can_receive();
     drop(connection);
-    assert!(rt; [empty, full] == [false, false]);
-    assert!(rt; put == PutOutcome::Taken);
-    assert!(rt; ready == [true, true]);
-    assert!(rt; taken == Some(7));
-    assert!(rt; borrowed == [true, false]);
-    assert!(rt; is_listed);
-    Ok(())
+    assert!(rt; put == PutOutcome::Taken && taken == Some(7));
+    assert!(rt; [empty, full] == [false, false] && ready == [true, true]);
+    assert!(rt; borrowed == [true, false] && is_listed);
 }
 
 #[test]
-fn a_borrowed_slot_goes_back(rt: HostRuntime) -> Result<(), Fail> {
-    let mut connection = Connection::new(rt.alloc(), HOME, 2, 1)?;
+fn a_borrowed_slot_goes_back(rt: HostRuntime) {
+    let mut connection = connection(&rt, rt.alloc());
     connection.put(7, false);
     connection.take();
     assert!(rt; connection.is_borrowed(7));
@@ -46,26 +53,32 @@ fn a_borrowed_slot_goes_back(rt: HostRuntime) -> Result<(), Fail> {
     let borrowed = connection.is_borrowed(7);
     let reclaimed = [connection.reclaim(), connection.reclaim()];
     drop(connection);
-    assert!(rt; !borrowed);
-    assert!(rt; reclaimed == [Some(7), None]);
-    Ok(())
+    assert!(rt; !borrowed && reclaimed == [Some(7), None]);
 }
 
 #[test]
-fn a_full_connection_overwrites_or_refuses(rt: HostRuntime) -> Result<(), Fail> {
-    let mut connection = Connection::new(rt.alloc(), HOME, 2, 1)?;
-    let room = [connection.put(7, false), connection.put(8, true)];
-    let full = [connection.put(9, false), connection.put(9, true)];
+fn a_full_connection_overwrites_or_refuses(rt: HostRuntime) {
+    let mut connection = connection(&rt, rt.alloc());
+    let put = [
+        connection.put(7, false),
+        connection.put(8, true),
+        connection.put(9, false),
+        connection.put(9, true),
+    ];
     let taken = connection.take();
     drop(connection);
-    assert!(rt; room == [PutOutcome::Taken, PutOutcome::Taken]);
-    assert!(rt; full == [PutOutcome::Full, PutOutcome::Overwrote(7)]);
-    assert!(rt; taken == Some(8));
-    Ok(())
+    let expected = [
+        PutOutcome::Taken,
+        PutOutcome::Taken,
+        PutOutcome::Full,
+        PutOutcome::Overwrote(7),
+    ];
+    assert!(rt; put == expected && taken == Some(8));
 }
 
 #[test]
 fn too_much_room_is_refused(rt: HostRuntime) {
-    assert!(rt; Connection::new(rt.alloc(), HOME, usize::MAX, 1).is_err());
-    assert!(rt; Connection::new(rt.alloc(), HOME, 1, usize::MAX - 1).is_err());
+    for (buffer, limit) in [(usize::MAX, 1), (1, usize::MAX - 1)] {
+        assert!(rt; Connection::new(rt.alloc(), HOME, buffer, limit).is_err());
+    }
 }

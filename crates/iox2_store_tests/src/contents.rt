@@ -1,4 +1,6 @@
 use iox2_store::Contents;
+use std::alloc::Global;
+use std::process::Abort;
 
 /// A payload that is neither `Copy` nor `Clone`.
 #[derive(Drop)]
@@ -24,10 +26,7 @@ fn a_loan_starts_with_empty_cells(rt: HostRuntime) {
     let cells = [contents.cells(0).len(), contents.cells(1).len()];
     let values = contents.values(1).len();
     drop(contents);
-    assert!(rt; station == 0);
-    assert!(rt; is_empty);
-    assert!(rt; cells == [3, 1]);
-    assert!(rt; values == 0);
+    assert!(rt; station == 0 && is_empty && cells == [3, 1] && values == 0);
 }
 
 #[test]
@@ -39,13 +38,13 @@ fn a_payload_is_written_and_read(rt: HostRuntime) {
     contents.start(1, 1);
     contents.write_payload(1, Reading { celsius: 21 });
     let celsius = contents.value(1).celsius;
-    let values = contents.values(1).len();
-    let cells = [contents.cells(0).len(), contents.cells(1).len()];
+    let written = [
+        contents.values(1).len(),
+        contents.cells(0).len(),
+        contents.cells(1).len(),
+    ];
     contents.start(1, 2);
     let again = [contents.values(1).len(), contents.cells(1).len()];
     drop(contents);
-    assert!(rt; celsius == 21);
-    assert!(rt; values == 1);
-    assert!(rt; cells == [3, 0]);
-    assert!(rt; again == [0, 2]);
+    assert!(rt; celsius == 21 && written == [1, 3, 0] && again == [0, 2]);
 }

@@ -6,7 +6,7 @@ use std::alloc::Global;
 use std::fmt::Display;
 
 // Whether the error prints so.
-fn prints<E: Display>(alloc: Global, error: &E, expected: &str) -> bool {
+fn prints<E: Display + Copy>(alloc: Global, error: E, expected: &str) -> bool {
     match error.to_string(alloc) {
         Ok(text) => text.as_str() == expected,
         Err(_) => false,
@@ -14,7 +14,7 @@ fn prints<E: Display>(alloc: Global, error: &E, expected: &str) -> bool {
 }
 
 // Whether the error prints so behind a word.
-fn prints_behind<E: Display>(alloc: Global, error: &E, expected: &str) -> bool {
+fn prints_behind<E: Display + Copy>(alloc: Global, error: E, expected: &str) -> bool {
     match format!(in alloc; "err {error}") {
         Ok(text) => text.as_str() == expected,
         Err(_) => false,
@@ -23,30 +23,31 @@ fn prints_behind<E: Display>(alloc: Global, error: &E, expected: &str) -> bool {
 
 #[test]
 fn errors_print_their_types_and_variants(rt: HostRuntime) {
+    let alloc = rt.alloc();
     let printed = [
         prints(
-            rt.alloc(),
-            &LoanError::ExceedsMaxLoans,
+            alloc,
+            LoanError::ExceedsMaxLoans,
             "LoanError::ExceedsMaxLoans",
         ),
         prints(
-            rt.alloc(),
-            &SendError::UnableToDeliver,
+            alloc,
+            SendError::UnableToDeliver,
             "SendError::UnableToDeliver",
         ),
         prints(
-            rt.alloc(),
-            &ReceiveError::ExceedsMaxBorrows,
+            alloc,
+            ReceiveError::ExceedsMaxBorrows,
             "ReceiveError::ExceedsMaxBorrows",
         ),
         prints(
-            rt.alloc(),
-            &PublisherCreateError::UnableToCreateDataSegment,
+            alloc,
+            PublisherCreateError::UnableToCreateDataSegment,
             "PublisherCreateError::UnableToCreateDataSegment",
         ),
         prints(
-            rt.alloc(),
-            &SubscriberCreateError::FailedToDeployThreadsafetyPolicy,
+            alloc,
+            SubscriberCreateError::FailedToDeployThreadsafetyPolicy,
             "SubscriberCreateError::FailedToDeployThreadsafetyPolicy",
         ),
     ];
@@ -62,25 +63,22 @@ fn errors_print_their_causes_in_parentheses(rt: HostRuntime) {
     let unmapped = ConnectionFailure::UnableToMapSendersDataSegment(
         SharedMemoryOpenError::InternalError,
     );
+    let alloc = rt.alloc();
     let printed = [
-        prints_behind(
-            rt.alloc(),
-            &refused,
-            "err SendError::LoanError(OutOfMemory)",
-        ),
+        prints_behind(alloc, refused, "err SendError::LoanError(OutOfMemory)"),
         prints(
-            rt.alloc(),
-            &full,
+            alloc,
+            full,
             "ConnectionFailure::FailedToEstablishConnection(ExpiredConnectionBufferFull)",
         ),
         prints(
-            rt.alloc(),
-            &ReceiveError::ConnectionFailure(full),
+            alloc,
+            ReceiveError::ConnectionFailure(full),
             "ReceiveError::ConnectionFailure(FailedToEstablishConnection(ExpiredConnectionBufferFull))",
         ),
         prints(
-            rt.alloc(),
-            &SendError::ConnectionError(unmapped),
+            alloc,
+            SendError::ConnectionError(unmapped),
             "SendError::ConnectionError(UnableToMapSendersDataSegment(InternalError))",
         ),
     ];

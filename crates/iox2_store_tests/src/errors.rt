@@ -3,7 +3,8 @@ use iox2_store::{
     SendError, SharedMemoryOpenError, ZeroCopyCreationError,
 };
 use std::collections::HashMap;
-use std::test::Fail;
+use std::hash::Hash;
+use std::process::Abort;
 
 #[test]
 fn a_connection_takes_a_handlers_answer(rt: HostRuntime) {
@@ -43,8 +44,12 @@ fn a_failed_call_holds_its_cause(rt: HostRuntime) {
     let failure = ConnectionFailure::FailedToEstablishConnection(
         ZeroCopyCreationError::OutOfMemory,
     );
-    assert!(rt; ReceiveError::from(failure) == ReceiveError::ConnectionFailure(failure));
-    assert!(rt; SendError::from(failure) == SendError::ConnectionError(failure));
+    let received = ReceiveError::from(failure);
+    let sent = SendError::from(failure);
+    assert!(rt;
+        received == ReceiveError::ConnectionFailure(failure)
+            && sent == SendError::ConnectionError(failure)
+    );
 }
 
 // What `?` makes of a refused loan.
@@ -54,38 +59,45 @@ fn sent(loan: Result<u8, LoanError>) -> Result<u8, SendError> {
 
 #[test]
 fn a_refused_loan_is_a_refused_send(rt: HostRuntime) {
-    assert!(rt; sent(Ok(4)) == Ok(4));
     let refused = sent(Err(LoanError::InternalFailure));
-    assert!(rt; refused == Err(SendError::LoanError(LoanError::InternalFailure)));
-    assert!(rt; refused != Err(SendError::LoanError(LoanError::OutOfMemory)));
+    let answers = [sent(Ok(4)), refused];
+    let expected = [Ok(4), Err(SendError::LoanError(LoanError::InternalFailure))];
+    let other = Err(SendError::LoanError(LoanError::OutOfMemory));
+    assert!(rt; answers == expected && refused != other);
+}
+
+// Keeps the number under the error.
+fn insert<K: Hash + Eq + Drop>(rt: &impl Abort, map: &mut HashMap<K, u8>, error: K, number: u8) {
+    let kept: Result<_, _> = map.insert(error, number);
+    kept.expect(rt, "room");
 }
 
 #[test]
-fn refused_loans_are_keys_of_a_map(rt: HostRuntime) -> Result<(), Fail> {
+fn refused_loans_are_keys_of_a_map(rt: HostRuntime) {
     let mut refusals = HashMap::new(rt.alloc());
-    refusals.insert(LoanError::OutOfMemory, 1)?;
-    refusals.insert(LoanError::ExceedsMaxLoans, 2)?;
-    refusals.insert(LoanError::OutOfMemory, 3)?;
+    insert(&rt, &mut refusals, LoanError::OutOfMemory, 1);
+    insert(&rt, &mut refusals, LoanError::ExceedsMaxLoans, 2);
+    insert(&rt, &mut refusals, LoanError::OutOfMemory, 3);
     let found = [
         refusals.get(&LoanError::OutOfMemory).copied(),
         refusals.get(&LoanError::InternalFailure).copied(),
     ];
-    assert!(rt; refusals.len() == 2);
-    assert!(rt; found == [Some(3), None]);
-    Ok(())
+    let len = refusals.len();
+    drop(refusals);
+    assert!(rt; len == 2 && found == [Some(3), None]);
 }
 
 #[test]
-fn failed_connections_are_keys_of_a_map(rt: HostRuntime) -> Result<(), Fail> {
-    let mut failures = HashMap::new(rt.alloc());
+fn failed_connections_are_keys_of_a_map(rt: HostRuntime) {
     let refused = ConnectionFailure::from(ZeroCopyCreationError::OutOfMemory);
     let unmapped = ConnectionFailure::from(SharedMemoryOpenError::InternalError);
-    failures.insert(refused, 1)?;
-    failures.insert(unmapped, 2)?;
+    let mut failures = HashMap::new(rt.alloc());
+    insert(&rt, &mut failures, refused, 1);
+    insert(&rt, &mut failures, unmapped, 2);
     let found = [
         failures.get(&refused).copied(),
         failures.get(&unmapped).copied(),
     ];
+    drop(failures);
     assert!(rt; found == [Some(1), Some(2)]);
-    Ok(())
 }

@@ -5,7 +5,6 @@ use iox2_store::{
     BackpressureAction, BackpressureFn, BackpressureInfo, DegradationAction, DegradationCause,
     DegradationFn, DegradationInfo,
 };
-use std::test::Fail;
 use std::time::Duration;
 
 // Tries a delivery again so many times.
@@ -39,30 +38,34 @@ impl DegradationFn for Indifference {
 }
 
 #[test]
-fn a_boxed_backpressure_handler_answers(rt: HostRuntime) -> Result<(), Fail> {
-    let handler: Box<dyn BackpressureFn> = Box::new(rt.alloc(), Patience { retries: 2 })?;
-    let mut info = BackpressureInfo {
+fn a_boxed_backpressure_handler_answers(rt: HostRuntime) {
+    let patience = Patience { retries: 2 };
+    let handler: Box<dyn BackpressureFn> = Box::new(rt.alloc(), patience).expect(&rt, "memory");
+    let early = BackpressureInfo {
         service_id: 7,
         sender_port_id: 2,
         receiver_port_id: 1,
         retries: 1,
         elapsed_time: Duration::ZERO,
     };
-    assert_eq!(rt; handler.call(&info), BackpressureAction::Retry);
-    info.retries = 2;
-    assert_eq!(rt; handler.call(&info), BackpressureAction::DiscardData);
-    Ok(())
+    let late = BackpressureInfo {
+        retries: 2,
+        ..early
+    };
+    let answers = [handler.call(&early), handler.call(&late)];
+    drop(handler);
+    assert!(rt; answers == [BackpressureAction::Retry, BackpressureAction::DiscardData]);
 }
 
 #[test]
-fn a_boxed_degradation_handler_answers(rt: HostRuntime) -> Result<(), Fail> {
-    let handler: Box<dyn DegradationFn> = Box::new(rt.alloc(), Indifference)?;
+fn a_boxed_degradation_handler_answers(rt: HostRuntime) {
+    let handler: Box<dyn DegradationFn> = Box::new(rt.alloc(), Indifference).expect(&rt, "memory");
     let info = DegradationInfo {
         service_id: 7,
         sender_port_id: 2,
         receiver_port_id: 1,
     };
     let answer = handler.call(DegradationCause::FailedToEstablishConnection, &info);
-    assert_eq!(rt; answer, DegradationAction::Ignore);
-    Ok(())
+    drop(handler);
+    assert!(rt; answer == DegradationAction::Ignore);
 }

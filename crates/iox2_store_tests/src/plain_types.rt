@@ -40,9 +40,7 @@ fn a_header_answers_its_fields(rt: HostRuntime) {
     };
     let ids = [header.node_id().value(), header.publisher_id().value()];
     let is_alike = longer == header;
-    assert!(rt; ids == [9, 2]);
-    assert!(rt; header.number_of_elements() == 3);
-    assert!(rt; !is_alike);
+    assert!(rt; ids == [9, 2] && header.number_of_elements() == 3 && !is_alike);
 }
 
 #[test]
@@ -76,20 +74,20 @@ fn warnings_compare_by_variant_and_field(rt: HostRuntime) {
 
 #[test]
 fn what_a_handler_is_told_may_be_let_go(rt: HostRuntime) {
-    let info = BackpressureInfo {
+    let waits = BackpressureInfo {
         service_id: 1,
         sender_port_id: 2,
         receiver_port_id: 3,
         retries: 4,
         elapsed_time: Duration::from_millis(5),
     };
-    assert!(rt; info.elapsed_time == Duration::from_micros(5000));
-    let info = DegradationInfo {
+    let fails = DegradationInfo {
         service_id: 1,
         sender_port_id: 2,
         receiver_port_id: 3,
     };
-    assert!(rt; info.receiver_port_id == 3);
     let cause = DegradationCause::FailedToEstablishConnection;
-    assert!(rt; !matches!(cause, DegradationCause::ConnectionCorrupted));
+    let is_other = !matches!(cause, DegradationCause::ConnectionCorrupted);
+    assert!(rt; waits.elapsed_time == Duration::from_micros(5000));
+    assert!(rt; fails.receiver_port_id == 3 && is_other);
 }

@@ -11,7 +11,7 @@ fn header(elements: u64) -> Header {
     }
 }
 
-// A book of a publisher with so many slots.
+// A book of a publisher with so many slots, all of them free.
 fn book(rt: &impl Abort, alloc: Global, slots: usize) -> SlotBook {
     SlotBook::new(alloc, UniquePublisherId::new(3), slots).expect(rt, "a book")
 }
@@ -28,13 +28,8 @@ fn as_many_slots_are_taken_as_there_are(rt: HostRuntime) {
     let full = book.is_full();
     let third = book.take(7, header(3));
     drop(book);
-    assert!(rt; publisher == 3);
-    assert!(rt; slots == 2);
-    assert!(rt; [empty, half, full] == [false, false, true]);
-    assert!(rt; first.is_some());
-    assert!(rt; second.is_some());
-    assert!(rt; first != second);
-    assert!(rt; third == None);
+    assert!(rt; publisher == 3 && slots == 2 && [empty, half, full] == [false, false, true]);
+    assert!(rt; first.is_some() && second.is_some() && first != second && third == None);
 }
 
 #[test]
@@ -45,8 +40,7 @@ fn slots_keep_what_their_messages_are(rt: HostRuntime) {
     let numbers = [book.number(first), book.number(second)];
     let elements = book.header(second).number_of_elements();
     drop(book);
-    assert!(rt; numbers == [5, 6]);
-    assert!(rt; elements == 2);
+    assert!(rt; numbers == [5, 6] && elements == 2);
 }
 
 #[test]
@@ -57,8 +51,7 @@ fn a_slot_keeps_how_far_its_message_came(rt: HostRuntime) {
     book.set_mark(slot, SlotMark::Sent);
     let after = book.mark(slot);
     drop(book);
-    assert!(rt; before == SlotMark::Unwritten);
-    assert!(rt; after == SlotMark::Sent);
+    assert!(rt; before == SlotMark::Unwritten && after == SlotMark::Sent);
 }
 
 #[test]
@@ -73,8 +66,6 @@ fn a_slot_is_held_and_released(rt: HostRuntime) {
     let last = book.release(slot);
     let again = book.take(6, header(1));
     drop(book);
-    assert!(rt; holders == 2);
-    assert!(rt; [first, last] == [false, true]);
-    assert!(rt; [unused, used] == [true, false]);
+    assert!(rt; holders == 2 && [first, last, unused, used] == [false, true, true, false]);
     assert!(rt; again == Some(slot));
 }
