@@ -1,22 +1,17 @@
 -- A key is set at a place.
-use Rattle.std.proofs.Common.{◌≡◌, ◌≢◌, ℕ, zero, suc, ◌<◌, ◌≤◌, List, [], ◌∷◌, ◌++◌, map, ◌⊎◌, length, get_or, slice_set, refl, ap, sym, ◌∙◌, arith, inl, inr}
+use Rattle.std.proofs.Common.{◌≡◌, ◌≢◌, ℕ, zero, suc, List, [], ◌∷◌, map, ◌⊎◌, get_or, refl, ap, sym, ◌∙◌, inl, inr}
 use Rattle.std.proofs.lemmas.Bool.{cases_eq}
 use Rattle.std.specs.declared.option.Option.{Option}
 use Rattle.std.specs.declared.option.Option.TheVariants.{None, Some}
 use Rattle.iox2_store.specs.Places.{set_place}
+use Rattle.iox2_domain.specs.Placed.{placed}
 
--- a list that is too short may grow by nothing
-pub set_place-longer : (xs : List (Option ℕ)) (place : ℕ) (x : Option ℕ) → length xs ≤ place → set_place (xs ++ None ∷ []) place x ≡ set_place xs place x
-set_place-longer [] zero x short = refl
-set_place-longer [] (suc place) x short = refl
-set_place-longer (y ∷ ys) zero x short = absurd (omega arith)
-set_place-longer (y ∷ ys) (suc place) x short = ap (λ zs. y ∷ zs) (set_place-longer ys place x (omega arith))
-
--- a list that is long enough is only written
-pub set_place-within : (xs : List (Option ℕ)) (place : ℕ) (x : Option ℕ) → place < length xs → slice_set xs place x ≡ set_place xs place x
-set_place-within [] place x within = absurd (omega arith)
-set_place-within (y ∷ ys) zero x within = refl
-set_place-within (y ∷ ys) (suc place) x within = ap (λ zs. y ∷ zs) (set_place-within ys place x (omega arith))
+-- a key is put at its place as a record is
+pub placed-sets : (xs : List (Option ℕ)) (place key : ℕ) → placed xs place key ≡ set_place xs place (Some key)
+placed-sets [] zero key = refl
+placed-sets [] (suc place) key = ap (λ zs. None ∷ zs) (placed-sets [] place key)
+placed-sets (y ∷ ys) zero key = refl
+placed-sets (y ∷ ys) (suc place) key = ap (λ zs. y ∷ zs) (placed-sets ys place key)
 
 -- what stands at the place then
 pub set_place-here : (xs : List (Option ℕ)) (place : ℕ) (x : Option ℕ) → get_or (set_place xs place x) place None ≡ x

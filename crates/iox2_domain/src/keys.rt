@@ -1,24 +1,11 @@
 //! Where the ports have the keys of their connections.
 ghost use Rattle.std.specs.Prelude.{◌≡◌, ◌<◌, ◌≤◌, Some, None, length, slice_index_or, vec_capacity, OnOk};
-ghost use Rattle.iox2_store.specs.Places.{set_place};
 ghost use Rattle.iox2_domain.specs.Updates.{changed_at, with_sender_key, with_receiver_key, with_sender_room, with_receiver_room, sender_key, receiver_key, sender_room, receiver_room};
 
-use crate::places::reserve_place;
+use crate::places::{put_at_place, reserve_place};
 use crate::publisher_state::PublisherState;
 use crate::subscriber_state::SubscriberState;
 use std::alloc::AllocError;
-
-// Sets the key at a place; the list grows where it is too short.
-fn set_key(places: &mut Vec<Option<usize>>, place: usize, key: usize)
-    requires room { place < vec_capacity places.old }
-    ensures items { places.new.items ≡ set_place places.old.items place (Some key) }
-    ensures same_room { vec_capacity places.new ≡ vec_capacity places.old }
-{
-    while places.len() <= place {
-        places.push_reserved(None);
-    }
-    places[place] = Some(key);
-}
 
 fn key_at(places: &[Option<usize>], place: usize) -> Option<usize>
     ensures { result ≡ slice_index_or places.now place None }
@@ -42,7 +29,7 @@ impl PublisherState {
         requires { place < self.old.place_room }
         ensures { self.new ≡ with_sender_key place key self.old }
     {
-        set_key(&mut self.places, place, key);
+        put_at_place(&mut self.places, place, key);
     }
 }
 
@@ -59,7 +46,7 @@ impl SubscriberState {
         requires { place < self.old.place_room }
         ensures { self.new ≡ with_receiver_key place key self.old }
     {
-        set_key(&mut self.places, place, key);
+        put_at_place(&mut self.places, place, key);
     }
 }
 

@@ -19,16 +19,9 @@ impl<T: Drop, U: Default + Drop> DomainState<T, U> {
         requires { IsDomain self.now }
         ensures { MatchOption result (HoldsLoan (state_of (kept_of self.now)) publisher number → ⊥) (λ at. LiesInSlot self.now publisher number at.0 at.1) }
     {
-        let Some(place) = self.find_publisher(publisher, 0) else {
-            return None;
-        };
-        let Some(publisher) = &self.publishers[place] else {
-            return None;
-        };
-        let Some(slot) = find_slot(&self.books[publisher.book], &publisher.loans, number, hint)
-        else {
-            return None;
-        };
+        let place = self.find_publisher(publisher, 0)?;
+        let publisher = self.publishers[place].as_ref()?;
+        let slot = find_slot(&self.books[publisher.book], &publisher.loans, number, hint)?;
         Some((publisher.book, slot))
     }
 }

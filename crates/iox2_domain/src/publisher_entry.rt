@@ -103,16 +103,11 @@ impl<T: Drop, U: Default + Drop> DomainState<T, U> {
             (λ e. CreatePublisher fixed_handlers (state_of (kept_of self.old)) (plain_publisher max_loaned_samples) (state_of (kept_of self.old)) (Some e)
             × Reaches self.old self.new (state_of (kept_of self.old))) }
     {
-        let place = match self.place_for_publisher() {
-            Ok(place) => place,
-            Err(e) => return Err(e),
-        };
+        let place = self.place_for_publisher()?;
         let Some(slots) = first_segment(&self.config, max_loaned_samples) else {
             return Err(PublisherCreateError::UnableToCreateDataSegment);
         };
-        if let Err(e) = self.admit_publisher(place, max_loaned_samples, slots) {
-            return Err(e);
-        }
+        self.admit_publisher(place, max_loaned_samples, slots)?;
         self.update_publisher(place);
         Ok(place)
     }

@@ -105,23 +105,19 @@ impl<T: Drop, U: Default + Drop> DomainState<T, U> {
         requires { IsDomain self.now }
         ensures { MatchOption result (is_borrowed number ((state_of (kept_of self.now)).mailboxes publisher subscriber) ≡ false) (LiesBorrowed self.now subscriber publisher number) }
     {
-        let Some(connection) = find_connection(
+        let connection = find_connection(
             &self.connections,
             publisher,
             subscriber,
             connection_hint,
-        ) else {
-            return None;
-        };
+        )?;
         let book = self.book_of(connection);
-        let Some(slot) = find_borrowed(
+        let slot = find_borrowed(
             &self.connections[connection],
             &self.books[book],
             number,
             slot_hint,
-        ) else {
-            return None;
-        };
+        )?;
         Some(SampleSlot {
             connection,
             book,

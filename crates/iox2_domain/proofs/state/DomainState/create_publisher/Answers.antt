@@ -1,4 +1,5 @@
 use Rattle.std.proofs.Common.{ap, sym, subst, ℕ, false, get_or, refl, ◌∙◌}
+use Rattle.std.proofs.lemmas.Result.{err_from_is_err_and}
 use Rattle.std.proofs.lemmas.List.{get_or-set_same}
 use Rattle.std.specs.Prelude.{IsTrue}
 use Rattle.std.specs.declared.option.Option.TheVariants.{None, Some}
@@ -14,58 +15,62 @@ use Rattle.iox2_domain.proofs.PublisherCreations.{created-refused, created-unfit
 use Rattle.iox2_domain.proofs.ReachesShows.{reaches-same}
 use Rattle.iox2_domain.proofs.state.DomainState.create_publisher.Goals as goal
 
-pub returns-in-Err-clause-step : goal.returns-in-Err-clause-step
-returns-in-Err-clause-step g c = (
-  created-refused {T = g.row.T.Denot} {U = g.row.U.Denot} c.args.self.now c.args.max_loaned_samples fixed_handlers c.in-Err.e (sym c.in-Err.ensures),
-  reaches-same c.args.self.now c.requires,
-)
+pub returns-in_err-place-clause-step : goal.returns-in_err-place-clause-step
+returns-in_err-place-clause-step g c =
+    let refused = err_from_is_err_and c.from_residual.result c.from_residual.ensures.1 in
+    rw (refused.1, refused.2) (
+      created-refused {T = g.row.T.Denot} {U = g.row.U.Denot} c.args.self.now c.args.max_loaned_samples fixed_handlers c.in_err-place.field-0.0 (sym c.place_for_publisher.ensures ∙ c.in_err-place.was),
+      reaches-same c.args.self.now c.requires,
+    )
 
 pub returns-in_default-clause-step : goal.returns-in_default-clause-step
 returns-in_default-clause-step g c = (
-  created-unfit {T = g.row.T.Denot} {U = g.row.U.Denot} c.args.self.now c.args.max_loaned_samples fixed_handlers c.in-Ok.place (sym c.in-Ok.ensures)
+  created-unfit {T = g.row.T.Denot} {U = g.row.U.Denot} c.args.self.now c.args.max_loaned_samples fixed_handlers c.in_ok-place.place (sym c.place_for_publisher.ensures ∙ c.in_ok-place.was)
       (subst (λ (f : Fields g.row.T.Denot g.row.U.Denot). IsTrue (first_segment_fits f.config (plain_publisher c.args.max_loaned_samples)) → ⊥) c.self.view_is c.in_default.ensures),
   reaches-same c.args.self.now c.requires,
 )
 
-pub returns-in-Err-admit_publisher-clause-step : goal.returns-in-Err-admit_publisher-clause-step
-returns-in-Err-admit_publisher-clause-step g c = (
-  created-made {T = g.row.T.Denot} {U = g.row.U.Denot} c.args.self.now c.args.max_loaned_samples fixed_handlers c.in-Ok.place (state_of (kept_of c.args.self.now)) (Some c.in-Err-admit_publisher.e)
-      (sym c.in-Ok.ensures)
-      (subst (λ (f : Fields g.row.T.Denot g.row.U.Denot). IsTrue (first_segment_fits f.config (plain_publisher c.args.max_loaned_samples))) c.self.view_is c.in-Some.ensures.0)
-      (tt, refl, c.in-Err-admit_publisher.ensures.step.1),
-  c.in-Err-admit_publisher.ensures.step.0,
-)
+pub returns-in_err-admit_publisher-clause-step : goal.returns-in_err-admit_publisher-clause-step
+returns-in_err-admit_publisher-clause-step g c =
+    let refused = err_from_is_err_and c.from_residual-in_err-admit_publisher.result c.from_residual-in_err-admit_publisher.ensures.1 in
+    rw (refused.1, refused.2) (
+      created-made {T = g.row.T.Denot} {U = g.row.U.Denot} c.args.self.now c.args.max_loaned_samples fixed_handlers c.in_ok-place.place (state_of (kept_of c.args.self.now)) (Some c.in_err-admit_publisher.field-0.0)
+          (sym c.place_for_publisher.ensures ∙ c.in_ok-place.was)
+          (subst (λ (f : Fields g.row.T.Denot g.row.U.Denot). IsTrue (first_segment_fits f.config (plain_publisher c.args.max_loaned_samples))) c.self.view_is c.in-Some.ensures.0)
+          (tt, refl, c.in_err-admit_publisher.ensures.step.1),
+      c.in_err-admit_publisher.ensures.step.0,
+    )
 
 pub update_publisher-requires-clause-stands : goal.update_publisher-requires-clause-stands
 update_publisher-requires-clause-stands g c =
-    let entered = c.in_default-admit_publisher.ensures in
-    within_if_some c.admit_publisher.new.self.publishers c.in-Ok.place entered.stands.0 entered.stands.1
+    let entered = c.in_ok-admit_publisher.ensures in
+    within_if_some c.admit_publisher.new.self.publishers c.in_ok-place.place entered.stands.0 entered.stands.1
 
 pub returns-clause-step : goal.returns-clause-step
 returns-clause-step g c =
-    let entered = c.in_default-admit_publisher.ensures in
+    let entered = c.in_ok-admit_publisher.ensures in
     let updated = c.update_publisher.ensures entered.stands.0 entered.stands.1 in
     created-updated {T = g.row.T.Denot} {U = g.row.U.Denot} c.args.self.now c.args.max_loaned_samples fixed_handlers
-    c.admit_publisher.new.self c.update_publisher.new.self c.in-Ok.place updated.after (sym c.in-Ok.ensures)
+    c.admit_publisher.new.self c.update_publisher.new.self c.in_ok-place.place updated.after (sym c.place_for_publisher.ensures ∙ c.in_ok-place.was)
     (subst (λ (f : Fields g.row.T.Denot g.row.U.Denot). IsTrue (first_segment_fits f.config (plain_publisher c.args.max_loaned_samples))) c.self.view_is c.in-Some.ensures.0)
     entered.step (subst (λ (id : ℕ). UpdatePublisher fixed_handlers (state_of (kept_of c.admit_publisher.new.self)) id updated.after None) entered.stands.2 updated.updates) updated.reaches
 
 pub admit_publisher-requires-clause-has_place : goal.admit_publisher-requires-clause-has_place
-admit_publisher-requires-clause-has_place g c = sym c.in-Ok.ensures
+admit_publisher-requires-clause-has_place g c = sym c.place_for_publisher.ensures ∙ c.in_ok-place.was
 
 pub admit_publisher-requires-clause-slots : goal.admit_publisher-requires-clause-slots
 admit_publisher-requires-clause-slots g c =
     c.in-Some.ensures.1 ∙ ap (λ (f : Fields g.row.T.Denot g.row.U.Denot). worst_case f.config c.args.max_loaned_samples) c.self.view_is
 
 pub update_publisher-requires-clause-agrees : goal.update_publisher-requires-clause-agrees
-update_publisher-requires-clause-agrees g c = c.in_default-admit_publisher.ensures.step.agrees
+update_publisher-requires-clause-agrees g c = c.in_ok-admit_publisher.ensures.step.agrees
 
 pub returns-clause-stands : goal.returns-clause-stands
 returns-clause-stands g c =
-    let entered = c.in_default-admit_publisher.ensures in
+    let entered = c.in_ok-admit_publisher.ensures in
     let updated = c.update_publisher.ensures entered.stands.0 entered.stands.1 in (
       record (entered.stands.0) { places = updated.keys; place_room = updated.place_room; is_due = false },
-      ap (λ (f : Fields g.row.T.Denot g.row.U.Denot). get_or f.publishers c.in-Ok.place None) updated.fields
-          ∙ get_or-set_same c.admit_publisher.new.self.publishers c.in-Ok.place (Some (record (entered.stands.0) { places = updated.keys; place_room = updated.place_room; is_due = false })) None (within_if_some c.admit_publisher.new.self.publishers c.in-Ok.place entered.stands.0 entered.stands.1),
+      ap (λ (f : Fields g.row.T.Denot g.row.U.Denot). get_or f.publishers c.in_ok-place.place None) updated.fields
+          ∙ get_or-set_same c.admit_publisher.new.self.publishers c.in_ok-place.place (Some (record (entered.stands.0) { places = updated.keys; place_room = updated.place_room; is_due = false })) None (within_if_some c.admit_publisher.new.self.publishers c.in_ok-place.place entered.stands.0 entered.stands.1),
       entered.stands.2,
     )

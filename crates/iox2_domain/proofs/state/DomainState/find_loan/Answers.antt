@@ -1,22 +1,25 @@
+use Rattle.std.proofs.Common.{sym}
 use Rattle.iox2_domain.proofs.LoanSlots.{no-publisher-no-loan, book-read, nothing-read, slot-read}
 use Rattle.iox2_domain.proofs.state.DomainState.find_loan.Goals as goal
 
-pub returns-in_default : goal.returns-in_default
-returns-in_default g c = no-publisher-no-loan {T = g.row.T.Denot} {U = g.row.U.Denot} c.args.self.now c.requires c.args.publisher c.args.number c.in_default.ensures
+pub returns-in_err-place : goal.returns-in_err-place
+returns-in_err-place g c = rw c.from_residual.ensures (no-publisher-no-loan {T = g.row.T.Denot} {U = g.row.U.Denot} c.args.self.now c.requires c.args.publisher c.args.number c.in_err-place.ensures)
 
 pub index-requires-2 : goal.index-requires-2
 index-requires-2 g c =
-    book-read {T = g.row.T.Denot} {U = g.row.U.Denot} c.args.self.now _ c.self.view_is c.in-Some.place c.args.publisher c.in-Some.ensures
-    c.index.result.now c.index.ensures c.in-Some-index.publisher c.in-Some-index.is _ c.publisher.view_is c.requires
+    book-read {T = g.row.T.Denot} {U = g.row.U.Denot} c.args.self.now _ c.self.view_is c.in_ok-place.place c.args.publisher c.in_ok-place.ensures
+    c.index.result.now c.index.ensures c.in_ok-publisher.publisher.now (sym c.in_ok-publisher.ensures.value) _ c.publisher.view_is c.requires
 
-pub returns-in_default-find_slot : goal.returns-in_default-find_slot
-returns-in_default-find_slot g c =
-    nothing-read {T = g.row.T.Denot} {U = g.row.U.Denot} c.args.self.now _ c.self.view_is c.in-Some.place c.args.publisher c.in-Some.ensures
-    c.index.result.now c.index.ensures c.in-Some-index.publisher c.in-Some-index.is _ c.publisher.view_is c.requires
-    c.args.number c.index-2.result.now c.index-2.ensures c.deref.result.now c.deref.ensures.value c.in_default-find_slot.ensures
+pub returns-in_err-slot : goal.returns-in_err-slot
+returns-in_err-slot g c =
+    rw c.from_residual-in_err-slot.ensures (
+    nothing-read {T = g.row.T.Denot} {U = g.row.U.Denot} c.args.self.now _ c.self.view_is c.in_ok-place.place c.args.publisher c.in_ok-place.ensures
+    c.index.result.now c.index.ensures c.in_ok-publisher.publisher.now (sym c.in_ok-publisher.ensures.value) _ c.publisher.view_is c.requires
+    c.args.number c.index-2.result.now c.index-2.ensures c.deref.result.now c.deref.ensures.value c.in_err-slot.ensures
+    )
 
 pub returns : goal.returns
 returns g c =
-    slot-read {T = g.row.T.Denot} {U = g.row.U.Denot} c.args.self.now _ c.self.view_is c.in-Some.place c.args.publisher c.in-Some.ensures
-    c.index.result.now c.index.ensures c.in-Some-index.publisher c.in-Some-index.is _ c.publisher.view_is c.requires
-    c.args.number c.index-2.result.now c.index-2.ensures c.in-Some-find_slot.slot c.in-Some-find_slot.ensures
+    slot-read {T = g.row.T.Denot} {U = g.row.U.Denot} c.args.self.now _ c.self.view_is c.in_ok-place.place c.args.publisher c.in_ok-place.ensures
+    c.index.result.now c.index.ensures c.in_ok-publisher.publisher.now (sym c.in_ok-publisher.ensures.value) _ c.publisher.view_is c.requires
+    c.args.number c.index-2.result.now c.index-2.ensures c.in_ok-slot.slot c.in_ok-slot.ensures
