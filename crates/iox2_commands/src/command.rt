@@ -1,5 +1,4 @@
 use iox2_store::{AllocationStrategy, BackpressureAction, BackpressureStrategy, DegradationAction};
-use std::alloc::AllocError;
 use std::time::Duration;
 
 /// One call of a run, as plain data. It is this project's own.
@@ -8,7 +7,7 @@ use std::time::Duration;
 /// that the call is on. A loan keeps the name of its loan command through writes and `AssumeInit`, a blocked send that of
 /// the `Send` or `SendCopy` that blocked. Where `of` names nothing live of the wanted kind, the command is skipped and
 /// changes nothing. In a service whose `units_per_element` isn't 1 each loan, `SendCopy` and `Receive` is skipped.
-#[derive(Debug, Copy, PartialEq, Eq)]
+#[derive(Debug, Clone, Copy, PartialEq, Eq)]
 pub enum Command<T, U> {
     /// Does nothing.
     Nothing,
@@ -161,16 +160,4 @@ pub enum Command<T, U> {
         /// The port.
         of: usize,
     },
-}
-
-impl<T: Copy, U: Copy> Clone for Command<T, U> {
-    ghost use Rattle.std.specs.Prelude.{◌≡◌};
-
-    ghost is_clone = { λ value clone. clone ≡ value };
-
-    ghost is_infallible = { λ _. Unit {0} };
-
-    fn clone(&self) -> Result<Self, AllocError> {
-        Ok(*self)
-    }
 }

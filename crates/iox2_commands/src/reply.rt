@@ -2,10 +2,9 @@ use iox2_store::{
     ConnectionFailure, Header, LoanError, PublisherCreateError, ReceiveError, SendError,
     SubscriberCreateError, UniquePublisherId, UniqueSubscriberId,
 };
-use std::alloc::AllocError;
 
 /// What a command of a run comes to. It is this project's own.
-#[derive(Debug, Copy, PartialEq, Eq)]
+#[derive(Debug, Clone, Copy, PartialEq, Eq)]
 pub enum Reply<T, U> {
     /// The command was carried out, and has nothing to tell.
     Done,
@@ -47,16 +46,4 @@ pub enum Reply<T, U> {
     Header(Header),
     /// The user header that was read.
     UserHeader(U),
-}
-
-impl<T: Copy, U: Copy> Clone for Reply<T, U> {
-    ghost use Rattle.std.specs.Prelude.{◌≡◌};
-
-    ghost is_clone = { λ value clone. clone ≡ value };
-
-    ghost is_infallible = { λ _. Unit {0} };
-
-    fn clone(&self) -> Result<Self, AllocError> {
-        Ok(*self)
-    }
 }
