@@ -6,7 +6,9 @@ use std::time::Duration;
 /// `of` is the position in the list, counted from 0, of the command that made the port, loan, sample or blocked send
 /// that the call is on. A loan keeps the name of its loan command through writes and `AssumeInit`, a blocked send that of
 /// the `Send` or `SendCopy` that blocked. Where `of` names nothing live of the wanted kind, the command is skipped and
-/// changes nothing. In a service whose `units_per_element` isn't 1 each loan, `SendCopy` and `Receive` is skipped.
+/// changes nothing. So is one whose `at` is past the end, a loan or `SendCopy` in a service of the other kind, and a loan,
+/// send, update or close of a publisher that waits for a receiver. In a service whose `units_per_element` isn't 1 each
+/// loan, `SendCopy` and `Receive` is skipped.
 #[derive(Debug, Clone, Copy, PartialEq, Eq)]
 pub enum Command<T, U> {
     /// Does nothing.

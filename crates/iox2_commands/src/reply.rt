@@ -8,7 +8,7 @@ use iox2_store::{
 pub enum Reply<T, U> {
     /// The command was carried out, and has nothing to tell.
     Done,
-    /// The command names nothing live of the wanted kind, and changed nothing.
+    /// The command can't be carried out where it stands, as `Command` says, and changed nothing.
     Skipped,
     /// A publisher was made, with this id.
     PublisherMade(UniquePublisherId),

@@ -16,7 +16,8 @@ impl<T: Drop, U: Default + Drop> DomainState<T, U> {
     ghost use Rattle.iox2_domain.specs.LoanSlots.{LiesInSlot};
 
     /// Writes the value of a publisher's unwritten loan of one element, and answers the slot in
-    /// which it lies. It is looked for in the slot `hint` first.
+    /// which it lies. The loan counts as written from then on. It is looked for in the slot `hint`
+    /// first.
     pub fn write_loan(&mut self, publisher: u128, number: u128, hint: usize, value: T) -> usize
         requires agrees { IsDomain self.old }
         requires single { (self.old.config).units_per_element ≡ 1 }

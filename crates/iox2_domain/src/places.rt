@@ -95,14 +95,16 @@ impl<T: Drop, U: Default + Drop> DomainState<T, U> {
     ghost use Rattle.iox2_domain.specs.Ports.{PublisherFields, SubscriberFields};
     ghost use Rattle.iox2_domain.specs.Invariant.{is_publisher, is_subscriber};
 
-    /// The place of the publisher with an id. It is looked for at the hint first.
+    /// The place of the publisher with an id, and `None` where there is none. It is looked for at
+    /// the hint first.
     pub fn find_publisher(&self, id: u128, hint: usize) -> Option<usize>
         ensures { MatchOption result (look_up (is_publisher id) self.now.publishers ≡ None) (λ i. (x : PublisherFields) × (slice_index_or self.now.publishers i None ≡ Some x) × (x.id ≡ id)) }
     {
         find_place(&self.publishers, id, hint)
     }
 
-    /// The place of the subscriber with an id. It is looked for at the hint first.
+    /// The place of the subscriber with an id, and `None` where there is none. It is looked for at
+    /// the hint first.
     pub fn find_subscriber(&self, id: u128, hint: usize) -> Option<usize>
         ensures { MatchOption result (look_up (is_subscriber id) self.now.subscribers ≡ None) (λ i. (y : SubscriberFields) × (slice_index_or self.now.subscribers i None ≡ Some y) × (y.id ≡ id)) }
     {

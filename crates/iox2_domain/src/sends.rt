@@ -11,8 +11,9 @@ impl<T: Drop, U: Default + Drop> DomainState<T, U> {
     ghost use Rattle.iox2_domain.specs.SentLoans.{SendsLoan};
 
     /// Sends a publisher's written loan to its receivers, and answers how many took it. The
-    /// publisher's connections are updated and its slots reclaimed first. The loan is looked for in
-    /// the slot `hint` first.
+    /// publisher's connections are updated and its slots reclaimed first. Where memory for a
+    /// connection is refused, that is a warning. The loan is out no more afterwards. It is looked
+    /// for in the slot `hint` first.
     ///
     /// iceoryx2's `PublisherSharedState::send_sample` (`src/port/publisher.rs`).
     pub fn send_loan(&mut self, publisher: u128, number: u128, hint: usize) -> usize

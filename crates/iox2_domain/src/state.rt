@@ -13,7 +13,8 @@ use std::marker::Model;
 // So many warnings are kept.
 const WARNING_LIMIT: usize = 32;
 
-/// All that a domain keeps. Each call asks that its fields agree (`IsDomain`) and leaves them so.
+/// All that a domain keeps. Each call that changes it asks that its fields agree (`IsDomain`) and
+/// leaves them so.
 #[derive(Drop)]
 pub struct DomainState<T, U> {
     pub(crate) alloc: Global,

@@ -72,7 +72,7 @@ impl<T: Drop, U: Default + Drop> DomainState<T, U> {
     /// Updates the subscriber at a place, where it is due: it gets its connection with each
     /// publisher, by rising place. Where memory for one is refused, that is a warning.
     ///
-    /// iceoryx2's `SubscriberSharedState::force_update_connections` (`src/port/subscriber.rs`).
+    /// iceoryx2's `Subscriber::force_update_connections` (`src/port/subscriber.rs`).
     pub(crate) fn update_subscriber(&mut self, place: usize)
         requires agrees { IsDomain self.old }
         requires stands { place < length self.old.subscribers }

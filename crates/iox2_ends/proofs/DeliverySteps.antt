@@ -8,6 +8,7 @@ use Rattle.std.specs.Prelude.{IsSomeAnd}
 use Rattle.slab.specs.Slab.{Slab, get, Updates, with_value, ContainsKey}
 use Rattle.iox2_store.specs.Link.{Link, IsPut, IsBounded, load}
 use Rattle.iox2_store.specs.Mailbox.{Mailbox}
+use Rattle.iox2_store.specs.Environments.{fixed_handlers}
 use Rattle.iox2_store.specs.Delivery.{Skipped, DeliveryEnd, Put, is_blocking, is_failed, accepted_count, no_time}
 use Rattle.iox2_store.specs.declared.service_config.ServiceConfig.{ServiceConfig}
 use Rattle.iox2_store.specs.declared.backpressure.BackpressureStrategy.{BackpressureStrategy}
@@ -22,7 +23,7 @@ use Rattle.iox2_ends.specs.LookUp.{look_up, IsOnly}
 use Rattle.iox2_ends.specs.Mailboxes.{mailbox_of, mailboxes_of, subscriber_at, sender_ends}
 use Rattle.iox2_ends.specs.Homes.{SameHomes, KeepsOthers, IsSenders, IsSenderLinked, fixed_of}
 use Rattle.iox2_ends.specs.Receivers.{has_id, buffer_if_open, buffers_of, is_open_one, is_open_at, KnowsReceivers, HasReclaimed, IsReadyToDeliver}
-use Rattle.iox2_ends.specs.Deliveries.{no_handlers, result_of, result_of_put, end_of, PutsMessage, DeliversMessage}
+use Rattle.iox2_ends.specs.Deliveries.{result_of, result_of_put, end_of, PutsMessage, DeliversMessage}
 use Rattle.iox2_ends.proofs.LookUps.{look_up-found, look_up-there}
 use Rattle.iox2_ends.proofs.MailboxChanges.{Updates-with_value, SameHomes-updated, KeepsOthers-updated, was, IsApart-same, both-true, mailbox-there, row-changed, put_at-same}
 use mathlib.Core.Path.{fun_ext}
@@ -83,7 +84,7 @@ lt-false a b e = grind arith
 
 -- one put, at numbers
 pub put-mailbox : (number : ℕ → ℕ) (config : ServiceConfig) (p q slot : ℕ) (strategy : BackpressureStrategy) (buffers : ℕ → Option ℕ) (c d : Link) (o : PutOutcome) → IsPut c slot config.enable_safe_overflow o d
-    → Put no_handlers config p strategy None buffers (number slot) q 0 no_time (Some c.buffer) (mailbox_of number c) (result_of_put strategy o) (mailbox_of number d)
+    → Put fixed_handlers config p strategy None buffers (number slot) q 0 no_time (Some c.buffer) (mailbox_of number c) (result_of_put strategy o) (mailbox_of number d)
 put-mailbox number config p q slot strategy buffers c d Taken h =
     rw (h.1, length-map c.waiting number, lt-true (length c.waiting) c.buffer h.0, map-append number c.waiting (slot ∷ [])) (refl, refl)
 put-mailbox number config p q slot strategy buffers c d (Overwrote oldest) h =
@@ -152,7 +153,7 @@ module _ {p : ℕ} {slab : Slab Link} {places : List (Option ℕ)} {receivers : 
       open_c : is_open_at receivers i c.home.subscriber ≡ true
       open_c = subst (λ (x : Link). is_open_at receivers i x.home.subscriber ≡ true) (same_link slab key b c was_b was_c) receiving
 
-      goes : Put no_handlers config v.publisher v.strategy None (buffers_of receivers) (number p v.slot) c.home.subscriber 0 no_time (buffers_of receivers c.home.subscriber) (mailboxes_of number slab p c.home.subscriber) (result_of_put v.strategy o) (mailbox_of (number p) d)
+      goes : Put fixed_handlers config v.publisher v.strategy None (buffers_of receivers) (number p v.slot) c.home.subscriber 0 no_time (buffers_of receivers c.home.subscriber) (mailboxes_of number slab p c.home.subscriber) (result_of_put v.strategy o) (mailbox_of (number p) d)
       goes = rw (mailbox-there number slab key p c.home.subscriber c ready.apart was_c (home-of c was_c).publisher refl, buffers-open slab receivers key i c ready.knows (ready.one_id c.home.subscriber) was_c open_c)
           (put-mailbox (number p) config v.publisher c.home.subscriber v.slot v.strategy (buffers_of receivers) c d o put)
 

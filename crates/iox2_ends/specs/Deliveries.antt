@@ -5,7 +5,7 @@ use Rattle.std.specs.declared.option.Option.TheVariants.{None}
 use Rattle.slab.specs.Slab.{Slab}
 use Rattle.iox2_store.specs.Link.{Link}
 use Rattle.iox2_store.specs.Mailbox.{Mailbox}
-use Rattle.iox2_store.specs.Records.{Environment}
+use Rattle.iox2_store.specs.Environments.{fixed_handlers}
 use Rattle.iox2_store.specs.Delivery.{PutResult, Accepted, Skipped, Would_block, DeliveryEnd, Complete, Suspended, by_strategy, no_time, PutAtEnd, Deliver}
 use Rattle.iox2_store.specs.declared.service_config.ServiceConfig.{ServiceConfig}
 use Rattle.iox2_store.specs.declared.backpressure.BackpressureStrategy.{BackpressureStrategy}
@@ -17,14 +17,6 @@ use Rattle.iox2_ends.specs.declared.sender.ReceiverDetails.{ReceiverDetails}
 use Rattle.iox2_ends.specs.declared.sender.Delivery.{Delivery}
 use Rattle.iox2_ends.specs.declared.sender.Reception.{Reception}
 use Rattle.iox2_ends.specs.declared.sender.DeliveryOutcome.{DeliveryOutcome}
-
--- No handler answers, and memory may be refused.
-abbrev pub no_handlers : Environment
-no_handlers = record {
-  may_refuse_memory = Unit {0};
-  backpressure_answers = λ _ _ _. ⊥;
-  degradation_answers = λ _ _ _ _. ⊥;
-}
 
 -- The machine's result at one receiver.
 abbrev pub result_of : Reception → PutResult
@@ -48,11 +40,11 @@ end_of n ends (DeliveryOutcome.Suspended place count) =
 module _ (config : ServiceConfig) (d : Delivery) (receivers : List (Option ReceiverDetails)) where
   -- The machine's put of the message n at the end, in the publisher's mailboxes.
   abbrev pub PutsMessage : (n : ℕ) → (end : Option ℕ) → (ℕ → Mailbox) → PutResult → (ℕ → Mailbox) → Type 0
-  PutsMessage n end boxes result boxes' = PutAtEnd no_handlers config d.publisher d.strategy None (buffers_of receivers) n 0 no_time end boxes result boxes'
+  PutsMessage n end boxes result boxes' = PutAtEnd fixed_handlers config d.publisher d.strategy None (buffers_of receivers) n 0 no_time end boxes result boxes'
 
   -- The machine's delivery of the message n to these ends, which stand from that place on, in the publisher's mailboxes.
   abbrev pub DeliversMessage : (n place : ℕ) → List (Option ℕ) → (count : ℕ) → (ℕ → Mailbox) → DeliveryEnd → (ℕ → Mailbox) → Type 0
-  DeliversMessage n place ends count boxes how boxes' = Deliver no_handlers config d.publisher d.strategy None (buffers_of receivers) n 0 no_time place ends count false boxes how boxes'
+  DeliversMessage n place ends count boxes how boxes' = Deliver fixed_handlers config d.publisher d.strategy None (buffers_of receivers) n 0 no_time place ends count false boxes how boxes'
 
   -- Whatever numbers the slots have, the slot's message is put at the end to which the key leads.
   abbrev pub PutsSlot : (key : Option ℕ) → Slab Link → Reception → Slab Link → Type 0

@@ -25,10 +25,10 @@ module _ {T U : Type 0} (inside kept : Kept T U) (view : inside ≡ kept) where
   module _ (service publisher number id : ℕ) (same : id ≡ publisher) where
     -- a handle's loan is out
     pub unwritten-held : IsUnwrittenLoanHandle kept service publisher number → HoldsUnwritten (state_of inside) id number
-    unwritten-held handle = subst (λ k. HoldsUnwritten (state_of k) id number) (sym view) (handle.1, handle.2, handle.3 ∙ sym same, handle.4)
+    unwritten-held handle = subst (λ k. HoldsUnwritten (state_of k) id number) (sym view) ((handle.1).0, (handle.1).1, (handle.1).2 ∙ sym same, (handle.1).3)
 
     pub written-held : IsWrittenLoanHandle kept service publisher number → HoldsWritten (state_of inside) id number
-    written-held handle = subst (λ k. HoldsWritten (state_of k) id number) (sym view) (handle.1, handle.2, handle.3 ∙ sym same, handle.4)
+    written-held handle = subst (λ k. HoldsWritten (state_of k) id number) (sym view) ((handle.1).0, (handle.1).1, (handle.1).2 ∙ sym same, (handle.1).3)
 
     pub unwritten-loan : IsUnwrittenLoanHandle kept service publisher number → HoldsLoan (state_of inside) id number
     unwritten-loan handle = let held = unwritten-held handle in (held.0, held.1, held.2)
@@ -58,14 +58,16 @@ module _ {T U : Type 0} (f g : Fields T U) (kept : Kept T U) (view : kept_of f �
   pub write-held : (service publisher : ℕ) → IsUnwrittenLoanHandle kept service publisher n → IsWrittenLoanHandle (kept_of g) service publisher n
   write-held service publisher handle =
       let old : IsUnwrittenLoanHandle (kept_of f) service publisher n = subst (λ k. IsUnwrittenLoanHandle k service publisher n) (sym view) handle in
-      let both : Some writes.0 ≡ Some old.1 = sym writes.1 ∙ old.2 in
-      let same : writes.0 ≡ old.1 = cc in (
+      let both : Some writes.0 ≡ Some (old.1).0 = sym writes.1 ∙ (old.1).1 in
+      let same : writes.0 ≡ (old.1).0 = cc in (
         old.0 ∙ sym (ap (λ (t : State T U). (t.config).service_id) writes.2.state),
-        written writes.0 value,
-        ap (λ (t : State T U). t.loans n) writes.2.state
-            ∙ ap (λ b. cond b (Some (written writes.0 value)) ((state_of (kept_of f)).loans n)) (eq-eqb n n refl),
-        ap (λ (l : Loan T U). l.publisher) same ∙ old.3,
-        refl,
+        (
+          written writes.0 value,
+          ap (λ (t : State T U). t.loans n) writes.2.state
+              ∙ ap (λ b. cond b (Some (written writes.0 value)) ((state_of (kept_of f)).loans n)) (eq-eqb n n refl),
+          ap (λ (l : Loan T U). l.publisher) same ∙ (old.1).2,
+          refl,
+        ),
       )
 
 -- ---- the header of a loan

@@ -94,11 +94,13 @@ module _ {T U : Type 0} (f : Fields T U) where
         is_written = false;
       } in (
         its ∙ ap (λ (t : State T U). (t.config).service_id) (sym reached),
-        lent,
-        ap (λ (t : State T U). t.loans f.next_message) reached
-            ∙ ap (λ b. cond b (Some lent) (state.loans f.next_message)) (eq-eqb f.next_message f.next_message refl),
-        refl,
-        refl,
+        (
+          lent,
+          ap (λ (t : State T U). t.loans f.next_message) reached
+              ∙ ap (λ b. cond b (Some lent) (state.loans f.next_message)) (eq-eqb f.next_message f.next_message refl),
+          refl,
+          refl,
+        ),
       )
 
 module _ {T U : Type 0} (is_default : U → Type 0) (f new : Fields T U) (i p : ℕ) (answer : Result ℕ LoanError)

@@ -1,11 +1,10 @@
 -- When a domain holds a handle.
-use Rattle.std.specs.Prelude.{ℕ, true, false, ◌≡◌, IsTrue}
-use Rattle.std.specs.declared.option.Option.TheVariants.{Some}
+use Rattle.std.specs.Prelude.{ℕ, ◌≡◌, IsTrue}
 use Rattle.iox2_store.specs.Mailbox.{is_borrowed}
-use Rattle.iox2_store.specs.Records.{Loan}
 use Rattle.iox2_store.specs.declared.key.Key.{Key}
 use Rattle.iox2_store.specs.SingleCalls.{HoldsPublisher, HoldsSubscriber, HoldsLoan, HoldsSample}
 use Rattle.iox2_domain.specs.Kept.{Kept, state_of}
+use Rattle.iox2_domain.specs.LoanCalls.{HoldsUnwritten, HoldsWritten}
 
 module _ {T U : Type 0} (kept : Kept T U) (service_id : ℕ) where
   -- The domain has this number, and the publisher wasn't closed.
@@ -20,15 +19,11 @@ module _ {T U : Type 0} (kept : Kept T U) (service_id : ℕ) where
 
   -- The domain has this number, and the publisher's loan is out and not written.
   abbrev pub IsUnwrittenLoanHandle : (publisher number : ℕ) → Type 0
-  IsUnwrittenLoanHandle publisher number =
-      (service_id ≡ (kept.config).service_id)
-      × (l : Loan T U) × ((state_of kept).loans number ≡ Some l) × (l.publisher ≡ publisher) × (l.is_written ≡ false)
+  IsUnwrittenLoanHandle publisher number = (service_id ≡ (kept.config).service_id) × HoldsUnwritten (state_of kept) publisher number
 
   -- The domain has this number, and the publisher's loan is out and written.
   abbrev pub IsWrittenLoanHandle : (publisher number : ℕ) → Type 0
-  IsWrittenLoanHandle publisher number =
-      (service_id ≡ (kept.config).service_id)
-      × (l : Loan T U) × ((state_of kept).loans number ≡ Some l) × (l.publisher ≡ publisher) × (l.is_written ≡ true)
+  IsWrittenLoanHandle publisher number = (service_id ≡ (kept.config).service_id) × HoldsWritten (state_of kept) publisher number
 
   -- The domain has this number, and the subscriber has borrowed the publisher's message.
   abbrev pub IsSampleHandle : (subscriber publisher number : ℕ) → Type 0

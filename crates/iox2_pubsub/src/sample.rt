@@ -51,7 +51,7 @@ impl Sample {
         *publisher
     }
 
-    /// The message's value, where each message is a single value.
+    /// The message's value, in a domain whose `units_per_element` is 1.
     ///
     /// iceoryx2's `Sample::payload` (`src/sample.rs`).
     pub fn payload<'a, T: Drop, U: Default + Drop, F: BackpressureFn, G: DegradationFn>(

@@ -23,7 +23,7 @@ impl SampleMut {
     ghost use Rattle.iox2_domain.specs.LoanCalls.{HasCell, HasLoanHeader};
     ghost use Rattle.iox2_domain.specs.Shows.{Shows};
 
-    /// The payload, where each message is a single value.
+    /// The payload, in a domain whose `units_per_element` is 1.
     ///
     /// iceoryx2's `SampleMut::payload` (`src/sample_mut.rs`).
     pub fn payload<'a, T: Drop, U: Default + Drop, F: BackpressureFn, G: DegradationFn>(

@@ -26,8 +26,8 @@ impl SampleMutUninit {
     ghost use Rattle.iox2_domain.specs.LoanCalls.{HasCell, HasLoanHeader};
     ghost use Rattle.iox2_domain.specs.Shows.{Shows};
 
-    /// Writes the payload, where each message is a single value, and makes the loan one that may be
-    /// sent.
+    /// Writes the payload, in a domain whose `units_per_element` is 1, and makes the loan one that
+    /// may be sent.
     ///
     /// iceoryx2's `SampleMutUninit::write_payload` (`src/sample_mut_uninit.rs`).
     pub fn write_payload<T: Drop, U: Default + Drop, F: BackpressureFn, G: DegradationFn>(
@@ -60,7 +60,7 @@ impl SampleMutUninit {
         }
     }
 
-    /// The payload, where each message is a single value, and `None` where it isn't written.
+    /// The payload, in a domain whose `units_per_element` is 1, and `None` where it isn't written.
     ///
     /// iceoryx2's `SampleMutUninit::payload` (`src/sample_mut_uninit.rs`).
     pub fn payload<'a, T: Drop, U: Default + Drop, F: BackpressureFn, G: DegradationFn>(

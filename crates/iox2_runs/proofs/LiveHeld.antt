@@ -37,12 +37,12 @@ module _ {T U : Type 0} (domain : Domain T U) (table : List Held) (keeps : Keeps
   pub live_unwritten : (h : SampleMutUninit) → slice_index_or table of Nothing ≡ Unwritten h → IsUnwrittenLoanHandle domain h.service_id h.publisher h.number × IsSingle (state_of domain)
   live_unwritten h at =
       let v = (is_kept (Unwritten h) at (λ e. let clash : Unwritten h ≡ Nothing = e in cc)).1 in
-      ((v.0, ((v.2).0).0, ((v.2).0).1, ((v.2).0).2, ((v.2).0).3), v.3)
+      ((v.0, (v.2).0), v.3)
 
   pub live_written : (h : SampleMut) → slice_index_or table of Nothing ≡ Written h → IsWrittenLoanHandle domain h.service_id h.publisher h.number × IsSingle (state_of domain)
   live_written h at =
       let v = (is_kept (Written h) at (λ e. let clash : Written h ≡ Nothing = e in cc)).1 in
-      ((v.0, ((v.2).0).0, ((v.2).0).1, ((v.2).0).2, ((v.2).0).3), v.3)
+      ((v.0, (v.2).0), v.3)
 
   pub live_sample : (h : SampleHandle) → slice_index_or table of Nothing ≡ HeldSample h → IsSampleHandle domain h.service_id h.subscriber h.publisher h.number × IsSingle (state_of domain)
   live_sample h at =

@@ -120,8 +120,8 @@ impl From<SharedMemoryOpenError> for ConnectionFailure {
 
 /// Why a connection could not be made or put aside.
 ///
-/// Named as iceoryx2's `iceoryx2_cal::zero_copy_connection::ZeroCopyCreationError`; its variants are
-/// this library's own.
+/// Named as iceoryx2's `iceoryx2_cal::zero_copy_connection::ZeroCopyCreationError`, which has
+/// `IncompatibleBufferSize`; the other variants are this library's own.
 #[derive(Debug, Clone, Copy, PartialEq, Eq, Hash)]
 pub enum ZeroCopyCreationError {
     /// Never answered.

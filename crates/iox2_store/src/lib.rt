@@ -1,5 +1,5 @@
 //! The plain types of publish-subscribe delivery (ids, headers, settings, answers of handlers,
-//! errors and warnings), and the slots of a publisher.
+//! errors and warnings), the slots of a publisher, and the connections of ports.
 #![tactic(auto)]
 
 mod allocation;

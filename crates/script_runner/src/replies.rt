@@ -12,7 +12,7 @@ use std::io::Read;
 /// The replies to the commands of the script that `input` holds.
 ///
 /// `InputFailed` where it can't be read, `BadCommand` where a line isn't one of a script, and
-/// `OutOfMemory` where there is no room for the text, the domain or the replies.
+/// `OutOfMemory` where there is no room for the text, its commands, the domain or the replies.
 pub fn replies_of<R: Read>(
     alloc: Global,
     input: &mut R,

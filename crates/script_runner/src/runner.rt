@@ -12,9 +12,10 @@ use std::io::{Read, Write};
 ///
 /// - 0: all replies are written.
 /// - 2: a line isn't one of a script. Nothing ran, and nothing is written to `output`.
-/// - 3: there was no room for the text, the domain or the replies. Nothing is written to `output`. A
-///   port that finds no room is no such case: its reply says so.
-/// - 4: `input` or `output` failed.
+/// - 3: there was no room for the text, its commands, the domain, or the replies and their lines.
+///   Nothing is written to `output`. A port that finds no room is no such case: its reply says so.
+/// - 4: `input` failed, and nothing is written to `output`; or `output` failed, and may have a part
+///   of the lines.
 ///
 /// After any status but 0 a line on `errors` says what was wrong. That it can't be written changes
 /// nothing.

@@ -6,7 +6,7 @@ use iox2_commands::Reply;
 use std::alloc::{AllocError, Global};
 use std::fmt::Write;
 
-/// A line for each reply.
+/// A line for each reply. Fails with `AllocError` where there is no room for them.
 pub fn reply_lines(alloc: Global, replies: &[Reply<u64, u64>]) -> Result<String, AllocError>
     ensures { IfOk result (λ text. string_bytes text ≡ reply_lines replies.now) }
 {

@@ -38,8 +38,9 @@ impl PortFactorySubscriber {
         PortFactorySubscriber { buffer_size: value }
     }
 
-    /// Makes the subscriber in the domain, with connections to the publishers that are there. Where
-    /// memory for one of these is refused, the domain warns of it and goes on. It also warns where
+    /// Makes the subscriber in the domain, with the next id at the lowest free place, and connects
+    /// it with the publishers that are there. Every publisher is then due for an update. Where
+    /// memory for a connection is refused, the domain warns of it and goes on. It also warns where
     /// it keeps more departed publishers for the subscriber than its settings say.
     ///
     /// Fails with `UnableToCreatePortTag` where the domain has no port ids left, then with

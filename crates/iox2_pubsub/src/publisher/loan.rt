@@ -12,7 +12,7 @@ impl Publisher {
     ghost use Rattle.iox2_domain.specs.Lending.{LoanCall};
     ghost use Rattle.iox2_domain.specs.Shows.{Shows};
 
-    /// Lends a message of a single value, whose payload isn't written and whose user header has
+    /// Lends a message of one element, whose payload isn't written and whose user header has
     /// its default value. The loan is out until its message was sent. It takes no memory.
     ///
     /// # Errors

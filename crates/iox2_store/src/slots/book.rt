@@ -13,8 +13,8 @@ use std::marker::Model;
 /// each, how far it has come, and how many hold it.
 ///
 /// A slot's holders are the user who has it as a loan, the publisher's history, and each connection
-/// in which it waits or is borrowed. A slot without holders is free: its number, header and mark
-/// mean nothing.
+/// in which it waits, is borrowed, or was given back and isn't reclaimed yet. A slot without holders
+/// is free: its number, header and mark mean nothing.
 ///
 /// iceoryx2's `SegmentState` (`src/port/details/segment_state.rs`), which has the counters of
 /// holders. There the headers lie in shared memory, and an allocator has the list of free slots.
@@ -87,8 +87,8 @@ impl SlotBook {
         })
     }
 
-    /// Gives a free slot to the message with this number and header, and one holder. `None` if
-    /// every slot has a holder; the book then stays as it is.
+    /// Gives a free slot to the message with this number and header, and one holder. Its mark is
+    /// `Unwritten`. `None` if every slot has a holder; the book then stays as it is.
     #[tactic(auto, using(crate::proofs::FreeSlots::taking))]
     pub fn take(&mut self, number: u128, header: Header) -> Option<usize>
         ensures none { IsNone result ↔ All (λ n. 0 < n) self.old.holders }

@@ -8,8 +8,8 @@ use std::marker::Model;
 /// What lies in a slot. An unwritten loan has its cells; a written loan or a sent message has its
 /// values. What isn't used of the two is empty.
 ///
-/// iceoryx2's `RawSample` and `RawSampleMut` (`src/raw_sample.rs`, `src/raw_sample_mut.rs`) point
-/// to a message's headers and payload in shared memory.
+/// iceoryx2's `RawSample` and `RawSampleMut` (`src/raw_sample.rs`) point to a message's headers and
+/// payload in shared memory.
 #[derive(Drop)]
 pub(crate) struct Content<T, U> {
     user_header: U,

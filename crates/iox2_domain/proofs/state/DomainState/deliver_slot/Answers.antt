@@ -1,7 +1,7 @@
 use Rattle.iox2_ends.proofs.MailboxChanges.{within_if_some}
 use Rattle.std.proofs.Common.{◌≡◌, None, Some, slice_index_or, sym, ◌∙◌, ap, subst, arith, rules, length, vec_len}
 use Rattle.slab.specs.Slab.{get}
-use Rattle.iox2_ends.specs.Deliveries.{no_handlers}
+use Rattle.iox2_store.specs.Environments.{fixed_handlers}
 use Rattle.iox2_ends.specs.Receivers.{HasReclaimed}
 use Rattle.iox2_store.specs.declared.backpressure.BackpressureStrategy.TheVariants.{DiscardData}
 use Rattle.iox2_domain.specs.Ports.{PublisherFields}
@@ -52,7 +52,7 @@ unreachable-requires-in-Suspended g c =
     let stands = read-there _ c.args.place _ _ (ap (λ (f : Fields g.row.T.Denot g.row.U.Denot). slice_index_or f.publishers c.args.place None) c.self.view_is ∙ c.requires.stands.1) c.index.ensures ∙ c.in-Some.is in
     let plain = c.requires.agrees.plain c.args.place c.in-Some.publisher (sym (ap (λ (f : Fields g.row.T.Denot g.row.U.Denot). slice_index_or f.publishers c.args.place None) c.self.view_is) ∙ stands) in
     let discards : c.publisher.inside.strategy ≡ DiscardData = ap (λ (y : PublisherFields). y.strategy) c.publisher.view_is ∙ plain.strategy in
-    never-waits no_handlers c.self.inside.config c.value.result c.publisher.inside.strategy _ _ _ _ _ _ discards (c.in-Suspended.ensures.delivers (λ p s. s))
+    never-waits fixed_handlers c.self.inside.config c.value.result c.publisher.inside.strategy _ _ _ _ _ _ discards (c.in-Suspended.ensures.delivers (λ p s. s))
 
 pub returns : goal.returns
 returns g c =
