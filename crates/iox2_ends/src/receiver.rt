@@ -2,7 +2,7 @@
 ghost use Rattle.std.specs.Prelude.{◌≡◌, Some, map, Contains, IsTrue, IsSomeAnd};
 ghost use Rattle.std.specs.Option.{ForSome};
 ghost use Rattle.slab.specs.Slab.{get, ContainsKey};
-ghost use Rattle.iox2_store.specs.Link.{can_borrow};
+ghost use Rattle.iox2_store.specs.Link.{can_borrow, with_returned};
 ghost use Rattle.iox2_ends.specs.Homes.{IsApart, SameHomes};
 ghost use Rattle.iox2_ends.specs.Finds.{offer_at, first_found, search, is_ready, HasConnections, CanTake, Finds};
 ghost use Rattle.iox2_ends.specs.Takes.{KeepsOtherKeys, SameStands, TakesSlot, ReleasesSlot};
@@ -95,6 +95,7 @@ pub fn find(connections: &Slab<Connection>, expired: &[usize], places: &[Option<
     requires expired { HasConnections connections.now (map Some expired.now) }
     requires places { HasConnections connections.now places.now }
     ensures finds { Finds connections.now expired.now places.now result }
+    ensures looks { result ≡ first_found (search connections.now (map Some expired.now)) (search connections.now places.now) }
     ensures can_take { CanTake connections.now result }
 {
     let found = search_expired(connections, expired);
@@ -129,6 +130,7 @@ pub fn release(connections: &mut Slab<Connection>, key: usize, slot: usize)
     requires borrowed { IsSomeAnd (get connections.old key) (λ c. Contains c.borrowed slot) }
     requires apart { IsApart connections.old }
     ensures releases { ReleasesSlot connections.old key slot connections.new }
+    ensures returned { IsSomeAnd (get connections.old key) (λ c. get connections.new key ≡ Some (with_returned slot c)) }
     ensures homes { SameHomes connections.old connections.new }
     ensures others { KeepsOtherKeys key connections.old connections.new }
     ensures stands { SameStands connections.old connections.new }

@@ -37,6 +37,7 @@ impl<T, U> Model for Content<T, U> {
 impl<T: Drop, U: Default + Drop> Content<T, U> {
     /// The content of a slot that has no message yet, with room for so many elements.
     pub(crate) fn new(alloc: Global, room: usize) -> Result<Self, AllocError>
+        ensures default { IfOk result (λ content. U.is_default content.user_header) }
         ensures cells { IfOk result (λ content. content.cells ≡ []) }
         ensures values { IfOk result (λ content. content.values ≡ []) }
         ensures room { IfOk result (λ content. content.room ≡ room) }

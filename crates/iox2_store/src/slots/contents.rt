@@ -27,10 +27,13 @@ impl<T, U> Model for Contents<T, U> {
 }
 
 impl<T: Drop, U: Default + Drop> Contents<T, U> {
-    /// The contents of so many slots, each with room for so many elements. Fails where memory runs
-    /// out; no other call on contents takes memory.
+    /// The contents of so many slots, each with room for so many elements. Each has a default user
+    /// header, no cells and no values. Fails where memory runs out; no other call on contents takes
+    /// memory.
     pub fn new(alloc: Global, slots: usize, room: usize) -> Result<Self, AllocError>
         ensures len { IfOk result (λ contents. length contents ≡ slots) }
+        ensures default { IfOk result (All (λ content. U.is_default content.user_header)) }
+        ensures empty { IfOk result (All (λ content. (content.cells ≡ []) × (content.values ≡ []))) }
         ensures room { IfOk result (All (λ content. content.room ≡ room)) }
     {
         let mut contents = Vec::with_capacity(alloc, slots)?;
