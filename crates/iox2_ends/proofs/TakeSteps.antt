@@ -49,6 +49,10 @@ releases-returned slab key slot c d apart borrowed at returned = record { releas
         (ap (mailbox_of (number b.home.publisher)) e ∙ mailbox-with_returned (number b.home.publisher) slot b (borrowed-at slab key slot b borrowed at_b) once_there
         ∙ ap (with_released (number b.home.publisher slot)) (sym there))
 
+-- the connection at the key is the one that got the slot back
+pub returned-there : (slab : Slab Link) (key slot : ℕ) (c d : Link) → get slab key ≡ Some c → d ≡ with_returned slot c → IsSomeAnd (get slab key) (λ x. get (with_value slab key d) key ≡ Some (with_returned slot x))
+returned-there slab key slot c d at returned = rw at ((Updates-with_value slab key c d at).changed ∙ ap Some returned)
+
 -- a slot that is given back stands as often as before
 pub stands-returned : (slab : Slab Link) (key slot : ℕ) (c d : Link) → IsSomeAnd (get slab key) (λ (x : Link). Contains x.borrowed slot) → get slab key ≡ Some c → d ≡ with_returned slot c → SameStands slab (with_value slab key d)
 stands-returned slab key slot c d borrowed at returned = record {

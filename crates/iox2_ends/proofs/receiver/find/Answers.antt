@@ -1,4 +1,4 @@
-use Rattle.std.proofs.Common.{map, Some, sym, ◌∙◌, subst}
+use Rattle.std.proofs.Common.{map, Some, refl, sym, ◌∙◌, subst}
 use Rattle.iox2_ends.specs.Finds.{CanTake, Finds, search}
 use Rattle.iox2_ends.proofs.Searches.{search-ready, finds-found, can_take-found}
 use Rattle.iox2_ends.proofs.receiver.find.Goals as goal
@@ -9,6 +9,10 @@ returns-then-is_ready-clause-finds c =
     (search-ready _ _ (search c.args.connections.now c.args.places.now) c.search_expired-found.ensures (sym c.is_ready.ensures ∙ c.if-is_ready.true))
     (finds-found c.args.connections.now c.args.expired.now c.args.places.now)
 
+pub returns-then-is_ready-clause-looks : goal.returns-then-is_ready-clause-looks
+returns-then-is_ready-clause-looks c =
+    sym (search-ready _ _ (search c.args.connections.now c.args.places.now) c.search_expired-found.ensures (sym c.is_ready.ensures ∙ c.if-is_ready.true))
+
 pub returns-then-is_ready-clause-can_take : goal.returns-then-is_ready-clause-can_take
 returns-then-is_ready-clause-can_take c =
     subst (CanTake c.args.connections.now)
@@ -18,6 +22,9 @@ returns-then-is_ready-clause-can_take c =
 pub returns-clause-finds : goal.returns-clause-finds
 returns-clause-finds c =
     rw (c.or.ensures, c.search_expired-found.ensures, c.search_places.ensures) (finds-found c.args.connections.now c.args.expired.now c.args.places.now)
+
+pub returns-clause-looks : goal.returns-clause-looks
+returns-clause-looks c = rw (c.or.ensures, c.search_expired-found.ensures, c.search_places.ensures) refl
 
 pub returns-clause-can_take : goal.returns-clause-can_take
 returns-clause-can_take c =

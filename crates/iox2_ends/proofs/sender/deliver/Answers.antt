@@ -1,14 +1,25 @@
-use Rattle.std.proofs.Common.{arith, sym, ◌∙◌}
+use Rattle.std.proofs.Common.{arith, refl, sym, ◌∙◌}
 use Rattle.std.proofs.lemmas.List.{length-map}
 use Rattle.iox2_ends.specs.Mailboxes.{subscriber_at, sender_ends}
 use Rattle.iox2_ends.proofs.DeliverySteps.{ends-at, deliver-more, deliver-stops, IsReadyToDeliver-same}
-use Rattle.iox2_ends.proofs.Recounts.{Recounts-trans}
+use Rattle.iox2_ends.proofs.Recounts.{Recounts-same, Recounts-trans}
 use Rattle.std.proofs.Common.{ap}
 use Rattle.iox2_store.specs.SlotBook.{Book}
 use Rattle.iox2_ends.specs.Counters.{with_counters}
 use Rattle.std.specs.Prelude.{map}
 use Rattle.std.specs.Option.{option_map}
 use Rattle.iox2_ends.proofs.sender.deliver.Goals as goal
+
+pub loop-place-init : goal.loop-place-init
+loop-place-init g c = record {
+  ready = c.requires.ready;
+  recounts = Recounts-same c.args.delivery.now.publisher c.args.book.now.holders c.args.connections.now;
+  walk = λ number how boxes' rest. rest;
+  few = omega arith;
+  book = refl;
+  held = omega arith;
+  grows = omega arith;
+}
 
 pub returns-then-is_blocking-clause-delivers : goal.returns-then-is_blocking-clause-delivers
 returns-then-is_blocking-clause-delivers g c = λ number.
