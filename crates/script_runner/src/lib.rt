@@ -2,6 +2,7 @@
 #![tactic(auto)]
 
 mod replies;
+mod report;
 mod runner;
 mod source;
 

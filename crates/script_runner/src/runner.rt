@@ -3,6 +3,7 @@ ghost use Rattle.script_text.specs.declared.failure.ScriptError.TheVariants.{Out
 ghost use Rattle.script_runner.specs.Script.{IsFailure, IsMalformedInput, IsStatus, PrintsReplies};
 
 use crate::replies::replies_of;
+use crate::report::report;
 use script_text::{ScriptError, reply_lines};
 use std::alloc::Global;
 use std::io::{Read, Write};
@@ -34,7 +35,7 @@ pub fn script<R: Read, W: Write, E: Write>(
     match print_replies(alloc, input, output) {
         Ok(()) => 0,
         Err(error) => {
-            let _ = writeln!(errors, "{error}");
+            let _ = report(errors, &error);
             error.status()
         }
     }
