@@ -1,5 +1,5 @@
 -- Whether a subscriber has borrowed a number.
-use Rattle.std.proofs.Common.{◌≡◌, ◌↔◌, ℕ, ◌<◌, Bool, true, false, map, length, refl, ap, sym, subst, ◌∙◌, Option, Some, None, is_some, IsTrue, MatchOption, Contains}
+use Rattle.std.proofs.Common.{◌≡◌, ◌≢◌, ◌↔◌, ℕ, ◌<◌, Bool, true, false, map, length, refl, ap, sym, subst, ◌∙◌, Option, Some, None, is_some, IsTrue, MatchOption, Contains}
 use Rattle.std.proofs.lemmas.Bool.{true≢false, eqb-true}
 use Rattle.iox2_store.specs.Link.{Link}
 use Rattle.iox2_store.specs.Numbers.{contains}
@@ -14,7 +14,8 @@ use Rattle.iox2_ends.proofs.MailboxChanges.{both-true, mailbox-there, within_if_
 use Rattle.iox2_domain.specs.Kept.{state_of}
 use Rattle.iox2_domain.specs.Fields.{Fields, kept_of, numbers_of}
 use Rattle.iox2_domain.specs.Invariant.{IsDomain}
-use Rattle.iox2_domain.specs.SampleSlots.{HasNoneNumbered, IsNumberedSlot, BorrowsAt}
+use Rattle.iox2_domain.specs.SampleSlots.{HasNoneNumbered, IsNumberedSlot, LiesBorrowed, BorrowsAt}
+use Rattle.iox2_domain.specs.declared.sample_slots.SampleSlot.{SampleSlot}
 use Rattle.iox2_domain.proofs.ConnectionSlots.{book-numbers, borrowed-held, contains-none, contains-one}
 use Rattle.iox2_domain.proofs.ReceiptSteps.{HasItsBook}
 use Rattle.iox2_domain.proofs.Views.{mailboxes-are}
@@ -24,39 +25,46 @@ module _ {T U : Type 0} (f : Fields T U) (sound : IsDomain f) (key book : ℕ) (
   pub its-slots-within : (slot : ℕ) → Contains c.borrowed slot → slot < length b.holders
   its-slots-within slot borrowed = in_range b.holders slot (borrowed-held f sound key book c b has.stands has.has_book has.book_is slot borrowed)
 
-  -- a number is borrowed there where a slot with it is found
-  pub borrows-found : (q n : ℕ) → c.home.subscriber ≡ q → (o : Option ℕ) → MatchOption o (HasNoneNumbered c b n) (IsNumberedSlot c b n) → (r : Bool) → r ≡ is_some o
-      → IsTrue r ↔ BorrowsAt f key q n
-  borrows-found q n mine None none r is = (λ yes. absurd (true≢false (sym yes ∙ is)), λ borrows. absurd (true≢false (sym borrows.is_borrowed ∙ absent borrows))) where
-    absent : (borrows : BorrowsAt f key q n) → contains (map (numbers_of f.books (borrows.connection).home.publisher) (borrows.connection).borrowed) n ≡ false
-    absent borrows =
+  module _ (q n : ℕ) where
+    -- whoever borrows there does so by this connection
+    same-link : (borrows : BorrowsAt f key q n) → c ≡ borrows.connection
+    same-link borrows =
         let one : Some c ≡ Some borrows.connection = sym has.stands ∙ borrows.stands in
         let same : c ≡ borrows.connection = cc in
-        subst (λ (d : Link). contains (map (numbers_of f.books d.home.publisher) d.borrowed) n ≡ false) same
-        (contains-none (numbers_of f.books c.home.publisher) c.borrowed n (λ slot borrowed e.
-        none slot borrowed (sym (book-numbers f sound key book c b has.stands has.has_book has.book_is slot) ∙ e)))
-  borrows-found q n mine (Some slot) found r is = (
-    λ yes. record {
+        same
+
+    -- the connection is another subscriber's
+    pub not-its : c.home.subscriber ≢ q → BorrowsAt f key q n → ⊥
+    not-its other borrows = other (ap (λ (d : Link). d.home.subscriber) (same-link borrows) ∙ borrows.subscriber_is)
+
+    -- no borrowed slot has the number
+    pub none-borrows : HasNoneNumbered c b n → BorrowsAt f key q n → ⊥
+    none-borrows none borrows = true≢false (sym borrows.is_borrowed ∙ absent) where
+      absent : contains (map (numbers_of f.books (borrows.connection).home.publisher) (borrows.connection).borrowed) n ≡ false
+      absent =
+          subst (λ (d : Link). contains (map (numbers_of f.books d.home.publisher) d.borrowed) n ≡ false) (same-link borrows)
+          (contains-none (numbers_of f.books c.home.publisher) c.borrowed n (λ slot borrowed e.
+          none slot borrowed (sym (book-numbers f sound key book c b has.stands has.has_book has.book_is slot) ∙ e)))
+
+    -- a slot with it is where it lies
+    pub lies-there : (slot : ℕ) → c.home.subscriber ≡ q → IsNumberedSlot c b n slot → LiesBorrowed f q n (record { connection = key; book = book; slot = slot })
+    lies-there slot mine found = record {
       connection = c;
-      stands = has.stands;
+      book = b;
+      has_connection = has.stands;
+      has_book = has.has_book;
       subscriber_is = mine;
-      is_borrowed =
-          subst (λ (m : ℕ). contains (map (numbers_of f.books c.home.publisher) c.borrowed) m ≡ true)
-          (book-numbers f sound key book c b has.stands has.has_book has.book_is slot ∙ found.number_is)
-          (contains-one (numbers_of f.books c.home.publisher) c.borrowed slot found.borrowed);
-    },
-    λ borrows. is,
-  )
+      book_is = has.book_is;
+      slot_is = found;
+    }
 
 module _ {T U : Type 0} (f : Fields T U) (sound : IsDomain f) (q n : ℕ) where
-  -- what is borrowed in a connection is held
-  pub borrows-held : (key : ℕ) → BorrowsAt f key q n → HoldsSample (state_of (kept_of f)) q n
-  borrows-held key borrows = (
-    (borrows.connection).home.publisher,
-    ap (is_borrowed n) (mailboxes-are f (borrows.connection).home.publisher q
-        ∙ mailbox-there (numbers_of f.books) f.connections key (borrows.connection).home.publisher q borrows.connection sound.apart borrows.stands refl borrows.subscriber_is)
-        ∙ borrows.is_borrowed,
-  )
+  -- what is borrowed in a connection is in its mailbox
+  in-its-mailbox : (key : ℕ) (borrows : BorrowsAt f key q n) → is_borrowed n ((state_of (kept_of f)).mailboxes (borrows.connection).home.publisher q) ≡ true
+  in-its-mailbox key borrows =
+      ap (is_borrowed n) (mailboxes-are f (borrows.connection).home.publisher q
+      ∙ mailbox-there (numbers_of f.books) f.connections key (borrows.connection).home.publisher q borrows.connection sound.apart borrows.stands refl borrows.subscriber_is)
+      ∙ borrows.is_borrowed
 
   -- what is held is borrowed in some connection
   pub held-borrows : HoldsSample (state_of (kept_of f)) q n → (key : ℕ) × (key < length f.connections.slots) × BorrowsAt f key q n
@@ -77,3 +85,35 @@ module _ {T U : Type 0} (f : Fields T U) (sound : IsDomain f) (q n : ℕ) where
             is_borrowed = subst (λ (p : ℕ). contains (map (numbers_of f.books p) c.borrowed) n ≡ true) (sym its) is;
           },
         )
+
+  -- what lies somewhere is borrowed there
+  pub lies-borrowed : (at : SampleSlot) (lies : LiesBorrowed f q n at) → is_borrowed n ((state_of (kept_of f)).mailboxes (lies.connection).home.publisher q) ≡ true
+  lies-borrowed at lies = in-its-mailbox at.connection (record {
+    connection = lies.connection;
+    stands = lies.has_connection;
+    subscriber_is = lies.subscriber_is;
+    is_borrowed =
+        subst (λ (m : ℕ). contains (map (numbers_of f.books (lies.connection).home.publisher) (lies.connection).borrowed) m ≡ true)
+        (book-numbers f sound at.connection at.book lies.connection lies.book lies.has_connection lies.has_book lies.book_is at.slot ∙ (lies.slot_is).number_is)
+        (contains-one (numbers_of f.books (lies.connection).home.publisher) (lies.connection).borrowed at.slot (lies.slot_is).borrowed);
+  })
+
+  -- and so it is held
+  pub lies-held : (at : SampleSlot) → LiesBorrowed f q n at → HoldsSample (state_of (kept_of f)) q n
+  lies-held at lies = ((lies.connection).home.publisher, lies-borrowed at lies)
+
+  -- nothing is held where it is borrowed in no connection
+  pub held-nowhere : ((key : ℕ) → key < length f.connections.slots → BorrowsAt f key q n → ⊥) → HoldsSample (state_of (kept_of f)) q n → ⊥
+  held-nowhere none held = let there = held-borrows held in none there.0 there.1 there.2
+
+-- where nothing was found in a connection, nothing is borrowed there
+pub not-there : {T U : Type 0} (f : Fields T U) (key q n : ℕ) (o : Option SampleSlot) → MatchOption o (BorrowsAt f key q n → ⊥) (LiesBorrowed f q n) → (r : Bool) → r ≡ is_some o → r ≡ false
+    → BorrowsAt f key q n → ⊥
+not-there f key q n None none r is missed = none
+not-there f key q n (Some at) lies r is missed = absurd (true≢false (sym is ∙ missed))
+
+-- whether something was found says whether it is held
+pub found-held : {T U : Type 0} (f : Fields T U) (sound : IsDomain f) (q n : ℕ) (o : Option SampleSlot) → MatchOption o (HoldsSample (state_of (kept_of f)) q n → ⊥) (LiesBorrowed f q n)
+    → (r : Bool) → r ≡ is_some o → IsTrue r ↔ HoldsSample (state_of (kept_of f)) q n
+found-held f sound q n None none r is = (λ yes. absurd (true≢false (sym yes ∙ is)), λ held. absurd (none held))
+found-held f sound q n (Some at) lies r is = (λ yes. lies-held f sound q n at lies, λ held. is)

@@ -18,6 +18,7 @@ pub mod ReceiptSteps
 pub mod SampleEntries
 pub mod SampleReads
 pub mod BorrowedNumbers
+pub mod GivenBack
 pub mod Reception
 pub mod EnteredAgrees
 pub mod Admitted

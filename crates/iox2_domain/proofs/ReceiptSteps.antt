@@ -1,19 +1,17 @@
--- Messages that are taken from connections, and given back.
-use Rattle.std.proofs.Common.{◌≡◌, ℕ, ◌<◌, true, List, map, length, get_or, Option, Some, None, Ok, Err, IsSomeAnd, Contains, MatchOption, refl, ap, sym, subst, ◌∙◌}
+-- Messages that are taken from connections.
+use Rattle.std.proofs.Common.{◌≡◌, ℕ, ◌<◌, List, map, length, get_or, Option, Some, None, Ok, Err, IsSomeAnd, Contains, MatchOption, refl, ap, sym, subst, ◌∙◌}
 use Rattle.std.proofs.lemmas.List.{get_or_read}
 use Rattle.std.specs.Prelude.{slice_get}
 use Rattle.slab.specs.Slab.{Slab, get, ContainsKey}
 use Rattle.iox2_store.specs.Link.{Link}
-use Rattle.iox2_store.specs.Mailbox.{is_borrowed}
 use Rattle.iox2_store.specs.Receives.{ReceiveResult, Got_sample, TakeSample}
-use Rattle.iox2_store.specs.Releases.{released}
 use Rattle.iox2_store.specs.SlotBook.{Book}
 use Rattle.iox2_store.specs.State.{State}
 use Rattle.iox2_store.specs.declared.errors.ReceiveError.TheVariants.{ExceedsMaxBorrows}
 use Rattle.iox2_ends.specs.Finds.{Finds, IsReceivers, IsReceiverLinked, HasConnections}
 use Rattle.iox2_ends.specs.Homes.{SameHomes}
 use Rattle.iox2_ends.specs.Mailboxes.{mailboxes_of}
-use Rattle.iox2_ends.specs.Takes.{KeepsOtherKeys, SameStands, TakesSlot, ReleasesSlot}
+use Rattle.iox2_ends.specs.Takes.{KeepsOtherKeys, SameStands, TakesSlot}
 use Rattle.iox2_ends.specs.declared.receiver.Found.{Found}
 use Rattle.iox2_ends.proofs.Counts.{in_range}
 use Rattle.iox2_ends.proofs.MailboxChanges.{within_if_some}
@@ -23,16 +21,14 @@ use Rattle.iox2_domain.specs.Fields.{Fields, kept_of, numbers_of}
 use Rattle.iox2_domain.specs.Invariant.{IsDomain}
 use Rattle.iox2_domain.specs.Reaches.{Reaches}
 use Rattle.iox2_domain.specs.Receipts.{receive_result, TakesFrom, TakesAs}
-use Rattle.iox2_domain.specs.SampleSlots.{IsBookOf, LiesBorrowed}
+use Rattle.iox2_domain.specs.SampleSlots.{IsBookOf}
 use Rattle.iox2_domain.specs.declared.receipts.Receipt.{Receipt}
-use Rattle.iox2_domain.specs.declared.sample_slots.SampleSlot.{SampleSlot}
 use Rattle.iox2_domain.proofs.BorrowedSlots.{lies-there}
 use Rattle.iox2_domain.proofs.ConnectionEnds.{subscriber-stands}
 use Rattle.iox2_domain.proofs.ConnectionSlots.{book-numbers, waiting-held, index-got}
 use Rattle.iox2_domain.proofs.ReachesShows.{reaches-same}
 use Rattle.iox2_domain.proofs.Received.{receiver, found-ready, takes-nothing, takes-at_limit, takes-message, takes-reaches}
 use Rattle.iox2_domain.proofs.Reconnected.{with_mailboxes}
-use Rattle.iox2_domain.proofs.Released.{releases-reaches}
 
 -- ---- one connection
 
@@ -105,36 +101,6 @@ module _ {T U : Type 0} (f : Fields T U) (sound : IsDomain f) (i : ℕ) (y : Sub
 
   pub takes-too_many : Finds f.connections y.expired y.places Found.AtLimit → TakesAs f y.id (Err ExceedsMaxBorrows) f
   takes-too_many finds = (state_of (kept_of f), reaches-same f sound, its-result (state_of (kept_of f)) (receive_result (Err ExceedsMaxBorrows)) (takes-at_limit f sound i y at_y finds), tt)
-
--- ---- giving back
-
-module _ {T U : Type 0} (now : Fields T U) (sound : IsDomain now) (q p n : ℕ) (at : SampleSlot) (lies : LiesBorrowed now q p n at)
-    (borrowed : is_borrowed n ((state_of (kept_of now)).mailboxes p q) ≡ true) where
-  number-there : numbers_of now.books (lies.connection).home.publisher at.slot ≡ n
-  number-there =
-      book-numbers now sound at.connection at.book lies.connection lies.book lies.has_connection lies.has_book (lies.book_is ∙ sym lies.publisher_is) at.slot
-      ∙ (lies.slot_is).number_is
-
-  held-there : is_borrowed (numbers_of now.books (lies.connection).home.publisher at.slot) ((state_of (kept_of now)).mailboxes (lies.connection).home.publisher (lies.connection).home.subscriber) ≡ true
-  held-there =
-      subst (λ (m : ℕ). is_borrowed m ((state_of (kept_of now)).mailboxes (lies.connection).home.publisher (lies.connection).home.subscriber) ≡ true) (sym number-there)
-      (subst (λ (r : ℕ). is_borrowed n ((state_of (kept_of now)).mailboxes r (lies.connection).home.subscriber) ≡ true) (sym lies.publisher_is)
-      (subst (λ (r : ℕ). is_borrowed n ((state_of (kept_of now)).mailboxes p r) ≡ true) (sym lies.subscriber_is) borrowed))
-
-  gives-back-here : (new : Slab Link) → ReleasesSlot now.connections at.connection at.slot new → SameHomes now.connections new → KeepsOtherKeys at.connection now.connections new
-      → SameStands now.connections new → Reaches now (record now { connections = new }) (released (state_of (kept_of now)) p q n)
-  gives-back-here new releases homes others stay =
-      subst (λ (m : ℕ). Reaches now (record now { connections = new }) (released (state_of (kept_of now)) p q m)) number-there
-      (subst (λ (r : ℕ). Reaches now (record now { connections = new }) (released (state_of (kept_of now)) p r (numbers_of now.books (lies.connection).home.publisher at.slot))) lies.subscriber_is
-      (subst (λ (r : ℕ). Reaches now (record now { connections = new }) (released (state_of (kept_of now)) r (lies.connection).home.subscriber (numbers_of now.books (lies.connection).home.publisher at.slot))) lies.publisher_is
-      (releases-reaches now sound at.connection at.slot lies.connection lies.has_connection new releases held-there homes others stay)))
-
-  -- the message is released
-  pub gives-back : (f : Fields T U) → f ≡ now → (new : Slab Link) → ReleasesSlot f.connections at.connection at.slot new → SameHomes f.connections new → KeepsOtherKeys at.connection f.connections new
-      → SameStands f.connections new → Reaches now (record f { connections = new }) (released (state_of (kept_of now)) p q n)
-  gives-back f same new =
-      subst (λ (h : Fields T U). ReleasesSlot h.connections at.connection at.slot new → SameHomes h.connections new → KeepsOtherKeys at.connection h.connections new
-      → SameStands h.connections new → Reaches now (record h { connections = new }) (released (state_of (kept_of now)) p q n)) (sym same) (gives-back-here new)
 
 -- ---- what a subscriber's place has
 

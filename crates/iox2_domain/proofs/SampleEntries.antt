@@ -17,6 +17,7 @@ use Rattle.iox2_domain.specs.Fields.{Fields, kept_of, contents_at, message_of}
 use Rattle.iox2_domain.specs.Invariant.{IsDomain, HasNumber}
 use Rattle.iox2_domain.specs.SampleSlots.{LiesBorrowed}
 use Rattle.iox2_domain.specs.declared.sample_slots.SampleSlot.{SampleSlot}
+use Rattle.iox2_domain.proofs.BorrowedNumbers.{lies-borrowed}
 use Rattle.iox2_domain.proofs.ConnectionSlots.{borrowed-held}
 use Rattle.iox2_domain.proofs.Messages.{lies_at, message_in-parts, message_at-slot, has_number, entry-there}
 
@@ -36,6 +37,11 @@ module _ {T U : Type 0} where
       let is : entry ≡ shown = cc in
       record { header_is = ap (λ (x : Entry T U). x.header) is; values_are = ap (λ (x : Entry T U). x.values) is }
 
+-- a borrowed message has an entry that names its publisher
+pub borrowed-entry : {T U : Type 0} (f : Fields T U) → IsDomain f → (q p n : ℕ) → is_borrowed n ((state_of (kept_of f)).mailboxes p q) ≡ true
+    → (entry : Entry T U) × (entries_of (kept_of f) n ≡ Some entry) × ((entry.header).publisher_id ≡ p)
+borrowed-entry f sound q p n borrowed = sound.entries p n (In_mailbox q (contains_right ((state_of (kept_of f)).mailboxes p q).waiting ((state_of (kept_of f)).mailboxes p q).borrowed n borrowed))
+
 -- the entry of a borrowed message, in its slot
 pub record SampleEntry {T U : Type 0} (f : Fields T U) (p n : ℕ) (at : SampleSlot) (b : Book) : Type 0 where
   pub entry : Entry T U
@@ -48,23 +54,26 @@ pub record SampleEntry {T U : Type 0} (f : Fields T U) (p n : ℕ) (at : SampleS
   pub values_are : entry.values ≡ content.values
   pub one_value : (f.config).units_per_element ≡ 1 → length entry.values ≡ 1
 
-module _ {T U : Type 0} (f : Fields T U) (sound : IsDomain f) (q p n : ℕ) (at : SampleSlot) (lies : LiesBorrowed f q p n at)
-    (borrowed : is_borrowed n ((state_of (kept_of f)).mailboxes p q) ≡ true) where
+module _ {T U : Type 0} (f : Fields T U) (sound : IsDomain f) (q n : ℕ) (at : SampleSlot) (lies : LiesBorrowed f q n at) where
+  abbrev its-publisher : ℕ
+  its-publisher = (lies.connection).home.publisher
+
   its-slot : HasNumber f.books at.book at.slot n
   its-slot = record {
     book = lies.book;
     stands = lies.has_book;
-    held = borrowed-held f sound at.connection at.book lies.connection lies.book lies.has_connection lies.has_book (lies.book_is ∙ sym lies.publisher_is) at.slot (lies.slot_is).borrowed;
+    held = borrowed-held f sound at.connection at.book lies.connection lies.book lies.has_connection lies.has_book lies.book_is at.slot (lies.slot_is).borrowed;
     number = (lies.slot_is).number_is;
   }
 
   -- there is such an entry
-  pub sample-entry : SampleEntry f p n at lies.book
+  pub sample-entry : SampleEntry f (lies.connection).home.publisher n at lies.book
   sample-entry =
-      let kept = sound.entries p n (In_mailbox q (contains_right ((state_of (kept_of f)).mailboxes p q).waiting ((state_of (kept_of f)).mailboxes p q).borrowed n borrowed)) in
+      let kept = borrowed-entry f sound q its-publisher n (lies-borrowed f sound q n at lies) in
       by kept.0 kept.1 kept.2 (entry-there f n kept.0 kept.1)
     where
-      in_slot : (entry : Entry T U) → entries_of (kept_of f) n ≡ Some entry → (entry.header).publisher_id ≡ p → lies_at f at.book at.slot ≡ Some (Sent_message n entry) → SampleEntry f p n at lies.book
+      in_slot : (entry : Entry T U) → entries_of (kept_of f) n ≡ Some entry → (entry.header).publisher_id ≡ its-publisher → lies_at f at.book at.slot ≡ Some (Sent_message n entry)
+          → SampleEntry f its-publisher n at lies.book
       in_slot entry is origin there =
           let here = sym (message_at-slot f.contents f.books at.book at.slot lies.book lies.has_book) ∙ there in
           let parts = message_in-parts lies.book (contents_at f.contents at.book) at.slot (Sent_message n entry) here in
@@ -83,11 +92,19 @@ module _ {T U : Type 0} (f : Fields T U) (sound : IsDomain f) (q p n : ℕ) (at 
             one_value = λ one. shape.length ∙ ap (λ (k : ℕ). k * (f.config).units_per_element) single ∙ ap (λ (k : ℕ). 1 * k) one;
           }
 
-      by : (entry : Entry T U) → entries_of (kept_of f) n ≡ Some entry → (entry.header).publisher_id ≡ p
-          → (key slot : ℕ) × (lies_at f key slot ≡ Some (Sent_message n entry)) → SampleEntry f p n at lies.book
+      by : (entry : Entry T U) → entries_of (kept_of f) n ≡ Some entry → (entry.header).publisher_id ≡ its-publisher
+          → (key slot : ℕ) × (lies_at f key slot ≡ Some (Sent_message n entry)) → SampleEntry f its-publisher n at lies.book
       by entry is origin there =
           let same = sound.numbered.one there.0 at.book there.1 at.slot n (has_number f.contents f.books there.0 there.1 n (Sent_message n entry) there.2 (eq-eqb n n refl)) its-slot in
           in_slot entry is origin (sym (ap (λ (s : ℕ). lies_at f at.book s) same.1) ∙ sym (ap (λ (k : ℕ). lies_at f k there.1) same.0) ∙ there.2)
+
+  -- whoever it is borrowed from, it is that connection's publisher
+  pub one-publisher : (p : ℕ) → is_borrowed n ((state_of (kept_of f)).mailboxes p q) ≡ true → (lies.connection).home.publisher ≡ p
+  one-publisher p borrowed =
+      let kept = borrowed-entry f sound q p n borrowed in
+      let both : Some sample-entry.entry ≡ Some kept.0 = sym sample-entry.is_kept ∙ kept.1 in
+      let same : sample-entry.entry ≡ kept.0 = cc in
+      sym sample-entry.origin_is ∙ ap (λ (x : Entry T U). (x.header).publisher_id) same ∙ kept.2
 
 -- a list of one element has that one
 pub one-element : {A : Type 0} (xs : List A) (x : A) → length xs ≡ 1 → slice_get xs 0 ≡ Some x → xs ≡ x ∷ []

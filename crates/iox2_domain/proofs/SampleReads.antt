@@ -1,16 +1,15 @@
 -- What is read of a borrowed message is its entry's.
-use Rattle.std.proofs.Common.{◌≡◌, ℕ, ◌<◌, true, List, [], ◌∷◌, length, get_or, refl, ap, sym, subst, ◌∙◌, arith, Option, Some, None, IsSomeAnd}
+use Rattle.std.proofs.Common.{◌≡◌, ℕ, ◌<◌, List, [], ◌∷◌, length, get_or, refl, ap, sym, subst, ◌∙◌, arith, Option, Some, None, IsSomeAnd}
 use Rattle.std.proofs.lemmas.List.{get_or_read}
 use Rattle.std.specs.Prelude.{slice_get}
 use Rattle.std.specs.Option.{option_and_then}
 use Rattle.slab.specs.Slab.{get}
-use Rattle.iox2_store.specs.Mailbox.{is_borrowed}
 use Rattle.iox2_store.specs.Records.{Entry}
 use Rattle.iox2_store.specs.SlotBook.{Book}
 use Rattle.iox2_store.specs.SlotContents.{ContentState, SomeAt, first_value_at}
 use Rattle.iox2_store.specs.declared.header.Header.{Header}
 use Rattle.iox2_ends.proofs.MailboxChanges.{within_if_some}
-use Rattle.iox2_domain.specs.Kept.{state_of, entries_of}
+use Rattle.iox2_domain.specs.Kept.{entries_of}
 use Rattle.iox2_domain.specs.Fields.{Fields, kept_of}
 use Rattle.iox2_domain.specs.Invariant.{IsDomain}
 use Rattle.iox2_domain.specs.SampleSlots.{LiesBorrowed}
@@ -18,15 +17,14 @@ use Rattle.iox2_domain.specs.declared.sample_slots.SampleSlot.{SampleSlot}
 use Rattle.iox2_domain.proofs.SampleEntries.{SampleEntry, sample-entry, one-element}
 
 -- a subscriber has borrowed the message that lies there
-pub record IsBorrowedThere {T U : Type 0} (f now : Fields T U) (q p n : ℕ) (at : SampleSlot) : Type 0 where
+pub record IsBorrowedThere {T U : Type 0} (f now : Fields T U) (q n : ℕ) (at : SampleSlot) : Type 0 where
   pub same : f ≡ now
   pub sound : IsDomain now
-  pub lies : LiesBorrowed now q p n at
-  pub borrowed : is_borrowed n ((state_of (kept_of now)).mailboxes p q) ≡ true
+  pub lies : LiesBorrowed now q n at
 
-module _ {T U : Type 0} (f now : Fields T U) (q p n : ℕ) (at : SampleSlot) (there : IsBorrowedThere f now q p n at) where
-  its-entry : SampleEntry now p n at (there.lies).book
-  its-entry = sample-entry now there.sound q p n at there.lies there.borrowed
+module _ {T U : Type 0} (f now : Fields T U) (q n : ℕ) (at : SampleSlot) (there : IsBorrowedThere f now q n at) where
+  its-entry : SampleEntry now ((there.lies).connection).home.publisher n at (there.lies).book
+  its-entry = sample-entry now there.sound q n at there.lies
 
   -- ---- the header
 
@@ -41,11 +39,11 @@ module _ {T U : Type 0} (f now : Fields T U) (q p n : ℕ) (at : SampleSlot) (th
     slot-within = subst (λ (x : Book). at.slot < length x.holders) its-book its-entry.within
 
     pub header-read : (header : Header) → slice_get b.headers at.slot ≡ Some header
-        → (entry : Entry T U) × (entries_of (kept_of now) n ≡ Some entry) × (entry.header ≡ header) × ((entry.header).publisher_id ≡ p)
+        → (entry : Entry T U) × (entries_of (kept_of now) n ≡ Some entry) × (entry.header ≡ header)
     header-read header read =
         let one : Some (its-entry.entry).header ≡ Some header = sym its-entry.headers ∙ ap (λ (x : Book). slice_get x.headers at.slot) its-book ∙ read in
         let is : (its-entry.entry).header ≡ header = cc in
-        (its-entry.entry, its-entry.is_kept, is, its-entry.origin_is)
+        (its-entry.entry, its-entry.is_kept, is)
 
   -- ---- the payload
 

@@ -23,15 +23,14 @@ pub record IsNumberedSlot (c : Link) (book : Book) (number slot : ℕ) : Type 0 
   pub borrowed : Contains c.borrowed slot
   pub number_is : slice_index book.numbers slot ≡ number
 
--- The publisher's message with this number lies there, borrowed by the subscriber.
-pub record LiesBorrowed {T U : Type 0} (f : Fields T U) (subscriber publisher number : ℕ) (at : SampleSlot) : Type 0 where
+-- A message with this number lies there, borrowed by the subscriber.
+pub record LiesBorrowed {T U : Type 0} (f : Fields T U) (subscriber number : ℕ) (at : SampleSlot) : Type 0 where
   pub connection : Link
   pub book : Book
   pub has_connection : get f.connections at.connection ≡ Some connection
   pub has_book : get f.books at.book ≡ Some book
   pub subscriber_is : connection.home.subscriber ≡ subscriber
-  pub publisher_is : connection.home.publisher ≡ publisher
-  pub book_is : book.publisher ≡ publisher
+  pub book_is : book.publisher ≡ connection.home.publisher
   pub slot_is : IsNumberedSlot connection book number at.slot
 
 -- The subscriber has borrowed a message with this number in the connection at the key.

@@ -23,6 +23,7 @@ pub struct Receipt {
 impl<T: Drop, U: Default + Drop> DomainState<T, U> {
     ghost use Rattle.iox2_store.specs.Mailbox.{is_borrowed};
     ghost use Rattle.iox2_store.specs.Releases.{released};
+    ghost use Rattle.iox2_store.specs.SingleCalls.{HoldsSample};
     ghost use Rattle.iox2_domain.specs.Ports.{SubscriberFields};
     ghost use Rattle.iox2_domain.specs.Kept.{state_of};
     ghost use Rattle.iox2_domain.specs.Fields.{kept_of};
@@ -83,17 +84,17 @@ impl<T: Drop, U: Default + Drop> DomainState<T, U> {
     pub fn give_back(
         &mut self,
         subscriber: u128,
-        publisher: u128,
         number: u128,
         connection_hint: usize,
         slot_hint: usize,
     )
         requires agrees { IsDomain self.old }
-        requires borrowed { IsTrue (is_borrowed number ((state_of (kept_of self.old)).mailboxes publisher subscriber)) }
-        ensures { Reaches self.old self.new (released (state_of (kept_of self.old)) publisher subscriber number) }
+        requires held { HoldsSample (state_of (kept_of self.old)) subscriber number }
+        ensures stays { IsDomain self.new }
+        ensures released { (publisher : ℕ) → IsTrue (is_borrowed number ((state_of (kept_of self.old)).mailboxes publisher subscriber))
+            → Reaches self.old self.new (released (state_of (kept_of self.old)) publisher subscriber number) }
     {
-        let Some(at) = self.find_sample(subscriber, publisher, number, connection_hint, slot_hint)
-        else {
+        let Some(at) = self.find_sample(subscriber, number, connection_hint, slot_hint) else {
             unreachable!()
         };
         release(&mut self.connections, at.connection, at.slot);

@@ -1,13 +1,10 @@
 //! The slots of the messages that subscribers have borrowed.
-ghost use Rattle.std.specs.Prelude.{◌≡◌, ◌<◌, ◌↔◌, ℕ, true, false, None, length, Contains, IsTrue, IsSomeAnd, MatchOption};
+ghost use Rattle.std.specs.Prelude.{◌<◌, ℕ, length, Contains, IsSomeAnd, MatchOption};
 ghost use Rattle.slab.specs.Slab.{get, ContainsKey};
-ghost use Rattle.iox2_ends.specs.LookUp.{look_up};
-ghost use Rattle.iox2_ends.specs.Mailboxes.{is_between};
 ghost use Rattle.iox2_domain.specs.SampleSlots.{HasNoneNumbered, IsNumberedSlot};
 
 use crate::state::DomainState;
 use iox2_store::{Connection, SlotBook};
-use slab::Slab;
 
 /// Where a borrowed message lies: the keys of its connection and of its publisher's book, and its
 /// slot.
@@ -18,39 +15,8 @@ pub(crate) struct SampleSlot {
     pub(crate) slot: usize,
 }
 
-// The connection at the key stands between these two ports.
-fn connects(connections: &Slab<Connection>, key: usize, publisher: u128, subscriber: u128) -> bool
-    ensures { IsTrue result ↔ IsSomeAnd (get connections.now key) (λ c. is_between publisher subscriber c ≡ true) }
-{
-    let Some(connection) = connections.get(key) else {
-        return false;
-    };
-    let home = connection.home();
-    home.publisher == publisher && home.subscriber == subscriber
-}
-
-// The key of the connection between two ports. It is looked for at the hint first.
-fn find_connection(
-    connections: &Slab<Connection>,
-    publisher: u128,
-    subscriber: u128,
-    hint: usize,
-) -> Option<usize>
-    ensures { MatchOption result (look_up (is_between publisher subscriber) connections.now.slots ≡ None) (λ key. IsSomeAnd (get connections.now key) (λ c. is_between publisher subscriber c ≡ true)) }
-{
-    if connects(connections, hint, publisher, subscriber) {
-        return Some(hint);
-    }
-    for key in 0..connections.capacity() {
-        if connects(connections, key, publisher, subscriber) {
-            return Some(key);
-        }
-    }
-    None
-}
-
-/// The borrowed slot with a number. The hint is tested first.
-pub(crate) fn find_borrowed(
+// The borrowed slot with a number. The hint is tested first.
+fn find_borrowed(
     connection: &Connection,
     book: &SlotBook,
     number: u128,
@@ -73,11 +39,11 @@ pub(crate) fn find_borrowed(
 }
 
 impl<T: Drop, U: Default + Drop> DomainState<T, U> {
-    ghost use Rattle.iox2_store.specs.Mailbox.{is_borrowed};
+    ghost use Rattle.iox2_store.specs.SingleCalls.{HoldsSample};
     ghost use Rattle.iox2_domain.specs.Kept.{state_of};
     ghost use Rattle.iox2_domain.specs.Fields.{kept_of};
     ghost use Rattle.iox2_domain.specs.Invariant.{IsDomain};
-    ghost use Rattle.iox2_domain.specs.SampleSlots.{IsBookOf, LiesBorrowed};
+    ghost use Rattle.iox2_domain.specs.SampleSlots.{IsBookOf, BorrowsAt, LiesBorrowed};
 
     /// The key of the book of a connection's publisher.
     pub(crate) fn book_of(&self, connection: usize) -> usize
@@ -92,36 +58,53 @@ impl<T: Drop, U: Default + Drop> DomainState<T, U> {
         publisher.book
     }
 
-    /// Where the publisher's message with this number lies, if the subscriber has borrowed it. It is
-    /// looked for at the hints first.
+    // Where a message with this number lies that the subscriber has borrowed in the connection at the
+    // key. The slot that is a hint is tested first.
+    fn find_sample_at(
+        &self,
+        key: usize,
+        subscriber: u128,
+        number: u128,
+        slot_hint: usize,
+    ) -> Option<SampleSlot>
+        requires { IsDomain self.now }
+        ensures { MatchOption result (BorrowsAt self.now key subscriber number → ⊥) (LiesBorrowed self.now subscriber number) }
+    {
+        let connection = self.connections.get(key)?;
+        if connection.home().subscriber != subscriber {
+            return None;
+        }
+        let book = self.book_of(key);
+        let slot = find_borrowed(connection, &self.books[book], number, slot_hint)?;
+        Some(SampleSlot {
+            connection: key,
+            book,
+            slot,
+        })
+    }
+
+    /// Where a message with this number lies that the subscriber has borrowed, and `None` where it
+    /// has borrowed none. It is looked for at the hints first.
     pub(crate) fn find_sample(
         &self,
         subscriber: u128,
-        publisher: u128,
         number: u128,
         connection_hint: usize,
         slot_hint: usize,
     ) -> Option<SampleSlot>
         requires { IsDomain self.now }
-        ensures { MatchOption result (is_borrowed number ((state_of (kept_of self.now)).mailboxes publisher subscriber) ≡ false) (LiesBorrowed self.now subscriber publisher number) }
+        ensures { MatchOption result (HoldsSample (state_of (kept_of self.now)) subscriber number → ⊥) (LiesBorrowed self.now subscriber number) }
     {
-        let connection = find_connection(
-            &self.connections,
-            publisher,
-            subscriber,
-            connection_hint,
-        )?;
-        let book = self.book_of(connection);
-        let slot = find_borrowed(
-            &self.connections[connection],
-            &self.books[book],
-            number,
-            slot_hint,
-        )?;
-        Some(SampleSlot {
-            connection,
-            book,
-            slot,
-        })
+        let hinted = self.find_sample_at(connection_hint, subscriber, number, slot_hint);
+        if hinted.is_some() {
+            return hinted;
+        }
+        for key in 0..self.connections.capacity() {
+            let found = self.find_sample_at(key, subscriber, number, slot_hint);
+            if found.is_some() {
+                return found;
+            }
+        }
+        None
     }
 }

@@ -1,5 +1,6 @@
 pub mod Fresh
 pub mod ReleaseShows
+pub mod SampleOrigins
 pub mod UninitLoans
 pub mod SubscribersShown
 pub mod LoanHandles

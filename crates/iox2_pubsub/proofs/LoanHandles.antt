@@ -9,7 +9,7 @@ use Rattle.iox2_store.specs.SingleCalls.{HoldsLoan}
 use Rattle.iox2_laws.proofs.Puts.{found_put}
 use Rattle.iox2_domain.specs.Kept.{Kept, state_of}
 use Rattle.iox2_domain.specs.Fields.{Fields, kept_of}
-use Rattle.iox2_pubsub.specs.Handles.{IsUnwrittenLoanHandle, IsWrittenLoanHandle}
+use Rattle.iox2_pubsub.specs.Handles.{IsLiveLoan, IsUnwrittenLoanHandle, IsWrittenLoanHandle}
 use Rattle.iox2_store.specs.declared.header.Header.{Header}
 use Rattle.iox2_domain.specs.Invariant.{IsDomain}
 use Rattle.iox2_domain.specs.LoanCalls.{HoldsUnwritten, HoldsWritten, HasLoanHeader, WritesLoan}
@@ -30,11 +30,8 @@ module _ {T U : Type 0} (inside kept : Kept T U) (view : inside ≡ kept) where
     pub written-held : IsWrittenLoanHandle kept service publisher number → HoldsWritten (state_of inside) id number
     written-held handle = subst (λ k. HoldsWritten (state_of k) id number) (sym view) ((handle.1).0, (handle.1).1, (handle.1).2 ∙ sym same, (handle.1).3)
 
-    pub unwritten-loan : IsUnwrittenLoanHandle kept service publisher number → HoldsLoan (state_of inside) id number
-    unwritten-loan handle = let held = unwritten-held handle in (held.0, held.1, held.2)
-
-    pub written-loan : IsWrittenLoanHandle kept service publisher number → HoldsLoan (state_of inside) id number
-    written-loan handle = let held = written-held handle in (held.0, held.1, held.2)
+    pub live-loan : IsLiveLoan kept service publisher number → HoldsLoan (state_of inside) id number
+    live-loan handle = subst (λ k. HoldsLoan (state_of k) id number) (sym view) ((handle.1).0, (handle.1).1, (handle.1).2 ∙ sym same)
 
 -- ---- a loan is written
 

@@ -1,5 +1,6 @@
 -- A release, seen from outside.
 use Rattle.std.proofs.Common.{◌≡◌, ℕ, Bool, true, false, cond, refl, sym, subst}
+use Rattle.iox2_store.specs.Mailbox.{is_borrowed}
 use Rattle.iox2_store.specs.Releases.{is_unused, place_freed, unborrowed, subscriber_pruned, released}
 use Rattle.iox2_store.specs.State.{State, Messages}
 use Rattle.iox2_domain.specs.Kept.{Kept, state_of}
@@ -17,14 +18,17 @@ module _ {T U : Type 0} where
     by true = (refl, refl)
     by false = (refl, refl)
 
-  -- the domain shows the released state, with the same messages
-  pub release-shows : (kept : Kept T U) (f g : Fields T U) → kept_of f ≡ kept → (p q n p' q' : ℕ) → p' ≡ p → q' ≡ q → Reaches f g (released (state_of (kept_of f)) p' q' n)
-      → (m : Messages T U) (s : State T U) → Shows kept m s → (s' : State T U) × Shows (kept_of g) m s' × (s' ≡ released s p q n)
-  release-shows kept f g same p q n p' q' same_p same_q reached m s shown =
+  -- the domain shows the released state, with the same messages, whoever the message is borrowed from
+  pub release-shows : (kept : Kept T U) (f g : Fields T U) → kept_of f ≡ kept → (q n q' : ℕ) → q' ≡ q
+      → ((p : ℕ) → is_borrowed n ((state_of (kept_of f)).mailboxes p q') ≡ true → Reaches f g (released (state_of (kept_of f)) p q' n))
+      → (m : Messages T U) (s : State T U) → Shows kept m s → (p : ℕ) → is_borrowed n (s.mailboxes p q) ≡ true
+      → (s' : State T U) × Shows (kept_of g) m s' × (s' ≡ released s p q n)
+  release-shows kept f g same q n q' same_q reaches m s shown p borrowed =
       let here : Shows (kept_of f) m s = subst (λ (k : Kept T U). Shows k m s) (sym same) shown in
       let state : s ≡ state_of (kept_of f) = here.state in
+      let reaches_q : (r : ℕ) → is_borrowed n ((state_of (kept_of f)).mailboxes r q) ≡ true → Reaches f g (released (state_of (kept_of f)) r q n) =
+      subst (λ (z : ℕ). (r : ℕ) → is_borrowed n ((state_of (kept_of f)).mailboxes r z) ≡ true → Reaches f g (released (state_of (kept_of f)) r z n)) same_q reaches in
       let reached_from : Reaches f g (released s p q n) =
       subst (λ (u : State T U). Reaches f g (released u p q n)) (sym state)
-      (subst (λ (r : ℕ). Reaches f g (released (state_of (kept_of f)) r q n)) same_p
-      (subst (λ (r : ℕ). Reaches f g (released (state_of (kept_of f)) p' r n)) same_q reached)) in
+      (reaches_q p (subst (λ (u : State T U). is_borrowed n (u.mailboxes p q) ≡ true) state borrowed)) in
       (released s p q n, reaches-shows-same f g m s (released s p q n) here reached_from (released-rest s p q n).0 (released-rest s p q n).1, refl)

@@ -17,6 +17,10 @@ module _ {T U : Type 0} (kept : Kept T U) (service_id : ℕ) where
 
   -- ---- loans and samples
 
+  -- The domain has this number, and the publisher's loan is out.
+  abbrev pub IsLiveLoan : (publisher number : ℕ) → Type 0
+  IsLiveLoan publisher number = (service_id ≡ (kept.config).service_id) × HoldsLoan (state_of kept) publisher number
+
   -- The domain has this number, and the publisher's loan is out and not written.
   abbrev pub IsUnwrittenLoanHandle : (publisher number : ℕ) → Type 0
   IsUnwrittenLoanHandle publisher number = (service_id ≡ (kept.config).service_id) × HoldsUnwritten (state_of kept) publisher number
@@ -24,6 +28,10 @@ module _ {T U : Type 0} (kept : Kept T U) (service_id : ℕ) where
   -- The domain has this number, and the publisher's loan is out and written.
   abbrev pub IsWrittenLoanHandle : (publisher number : ℕ) → Type 0
   IsWrittenLoanHandle publisher number = (service_id ≡ (kept.config).service_id) × HoldsWritten (state_of kept) publisher number
+
+  -- The domain has this number, and the subscriber has borrowed a message with that number.
+  abbrev pub IsLiveSample : (subscriber number : ℕ) → Type 0
+  IsLiveSample subscriber number = (service_id ≡ (kept.config).service_id) × HoldsSample (state_of kept) subscriber number
 
   -- The domain has this number, and the subscriber has borrowed the publisher's message.
   abbrev pub IsSampleHandle : (subscriber publisher number : ℕ) → Type 0
@@ -41,8 +49,8 @@ module _ {T U : Type 0} (kept : Kept T U) (key : Key) where
 
   -- The key is that of a sample's handle: its subscriber has borrowed a message with that number.
   abbrev pub IsSampleKey : Type 0
-  IsSampleKey = (key.service_id ≡ (kept.config).service_id) × HoldsSample (state_of kept) key.port key.message
+  IsSampleKey = IsLiveSample kept key.service_id key.port key.message
 
   -- The key is that of a loan that is out.
   abbrev pub IsLoanKey : Type 0
-  IsLoanKey = (key.service_id ≡ (kept.config).service_id) × HoldsLoan (state_of kept) key.port key.message
+  IsLoanKey = IsLiveLoan kept key.service_id key.port key.message

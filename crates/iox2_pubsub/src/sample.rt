@@ -13,6 +13,7 @@ use iox2_store::{
 pub struct Sample {
     pub(crate) service_id: u128,
     pub(crate) subscriber: UniqueSubscriberId,
+    // Whom it was received from. Nothing is looked up by it.
     pub(crate) publisher: UniquePublisherId,
     pub(crate) number: u128,
     // Where the domain looks for the message first.
@@ -21,11 +22,12 @@ pub struct Sample {
 }
 
 impl Sample {
-    ghost use Rattle.std.specs.Prelude.{[], ◌∷◌, Some};
+    ghost use Rattle.std.specs.Prelude.{ℕ, [], ◌∷◌, Some, IsTrue};
+    ghost use Rattle.iox2_store.specs.Mailbox.{is_borrowed};
     ghost use Rattle.iox2_store.specs.Records.{Entry};
     ghost use Rattle.iox2_store.specs.Releases.{released};
     ghost use Rattle.iox2_store.specs.State.{State, Messages};
-    ghost use Rattle.iox2_pubsub.specs.Handles.{IsSampleHandle};
+    ghost use Rattle.iox2_pubsub.specs.Handles.{IsLiveSample, IsSampleHandle};
     ghost use Rattle.iox2_domain.specs.Shows.{Shows};
 
     /// Names the sample among all that its domain has: by its subscriber and its number.
@@ -41,7 +43,7 @@ impl Sample {
         }
     }
 
-    /// The publisher that sent the message, as its header says.
+    /// The publisher that sent the message, as it was when the sample was received.
     ///
     /// iceoryx2's `Sample::origin` (`src/sample.rs`).
     pub fn origin(&self) -> UniquePublisherId
@@ -58,16 +60,15 @@ impl Sample {
         &self,
         domain: &'a Domain<T, U, F, G>,
     ) -> &'a T
-        requires held { IsSampleHandle domain.now self.now.service_id self.now.subscriber self.now.publisher self.now.number }
+        requires held { IsLiveSample domain.now self.now.service_id self.now.subscriber self.now.number }
         requires single { (domain.now.config).units_per_element ≡ 1 }
         ensures { (m : Messages T U) (s : State T U) → Shows domain.now m s
             → (entry : Entry T U) × (m self.now.number ≡ Some entry) × (entry.values ≡ result.now ∷ []) }
     {
         let receiver = self.subscriber.value();
-        let sender = self.publisher.value();
         domain
             .state
-            .sample_payload(receiver, sender, self.number, self.connection, self.slot)
+            .sample_payload(receiver, self.number, self.connection, self.slot)
     }
 
     /// The message's header.
@@ -77,16 +78,15 @@ impl Sample {
         &self,
         domain: &'a Domain<T, U, F, G>,
     ) -> &'a Header
-        requires { IsSampleHandle domain.now self.now.service_id self.now.subscriber self.now.publisher self.now.number }
+        requires { IsLiveSample domain.now self.now.service_id self.now.subscriber self.now.number }
         ensures header { (m : Messages T U) (s : State T U) → Shows domain.now m s
             → (entry : Entry T U) × (m self.now.number ≡ Some entry) × (entry.header ≡ result.now) }
-        ensures origin { (result.now).publisher_id ≡ self.now.publisher }
+        ensures origin { IsSampleHandle domain.now self.now.service_id self.now.subscriber self.now.publisher self.now.number → (result.now).publisher_id ≡ self.now.publisher }
     {
         let receiver = self.subscriber.value();
-        let sender = self.publisher.value();
         domain
             .state
-            .sample_header(receiver, sender, self.number, self.connection, self.slot)
+            .sample_header(receiver, self.number, self.connection, self.slot)
     }
 
     /// Gives the message back to its publisher, which may use its slot again once nobody else has
@@ -97,25 +97,22 @@ impl Sample {
         self,
         domain: &mut Domain<T, U, F, G>,
     )
-        requires { IsSampleHandle domain.old self.service_id self.subscriber self.publisher self.number }
+        requires { IsLiveSample domain.old self.service_id self.subscriber self.number }
         ensures { (m : Messages T U) (s : State T U) → Shows domain.old m s
-            → (s' : State T U) × Shows domain.new m s' × (s' ≡ released s self.publisher self.subscriber self.number) }
+            → (publisher : ℕ) → IsTrue (is_borrowed self.number (s.mailboxes publisher self.subscriber))
+            → (s' : State T U) × Shows domain.new m s' × (s' ≡ released s publisher self.subscriber self.number) }
     {
         let Sample {
             service_id: _,
             subscriber,
-            publisher,
+            publisher: _,
             number,
             connection,
             slot,
         } = self;
-        domain.state.give_back(
-            subscriber.value(),
-            publisher.value(),
-            number,
-            connection,
-            slot,
-        );
+        domain
+            .state
+            .give_back(subscriber.value(), number, connection, slot);
     }
 
     /// Spends the handle of a sample whose domain is gone. A domain that is still there isn't told,
@@ -137,8 +134,9 @@ impl<T: Drop, U: Default + Drop, F: BackpressureFn, G: DegradationFn> Domain<T, 
     ghost use Rattle.iox2_pubsub.specs.Handles.{IsSampleKey};
     ghost use Rattle.iox2_domain.specs.Shows.{KeepsEntries};
 
-    /// Whether the key is that of a sample of this domain that wasn't released. From which publisher
-    /// the message is borrowed, its header says: that is the sample's `origin`. This library's own.
+    /// Whether the key is that of a sample of this domain that wasn't released, so that the sample's
+    /// calls may be made. From which publisher the message is borrowed, its header says. This
+    /// library's own.
     pub fn holds_sample(&self, key: Key) -> bool
         ensures held { IsTrue result ↔ IsSampleKey self.now key }
         ensures entries { KeepsEntries self.now }

@@ -19,7 +19,7 @@ pub struct SampleMut {
 impl SampleMut {
     ghost use Rattle.std.specs.Prelude.{Some};
     ghost use Rattle.iox2_store.specs.State.{State, Messages};
-    ghost use Rattle.iox2_pubsub.specs.Handles.{IsWrittenLoanHandle};
+    ghost use Rattle.iox2_pubsub.specs.Handles.{IsLiveLoan, IsWrittenLoanHandle};
     ghost use Rattle.iox2_domain.specs.LoanCalls.{HasCell, HasLoanHeader};
     ghost use Rattle.iox2_domain.specs.Shows.{Shows};
 
@@ -46,7 +46,7 @@ impl SampleMut {
         &self,
         domain: &'a Domain<T, U, F, G>,
     ) -> &'a Header
-        requires { IsWrittenLoanHandle domain.now self.now.service_id self.now.publisher self.now.number }
+        requires { IsLiveLoan domain.now self.now.service_id self.now.publisher self.now.number }
         ensures header { (m : Messages T U) (s : State T U) → Shows domain.now m s → HasLoanHeader s self.now.number result.now }
         ensures origin { (result.now).publisher_id ≡ self.now.publisher }
     {

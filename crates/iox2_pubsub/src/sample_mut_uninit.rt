@@ -22,7 +22,7 @@ impl SampleMutUninit {
     ghost use Rattle.iox2_store.specs.Records.{Loan};
     ghost use Rattle.iox2_store.specs.State.{State, Messages, with_loan};
     ghost use Rattle.iox2_store.specs.Loans.{written};
-    ghost use Rattle.iox2_pubsub.specs.Handles.{IsUnwrittenLoanHandle, IsWrittenLoanHandle};
+    ghost use Rattle.iox2_pubsub.specs.Handles.{IsLiveLoan, IsUnwrittenLoanHandle, IsWrittenLoanHandle};
     ghost use Rattle.iox2_domain.specs.LoanCalls.{HasCell, HasLoanHeader};
     ghost use Rattle.iox2_domain.specs.Shows.{Shows};
 
@@ -83,7 +83,7 @@ impl SampleMutUninit {
         &self,
         domain: &'a Domain<T, U, F, G>,
     ) -> &'a Header
-        requires { IsUnwrittenLoanHandle domain.now self.now.service_id self.now.publisher self.now.number }
+        requires { IsLiveLoan domain.now self.now.service_id self.now.publisher self.now.number }
         ensures header { (m : Messages T U) (s : State T U) → Shows domain.now m s → HasLoanHeader s self.now.number result.now }
         ensures origin { (result.now).publisher_id ≡ self.now.publisher }
     {

@@ -1,5 +1,5 @@
 -- Commands on samples, and reads, with what a run holds.
-use Rattle.std.proofs.Common.{◌≡◌, ℕ, zero, suc, Bool, false, cond, List, [], ◌∷◌, ◌++◌, map, length, refl, sym, ap, subst, ◌∙◌, eqb, nat_lt, Option, None, Some, arith}
+use Rattle.std.proofs.Common.{◌≡◌, ℕ, zero, suc, Bool, true, false, cond, List, [], ◌∷◌, ◌++◌, map, length, refl, sym, ap, subst, ◌∙◌, eqb, nat_lt, Option, None, Some, arith}
 use Rattle.std.specs.Prelude.{slice_get, slice_set, slice_index_or}
 use Rattle.std.proofs.lemmas.Bool.{ne_eqb}
 use Rattle.std.proofs.lemmas.Option.{same_Some}
@@ -7,12 +7,13 @@ use Rattle.iox2_store.specs.Environments.{fixed_handlers}
 use Rattle.iox2_store.specs.Records.{Entry, Loan}
 use Rattle.iox2_store.specs.State.{State, Messages}
 use Rattle.iox2_store.specs.Receives.{Receive, Got_sample, No_sample, Receive_error}
+use Rattle.iox2_store.specs.Mailbox.{is_borrowed}
 use Rattle.iox2_store.specs.Releases.{released}
 use Rattle.iox2_store.specs.declared.errors.ReceiveError.{ReceiveError}
 use Rattle.iox2_store.specs.declared.service_config.TypeVariant.TheVariants.{FixedSize}
 use Rattle.iox2_laws.proofs.ReceiveLaws.{receive_advances}
 use Rattle.iox2_laws.proofs.ReleaseLaws.{released_advances}
-use Rattle.iox2_domain.specs.Kept.{Kept as Domain}
+use Rattle.iox2_domain.specs.Kept.{Kept as Domain, state_of}
 use Rattle.iox2_domain.specs.Shows.{Shows}
 use Rattle.iox2_domain.specs.LoanCalls.{HasCell}
 use Rattle.iox2_pubsub.specs.declared.sample_mut_uninit.SampleMutUninit.{SampleMutUninit}
@@ -49,11 +50,14 @@ module _ {T U : Type 0} (defaults : Defaults T U) (old new : Domain T U) (table 
       (lacks is_sample refl table of other) (subst (λ (d : Domain T U). Shows d m s) same shown))
 
   pub release_carried : (h : SampleHandle) → slice_index_or table of Nothing ≡ HeldSample h
-      → ((m : Messages T U) (s : State T U) → Shows old m s → (s' : State T U) × Shows new m s' × (s' ≡ released s h.publisher h.subscriber h.number))
+      → is_borrowed h.number ((state_of old).mailboxes h.publisher h.subscriber) ≡ true
+      → ((m : Messages T U) (s : State T U) → Shows old m s → (p : ℕ) → is_borrowed h.number (s.mailboxes p h.subscriber) ≡ true
+      → (s' : State T U) × Shows new m s' × (s' ≡ released s p h.subscriber h.number))
       → table' ≡ slice_set table of Nothing
       → Carries defaults old new table (ReleaseCommand of) Done table' Nothing
-  release_carried h at releases is = λ m s handles events shown w default_value default_header is_value is_header.
-      let freed = releases m s shown in
+  release_carried h at held releases is = λ m s handles events shown w default_value default_header is_value is_header.
+      let freed =
+      releases m s shown h.publisher (subst (λ (t : State T U). is_borrowed h.number (t.mailboxes h.publisher h.subscriber) ≡ true) (sym shown.state) held) in
       let after : map kept_of table' ≡ slice_set (map kept_of table) of Nothing_kept = ap (λ (t : List Held). map kept_of t) is ∙ kept-set table of Nothing in
       subst (λ (ks : List Kept). Comes defaults (Shows new) m s handles events (ReleaseCommand of) Done (ks ++ Nothing_kept ∷ [])) (sym after)
       (release_comes defaults (Shows new) m s handles events (map kept_of table) w default_value default_header is_value is_header of h.service_id h.publisher h.subscriber h.number

@@ -3,7 +3,7 @@ use Rattle.std.proofs.Common.{◌≡◌, ℕ, List, map, subst}
 use Rattle.std.specs.Prelude.{slice_index_or}
 use Rattle.iox2_store.specs.State.{State}
 use Rattle.iox2_domain.specs.Kept.{Kept as Domain, state_of}
-use Rattle.iox2_pubsub.specs.Handles.{IsPublisherHandle, IsSubscriberHandle, IsUnwrittenLoanHandle, IsWrittenLoanHandle, IsSampleHandle}
+use Rattle.iox2_pubsub.specs.Handles.{IsPublisherHandle, IsSubscriberHandle, IsUnwrittenLoanHandle, IsWrittenLoanHandle, IsLiveSample, IsSampleHandle}
 use Rattle.iox2_pubsub.specs.declared.publisher.Publisher.{Publisher as PublisherHandle}
 use Rattle.iox2_pubsub.specs.declared.subscriber.Subscriber.{Subscriber as SubscriberHandle}
 use Rattle.iox2_pubsub.specs.declared.sample_mut_uninit.SampleMutUninit.{SampleMutUninit}
@@ -48,3 +48,7 @@ module _ {T U : Type 0} (domain : Domain T U) (table : List Held) (keeps : Keeps
   live_sample h at =
       let v = (is_kept (HeldSample h) at (λ e. let clash : HeldSample h ≡ Nothing = e in cc)).1 in
       ((v.0, v.2), v.3)
+
+  -- its message is borrowed from some publisher
+  pub live_borrowed : (h : SampleHandle) → slice_index_or table of Nothing ≡ HeldSample h → IsLiveSample domain h.service_id h.subscriber h.number
+  live_borrowed h at = let live = (live_sample h at).0 in (live.0, (h.publisher, live.1))

@@ -1,8 +1,9 @@
 ghost use Rattle.std.specs.Prelude.{IfSome};
 ghost use Rattle.iox2_pubsub.specs.Handles.{IsSampleHandle};
 
-use crate::fixtures::{Reading, Station, domain, publish};
+use crate::fixtures::{Reading, SETTINGS, Station, domain, publish};
 use iox2_pubsub::{Domain, Sample, Subscriber};
+use iox2_store::ServiceConfig;
 use std::process::Abort;
 
 // A subscriber for which a message waits.
@@ -44,6 +45,35 @@ fn a_sent_message_is_received_and_read(rt: HostRuntime) {
     assert!(rt; origins == [2, 2]);
     assert!(rt; header.node_id.value() == 3);
     assert!(rt; header.number_of_elements() == 1);
+}
+
+// Releases a sample of which nothing is known, where the domain holds it.
+fn release_if_held(domain: &mut Domain<Reading, Station>, sample: Sample) -> bool {
+    if !domain.holds_sample(sample.key()) {
+        sample.disown();
+        return false;
+    }
+    sample.release(domain);
+    true
+}
+
+#[test]
+fn a_test_of_its_handle_lets_a_sample_be_released(rt: HostRuntime) {
+    let mut domain = domain(&rt, rt.alloc());
+    let subscriber = subscribed(&rt, &mut domain);
+    let sample = received(&rt, &mut domain, &subscriber).expect(&rt, "a sample");
+    subscriber.disown();
+    let settings = ServiceConfig {
+        service_id: SETTINGS.service_id + 1,
+        ..SETTINGS
+    };
+    let other = Domain::<Reading, Station>::new(rt.alloc(), settings).expect(&rt, "a domain");
+    let is_held_by_another = other.holds_sample(sample.key());
+    let was_released = release_if_held(&mut domain, sample);
+    drop(other);
+    drop(domain);
+    assert!(rt; !is_held_by_another);
+    assert!(rt; was_released);
 }
 
 #[test]

@@ -1,40 +1,16 @@
-use Rattle.std.proofs.Common.{◌≡◌, ap, sym, ◌∙◌, None}
-use Rattle.iox2_ends.specs.LookUp.{look_up}
-use Rattle.iox2_ends.specs.Mailboxes.{is_between}
+use Rattle.std.proofs.Common.{◌≡◌, below_more, length, ap, arith}
 use Rattle.iox2_domain.specs.Fields.{Fields}
-use Rattle.iox2_domain.proofs.SampleSlots.{is-found, none-connected, borrowed-within, none-numbered, lies-there}
+use Rattle.iox2_domain.proofs.BorrowedNumbers.{held-nowhere, not-there}
 use Rattle.iox2_domain.proofs.state.DomainState.find_sample.Goals as goal
 
-pub returns-in_err-connection : goal.returns-in_err-connection
-returns-in_err-connection g c =
-    let none : look_up (is_between c.args.publisher c.args.subscriber) c.args.self.now.connections.slots ≡ None =
-    ap (λ (f : Fields g.row.T.Denot g.row.U.Denot). look_up (is_between c.args.publisher c.args.subscriber) f.connections.slots) (sym c.self.view_is) ∙ c.in_err-connection.ensures in
-    rw c.from_residual.ensures (none-connected c.args.self.now c.requires c.args.publisher c.args.subscriber c.args.number none)
-
-pub find_borrowed-requires : goal.find_borrowed-requires
-find_borrowed-requires g c =
-    borrowed-within c.args.self.now c.requires c.args.publisher c.args.subscriber c.in_ok-connection.connection c.book_of-book.result c.index.result.now c.index-2.result.now
-    (is-found c.args.self.now c.args.publisher c.args.subscriber c.in_ok-connection.connection c.book_of-book.result c.index.result.now c.index-2.result.now
-    c.self.inside.connections c.self.inside.books
-    (ap (λ (f : Fields g.row.T.Denot g.row.U.Denot). f.connections) c.self.view_is) (ap (λ (f : Fields g.row.T.Denot g.row.U.Denot). f.books) c.self.view_is)
-    c.in_ok-connection.ensures c.index.ensures c.book_of-book.ensures c.index-2.ensures)
-
-pub returns-in_err-slot : goal.returns-in_err-slot
-returns-in_err-slot g c =
-    rw c.from_residual-in_err-slot.ensures (
-    none-numbered c.args.self.now c.requires c.args.publisher c.args.subscriber c.in_ok-connection.connection c.book_of-book.result c.index.result.now c.index-2.result.now
-    (is-found c.args.self.now c.args.publisher c.args.subscriber c.in_ok-connection.connection c.book_of-book.result c.index.result.now c.index-2.result.now
-    c.self.inside.connections c.self.inside.books
-    (ap (λ (f : Fields g.row.T.Denot g.row.U.Denot). f.connections) c.self.view_is) (ap (λ (f : Fields g.row.T.Denot g.row.U.Denot). f.books) c.self.view_is)
-    c.in_ok-connection.ensures c.index.ensures c.book_of-book.ensures c.index-2.ensures)
-    c.args.number c.in_err-slot.ensures
-    )
+pub loop-key-preserved : goal.loop-key-preserved
+loop-key-preserved g c =
+    below_more _ _ c.loop-key.invariant (not-there c.args.self.now c.loop-key.key c.args.subscriber c.args.number
+    c.find_sample_at-found.result c.find_sample_at-found.ensures c.is_some-in-loop-key.result c.is_some-in-loop-key.ensures c.if-is_some-2.false)
 
 pub returns : goal.returns
 returns g c =
-    lies-there c.args.self.now c.requires c.args.publisher c.args.subscriber c.in_ok-connection.connection c.book_of-book.result c.index.result.now c.index-2.result.now
-    (is-found c.args.self.now c.args.publisher c.args.subscriber c.in_ok-connection.connection c.book_of-book.result c.index.result.now c.index-2.result.now
-    c.self.inside.connections c.self.inside.books
-    (ap (λ (f : Fields g.row.T.Denot g.row.U.Denot). f.connections) c.self.view_is) (ap (λ (f : Fields g.row.T.Denot g.row.U.Denot). f.books) c.self.view_is)
-    c.in_ok-connection.ensures c.index.ensures c.book_of-book.ensures c.index-2.ensures)
-    c.args.number c.in_ok-slot.slot c.in_ok-slot.ensures
+    held-nowhere c.args.self.now c.requires c.args.subscriber c.args.number (λ k below.
+    let long : length c.self.inside.connections.slots ≡ length c.args.self.now.connections.slots =
+    ap (λ (f : Fields g.row.T.Denot g.row.U.Denot). length f.connections.slots) c.self.view_is in
+    c.loop-key.invariant k (omega (arith, below, c.capacity-key-end.ensures.slots, c.loop-key-test.false)))

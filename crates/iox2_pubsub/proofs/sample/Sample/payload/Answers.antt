@@ -1,14 +1,12 @@
-use Rattle.std.specs.Prelude.{IsTrue}
 use Rattle.std.proofs.Common.{ap, sym, subst, ◌∙◌}
-use Rattle.iox2_store.specs.Mailbox.{is_borrowed}
+use Rattle.iox2_store.specs.SingleCalls.{HoldsSample}
 use Rattle.iox2_domain.specs.Kept.{Kept, entries_of, state_of}
 use Rattle.iox2_pubsub.proofs.sample.Sample.payload.Goals as goal
 
-pub sample_payload-requires-clause-borrowed : goal.sample_payload-requires-clause-borrowed
-sample_payload-requires-clause-borrowed g c =
-    rw (c.value-sender.ensures, c.value-receiver.ensures)
-    (subst (λ (k : Kept g.row.T.Denot g.row.U.Denot). IsTrue (is_borrowed c.args.self.now.number ((state_of k).mailboxes c.args.self.now.publisher c.args.self.now.subscriber)))
-    (sym c.domain.view_is) c.requires.held.1)
+pub sample_payload-requires-clause-held : goal.sample_payload-requires-clause-held
+sample_payload-requires-clause-held g c =
+    rw c.value-receiver.ensures
+    (subst (λ (k : Kept g.row.T.Denot g.row.U.Denot). HoldsSample (state_of k) c.args.self.now.subscriber c.args.self.now.number) (sym c.domain.view_is) c.requires.held.1)
 
 pub returns : goal.returns
 returns g c = λ m s shown.

@@ -3,7 +3,7 @@ use Rattle.iox2_runs.specs.Holdings.{kept_of}
 use Rattle.iox2_runs.specs.declared.runs.held.Held.{Held}
 use Rattle.iox2_runs.proofs.TableLooks.{is_sample, is_loan}
 use Rattle.iox2_runs.proofs.Holdings.{looked, looked_past, not_sample, not_loan}
-use Rattle.iox2_runs.proofs.LiveHeld.{live_unwritten, live_written, live_sample}
+use Rattle.iox2_runs.proofs.LiveHeld.{live_unwritten, live_written, live_sample, live_borrowed}
 use Rattle.iox2_runs.proofs.CarriedSamples.{read_unwritten, read_written, read_sampled, read_passed}
 use Rattle.iox2_runs.proofs.runs.samples.read.Goals as goal
 
@@ -25,7 +25,7 @@ payload-requires-in-Written-clause-single g c =
 
 pub payload-requires-in-Sample-clause-held : goal.payload-requires-in-Sample-clause-held
 payload-requires-in-Sample-clause-held g c =
-    (live_sample {T = g.row.T.Denot} {U = g.row.U.Denot} c.args.domain.now c.args.table.now c.requires c.args.of c.in-Sample.sample (looked c.args.table.now c.args.of c.get.result c.in-Some.held _ c.get.ensures.lookup c.in-Some.is c.in-Sample.is)).0
+    live_borrowed {T = g.row.T.Denot} {U = g.row.U.Denot} c.args.domain.now c.args.table.now c.requires c.args.of c.in-Sample.sample (looked c.args.table.now c.args.of c.get.result c.in-Some.held _ c.get.ensures.lookup c.in-Some.is c.in-Sample.is)
 
 pub payload-requires-in-Sample-clause-single : goal.payload-requires-in-Sample-clause-single
 payload-requires-in-Sample-clause-single g c =
