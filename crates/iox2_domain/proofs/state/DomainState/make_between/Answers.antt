@@ -1,6 +1,9 @@
-use Rattle.std.proofs.Common.{◌∙◌, ap, sym, get_or}
+use Rattle.std.proofs.Common.{◌∙◌, ap, sym, subst, get_or}
 use Rattle.std.proofs.lemmas.List.{with_items_is}
 use Rattle.std.specs.declared.option.Option.TheVariants.{None}
+use Rattle.std.specs.Prelude.{IfOk}
+use Rattle.iox2_domain.specs.Fields.{Fields}
+use Rattle.iox2_domain.specs.Updates.{MakesConnection}
 use Rattle.iox2_domain.proofs.MadeRoom.{always, gets-sender-room, gets-receiver-room, keeps-receiver-room, makes-room}
 use Rattle.iox2_domain.proofs.state.DomainState.make_between.Goals as goal
 
@@ -41,3 +44,9 @@ pub returns-clause-receiver_room : goal.returns-clause-receiver_room
 returns-clause-receiver_room g c =
     let subscribers = with_items_is c.self.inside.subscribers c.reserve_subscriber_key.new.subscribers (c.reserve_subscriber_key.auto.subscribers ∙ c.deref_mut-2.ensures.len) in
     always c.make_connection.result (λ y at. c.in_ok-reserve_subscriber_key.ensures.room y (sym (ap (λ zs. get_or zs c.args.place None) subscribers) ∙ at))
+
+pub returns-clause-made : goal.returns-clause-made
+returns-clause-made g c =
+    subst (λ (f : Fields g.row.T.Denot g.row.U.Denot).
+    IfOk c.make_connection.result (λ key. MakesConnection f.connections c.args.home c.args.buffer f.config.subscriber_max_borrowed_samples key c.make_connection.new.connections))
+    c.self.view_is c.make_connection.ensures.made
