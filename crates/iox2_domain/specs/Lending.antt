@@ -87,9 +87,9 @@ module _ {T U : Type 0} where
       × Reaches f f' (state_of (kept_of f)))
 
   -- The publisher p is asked for a loan of a single value: it is granted, with a default user header, or refused for this
-  -- reason.
+  -- reason, and then nothing changes.
   abbrev pub LoanCall : {A : Type 0} → (is_default : U → Type 0) → State T U → (p : ℕ) → Result A LoanError → State T U → Type 0
   LoanCall is_default s p answer s' =
       MatchResult answer
       (λ _. (user_header : U) × is_default user_header × GrantLoan ample_memory user_header false 1 s p s' None)
-      (λ e. (user_header : U) → GrantLoan ample_memory user_header false 1 s p s' (Some e))
+      (λ e. (s' ≡ s) × ((user_header : U) → GrantLoan ample_memory user_header false 1 s p s' (Some e)))

@@ -56,7 +56,7 @@ module _ {T U : Type 0} (f : Fields T U) where
         → (s' : State T U) × Shows (kept_of new) m s' × LoanCall {A = A} is_default s x.id (Err e) s'
     refused-shows A e reaches =
         subst (λ (t : State T U). (s' : State T U) × Shows (kept_of new) m s' × LoanCall {A = A} is_default t x.id (Err e) s')
-        (sym shown.state) (state, reaches-shows-same f new m s state shown reaches.1 (ap (λ (t : State T U). t.next_message) (sym shown.state)) (ap (λ (t : State T U). t.loans) (sym shown.state)), reaches.0)
+        (sym shown.state) (state, reaches-shows-same f new m s state shown reaches.1 (ap (λ (t : State T U). t.next_message) (sym shown.state)) (ap (λ (t : State T U). t.loans) (sym shown.state)), (refl, reaches.0))
 
     -- no message was sent under the number of the new loan, or of an older one
     none_sent : (lent : Loan T U) (n : ℕ) (l : Loan T U) → put_at state.loans f.next_message (Some lent) n ≡ Some l → m n ≡ None

@@ -90,7 +90,7 @@ module _ {T U : Type 0} (defaults : Defaults T U) (old new : Domain T U) (table 
 
   pub loan_denied : table' ≡ table → (h : PublisherHandle) (e : LoanError) → slice_index_or table of Nothing ≡ HeldPublisher h
       → (old.config).variant ≡ FixedSize → (old.config).units_per_element ≡ 1
-      → ((m : Messages T U) (s : State T U) → Shows old m s → (s' : State T U) × Shows new m s' × ((header : U) → GrantLoan ample_memory header false 1 s h.id s' (Some e)))
+      → ((m : Messages T U) (s : State T U) → Shows old m s → (s' : State T U) × Shows new m s' × ((s' ≡ s) × ((header : U) → GrantLoan ample_memory header false 1 s h.id s' (Some e))))
       → Carries defaults old new table (LoanUninit of) (LoanRefused e) table' Nothing
   loan_denied is h e at variant units refuses = λ m s handles events shown w default_value default_header is_value is_header.
       let refused = refuses m s shown in
@@ -98,7 +98,7 @@ module _ {T U : Type 0} (defaults : Defaults T U) (old new : Domain T U) (table 
       (loan_refused_comes defaults (Shows new) m s handles events (map kept_of table) w default_value default_header is_value is_header of h.service_id h.id
       (stands table of (HeldPublisher h) at (λ e. let clash : HeldPublisher h ≡ Nothing = e in cc))
       (ap (λ (t : State T U). (t.config).variant) shown.state ∙ variant, ap (λ (t : State T U). (t.config).units_per_element) shown.state ∙ units)
-      default_header is_header refused.0 e (loan_any default_header false 1 s h.id refused.0 (Some e) (refused.2 default_header)) refused.1)
+      default_header is_header refused.0 e (loan_any default_header false 1 s h.id refused.0 (Some e) ((refused.2).1 default_header)) refused.1)
 
   -- ---- a send
 
