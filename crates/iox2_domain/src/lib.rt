@@ -25,5 +25,6 @@ mod subscriber_state;
 mod updates;
 mod warnings;
 
+pub use loan_slots::LoanSlot;
 pub use receipts::Receipt;
 pub use state::DomainState;

@@ -25,11 +25,11 @@ impl<T: Drop, U: Default + Drop> DomainState<T, U> {
         ensures writes { WritesLoan self.old self.new number value }
         ensures lies { (key : ℕ) × LiesInSlot self.old publisher number key result }
     {
-        let Some((key, slot)) = self.find_loan(publisher, number, hint) else {
+        let Some(at) = self.find_loan(publisher, number, hint) else {
             unreachable!()
         };
-        self.write_slot(key, slot, value);
-        slot
+        self.write_slot(at.book, at.slot, value);
+        at.slot
     }
 
     // Writes the value of the one cell in a slot.
@@ -49,13 +49,13 @@ impl<T: Drop, U: Default + Drop> DomainState<T, U> {
         requires held { HoldsUnwritten (state_of (kept_of self.now)) publisher number }
         ensures { HasCell (state_of (kept_of self.now)) number result.now }
     {
-        let Some((key, slot)) = self.find_loan(publisher, number, hint) else {
+        let Some(at) = self.find_loan(publisher, number, hint) else {
             unreachable!()
         };
-        let Some(contents) = &self.contents[key] else {
+        let Some(contents) = &self.contents[at.book] else {
             unreachable!()
         };
-        contents.cell(slot)
+        contents.cell(at.slot)
     }
 
     /// The value of a publisher's written loan of one element. The loan is looked for in the slot
@@ -66,13 +66,13 @@ impl<T: Drop, U: Default + Drop> DomainState<T, U> {
         requires held { HoldsWritten (state_of (kept_of self.now)) publisher number }
         ensures { HasCell (state_of (kept_of self.now)) number (Some result.now) }
     {
-        let Some((key, slot)) = self.find_loan(publisher, number, hint) else {
+        let Some(at) = self.find_loan(publisher, number, hint) else {
             unreachable!()
         };
-        let Some(contents) = &self.contents[key] else {
+        let Some(contents) = &self.contents[at.book] else {
             unreachable!()
         };
-        contents.value(slot)
+        contents.value(at.slot)
     }
 
     /// The header of a publisher's loan. The loan is looked for in the slot `hint` first.
@@ -81,10 +81,10 @@ impl<T: Drop, U: Default + Drop> DomainState<T, U> {
         requires held { HoldsLoan (state_of (kept_of self.now)) publisher number }
         ensures { HasLoanHeader (state_of (kept_of self.now)) number result.now }
     {
-        let Some((key, slot)) = self.find_loan(publisher, number, hint) else {
+        let Some(at) = self.find_loan(publisher, number, hint) else {
             unreachable!()
         };
-        self.books[key].header(slot)
+        self.books[at.book].header(at.slot)
     }
 }
 

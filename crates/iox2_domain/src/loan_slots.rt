@@ -6,6 +6,15 @@ ghost use Rattle.iox2_domain.specs.LoanSlots.{IsLoanSlot, IsInNoSlot};
 use crate::state::DomainState;
 use iox2_store::{SlotBook, SlotMark};
 
+/// Where a loan lies: the key of its publisher's book, and its slot.
+#[derive(Clone, Copy)]
+pub struct LoanSlot {
+    /// The key of the publisher's book.
+    pub book: usize,
+    /// The slot in that book.
+    pub slot: usize,
+}
+
 impl<T: Drop, U: Default + Drop> DomainState<T, U> {
     ghost use Rattle.iox2_store.specs.SingleCalls.{HoldsLoan};
     ghost use Rattle.iox2_domain.specs.Kept.{state_of};
@@ -13,16 +22,19 @@ impl<T: Drop, U: Default + Drop> DomainState<T, U> {
     ghost use Rattle.iox2_domain.specs.Invariant.{IsDomain};
     ghost use Rattle.iox2_domain.specs.LoanSlots.{LiesInSlot};
 
-    /// The key of the book and the slot in which a publisher's loan lies, and `None` where it isn't
-    /// out. It is looked for in the slot `hint` first.
-    pub fn find_loan(&self, publisher: u128, number: u128, hint: usize) -> Option<(usize, usize)>
+    /// Where a publisher's loan lies, and `None` where it isn't out. It is looked for in the slot
+    /// `hint` first.
+    pub fn find_loan(&self, publisher: u128, number: u128, hint: usize) -> Option<LoanSlot>
         requires { IsDomain self.now }
-        ensures { MatchOption result (HoldsLoan (state_of (kept_of self.now)) publisher number → ⊥) (λ at. LiesInSlot self.now publisher number at.0 at.1) }
+        ensures { MatchOption result (HoldsLoan (state_of (kept_of self.now)) publisher number → ⊥) (λ at. LiesInSlot self.now publisher number at.book at.slot) }
     {
         let place = self.find_publisher(publisher, 0)?;
         let publisher = self.publishers[place].as_ref()?;
         let slot = find_slot(&self.books[publisher.book], &publisher.loans, number, hint)?;
-        Some((publisher.book, slot))
+        Some(LoanSlot {
+            book: publisher.book,
+            slot,
+        })
     }
 }
 

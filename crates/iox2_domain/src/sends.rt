@@ -26,11 +26,11 @@ impl<T: Drop, U: Default + Drop> DomainState<T, U> {
         };
         self.update_publisher(place);
         self.reclaim(place);
-        let Some((_, slot)) = self.find_loan(publisher, number, hint) else {
+        let Some(at) = self.find_loan(publisher, number, hint) else {
             unreachable!()
         };
-        let count = self.deliver_slot(place, slot);
-        self.end_send(place, slot);
+        let count = self.deliver_slot(place, at.slot);
+        self.end_send(place, at.slot);
         count
     }
 }

@@ -20,6 +20,7 @@ use Rattle.iox2_domain.specs.Fields.{Fields, kept_of, publisher_of, contents_at}
 use Rattle.iox2_domain.specs.Invariant.{is_publisher}
 use Rattle.iox2_domain.specs.Lending.{LoanReaches, LoanCall}
 use Rattle.iox2_domain.specs.LoanSlots.{LiesInSlot}
+use Rattle.iox2_domain.specs.declared.loan_slots.LoanSlot.{LoanSlot}
 use Rattle.iox2_domain.specs.Shows.{Shows}
 use Rattle.iox2_domain.proofs.Containers.{look_up-map}
 use Rattle.iox2_domain.proofs.Messages.{message_in-parts}
@@ -136,16 +137,16 @@ module _ {T U : Type 0} (is_default : U → Type 0) (f new : Fields T U) (i p : 
       (subst (λ (r : Result ℕ LoanError). LoanReaches is_default f stands.0 r new) is its)))
 
 -- a loan is held just where a slot is found for it
-pub loan-key : {T U : Type 0} (f : Fields T U) (kept : Kept T U) (key : Key) → kept_of f ≡ kept → key.service_id ≡ (f.config).service_id → (found : Option (ℕ × ℕ))
-    → MatchOption found (HoldsLoan (state_of (kept_of f)) key.port key.message → ⊥) (λ at. LiesInSlot f key.port key.message at.0 at.1)
+pub loan-key : {T U : Type 0} (f : Fields T U) (kept : Kept T U) (key : Key) → kept_of f ≡ kept → key.service_id ≡ (f.config).service_id → (found : Option LoanSlot)
+    → MatchOption found (HoldsLoan (state_of (kept_of f)) key.port key.message → ⊥) (λ at. LiesInSlot f key.port key.message at.book at.slot)
     → (b : Bool) → b ≡ is_some found → (IsTrue b → IsLoanKey kept key) × (IsLoanKey kept key → IsTrue b)
 loan-key {T} {U} f kept key view service found finds b is = (λ is_held. subst (λ (k : Kept T U). IsLoanKey k key) view (service, there found finds (sym is ∙ is_held)), λ held. is ∙ some found finds (subst (λ (k : Kept T U). IsLoanKey k key) (sym view) held).1) where
-  there : (o : Option (ℕ × ℕ)) → MatchOption o (HoldsLoan (state_of (kept_of f)) key.port key.message → ⊥) (λ at. LiesInSlot f key.port key.message at.0 at.1) → is_some o ≡ true
+  there : (o : Option LoanSlot) → MatchOption o (HoldsLoan (state_of (kept_of f)) key.port key.message → ⊥) (λ at. LiesInSlot f key.port key.message at.book at.slot) → is_some o ≡ true
       → HoldsLoan (state_of (kept_of f)) key.port key.message
   there None none is_held = absurd cc
-  there (Some at) lies is_held = lies-held f key.port key.message at.0 at.1 lies
+  there (Some at) lies is_held = lies-held f key.port key.message at.book at.slot lies
 
-  some : (o : Option (ℕ × ℕ)) → MatchOption o (HoldsLoan (state_of (kept_of f)) key.port key.message → ⊥) (λ at. LiesInSlot f key.port key.message at.0 at.1)
+  some : (o : Option LoanSlot) → MatchOption o (HoldsLoan (state_of (kept_of f)) key.port key.message → ⊥) (λ at. LiesInSlot f key.port key.message at.book at.slot)
       → HoldsLoan (state_of (kept_of f)) key.port key.message → is_some o ≡ true
   some None none held = absurd (none held)
   some (Some at) lies held = refl

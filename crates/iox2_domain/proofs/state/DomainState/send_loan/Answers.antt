@@ -36,17 +36,17 @@ deliver_slot-count-requires-clause-reclaimed g c =
 pub deliver_slot-count-requires-clause-held : goal.deliver_slot-count-requires-clause-held
 deliver_slot-count-requires-clause-held g c =
     loan-held c.args.self.now c.requires.agrees c.args.publisher c.args.number c.in-Some.place c.requires.held c.in-Some.ensures c.update_publisher.new.self c.update_publisher.ensures
-    c.reclaim.new.self c.reclaim.ensures.reaches c.reclaim.ensures.only c.reclaim.ensures.reclaimed _ c.in-Some-find_loan.slot c.in-Some-find_loan.ensures
+    c.reclaim.new.self c.reclaim.ensures.reaches c.reclaim.ensures.only c.reclaim.ensures.reclaimed _ c.in-Some-find_loan.at.slot c.in-Some-find_loan.ensures
 
 pub end_send-requires : goal.end_send-requires
 end_send-requires g c = record {
   stands = can-end c.args.self.now c.requires.agrees c.args.publisher c.args.number c.in-Some.place c.requires.held c.in-Some.ensures c.update_publisher.new.self c.update_publisher.ensures
-      c.reclaim.new.self c.reclaim.ensures.reaches c.reclaim.ensures.only c.reclaim.ensures.reclaimed _ c.in-Some-find_loan.slot c.in-Some-find_loan.ensures
+      c.reclaim.new.self c.reclaim.ensures.reaches c.reclaim.ensures.only c.reclaim.ensures.reclaimed _ c.in-Some-find_loan.at.slot c.in-Some-find_loan.ensures
       c.deliver_slot-count.result c.deliver_slot-count.new.self c.deliver_slot-count.ensures;
 }
 
 pub returns : goal.returns
 returns g c =
     sends-loan c.args.self.now c.requires.agrees c.args.publisher c.args.number c.in-Some.place c.requires.held c.in-Some.ensures c.update_publisher.new.self c.update_publisher.ensures
-    c.reclaim.new.self c.reclaim.ensures.reaches c.reclaim.ensures.only c.reclaim.ensures.reclaimed _ c.in-Some-find_loan.slot c.in-Some-find_loan.ensures
+    c.reclaim.new.self c.reclaim.ensures.reaches c.reclaim.ensures.only c.reclaim.ensures.reclaimed _ c.in-Some-find_loan.at.slot c.in-Some-find_loan.ensures
     c.deliver_slot-count.result c.deliver_slot-count.new.self c.deliver_slot-count.ensures c.end_send.new.self c.end_send.ensures
