@@ -1,8 +1,9 @@
 -- A receive, seen from outside.
-use Rattle.std.proofs.Common.{◌≡◌, ℕ, get_or, ap, sym, subst, ◌∙◌, Option, Some, None, Result, Ok}
+use Rattle.std.proofs.Common.{◌≡◌, ℕ, get_or, ap, sym, subst, ◌∙◌, Option, Some, None, Result, Ok, Err}
+use Rattle.std.specs.Prelude.{IsErrAnd}
 use Rattle.iox2_store.specs.Environments.{fixed_handlers}
 use Rattle.iox2_store.specs.Mailbox.{is_borrowed}
-use Rattle.iox2_store.specs.Receives.{Got_sample, Receive}
+use Rattle.iox2_store.specs.Receives.{ReceiveResult, Got_sample, Receive_error, Receive}
 use Rattle.iox2_store.specs.State.{State, Messages}
 use Rattle.iox2_store.specs.declared.errors.ReceiveError.{ReceiveError}
 use Rattle.iox2_store.specs.declared.service_config.ServiceConfig.{ServiceConfig}
@@ -10,6 +11,8 @@ use Rattle.iox2_laws.proofs.LoanKeeping.{receive_loans}
 use Rattle.iox2_laws.proofs.ReceiveLaws.{receive_advances}
 use Rattle.iox2_domain.specs.Ports.{SubscriberFields}
 use Rattle.iox2_pubsub.specs.Handles.{IsSubscriberHandle, IsSampleHandle}
+use Rattle.iox2_pubsub.specs.ReceivedSamples.{received, IsHeldIfAny}
+use Rattle.iox2_pubsub.specs.declared.sample.Sample.{Sample}
 use Rattle.iox2_domain.specs.Shows.{Shows}
 use Rattle.iox2_domain.specs.Kept.{Kept, state_of}
 use Rattle.iox2_domain.specs.Fields.{Fields, kept_of}
@@ -50,3 +53,22 @@ module _ {T U : Type 0} where
   reception-at f g place q q' result result' found same is receives =
       subst (λ (r : Result (Option Receipt) ReceiveError). ReceivesAs f q r g) is
       (subst (λ (r : ℕ). ReceivesAs f r result g) (found.2 ∙ same) (receives found.0 found.1))
+
+-- ---- a receive that failed
+
+-- what is answered is that error
+error-answered : (r : Result (Option Sample) ReceiveError) (e : ReceiveError) → IsErrAnd r (λ e'. e' ≡ e) → received r ≡ Receive_error e
+error-answered (Ok sample) e same = absurd same
+error-answered (Err e') e same = ap Receive_error same
+
+module _ {T U : Type 0} (kept : Kept T U) (f g : Fields T U) (view : kept_of f ≡ kept) (q : ℕ) (e : ReceiveError) (receives : ReceivesAs f q (Err e) g)
+    (r : Result (Option Sample) ReceiveError) (same : IsErrAnd r (λ e'. e' ≡ e)) where
+  pub error-shows : (m : Messages T U) (s : State T U) → Shows kept m s → (s' : State T U) × Shows (kept_of g) m s' × Receive fixed_handlers s q s' (received r)
+  error-shows m s shown =
+      subst (λ (answer : ReceiveResult). (s' : State T U) × Shows (kept_of g) m s' × Receive fixed_handlers s q s' answer) (sym (error-answered r e same))
+      (reception-shows kept f g view q (Err e) receives m s shown)
+
+-- and no sample is there to be held
+pub error-holds : {T U : Type 0} (kept : Kept T U) (q : ℕ) (e : ReceiveError) (r : Result (Option Sample) ReceiveError) → IsErrAnd r (λ e'. e' ≡ e) → IsHeldIfAny kept q r
+error-holds kept q e (Ok sample) same = absurd same
+error-holds kept q e (Err e') same = tt

@@ -35,10 +35,7 @@ impl Subscriber {
         let Some(place) = domain.state.find_subscriber(self.id.value(), self.place) else {
             unreachable!()
         };
-        let receipt = match domain.state.receive_at(place) {
-            Ok(receipt) => receipt,
-            Err(error) => return Err(error),
-        };
+        let receipt = domain.state.receive_at(place)?;
         let Some(receipt) = receipt else {
             return Ok(None);
         };
