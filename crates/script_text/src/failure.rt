@@ -1,7 +1,7 @@
 ghost use Rattle.std.specs.Prelude.{◌≡◌, Some};
 ghost use Rattle.script_text.specs.Failures.{error_text, status_of};
 
-use std::alloc::{AllocError, AllocFailed};
+use std::alloc::AllocError;
 use std::fmt;
 
 /// Why a script has no replies, or not all of them are printed.
@@ -50,17 +50,6 @@ impl From<AllocError> for ScriptError {
     ghost from_gives = { λ refusal error. error ≡ OutOfMemory };
 
     fn from(_refusal: AllocError) -> Self {
-        ScriptError::OutOfMemory
-    }
-}
-
-impl<T: Drop> From<AllocFailed<T>> for ScriptError {
-    ghost use Rattle.std.specs.Prelude.{◌≡◌};
-    ghost use Rattle.script_text.specs.declared.failure.ScriptError.TheVariants.{OutOfMemory};
-
-    ghost from_gives = { λ refusal error. error ≡ OutOfMemory };
-
-    fn from(_refusal: AllocFailed<T>) -> Self {
         ScriptError::OutOfMemory
     }
 }

@@ -45,7 +45,7 @@ impl Script {
             let Some(command) = command_of(line) else {
                 return Err(ScriptError::BadCommand(commands.len() + 2));
             };
-            commands.push(command)?;
+            commands.push_reserved(command);
         }
         Ok(Script { config, commands })
     }

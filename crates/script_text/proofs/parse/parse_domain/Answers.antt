@@ -1,0 +1,16 @@
+use Rattle.std.proofs.Common.{rules}
+use Rattle.script_text.specs.Commands.{script_config}
+use Rattle.script_text.proofs.parse.parse_domain.Goals as goal
+
+pub returns-clause-reads : goal.returns-clause-reads
+returns-clause-reads c = record {
+  form = search rules;
+  publishers = search rules;
+  subscribers = search rules;
+  buffer = search rules;
+  borrowed = search rules;
+  history = search rules;
+  expired = search rules;
+  keep = search rules;
+  settings = λ k. script_config (c.in_ok-parse_size-4.ensures.value k) (c.in_ok-parse_size-5.ensures.value k) (c.in_ok-parse_size-6.ensures.value k);
+}
