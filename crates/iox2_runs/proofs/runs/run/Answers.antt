@@ -1,4 +1,4 @@
-use Rattle.std.proofs.Common.{◌≡◌, ◌<◌, ◌+◌, arith, length, List, [], ◌∷◌, ◌++◌, take, get_or, sym, ap, subst, ◌∙◌}
+use Rattle.std.proofs.Common.{◌≡◌, ◌<◌, ◌+◌, arith, length, List, [], ◌∷◌, ◌++◌, take, get_or, refl, sym, ap, subst, ◌∙◌}
 use Rattle.std.proofs.lemmas.List.{take_more, take_all}
 use Rattle.std.proofs.lemmas.List.Elements.{All-get_or}
 use Rattle.iox2_runs.specs.Holdings.{defaults_of}
@@ -59,3 +59,6 @@ returns-clause-ran g c =
     let all : take i xs ≡ xs = take_all i xs (omega (arith, ap length c.deref-command-items.ensures.value, c.loop-command-test.false)) in
     rw all at (is_run {T = g.row.T.Denot} {U = g.row.U.Denot} (defaults_of g.T.Default.is_default g.U.Default.is_default) c.args.domain.now c.loop-command.domain
     (take i xs) c.loop-command.replies.items c.loop-command.table.items c.loop-command.invariant.ran)
+
+pub returns-in_default-with_capacity-clause-refused : goal.returns-in_default-with_capacity-clause-refused
+returns-in_default-with_capacity-clause-refused g c = (refl, refl)
