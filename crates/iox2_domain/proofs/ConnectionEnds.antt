@@ -46,8 +46,8 @@ module _ {T U : Type 0} (f : Fields T U) (sound : IsDomain f) where
     by : SenderHas f.publishers key c ⊎ ReceiverHas f.subscribers key c → c.home.subscriber < f.next_port
     by (inl has) =
         let x = has.publisher in
-        let leads : occupant (sender_ends f.connections x.places) c.home.subscriber_place ≡ Some c.home.subscriber =
-        occupant-sender_ends f.connections x.places c.home.subscriber_place
+        let leads : occupant (sender_ends f.connections x.keys) c.home.subscriber_place ≡ Some c.home.subscriber =
+        occupant-sender_ends f.connections x.keys c.home.subscriber_place
         ∙ ap (subscriber_at f.connections) has.has
         ∙ ap (option_map (λ (d : Link). d.home.subscriber)) at in
         (sound.well_formed.publishers x.id _ (publisher-stands c.home.publisher_place x has.stands)).ends_known c.home.subscriber (c.home.subscriber_place, leads)

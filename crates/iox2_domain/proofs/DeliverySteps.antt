@@ -62,7 +62,7 @@ never-waits e c p strategy buffers n ends boxes b boxes' discards h =
 
 module _ {T U : Type 0} (f : Fields T U) (parts : HasParts f) (i : ℕ) (x : PublisherFields) (stands : get_or f.publishers i None ≡ Some x) where
   -- a publisher that reclaimed its slots may deliver
-  pub ready-to-deliver : HasReclaimed f.connections x.places → IsReadyToDeliver x.id f.connections x.places (map (option_map details_of) f.subscribers)
+  pub ready-to-deliver : HasReclaimed f.connections x.keys → IsReadyToDeliver x.id f.connections x.keys (map (option_map details_of) f.subscribers)
   ready-to-deliver reclaimed = record {
     linked = sender-linked f parts i x stands;
     apart = parts.apart;
@@ -77,7 +77,7 @@ module _ {T U : Type 0} (before f : Fields T U) (same : f ≡ before) (i : ℕ) 
       → (slot count : ℕ)
       → ((number : ℕ → ℕ → ℕ)
       → Deliver fixed_handlers f.config y.id y.strategy None (buffers_of (map (option_map details_of) f.subscribers)) (number y.id slot)
-      0 no_time 0 (sender_ends f.connections y.places) 0 false (mailboxes_of number f.connections y.id) (Complete count false) (mailboxes_of number new y.id))
+      0 no_time 0 (sender_ends f.connections y.keys) 0 false (mailboxes_of number f.connections y.id) (Complete count false) (mailboxes_of number new y.id))
       → (x : PublisherFields) → get_or before.publishers i None ≡ Some x
       → DeliversTo before x slot count (record f { connections = new; books = with_value f.books y.book book })
   delivers-to b book at new is r slot count delivers x there =

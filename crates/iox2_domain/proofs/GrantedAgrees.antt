@@ -72,7 +72,7 @@ module _ {T U : Type 0} (f : Fields T U) (sound : IsDomain f) (i : ℕ) (x : Pub
     initial_max_slice_len = refl;
     loan_room = le_refl x.loan_room;
     history_room = refl;
-    place_room = le_refl x.place_room;
+    key_room = le_refl x.key_room;
   }
 
   -- ---- books
@@ -235,7 +235,7 @@ module _ {T U : Type 0} (f : Fields T U) (sound : IsDomain f) (i : ℕ) (x : Pub
 
   -- ---- the whole
 
-  module _ (reclaimed : HasReclaimed f.connections x.places) (few : length x.loans < x.max_loaned_samples) (more : f.next_message < last_number) where
+  module _ (reclaimed : HasReclaimed f.connections x.keys) (few : length x.loans < x.max_loaned_samples) (more : f.next_message < last_number) where
     few_numbers : length machine.loans < machine.max_loaned_samples
     few_numbers = let e = length-map x.loans (numbers_of f.books x.id) in omega arith
 
@@ -260,7 +260,7 @@ module _ {T U : Type 0} (f : Fields T U) (sound : IsDomain f) (i : ℕ) (x : Pub
       publisher_ids = changed-ids_apart mid i x new_lender at refl sound.publisher_ids;
       subscriber_ids = sound.subscriber_ids;
       apart = sound.apart;
-      linked = changed-linked_same mid i x new_lender at refl linked keeps.place_room refl;
+      linked = changed-linked_same mid i x new_lender at refl linked keeps.key_room refl;
       books = changed-books mid i x new_lender at refl taken-books keeps;
       counted = granted-counted;
       numbered = taken-numbered f sound x slot can user_header;

@@ -40,7 +40,7 @@ module _ {T U : Type 0} (f : Fields T U) (i j : ℕ) (x : PublisherFields) (y : 
     subscribers = slice_set f.subscribers j (Some (with_receiver_room m y));
   }
 
-  module _ (sound : IsDomain f) (at_x : get_or f.publishers i None ≡ Some x) (at_y : get_or f.subscribers j None ≡ Some y) (more_x : x.place_room ≤ n) (more_y : y.place_room ≤ m) where
+  module _ (sound : IsDomain f) (at_x : get_or f.publishers i None ≡ Some x) (at_y : get_or f.subscribers j None ≡ Some y) (more_x : x.key_room ≤ n) (more_y : y.key_room ≤ m) where
     -- the publisher's room alone
     abbrev sender : Fields T U
     sender = record f { publishers = slice_set f.publishers i (Some (with_sender_room n x)) }
@@ -60,13 +60,13 @@ module _ {T U : Type 0} (f : Fields T U) (i j : ℕ) (x : PublisherFields) (y : 
 
     sender-sound : IsDomain sender
     sender-sound =
-        sender-agrees f sound i x at_x x.places n x.is_due f.connections f.warnings (fits-grown f sound i x at_x f.connections.capacity n more_x) sound.warning_room
+        sender-agrees f sound i x at_x x.keys n x.is_due f.connections f.warnings (fits-grown f sound i x at_x f.connections.capacity n more_x) sound.warning_room
         (subst IsWellFormed (sym sender-state) sound.well_formed)
 
     -- the fields agree
     pub grown-sound : IsDomain grown
     grown-sound =
-        receiver-agrees sender sender-sound j y at_y y.places m y.is_due f.connections f.warnings (receiver_fits-grown sender sender-sound j y at_y f.connections.capacity m more_y) sound.warning_room
+        receiver-agrees sender sender-sound j y at_y y.keys m y.is_due f.connections f.warnings (receiver_fits-grown sender sender-sound j y at_y f.connections.capacity m more_y) sound.warning_room
         (subst IsWellFormed (sym grown-state) sound.well_formed)
 
     abbrev P : Publisher
@@ -80,10 +80,10 @@ module _ {T U : Type 0} (f : Fields T U) (i j : ℕ) (x : PublisherFields) (y : 
     sender-from f' step = record {
       agrees = step.agrees;
       keys = step.keys;
-      place_room = step.place_room;
+      key_room = step.key_room;
       fields = step.fields
           ∙ ap (λ (xs : List (Option PublisherFields)). record f { publishers = xs; subscribers = f'.subscribers; connections = f'.connections; warnings = f'.warnings })
-          (set-set f.publishers i (Some (with_sender_room n x)) (Some (record x { places = step.keys; place_room = step.place_room })));
+          (set-set f.publishers i (Some (with_sender_room n x)) (Some (record x { keys = step.keys; key_room = step.key_room })));
       others = step.others ∙ same-shown subscriber_but_room f.subscribers j y (with_receiver_room m y) at_y refl;
       side = step.side;
       steps = subst (λ (s : State T U). UpdateSenderPlace fixed_handlers (f.config).service_id x.id P.degradation_handler P.history (receiving_buffer s) (has_receiver_end s x.id)
@@ -96,10 +96,10 @@ module _ {T U : Type 0} (f : Fields T U) (i j : ℕ) (x : PublisherFields) (y : 
     receiver-from f' step = record {
       agrees = step.agrees;
       keys = step.keys;
-      place_room = step.place_room;
+      key_room = step.key_room;
       fields = step.fields
           ∙ ap (λ (ys : List (Option SubscriberFields)). record f { subscribers = ys; publishers = f'.publishers; connections = f'.connections; warnings = f'.warnings })
-          (set-set f.subscribers j (Some (with_receiver_room m y)) (Some (record y { places = step.keys; place_room = step.place_room })));
+          (set-set f.subscribers j (Some (with_receiver_room m y)) (Some (record y { keys = step.keys; key_room = step.key_room })));
       others = step.others ∙ same-shown publisher_but_room f.publishers i x (with_sender_room n x) at_x refl;
       side = step.side;
       settled = step.settled;

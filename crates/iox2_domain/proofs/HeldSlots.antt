@@ -137,7 +137,7 @@ module _ {T U : Type 0} (f : Fields T U) (sound : IsDomain f) where
         (record { book = its_book.book; stands = its_book.stands; held = held_j; number = sym (numbers-are j) ∙ same })
         (record { book = its_book.book; stands = its_book.stands; held = held_k; number = sym (numbers-are k) })).1
 
-    module _ (reclaimed : HasReclaimed f.connections x.places) where
+    module _ (reclaimed : HasReclaimed f.connections x.keys) where
       -- no slot of it that was given back isn't reclaimed
       none_returned : (key : ℕ) (c : Link) → get f.connections key ≡ Some c → c.home.publisher ≡ x.id → c.returned ≡ []
       none_returned key c at_c its = elim (sound.linked.returned key c at_c) [
@@ -148,7 +148,7 @@ module _ {T U : Type 0} (f : Fields T U) (sound : IsDomain f) where
             let stood : get_or f.publishers i None ≡ Some has.publisher = subst (λ (k : ℕ). get_or f.publishers k None ≡ Some has.publisher) here has.stands in
             let same : Some has.publisher ≡ Some x = sym stood ∙ at in
             let is : has.publisher ≡ x = cc in
-            reclaimed.at c.home.subscriber_place key c (ap (λ (z : PublisherFields). get_or z.places c.home.subscriber_place None) (sym is) ∙ has.has) at_c
+            reclaimed.at c.home.subscriber_place key c (ap (λ (z : PublisherFields). get_or z.keys c.home.subscriber_place None) (sym is) ∙ has.has) at_c
         | inr none ↦ none
       ]
 

@@ -75,7 +75,7 @@ module _ {T U : Type 0} (f : Fields T U) (sound : IsDomain f) (i : ℕ) (x : Pub
       ap (λ (c : Book). length c.holders) (sym (its-book b stands))
       ∙ (its_book f sound i x at).no_more (ap is_static (sound.plain i x at).allocation)
 
-  module _ (reclaimed : HasReclaimed f.connections x.places) (few : length x.loans < x.max_loaned_samples) (b : Book) (stands : get f.books x.book ≡ Some b) where
+  module _ (reclaimed : HasReclaimed f.connections x.keys) (few : length x.loans < x.max_loaned_samples) (b : Book) (stands : get f.books x.book ≡ Some b) where
     few_numbers : length machine.loans < machine.max_loaned_samples
     few_numbers = let e = as_many in omega arith
 
@@ -114,7 +114,7 @@ module _ {T U : Type 0} (f : Fields T U) (sound : IsDomain f) (i : ℕ) (x : Pub
   pub decided-limited : x.max_loaned_samples ≤ length x.loans → LoanDecided f i (Some ExceedsMaxLoans)
   decided-limited many = decided (Some ExceedsMaxLoans) (λ user_header. limited user_header many)
 
-  module _ (reclaimed : HasReclaimed f.connections x.places) (few : length x.loans < x.max_loaned_samples) (b : Book) (stands : get f.books x.book ≡ Some b) where
+  module _ (reclaimed : HasReclaimed f.connections x.keys) (few : length x.loans < x.max_loaned_samples) (b : Book) (stands : get f.books x.book ≡ Some b) where
     pub decided-full : All (λ n. 0 < n) b.holders → LoanDecided f i (Some OutOfMemory)
     decided-full all = decided (Some OutOfMemory) (λ user_header. full reclaimed few b stands user_header all)
 
@@ -125,7 +125,7 @@ module _ {T U : Type 0} (f : Fields T U) (sound : IsDomain f) (i : ℕ) (x : Pub
     decided-free not_all more = decided None (record { publisher = x; book = b; stands = at; its = stands; few = few; some_free = not_all; more = more })
 
   -- a slot is lent
-  module _ (reclaimed : HasReclaimed f.connections x.places) (few : length x.loans < x.max_loaned_samples) (more : f.next_message < last_number)
+  module _ (reclaimed : HasReclaimed f.connections x.keys) (few : length x.loans < x.max_loaned_samples) (more : f.next_message < last_number)
       (is_default : U → Type 0) (slot : ℕ) (new : Fields T U) (lends : Lends is_default f i x slot new) where
     abbrev user_header : U
     user_header = lends.starts.user_header

@@ -109,7 +109,7 @@ module _ {T U : Type 0} (f : Fields T U) (sound : IsDomain f) (i : ℕ) (x : Pub
   loan-not-kept = absent-times (numbers_of f.books x.id) n slot loan-number x.history.items (well.is_out _ standing).1
 
   -- it stands in no connection, where all was reclaimed
-  loan-not-sent : HasReclaimed f.connections x.places → (key : ℕ) (c : Link) → get f.connections key ≡ Some c → c.home.publisher ≡ x.id → stands_in slot c ≡ 0
+  loan-not-sent : HasReclaimed f.connections x.keys → (key : ℕ) (c : Link) → get f.connections key ≡ Some c → c.home.publisher ≡ x.id → stands_in slot c ≡ 0
   loan-not-sent reclaimed key c at mine =
       let absent = ap (λ box. contains (numbers_in box) n)
       (sym (mailboxes-are f x.id c.home.subscriber ∙ mailbox-there (numbers_of f.books) f.connections key x.id c.home.subscriber c sound.apart at mine refl))
@@ -128,10 +128,10 @@ module _ {T U : Type 0} (f : Fields T U) (sound : IsDomain f) (i : ℕ) (x : Pub
           ∙ has.stands in
           let same : Some x ≡ Some has.publisher = sym here ∙ at_x in
           let is : x ≡ has.publisher = cc in
-          reclaimed.at c.home.subscriber_place key c (ap (λ (y : PublisherFields). get_or y.places c.home.subscriber_place None) is ∙ has.has) at
+          reclaimed.at c.home.subscriber_place key c (ap (λ (y : PublisherFields). get_or y.keys c.home.subscriber_place None) is ∙ has.has) at
 
   -- so it has one holder
-  pub loan-alone : HasReclaimed f.connections x.places → (b : Book) → get f.books x.book ≡ Some b → holders_at b slot ≡ 1
+  pub loan-alone : HasReclaimed f.connections x.keys → (b : Book) → get f.books x.book ≡ Some b → holders_at b slot ≡ 1
   loan-alone reclaimed b at =
       let own = book-own f (parts_of f sound) i x here b at in
       let now : holders_of f.books x.id slot ≡ holders_at b slot = ap (λ (p : ℕ). holders_of f.books p slot) (sym own) ∙ holders-at f sound x.book slot b at in

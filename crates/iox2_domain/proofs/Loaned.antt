@@ -42,7 +42,7 @@ module _ {T U : Type 0} (is_default : U → Type 0) (f mid : Fields T U) (sound 
   may-lend free = subst (λ (o : Option PublisherFields). IsSomeAnd o (λ z. CanLend mid i)) at_mid free
 
   -- a slot is lent
-  pub loan-lent : (reclaimed : (z : PublisherFields) → get_or f.publishers i None ≡ Some z → HasReclaimed mid.connections z.places) → LoanDecided mid i None → (slot : ℕ) (new : Fields T U)
+  pub loan-lent : (reclaimed : (z : PublisherFields) → get_or f.publishers i None ≡ Some z → HasReclaimed mid.connections z.keys) → LoanDecided mid i None → (slot : ℕ) (new : Fields T U)
       → IsSomeAnd (get_or mid.publishers i None) (λ z. Lends is_default mid i z slot new)
       → IsSomeAnd (get_or f.publishers i None) (λ z. LoanReaches is_default f z (Ok slot) new)
   loan-lent reclaimed free slot new lends =
@@ -80,7 +80,7 @@ module _ {T U : Type 0} (is_default : U → Type 0) (f mid : Fields T U) (sound 
           ))
 
   -- the loan lies in the slot that is lent
-  pub loan-lies : (reclaimed : (z : PublisherFields) → get_or f.publishers i None ≡ Some z → HasReclaimed mid.connections z.places) → LoanDecided mid i None → (slot : ℕ) (new : Fields T U)
+  pub loan-lies : (reclaimed : (z : PublisherFields) → get_or f.publishers i None ≡ Some z → HasReclaimed mid.connections z.keys) → LoanDecided mid i None → (slot : ℕ) (new : Fields T U)
       → IsSomeAnd (get_or mid.publishers i None) (λ z. Lends is_default mid i z slot new)
       → IsSomeAnd (get_or f.publishers i None) (λ z. (key : ℕ) × LiesInSlot new z.id f.next_message key slot)
   loan-lies reclaimed free slot new lends =

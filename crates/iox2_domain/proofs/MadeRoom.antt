@@ -42,7 +42,7 @@ keeps-receiver-room ys at = record {
   same = sym (ap (slice_set ys at) (by (get_or ys at None)) ∙ set-get_or ys at None);
   grows = le_refl (receiver_room ys at);
 } where
-  by : (o : Option SubscriberFields) → option_map (with_receiver_room (option_map_or (λ (y : SubscriberFields). y.place_room) o 0)) o ≡ o
+  by : (o : Option SubscriberFields) → option_map (with_receiver_room (option_map_or (λ (y : SubscriberFields). y.key_room) o 0)) o ≡ o
   by None = refl
   by (Some y) = refl
 

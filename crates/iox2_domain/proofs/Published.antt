@@ -149,7 +149,7 @@ module _ {T U : Type 0} (f : Fields T U) (sound : IsDomain f) (i : ℕ) (x : Pub
   port-is = λ t. record port {
     loans = map (numbers-are t x.id) x.loans;
     history = map (numbers-are t x.id) (x.history).items;
-    ends = map (same-subscriber_at f.connections d.connections d.recounts.homes t) x.places;
+    ends = map (same-subscriber_at f.connections d.connections d.recounts.homes t) x.keys;
   }
 
   -- the publisher without the loan

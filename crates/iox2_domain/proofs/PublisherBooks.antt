@@ -28,7 +28,7 @@ module _ {T U : Type 0} (f : Fields T U) (parts : HasParts f) (i : ℕ) (x : Pub
   book-own b at = let same : Some b ≡ Some its_book.book = sym at ∙ its_book.stands in let is : b ≡ its_book.book = cc in ap (λ (c : Book). c.publisher) is ∙ its_book.is_its
 
   -- its places lead to its connections
-  pub sender-linked : IsSenderLinked x.id f.connections x.places
+  pub sender-linked : IsSenderLinked x.id f.connections x.keys
   sender-linked = parts.linked.senders i x stands
 
   -- its book counts each place where a slot of it stands

@@ -41,7 +41,7 @@ pub record KeepsSettings (x y : PublisherFields) : Type 0 where
   pub initial_max_slice_len : y.initial_max_slice_len ≡ x.initial_max_slice_len
   pub loan_room : x.loan_room ≤ y.loan_room
   pub history_room : (y.history).capacity ≡ (x.history).capacity
-  pub place_room : x.place_room ≤ y.place_room
+  pub key_room : x.key_room ≤ y.key_room
 
 -- ---- lists with a record at each place
 
@@ -166,9 +166,9 @@ module _ {T U : Type 0} (f : Fields T U) (i : ℕ) (x y : PublisherFields) (at :
   -- ---- what holds still, part by part
 
   -- its connections still know it, where the new places have those keys of the old ones that lead to connections of its own
-  pub changed-linked : IsLinked f → x.place_room ≤ y.place_room → IsSenderLinked y.id f.connections y.places
-      → ((key : ℕ) (c : Link) → get f.connections key ≡ Some c → c.home.publisher ≡ x.id → get_or x.places c.home.subscriber_place None ≡ Some key
-      → get_or y.places c.home.subscriber_place None ≡ Some key)
+  pub changed-linked : IsLinked f → x.key_room ≤ y.key_room → IsSenderLinked y.id f.connections y.keys
+      → ((key : ℕ) (c : Link) → get f.connections key ≡ Some c → c.home.publisher ≡ x.id → get_or x.keys c.home.subscriber_place None ≡ Some key
+      → get_or y.keys c.home.subscriber_place None ≡ Some key)
       → IsLinked (with_publisher f i y)
   changed-linked linked room sender still = record {
     senders = λ k z here. elim (changed-was k z here) [ inl is ↦ rw is.1 sender | inr away ↦ linked.senders k z away.1 ];
@@ -183,7 +183,7 @@ module _ {T U : Type 0} (f : Fields T U) (i : ℕ) (x y : PublisherFields) (at :
     ];
     sender_rooms = λ key k c z at_c at_z same. elim (changed-was k z at_z) [
       | inl is ↦
-          let low : c.home.subscriber_place < x.place_room = linked.sender_rooms key k c x at_c (rw is.0 at) (sym id ∙ sym (ap (λ (w : PublisherFields). w.id) is.1) ∙ same) in
+          let low : c.home.subscriber_place < x.key_room = linked.sender_rooms key k c x at_c (rw is.0 at) (sym id ∙ sym (ap (λ (w : PublisherFields). w.id) is.1) ∙ same) in
           rw is.1 (omega arith)
       | inr away ↦ linked.sender_rooms key k c z at_c away.1 same
     ];
@@ -199,7 +199,7 @@ module _ {T U : Type 0} (f : Fields T U) (i : ℕ) (x y : PublisherFields) (at :
             publisher = y;
             stands = rw is.0 changed-here;
             is_its = id ∙ sym its;
-            has = still key c at_c its (ap (λ (w : PublisherFields). get_or w.places c.home.subscriber_place None) (sym is.1) ∙ has.has);
+            has = still key c at_c its (ap (λ (w : PublisherFields). get_or w.keys c.home.subscriber_place None) (sym is.1) ∙ has.has);
           }
       | inr away ↦ record { publisher = has.publisher; stands = away.1; is_its = has.is_its; has = has.has }
     ]
@@ -215,7 +215,7 @@ module _ {T U : Type 0} (f : Fields T U) (i : ℕ) (x y : PublisherFields) (at :
     reclaims key c at_c (inr none) = inr none
 
   -- with its old places it is linked as before
-  pub changed-linked_same : IsLinked f → x.place_room ≤ y.place_room → y.places ≡ x.places → IsLinked (with_publisher f i y)
+  pub changed-linked_same : IsLinked f → x.key_room ≤ y.key_room → y.keys ≡ x.keys → IsLinked (with_publisher f i y)
   changed-linked_same linked room same =
       changed-linked linked room (rw (id, same) (linked.senders i x at)) (λ key c at_c its has. ap (λ (ps : List (Option ℕ)). get_or ps c.home.subscriber_place None) same ∙ has)
 

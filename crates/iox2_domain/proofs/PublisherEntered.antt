@@ -28,17 +28,17 @@ use Rattle.iox2_domain.proofs.NewBook.{messages-same, publishers-shown, connecti
 use mathlib.Core.Path.{fun_ext}
 
 -- A new publisher enters these fields at the place, with so many slots, and the book at the key.
-pub record PublisherEnters {T U : Type 0} (f : Fields T U) (place loans loan_room place_room key : ℕ)
+pub record PublisherEnters {T U : Type 0} (f : Fields T U) (place loans loan_room key_room key : ℕ)
     (books : Slab Book) (contents : List (Option (List (ContentState T U)))) : Type 0 where
   pub sound : IsDomain f
   pub free : get_or f.publishers place None ≡ None
   pub book : BookEnters f.next_port (worst_case f.config loans) (f.config).units_per_element key f.books f.contents books contents
 
-module _ {T U : Type 0} (f : Fields T U) (place loans loan_room place_room key : ℕ) (books : Slab Book) (contents : List (Option (List (ContentState T U))))
-    (enters : PublisherEnters f place loans loan_room place_room key books contents) where
+module _ {T U : Type 0} (f : Fields T U) (place loans loan_room key_room key : ℕ) (books : Slab Book) (contents : List (Option (List (ContentState T U))))
+    (enters : PublisherEnters f place loans loan_room key_room key books contents) where
   -- the publisher that enters
   abbrev pub newcomer : PublisherFields
-  newcomer = entering_publisher f.next_port place key loans (worst_case f.config loans) loan_room (buffer [] (f.config).history_size) place_room
+  newcomer = entering_publisher f.next_port place key loans (worst_case f.config loans) loan_room (buffer [] (f.config).history_size) key_room
 
   -- the fields with it and its book
   abbrev pub with_publisher : Fields T U

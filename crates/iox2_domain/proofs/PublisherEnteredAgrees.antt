@@ -39,13 +39,13 @@ length-replicate : (n : ℕ) → length (replicate {A = ℕ} n 0) ≡ n
 length-replicate zero = refl
 length-replicate (suc n) = ap suc (length-replicate n)
 
-module _ {T U : Type 0} (f : Fields T U) (place loans loan_room place_room key : ℕ) (books : Slab Book) (contents : List (Option (List (ContentState T U))))
-    (enters : PublisherEnters f place loans loan_room place_room key books contents) where
+module _ {T U : Type 0} (f : Fields T U) (place loans loan_room key_room key : ℕ) (books : Slab Book) (contents : List (Option (List (ContentState T U))))
+    (enters : PublisherEnters f place loans loan_room key_room key books contents) where
   abbrev new : PublisherFields
-  new = newcomer f place loans loan_room place_room key books contents enters
+  new = newcomer f place loans loan_room key_room key books contents enters
 
   abbrev after : Fields T U
-  after = with_publisher f place loans loan_room place_room key books contents enters
+  after = with_publisher f place loans loan_room key_room key books contents enters
 
   abbrev slots : ℕ
   slots = worst_case f.config loans
@@ -54,10 +54,10 @@ module _ {T U : Type 0} (f : Fields T U) (place loans loan_room place_room key :
   units = (f.config).units_per_element
 
   was : (i : ℕ) (x : PublisherFields) → get_or (placed f.publishers place new) i None ≡ Some x → ((i ≡ place) × (x ≡ new)) ⊎ (get_or f.publishers i None ≡ Some x)
-  was i x at = stood f place loans loan_room place_room key books contents enters i x at
+  was i x at = stood f place loans loan_room key_room key books contents enters i x at
 
   stands_still : (i : ℕ) (x : PublisherFields) → get_or f.publishers i None ≡ Some x → get_or (placed f.publishers place new) i None ≡ Some x
-  stands_still i x at = still f place loans loan_room place_room key books contents enters i x at
+  stands_still i x at = still f place loans loan_room key_room key books contents enters i x at
 
   -- a new publisher has no connection
   unlinked : (p : ℕ) → IsSenderLinked p f.connections []
@@ -161,7 +161,7 @@ module _ {T U : Type 0} (f : Fields T U) (place loans loan_room place_room key :
     owns : (p slot : ℕ) → own_holders after p slot
         ≡ own slot (cond (eqb f.next_port p) (Some new) (look_up (is_publisher p) f.publishers)) (cond (eqb f.next_port p) (Some enters.book.book) (look_up (is_book_of p) f.books.slots))
     owns p slot =
-        ap (λ o. own slot o (look_up (is_book_of p) books.slots)) (publisher-found f place loans loan_room place_room key books contents enters p)
+        ap (λ o. own slot o (look_up (is_book_of p) books.slots)) (publisher-found f place loans loan_room key_room key books contents enters p)
         ∙ ap (own slot (cond (eqb f.next_port p) (Some new) (look_up (is_publisher p) f.publishers))) (book-found f enters.sound slots units key books contents enters.book p)
 
     by : (p slot : ℕ) (b : Bool) → eqb f.next_port p ≡ b
@@ -230,7 +230,7 @@ module _ {T U : Type 0} (f : Fields T U) (place loans loan_room place_room key :
 
   -- who holds a message held it before
   pub held_still : (p n : ℕ) → IsHeldMessage (state_of (kept_of after)) p n → IsHeldMessage (state_of (kept_of f)) p n
-  held_still p n held = by (subst (λ (s : State T U). IsHeldMessage s p n) (entered-is f place loans loan_room place_room key books contents enters) held) where
+  held_still p n held = by (subst (λ (s : State T U). IsHeldMessage s p n) (entered-is f place loans loan_room key_room key books contents enters) held) where
     by : IsHeldMessage s' p n → IsHeldMessage (state_of (kept_of f)) p n
     by (In_history y at is) = elim (held_by p y (eqb p f.next_port) at) [
       | inl e ↦ absurd (let no : false ≡ true = sym (ap (λ (z : Publisher). contains z.history n) e) ∙ is in cc)
@@ -249,7 +249,7 @@ module _ {T U : Type 0} (f : Fields T U) (place loans loan_room place_room key :
   -- the invariant is kept
   pub entered-agrees : HasPublisherRoom f.config new → place ≤ length f.publishers → IsWellFormed (state_of (kept_of after)) → IsDomain after
   entered-agrees rooms low well = record {
-    publisher_ids = ids_apart f place loans loan_room place_room key books contents enters;
+    publisher_ids = ids_apart f place loans loan_room key_room key books contents enters;
     subscriber_ids = enters.sound.subscriber_ids;
     apart = enters.sound.apart;
     linked = linked;

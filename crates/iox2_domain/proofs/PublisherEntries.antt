@@ -113,7 +113,7 @@ module _ {T U : Type 0} (f : Fields T U) where
 
   -- A publisher entered these fields, with its book and its contents.
   pub record HasEntered (loans slots place : ℕ) (x : PublisherFields) (book : Book) (slot_contents : List (ContentState T U)) (books : Slab Book) (before new : Fields T U) : Type 0 where
-    pub publisher : x ≡ entering_publisher before.next_port place (before.books).vacant_key loans slots x.loan_room (buffer [] (before.config).history_size) x.place_room
+    pub publisher : x ≡ entering_publisher before.next_port place (before.books).vacant_key loans slots x.loan_room (buffer [] (before.config).history_size) x.key_room
     pub room : HasPublisherRoom before.config x
     pub is_its : book.publisher ≡ before.next_port
     pub unused : book.holders ≡ replicate slots 0
@@ -152,9 +152,9 @@ module _ {T U : Type 0} (f : Fields T U) where
         contents_length = e.contents_length ∙ count;
         has_room = λ k d lt. let same = e.contents_room k d lt in omega arith;
       } in
-      let is : x ≡ entering_publisher f.next_port place key loans (worst_case f.config loans) x.loan_room (buffer [] (f.config).history_size) x.place_room =
-      e.publisher ∙ ap (λ n. entering_publisher f.next_port place key loans n x.loan_room (buffer [] (f.config).history_size) x.place_room) count in
-      let after : Fields T U = with_admitted f sound place loans x.loan_room x.place_room key books contents free enters in
+      let is : x ≡ entering_publisher f.next_port place key loans (worst_case f.config loans) x.loan_room (buffer [] (f.config).history_size) x.key_room =
+      e.publisher ∙ ap (λ n. entering_publisher f.next_port place key loans n x.loan_room (buffer [] (f.config).history_size) x.key_room) count in
+      let after : Fields T U = with_admitted f sound place loans x.loan_room x.key_room key books contents free enters in
       let same : new ≡ after = e.changed ∙ ap (λ (z : PublisherFields). record f {
         next_port = f.next_port + 1;
         publishers = placed f.publishers place z;
@@ -163,7 +163,7 @@ module _ {T U : Type 0} (f : Fields T U) where
         contents = contents;
       }) is in
       subst (λ (g : Fields T U). Reaches f g (with_new_publisher (state_of (kept_of f)) (plain_publisher loans) place)) (sym same)
-      (admitted-reaches f sound place loans x.loan_room x.place_room key books contents free enters (subst (HasPublisherRoom f.config) is e.room)
+      (admitted-reaches f sound place loans x.loan_room x.key_room key books contents free enters (subst (HasPublisherRoom f.config) is e.room)
       (subst (λ (p : ℕ). suc p ≤ (f.config).max_publishers) has.lowest (ltb-true _ _ has.low)) next)
 
   -- the same, where the fields are known by another name

@@ -80,7 +80,7 @@ module _ {T U : Type 0} (f : Fields T U) (sound : IsDomain f) (i : ℕ) (y : Sub
   its-result s' result takes = rw (subscriber-stands f sound i y at_y) takes
 
   -- a message is taken
-  pub takes-ready : (key : ℕ) (receipt : Receipt) (new : Fields T U) → Finds f.connections y.expired y.places (Found.Ready key) → TakesFrom f key receipt new → TakesAs f y.id (Ok (Some receipt)) new
+  pub takes-ready : (key : ℕ) (receipt : Receipt) (new : Fields T U) → Finds f.connections y.expired y.keys (Found.Ready key) → TakesFrom f key receipt new → TakesAs f y.id (Ok (Some receipt)) new
   takes-ready key receipt new finds from =
       let reached : Reaches f new (with_mailboxes (state_of (kept_of f)) (mailboxes_of (numbers_of f.books) new.connections)) =
       subst (λ (h : Fields T U). Reaches f h (with_mailboxes (state_of (kept_of f)) (mailboxes_of (numbers_of f.books) new.connections))) (sym from.only)
@@ -96,10 +96,10 @@ module _ {T U : Type 0} (f : Fields T U) (sound : IsDomain f) (i : ℕ) (y : Sub
       )
 
   -- none can be taken
-  pub takes-none : Finds f.connections y.expired y.places Found.Nothing → TakesAs f y.id (Ok None) f
+  pub takes-none : Finds f.connections y.expired y.keys Found.Nothing → TakesAs f y.id (Ok None) f
   takes-none finds = (state_of (kept_of f), reaches-same f sound, its-result (state_of (kept_of f)) (receive_result (Ok None)) (takes-nothing f sound i y at_y finds), tt)
 
-  pub takes-too_many : Finds f.connections y.expired y.places Found.AtLimit → TakesAs f y.id (Err ExceedsMaxBorrows) f
+  pub takes-too_many : Finds f.connections y.expired y.keys Found.AtLimit → TakesAs f y.id (Err ExceedsMaxBorrows) f
   takes-too_many finds = (state_of (kept_of f), reaches-same f sound, its-result (state_of (kept_of f)) (receive_result (Err ExceedsMaxBorrows)) (takes-at_limit f sound i y at_y finds), tt)
 
 -- ---- what a subscriber's place has
@@ -110,10 +110,10 @@ pub record HasKeys {T U : Type 0} (f now : Fields T U) (place : ℕ) (y : Subscr
   pub same : f ≡ now
   pub stands : get_or now.subscribers place None ≡ Some y
   pub expired_is : expired ≡ y.expired
-  pub places_is : places ≡ y.places
+  pub places_is : places ≡ y.keys
 
 pub has-keys : {T U : Type 0} (f now : Fields T U) (place : ℕ) (o : Option SubscriberFields) (y z : SubscriberFields) (expired : List ℕ) (places : List (Option ℕ)) → IsDomain now → f ≡ now
-    → (x : SubscriberFields) × (get_or now.subscribers place None ≡ Some x) → o ≡ get_or f.subscribers place o → o ≡ Some y → z ≡ y → expired ≡ z.expired → places ≡ z.places
+    → (x : SubscriberFields) × (get_or now.subscribers place None ≡ Some x) → o ≡ get_or f.subscribers place o → o ≡ Some y → z ≡ y → expired ≡ z.expired → places ≡ z.keys
     → HasKeys f now place y expired places
 has-keys {T} {U} f now place o y z expired places sound same stands read is is_y expired_is places_is =
     let at : get_or f.subscribers place None ≡ Some stands.0 = ap (λ (h : Fields T U). get_or h.subscribers place None) same ∙ stands.1 in
@@ -123,7 +123,7 @@ has-keys {T} {U} f now place o y z expired places sound same stands read is is_y
       same = same;
       stands = ap (λ (h : Fields T U). get_or h.subscribers place None) (sym same) ∙ sym there ∙ is;
       expired_is = expired_is ∙ ap (λ (w : SubscriberFields). w.expired) is_y;
-      places_is = places_is ∙ ap (λ (w : SubscriberFields). w.places) is_y;
+      places_is = places_is ∙ ap (λ (w : SubscriberFields). w.keys) is_y;
     }
 
 module _ {T U : Type 0} (f now : Fields T U) (place : ℕ) (z : SubscriberFields) (expired : List ℕ) (places : List (Option ℕ)) (has : HasKeys f now place z expired places) where
@@ -137,17 +137,17 @@ module _ {T U : Type 0} (f now : Fields T U) (place : ℕ) (z : SubscriberFields
   pub connected-places : HasConnections f.connections places
   connected-places =
       subst (HasConnections f.connections) (sym has.places_is)
-      (connected (now.config).subscriber_max_borrowed_samples z.id z.places ((has.sound).linked.receivers place z has.stands))
+      (connected (now.config).subscriber_max_borrowed_samples z.id z.keys ((has.sound).linked.receivers place z has.stands))
 
   pub connected-expired : HasConnections f.connections (map Some expired)
   connected-expired =
       subst (λ (keys : List ℕ). HasConnections f.connections (map Some keys)) (sym has.expired_is)
       (connected (now.config).subscriber_max_borrowed_samples z.id (map Some z.expired) ((has.sound).linked.expired place z has.stands))
 
-  finds-now : (found : Found) → Finds f.connections expired places found → Finds now.connections z.expired z.places found
+  finds-now : (found : Found) → Finds f.connections expired places found → Finds now.connections z.expired z.keys found
   finds-now found finds =
-      subst (λ (h : Fields T U). Finds h.connections z.expired z.places found) has.same
-      (subst (λ (keys : List ℕ). Finds f.connections keys z.places found) has.expired_is
+      subst (λ (h : Fields T U). Finds h.connections z.expired z.keys found) has.same
+      (subst (λ (keys : List ℕ). Finds f.connections keys z.keys found) has.expired_is
       (subst (λ (keys : List (Option ℕ)). Finds f.connections expired keys found) has.places_is finds))
 
   -- whoever stands at the place is the one

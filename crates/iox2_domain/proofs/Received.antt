@@ -39,7 +39,7 @@ module _ {T U : Type 0} (f : Fields T U) (sound : IsDomain f) (i : ℕ) (y : Sub
   receiver = (subscriber_of f.books f.connections y).port
 
   -- what it finds is what the machine's subscriber does
-  pub found-for : (found : Found) → Finds f.connections y.expired y.places found
+  pub found-for : (found : Found) → Finds f.connections y.expired y.keys found
       → FindsFor y.id (f.config).subscriber_max_borrowed_samples f.connections receiver (λ p. (state_of (kept_of f)).mailboxes p y.id) found
   found-for found finds =
       subst (λ (boxes : ℕ → ℕ → Mailbox). FindsFor y.id (f.config).subscriber_max_borrowed_samples f.connections receiver (λ p. boxes p y.id) found) (boxes-are f)
@@ -48,15 +48,15 @@ module _ {T U : Type 0} (f : Fields T U) (sound : IsDomain f) (i : ℕ) (y : Sub
       (numbers_of f.books))
 
   -- nothing waits
-  pub takes-nothing : Finds f.connections y.expired y.places Found.Nothing → TakeSample (state_of (kept_of f)) y.id receiver (state_of (kept_of f)) No_sample
+  pub takes-nothing : Finds f.connections y.expired y.keys Found.Nothing → TakeSample (state_of (kept_of f)) y.id receiver (state_of (kept_of f)) No_sample
   takes-nothing finds = (found-for Found.Nothing finds, refl)
 
   -- what waits is of publishers of which as many as may be are borrowed
-  pub takes-at_limit : Finds f.connections y.expired y.places Found.AtLimit
+  pub takes-at_limit : Finds f.connections y.expired y.keys Found.AtLimit
       → TakeSample (state_of (kept_of f)) y.id receiver (state_of (kept_of f)) (Receive_error ExceedsMaxBorrows)
   takes-at_limit finds = let found = found-for Found.AtLimit finds in (refl, found.0, found.1, refl)
 
-  module _ (key slot : ℕ) (c : Link) (at_c : get f.connections key ≡ Some c) (new : Slab Link) (finds : Finds f.connections y.expired y.places (Found.Ready key)) (takes : TakesSlot f.connections key slot new) where
+  module _ (key slot : ℕ) (c : Link) (at_c : get f.connections key ≡ Some c) (new : Slab Link) (finds : Finds f.connections y.expired y.keys (Found.Ready key)) (takes : TakesSlot f.connections key slot new) where
     -- the message in the slot
     abbrev pub number_taken : ℕ
     number_taken = numbers_of f.books c.home.publisher slot

@@ -27,18 +27,18 @@ use Rattle.iox2_domain.proofs.ReceiverChanges.{FitsReceiver, IsNewOfReceiver, wi
 use Rattle.iox2_domain.proofs.Standing.{one-publisher, one-subscriber}
 
 module _ {T U : Type 0} (f : Fields T U) (sound : IsDomain f) (j : ℕ) (y : SubscriberFields) (at : get_or f.subscribers j None ≡ Some y)
-    (keys : List (Option ℕ)) (place_room : ℕ) (is_due : Bool) (connections : Slab Link) (warnings : Buffer Warning) (fits : FitsReceiver f j y keys place_room connections) where
+    (keys : List (Option ℕ)) (key_room : ℕ) (is_due : Bool) (connections : Slab Link) (warnings : Buffer Warning) (fits : FitsReceiver f j y keys key_room connections) where
   abbrev changed : SubscriberFields
-  changed = with_keys y keys place_room is_due
+  changed = with_keys y keys key_room is_due
 
   abbrev subscribers : List (Option SubscriberFields)
   subscribers = slice_set f.subscribers j (Some changed)
 
   abbrev after : Fields T U
-  after = with_receiver f j y keys place_room is_due connections warnings
+  after = with_receiver f j y keys key_room is_due connections warnings
 
   abbrev New : (key : ℕ) → Link → Type 0
-  New key c = IsNewOfReceiver f j y keys place_room key c
+  New key c = IsNewOfReceiver f j y keys key_room key c
 
   stood : (k : ℕ) (z : SubscriberFields) → get_or subscribers k None ≡ Some z → ((k ≡ j) × (z ≡ changed)) ⊎ (get_or f.subscribers k None ≡ Some z)
   stood = changed-stood f.subscribers j y changed at
@@ -52,14 +52,14 @@ module _ {T U : Type 0} (f : Fields T U) (sound : IsDomain f) (j : ℕ) (y : Sub
 
   -- who stood somewhere stands there, but for its keys
   still : (k : ℕ) (z : SubscriberFields) → get_or f.subscribers k None ≡ Some z → (w : SubscriberFields) × (get_or subscribers k None ≡ Some w) × (w.id ≡ z.id) × (w.expired ≡ z.expired)
-      × ((place key : ℕ) → get_or z.places place None ≡ Some key → get_or w.places place None ≡ Some key)
+      × ((place key : ℕ) → get_or z.keys place None ≡ Some key → get_or w.keys place None ≡ Some key)
   still k z at_z = elim (changed-still f.subscribers j y changed at k z at_z) [
     | inl here ↦ (
       changed,
       ap (λ (n : ℕ). get_or subscribers n None) here.0 ∙ changed-here f.subscribers j y changed at,
       sym (ap (λ (w : SubscriberFields). w.id) here.1),
       sym (ap (λ (w : SubscriberFields). w.expired) here.1),
-      λ place key has. fits.keeps place key (sym (ap (λ (w : SubscriberFields). get_or w.places place None) here.1) ∙ has),
+      λ place key has. fits.keeps place key (sym (ap (λ (w : SubscriberFields). get_or w.keys place None) here.1) ∙ has),
     )
     | inr there ↦ (z, there, refl, refl, λ place key has. has)
   ]
@@ -91,9 +91,9 @@ module _ {T U : Type 0} (f : Fields T U) (sound : IsDomain f) (j : ℕ) (y : Sub
   known key q c at_c None e h = absurd h
   known key q c at_c (Some d) e h = e ∙ sym (fits.extends.grows key d e) ∙ at_c
 
-  places : (k place key : ℕ) (z : SubscriberFields) (c : Link) → ((k ≡ j) × (z ≡ changed)) ⊎ (get_or f.subscribers k None ≡ Some z) → get_or z.places place None ≡ Some key
+  places : (k place key : ℕ) (z : SubscriberFields) (c : Link) → ((k ≡ j) × (z ≡ changed)) ⊎ (get_or f.subscribers k None ≡ Some z) → get_or z.keys place None ≡ Some key
       → get connections key ≡ Some c → c.home.publisher_place ≡ place
-  places k place key z c (inl here) at_key at_c = fits.places place key c (sym (ap (λ (w : SubscriberFields). get_or w.places place None) here.1) ∙ at_key) at_c
+  places k place key z c (inl here) at_key at_c = fits.places place key c (sym (ap (λ (w : SubscriberFields). get_or w.keys place None) here.1) ∙ at_key) at_c
   places k place key z c (inr old) at_key at_c =
       sound.linked.receiver_places k place key z c old at_key (known key z.id c at_c (get f.connections key) refl ((sound.linked.receivers k z old).at place key at_key))
 
@@ -113,11 +113,11 @@ module _ {T U : Type 0} (f : Fields T U) (sound : IsDomain f) (j : ℕ) (y : Sub
       ]
 
   receiver_room : (key k : ℕ) (c : Link) (z : SubscriberFields) → get_or subscribers k None ≡ Some z → z.id ≡ c.home.subscriber
-      → (get f.connections key ≡ Some c) ⊎ New key c → ((k ≡ j) × (z ≡ changed)) ⊎ (get_or f.subscribers k None ≡ Some z) → c.home.publisher_place < z.place_room
+      → (get f.connections key ≡ Some c) ⊎ New key c → ((k ≡ j) × (z ≡ changed)) ⊎ (get_or f.subscribers k None ≡ Some z) → c.home.publisher_place < z.key_room
   receiver_room key k c z at_z same (inl old) (inl here) =
-      let low : c.home.publisher_place < y.place_room = sound.linked.receiver_rooms key j c y old at (sym (ap (λ (w : SubscriberFields). w.id) here.1) ∙ same) in
+      let low : c.home.publisher_place < y.key_room = sound.linked.receiver_rooms key j c y old at (sym (ap (λ (w : SubscriberFields). w.id) here.1) ∙ same) in
       let grows = fits.grows in
-      let enough : c.home.publisher_place < place_room = omega arith in
+      let enough : c.home.publisher_place < key_room = omega arith in
       rw here.1 enough
   receiver_room key k c z at_z same (inl old) (inr was_there) = sound.linked.receiver_rooms key k c z old was_there same
   receiver_room key k c z at_z same (inr new) _ =
@@ -130,10 +130,10 @@ module _ {T U : Type 0} (f : Fields T U) (sound : IsDomain f) (j : ℕ) (y : Sub
 
   linked : IsLinked after
   linked = record {
-    senders = λ k z at_z. sender_linked f.connections connections fits.extends z.id z.places (sound.linked.senders k z at_z);
+    senders = λ k z at_z. sender_linked f.connections connections fits.extends z.id z.keys (sound.linked.senders k z at_z);
     receivers = λ k z at_z. elim (stood k z at_z) [
       | inl here ↦ rw here.1 fits.linked
-      | inr old ↦ receiver_linked f.connections connections fits.extends z.id _ z.places (sound.linked.receivers k z old)
+      | inr old ↦ receiver_linked f.connections connections fits.extends z.id _ z.keys (sound.linked.receivers k z old)
     ];
     expired = λ k z at_z. elim (stood k z at_z) [
       | inl here ↦ rw here.1 (receiver_linked f.connections connections fits.extends y.id _ _ (sound.linked.expired j y at))
@@ -214,5 +214,5 @@ module _ {T U : Type 0} (f : Fields T U) (sound : IsDomain f) (j : ℕ) (y : Sub
     well_formed = well;
     entries = λ p n held. sound.entries p n (held-before (state_of (kept_of f)) (state_of (kept_of after)) p n
         (λ q. ap (λ (boxes : ℕ → ℕ → Mailbox). boxes p q) (mailboxes-same f sound connections fits.extends))
-        (λ w at_w. (w, ap (λ (s : State T U). s.publishers p) (sym (receiver-is f sound j y at keys place_room is_due connections warnings fits)) ∙ at_w, record { history = refl; blocked = refl })) held);
+        (λ w at_w. (w, ap (λ (s : State T U). s.publishers p) (sym (receiver-is f sound j y at keys key_room is_due connections warnings fits)) ∙ at_w, record { history = refl; blocked = refl })) held);
   }

@@ -21,17 +21,17 @@ use Rattle.iox2_domain.proofs.SenderAnswers.{none_or_some, some_key}
 
 -- there is room for the key of a connection that the publisher has
 pub joins-room : {T U : Type 0} (f : Fields T U) → IsDomain f → (i j : ℕ) (y : SubscriberFields) → get_or f.subscribers j None ≡ Some y → i < length f.publishers
-    → (key : ℕ) → sender_key f.publishers i j ≡ Some key → i < y.place_room
+    → (key : ℕ) → sender_key f.publishers i j ≡ Some key → i < y.key_room
 joins-room f sound i j y at_y low key at =
     let there = sound.open_ports.publishers i low in
-    joined-room f sound i j there.0 y there.1 at_y key (sym (ap (option_and_then (λ (z : PublisherFields). get_or z.places j None)) there.1) ∙ at)
+    joined-room f sound i j there.0 y there.1 at_y key (sym (ap (option_and_then (λ (z : PublisherFields). get_or z.keys j None)) there.1) ∙ at)
 
 module _ {T U : Type 0} (f : Fields T U) (sound : IsDomain f) (i j : ℕ) (y : SubscriberFields) (at_y : get_or f.subscribers j None ≡ Some y) (due : y.is_due ≡ false) where
-  own-key : receiver_key f.subscribers j i ≡ get_or y.places i None
-  own-key = ap (option_and_then (λ (z : SubscriberFields). get_or z.places i None)) at_y
+  own-key : receiver_key f.subscribers j i ≡ get_or y.keys i None
+  own-key = ap (option_and_then (λ (z : SubscriberFields). get_or z.keys i None)) at_y
 
-  other-key : (x : PublisherFields) → get_or f.publishers i None ≡ Some x → sender_key f.publishers i j ≡ get_or x.places j None
-  other-key x at_x = ap (option_and_then (λ (z : PublisherFields). get_or z.places j None)) at_x
+  other-key : (x : PublisherFields) → get_or f.publishers i None ≡ Some x → sender_key f.publishers i j ≡ get_or x.keys j None
+  other-key x at_x = ap (option_and_then (λ (z : PublisherFields). get_or z.keys j None)) at_x
 
   -- it has one
   pub keeps-as : i < length f.publishers → is_some (receiver_key f.subscribers j i) ≡ true → ConnectsReceiver f j i y f
@@ -41,7 +41,7 @@ module _ {T U : Type 0} (f : Fields T U) (sound : IsDomain f) (i j : ℕ) (y : S
       keeps-connection f sound i j there.0 y there.1 at_y due key.0 (sym own-key ∙ key.1)
 
   module _ (none : is_some (receiver_key f.subscribers j i) ≡ false) where
-    no_key : get_or y.places i None ≡ None
+    no_key : get_or y.keys i None ≡ None
     no_key = sym own-key ∙ none_or_some (receiver_key f.subscribers j i) none
 
     -- it joins the publisher's
@@ -67,11 +67,11 @@ module _ {T U : Type 0} (f : Fields T U) (sound : IsDomain f) (i j : ℕ) (y : S
       abbrev g : Fields T U
       g = grown f i j x y n m
 
-      more_x : x.place_room ≤ n
-      more_x = subst (λ (k : ℕ). k ≤ n) (ap (λ o. option_map_or (λ (z : PublisherFields). z.place_room) o 0) apart.publisher_stands) rooms.sender
+      more_x : x.key_room ≤ n
+      more_x = subst (λ (k : ℕ). k ≤ n) (ap (λ o. option_map_or (λ (z : PublisherFields). z.key_room) o 0) apart.publisher_stands) rooms.sender
 
-      more_y : y.place_room ≤ m
-      more_y = subst (λ (k : ℕ). k ≤ m) (ap (λ o. option_map_or (λ (z : SubscriberFields). z.place_room) o 0) at_y) rooms.receiver
+      more_y : y.key_room ≤ m
+      more_y = subst (λ (k : ℕ). k ≤ m) (ap (λ o. option_map_or (λ (z : SubscriberFields). z.key_room) o 0) at_y) rooms.receiver
 
       sound-grown : IsDomain g
       sound-grown = grown-sound f i j x y n m sound apart.publisher_stands at_y more_x more_y
@@ -98,12 +98,12 @@ module _ {T U : Type 0} (f : Fields T U) (sound : IsDomain f) (i j : ℕ) (y : S
       size-is : size ≡ y.buffer
       size-is = apart.buffer_is ∙ ap (λ (z : SubscriberFields). z.buffer) same_y
 
-      no_key_x : get_or x.places j None ≡ None
+      no_key_x : get_or x.keys j None ≡ None
       no_key_x = sym (other-key x apart.publisher_stands) ∙ nobody
 
       -- a new one is made
-      pub makes-as : ((z : PublisherFields) → get_or mid.publishers i None ≡ Some z → j < z.place_room)
-          → ((z : SubscriberFields) → get_or mid.subscribers j None ≡ Some z → i < z.place_room)
+      pub makes-as : ((z : PublisherFields) → get_or mid.publishers i None ≡ Some z → j < z.key_room)
+          → ((z : SubscriberFields) → get_or mid.subscribers j None ≡ Some z → i < z.key_room)
           → (key : ℕ) → MakesConnection f.connections home size (f.config).subscriber_max_borrowed_samples key mid.connections
           → (f' : Fields T U) → f' ≡ record mid { subscribers = changed_at (with_receiver_key i key) mid.subscribers j } → ConnectsReceiver f j i y f'
       makes-as room_x room_y key made f' is =

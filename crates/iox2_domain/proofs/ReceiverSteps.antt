@@ -50,7 +50,7 @@ module _ {T U : Type 0} (f : Fields T U) where
   -- the fields with these keys, connections and warnings
   abbrev pub connected_receiver : (j : ℕ) → SubscriberFields → List (Option ℕ) → Slab Link → Buffer Warning → Fields T U
   connected_receiver j y keys connections warnings =
-      record f { subscribers = slice_set f.subscribers j (Some (record y { places = keys })); connections = connections; warnings = warnings }
+      record f { subscribers = slice_set f.subscribers j (Some (record y { keys = keys })); connections = connections; warnings = warnings }
 
 module _ {T U : Type 0} (f : Fields T U) (sound : IsDomain f) (i j : ℕ) (x : PublisherFields) (y : SubscriberFields)
     (at_x : get_or f.publishers i None ≡ Some x) (at_y : get_or f.subscribers j None ≡ Some y) (due : y.is_due ≡ false) where
@@ -64,13 +64,13 @@ module _ {T U : Type 0} (f : Fields T U) (sound : IsDomain f) (i j : ℕ) (x : P
   present = subscriber-stands f sound j y at_y
 
   -- the machine's step is done where the fields change so
-  pub steps-connect : (keys : List (Option ℕ)) (connections : Slab Link) (warnings : Buffer Warning) → FitsReceiver f j y keys y.place_room connections
+  pub steps-connect : (keys : List (Option ℕ)) (connections : Slab Link) (warnings : Buffer Warning) → FitsReceiver f j y keys y.key_room connections
       → warnings.capacity ≡ warning_limit → StepsReceiver f i y (receiver_side_with f y keys connections warnings)
       → ConnectsReceiver f j i y (connected_receiver f j y keys connections warnings)
   steps-connect keys connections warnings fits room step = record {
-    agrees = receiver-agrees f sound j y at_y keys y.place_room y.is_due connections warnings fits room (rw state well);
+    agrees = receiver-agrees f sound j y at_y keys y.key_room y.is_due connections warnings fits room (rw state well);
     keys = keys;
-    place_room = y.place_room;
+    key_room = y.key_room;
     fields = refl;
     others = refl;
     side = receiver_side_with f y keys connections warnings;
@@ -80,7 +80,7 @@ module _ {T U : Type 0} (f : Fields T U) (sound : IsDomain f) (i j : ℕ) (x : P
   } where
     state : state_of (kept_of (connected_receiver f j y keys connections warnings)) ≡ with_receiver_side s y.id Q (receiver_side_with f y keys connections warnings)
     state =
-        receiver-is f sound j y at_y keys y.place_room y.is_due connections warnings fits
+        receiver-is f sound j y at_y keys y.key_room y.is_due connections warnings fits
         ∙ (λ k. record s {
           subscribers = put_at s.subscribers y.id (Some (record Q { ends = receiver_ends connections keys; is_due = due k }));
           mailboxes = λ p. put_at-same (s.mailboxes p) y.id k;
@@ -111,11 +111,11 @@ module _ {T U : Type 0} (f : Fields T U) (sound : IsDomain f) (i j : ℕ) (x : P
       connect-makes fixed_handlers (f.config).service_id y.id Q.degradation_handler (expired_limit f.config) (λ p. has_sender_end s p y.id) i x.id
       (occupant s.publisher_places i) (receiver_side s y.id Q) (publisher-listed f sound i x at_x) side None none step
 
-  pub no_end : get_or y.places i None ≡ None → occupant Q.ends i ≡ None
-  no_end none = occupant-receiver_ends f.connections y.places i ∙ ap (publisher_at f.connections) none
+  pub no_end : get_or y.keys i None ≡ None → occupant Q.ends i ≡ None
+  no_end none = occupant-receiver_ends f.connections y.keys i ∙ ap (publisher_at f.connections) none
 
   -- an end is made where the keys lead to it
-  pub connects : get_or y.places i None ≡ None → (keys : List (Option ℕ)) (connections : Slab Link) → receiver_ends connections keys ≡ set_place Q.ends i (Some x.id)
+  pub connects : get_or y.keys i None ≡ None → (keys : List (Option ℕ)) (connections : Slab Link) → receiver_ends connections keys ≡ set_place Q.ends i (Some x.id)
       → Step (receiver_side_with f y keys connections f.warnings)
   connects none keys connections leads =
       makes-end (no_end none) (receiver_side_with f y keys connections f.warnings)

@@ -55,7 +55,7 @@ module _ {T U : Type 0} (f : Fields T U) (sound : IsDomain f) where
   released-here i y at p n =
       let is = sound.open_ports.are_open i y at in
       released-is (state_of (kept_of f)) p y.id n ((subscriber_of f.books f.connections y).port) (subscriber-stands f sound i y at) is.0
-      (ap (λ (keys : List ℕ). occupants (receiver_ends f.connections (map Some keys))) is.1) (λ j r leads. end-present y.places j r leads)
+      (ap (λ (keys : List ℕ). occupants (receiver_ends f.connections (map Some keys))) is.1) (λ j r leads. end-present y.keys j r leads)
 
 module _ {T U : Type 0} (f : Fields T U) (sound : IsDomain f) (key slot : ℕ) (c : Link) (at_c : get f.connections key ≡ Some c) (new : Slab Link)
     (releases : ReleasesSlot f.connections key slot new)

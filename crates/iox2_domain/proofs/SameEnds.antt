@@ -59,13 +59,13 @@ module _ {T U : Type 0} (f : Fields T U) (new : Slab Link) (same : SameHomes f.c
     where
       senders : publisher_of f.books new ≡ publisher_of f.books f.connections
       senders = λ i x. record (publisher_of f.books f.connections x) {
-        port = record (publisher_of f.books f.connections x).port { ends = map (same-subscriber_at f.connections new same i) x.places };
+        port = record (publisher_of f.books f.connections x).port { ends = map (same-subscriber_at f.connections new same i) x.keys };
       }
 
       receivers : subscriber_of f.books new ≡ subscriber_of f.books f.connections
       receivers = λ i y. record (subscriber_of f.books f.connections y) {
         port = record (subscriber_of f.books f.connections y).port {
-          ends = map (same-publisher_at f.connections new same i) y.places;
+          ends = map (same-publisher_at f.connections new same i) y.keys;
           expired = occupants (map (same-publisher_at f.connections new same i) (map Some y.expired));
         };
       }
@@ -80,7 +80,7 @@ module _ {T U : Type 0} (f : Fields T U) (new : Slab Link) (same : SameHomes f.c
         publisher = has.publisher;
         stands = subst (λ (h : Home). get_or f.publishers h.publisher_place None ≡ Some has.publisher) home has.stands;
         is_its = subst (λ (h : Home). has.publisher.id ≡ h.publisher) home has.is_its;
-        has = subst (λ (h : Home). get_or has.publisher.places h.subscriber_place None ≡ Some key) home has.has;
+        has = subst (λ (h : Home). get_or has.publisher.keys h.subscriber_place None ≡ Some key) home has.has;
       }
 
   receiver-same : (key : ℕ) (c d : Link) → fixed_of c ≡ fixed_of d → ReceiverHas f.subscribers key c → ReceiverHas f.subscribers key d
@@ -90,7 +90,7 @@ module _ {T U : Type 0} (f : Fields T U) (new : Slab Link) (same : SameHomes f.c
         subscriber = has.subscriber;
         stands = subst (λ (h : Home). get_or f.subscribers h.subscriber_place None ≡ Some has.subscriber) home has.stands;
         is_its = subst (λ (h : Home). has.subscriber.id ≡ h.subscriber) home has.is_its;
-        has = subst (λ (h : Home). (get_or has.subscriber.places h.publisher_place None ≡ Some key) ⊎ Contains has.subscriber.expired key) home has.has;
+        has = subst (λ (h : Home). (get_or has.subscriber.keys h.publisher_place None ≡ Some key) ⊎ Contains has.subscriber.expired key) home has.has;
       }
 
   -- ports and connections still know of each other, where each slot that was given back has its publisher
@@ -111,10 +111,10 @@ module _ {T U : Type 0} (f : Fields T U) (new : Slab Link) (same : SameHomes f.c
         linked.knows_publishers key i b.0 x b.1 at_x (is ∙ sym (ap (λ (t : Home × ℕ × ℕ). t.0.publisher) b.2))
         ∙ ap (λ (t : Home × ℕ × ℕ). t.0.publisher_place) b.2;
     sender_rooms = λ key i c x at_c at_x is. let b = before key c at_c in
-        subst (λ (n : ℕ). n < x.place_room) (ap (λ (t : Home × ℕ × ℕ). t.0.subscriber_place) b.2)
+        subst (λ (n : ℕ). n < x.key_room) (ap (λ (t : Home × ℕ × ℕ). t.0.subscriber_place) b.2)
         (linked.sender_rooms key i b.0 x b.1 at_x (is ∙ sym (ap (λ (t : Home × ℕ × ℕ). t.0.publisher) b.2)));
     receiver_rooms = λ key i c y at_c at_y is. let b = before key c at_c in
-        subst (λ (n : ℕ). n < y.place_room) (ap (λ (t : Home × ℕ × ℕ). t.0.publisher_place) b.2)
+        subst (λ (n : ℕ). n < y.key_room) (ap (λ (t : Home × ℕ × ℕ). t.0.publisher_place) b.2)
         (linked.receiver_rooms key i b.0 y b.1 at_y (is ∙ sym (ap (λ (t : Home × ℕ × ℕ). t.0.subscriber) b.2)));
     limits = λ key c at. let b = before key c at in sym (ap (λ (t : Home × ℕ × ℕ). t.2) b.2) ∙ linked.limits key b.0 b.1;
     returned = returned;

@@ -51,7 +51,7 @@ module _ {T U : Type 0} (f : Fields T U) (parts : HasParts f) (i : ℕ) (x : Pub
     initial_max_slice_len = refl;
     loan_room = omega arith;
     history_room = refl;
-    place_room = omega arith;
+    key_room = omega arith;
   }
 
   -- ---- slots and messages
@@ -282,7 +282,7 @@ module _ {T U : Type 0} (f : Fields T U) (parts : HasParts f) (i : ℕ) (x : Pub
     publisher_ids = changed-ids_apart f i x (with_loan_out slot x) here refl parts.publisher_ids;
     subscriber_ids = parts.subscriber_ids;
     apart = parts.apart;
-    linked = changed-linked_same between i x (with_loan_out slot x) here refl (linked-book f x.book b (with_sent slot b) at (sent-keeps b slot) parts.linked) keeps.place_room refl;
+    linked = changed-linked_same between i x (with_loan_out slot x) here refl (linked-book f x.book b (with_sent slot b) at (sent-keeps b slot) parts.linked) keeps.key_room refl;
     books = changed-books between i x (with_loan_out slot x) here refl (books-changed f x.book b (with_sent slot b) at (sent-keeps b slot) parts.books aligned) keeps;
     counted = ended-counted;
     numbered = ended-numbered;

@@ -40,7 +40,7 @@ module _ {T U : Type 0} (f0 : Fields T U) (sound : IsDomain f0) (p n place : ℕ
 
   -- the publisher after its update
   abbrev sender : PublisherFields
-  sender = record found.0 { places = u.keys; place_room = u.place_room; is_due = false }
+  sender = record found.0 { keys = u.keys; key_room = u.key_room; is_due = false }
 
   pub sender-stands : get_or f1.publishers place None ≡ Some sender
   sender-stands = ap (λ (f : Fields T U). get_or f.publishers place None) u.fields
@@ -53,7 +53,7 @@ module _ {T U : Type 0} (f0 : Fields T U) (sound : IsDomain f0) (p n place : ℕ
   present = ap (state_of (kept_of f0)).publishers (sym found.2) ∙ publisher-stands f0 sound place found.0 found.1
 
   module _ (f2 : Fields T U) (reclaims : Reaches f1 f2 (state_of (kept_of f1))) (only : f2 ≡ record f1 { connections = f2.connections; books = f2.books })
-      (reclaimed : (x : PublisherFields) → get_or f1.publishers place None ≡ Some x → HasReclaimed f2.connections x.places) where
+      (reclaimed : (x : PublisherFields) → get_or f1.publishers place None ≡ Some x → HasReclaimed f2.connections x.keys) where
     pub still-stands : get_or f2.publishers place None ≡ Some sender
     still-stands = ap (λ (f : Fields T U). get_or f.publishers place None) only ∙ sender-stands
 
@@ -61,7 +61,7 @@ module _ {T U : Type 0} (f0 : Fields T U) (sound : IsDomain f0) (p n place : ℕ
     reclaimed-agrees = reclaims.agrees
 
     -- what a delivery needs of its connections
-    pub sender-reclaimed : (x : PublisherFields) → get_or f2.publishers place None ≡ Some x → HasReclaimed f2.connections x.places
+    pub sender-reclaimed : (x : PublisherFields) → get_or f2.publishers place None ≡ Some x → HasReclaimed f2.connections x.keys
     sender-reclaimed x at = reclaimed x (sym (ap (λ (f : Fields T U). get_or f.publishers place None) only) ∙ at)
 
     state-is : state_of (kept_of f2) ≡ u.after

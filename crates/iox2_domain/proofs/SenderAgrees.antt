@@ -32,18 +32,18 @@ use Rattle.iox2_domain.proofs.Standing.{one-publisher, one-subscriber}
 use Rattle.iox2_domain.proofs.SenderChanges.{FitsSender, IsNewOfSender, with_keys, with_sender, port_after, sender-is, mailboxes-same}
 
 module _ {T U : Type 0} (f : Fields T U) (sound : IsDomain f) (i : ℕ) (x : PublisherFields) (at : get_or f.publishers i None ≡ Some x)
-    (keys : List (Option ℕ)) (place_room : ℕ) (is_due : Bool) (connections : Slab Link) (warnings : Buffer Warning) (fits : FitsSender f i x keys place_room connections) where
+    (keys : List (Option ℕ)) (key_room : ℕ) (is_due : Bool) (connections : Slab Link) (warnings : Buffer Warning) (fits : FitsSender f i x keys key_room connections) where
   abbrev changed : PublisherFields
-  changed = with_keys x keys place_room is_due
+  changed = with_keys x keys key_room is_due
 
   abbrev publishers : List (Option PublisherFields)
   publishers = slice_set f.publishers i (Some changed)
 
   abbrev after : Fields T U
-  after = with_sender f i x keys place_room is_due connections warnings
+  after = with_sender f i x keys key_room is_due connections warnings
 
   abbrev New : (key : ℕ) → Link → Type 0
-  New key c = IsNewOfSender f i x keys place_room key c
+  New key c = IsNewOfSender f i x keys key_room key c
 
   stood : (k : ℕ) (z : PublisherFields) → get_or publishers k None ≡ Some z → ((k ≡ i) × (z ≡ changed)) ⊎ (get_or f.publishers k None ≡ Some z)
   stood = changed-stood f.publishers i x changed at
@@ -57,14 +57,14 @@ module _ {T U : Type 0} (f : Fields T U) (sound : IsDomain f) (i : ℕ) (x : Pub
 
   -- who stood somewhere stands there, but for its keys
   still : (k : ℕ) (z : PublisherFields) → get_or f.publishers k None ≡ Some z → (y : PublisherFields) × (get_or publishers k None ≡ Some y) × (y.id ≡ z.id) × (y.book ≡ z.book)
-      × ((place key : ℕ) → get_or z.places place None ≡ Some key → get_or y.places place None ≡ Some key)
+      × ((place key : ℕ) → get_or z.keys place None ≡ Some key → get_or y.keys place None ≡ Some key)
   still k z at_z = elim (changed-still f.publishers i x changed at k z at_z) [
     | inl here ↦ (
       changed,
       ap (λ (n : ℕ). get_or publishers n None) here.0 ∙ changed-here f.publishers i x changed at,
       sym (ap (λ (y : PublisherFields). y.id) here.1),
       sym (ap (λ (y : PublisherFields). y.book) here.1),
-      λ place key has. fits.keeps place key (sym (ap (λ (y : PublisherFields). get_or y.places place None) here.1) ∙ has),
+      λ place key has. fits.keeps place key (sym (ap (λ (y : PublisherFields). get_or y.keys place None) here.1) ∙ has),
     )
     | inr there ↦ (z, there, refl, refl, λ place key has. has)
   ]
@@ -88,9 +88,9 @@ module _ {T U : Type 0} (f : Fields T U) (sound : IsDomain f) (i : ℕ) (x : Pub
   linked = record {
     senders = λ k z at_z. elim (stood k z at_z) [
       | inl here ↦ rw here.1 fits.linked
-      | inr old ↦ sender_linked f.connections connections fits.extends z.id z.places (sound.linked.senders k z old)
+      | inr old ↦ sender_linked f.connections connections fits.extends z.id z.keys (sound.linked.senders k z old)
     ];
-    receivers = λ k y at_y. receiver_linked f.connections connections fits.extends y.id _ y.places (sound.linked.receivers k y at_y);
+    receivers = λ k y at_y. receiver_linked f.connections connections fits.extends y.id _ y.keys (sound.linked.receivers k y at_y);
     expired = λ k y at_y. receiver_linked f.connections connections fits.extends y.id _ _ (sound.linked.expired k y at_y);
     ends = λ key c at_c. elim (fits.news key c at_c) [
       | inl old ↦ elim (sound.linked.ends key c old) [ inl has ↦ inl (has-still key c has) | inr has ↦ inr has ]
@@ -126,11 +126,11 @@ module _ {T U : Type 0} (f : Fields T U) (sound : IsDomain f) (i : ℕ) (x : Pub
     ];
   } where
     sender_room : (key k : ℕ) (c : Link) (z : PublisherFields) → get_or publishers k None ≡ Some z → z.id ≡ c.home.publisher
-        → (get f.connections key ≡ Some c) ⊎ New key c → ((k ≡ i) × (z ≡ changed)) ⊎ (get_or f.publishers k None ≡ Some z) → c.home.subscriber_place < z.place_room
+        → (get f.connections key ≡ Some c) ⊎ New key c → ((k ≡ i) × (z ≡ changed)) ⊎ (get_or f.publishers k None ≡ Some z) → c.home.subscriber_place < z.key_room
     sender_room key k c z at_z same (inl old) (inl here) =
-        let low : c.home.subscriber_place < x.place_room = sound.linked.sender_rooms key i c x old at (sym (ap (λ (w : PublisherFields). w.id) here.1) ∙ same) in
+        let low : c.home.subscriber_place < x.key_room = sound.linked.sender_rooms key i c x old at (sym (ap (λ (w : PublisherFields). w.id) here.1) ∙ same) in
         let grows = fits.grows in
-        let enough : c.home.subscriber_place < place_room = omega arith in
+        let enough : c.home.subscriber_place < key_room = omega arith in
         rw here.1 enough
     sender_room key k c z at_z same (inl old) (inr was_there) = sound.linked.sender_rooms key k c z old was_there same
     sender_room key k c z at_z same (inr new) _ =
@@ -219,8 +219,8 @@ module _ {T U : Type 0} (f : Fields T U) (sound : IsDomain f) (i : ℕ) (x : Pub
   -- a publisher holds what it held
   held : (p : ℕ) (y : Publisher) → (state_of (kept_of after)).publishers p ≡ Some y → (z : Publisher) × ((state_of (kept_of f)).publishers p ≡ Some z) × KeepsHeld z y
   held p y at_y =
-      let is = ap (λ (s : State T U). s.publishers p) (sender-is f sound i x at keys place_room is_due connections warnings fits) in
-      found_put (state_of (kept_of f)).publishers x.id (port_after f sound i x at keys place_room is_due connections warnings fits)
+      let is = ap (λ (s : State T U). s.publishers p) (sender-is f sound i x at keys key_room is_due connections warnings fits) in
+      found_put (state_of (kept_of f)).publishers x.id (port_after f sound i x at keys key_room is_due connections warnings fits)
       (λ n w. (z : Publisher) × ((state_of (kept_of f)).publishers n ≡ Some z) × KeepsHeld z w) p y (sym is ∙ at_y)
       (λ _. ((publisher_of f.books f.connections x).port, publisher-stands f sound i x at, record { history = refl; blocked = refl }))
       (λ _ old. (y, old, record { history = refl; blocked = refl }))

@@ -29,17 +29,17 @@ some_key (Some key) e = (key, refl)
 
 -- there is room for the key of a connection that the subscriber has
 pub joins-room : {T U : Type 0} (f : Fields T U) → IsDomain f → (i j : ℕ) (x : PublisherFields) → get_or f.publishers i None ≡ Some x → j < length f.subscribers
-    → (key : ℕ) → receiver_key f.subscribers j i ≡ Some key → j < x.place_room
+    → (key : ℕ) → receiver_key f.subscribers j i ≡ Some key → j < x.key_room
 joins-room f sound i j x at_x low key at =
     let there = sound.open_ports.subscribers j low in
-    joined-room f sound i j x there.0 at_x there.1 key (sym (ap (option_and_then (λ (z : SubscriberFields). get_or z.places i None)) there.1) ∙ at)
+    joined-room f sound i j x there.0 at_x there.1 key (sym (ap (option_and_then (λ (z : SubscriberFields). get_or z.keys i None)) there.1) ∙ at)
 
 module _ {T U : Type 0} (f : Fields T U) (sound : IsDomain f) (i j : ℕ) (x : PublisherFields) (at_x : get_or f.publishers i None ≡ Some x) (due : x.is_due ≡ false) where
-  own-key : sender_key f.publishers i j ≡ get_or x.places j None
-  own-key = ap (option_and_then (λ (z : PublisherFields). get_or z.places j None)) at_x
+  own-key : sender_key f.publishers i j ≡ get_or x.keys j None
+  own-key = ap (option_and_then (λ (z : PublisherFields). get_or z.keys j None)) at_x
 
-  other-key : (y : SubscriberFields) → get_or f.subscribers j None ≡ Some y → receiver_key f.subscribers j i ≡ get_or y.places i None
-  other-key y at_y = ap (option_and_then (λ (z : SubscriberFields). get_or z.places i None)) at_y
+  other-key : (y : SubscriberFields) → get_or f.subscribers j None ≡ Some y → receiver_key f.subscribers j i ≡ get_or y.keys i None
+  other-key y at_y = ap (option_and_then (λ (z : SubscriberFields). get_or z.keys i None)) at_y
 
   -- it has one
   pub keeps-as : j < length f.subscribers → is_some (sender_key f.publishers i j) ≡ true → ConnectsSender f i j x f
@@ -49,7 +49,7 @@ module _ {T U : Type 0} (f : Fields T U) (sound : IsDomain f) (i j : ℕ) (x : P
       keeps-connection f sound i j x there.0 at_x there.1 due key.0 (sym own-key ∙ key.1)
 
   module _ (none : is_some (sender_key f.publishers i j) ≡ false) where
-    no_key : get_or x.places j None ≡ None
+    no_key : get_or x.keys j None ≡ None
     no_key = sym own-key ∙ none_or_some (sender_key f.publishers i j) none
 
     -- it joins the subscriber's
@@ -75,11 +75,11 @@ module _ {T U : Type 0} (f : Fields T U) (sound : IsDomain f) (i j : ℕ) (x : P
       abbrev g : Fields T U
       g = grown f i j x y n m
 
-      more_x : x.place_room ≤ n
-      more_x = subst (λ (k : ℕ). k ≤ n) (ap (λ o. option_map_or (λ (z : PublisherFields). z.place_room) o 0) at_x) rooms.sender
+      more_x : x.key_room ≤ n
+      more_x = subst (λ (k : ℕ). k ≤ n) (ap (λ o. option_map_or (λ (z : PublisherFields). z.key_room) o 0) at_x) rooms.sender
 
-      more_y : y.place_room ≤ m
-      more_y = subst (λ (k : ℕ). k ≤ m) (ap (λ o. option_map_or (λ (z : SubscriberFields). z.place_room) o 0) apart.subscriber_stands) rooms.receiver
+      more_y : y.key_room ≤ m
+      more_y = subst (λ (k : ℕ). k ≤ m) (ap (λ o. option_map_or (λ (z : SubscriberFields). z.key_room) o 0) apart.subscriber_stands) rooms.receiver
 
       sound-grown : IsDomain g
       sound-grown = grown-sound f i j x y n m sound at_x apart.subscriber_stands more_x more_y
@@ -103,12 +103,12 @@ module _ {T U : Type 0} (f : Fields T U) (sound : IsDomain f) (i j : ℕ) (x : P
       home-is : home ≡ home_of i j x y
       home-is = apart.home_is ∙ ap (λ z. home_of i j z y) same_x
 
-      no_key_y : get_or y.places i None ≡ None
+      no_key_y : get_or y.keys i None ≡ None
       no_key_y = sym (other-key y apart.subscriber_stands) ∙ nobody
 
       -- a new one is made
-      pub makes-as : ((z : PublisherFields) → get_or mid.publishers i None ≡ Some z → j < z.place_room)
-          → ((z : SubscriberFields) → get_or mid.subscribers j None ≡ Some z → i < z.place_room)
+      pub makes-as : ((z : PublisherFields) → get_or mid.publishers i None ≡ Some z → j < z.key_room)
+          → ((z : SubscriberFields) → get_or mid.subscribers j None ≡ Some z → i < z.key_room)
           → (key : ℕ) → MakesConnection f.connections home size (f.config).subscriber_max_borrowed_samples key mid.connections
           → (f' : Fields T U) → f' ≡ record mid { publishers = changed_at (with_sender_key j key) mid.publishers i } → ConnectsSender f i j x f'
       makes-as room_x room_y key made f' is =

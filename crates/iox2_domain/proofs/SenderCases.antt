@@ -47,56 +47,56 @@ module _ {T U : Type 0} (f : Fields T U) (sound : IsDomain f) (i j : ℕ) (x : P
   same_publishers = ap (slice_set f.publishers i) (sym at_x) ∙ set-get_or f.publishers i None
 
   -- an end that is there stays
-  pub keeps-connection : (key : ℕ) → get_or x.places j None ≡ Some key → ConnectsSender f i j x f
+  pub keeps-connection : (key : ℕ) → get_or x.keys j None ≡ Some key → ConnectsSender f i j x f
   keeps-connection key at =
       let joined = sender-joins f sound i j x y at_x at_y key at in
       let there : occupant P.ends j ≡ Some y.id =
-      occupant-sender_ends f.connections x.places j ∙ ap (subscriber_at f.connections) at
+      occupant-sender_ends f.connections x.keys j ∙ ap (subscriber_at f.connections) at
       ∙ ap (option_map (λ (c : Link). c.home.subscriber)) joined.1.stands ∙ ap Some joined.1.subscriber in
       subst (ConnectsSender f i j x) (λ k. record f { publishers = same_publishers k })
-      (steps-connect f sound i j x y at_x at_y due x.places f.connections f.warnings (fits-same f sound i x at_x f.connections.capacity) sound.warning_room
+      (steps-connect f sound i j x y at_x at_y due x.keys f.connections f.warnings (fits-same f sound i x at_x f.connections.capacity) sound.warning_room
       (keeps-end f sound i j x y at_x at_y due there))
 
   -- ---- the subscriber has its end
 
-  module _ (none : get_or x.places j None ≡ None) where
+  module _ (none : get_or x.keys j None ≡ None) where
     abbrev keys_with : (key : ℕ) → List (Option ℕ)
-    keys_with key = set_place x.places j (Some key)
+    keys_with key = set_place x.keys j (Some key)
 
     -- where the new key leads to the subscriber, the new ends are the machine's
-    leads : (connections : Slab Link) (key : ℕ) (c : Link) → sender_ends connections x.places ≡ P.ends → get connections key ≡ Some c → c.home.subscriber ≡ y.id
+    leads : (connections : Slab Link) (key : ℕ) (c : Link) → sender_ends connections x.keys ≡ P.ends → get connections key ≡ Some c → c.home.subscriber ≡ y.id
         → sender_ends connections (keys_with key) ≡ set_place P.ends j (Some y.id)
     leads connections key c same at to =
-        map-set_place (subscriber_at connections) refl x.places j (Some key)
+        map-set_place (subscriber_at connections) refl x.keys j (Some key)
         ∙ (λ k. set_place (same k) j ((ap (option_map (λ (d : Link). d.home.subscriber)) at ∙ ap Some to) k))
 
     -- a key that leads to the subscriber may be set
-    linked-with : (connections : Slab Link) (key : ℕ) (c : Link) → IsSenderLinked x.id connections x.places → get connections key ≡ Some c
+    linked-with : (connections : Slab Link) (key : ℕ) (c : Link) → IsSenderLinked x.id connections x.keys → get connections key ≡ Some c
         → c.home.publisher ≡ x.id → c.home.subscriber_place ≡ j → IsSenderLinked x.id connections (keys_with key)
     linked-with connections key c old at own place = record {
-      at = λ k other there. elim (set_place-stood x.places j key k other there) [
+      at = λ k other there. elim (set_place-stood x.keys j key k other there) [
         | inl here ↦ rw (here.1, at) (record { publisher = own; place = place ∙ sym here.0 })
         | inr before ↦ old.at k other before
       ];
     }
 
     -- the publisher joins the subscriber's connection
-    pub joins-connection : (key : ℕ) → get_or y.places i None ≡ Some key → ConnectsSender f i j x (connected_sender f i x (set_place x.places j (Some key)) f.connections f.warnings)
+    pub joins-connection : (key : ℕ) → get_or y.keys i None ≡ Some key → ConnectsSender f i j x (connected_sender f i x (set_place x.keys j (Some key)) f.connections f.warnings)
     joins-connection key at =
         let joined = receiver-joins f sound i j x y at_x at_y key at in
         let own = joined.1 in
         steps-connect f sound i j x y at_x at_y due (keys_with key) f.connections f.warnings (record {
           extends = (fits-same f sound i x at_x f.connections.capacity).extends;
-          grows = le_refl x.place_room;
+          grows = le_refl x.key_room;
           linked = linked-with f.connections key joined.0 (sound.linked.senders i x at_x) own.stands own.publisher own.subscriber_place;
-          keeps = set_place-keeps x.places j key none;
+          keeps = set_place-keeps x.keys j key none;
           news = λ k c there. inl there;
         }) sound.warning_room
         (connects f sound i j x y at_x at_y due none (keys_with key) f.connections (leads f.connections key joined.0 refl own.stands own.subscriber))
 
     -- ---- nobody has an end
 
-    module _ (none_y : get_or y.places i None ≡ None) where
+    module _ (none_y : get_or y.keys i None ≡ None) where
       abbrev most : ℕ
       most = (f.config).subscriber_max_borrowed_samples
 
@@ -110,20 +110,20 @@ module _ {T U : Type 0} (f : Fields T U) (sound : IsDomain f) (i j : ℕ) (x : P
       extends key new made = made-extends f.connections new (home_of i j x y) y.buffer most key sound.apart nobody made
 
       -- a connection is made
-      pub makes-connection : j < x.place_room → i < y.place_room → (key : ℕ) (new : Slab Link) → MakesConnection f.connections (home_of i j x y) y.buffer (f.config).subscriber_max_borrowed_samples key new
-          → ConnectsSender f i j x (connected_sender f i x (set_place x.places j (Some key)) new f.warnings)
+      pub makes-connection : j < x.key_room → i < y.key_room → (key : ℕ) (new : Slab Link) → MakesConnection f.connections (home_of i j x y) y.buffer (f.config).subscriber_max_borrowed_samples key new
+          → ConnectsSender f i j x (connected_sender f i x (set_place x.keys j (Some key)) new f.warnings)
       makes-connection room room_y key new made =
           steps-connect f sound i j x y at_x at_y due (keys_with key) new f.warnings (record {
             extends = extends key new made;
-            grows = le_refl x.place_room;
-            linked = linked-with new key link (sender_linked f.connections new (extends key new made) x.id x.places (sound.linked.senders i x at_x)) made.made.changed refl refl;
-            keeps = set_place-keeps x.places j key none;
+            grows = le_refl x.key_room;
+            linked = linked-with new key link (sender_linked f.connections new (extends key new made) x.id x.keys (sound.linked.senders i x at_x)) made.made.changed refl refl;
+            keeps = set_place-keeps x.keys j key none;
             news = λ k c at. elim (made-news f.connections new (home_of i j x y) y.buffer most key sound.apart nobody made k c at) [
               | inl old ↦ inl old
               | inr is ↦ inr (rw (is.0, is.1) (record {
                 publisher = refl;
                 publisher_place = refl;
-                has = set_place-here x.places j (Some key);
+                has = set_place-here x.keys j (Some key);
                 room = room;
                 limit = refl;
                 subscriber = y;
@@ -135,7 +135,7 @@ module _ {T U : Type 0} (f : Fields T U) (sound : IsDomain f) (i j : ℕ) (x : P
             ];
           }) sound.warning_room
           (connects f sound i j x y at_x at_y due none (keys_with key) new
-          (leads new key link (sender_ends-same f.connections new (extends key new made) x.id x.places (sound.linked.senders i x at_x)) made.made.changed refl))
+          (leads new key link (sender_ends-same f.connections new (extends key new made) x.id x.keys (sound.linked.senders i x at_x)) made.made.changed refl))
 
       no_receiver : has_receiver_end s x.id y.id ≡ false
       no_receiver =
@@ -143,7 +143,7 @@ module _ {T U : Type 0} (f : Fields T U) (sound : IsDomain f) (i j : ℕ) (x : P
           ∙ ap (λ o. option_map_or (λ (w : Publisher). is_port (occupant ((subscriber_of f.books f.connections y).port).ends w.place) x.id) o false) (publisher-stands f sound i x at_x)
           ∙ ap (λ o. is_port o x.id)
           (ap (occupant ((subscriber_of f.books f.connections y).port).ends) (publisher-place f sound i x at_x)
-          ∙ occupant-receiver_ends f.connections y.places i ∙ ap (publisher_at f.connections) none_y)
+          ∙ occupant-receiver_ends f.connections y.keys i ∙ ap (publisher_at f.connections) none_y)
 
       -- memory for it is refused
       pub misses-connection : (n : ℕ) → ConnectsSender f i j x (record f {
@@ -156,6 +156,6 @@ module _ {T U : Type 0} (f : Fields T U) (sound : IsDomain f) (i j : ℕ) (x : P
             connections = with_capacity n;
             warnings = buffer (warned f.warnings.items (ConnectionNotMade x.id y.id)) warning_limit;
           })
-          (steps-connect f sound i j x y at_x at_y due x.places (with_capacity n) (buffer (warned f.warnings.items (ConnectionNotMade x.id y.id)) warning_limit) (fits-same f sound i x at_x n) refl
+          (steps-connect f sound i j x y at_x at_y due x.keys (with_capacity n) (buffer (warned f.warnings.items (ConnectionNotMade x.id y.id)) warning_limit) (fits-same f sound i x at_x n) refl
           (makes-end f sound i j x y at_x at_y due (no_end f sound i j x y at_x at_y due none) _
           (inr (no_receiver, warned f.warnings.items (ConnectionNotMade x.id y.id), (Warn, tt, refl, refl, refl), refl))))

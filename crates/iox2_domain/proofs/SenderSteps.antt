@@ -53,7 +53,7 @@ module _ {T U : Type 0} (f : Fields T U) where
   -- the fields with these keys, connections and warnings
   abbrev pub connected_sender : (i : ℕ) → PublisherFields → List (Option ℕ) → Slab Link → Buffer Warning → Fields T U
   connected_sender i x keys connections warnings =
-      record f { publishers = slice_set f.publishers i (Some (record x { places = keys })); connections = connections; warnings = warnings }
+      record f { publishers = slice_set f.publishers i (Some (record x { keys = keys })); connections = connections; warnings = warnings }
 
 module _ {T U : Type 0} (f : Fields T U) (sound : IsDomain f) (i j : ℕ) (x : PublisherFields) (y : SubscriberFields)
     (at_x : get_or f.publishers i None ≡ Some x) (at_y : get_or f.subscribers j None ≡ Some y) (due : x.is_due ≡ false) where
@@ -67,13 +67,13 @@ module _ {T U : Type 0} (f : Fields T U) (sound : IsDomain f) (i j : ℕ) (x : P
   present = publisher-stands f sound i x at_x
 
   -- the machine's step is done where the fields change so
-  pub steps-connect : (keys : List (Option ℕ)) (connections : Slab Link) (warnings : Buffer Warning) → FitsSender f i x keys x.place_room connections
+  pub steps-connect : (keys : List (Option ℕ)) (connections : Slab Link) (warnings : Buffer Warning) → FitsSender f i x keys x.key_room connections
       → warnings.capacity ≡ warning_limit → StepsSender f j x (side_with f x keys connections warnings)
       → ConnectsSender f i j x (connected_sender f i x keys connections warnings)
   steps-connect keys connections warnings fits room step = record {
-    agrees = sender-agrees f sound i x at_x keys x.place_room x.is_due connections warnings fits room (rw state well);
+    agrees = sender-agrees f sound i x at_x keys x.key_room x.is_due connections warnings fits room (rw state well);
     keys = keys;
-    place_room = x.place_room;
+    key_room = x.key_room;
     fields = refl;
     others = refl;
     side = side_with f x keys connections warnings;
@@ -85,7 +85,7 @@ module _ {T U : Type 0} (f : Fields T U) (sound : IsDomain f) (i j : ℕ) (x : P
 
     state : state_of (kept_of (connected_sender f i x keys connections warnings)) ≡ with_sender_side s x.id P (side_with f x keys connections warnings)
     state =
-        sender-is f sound i x at_x keys x.place_room x.is_due connections warnings fits
+        sender-is f sound i x at_x keys x.key_room x.is_due connections warnings fits
         ∙ (λ k. record s {
           publishers = put_at s.publishers x.id (Some (record P { ends = sender_ends connections keys; is_due = due k }));
           mailboxes = put_at-same s.mailboxes x.id k;
@@ -125,8 +125,8 @@ module _ {T U : Type 0} (f : Fields T U) (sound : IsDomain f) (i j : ℕ) (x : P
       update-connects fixed_handlers (f.config).service_id x.id P.degradation_handler P.history (receiving_buffer s) (has_receiver_end s x.id) j y.id y.buffer
       (occupant s.subscriber_places j) (sender_side s x.id P) (subscriber-listed f sound j y at_y) open_buffer side None none step
 
-  pub no_end : get_or x.places j None ≡ None → occupant P.ends j ≡ None
-  no_end none = occupant-sender_ends f.connections x.places j ∙ ap (subscriber_at f.connections) none
+  pub no_end : get_or x.keys j None ≡ None → occupant P.ends j ≡ None
+  no_end none = occupant-sender_ends f.connections x.keys j ∙ ap (subscriber_at f.connections) none
 
   -- ---- the mailbox
 
@@ -141,7 +141,7 @@ module _ {T U : Type 0} (f : Fields T U) (sound : IsDomain f) (i j : ℕ) (x : P
     by [] e = refl
     by (n ∷ ns) e = absurd (let some : has_numbers box ≡ true = rw e refl in cc)
 
-  nothing_waits : get_or x.places j None ≡ None → (s.mailboxes x.id y.id).waiting ≡ []
+  nothing_waits : get_or x.keys j None ≡ None → (s.mailboxes x.id y.id).waiting ≡ []
   nothing_waits none = empty (s.mailboxes x.id y.id) (by (has_numbers (s.mailboxes x.id y.id)) refl) where
     by : (b : Bool) → has_numbers (s.mailboxes x.id y.id) ≡ b → b ≡ false
     by false e = refl
@@ -155,13 +155,13 @@ module _ {T U : Type 0} (f : Fields T U) (sound : IsDomain f) (i j : ℕ) (x : P
   last_of_none n = drop_all (0 - n) [] (omega arith)
 
   -- the history adds nothing to it
-  same_mailboxes : get_or x.places j None ≡ None → s.mailboxes x.id ≡ put_at (s.mailboxes x.id) y.id (with_waiting (last_n y.buffer P.history) (s.mailboxes x.id y.id))
+  same_mailboxes : get_or x.keys j None ≡ None → s.mailboxes x.id ≡ put_at (s.mailboxes x.id) y.id (with_waiting (last_n y.buffer P.history) (s.mailboxes x.id y.id))
   same_mailboxes none =
       put_at-same (s.mailboxes x.id) y.id
       ∙ ap (λ (ns : List ℕ). put_at (s.mailboxes x.id) y.id (with_waiting ns (s.mailboxes x.id y.id))) (nothing_waits none ∙ sym (ap (last_n y.buffer) no_history ∙ last_of_none y.buffer))
 
   -- an end is made where the keys lead to it
-  pub connects : get_or x.places j None ≡ None → (keys : List (Option ℕ)) (connections : Slab Link) → sender_ends connections keys ≡ set_place P.ends j (Some y.id)
+  pub connects : get_or x.keys j None ≡ None → (keys : List (Option ℕ)) (connections : Slab Link) → sender_ends connections keys ≡ set_place P.ends j (Some y.id)
       → Step (side_with f x keys connections f.warnings)
   connects none keys connections leads =
       makes-end (no_end none) (side_with f x keys connections f.warnings)

@@ -33,8 +33,8 @@ use Rattle.iox2_domain.proofs.SenderWalk.{AtPlace, publisher_mid, state-again, s
 pub record WalksSender {T U : Type 0} (f : Fields T U) (i : ℕ) (x : PublisherFields) (j : ℕ) (f' : Fields T U) : Type 0 where
   pub agrees : IsDomain f'
   pub keys : List (Option ℕ)
-  pub place_room : ℕ
-  pub fields : f' ≡ record f { publishers = slice_set f.publishers i (Some (record x { places = keys; place_room = place_room; is_due = false })); subscribers = f'.subscribers; connections = f'.connections; warnings = f'.warnings }
+  pub key_room : ℕ
+  pub fields : f' ≡ record f { publishers = slice_set f.publishers i (Some (record x { keys = keys; key_room = key_room; is_due = false })); subscribers = f'.subscribers; connections = f'.connections; warnings = f'.warnings }
   pub others : map (option_map subscriber_but_room) f'.subscribers ≡ map (option_map subscriber_but_room) f.subscribers
   pub side : SenderSide
   pub state : state_of (kept_of f') ≡ with_sender_side (state_of (kept_of f)) x.id (publisher_of f.books f.connections x).port side
@@ -61,16 +61,16 @@ module _ {T U : Type 0} (f : Fields T U) (sound : IsDomain f) (i : ℕ) (x : Pub
 
   settled-is : state_of (kept_of settled) ≡ with_sender_side s x.id P (sender_side s x.id P)
   settled-is =
-      sender-is f sound i x at x.places x.place_room false f.connections f.warnings (fits-same f sound i x at f.connections.capacity)
+      sender-is f sound i x at x.keys x.key_room false f.connections f.warnings (fits-same f sound i x at f.connections.capacity)
       ∙ (λ k. record s { publishers = put_at s.publishers x.id (Some (record P { is_due = false })); mailboxes = put_at-own s.mailboxes x.id k })
 
   -- the walk begins where the publisher is due no more
   pub walk-begins : WalksSender f i x 0 settled
   walk-begins = record {
-    agrees = sender-agrees f sound i x at x.places x.place_room false f.connections f.warnings (fits-same f sound i x at f.connections.capacity) sound.warning_room
+    agrees = sender-agrees f sound i x at x.keys x.key_room false f.connections f.warnings (fits-same f sound i x at f.connections.capacity) sound.warning_room
         (rw settled-is (with_sender_side_keeps s sound.well_formed x.id P present refl (sender_side s x.id P) (sender_side_begins s sound.well_formed x.id P present)));
-    keys = x.places;
-    place_room = x.place_room;
+    keys = x.keys;
+    key_room = x.key_room;
     fields = refl;
     others = refl;
     side = sender_side s x.id P;
@@ -86,7 +86,7 @@ module _ {T U : Type 0} (f : Fields T U) (sound : IsDomain f) (i : ℕ) (x : Pub
   module _ (j : ℕ) (f' : Fields T U) (walks : WalksSender f i x j f') where
     -- the publisher on its way
     abbrev pub walking : PublisherFields
-    walking = record x { places = walks.keys; place_room = walks.place_room; is_due = false }
+    walking = record x { keys = walks.keys; key_room = walks.key_room; is_due = false }
 
     pub walking-stands : get_or f'.publishers i None ≡ Some walking
     walking-stands = ap (λ (g : Fields T U). get_or g.publishers i None) walks.fields ∙ changed-here f.publishers i x walking at
@@ -103,11 +103,11 @@ module _ {T U : Type 0} (f : Fields T U) (sound : IsDomain f) (i : ℕ) (x : Pub
     walk-more low f'' step = record {
       agrees = step.agrees;
       keys = step.keys;
-      place_room = step.place_room;
+      key_room = step.key_room;
       fields = step.fields
-          ∙ (λ k. record (walks.fields k) { publishers = slice_set ((walks.fields k).publishers) i (Some (record x { places = step.keys; place_room = step.place_room; is_due = false })); subscribers = f''.subscribers; connections = f''.connections; warnings = f''.warnings })
+          ∙ (λ k. record (walks.fields k) { publishers = slice_set ((walks.fields k).publishers) i (Some (record x { keys = step.keys; key_room = step.key_room; is_due = false })); subscribers = f''.subscribers; connections = f''.connections; warnings = f''.warnings })
           ∙ ap (λ (xs : List (Option PublisherFields)). record f { publishers = xs; subscribers = f''.subscribers; connections = f''.connections; warnings = f''.warnings })
-          (set-set f.publishers i (Some walking) (Some (record x { places = step.keys; place_room = step.place_room; is_due = false })));
+          (set-set f.publishers i (Some walking) (Some (record x { keys = step.keys; key_room = step.key_room; is_due = false })));
       others = step.others ∙ walks.others;
       side = step.side;
       state = step.state ∙ (λ k. with_sender_side (walks.state k) x.id (port-is k) step.side) ∙ state-again s x.id P present walks.side step.side;
@@ -130,7 +130,7 @@ module _ {T U : Type 0} (f : Fields T U) (sound : IsDomain f) (i : ℕ) (x : Pub
       updates = due-updates s x.id P present due walks.side (walks.walk walks.side (walk-ends s x.id P present j walks.side (omega (arith, listed))));
       reaches = record { agrees = walks.agrees; state = walks.state; entries = same-entries };
       keys = walks.keys;
-      place_room = walks.place_room;
+      key_room = walks.key_room;
       fields = walks.fields;
       others = walks.others;
     }
@@ -141,8 +141,8 @@ module _ {T U : Type 0} (f : Fields T U) (sound : IsDomain f) (i : ℕ) (x : Pub
     after = s;
     updates = machine-idle s x.id P present due;
     reaches = record { agrees = sound; state = refl; entries = λ n entry e. e };
-    keys = x.places;
-    place_room = x.place_room;
+    keys = x.keys;
+    key_room = x.key_room;
     others = refl;
     fields = sym (ap (λ (xs : List (Option PublisherFields)). record f { publishers = xs }) (ap (slice_set f.publishers i) (ap (λ b. Some (record x { is_due = b })) (sym due) ∙ sym at) ∙ set-get_or f.publishers i None));
   }
@@ -153,7 +153,7 @@ due-at xs i x at = ap (λ o. option_map_or (λ (z : PublisherFields). z.is_due) 
 
 -- how many places there are on the way
 pub walking-publishers : {T U : Type 0} (f : Fields T U) (i : ℕ) (x : PublisherFields) (j : ℕ) (f' : Fields T U) → WalksSender f i x j f' → length f'.publishers ≡ length f.publishers
-walking-publishers f i x j f' walks = ap (λ g. length g.publishers) walks.fields ∙ length-set f.publishers i (Some (record x { places = walks.keys; place_room = walks.place_room; is_due = false }))
+walking-publishers f i x j f' walks = ap (λ g. length g.publishers) walks.fields ∙ length-set f.publishers i (Some (record x { keys = walks.keys; key_room = walks.key_room; is_due = false }))
 
 pub walking-subscribers : {T U : Type 0} (f : Fields T U) (i : ℕ) (x : PublisherFields) (j : ℕ) (f' : Fields T U) → WalksSender f i x j f' → length f'.subscribers ≡ length f.subscribers
 walking-subscribers f i x j f' walks =

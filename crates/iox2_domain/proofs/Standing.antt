@@ -96,7 +96,7 @@ module _ {T U : Type 0} (f : Fields T U) (sound : IsDomain f) where
     same-subscriber k z at_z here = let e : Some z ≡ Some y = sym at_z ∙ ap (λ (n : ℕ). get_or f.subscribers n None) here ∙ at_y in cc
 
     -- the publisher's key at the subscriber's place
-    pub sender-joins : (key : ℕ) → get_or x.places j None ≡ Some key → (c : Link) × Joins key c
+    pub sender-joins : (key : ℕ) → get_or x.keys j None ≡ Some key → (c : Link) × Joins key c
     sender-joins key at =
         let own = some_is (IsSenders x.id j) (get f.connections key) ((sound.linked.senders i x at_x).at j key at) in
         let c = own.0 in
@@ -114,7 +114,7 @@ module _ {T U : Type 0} (f : Fields T U) (sound : IsDomain f) where
         )
 
     -- the subscriber's key at the publisher's place
-    pub receiver-joins : (key : ℕ) → get_or y.places i None ≡ Some key → (c : Link) × Joins key c
+    pub receiver-joins : (key : ℕ) → get_or y.keys i None ≡ Some key → (c : Link) × Joins key c
     receiver-joins key at =
         let own = some_is (IsReceivers y.id (f.config).subscriber_max_borrowed_samples) (get f.connections key) ((sound.linked.receivers j y at_y).at i key at) in
         let c = own.0 in
@@ -133,7 +133,7 @@ module _ {T U : Type 0} (f : Fields T U) (sound : IsDomain f) where
         )
 
     -- where neither has a key there is no connection
-    pub no-connection : get_or x.places j None ≡ None → get_or y.places i None ≡ None → look_up (is_between x.id y.id) f.connections.slots ≡ None
+    pub no-connection : get_or x.keys j None ≡ None → get_or y.keys i None ≡ None → look_up (is_between x.id y.id) f.connections.slots ≡ None
     no-connection none_x none_y = look_up-nothing (is_between x.id y.id) f.connections.slots (λ key c at. by key c at (is_between x.id y.id c) refl) where
       both : (a b : Bool) → (a && b) ≡ true → (a ≡ true) × (b ≡ true)
       both true b e = (refl, e)
@@ -148,8 +148,8 @@ module _ {T U : Type 0} (f : Fields T U) (sound : IsDomain f) where
           let place : c.home.subscriber_place ≡ j = one-subscriber c.home.subscriber_place j to.0 y to.1 at_y (to.2 ∙ q) in
           let here : c.home.publisher_place ≡ i = one-publisher c.home.publisher_place i has.publisher x has.stands at_x (has.is_its ∙ p) in
           let is : has.publisher ≡ x = same-publisher c.home.publisher_place has.publisher has.stands here in
-          clash (get_or x.places j None) key none_x
-          (ap (λ (z : PublisherFields). get_or z.places j None) (sym is) ∙ ap (λ (n : ℕ). get_or has.publisher.places n None) (sym place) ∙ has.has)
+          clash (get_or x.keys j None) key none_x
+          (ap (λ (z : PublisherFields). get_or z.keys j None) (sym is) ∙ ap (λ (n : ℕ). get_or has.publisher.keys n None) (sym place) ∙ has.has)
       ends key c at p q (inr has) =
           let from = sound.open_ports.senders key c at in
           let place : c.home.publisher_place ≡ i = one-publisher c.home.publisher_place i from.0 x from.1 at_x (from.2 ∙ p) in
@@ -157,10 +157,10 @@ module _ {T U : Type 0} (f : Fields T U) (sound : IsDomain f) where
           let is : has.subscriber ≡ y = same-subscriber c.home.subscriber_place has.subscriber has.stands here in
           kept has.has is place
         where
-          kept : (get_or has.subscriber.places c.home.publisher_place None ≡ Some key) ⊎ Contains has.subscriber.expired key → has.subscriber ≡ y → c.home.publisher_place ≡ i → ⊥
+          kept : (get_or has.subscriber.keys c.home.publisher_place None ≡ Some key) ⊎ Contains has.subscriber.expired key → has.subscriber ≡ y → c.home.publisher_place ≡ i → ⊥
           kept (inl here) is place =
-              clash (get_or y.places i None) key none_y
-              (ap (λ (z : SubscriberFields). get_or z.places i None) (sym is) ∙ ap (λ (n : ℕ). get_or has.subscriber.places n None) (sym place) ∙ here)
+              clash (get_or y.keys i None) key none_y
+              (ap (λ (z : SubscriberFields). get_or z.keys i None) (sym is) ∙ ap (λ (n : ℕ). get_or has.subscriber.keys n None) (sym place) ∙ here)
           kept (inr among) is place =
               let none : has.subscriber.expired ≡ [] = (sound.open_ports.are_open c.home.subscriber_place has.subscriber has.stands).1 in
               nobody (subst (λ (keys : List ℕ). Contains keys key) none among)
@@ -175,12 +175,12 @@ module _ {T U : Type 0} (f : Fields T U) (sound : IsDomain f) where
       by key c at false e = refl
 
     -- the ports of a connection that one of them has have room for its key
-    pub sender-room : (key : ℕ) → get_or y.places i None ≡ Some key → j < x.place_room
+    pub sender-room : (key : ℕ) → get_or y.keys i None ≡ Some key → j < x.key_room
     sender-room key at =
         let joined = receiver-joins key at in
-        subst (λ (n : ℕ). n < x.place_room) joined.1.subscriber_place (sound.linked.sender_rooms key i joined.0 x joined.1.stands at_x (sym joined.1.publisher))
+        subst (λ (n : ℕ). n < x.key_room) joined.1.subscriber_place (sound.linked.sender_rooms key i joined.0 x joined.1.stands at_x (sym joined.1.publisher))
 
-    pub receiver-room : (key : ℕ) → get_or x.places j None ≡ Some key → i < y.place_room
+    pub receiver-room : (key : ℕ) → get_or x.keys j None ≡ Some key → i < y.key_room
     receiver-room key at =
         let joined = sender-joins key at in
-        subst (λ (n : ℕ). n < y.place_room) joined.1.publisher_place (sound.linked.receiver_rooms key j joined.0 y joined.1.stands at_y (sym joined.1.subscriber))
+        subst (λ (n : ℕ). n < y.key_room) joined.1.publisher_place (sound.linked.receiver_rooms key j joined.0 y joined.1.stands at_y (sym joined.1.subscriber))

@@ -67,7 +67,7 @@ module _ {T U : Type 0} (f : Fields T U) where
     expired = λ i y at. let was = was_there i y at in rw was.2 (linked.expired i was.0 was.1);
     ends = λ key c at. by key c (linked.ends key c at);
     receiver_places = λ i place key y c at_y at_key at_c. let was = was_there i y at_y in
-        linked.receiver_places i place key was.0 c was.1 (ap (λ (z : SubscriberFields). get_or z.places place None) (sym was.2) ∙ at_key) at_c;
+        linked.receiver_places i place key was.0 c was.1 (ap (λ (z : SubscriberFields). get_or z.keys place None) (sym was.2) ∙ at_key) at_c;
     knows = record { at = λ key i c d at_c at_d same. knows key i c d at_c (viewed details_of (map (option_map subscriber_due) f.subscribers) i d at_d) same };
     knows_publishers = linked.knows_publishers;
     sender_rooms = linked.sender_rooms;

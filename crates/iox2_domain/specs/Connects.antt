@@ -32,8 +32,8 @@ module _ {T U : Type 0} where
   pub record ConnectsSender (f : Fields T U) (i j : ℕ) (x : PublisherFields) (f' : Fields T U) : Type 0 where
     pub agrees : IsDomain f'
     pub keys : List (Option ℕ)
-    pub place_room : ℕ
-    pub fields : f' ≡ record f { publishers = slice_set f.publishers i (Some (record x { places = keys; place_room = place_room })); subscribers = f'.subscribers; connections = f'.connections; warnings = f'.warnings }
+    pub key_room : ℕ
+    pub fields : f' ≡ record f { publishers = slice_set f.publishers i (Some (record x { keys = keys; key_room = key_room })); subscribers = f'.subscribers; connections = f'.connections; warnings = f'.warnings }
     pub others : map (option_map subscriber_but_room) f'.subscribers ≡ map (option_map subscriber_but_room) f.subscribers
     pub side : SenderSide
     pub steps : UpdateSenderPlace fixed_handlers (f.config).service_id x.id (publisher_of f.books f.connections x).port.degradation_handler
@@ -46,8 +46,8 @@ module _ {T U : Type 0} where
   pub record ConnectsReceiver (f : Fields T U) (j i : ℕ) (y : SubscriberFields) (f' : Fields T U) : Type 0 where
     pub agrees : IsDomain f'
     pub keys : List (Option ℕ)
-    pub place_room : ℕ
-    pub fields : f' ≡ record f { subscribers = slice_set f.subscribers j (Some (record y { places = keys; place_room = place_room })); publishers = f'.publishers; connections = f'.connections; warnings = f'.warnings }
+    pub key_room : ℕ
+    pub fields : f' ≡ record f { subscribers = slice_set f.subscribers j (Some (record y { keys = keys; key_room = key_room })); publishers = f'.publishers; connections = f'.connections; warnings = f'.warnings }
     pub others : map (option_map publisher_but_room) f'.publishers ≡ map (option_map publisher_but_room) f.publishers
     pub side : ReceiverSide
     pub settled : side.is_due ≡ false
@@ -63,8 +63,8 @@ module _ {T U : Type 0} where
     pub updates : UpdatePublisher fixed_handlers (state_of (kept_of f)) x.id after None
     pub reaches : Reaches f f' after
     pub keys : List (Option ℕ)
-    pub place_room : ℕ
-    pub fields : f' ≡ record f { publishers = slice_set f.publishers i (Some (record x { places = keys; place_room = place_room; is_due = false })); subscribers = f'.subscribers; connections = f'.connections; warnings = f'.warnings }
+    pub key_room : ℕ
+    pub fields : f' ≡ record f { publishers = slice_set f.publishers i (Some (record x { keys = keys; key_room = key_room; is_due = false })); subscribers = f'.subscribers; connections = f'.connections; warnings = f'.warnings }
     pub others : map (option_map subscriber_but_room) f'.subscribers ≡ map (option_map subscriber_but_room) f.subscribers
 
   -- The subscriber y at the place j is updated, and nothing changed but its keys, its mark, connections, warnings and the room
@@ -74,6 +74,6 @@ module _ {T U : Type 0} where
     pub updates : UpdateSubscriber fixed_handlers (state_of (kept_of f)) y.id after None
     pub reaches : Reaches f f' after
     pub keys : List (Option ℕ)
-    pub place_room : ℕ
-    pub fields : f' ≡ record f { subscribers = slice_set f.subscribers j (Some (record y { places = keys; place_room = place_room; is_due = false })); publishers = f'.publishers; connections = f'.connections; warnings = f'.warnings }
+    pub key_room : ℕ
+    pub fields : f' ≡ record f { subscribers = slice_set f.subscribers j (Some (record y { keys = keys; key_room = key_room; is_due = false })); publishers = f'.publishers; connections = f'.connections; warnings = f'.warnings }
     pub others : map (option_map publisher_but_room) f'.publishers ≡ map (option_map publisher_but_room) f.publishers

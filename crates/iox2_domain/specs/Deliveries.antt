@@ -32,7 +32,7 @@ pub record DeliversTo {T U : Type 0} (old : Fields T U) (x : PublisherFields) (s
   pub recounts : Recounts x.id book.holders old.connections holders connections
   pub delivers : (number : ℕ → ℕ → ℕ)
       → Deliver fixed_handlers old.config x.id x.strategy None (buffers_of (map (option_map details_of) old.subscribers)) (number x.id slot)
-      0 no_time 0 (sender_ends old.connections x.places) 0 false (mailboxes_of number old.connections x.id) (Complete count false) (mailboxes_of number connections x.id)
+      0 no_time 0 (sender_ends old.connections x.keys) 0 false (mailboxes_of number old.connections x.id) (Complete count false) (mailboxes_of number connections x.id)
 
 -- The publisher without the loan in the slot.
 abbrev pub with_loan_out : (slot : ℕ) → PublisherFields → PublisherFields

@@ -102,7 +102,7 @@ module _ (books : Slab Book) (connections : Slab Link) where
       degradation_handler = Fixed Warn;
       loans = map (numbers_of books x.id) x.loans;
       history = map (numbers_of books x.id) x.history.items;
-      ends = sender_ends connections x.places;
+      ends = sender_ends connections x.keys;
       is_due = x.is_due;
       blocked = None;
     };
@@ -117,7 +117,7 @@ module _ (books : Slab Book) (connections : Slab Link) where
       place = y.place;
       buffer = y.buffer;
       degradation_handler = Fixed Warn;
-      ends = receiver_ends connections y.places;
+      ends = receiver_ends connections y.keys;
       expired = occupants (receiver_ends connections (map Some y.expired));
       is_due = y.is_due;
     };

@@ -54,36 +54,36 @@ pub record SenderHas (publishers : List (Option PublisherFields)) (key : ℕ) (c
   pub publisher : PublisherFields
   pub stands : slice_index_or publishers c.home.publisher_place None ≡ Some publisher
   pub is_its : publisher.id ≡ c.home.publisher
-  pub has : slice_index_or publisher.places c.home.subscriber_place None ≡ Some key
+  pub has : slice_index_or publisher.keys c.home.subscriber_place None ≡ Some key
 
 -- The subscriber has the connection at that key, at the place where the connection says or among the expired ones.
 pub record ReceiverHas (subscribers : List (Option SubscriberFields)) (key : ℕ) (c : Link) : Type 0 where
   pub subscriber : SubscriberFields
   pub stands : slice_index_or subscribers c.home.subscriber_place None ≡ Some subscriber
   pub is_its : subscriber.id ≡ c.home.subscriber
-  pub has : (slice_index_or subscriber.places c.home.publisher_place None ≡ Some key) ⊎ Contains subscriber.expired key
+  pub has : (slice_index_or subscriber.keys c.home.publisher_place None ≡ Some key) ⊎ Contains subscriber.expired key
 
 -- Every port and every connection know of each other.
 pub record IsLinked {T U : Type 0} (f : Fields T U) : Type 0 where
-  pub senders : (i : ℕ) (x : PublisherFields) → slice_index_or f.publishers i None ≡ Some x → IsSenderLinked x.id f.connections x.places
+  pub senders : (i : ℕ) (x : PublisherFields) → slice_index_or f.publishers i None ≡ Some x → IsSenderLinked x.id f.connections x.keys
   pub receivers : (i : ℕ) (y : SubscriberFields) → slice_index_or f.subscribers i None ≡ Some y
-      → IsReceiverLinked y.id (f.config).subscriber_max_borrowed_samples f.connections y.places
+      → IsReceiverLinked y.id (f.config).subscriber_max_borrowed_samples f.connections y.keys
   pub expired : (i : ℕ) (y : SubscriberFields) → slice_index_or f.subscribers i None ≡ Some y
       → IsReceiverLinked y.id (f.config).subscriber_max_borrowed_samples f.connections (map Some y.expired)
   -- No connection is left that neither of its ports has.
   pub ends : (key : ℕ) (c : Link) → get f.connections key ≡ Some c → SenderHas f.publishers key c ⊎ ReceiverHas f.subscribers key c
   -- A subscriber knows a connection at the place that this names.
   pub receiver_places : (i place key : ℕ) (y : SubscriberFields) (c : Link) → slice_index_or f.subscribers i None ≡ Some y
-      → slice_index_or y.places place None ≡ Some key → get f.connections key ≡ Some c → c.home.publisher_place ≡ place
+      → slice_index_or y.keys place None ≡ Some key → get f.connections key ≡ Some c → c.home.publisher_place ≡ place
   -- What a connection says of its ports is so while they are there.
   pub knows : KnowsReceivers f.connections (map (option_map details_of) f.subscribers)
   pub knows_publishers : (key i : ℕ) (c : Link) (x : PublisherFields) → get f.connections key ≡ Some c → slice_index_or f.publishers i None ≡ Some x
       → x.id ≡ c.home.publisher → i ≡ c.home.publisher_place
   -- Both ports of a connection have room for its key at the other's place.
   pub sender_rooms : (key i : ℕ) (c : Link) (x : PublisherFields) → get f.connections key ≡ Some c → slice_index_or f.publishers i None ≡ Some x
-      → x.id ≡ c.home.publisher → c.home.subscriber_place < x.place_room
+      → x.id ≡ c.home.publisher → c.home.subscriber_place < x.key_room
   pub receiver_rooms : (key i : ℕ) (c : Link) (y : SubscriberFields) → get f.connections key ≡ Some c → slice_index_or f.subscribers i None ≡ Some y
-      → y.id ≡ c.home.subscriber → c.home.publisher_place < y.place_room
+      → y.id ≡ c.home.subscriber → c.home.publisher_place < y.key_room
   -- So many messages may be borrowed in each connection.
   pub limits : (key : ℕ) (c : Link) → get f.connections key ≡ Some c → c.limit ≡ (f.config).subscriber_max_borrowed_samples
   -- Slots that were given back lie where their publisher reclaims them.

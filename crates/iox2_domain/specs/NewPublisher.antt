@@ -34,8 +34,8 @@ plain_publisher max_loaned_samples = record {
 }
 
 -- A publisher that was just made, with these slots and with room for so many loans and connections.
-abbrev pub entering_publisher : (id place book max_loaned_samples slots : ℕ) (loan_room : ℕ) (history : Buffer ℕ) (place_room : ℕ) → PublisherFields
-entering_publisher id place book max_loaned_samples slots loan_room history place_room = record {
+abbrev pub entering_publisher : (id place book max_loaned_samples slots : ℕ) (loan_room : ℕ) (history : Buffer ℕ) (key_room : ℕ) → PublisherFields
+entering_publisher id place book max_loaned_samples slots loan_room history key_room = record {
   id = id;
   place = place;
   book = book;
@@ -49,8 +49,8 @@ entering_publisher id place book max_loaned_samples slots loan_room history plac
   loans = [];
   loan_room = loan_room;
   history = history;
-  places = [];
-  place_room = place_room;
+  keys = [];
+  key_room = key_room;
   is_due = true;
 }
 

@@ -19,8 +19,8 @@ pub record PublisherFields : Type 0 where
   pub loans : List ℕ  -- the slots of the loans that are out
   pub loan_room : ℕ  -- so many fit with no allocation
   pub history : Buffer ℕ  -- the slots of the last messages sent
-  pub places : List (Option ℕ)  -- by the subscriber's place, the keys of its connections
-  pub place_room : ℕ  -- so many fit with no allocation
+  pub keys : List (Option ℕ)  -- by the subscriber's place, the keys of its connections
+  pub key_room : ℕ  -- so many fit with no allocation
   pub is_due : Bool
 
 pub record SubscriberFields : Type 0 where
@@ -28,8 +28,8 @@ pub record SubscriberFields : Type 0 where
   pub place : ℕ
   pub is_open : Bool
   pub buffer : ℕ
-  pub places : List (Option ℕ)  -- by the publisher's place, the keys of its connections
-  pub place_room : ℕ  -- so many fit with no allocation
+  pub keys : List (Option ℕ)  -- by the publisher's place, the keys of its connections
+  pub key_room : ℕ  -- so many fit with no allocation
   pub expired : List ℕ  -- the keys of its connections with departed publishers, in order of entry
   pub is_due : Bool
 
@@ -38,14 +38,14 @@ abbrev pub due : PublisherFields → PublisherFields
 due x = record x { is_due = true }
 
 -- A subscriber that was just made, with room for so many connections.
-abbrev pub entering : (id place buffer place_room : ℕ) → SubscriberFields
-entering id place buffer place_room = record {
+abbrev pub entering : (id place buffer key_room : ℕ) → SubscriberFields
+entering id place buffer key_room = record {
   id = id;
   place = place;
   is_open = true;
   buffer = buffer;
-  places = [];
-  place_room = place_room;
+  keys = [];
+  key_room = key_room;
   expired = [];
   is_due = true;
 }

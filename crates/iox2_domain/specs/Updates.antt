@@ -15,27 +15,27 @@ changed_at change xs place = slice_set xs place (option_map change (slice_index_
 
 -- The publisher, with the key of its connection at a subscriber's place.
 abbrev pub with_sender_key : (place key : ℕ) → PublisherFields → PublisherFields
-with_sender_key place key x = record x { places = set_place x.places place (Some key) }
+with_sender_key place key x = record x { keys = set_place x.keys place (Some key) }
 
 -- The subscriber, with the key of its connection at a publisher's place.
 abbrev pub with_receiver_key : (place key : ℕ) → SubscriberFields → SubscriberFields
-with_receiver_key place key y = record y { places = set_place y.places place (Some key) }
+with_receiver_key place key y = record y { keys = set_place y.keys place (Some key) }
 
 -- The publisher, with room for so many keys.
 abbrev pub with_sender_room : (room : ℕ) → PublisherFields → PublisherFields
-with_sender_room room x = record x { place_room = room }
+with_sender_room room x = record x { key_room = room }
 
 -- The subscriber, with room for so many keys.
 abbrev pub with_receiver_room : (room : ℕ) → SubscriberFields → SubscriberFields
-with_receiver_room room y = record y { place_room = room }
+with_receiver_room room y = record y { key_room = room }
 
 -- How many keys the publisher at a place has room for.
 abbrev pub sender_room : List (Option PublisherFields) → (at : ℕ) → ℕ
-sender_room publishers at = option_map_or (λ (x : PublisherFields). x.place_room) (slice_index_or publishers at None) 0
+sender_room publishers at = option_map_or (λ (x : PublisherFields). x.key_room) (slice_index_or publishers at None) 0
 
 -- How many keys the subscriber at a place has room for.
 abbrev pub receiver_room : List (Option SubscriberFields) → (at : ℕ) → ℕ
-receiver_room subscribers at = option_map_or (λ (y : SubscriberFields). y.place_room) (slice_index_or subscribers at None) 0
+receiver_room subscribers at = option_map_or (λ (y : SubscriberFields). y.key_room) (slice_index_or subscribers at None) 0
 
 -- The publisher, whatever room it has for keys.
 abbrev pub publisher_but_room : PublisherFields → PublisherFields
@@ -55,11 +55,11 @@ updated_subscriber y = record y { is_due = false }
 
 -- The key of the publisher's connection at a subscriber's place.
 abbrev pub sender_key : List (Option PublisherFields) → (at place : ℕ) → Option ℕ
-sender_key publishers at place = option_and_then (λ (x : PublisherFields). slice_index_or x.places place None) (slice_index_or publishers at None)
+sender_key publishers at place = option_and_then (λ (x : PublisherFields). slice_index_or x.keys place None) (slice_index_or publishers at None)
 
 -- The key of the subscriber's connection at a publisher's place.
 abbrev pub receiver_key : List (Option SubscriberFields) → (at place : ℕ) → Option ℕ
-receiver_key subscribers at place = option_and_then (λ (y : SubscriberFields). slice_index_or y.places place None) (slice_index_or subscribers at None)
+receiver_key subscribers at place = option_and_then (λ (y : SubscriberFields). slice_index_or y.keys place None) (slice_index_or subscribers at None)
 
 -- A connection in which no slot stands was made at a key that was free.
 pub record MakesConnection (old : Slab Link) (home : Home) (buffer limit key : ℕ) (new : Slab Link) : Type 0 where

@@ -17,18 +17,18 @@ use slab::Slab;
 use std::alloc::{AllocError, Global};
 
 fn home_of(
-    at: usize,
-    place: usize,
+    publisher_place: usize,
+    subscriber_place: usize,
     publisher: &PublisherState,
     subscriber: &SubscriberState,
 ) -> Home
-    ensures { result ≡ home_of at place publisher.now subscriber.now }
+    ensures { result ≡ home_of publisher_place subscriber_place publisher.now subscriber.now }
 {
     Home {
         publisher: publisher.id.value(),
         subscriber: subscriber.id.value(),
-        publisher_place: at,
-        subscriber_place: place,
+        publisher_place,
+        subscriber_place,
     }
 }
 
@@ -66,88 +66,103 @@ impl<T: Drop, U: Default + Drop> DomainState<T, U> {
     ghost use Rattle.iox2_domain.specs.Connects.{MakesRoom, ConnectsSender, ConnectsReceiver};
 
     // Where the connection of the ports at these places stands, and how many slots may wait there.
-    fn ports_at(&self, at: usize, place: usize) -> (Home, usize)
+    fn ports_at(&self, publisher_place: usize, subscriber_place: usize) -> (Home, usize)
         requires agrees { IsDomain self.now }
-        requires publisher { at < length self.now.publishers }
-        requires subscriber { place < length self.now.subscribers }
-        ensures { StandApart self.now.publishers self.now.subscribers at place result.0 result.1 }
+        requires publisher { publisher_place < length self.now.publishers }
+        requires subscriber { subscriber_place < length self.now.subscribers }
+        ensures { StandApart self.now.publishers self.now.subscribers publisher_place subscriber_place result.0 result.1 }
     {
-        let (Some(publisher), Some(subscriber)) = (&self.publishers[at], &self.subscribers[place])
-        else {
+        let (Some(publisher), Some(subscriber)) = (
+            &self.publishers[publisher_place],
+            &self.subscribers[subscriber_place],
+        ) else {
             unreachable!()
         };
-        (home_of(at, place, publisher, subscriber), subscriber.buffer)
+        (
+            home_of(publisher_place, subscriber_place, publisher, subscriber),
+            subscriber.buffer,
+        )
     }
 
     // Makes a connection in which no slot stands, with room for its key in the ports at these places,
     // and answers its key.
     fn make_between(
         &mut self,
-        at: usize,
-        place: usize,
+        publisher_place: usize,
+        subscriber_place: usize,
         home: Home,
         buffer: usize,
     ) -> Result<usize, AllocError>
-        requires publisher { at < length self.old.publishers }
-        requires subscriber { place < length self.old.subscribers }
+        requires publisher { publisher_place < length self.old.publishers }
+        requires subscriber { subscriber_place < length self.old.subscribers }
         requires buffer { 0 < buffer }
-        ensures grows { MakesRoom self.old at place self.new }
-        ensures sender_room { OnOk result ((x : PublisherFields) → slice_index_or self.new.publishers at None ≡ Some x → place < x.place_room) }
-        ensures receiver_room { OnOk result ((y : SubscriberFields) → slice_index_or self.new.subscribers place None ≡ Some y → at < y.place_room) }
+        ensures grows { MakesRoom self.old publisher_place subscriber_place self.new }
+        ensures sender_room { OnOk result ((x : PublisherFields) → slice_index_or self.new.publishers publisher_place None ≡ Some x → subscriber_place < x.key_room) }
+        ensures receiver_room { OnOk result ((y : SubscriberFields) → slice_index_or self.new.subscribers subscriber_place None ≡ Some y → publisher_place < y.key_room) }
         ensures made { IfOk result (λ key. MakesConnection (self.old).connections home buffer (self.old).config.subscriber_max_borrowed_samples key (self.new).connections) }
         ensures refused { OnErr result ((self.new).connections ≡ record (self.old).connections { capacity = (self.new).connections.capacity }) }
     {
-        reserve_publisher_key(&mut self.publishers, at, place)?;
-        reserve_subscriber_key(&mut self.subscribers, place, at)?;
+        reserve_publisher_key(&mut self.publishers, publisher_place, subscriber_place)?;
+        reserve_subscriber_key(&mut self.subscribers, subscriber_place, publisher_place)?;
         let limit = self.config.subscriber_max_borrowed_samples;
         make_connection(self.alloc, &mut self.connections, home, buffer, limit)
     }
 
     /// The publisher at a place that isn't due gets its connection with the subscriber at another.
     /// One that it has stays. Where memory for a new one is refused, that is a warning.
-    pub(crate) fn connect_sender(&mut self, at: usize, place: usize)
+    pub(crate) fn connect_sender(&mut self, publisher_place: usize, subscriber_place: usize)
         requires agrees { IsDomain self.old }
-        requires publisher { at < length self.old.publishers }
-        requires subscriber { place < length self.old.subscribers }
-        ensures { (x : PublisherFields) → slice_index_or self.old.publishers at None ≡ Some x → x.is_due ≡ false
-            → ConnectsSender self.old at place x self.new }
+        requires publisher { publisher_place < length self.old.publishers }
+        requires subscriber { subscriber_place < length self.old.subscribers }
+        ensures { (x : PublisherFields) → slice_index_or self.old.publishers publisher_place None ≡ Some x → x.is_due ≡ false
+            → ConnectsSender self.old publisher_place subscriber_place x self.new }
     {
-        if publisher_key(&self.publishers, at, place).is_some() {
+        if publisher_key(&self.publishers, publisher_place, subscriber_place).is_some() {
             return;
         }
-        if let Some(key) = subscriber_key(&self.subscribers, place, at) {
-            set_publisher_key(&mut self.publishers, at, place, key);
+        if let Some(key) = subscriber_key(&self.subscribers, subscriber_place, publisher_place) {
+            set_publisher_key(&mut self.publishers, publisher_place, subscriber_place, key);
             return;
         }
-        let (home, buffer) = self.ports_at(at, place);
-        let Ok(key) = self.make_between(at, place, home, buffer) else {
+        let (home, buffer) = self.ports_at(publisher_place, subscriber_place);
+        let Ok(key) = self.make_between(publisher_place, subscriber_place, home, buffer) else {
             warn(&mut self.warnings, not_made(home));
             return;
         };
-        set_publisher_key(&mut self.publishers, at, place, key);
+        set_publisher_key(&mut self.publishers, publisher_place, subscriber_place, key);
     }
 
     /// The subscriber at a place that isn't due gets its connection with the publisher at another.
     /// One that it has stays. Where memory for a new one is refused, that is a warning.
-    pub(crate) fn connect_receiver(&mut self, place: usize, at: usize)
+    pub(crate) fn connect_receiver(&mut self, subscriber_place: usize, publisher_place: usize)
         requires agrees { IsDomain self.old }
-        requires publisher { at < length self.old.publishers }
-        requires subscriber { place < length self.old.subscribers }
-        ensures { (y : SubscriberFields) → slice_index_or self.old.subscribers place None ≡ Some y → y.is_due ≡ false
-            → ConnectsReceiver self.old place at y self.new }
+        requires publisher { publisher_place < length self.old.publishers }
+        requires subscriber { subscriber_place < length self.old.subscribers }
+        ensures { (y : SubscriberFields) → slice_index_or self.old.subscribers subscriber_place None ≡ Some y → y.is_due ≡ false
+            → ConnectsReceiver self.old subscriber_place publisher_place y self.new }
     {
-        if subscriber_key(&self.subscribers, place, at).is_some() {
+        if subscriber_key(&self.subscribers, subscriber_place, publisher_place).is_some() {
             return;
         }
-        if let Some(key) = publisher_key(&self.publishers, at, place) {
-            set_subscriber_key(&mut self.subscribers, place, at, key);
+        if let Some(key) = publisher_key(&self.publishers, publisher_place, subscriber_place) {
+            set_subscriber_key(
+                &mut self.subscribers,
+                subscriber_place,
+                publisher_place,
+                key,
+            );
             return;
         }
-        let (home, buffer) = self.ports_at(at, place);
-        let Ok(key) = self.make_between(at, place, home, buffer) else {
+        let (home, buffer) = self.ports_at(publisher_place, subscriber_place);
+        let Ok(key) = self.make_between(publisher_place, subscriber_place, home, buffer) else {
             warn(&mut self.warnings, not_made(home));
             return;
         };
-        set_subscriber_key(&mut self.subscribers, place, at, key);
+        set_subscriber_key(
+            &mut self.subscribers,
+            subscriber_place,
+            publisher_place,
+            key,
+        );
     }
 }

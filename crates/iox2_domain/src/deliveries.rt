@@ -39,7 +39,7 @@ impl<T: Drop, U: Default + Drop> DomainState<T, U> {
     pub(crate) fn deliver_slot(&mut self, place: usize, slot: usize) -> usize
         requires agrees { IsDomain self.old }
         requires stands { (x : PublisherFields) × (slice_index_or self.old.publishers place None ≡ Some x) }
-        requires reclaimed { (x : PublisherFields) → slice_index_or self.old.publishers place None ≡ Some x → HasReclaimed self.old.connections x.places }
+        requires reclaimed { (x : PublisherFields) → slice_index_or self.old.publishers place None ≡ Some x → HasReclaimed self.old.connections x.keys }
         requires held { (x : PublisherFields) (b : Book) → slice_index_or self.old.publishers place None ≡ Some x → get self.old.books x.book ≡ Some b → IsHeld b slot × (holders_at b slot ≡ 1) }
         ensures { (x : PublisherFields) → slice_index_or self.old.publishers place None ≡ Some x → DeliversTo self.old x slot result self.new }
     {
@@ -56,7 +56,7 @@ impl<T: Drop, U: Default + Drop> DomainState<T, U> {
             &delivery,
             &mut self.connections,
             &mut self.books[publisher.book],
-            &publisher.places,
+            &publisher.keys,
             &self.subscribers,
         );
         match outcome {

@@ -18,48 +18,48 @@ fn key_at(places: &[Option<usize>], place: usize) -> Option<usize>
 
 impl PublisherState {
     fn reserve_key(&mut self, place: usize) -> Result<(), AllocError>
-        ensures same { self.new ≡ with_sender_room self.new.place_room self.old }
-        ensures grows { self.old.place_room ≤ self.new.place_room }
-        ensures room { OnOk result (place < self.new.place_room) }
+        ensures same { self.new ≡ with_sender_room self.new.key_room self.old }
+        ensures grows { self.old.key_room ≤ self.new.key_room }
+        ensures room { OnOk result (place < self.new.key_room) }
     {
-        reserve_place(&mut self.places, place)
+        reserve_place(&mut self.keys, place)
     }
 
     fn set_key(&mut self, place: usize, key: usize)
-        requires { place < self.old.place_room }
+        requires { place < self.old.key_room }
         ensures { self.new ≡ with_sender_key place key self.old }
     {
-        put_at_place(&mut self.places, place, key);
+        put_at_place(&mut self.keys, place, key);
     }
 }
 
 impl SubscriberState {
     fn reserve_key(&mut self, place: usize) -> Result<(), AllocError>
-        ensures same { self.new ≡ with_receiver_room self.new.place_room self.old }
-        ensures grows { self.old.place_room ≤ self.new.place_room }
-        ensures room { OnOk result (place < self.new.place_room) }
+        ensures same { self.new ≡ with_receiver_room self.new.key_room self.old }
+        ensures grows { self.old.key_room ≤ self.new.key_room }
+        ensures room { OnOk result (place < self.new.key_room) }
     {
-        reserve_place(&mut self.places, place)
+        reserve_place(&mut self.keys, place)
     }
 
     fn set_key(&mut self, place: usize, key: usize)
-        requires { place < self.old.place_room }
+        requires { place < self.old.key_room }
         ensures { self.new ≡ with_receiver_key place key self.old }
     {
-        put_at_place(&mut self.places, place, key);
+        put_at_place(&mut self.keys, place, key);
     }
 }
 
 /// The key that the publisher at a place has for its connection with the subscriber at another.
 pub(crate) fn publisher_key(
     publishers: &[Option<PublisherState>],
-    at: usize,
     place: usize,
+    other: usize,
 ) -> Option<usize>
-    ensures { result ≡ sender_key publishers.now at place }
+    ensures { result ≡ sender_key publishers.now place other }
 {
-    match publishers.get(at) {
-        Some(Some(publisher)) => key_at(&publisher.places, place),
+    match publishers.get(place) {
+        Some(Some(publisher)) => key_at(&publisher.keys, other),
         _ => None,
     }
 }
@@ -67,13 +67,13 @@ pub(crate) fn publisher_key(
 /// The key that the subscriber at a place has for its connection with the publisher at another.
 pub(crate) fn subscriber_key(
     subscribers: &[Option<SubscriberState>],
-    at: usize,
     place: usize,
+    other: usize,
 ) -> Option<usize>
-    ensures { result ≡ receiver_key subscribers.now at place }
+    ensures { result ≡ receiver_key subscribers.now place other }
 {
-    match subscribers.get(at) {
-        Some(Some(subscriber)) => key_at(&subscriber.places, place),
+    match subscribers.get(place) {
+        Some(Some(subscriber)) => key_at(&subscriber.keys, other),
         _ => None,
     }
 }
@@ -82,16 +82,16 @@ pub(crate) fn subscriber_key(
 /// another.
 pub(crate) fn reserve_publisher_key(
     publishers: &mut [Option<PublisherState>],
-    at: usize,
     place: usize,
+    other: usize,
 ) -> Result<(), AllocError>
-    requires stands { at < length publishers.old }
-    ensures same { publishers.new ≡ changed_at (with_sender_room (sender_room publishers.new at)) publishers.old at }
-    ensures grows { sender_room publishers.old at ≤ sender_room publishers.new at }
-    ensures room { OnOk result ((x : _) → slice_index_or publishers.new at None ≡ Some x → place < x.place_room) }
+    requires stands { place < length publishers.old }
+    ensures same { publishers.new ≡ changed_at (with_sender_room (sender_room publishers.new place)) publishers.old place }
+    ensures grows { sender_room publishers.old place ≤ sender_room publishers.new place }
+    ensures room { OnOk result ((x : _) → slice_index_or publishers.new place None ≡ Some x → other < x.key_room) }
 {
-    match &mut publishers[at] {
-        Some(publisher) => publisher.reserve_key(place),
+    match &mut publishers[place] {
+        Some(publisher) => publisher.reserve_key(other),
         None => Ok(()),
     }
 }
@@ -100,16 +100,16 @@ pub(crate) fn reserve_publisher_key(
 /// another.
 pub(crate) fn reserve_subscriber_key(
     subscribers: &mut [Option<SubscriberState>],
-    at: usize,
     place: usize,
+    other: usize,
 ) -> Result<(), AllocError>
-    requires stands { at < length subscribers.old }
-    ensures same { subscribers.new ≡ changed_at (with_receiver_room (receiver_room subscribers.new at)) subscribers.old at }
-    ensures grows { receiver_room subscribers.old at ≤ receiver_room subscribers.new at }
-    ensures room { OnOk result ((y : _) → slice_index_or subscribers.new at None ≡ Some y → place < y.place_room) }
+    requires stands { place < length subscribers.old }
+    ensures same { subscribers.new ≡ changed_at (with_receiver_room (receiver_room subscribers.new place)) subscribers.old place }
+    ensures grows { receiver_room subscribers.old place ≤ receiver_room subscribers.new place }
+    ensures room { OnOk result ((y : _) → slice_index_or subscribers.new place None ≡ Some y → other < y.key_room) }
 {
-    match &mut subscribers[at] {
-        Some(subscriber) => subscriber.reserve_key(place),
+    match &mut subscribers[place] {
+        Some(subscriber) => subscriber.reserve_key(other),
         None => Ok(()),
     }
 }
@@ -117,31 +117,31 @@ pub(crate) fn reserve_subscriber_key(
 /// Gives the publisher at a place the key of its connection with the subscriber at another.
 pub(crate) fn set_publisher_key(
     publishers: &mut [Option<PublisherState>],
-    at: usize,
     place: usize,
+    other: usize,
     key: usize,
 )
-    requires stands { at < length publishers.old }
-    requires room { (x : _) → slice_index_or publishers.old at None ≡ Some x → place < x.place_room }
-    ensures { publishers.new ≡ changed_at (with_sender_key place key) publishers.old at }
+    requires stands { place < length publishers.old }
+    requires room { (x : _) → slice_index_or publishers.old place None ≡ Some x → other < x.key_room }
+    ensures { publishers.new ≡ changed_at (with_sender_key other key) publishers.old place }
 {
-    if let Some(publisher) = &mut publishers[at] {
-        publisher.set_key(place, key);
+    if let Some(publisher) = &mut publishers[place] {
+        publisher.set_key(other, key);
     }
 }
 
 /// Gives the subscriber at a place the key of its connection with the publisher at another.
 pub(crate) fn set_subscriber_key(
     subscribers: &mut [Option<SubscriberState>],
-    at: usize,
     place: usize,
+    other: usize,
     key: usize,
 )
-    requires stands { at < length subscribers.old }
-    requires room { (y : _) → slice_index_or subscribers.old at None ≡ Some y → place < y.place_room }
-    ensures { subscribers.new ≡ changed_at (with_receiver_key place key) subscribers.old at }
+    requires stands { place < length subscribers.old }
+    requires room { (y : _) → slice_index_or subscribers.old place None ≡ Some y → other < y.key_room }
+    ensures { subscribers.new ≡ changed_at (with_receiver_key other key) subscribers.old place }
 {
-    if let Some(subscriber) = &mut subscribers[at] {
-        subscriber.set_key(place, key);
+    if let Some(subscriber) = &mut subscribers[place] {
+        subscriber.set_key(other, key);
     }
 }

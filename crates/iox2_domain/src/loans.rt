@@ -69,7 +69,7 @@ impl<T: Drop, U: Default + Drop> DomainState<T, U> {
     fn loan_refusal(&self, place: usize) -> Option<LoanError>
         requires agrees { IsDomain self.now }
         requires stands { (x : PublisherFields) × (slice_index_or self.now.publishers place None ≡ Some x) }
-        requires reclaimed { (x : PublisherFields) → slice_index_or self.now.publishers place None ≡ Some x → HasReclaimed self.now.connections x.places }
+        requires reclaimed { (x : PublisherFields) → slice_index_or self.now.publishers place None ≡ Some x → HasReclaimed self.now.connections x.keys }
         ensures { LoanDecided self.now place result }
     {
         let Some(publisher) = &self.publishers[place] else {

@@ -30,7 +30,7 @@ pub(crate) struct PublisherState {
     // The slots of the last messages sent.
     pub(crate) history: HeapCircularBuffer<usize>,
     // At each subscriber's place the key of the connection with it.
-    pub(crate) places: Vec<Option<usize>>,
+    pub(crate) keys: Vec<Option<usize>>,
     pub(crate) is_due: bool,
 }
 
@@ -54,8 +54,8 @@ impl Model for PublisherState {
       loans = x.loans.items;
       loan_room = vec_capacity x.loans;
       history = x.history;
-      places = x.places.items;
-      place_room = vec_capacity x.places;
+      keys = x.keys.items;
+      key_room = vec_capacity x.keys;
       is_due = x.is_due;
     } };
 }
@@ -77,7 +77,7 @@ impl PublisherState {
         max_loaned_samples: usize,
         slots: usize,
     ) -> Result<Self, AllocError>
-        ensures enters { IfOk result (λ x. x ≡ entering_publisher id place book max_loaned_samples slots x.loan_room (buffer [] (config.now).history_size) x.place_room) }
+        ensures enters { IfOk result (λ x. x ≡ entering_publisher id place book max_loaned_samples slots x.loan_room (buffer [] (config.now).history_size) x.key_room) }
         ensures room { IfOk result (HasPublisherRoom config.now) }
     {
         let loans = Vec::with_capacity(alloc, max_loaned_samples)?;
@@ -95,7 +95,7 @@ impl PublisherState {
             segments: 1,
             loans,
             history,
-            places: Vec::new(alloc),
+            keys: Vec::new(alloc),
             is_due: true,
         })
     }

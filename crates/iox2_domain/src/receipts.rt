@@ -58,7 +58,7 @@ impl<T: Drop, U: Default + Drop> DomainState<T, U> {
         let Some(subscriber) = &self.subscribers[place] else {
             unreachable!()
         };
-        match find(&self.connections, &subscriber.expired, &subscriber.places) {
+        match find(&self.connections, &subscriber.expired, &subscriber.keys) {
             Found::Ready(key) => Ok(Some(self.take_from(key))),
             Found::AtLimit => Err(ReceiveError::ExceedsMaxBorrows),
             Found::Nothing => Ok(None),

@@ -19,7 +19,7 @@ impl<T: Drop, U: Default + Drop> DomainState<T, U> {
         requires stands { (x : PublisherFields) × (slice_index_or self.old.publishers place None ≡ Some x) }
         ensures reaches { Reaches self.old self.new (state_of (kept_of self.old)) }
         ensures only { self.new ≡ record self.old { connections = self.new.connections; books = self.new.books } }
-        ensures reclaimed { (x : PublisherFields) → slice_index_or self.old.publishers place None ≡ Some x → HasReclaimed self.new.connections x.places }
+        ensures reclaimed { (x : PublisherFields) → slice_index_or self.old.publishers place None ≡ Some x → HasReclaimed self.new.connections x.keys }
     {
         let Some(publisher) = &self.publishers[place] else {
             unreachable!();
@@ -28,7 +28,7 @@ impl<T: Drop, U: Default + Drop> DomainState<T, U> {
             publisher.id.value(),
             &mut self.connections,
             &mut self.books[publisher.book],
-            &publisher.places,
+            &publisher.keys,
         );
     }
 }

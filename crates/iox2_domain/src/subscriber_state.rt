@@ -20,7 +20,7 @@ pub(crate) struct SubscriberState {
     pub(crate) is_open: bool,
     pub(crate) buffer: usize,
     // At each publisher's place the key of the connection with it.
-    pub(crate) places: Vec<Option<usize>>,
+    pub(crate) keys: Vec<Option<usize>>,
     // The keys of the connections with departed publishers, in order of entry.
     pub(crate) expired: Vec<usize>,
     pub(crate) is_due: bool,
@@ -37,8 +37,8 @@ impl Model for SubscriberState {
       place = y.place;
       is_open = y.is_open;
       buffer = y.buffer;
-      places = y.places.items;
-      place_room = vec_capacity y.places;
+      keys = y.keys.items;
+      key_room = vec_capacity y.keys;
       expired = y.expired.items;
       is_due = y.is_due;
     } };
@@ -63,14 +63,14 @@ impl SubscriberState {
 
     /// A subscriber that enters at a place.
     pub(crate) fn new(alloc: Global, id: UniqueSubscriberId, place: usize, buffer: usize) -> Self
-        ensures { result ≡ entering id place buffer result.place_room }
+        ensures { result ≡ entering id place buffer result.key_room }
     {
         SubscriberState {
             id,
             place,
             is_open: true,
             buffer,
-            places: Vec::new(alloc),
+            keys: Vec::new(alloc),
             expired: Vec::new(alloc),
             is_due: true,
         }

@@ -9,39 +9,39 @@ use crate::state::DomainState;
 use crate::subscriber_state::SubscriberState;
 
 // Whether the publisher at the place is due for an update.
-fn is_publisher_due(publishers: &[Option<PublisherState>], at: usize) -> bool
-    ensures { result ≡ is_publisher_due publishers.now at }
+fn is_publisher_due(publishers: &[Option<PublisherState>], place: usize) -> bool
+    ensures { result ≡ is_publisher_due publishers.now place }
 {
-    match publishers.get(at) {
+    match publishers.get(place) {
         Some(Some(publisher)) => publisher.is_due,
         _ => false,
     }
 }
 
 // Whether the subscriber at the place is due for an update.
-fn is_subscriber_due(subscribers: &[Option<SubscriberState>], at: usize) -> bool
-    ensures { result ≡ is_subscriber_due subscribers.now at }
+fn is_subscriber_due(subscribers: &[Option<SubscriberState>], place: usize) -> bool
+    ensures { result ≡ is_subscriber_due subscribers.now place }
 {
-    match subscribers.get(at) {
+    match subscribers.get(place) {
         Some(Some(subscriber)) => subscriber.is_due,
         _ => false,
     }
 }
 
-fn settle_publisher(publishers: &mut [Option<PublisherState>], at: usize)
-    requires { at < length publishers.old }
-    ensures { publishers.new ≡ changed_at updated_publisher publishers.old at }
+fn settle_publisher(publishers: &mut [Option<PublisherState>], place: usize)
+    requires { place < length publishers.old }
+    ensures { publishers.new ≡ changed_at updated_publisher publishers.old place }
 {
-    if let Some(publisher) = &mut publishers[at] {
+    if let Some(publisher) = &mut publishers[place] {
         publisher.is_due = false;
     }
 }
 
-fn settle_subscriber(subscribers: &mut [Option<SubscriberState>], at: usize)
-    requires { at < length subscribers.old }
-    ensures { subscribers.new ≡ changed_at updated_subscriber subscribers.old at }
+fn settle_subscriber(subscribers: &mut [Option<SubscriberState>], place: usize)
+    requires { place < length subscribers.old }
+    ensures { subscribers.new ≡ changed_at updated_subscriber subscribers.old place }
 {
-    if let Some(subscriber) = &mut subscribers[at] {
+    if let Some(subscriber) = &mut subscribers[place] {
         subscriber.is_due = false;
     }
 }

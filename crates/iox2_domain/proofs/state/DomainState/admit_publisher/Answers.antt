@@ -59,8 +59,8 @@ returns-clause-step g c =
     entered-reaches-as {T = g.row.T.Denot} {U = g.row.U.Denot} c.args.self.now _ _ c.self.view_is c.requires.agrees loans c.args.slots c.args.place c.in-Ok-entering.publisher c.in-Ok.book c.in-Ok-new.contents
     c.add_segment.new.books c.requires.has_place c.requires.slots (record {
       publisher = c.in-Ok-entering.ensures.enters
-          ∙ ap (λ id. entering_publisher id c.args.place c.vacant_key-key.result loans c.args.slots c.in-Ok-entering.publisher.loan_room (buffer [] c.self.inside.config.history_size) c.in-Ok-entering.publisher.place_room) c.new-id.ensures
-          ∙ ap (λ key. entering_publisher c.self.inside.next_port c.args.place key loans c.args.slots c.in-Ok-entering.publisher.loan_room (buffer [] c.self.inside.config.history_size) c.in-Ok-entering.publisher.place_room) c.vacant_key-key.ensures.value;
+          ∙ ap (λ id. entering_publisher id c.args.place c.vacant_key-key.result loans c.args.slots c.in-Ok-entering.publisher.loan_room (buffer [] c.self.inside.config.history_size) c.in-Ok-entering.publisher.key_room) c.new-id.ensures
+          ∙ ap (λ key. entering_publisher c.self.inside.next_port c.args.place key loans c.args.slots c.in-Ok-entering.publisher.loan_room (buffer [] c.self.inside.config.history_size) c.in-Ok-entering.publisher.key_room) c.vacant_key-key.ensures.value;
       room = c.in-Ok-entering.ensures.room;
       is_its = c.in-Ok.ensures.publisher ∙ c.new-id.ensures;
       unused = c.in-Ok.ensures.unused;

@@ -28,8 +28,8 @@ returns g c =
     let size : c.max.result ≡ max 1 c.args.asked = grind (arith, c.max.ensures) in
     has-entered {T = g.row.T.Denot} {U = g.row.U.Denot} c.args.self.now c.args.asked _ c.self.view_is c.requires.agrees c.args.place c.new-subscriber.result
     c.warn_of_expired_buffer.new.warnings _ _ c.requires.has_place
-    (c.new-subscriber.ensures ∙ ap (λ id. entering id c.args.place c.max.result c.new-subscriber.result.place_room) c.new-id.ensures
-    ∙ ap (λ size. entering c.self.inside.next_port c.args.place size c.new-subscriber.result.place_room) size)
+    (c.new-subscriber.ensures ∙ ap (λ id. entering id c.args.place c.max.result c.new-subscriber.result.key_room) c.new-id.ensures
+    ∙ ap (λ size. entering c.self.inside.next_port c.args.place size c.new-subscriber.result.key_room) size)
     (rw (← c.new-id.ensures) c.warn_of_expired_buffer.ensures)
     (with_items_is c.self.inside.publishers c.make_all_due.new.publishers (c.make_all_due.auto.publishers ∙ c.deref_mut.ensures.len) ∙ all_due)
     (c.put_at_place.ensures.items ∙ ap (λ ys. placed ys c.args.place c.new-subscriber.result) c.in-Ok.ensures.items)

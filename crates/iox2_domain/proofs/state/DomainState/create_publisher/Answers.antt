@@ -69,8 +69,8 @@ pub returns-clause-stands : goal.returns-clause-stands
 returns-clause-stands g c =
     let entered = c.in_ok-admit_publisher.ensures in
     let updated = c.update_publisher.ensures entered.stands.0 entered.stands.1 in (
-      record (entered.stands.0) { places = updated.keys; place_room = updated.place_room; is_due = false },
+      record (entered.stands.0) { keys = updated.keys; key_room = updated.key_room; is_due = false },
       ap (λ (f : Fields g.row.T.Denot g.row.U.Denot). get_or f.publishers c.in_ok-place.place None) updated.fields
-          ∙ get_or-set_same c.admit_publisher.new.self.publishers c.in_ok-place.place (Some (record (entered.stands.0) { places = updated.keys; place_room = updated.place_room; is_due = false })) None (within_if_some c.admit_publisher.new.self.publishers c.in_ok-place.place entered.stands.0 entered.stands.1),
+          ∙ get_or-set_same c.admit_publisher.new.self.publishers c.in_ok-place.place (Some (record (entered.stands.0) { keys = updated.keys; key_room = updated.key_room; is_due = false })) None (within_if_some c.admit_publisher.new.self.publishers c.in_ok-place.place entered.stands.0 entered.stands.1),
       entered.stands.2,
     )

@@ -23,8 +23,8 @@ deliver-outcome-requires-clause-ready g c =
     rw (c.value.ensures, c.deref.ensures.value, c.deref-2.ensures.value)
     (ready-to-deliver _ (parts_of _ (subst (IsDomain {T = g.row.T.Denot} {U = g.row.U.Denot}) (sym c.self.view_is) c.requires.agrees)) c.args.place _
     (stands ∙ ap Some (sym c.publisher.view_is))
-    (subst (λ (h : Fields g.row.T.Denot g.row.U.Denot). HasReclaimed h.connections c.publisher.inside.places.items) (sym c.self.view_is)
-    (subst (λ (y : PublisherFields). HasReclaimed c.args.self.now.connections y.places) (sym c.publisher.view_is)
+    (subst (λ (h : Fields g.row.T.Denot g.row.U.Denot). HasReclaimed h.connections c.publisher.inside.keys.items) (sym c.self.view_is)
+    (subst (λ (y : PublisherFields). HasReclaimed c.args.self.now.connections y.keys) (sym c.publisher.view_is)
     (c.requires.reclaimed c.in-Some.publisher (sym (ap (λ (f : Fields g.row.T.Denot g.row.U.Denot). slice_index_or f.publishers c.args.place None) c.self.view_is) ∙ stands)))))
 
 pub deliver-outcome-requires-clause-held : goal.deliver-outcome-requires-clause-held

@@ -21,7 +21,7 @@ returns-then-is_full g c =
     subst (λ (f : Fields g.row.T.Denot g.row.U.Denot). LoanDecided f c.args.place (Some OutOfMemory)) c.self.view_is
     (decided-full _ (subst (IsDomain {T = g.row.T.Denot} {U = g.row.U.Denot}) (sym c.self.view_is) c.requires.agrees) c.args.place _
     (read-there _ c.args.place _ _ (ap (λ (f : Fields g.row.T.Denot g.row.U.Denot). slice_index_or f.publishers c.args.place None) c.self.view_is ∙ c.requires.stands.1) c.index.ensures ∙ c.in-Some.is ∙ ap Some (sym c.publisher.view_is))
-    (subst (λ (f : Fields g.row.T.Denot g.row.U.Denot). (x : PublisherFields) → slice_index_or f.publishers c.args.place None ≡ Some x → HasReclaimed f.connections x.places) (sym c.self.view_is) c.requires.reclaimed _
+    (subst (λ (f : Fields g.row.T.Denot g.row.U.Denot). (x : PublisherFields) → slice_index_or f.publishers c.args.place None ≡ Some x → HasReclaimed f.connections x.keys) (sym c.self.view_is) c.requires.reclaimed _
     (read-there _ c.args.place _ _ (ap (λ (f : Fields g.row.T.Denot g.row.U.Denot). slice_index_or f.publishers c.args.place None) c.self.view_is ∙ c.requires.stands.1) c.index.ensures ∙ c.in-Some.is ∙ ap Some (sym c.publisher.view_is)))
     (omega (arith, c.if-len-publisher.false, c.len.ensures, long)) _ c.index-2.ensures (c.if-is_full.ensures.0 refl))
 
@@ -31,7 +31,7 @@ returns-then-self g c =
     subst (λ (f : Fields g.row.T.Denot g.row.U.Denot). LoanDecided f c.args.place (Some InternalFailure)) c.self.view_is
     (decided-failed _ (subst (IsDomain {T = g.row.T.Denot} {U = g.row.U.Denot}) (sym c.self.view_is) c.requires.agrees) c.args.place _
     (read-there _ c.args.place _ _ (ap (λ (f : Fields g.row.T.Denot g.row.U.Denot). slice_index_or f.publishers c.args.place None) c.self.view_is ∙ c.requires.stands.1) c.index.ensures ∙ c.in-Some.is ∙ ap Some (sym c.publisher.view_is))
-    (subst (λ (f : Fields g.row.T.Denot g.row.U.Denot). (x : PublisherFields) → slice_index_or f.publishers c.args.place None ≡ Some x → HasReclaimed f.connections x.places) (sym c.self.view_is) c.requires.reclaimed _
+    (subst (λ (f : Fields g.row.T.Denot g.row.U.Denot). (x : PublisherFields) → slice_index_or f.publishers c.args.place None ≡ Some x → HasReclaimed f.connections x.keys) (sym c.self.view_is) c.requires.reclaimed _
     (read-there _ c.args.place _ _ (ap (λ (f : Fields g.row.T.Denot g.row.U.Denot). slice_index_or f.publishers c.args.place None) c.self.view_is ∙ c.requires.stands.1) c.index.ensures ∙ c.in-Some.is ∙ ap Some (sym c.publisher.view_is)))
     (omega (arith, c.if-len-publisher.false, c.len.ensures, long)) _ c.index-2.ensures (λ all. let no : false ≡ true = c.if-is_full.ensures.1 all in cc) c.if-self.true)
 
@@ -41,7 +41,7 @@ returns g c =
     subst (λ (f : Fields g.row.T.Denot g.row.U.Denot). LoanDecided f c.args.place None) c.self.view_is
     (decided-free _ (subst (IsDomain {T = g.row.T.Denot} {U = g.row.U.Denot}) (sym c.self.view_is) c.requires.agrees) c.args.place _
     (read-there _ c.args.place _ _ (ap (λ (f : Fields g.row.T.Denot g.row.U.Denot). slice_index_or f.publishers c.args.place None) c.self.view_is ∙ c.requires.stands.1) c.index.ensures ∙ c.in-Some.is ∙ ap Some (sym c.publisher.view_is))
-    (subst (λ (f : Fields g.row.T.Denot g.row.U.Denot). (x : PublisherFields) → slice_index_or f.publishers c.args.place None ≡ Some x → HasReclaimed f.connections x.places) (sym c.self.view_is) c.requires.reclaimed _
+    (subst (λ (f : Fields g.row.T.Denot g.row.U.Denot). (x : PublisherFields) → slice_index_or f.publishers c.args.place None ≡ Some x → HasReclaimed f.connections x.keys) (sym c.self.view_is) c.requires.reclaimed _
     (read-there _ c.args.place _ _ (ap (λ (f : Fields g.row.T.Denot g.row.U.Denot). slice_index_or f.publishers c.args.place None) c.self.view_is ∙ c.requires.stands.1) c.index.ensures ∙ c.in-Some.is ∙ ap Some (sym c.publisher.view_is)))
     (omega (arith, c.if-len-publisher.false, c.len.ensures, long)) _ c.index-2.ensures (λ all. let no : false ≡ true = c.if-is_full.ensures.1 all in cc)
     (let bound = c.self.invariant in omega arith))

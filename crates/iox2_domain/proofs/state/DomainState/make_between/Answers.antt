@@ -10,40 +10,40 @@ use Rattle.iox2_domain.proofs.state.DomainState.make_between.Goals as goal
 pub returns-in_err-reserve_publisher_key-clause-grows : goal.returns-in_err-reserve_publisher_key-clause-grows
 returns-in_err-reserve_publisher_key-clause-grows g c =
     let items = with_items_is c.self.inside.publishers c.reserve_publisher_key.new.publishers (c.reserve_publisher_key.auto.publishers ∙ c.deref_mut.ensures.len) in
-    makes-room c.args.self.now _ c.self.view_is c.args.at c.args.place _ _ _
-    (gets-sender-room _ _ c.deref_mut.result.now c.reserve_publisher_key.new.publishers c.args.at c.deref_mut.ensures.value items
+    makes-room c.args.self.now _ c.self.view_is c.args.publisher_place c.args.subscriber_place _ _ _
+    (gets-sender-room _ _ c.deref_mut.result.now c.reserve_publisher_key.new.publishers c.args.publisher_place c.deref_mut.ensures.value items
     (record { same = c.in_err-reserve_publisher_key.ensures.same; grows = c.in_err-reserve_publisher_key.ensures.grows }))
-    (keeps-receiver-room c.self.inside.subscribers.items c.args.place)
+    (keeps-receiver-room c.self.inside.subscribers.items c.args.subscriber_place)
 
 pub returns-in_err-reserve_subscriber_key-clause-grows : goal.returns-in_err-reserve_subscriber_key-clause-grows
 returns-in_err-reserve_subscriber_key-clause-grows g c =
     let publishers = with_items_is c.self.inside.publishers c.reserve_publisher_key.new.publishers (c.reserve_publisher_key.auto.publishers ∙ c.deref_mut.ensures.len) in
     let subscribers = with_items_is c.self.inside.subscribers c.reserve_subscriber_key.new.subscribers (c.reserve_subscriber_key.auto.subscribers ∙ c.deref_mut-2.ensures.len) in
-    makes-room c.args.self.now _ c.self.view_is c.args.at c.args.place _ _ _
-    (gets-sender-room _ _ c.deref_mut.result.now c.reserve_publisher_key.new.publishers c.args.at c.deref_mut.ensures.value publishers
+    makes-room c.args.self.now _ c.self.view_is c.args.publisher_place c.args.subscriber_place _ _ _
+    (gets-sender-room _ _ c.deref_mut.result.now c.reserve_publisher_key.new.publishers c.args.publisher_place c.deref_mut.ensures.value publishers
     (record { same = c.in_ok-reserve_publisher_key.ensures.same; grows = c.in_ok-reserve_publisher_key.ensures.grows }))
-    (gets-receiver-room _ _ c.deref_mut-2.result.now c.reserve_subscriber_key.new.subscribers c.args.place c.deref_mut-2.ensures.value subscribers
+    (gets-receiver-room _ _ c.deref_mut-2.result.now c.reserve_subscriber_key.new.subscribers c.args.subscriber_place c.deref_mut-2.ensures.value subscribers
     (record { same = c.in_err-reserve_subscriber_key.ensures.same; grows = c.in_err-reserve_subscriber_key.ensures.grows }))
 
 pub returns-clause-grows : goal.returns-clause-grows
 returns-clause-grows g c =
     let publishers = with_items_is c.self.inside.publishers c.reserve_publisher_key.new.publishers (c.reserve_publisher_key.auto.publishers ∙ c.deref_mut.ensures.len) in
     let subscribers = with_items_is c.self.inside.subscribers c.reserve_subscriber_key.new.subscribers (c.reserve_subscriber_key.auto.subscribers ∙ c.deref_mut-2.ensures.len) in
-    makes-room c.args.self.now _ c.self.view_is c.args.at c.args.place _ _ _
-    (gets-sender-room _ _ c.deref_mut.result.now c.reserve_publisher_key.new.publishers c.args.at c.deref_mut.ensures.value publishers
+    makes-room c.args.self.now _ c.self.view_is c.args.publisher_place c.args.subscriber_place _ _ _
+    (gets-sender-room _ _ c.deref_mut.result.now c.reserve_publisher_key.new.publishers c.args.publisher_place c.deref_mut.ensures.value publishers
     (record { same = c.in_ok-reserve_publisher_key.ensures.same; grows = c.in_ok-reserve_publisher_key.ensures.grows }))
-    (gets-receiver-room _ _ c.deref_mut-2.result.now c.reserve_subscriber_key.new.subscribers c.args.place c.deref_mut-2.ensures.value subscribers
+    (gets-receiver-room _ _ c.deref_mut-2.result.now c.reserve_subscriber_key.new.subscribers c.args.subscriber_place c.deref_mut-2.ensures.value subscribers
     (record { same = c.in_ok-reserve_subscriber_key.ensures.same; grows = c.in_ok-reserve_subscriber_key.ensures.grows }))
 
 pub returns-clause-sender_room : goal.returns-clause-sender_room
 returns-clause-sender_room g c =
     let publishers = with_items_is c.self.inside.publishers c.reserve_publisher_key.new.publishers (c.reserve_publisher_key.auto.publishers ∙ c.deref_mut.ensures.len) in
-    always c.make_connection.result (λ x at. c.in_ok-reserve_publisher_key.ensures.room x (sym (ap (λ zs. get_or zs c.args.at None) publishers) ∙ at))
+    always c.make_connection.result (λ x at. c.in_ok-reserve_publisher_key.ensures.room x (sym (ap (λ zs. get_or zs c.args.publisher_place None) publishers) ∙ at))
 
 pub returns-clause-receiver_room : goal.returns-clause-receiver_room
 returns-clause-receiver_room g c =
     let subscribers = with_items_is c.self.inside.subscribers c.reserve_subscriber_key.new.subscribers (c.reserve_subscriber_key.auto.subscribers ∙ c.deref_mut-2.ensures.len) in
-    always c.make_connection.result (λ y at. c.in_ok-reserve_subscriber_key.ensures.room y (sym (ap (λ zs. get_or zs c.args.place None) subscribers) ∙ at))
+    always c.make_connection.result (λ y at. c.in_ok-reserve_subscriber_key.ensures.room y (sym (ap (λ zs. get_or zs c.args.subscriber_place None) subscribers) ∙ at))
 
 pub returns-clause-made : goal.returns-clause-made
 returns-clause-made g c =

@@ -36,7 +36,7 @@ pub returns-clause-reclaimed : goal.returns-clause-reclaimed
 returns-clause-reclaimed g c = λ x at.
     let same : Some c.in-Some.publisher ≡ Some x = sym (read-there _ c.args.place _ _ (ap (λ (f : Fields g.row.T.Denot g.row.U.Denot). slice_index_or f.publishers c.args.place None) c.self.view_is ∙ c.requires.stands.1) c.index.ensures ∙ c.in-Some.is) ∙ ap (λ (f : Fields g.row.T.Denot g.row.U.Denot). slice_index_or f.publishers c.args.place None) c.self.view_is ∙ at in
     let is : c.in-Some.publisher ≡ x = cc in
-    subst (λ (y : PublisherFields). HasReclaimed c.reclaim_all.new.connections y.places) (c.publisher.view_is ∙ is)
+    subst (λ (y : PublisherFields). HasReclaimed c.reclaim_all.new.connections y.keys) (c.publisher.view_is ∙ is)
     (rw c.deref.ensures.value at c.reclaim_all.ensures.all)
 
 pub index-requires : goal.index-requires

@@ -51,7 +51,7 @@ loop-other-preserved g c = λ x at.
     let size : vec_len c.self.inside.subscribers ≡ length c.self.inside.subscribers.items = search rules in
     let same : length c.self.inside.subscribers.items ≡ length old.subscribers = ap (λ (f : Fields g.row.T.Denot g.row.U.Denot). length f.subscribers) c.self.view_is in
     walk-more old c.requires.agrees c.args.place x at c.loop-other.other c.loop-other.self walks (omega arith) c.connect_sender.new.self
-    (c.connect_sender.ensures (record x { places = walks.keys; place_room = walks.place_room; is_due = false }) (walking-stands old c.requires.agrees c.args.place x at c.loop-other.other c.loop-other.self walks) refl)
+    (c.connect_sender.ensures (record x { keys = walks.keys; key_room = walks.key_room; is_due = false }) (walking-stands old c.requires.agrees c.args.place x at c.loop-other.other c.loop-other.self walks) refl)
 
 pub returns : goal.returns
 returns g c = λ x at.

@@ -51,7 +51,7 @@ loop-other-preserved g c = λ y at.
     let size : vec_len c.self.inside.publishers ≡ length c.self.inside.publishers.items = search rules in
     let same : length c.self.inside.publishers.items ≡ length old.publishers = ap (λ (f : Fields g.row.T.Denot g.row.U.Denot). length f.publishers) c.self.view_is in
     walk-more old c.requires.agrees c.args.place y at c.loop-other.other c.loop-other.self walks (omega arith) c.connect_receiver.new.self
-    (c.connect_receiver.ensures (record y { places = walks.keys; place_room = walks.place_room; is_due = false }) (walking-stands old c.requires.agrees c.args.place y at c.loop-other.other c.loop-other.self walks) refl)
+    (c.connect_receiver.ensures (record y { keys = walks.keys; key_room = walks.key_room; is_due = false }) (walking-stands old c.requires.agrees c.args.place y at c.loop-other.other c.loop-other.self walks) refl)
 
 pub returns : goal.returns
 returns g c = λ y at.
