@@ -7,10 +7,10 @@ ghost use Rattle.iox2_store.specs.declared.errors.PublisherCreateError.TheVarian
 
 use crate::places::{free_place, put_at_place};
 use crate::publisher_state::PublisherState;
-use crate::segments::{add_segment, first_segment};
+use crate::segments::{Segment, add_segment, first_segment};
 use crate::state::DomainState;
 use crate::subscriber_state::make_all_due;
-use iox2_store::{Contents, PublisherCreateError, SlotBook, UniquePublisherId};
+use iox2_store::{PublisherCreateError, UniquePublisherId};
 
 impl<T: Drop, U: Default + Drop> DomainState<T, U> {
     ghost use Rattle.iox2_store.specs.State.{State};
@@ -54,10 +54,8 @@ impl<T: Drop, U: Default + Drop> DomainState<T, U> {
     {
         let id = UniquePublisherId::new(self.next_port);
         let key = self.books.vacant_key();
-        let Ok(book) = SlotBook::new(self.alloc, id, slots) else {
-            return Err(PublisherCreateError::UnableToCreateDataSegment);
-        };
-        let Ok(contents) = Contents::new(self.alloc, slots, self.config.units_per_element) else {
+        let room = self.config.units_per_element;
+        let Ok(segment) = Segment::new(self.alloc, id, slots, room) else {
             return Err(PublisherCreateError::UnableToCreateDataSegment);
         };
         let entering = PublisherState::new(
@@ -75,7 +73,7 @@ impl<T: Drop, U: Default + Drop> DomainState<T, U> {
         let Ok(()) = self.publishers.try_reserve(1) else {
             return Err(PublisherCreateError::FailedToDeployThreadsafetyPolicy);
         };
-        let Ok(()) = add_segment(&mut self.books, &mut self.contents, book, contents) else {
+        let Ok(()) = add_segment(&mut self.books, &mut self.contents, segment) else {
             return Err(PublisherCreateError::UnableToCreateDataSegment);
         };
         make_all_due(&mut self.subscribers);

@@ -56,17 +56,17 @@ overflow_add-self g c =
 pub returns-clause-step : goal.returns-clause-step
 returns-clause-step g c =
     let loans = c.args.max_loaned_samples in
-    entered-reaches-as {T = g.row.T.Denot} {U = g.row.U.Denot} c.args.self.now _ _ c.self.view_is c.requires.agrees loans c.args.slots c.args.place c.in-Ok-entering.publisher c.in-Ok.book c.in-Ok-new.contents
+    entered-reaches-as {T = g.row.T.Denot} {U = g.row.U.Denot} c.args.self.now _ _ c.self.view_is c.requires.agrees loans c.args.slots c.args.place c.in-Ok-entering.publisher c.in-Ok.segment.book c.in-Ok.segment.contents
     c.add_segment.new.books c.requires.has_place c.requires.slots (record {
       publisher = c.in-Ok-entering.ensures.enters
           ∙ ap (λ id. entering_publisher id c.args.place c.vacant_key-key.result loans c.args.slots c.in-Ok-entering.publisher.loan_room (buffer [] c.self.inside.config.history_size) c.in-Ok-entering.publisher.key_room) c.new-id.ensures
           ∙ ap (λ key. entering_publisher c.self.inside.next_port c.args.place key loans c.args.slots c.in-Ok-entering.publisher.loan_room (buffer [] c.self.inside.config.history_size) c.in-Ok-entering.publisher.key_room) c.vacant_key-key.ensures.value;
       room = c.in-Ok-entering.ensures.room;
-      is_its = c.in-Ok.ensures.publisher ∙ c.new-id.ensures;
+      is_its = c.in-Ok.ensures.is_its ∙ c.new-id.ensures;
       unused = c.in-Ok.ensures.unused;
       aligned = c.in-Ok.ensures.aligned;
-      contents_length = c.in-Ok-new.ensures.len;
-      contents_room = c.in-Ok-new.ensures.room;
+      contents_length = c.in-Ok.ensures.contents_length;
+      contents_room = c.in-Ok.ensures.contents_room;
       vacant = c.in-Ok-add_segment.ensures.vacant;
       updates = c.in-Ok-add_segment.ensures.updates;
       changed = λ i. record {
