@@ -6,7 +6,8 @@ ghost use Rattle.script_text.specs.Failures.{error_text};
 use script_text::ScriptError;
 use std::io::{self, Write};
 
-/// Writes a line that says what was wrong.
+/// Writes a line that says what was wrong. Fails where `errors` does, which may have a part of the
+/// line then.
 pub fn report<E: Write>(errors: &mut E, error: &ScriptError) -> io::Result<()>
     ensures { OnOk result (Appends (E.contents errors.old) (E.contents errors.new) (error_text error.now ++ 10 ∷ [])) }
 {
