@@ -13,7 +13,6 @@ pub mod OrderStates
 pub mod OrderReceives
 pub mod OrderCommands
 pub mod Order
-pub mod MailboxWalks
 pub mod Traces
 pub mod Follows
 pub mod Owned

@@ -15,7 +15,7 @@ use Rattle.iox2_store.specs.declared.degradation.DegradationAction.{DegradationA
 use Rattle.iox2_store.specs.declared.errors.ConnectionFailure.{ConnectionFailure}
 use Rattle.iox2_laws.proofs.NumberLemmas.{contains_in_append, contains_left, contains_right, contains_in_last_n}
 use Rattle.iox2_laws.proofs.MailboxLemmas.{contains_in_dropped, contains_in_appended, contains_in_borrowed}
-use Rattle.iox2_commands.proofs.MailboxWalks.{sender_side_keeps, receiver_side_keeps, deliver_keeps}
+use Rattle.iox2_laws.proofs.MailboxWalks.{sender_side_keeps, receiver_side_keeps, deliver_keeps}
 
 -- ---- one mailbox
 

@@ -22,3 +22,7 @@ pub mod LoanLaws
 pub mod DeliveryLaws
 pub mod SendLaws
 pub mod LoanKeeping
+pub mod MailboxWalks
+pub mod PortsStay
+pub mod SamplesStay
+pub mod NextLoan

@@ -8,3 +8,6 @@ pub mod SendShown
 pub mod AlwaysShows
 pub mod PublishersShown
 pub mod ReceptionShown
+pub mod LiveParts
+pub mod StaysBut
+pub mod CallsStay

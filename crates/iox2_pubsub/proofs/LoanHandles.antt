@@ -9,7 +9,11 @@ use Rattle.iox2_store.specs.SingleCalls.{HoldsLoan}
 use Rattle.iox2_laws.proofs.Puts.{found_put}
 use Rattle.iox2_domain.specs.Kept.{Kept, state_of}
 use Rattle.iox2_domain.specs.Fields.{Fields, kept_of}
-use Rattle.iox2_pubsub.specs.Handles.{IsLiveLoan, IsUnwrittenLoanHandle, IsWrittenLoanHandle}
+use Rattle.iox2_store.specs.declared.key.Key.{Key}
+use Rattle.iox2_pubsub.specs.Live.{IsLoanKey, IsUnwrittenLoan, IsWrittenLoan}
+use Rattle.iox2_pubsub.specs.declared.sample_mut.SampleMut.{SampleMut}
+use Rattle.iox2_pubsub.specs.declared.sample_mut_uninit.SampleMutUninit.{SampleMutUninit}
+use Rattle.iox2_pubsub.proofs.LiveParts.{loan-parts, unwritten-parts, written-parts, written-live}
 use Rattle.iox2_store.specs.declared.header.Header.{Header}
 use Rattle.iox2_domain.specs.Invariant.{IsDomain}
 use Rattle.iox2_domain.specs.LoanCalls.{HoldsUnwritten, HoldsWritten, HasLoanHeader, WritesLoan}
@@ -22,16 +26,21 @@ module _ {T U : Type 0} (inside kept : Kept T U) (view : inside ≡ kept) where
   pub of-shown : (P : State T U → Type 0) → P (state_of inside) → (m : Messages T U) (s : State T U) → Shows kept m s → P s
   of-shown P holds m s shown = subst P (ap state_of view ∙ sym shown.state) holds
 
-  module _ (service publisher number id : ℕ) (same : id ≡ publisher) where
-    -- a handle's loan is out
-    pub unwritten-held : IsUnwrittenLoanHandle kept service publisher number → HoldsUnwritten (state_of inside) id number
-    unwritten-held handle = subst (λ k. HoldsUnwritten (state_of k) id number) (sym view) ((handle.1).0, (handle.1).1, (handle.1).2 ∙ sym same, (handle.1).3)
+  -- a handle's loan is out
+  pub unwritten-out : (loan : SampleMutUninit) (id : ℕ) → id ≡ loan.publisher → IsUnwrittenLoan kept loan → HoldsUnwritten (state_of inside) id loan.number
+  unwritten-out loan id same live =
+      let has = (unwritten-parts kept loan live).1 in
+      subst (λ k. HoldsUnwritten (state_of k) id loan.number) (sym view) (has.0, has.1, has.2 ∙ sym same, has.3)
 
-    pub written-held : IsWrittenLoanHandle kept service publisher number → HoldsWritten (state_of inside) id number
-    written-held handle = subst (λ k. HoldsWritten (state_of k) id number) (sym view) ((handle.1).0, (handle.1).1, (handle.1).2 ∙ sym same, (handle.1).3)
+  pub written-out : (loan : SampleMut) (id : ℕ) → id ≡ loan.publisher → IsWrittenLoan kept loan → HoldsWritten (state_of inside) id loan.number
+  written-out loan id same live =
+      let has = (written-parts kept loan live).1 in
+      subst (λ k. HoldsWritten (state_of k) id loan.number) (sym view) (has.0, has.1, has.2 ∙ sym same, has.3)
 
-    pub live-loan : IsLiveLoan kept service publisher number → HoldsLoan (state_of inside) id number
-    live-loan handle = subst (λ k. HoldsLoan (state_of k) id number) (sym view) ((handle.1).0, (handle.1).1, (handle.1).2 ∙ sym same)
+  pub loan-out : (key : Key) (id : ℕ) → id ≡ key.port → IsLoanKey kept key → HoldsLoan (state_of inside) id key.message
+  loan-out key id same live =
+      let has = (loan-parts kept key live).1 in
+      subst (λ k. HoldsLoan (state_of k) id key.message) (sym view) (has.0, has.1, has.2 ∙ sym same)
 
 -- ---- a loan is written
 
@@ -51,20 +60,21 @@ module _ {T U : Type 0} (f g : Fields T U) (kept : Kept T U) (view : kept_of f �
             (λ k l at. found_put s.loans n (written writes.0 value) (λ i _. m i ≡ None) k l at (λ _. here.unsent n writes.0 found) (λ _ old. here.unsent k l old)),
       )
 
-  -- and holds the written loan
-  pub write-held : (service publisher : ℕ) → IsUnwrittenLoanHandle kept service publisher n → IsWrittenLoanHandle (kept_of g) service publisher n
-  write-held service publisher handle =
-      let old : IsUnwrittenLoanHandle (kept_of f) service publisher n = subst (λ k. IsUnwrittenLoanHandle k service publisher n) (sym view) handle in
-      let both : Some writes.0 ≡ Some (old.1).0 = sym writes.1 ∙ (old.1).1 in
-      let same : writes.0 ≡ (old.1).0 = cc in (
-        old.0 ∙ sym (ap (λ (t : State T U). (t.config).service_id) writes.2.state),
-        (
-          written writes.0 value,
-          ap (λ (t : State T U). t.loans n) writes.2.state
-              ∙ ap (λ b. cond b (Some (written writes.0 value)) ((state_of (kept_of f)).loans n)) (eq-eqb n n refl),
-          ap (λ (l : Loan T U). l.publisher) same ∙ (old.1).2,
-          refl,
-        ),
+  -- and the written loan is out
+  pub write-live : (loan : SampleMutUninit) (loan' : SampleMut) → loan.number ≡ n → loan'.service_id ≡ loan.service_id → loan'.publisher ≡ loan.publisher → loan'.number ≡ n
+      → IsUnwrittenLoan kept loan → IsWrittenLoan (kept_of g) loan'
+  write-live loan loan' its service publisher number live =
+      let old : IsUnwrittenLoan (kept_of f) loan = subst (λ k. IsUnwrittenLoan k loan) (sym view) live in
+      let parts = unwritten-parts (kept_of f) loan old in
+      let both : Some writes.0 ≡ Some (parts.1).0 = sym writes.1 ∙ ap (state_of (kept_of f)).loans (sym its) ∙ (parts.1).1 in
+      let same : writes.0 ≡ (parts.1).0 = cc in
+      written-live (kept_of g) loan' (service ∙ parts.0 ∙ sym (ap (λ (t : State T U). (t.config).service_id) writes.2.state)) (
+        written writes.0 value,
+        ap (λ (k : ℕ). (state_of (kept_of g)).loans k) number
+            ∙ ap (λ (t : State T U). t.loans n) writes.2.state
+            ∙ ap (λ b. cond b (Some (written writes.0 value)) ((state_of (kept_of f)).loans n)) (eq-eqb n n refl),
+        ap (λ (l : Loan T U). l.publisher) same ∙ (parts.1).2 ∙ sym publisher,
+        refl,
       )
 
 -- ---- the header of a loan

@@ -1,5 +1,5 @@
 -- The creation of a publisher, seen from outside.
-use Rattle.std.proofs.Common.{ℕ, ap, sym, subst, ◌∙◌}
+use Rattle.std.proofs.Common.{◌≡◌, ℕ, refl, ap, sym, subst, ◌∙◌}
 use Rattle.std.specs.declared.option.Option.{Option}
 use Rattle.std.specs.declared.option.Option.TheVariants.{None}
 use Rattle.iox2_store.specs.Ports.{CreatePublisher}
@@ -11,7 +11,9 @@ use Rattle.iox2_store.specs.declared.service_config.ServiceConfig.{ServiceConfig
 use Rattle.iox2_domain.specs.Kept.{state_of}
 use Rattle.iox2_domain.specs.Fields.{Fields, kept_of}
 use Rattle.iox2_domain.specs.NewPublisher.{plain_publisher}
-use Rattle.iox2_pubsub.specs.Handles.{IsPublisherHandle}
+use Rattle.iox2_pubsub.specs.Live.{IsLivePublisher}
+use Rattle.iox2_pubsub.specs.declared.publisher.Publisher.{Publisher}
+use Rattle.iox2_pubsub.proofs.LiveParts.{publisher-live}
 use Rattle.iox2_domain.specs.Reaches.{Reaches}
 use Rattle.iox2_domain.specs.Shows.{Shows}
 use Rattle.iox2_domain.proofs.ReachesShows.{reaches-shows-same}
@@ -29,11 +31,14 @@ module _ {T U : Type 0} (f g : Fields T U) (loans : ℕ) (environment : Environm
         subst (λ (u : State T U). CreatePublisher environment u (plain_publisher loans) t refusal) (sym shown.state) made,
       )
 
-  -- and holds the publisher that was made
-  pub created-held : (t : State T U) → CreatePublisher environment (state_of (kept_of f)) (plain_publisher loans) t None → Reaches f g t
-      → IsPublisherHandle (kept_of g) (f.config).service_id f.next_port
-  created-held t made reached =
-      let keeps = create-keeps environment (state_of (kept_of f)) (plain_publisher loans) t None made in (
-        ap (λ (c : ServiceConfig). c.service_id) (sym (ap (λ (u : State T U). u.config) reached.state ∙ keeps.config)),
-        subst (λ (u : State T U). HoldsPublisher u f.next_port) (sym reached.state) (create-holds environment (state_of (kept_of f)) (plain_publisher loans) t made),
+  -- and has the publisher that was made
+  pub created-live : (t : State T U) → CreatePublisher environment (state_of (kept_of f)) (plain_publisher loans) t None → Reaches f g t
+      → (publisher : Publisher) → publisher.service_id ≡ (f.config).service_id → publisher.id ≡ f.next_port → IsLivePublisher (kept_of g) publisher
+  created-live t made reached publisher service id =
+      let keeps = create-keeps environment (state_of (kept_of f)) (plain_publisher loans) t None made in
+      publisher-live (kept_of g) _ (
+        refl,
+        service ∙ ap (λ (c : ServiceConfig). c.service_id) (sym (ap (λ (u : State T U). u.config) reached.state ∙ keeps.config)),
+        subst (HoldsPublisher (state_of (kept_of g))) (sym id)
+            (subst (λ (u : State T U). HoldsPublisher u f.next_port) (sym reached.state) (create-holds environment (state_of (kept_of f)) (plain_publisher loans) t made)),
       )

@@ -1,5 +1,5 @@
 -- A receive, seen from outside.
-use Rattle.std.proofs.Common.{◌≡◌, ℕ, get_or, ap, sym, subst, ◌∙◌, Option, Some, None, Result, Ok, Err}
+use Rattle.std.proofs.Common.{◌≡◌, ℕ, true, get_or, ap, sym, subst, ◌∙◌, Option, Some, None, Result, Ok, Err}
 use Rattle.std.specs.Prelude.{IsErrAnd}
 use Rattle.iox2_store.specs.Environments.{fixed_handlers}
 use Rattle.iox2_store.specs.Mailbox.{is_borrowed}
@@ -10,12 +10,19 @@ use Rattle.iox2_store.specs.declared.service_config.ServiceConfig.{ServiceConfig
 use Rattle.iox2_laws.proofs.LoanKeeping.{receive_loans}
 use Rattle.iox2_laws.proofs.ReceiveLaws.{receive_advances}
 use Rattle.iox2_domain.specs.Ports.{SubscriberFields}
-use Rattle.iox2_pubsub.specs.Handles.{IsSubscriberHandle, IsSampleHandle}
-use Rattle.iox2_pubsub.specs.ReceivedSamples.{received, IsHeldIfAny}
+use Rattle.iox2_pubsub.specs.Live.{IsLiveSubscriber, IsLiveSample, IsFromOrigin}
+use Rattle.iox2_pubsub.specs.ReceivedSamples.{received}
+use Rattle.iox2_pubsub.specs.declared.subscriber.Subscriber.{Subscriber}
+use Rattle.iox2_pubsub.proofs.LiveParts.{subscriber-parts, sample-live, origin-live}
 use Rattle.iox2_pubsub.specs.declared.sample.Sample.{Sample}
 use Rattle.iox2_domain.specs.Shows.{Shows}
-use Rattle.iox2_domain.specs.Kept.{Kept, state_of}
-use Rattle.iox2_domain.specs.Fields.{Fields, kept_of}
+use Rattle.iox2_domain.specs.Kept.{Kept, Named, state_of, is_named}
+use Rattle.iox2_domain.specs.Fields.{Fields, kept_of, subscriber_of}
+use Rattle.iox2_domain.specs.Invariant.{is_subscriber}
+use Rattle.iox2_domain.proofs.Containers.{look_up-map}
+use Rattle.iox2_ends.specs.LookUp.{look_up}
+use Rattle.iox2_store.specs.Records.{Subscriber as MachineSubscriber}
+use Rattle.std.specs.Option.{option_map}
 use Rattle.iox2_domain.specs.Receipts.{receive_result, ReceivesAs}
 use Rattle.iox2_domain.specs.declared.receipts.Receipt.{Receipt}
 use Rattle.iox2_domain.proofs.ReachesShows.{reaches-shows}
@@ -35,16 +42,32 @@ module _ {T U : Type 0} where
         received,
       )
 
-  -- the domain holds the sample
-  pub reception-holds : (kept : Kept T U) (f g : Fields T U) → kept_of f ≡ kept → (service_id q : ℕ) (receipt : Receipt) → ReceivesAs f q (Ok (Some receipt)) g
-      → IsSubscriberHandle kept service_id q → IsSampleHandle (kept_of g) service_id q receipt.publisher receipt.number
-  reception-holds kept f g same service_id q receipt receives handle =
-      let config : g.config ≡ f.config =
-      ap (λ (s : State T U). s.config) receives.1.state ∙ (receive_advances fixed_handlers (state_of (kept_of f)) q receives.0 (Got_sample receipt.publisher receipt.number) receives.2).config in (
-        handle.0 ∙ ap (λ (k : Kept T U). (k.config).service_id) (sym same) ∙ ap (λ (x : ServiceConfig). x.service_id) (sym config),
-        ap (λ (s : State T U). is_borrowed receipt.number (s.mailboxes receipt.publisher q)) receives.1.state
-            ∙ received-borrowed (state_of (kept_of f)) q receipt.publisher receipt.number receives.0 receives.2,
-      )
+  -- the sample that was received
+  module _ (kept : Kept T U) (f g : Fields T U) (same : kept_of f ≡ kept) (subscriber : Subscriber) (sample : Sample) (receipt : Receipt)
+      (receives : ReceivesAs f subscriber.id (Ok (Some receipt)) g) (whose : sample.subscriber ≡ subscriber.id) (publisher : sample.publisher ≡ receipt.publisher)
+      (number : sample.number ≡ receipt.number) where
+    is-borrowed : is_borrowed sample.number ((state_of (kept_of g)).mailboxes sample.publisher sample.subscriber) ≡ true
+    is-borrowed =
+        ap (λ (n : ℕ). is_borrowed n ((state_of (kept_of g)).mailboxes sample.publisher sample.subscriber)) number
+        ∙ ap (λ (p : ℕ). is_borrowed receipt.number ((state_of (kept_of g)).mailboxes p sample.subscriber)) publisher
+        ∙ ap (λ (q : ℕ). is_borrowed receipt.number ((state_of (kept_of g)).mailboxes receipt.publisher q)) whose
+        ∙ ap (λ (s : State T U). is_borrowed receipt.number (s.mailboxes receipt.publisher subscriber.id)) receives.1.state
+        ∙ received-borrowed (state_of (kept_of f)) subscriber.id receipt.publisher receipt.number receives.0 receives.2
+
+    -- it is live
+    pub reception-live : sample.service_id ≡ subscriber.service_id → IsLiveSubscriber kept subscriber → IsLiveSample (kept_of g) sample
+    reception-live service live =
+        let config : g.config ≡ f.config =
+        ap (λ (s : State T U). s.config) receives.1.state
+        ∙ (receive_advances fixed_handlers (state_of (kept_of f)) subscriber.id receives.0 (Got_sample receipt.publisher receipt.number) receives.2).config in
+        sample-live (kept_of g) _ (
+          service ∙ (subscriber-parts kept _ live).1 ∙ ap (λ (k : Kept T U). (k.config).service_id) (sym same) ∙ ap (λ (x : ServiceConfig). x.service_id) (sym config),
+          (sample.publisher, is-borrowed),
+        )
+
+    -- and names whom it is from
+    pub reception-origin : IsFromOrigin (kept_of g) sample
+    reception-origin = origin-live (kept_of g) sample is-borrowed
 
   -- the subscriber that was found receives
   pub reception-at : (f g : Fields T U) (place q q' : ℕ) (result result' : Result (Option Receipt) ReceiveError)
@@ -68,7 +91,14 @@ module _ {T U : Type 0} (kept : Kept T U) (f g : Fields T U) (view : kept_of f �
       subst (λ (answer : ReceiveResult). (s' : State T U) × Shows (kept_of g) m s' × Receive fixed_handlers s q s' answer) (sym (error-answered r e same))
       (reception-shows kept f g view q (Err e) receives m s shown)
 
--- and no sample is there to be held
-pub error-holds : {T U : Type 0} (kept : Kept T U) (q : ℕ) (e : ReceiveError) (r : Result (Option Sample) ReceiveError) → IsErrAnd r (λ e'. e' ≡ e) → IsHeldIfAny kept q r
-error-holds kept q e (Ok sample) same = absurd same
-error-holds kept q e (Err e') same = tt
+-- a subscriber that is live stands somewhere
+pub subscriber-missing : {T U : Type 0} (f : Fields T U) (kept : Kept T U) → kept_of f ≡ kept → (subscriber : Subscriber) (q : ℕ) → q ≡ subscriber.id
+    → look_up (is_subscriber q) f.subscribers ≡ None → IsLiveSubscriber kept subscriber → ⊥
+subscriber-missing {T} {U} f kept view subscriber q same none live =
+    let live-here : IsLiveSubscriber (kept_of f) subscriber = subst (λ (k : Kept T U). IsLiveSubscriber k subscriber) (sym view) live in
+    let has = (subscriber-parts (kept_of f) _ live-here).2 in
+    let nothing : (state_of (kept_of f)).subscribers q ≡ None =
+    ap (option_map (λ (z : Named MachineSubscriber). z.port))
+    (look_up-map (is_named q) (subscriber_of f.books f.connections) f.subscribers ∙ ap (option_map (subscriber_of f.books f.connections)) none) in
+    let clash : None ≡ Some has.0 = sym nothing ∙ ap (state_of (kept_of f)).subscribers same ∙ has.1 in
+    absurd cc

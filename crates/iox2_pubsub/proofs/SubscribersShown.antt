@@ -1,5 +1,5 @@
 -- The creation of a subscriber, seen from outside.
-use Rattle.std.proofs.Common.{◌≡◌, ℕ, ap, sym, subst, ◌∙◌}
+use Rattle.std.proofs.Common.{◌≡◌, ℕ, refl, ap, sym, subst, ◌∙◌}
 use Rattle.std.specs.declared.option.Option.TheVariants.{None, Some}
 use Rattle.iox2_store.specs.Environments.{fixed_handlers}
 use Rattle.iox2_store.specs.Ports.{buffer_for, CreateSubscriber}
@@ -8,7 +8,9 @@ use Rattle.iox2_store.specs.State.{State, Messages}
 use Rattle.iox2_store.specs.declared.errors.SubscriberCreateError.{SubscriberCreateError}
 use Rattle.iox2_domain.specs.Kept.{Kept, state_of}
 use Rattle.iox2_domain.specs.Fields.{Fields, kept_of}
-use Rattle.iox2_pubsub.specs.Handles.{IsSubscriberHandle}
+use Rattle.iox2_pubsub.specs.Live.{IsLiveSubscriber}
+use Rattle.iox2_pubsub.specs.declared.subscriber.Subscriber.{Subscriber}
+use Rattle.iox2_pubsub.proofs.LiveParts.{subscriber-live}
 use Rattle.iox2_domain.specs.Reaches.{Reaches}
 use Rattle.iox2_domain.specs.Shows.{Shows}
 use Rattle.iox2_domain.proofs.ReachesShows.{reaches-shows-same}
@@ -49,12 +51,14 @@ module _ {T U : Type 0} (old new : Fields T U) (before : Kept T U) (is_before : 
         )
 
 module _ {T U : Type 0} (old new : Fields T U) (asked : SubscriberSettings) where
-  -- the domain holds the new subscriber
-  pub made-held : (s' : State T U) × CreateSubscriber fixed_handlers (state_of (kept_of old)) asked s' None × Reaches old new s'
-      → (service_id id : ℕ) → service_id ≡ (old.config).service_id → id ≡ old.next_port → IsSubscriberHandle (kept_of new) service_id id
-  made-held made service_id id is_service is_id =
+  -- the domain has the new subscriber
+  pub made-live : (s' : State T U) × CreateSubscriber fixed_handlers (state_of (kept_of old)) asked s' None × Reaches old new s'
+      → (subscriber : Subscriber) → subscriber.service_id ≡ (old.config).service_id → subscriber.id ≡ old.next_port → IsLiveSubscriber (kept_of new) subscriber
+  made-live made subscriber is_service is_id =
       let keeps = create-keeps fixed_handlers (state_of (kept_of old)) asked made.0 None made.1 in
-      let has = create-open fixed_handlers (state_of (kept_of old)) asked made.0 made.1 in (
+      let has = create-open fixed_handlers (state_of (kept_of old)) asked made.0 made.1 in
+      subscriber-live (kept_of new) _ (
+        refl,
         is_service ∙ sym (ap (λ (s : State T U). (s.config).service_id) made.2.state ∙ ap (λ c. c.service_id) keeps.config),
-        (has.port, ap (λ (s : State T U). s.subscribers id) made.2.state ∙ ap made.0.subscribers is_id ∙ has.stands, has.is_open),
+        (has.port, ap (λ (s : State T U). s.subscribers subscriber.id) made.2.state ∙ ap made.0.subscribers is_id ∙ has.stands, has.is_open),
       )

@@ -8,12 +8,15 @@ use Rattle.std.specs.Prelude.{IsSomeAnd, IsErrAnd, MatchOption, is_some}
 use Rattle.iox2_store.specs.Loans.{loan_granted}
 use Rattle.iox2_store.specs.Numbers.{put_at}
 use Rattle.iox2_store.specs.Records.{Loan, Publisher}
-use Rattle.iox2_store.specs.SingleCalls.{HoldsLoan, HoldsPublisher}
+use Rattle.iox2_store.specs.SingleCalls.{HoldsLoan}
 use Rattle.iox2_store.specs.State.{State, Messages}
 use Rattle.iox2_store.specs.declared.errors.LoanError.{LoanError}
 use Rattle.iox2_ends.specs.LookUp.{look_up}
 use Rattle.iox2_store.specs.declared.key.Key.{Key}
-use Rattle.iox2_pubsub.specs.Handles.{IsPublisherHandle, IsUnwrittenLoanHandle, IsLoanKey}
+use Rattle.iox2_pubsub.specs.Live.{IsLivePublisher, IsUnwrittenLoan, IsLoanKey}
+use Rattle.iox2_pubsub.specs.declared.publisher.Publisher.{Publisher as PublisherHandle}
+use Rattle.iox2_pubsub.specs.declared.sample_mut_uninit.SampleMutUninit.{SampleMutUninit}
+use Rattle.iox2_pubsub.proofs.LiveParts.{loan-live, loan-parts, publisher-parts, unwritten-live}
 use Rattle.iox2_domain.specs.Ports.{PublisherFields}
 use Rattle.iox2_domain.specs.Kept.{Kept, Named, state_of, is_named}
 use Rattle.iox2_domain.specs.Fields.{Fields, kept_of, publisher_of, contents_at}
@@ -34,13 +37,16 @@ module _ {T U : Type 0} (f : Fields T U) where
   abbrev machine : PublisherFields → Publisher
   machine x = (publisher_of f.books f.connections x).port
 
-  -- a publisher that nobody has isn't held
-  pub publisher-missing : (p : ℕ) → look_up (is_publisher p) f.publishers ≡ None → HoldsPublisher state p → ⊥
-  publisher-missing p none held =
+  -- a publisher that is live stands somewhere
+  pub publisher-missing : (kept : Kept T U) → kept_of f ≡ kept → (publisher : PublisherHandle) (p : ℕ) → p ≡ publisher.id → look_up (is_publisher p) f.publishers ≡ None
+      → IsLivePublisher kept publisher → ⊥
+  publisher-missing kept view publisher p same none live =
+      let live-here : IsLivePublisher (kept_of f) publisher = subst (λ (k : Kept T U). IsLivePublisher k publisher) (sym view) live in
+      let has = (publisher-parts (kept_of f) _ live-here).2 in
       let nothing : state.publishers p ≡ None =
       ap (option_map (λ (z : Named Publisher). z.port))
       (look_up-map (is_named p) (publisher_of f.books f.connections) f.publishers ∙ ap (option_map (publisher_of f.books f.connections)) none) in
-      let clash : None ≡ Some held.0 = sym nothing ∙ held.1 in
+      let clash : None ≡ Some has.0 = sym nothing ∙ ap state.publishers same ∙ has.1 in
       absurd cc
 
   -- a loan that lies in a slot is held
@@ -82,10 +88,10 @@ module _ {T U : Type 0} (f : Fields T U) where
           (reaches.0, reaches.1, reaches.2),
         )
 
-  -- the new loan is held, and isn't written
-  pub granted-held : (is_default : U → Type 0) (new : Fields T U) (x : PublisherFields) (service_id slot : ℕ) → service_id ≡ (f.config).service_id
-      → LoanReaches {A = ℕ} is_default f x (Ok slot) new → IsUnwrittenLoanHandle (kept_of new) service_id x.id f.next_message
-  granted-held is_default new x service_id slot its reaches =
+  -- the new loan is out, and isn't written
+  granted-live : (is_default : U → Type 0) (new : Fields T U) (x : PublisherFields) (loan : SampleMutUninit) (slot : ℕ) → loan.service_id ≡ (f.config).service_id
+      → loan.publisher ≡ x.id → loan.number ≡ f.next_message → LoanReaches {A = ℕ} is_default f x (Ok slot) new → IsUnwrittenLoan (kept_of new) loan
+  granted-live is_default new x loan slot its publisher number reaches =
       let reached : state_of (kept_of new) ≡ loan_granted reaches.0 state x.id (machine x) 1 x.segments = reaches.3.state in
       let lent : Loan T U = record {
         publisher = x.id;
@@ -93,15 +99,14 @@ module _ {T U : Type 0} (f : Fields T U) where
         user_header = reaches.0;
         cells = replicate (1 * (f.config).units_per_element) None;
         is_written = false;
-      } in (
-        its ∙ ap (λ (t : State T U). (t.config).service_id) (sym reached),
-        (
-          lent,
-          ap (λ (t : State T U). t.loans f.next_message) reached
-              ∙ ap (λ b. cond b (Some lent) (state.loans f.next_message)) (eq-eqb f.next_message f.next_message refl),
-          refl,
-          refl,
-        ),
+      } in
+      unwritten-live (kept_of new) loan (its ∙ ap (λ (t : State T U). (t.config).service_id) (sym reached)) (
+        lent,
+        ap (state_of (kept_of new)).loans number
+            ∙ ap (λ (t : State T U). t.loans f.next_message) reached
+            ∙ ap (λ b. cond b (Some lent) (state.loans f.next_message)) (eq-eqb f.next_message f.next_message refl),
+        sym publisher,
+        refl,
       )
 
 module _ {T U : Type 0} (is_default : U → Type 0) (f new : Fields T U) (i p : ℕ) (answer : Result ℕ LoanError)
@@ -127,20 +132,18 @@ module _ {T U : Type 0} (is_default : U → Type 0) (f new : Fields T U) (i p : 
       (granted-shows f is_default new stands.0 m s (subst (λ (k : Kept T U). Shows k m s) (sym view) shown) A slot a
       (subst (λ (r : Result ℕ LoanError). LoanReaches is_default f stands.0 r new) is its))
 
-  -- it is held
-  pub ok-held : (service_id slot number : ℕ) → answer ≡ Ok slot → number ≡ f.next_message → (kept : Kept T U) → kept_of f ≡ kept → IsPublisherHandle kept service_id p
-      → IsUnwrittenLoanHandle (kept_of new) service_id p number
-  ok-held service_id slot number is next kept view handle =
-      subst (λ (q : ℕ). IsUnwrittenLoanHandle (kept_of new) service_id q number) stands.2
-      (subst (λ (n : ℕ). IsUnwrittenLoanHandle (kept_of new) service_id stands.0.id n) (sym next)
-      (granted-held f is_default new stands.0 service_id slot (handle.0 ∙ sym (ap (λ (k : Kept T U). (k.config).service_id) view))
-      (subst (λ (r : Result ℕ LoanError). LoanReaches is_default f stands.0 r new) is its)))
+  -- it is out
+  pub ok-live : (loan : SampleMutUninit) (slot : ℕ) → answer ≡ Ok slot → loan.publisher ≡ p → loan.number ≡ f.next_message → (kept : Kept T U) → kept_of f ≡ kept
+      → loan.service_id ≡ (kept.config).service_id → IsUnwrittenLoan (kept_of new) loan
+  ok-live loan slot is publisher number kept view service =
+      granted-live f is_default new stands.0 loan slot (service ∙ sym (ap (λ (k : Kept T U). (k.config).service_id) view)) (publisher ∙ sym stands.2) number
+      (subst (λ (r : Result ℕ LoanError). LoanReaches is_default f stands.0 r new) is its)
 
--- a loan is held just where a slot is found for it
+-- a loan is live just where a slot is found for it
 pub loan-key : {T U : Type 0} (f : Fields T U) (kept : Kept T U) (key : Key) → kept_of f ≡ kept → key.service_id ≡ (f.config).service_id → (found : Option LoanSlot)
     → MatchOption found (HoldsLoan (state_of (kept_of f)) key.port key.message → ⊥) (λ at. LiesInSlot f key.port key.message at.book at.slot)
     → (b : Bool) → b ≡ is_some found → (IsTrue b → IsLoanKey kept key) × (IsLoanKey kept key → IsTrue b)
-loan-key {T} {U} f kept key view service found finds b is = (λ is_held. subst (λ (k : Kept T U). IsLoanKey k key) view (service, there found finds (sym is ∙ is_held)), λ held. is ∙ some found finds (subst (λ (k : Kept T U). IsLoanKey k key) (sym view) held).1) where
+loan-key {T} {U} f kept key view service found finds b is = (λ is_live. subst (λ (k : Kept T U). IsLoanKey k key) view (loan-live (kept_of f) key (service, there found finds (sym is ∙ is_live))), λ live. is ∙ some found finds (loan-parts (kept_of f) key (subst (λ (k : Kept T U). IsLoanKey k key) (sym view) live)).1) where
   there : (o : Option LoanSlot) → MatchOption o (HoldsLoan (state_of (kept_of f)) key.port key.message → ⊥) (λ at. LiesInSlot f key.port key.message at.book at.slot) → is_some o ≡ true
       → HoldsLoan (state_of (kept_of f)) key.port key.message
   there None none is_held = absurd cc

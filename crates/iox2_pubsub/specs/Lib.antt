@@ -1,3 +1,3 @@
+pub mod Live
 pub mod ReceivedSamples
-pub mod Handles
 pub mod SendCalls

@@ -1,13 +1,10 @@
 -- What a receive answers.
-use Rattle.std.specs.Prelude.{◌≡◌, ℕ}
 use Rattle.std.specs.declared.option.Option.{Option}
 use Rattle.std.specs.declared.option.Option.TheVariants.{None, Some}
 use Rattle.std.specs.declared.result.Result.{Result}
 use Rattle.std.specs.declared.result.Result.TheVariants.{Ok, Err}
 use Rattle.iox2_store.specs.Receives.{ReceiveResult, Got_sample, No_sample, Receive_error}
 use Rattle.iox2_store.specs.declared.errors.ReceiveError.{ReceiveError}
-use Rattle.iox2_domain.specs.Kept.{Kept}
-use Rattle.iox2_pubsub.specs.Handles.{IsSampleHandle}
 use Rattle.iox2_pubsub.specs.declared.sample.Sample.{Sample}
 
 -- What the machine answers where a receive answers this.
@@ -15,9 +12,3 @@ abbrev pub received : Result (Option Sample) ReceiveError → ReceiveResult
 received (Ok None) = No_sample
 received (Ok (Some sample)) = Got_sample sample.publisher sample.number
 received (Err e) = Receive_error e
-
--- A sample that a receive answers is the subscriber's, and the domain holds it.
-abbrev pub IsHeldIfAny : {T U : Type 0} → Kept T U → (subscriber : ℕ) → Result (Option Sample) ReceiveError → Type 0
-IsHeldIfAny kept subscriber (Ok None) = Unit {0}
-IsHeldIfAny kept subscriber (Ok (Some sample)) = (sample.subscriber ≡ subscriber) × IsSampleHandle kept sample.service_id sample.subscriber sample.publisher sample.number
-IsHeldIfAny kept subscriber (Err e) = Unit {0}

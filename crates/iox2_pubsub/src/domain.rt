@@ -5,6 +5,7 @@ ghost use Rattle.iox2_domain.specs.Kept.{state_of};
 ghost use Rattle.iox2_domain.specs.Invariant.{IsSupported};
 ghost use Rattle.iox2_store.specs.declared.service_config.TypeVariant.TheVariants.{FixedSize};
 ghost use Rattle.iox2_domain.specs.Shows.{Shows};
+ghost use Rattle.iox2_pubsub.specs.Live.{IsSingleValued};
 
 use iox2_domain::DomainState;
 use iox2_store::{BackpressureFn, DegradationFn, DomainCreateError, ServiceConfig, TypeVariant};
@@ -46,7 +47,9 @@ impl<T: Drop, U: Default + Drop> Domain<T, U> {
         requires one_subscriber { config.max_subscribers ≡ 1 }
         requires no_history { config.history_size ≡ 0 }
         requires no_overflow { config.enable_safe_overflow ≡ false }
-        ensures { IfOk result (λ d. Shows d no_messages (fresh config)) }
+        ensures fresh { IfOk result (λ d. Shows d no_messages (fresh config)) }
+        ensures settings { IfOk result (λ d. d.config ≡ config) }
+        ensures single_valued { IfOk result (λ d. config.units_per_element ≡ 1 → IsSingleValued d) }
     {
         let Ok(state) = DomainState::new(alloc, config) else {
             return Err(DomainCreateError::OutOfMemory);
@@ -64,6 +67,7 @@ impl<T: Drop, U: Default + Drop, F: BackpressureFn, G: DegradationFn> Domain<T, 
     pub fn config(&self) -> &ServiceConfig
         ensures value { result.now ≡ self.now.config }
         ensures supported { IsSupported self.now.config }
+        ensures single_valued { (result.now).units_per_element ≡ 1 → IsSingleValued self.now }
         ensures shown { (messages : Messages T U) × Shows self.now messages (state_of self.now) }
     {
         self.state.config()

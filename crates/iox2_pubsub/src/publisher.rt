@@ -1,5 +1,6 @@
 //! A publisher.
 ghost use Rattle.std.specs.Prelude.{◌≡◌};
+ghost use Rattle.iox2_pubsub.specs.Live.{publisher_key};
 
 mod loan;
 
@@ -29,7 +30,7 @@ impl Publisher {
 
     /// Names the publisher without being its handle. This library's own.
     pub fn key(&self) -> Key
-        ensures { result ≡ record { service_id = self.now.service_id; port = self.now.id; message = 0 } }
+        ensures { result ≡ publisher_key self.now }
     {
         Key {
             service_id: self.service_id,
@@ -51,10 +52,11 @@ impl Publisher {
 
 impl<T: Drop, U: Default + Drop, F: BackpressureFn, G: DegradationFn> Domain<T, U, F, G> {
     ghost use Rattle.std.specs.Prelude.{IsTrue, ◌↔◌};
-    ghost use Rattle.iox2_pubsub.specs.Handles.{IsPublisherKey};
+    ghost use Rattle.iox2_pubsub.specs.Live.{IsPublisherKey};
 
     /// Whether the key is that of a publisher of this domain that wasn't closed. This library's
     /// own.
+    #[tactic(auto, unfolding(crate::specs::Live::IsPublisherKey))]
     pub fn holds_publisher(&self, key: Key) -> bool
         ensures { IsTrue result ↔ IsPublisherKey self.now key }
     {

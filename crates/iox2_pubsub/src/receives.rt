@@ -1,5 +1,5 @@
 //! A subscriber receives.
-ghost use Rattle.std.specs.Prelude.{◌≡◌};
+ghost use Rattle.std.specs.Prelude.{◌≡◌, IfOk, IfSome};
 
 use crate::domain::Domain;
 use crate::sample::Sample;
@@ -10,8 +10,8 @@ impl Subscriber {
     ghost use Rattle.iox2_store.specs.Environments.{fixed_handlers};
     ghost use Rattle.iox2_store.specs.Receives.{Receive};
     ghost use Rattle.iox2_store.specs.State.{State, Messages};
-    ghost use Rattle.iox2_pubsub.specs.Handles.{IsSubscriberHandle};
-    ghost use Rattle.iox2_pubsub.specs.ReceivedSamples.{received, IsHeldIfAny};
+    ghost use Rattle.iox2_pubsub.specs.Live.{IsFromOrigin, IsLiveSample, IsLiveSubscriber, IsNewIn, A_sample, Stays};
+    ghost use Rattle.iox2_pubsub.specs.ReceivedSamples.{received};
     ghost use Rattle.iox2_domain.specs.Shows.{Shows};
 
     /// Updates the subscriber's connections and receives a message: from a publisher of which it
@@ -27,10 +27,14 @@ impl Subscriber {
         &self,
         domain: &mut Domain<T, U, F, G>,
     ) -> Result<Option<Sample>, ReceiveError>
-        requires { IsSubscriberHandle domain.old self.now.service_id self.now.id }
+        requires { IsLiveSubscriber domain.old self.now }
         ensures receives { (m : Messages T U) (s : State T U) → Shows domain.old m s
             → (s' : State T U) × Shows domain.new m s' × Receive fixed_handlers s self.now.id s' (received result) }
-        ensures held { IsHeldIfAny domain.new self.now.id result }
+        ensures live { IfOk result (λ sample. IfSome sample (IsLiveSample domain.new)) }
+        ensures new { IfOk result (λ sample. IfSome sample (λ it. IsNewIn domain.old (A_sample it.subscriber it.number))) }
+        ensures origin { IfOk result (λ sample. IfSome sample (IsFromOrigin domain.new)) }
+        ensures subscriber { IfOk result (λ sample. IfSome sample (λ it. it.subscriber ≡ self.now.id)) }
+        ensures stays { Stays domain.old domain.new }
     {
         let Some(place) = domain.state.find_subscriber(self.id.value(), self.place) else {
             unreachable!()

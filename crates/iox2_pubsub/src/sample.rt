@@ -27,14 +27,14 @@ impl Sample {
     ghost use Rattle.iox2_store.specs.Records.{Entry};
     ghost use Rattle.iox2_store.specs.Releases.{released};
     ghost use Rattle.iox2_store.specs.State.{State, Messages};
-    ghost use Rattle.iox2_pubsub.specs.Handles.{IsLiveSample, IsSampleHandle};
+    ghost use Rattle.iox2_pubsub.specs.Live.{IsFromOrigin, IsLiveSample, IsSingleValued, A_sample, StaysBut, sample_key};
     ghost use Rattle.iox2_domain.specs.Shows.{Shows};
 
     /// Names the sample among all that its domain has: by its subscriber and its number.
     ///
     /// This library's own.
     pub fn key(&self) -> Key
-        ensures { result ≡ record { service_id = self.now.service_id; port = self.now.subscriber; message = self.now.number } }
+        ensures { result ≡ sample_key self.now }
     {
         Key {
             service_id: self.service_id,
@@ -53,15 +53,15 @@ impl Sample {
         *publisher
     }
 
-    /// The message's value, in a domain whose `units_per_element` is 1.
+    /// The message's value, in a domain of single values.
     ///
     /// iceoryx2's `Sample::payload` (`src/sample.rs`).
     pub fn payload<'a, T: Drop, U: Default + Drop, F: BackpressureFn, G: DegradationFn>(
         &self,
         domain: &'a Domain<T, U, F, G>,
     ) -> &'a T
-        requires held { IsLiveSample domain.now self.now.service_id self.now.subscriber self.now.number }
-        requires single { (domain.now.config).units_per_element ≡ 1 }
+        requires live { IsLiveSample domain.now self.now }
+        requires single_valued { IsSingleValued domain.now }
         ensures { (m : Messages T U) (s : State T U) → Shows domain.now m s
             → (entry : Entry T U) × (m self.now.number ≡ Some entry) × (entry.values ≡ result.now ∷ []) }
     {
@@ -78,10 +78,10 @@ impl Sample {
         &self,
         domain: &'a Domain<T, U, F, G>,
     ) -> &'a Header
-        requires { IsLiveSample domain.now self.now.service_id self.now.subscriber self.now.number }
+        requires { IsLiveSample domain.now self.now }
         ensures header { (m : Messages T U) (s : State T U) → Shows domain.now m s
             → (entry : Entry T U) × (m self.now.number ≡ Some entry) × (entry.header ≡ result.now) }
-        ensures origin { IsSampleHandle domain.now self.now.service_id self.now.subscriber self.now.publisher self.now.number → (result.now).publisher_id ≡ self.now.publisher }
+        ensures origin { IsFromOrigin domain.now self.now → (result.now).publisher_id ≡ self.now.publisher }
     {
         let receiver = self.subscriber.value();
         domain
@@ -97,10 +97,12 @@ impl Sample {
         self,
         domain: &mut Domain<T, U, F, G>,
     )
-        requires { IsLiveSample domain.old self.service_id self.subscriber self.number }
-        ensures { (m : Messages T U) (s : State T U) → Shows domain.old m s
+        requires { IsLiveSample domain.old self }
+        ensures released { (m : Messages T U) (s : State T U) → Shows domain.old m s
             → (publisher : ℕ) → IsTrue (is_borrowed self.number (s.mailboxes publisher self.subscriber))
             → (s' : State T U) × Shows domain.new m s' × (s' ≡ released s publisher self.subscriber self.number) }
+        ensures spent { IsLiveSample domain.new self → ⊥ }
+        ensures stays { StaysBut (A_sample self.subscriber self.number) domain.old domain.new }
     {
         let Sample {
             service_id: _,
@@ -131,12 +133,13 @@ impl Sample {
 
 impl<T: Drop, U: Default + Drop, F: BackpressureFn, G: DegradationFn> Domain<T, U, F, G> {
     ghost use Rattle.std.specs.Prelude.{IsTrue, ◌↔◌};
-    ghost use Rattle.iox2_pubsub.specs.Handles.{IsSampleKey};
+    ghost use Rattle.iox2_pubsub.specs.Live.{IsSampleKey};
     ghost use Rattle.iox2_domain.specs.Shows.{KeepsEntries};
 
     /// Whether the key is that of a sample of this domain that wasn't released, so that the sample's
     /// calls may be made. From which publisher the message is borrowed, its header says. This
     /// library's own.
+    #[tactic(auto, unfolding(crate::specs::Live::IsSampleKey))]
     pub fn holds_sample(&self, key: Key) -> bool
         ensures held { IsTrue result ↔ IsSampleKey self.now key }
         ensures entries { KeepsEntries self.now }

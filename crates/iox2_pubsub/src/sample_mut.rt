@@ -19,19 +19,19 @@ pub struct SampleMut {
 impl SampleMut {
     ghost use Rattle.std.specs.Prelude.{Some};
     ghost use Rattle.iox2_store.specs.State.{State, Messages};
-    ghost use Rattle.iox2_pubsub.specs.Handles.{IsLiveLoan, IsWrittenLoanHandle};
+    ghost use Rattle.iox2_pubsub.specs.Live.{IsLoanKey, IsSingleValued, IsWrittenLoan, written_key};
     ghost use Rattle.iox2_domain.specs.LoanCalls.{HasCell, HasLoanHeader};
     ghost use Rattle.iox2_domain.specs.Shows.{Shows};
 
-    /// The payload, in a domain whose `units_per_element` is 1.
+    /// The payload, in a domain of single values.
     ///
     /// iceoryx2's `SampleMut::payload` (`src/sample_mut.rs`).
     pub fn payload<'a, T: Drop, U: Default + Drop, F: BackpressureFn, G: DegradationFn>(
         &self,
         domain: &'a Domain<T, U, F, G>,
     ) -> &'a T
-        requires held { IsWrittenLoanHandle domain.now self.now.service_id self.now.publisher self.now.number }
-        requires single { (domain.now.config).units_per_element ≡ 1 }
+        requires live { IsWrittenLoan domain.now self.now }
+        requires single_valued { IsSingleValued domain.now }
         ensures { (m : Messages T U) (s : State T U) → Shows domain.now m s → HasCell s self.now.number (Some result.now) }
     {
         domain
@@ -46,7 +46,7 @@ impl SampleMut {
         &self,
         domain: &'a Domain<T, U, F, G>,
     ) -> &'a Header
-        requires { IsLiveLoan domain.now self.now.service_id self.now.publisher self.now.number }
+        requires { IsLoanKey domain.now (written_key self.now) }
         ensures header { (m : Messages T U) (s : State T U) → Shows domain.now m s → HasLoanHeader s self.now.number result.now }
         ensures origin { (result.now).publisher_id ≡ self.now.publisher }
     {
@@ -57,7 +57,7 @@ impl SampleMut {
 
     /// Names the loan without being its handle. This library's own.
     pub fn key(&self) -> Key
-        ensures { result ≡ record { service_id = self.now.service_id; port = self.now.publisher; message = self.now.number } }
+        ensures { result ≡ written_key self.now }
     {
         Key {
             service_id: self.service_id,

@@ -22,11 +22,11 @@ impl SampleMutUninit {
     ghost use Rattle.iox2_store.specs.Records.{Loan};
     ghost use Rattle.iox2_store.specs.State.{State, Messages, with_loan};
     ghost use Rattle.iox2_store.specs.Loans.{written};
-    ghost use Rattle.iox2_pubsub.specs.Handles.{IsLiveLoan, IsUnwrittenLoanHandle, IsWrittenLoanHandle};
+    ghost use Rattle.iox2_pubsub.specs.Live.{IsLoanKey, IsSingleValued, IsUnwrittenLoan, IsWrittenLoan, A_loan, StaysBut, unwritten_key};
     ghost use Rattle.iox2_domain.specs.LoanCalls.{HasCell, HasLoanHeader};
     ghost use Rattle.iox2_domain.specs.Shows.{Shows};
 
-    /// Writes the payload, in a domain whose `units_per_element` is 1, and makes the loan one that
+    /// Writes the payload, in a domain of single values, and makes the loan one that
     /// may be sent.
     ///
     /// iceoryx2's `SampleMutUninit::write_payload` (`src/sample_mut_uninit.rs`).
@@ -35,13 +35,14 @@ impl SampleMutUninit {
         domain: &mut Domain<T, U, F, G>,
         value: T,
     ) -> SampleMut
-        requires held { IsUnwrittenLoanHandle domain.old self.service_id self.publisher self.number }
-        requires single { (domain.old.config).units_per_element ≡ 1 }
+        requires live { IsUnwrittenLoan domain.old self }
+        requires single_valued { IsSingleValued domain.old }
         ensures written { (m : Messages T U) (s : State T U) → Shows domain.old m s → (l : Loan T U) × (s.loans self.number ≡ Some l) × Shows domain.new m (with_loan s self.number (Some (written l value))) }
-        ensures held { IsWrittenLoanHandle domain.new result.service_id result.publisher result.number }
+        ensures live { IsWrittenLoan domain.new result }
         ensures service_id { result.service_id ≡ self.service_id }
         ensures publisher { result.publisher ≡ self.publisher }
         ensures number { result.number ≡ self.number }
+        ensures stays { StaysBut (A_loan self.number) domain.old domain.new }
     {
         let SampleMutUninit {
             service_id,
@@ -60,15 +61,15 @@ impl SampleMutUninit {
         }
     }
 
-    /// The payload, in a domain whose `units_per_element` is 1, and `None` where it isn't written.
+    /// The payload, in a domain of single values, and `None` where it isn't written.
     ///
     /// iceoryx2's `SampleMutUninit::payload` (`src/sample_mut_uninit.rs`).
     pub fn payload<'a, T: Drop, U: Default + Drop, F: BackpressureFn, G: DegradationFn>(
         &self,
         domain: &'a Domain<T, U, F, G>,
     ) -> &'a Option<T>
-        requires held { IsUnwrittenLoanHandle domain.now self.now.service_id self.now.publisher self.now.number }
-        requires single { (domain.now.config).units_per_element ≡ 1 }
+        requires live { IsUnwrittenLoan domain.now self.now }
+        requires single_valued { IsSingleValued domain.now }
         ensures { (m : Messages T U) (s : State T U) → Shows domain.now m s → HasCell s self.now.number result.now }
     {
         domain
@@ -83,7 +84,7 @@ impl SampleMutUninit {
         &self,
         domain: &'a Domain<T, U, F, G>,
     ) -> &'a Header
-        requires { IsLiveLoan domain.now self.now.service_id self.now.publisher self.now.number }
+        requires { IsLoanKey domain.now (unwritten_key self.now) }
         ensures header { (m : Messages T U) (s : State T U) → Shows domain.now m s → HasLoanHeader s self.now.number result.now }
         ensures origin { (result.now).publisher_id ≡ self.now.publisher }
     {
@@ -94,7 +95,7 @@ impl SampleMutUninit {
 
     /// Names the loan without being its handle. This library's own.
     pub fn key(&self) -> Key
-        ensures { result ≡ record { service_id = self.now.service_id; port = self.now.publisher; message = self.now.number } }
+        ensures { result ≡ unwritten_key self.now }
     {
         Key {
             service_id: self.service_id,

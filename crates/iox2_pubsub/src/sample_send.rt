@@ -12,7 +12,7 @@ impl SampleMut {
     ghost use Rattle.iox2_store.specs.Numbers.{put_at};
     ghost use Rattle.iox2_store.specs.Records.{Loan};
     ghost use Rattle.iox2_store.specs.State.{State, Messages};
-    ghost use Rattle.iox2_pubsub.specs.Handles.{IsWrittenLoanHandle};
+    ghost use Rattle.iox2_pubsub.specs.Live.{IsLoanKey, IsWrittenLoan, A_loan, StaysBut, written_key};
     ghost use Rattle.iox2_pubsub.specs.SendCalls.{Sends};
     ghost use Rattle.iox2_domain.specs.Shows.{Shows};
 
@@ -29,10 +29,12 @@ impl SampleMut {
         self,
         domain: &mut Domain<T, U, F, G>,
     ) -> Result<SendOutcome, SendError>
-        requires { IsWrittenLoanHandle domain.old self.service_id self.publisher self.number }
+        requires { IsWrittenLoan domain.old self }
         ensures ok { IsOk result }
         ensures sent { (m : Messages T U) (s : State T U) (l : Loan T U) → Shows domain.old m s → s.loans self.number ≡ Some l
             → (s' : State T U) × Shows domain.new (put_at m self.number (Some (entry_of l))) s' × Sends s self.number l result s' }
+        ensures spent { IsLoanKey domain.new (written_key self) → ⊥ }
+        ensures stays { StaysBut (A_loan self.number) domain.old domain.new }
     {
         let SampleMut {
             service_id: _,

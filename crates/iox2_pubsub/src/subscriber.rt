@@ -1,5 +1,6 @@
 //! A subscriber.
 ghost use Rattle.std.specs.Prelude.{◌≡◌};
+ghost use Rattle.iox2_pubsub.specs.Live.{subscriber_key};
 
 use crate::domain::Domain;
 use iox2_store::{BackpressureFn, DegradationFn, Key, UniqueSubscriberId};
@@ -37,7 +38,7 @@ impl Subscriber {
 
     /// Names the subscriber without being its handle. This library's own.
     pub fn key(&self) -> Key
-        ensures { result ≡ record { service_id = self.now.service_id; port = self.now.id; message = 0 } }
+        ensures { result ≡ subscriber_key self.now }
     {
         Key {
             service_id: self.service_id,
@@ -60,10 +61,11 @@ impl Subscriber {
 
 impl<T: Drop, U: Default + Drop, F: BackpressureFn, G: DegradationFn> Domain<T, U, F, G> {
     ghost use Rattle.std.specs.Prelude.{IsTrue, ◌↔◌};
-    ghost use Rattle.iox2_pubsub.specs.Handles.{IsSubscriberKey};
+    ghost use Rattle.iox2_pubsub.specs.Live.{IsSubscriberKey};
 
     /// Whether the key is that of a subscriber of this domain that wasn't closed. This library's
     /// own.
+    #[tactic(auto, unfolding(crate::specs::Live::IsSubscriberKey))]
     pub fn holds_subscriber(&self, key: Key) -> bool
         ensures { IsTrue result ↔ IsSubscriberKey self.now key }
     {

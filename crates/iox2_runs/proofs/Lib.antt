@@ -1,4 +1,3 @@
-pub mod PortsStay
 pub mod TableSteps
 pub mod TableLooks
 pub mod TableCalls

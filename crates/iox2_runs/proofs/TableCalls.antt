@@ -5,7 +5,6 @@ use Rattle.std.specs.Option.{option_and_then}
 use Rattle.std.proofs.lemmas.Bool.{ne_eqb}
 use Rattle.std.proofs.lemmas.Option.{same_Some}
 use Rattle.iox2_store.specs.Numbers.{put_at}
-use Rattle.iox2_store.specs.Mailbox.{is_borrowed}
 use Rattle.iox2_store.specs.Records.{Loan}
 use Rattle.iox2_store.specs.State.{State, Messages, with_loan, is_blocked}
 use Rattle.iox2_store.specs.Environments.{fixed_handlers}
@@ -22,7 +21,8 @@ use Rattle.iox2_commands.specs.declared.command.Command.{Command}
 use Rattle.iox2_commands.specs.declared.command.Command.TheVariants.{Nothing, WriteAll, Send as SendLoan}
 use Rattle.iox2_commands.specs.declared.reply.Reply.{Reply}
 use Rattle.iox2_commands.specs.declared.reply.Reply.TheVariants.{Done, Skipped, Delivered}
-use Rattle.iox2_runs.proofs.PortsStay.{PortsStay, ports_stay_themselves, send_stays, loan_set_stays}
+use Rattle.iox2_laws.proofs.SamplesStay.{same_borrowed}
+use Rattle.iox2_laws.proofs.PortsStay.{PortsStay, ports_stay_themselves, send_stays, loan_set_stays}
 use Rattle.iox2_runs.proofs.TableSteps.{table_next, all_still, others_still}
 use Rattle.iox2_runs.proofs.TableLooks.{Lacks, is_unwritten, is_written, lacks_unwritten, lacks_written, handle_of, has_unwritten, has_written}
 
@@ -37,10 +37,6 @@ pub set_length : {A : Type 0} (xs : List A) (i : ℕ) (x : A) → length (slice_
 set_length [] i x = refl
 set_length (y ∷ xs) zero x = refl
 set_length (y ∷ xs) (suc i) x = ap suc (set_length xs i x)
-
--- what is borrowed is what was
-pub same_borrowed : {T U : Type 0} (s s' : State T U) → PortsStay s s' → (p q n : ℕ) → is_borrowed n (s'.mailboxes p q) ≡ is_borrowed n (s.mailboxes p q)
-same_borrowed s s' stay p q n = ap (λ (ns : List ℕ). is_borrowed n (record { waiting = []; borrowed = ns })) (stay.borrowed p q)
 
 module _ {T U : Type 0} (defaults : Defaults T U) (Shown : Messages T U → State T U → Type 0) (m : Messages T U) (s : State T U) (handles : List Handle)
     (events : List (Event T U)) (table : List Kept) (w : IsTable s handles events table) (default_value : T) (default_header : U)

@@ -1,16 +1,15 @@
 -- Ports and loans are made, with what the run keeps.
-use Rattle.std.proofs.Common.{◌≡◌, ℕ, ◌≤◌, ◌<◌, ◌+◌, Bool, true, false, List, [], ◌∷◌, ◌++◌, cond, refl, sym, ap, subst, ◌∙◌, eqb, Option, None, Some, arith, ⊎_elim, inl, inr}
+use Rattle.std.proofs.Common.{◌≡◌, ℕ, ◌≤◌, Bool, true, false, List, [], ◌∷◌, ◌++◌, cond, refl, sym, ap, subst, ◌∙◌, eqb, Option, None, Some, arith, ⊎_elim, inl, inr}
 use Rattle.std.specs.Bool.{MatchBool}
 use Rattle.std.specs.Prelude.{MatchOption, ◌==◌, nat_lt, slice_get}
 use Rattle.std.proofs.lemmas.Option.{none-some}
-use Rattle.std.proofs.lemmas.Bool.{ne_eqb, eqb-true, eq-eqb}
+use Rattle.std.proofs.lemmas.Bool.{eqb-true, eq-eqb}
 use Rattle.iox2_store.specs.Limits.{last_number, buffer_limit}
-use Rattle.iox2_store.specs.Numbers.{size}
 use Rattle.iox2_store.specs.Places.{free_place}
 use Rattle.iox2_store.specs.Records.{Loan, Publisher, Subscriber, Environment, PublisherSettings, SubscriberSettings, Fixed}
-use Rattle.iox2_store.specs.State.{State, Messages, held}
+use Rattle.iox2_store.specs.State.{State, Messages}
 use Rattle.iox2_store.specs.Environments.{fixed_handlers, ample_memory}
-use Rattle.iox2_store.specs.Loans.{GrantLoan, StaticLoan, DynamicLoan, limit_error, is_static, loan_granted}
+use Rattle.iox2_store.specs.Loans.{GrantLoan, StaticLoan, DynamicLoan, limit_error, is_static}
 use Rattle.iox2_store.specs.Ports.{CreatePublisher, CreateSubscriber, MakePublisher, MakeSubscriber, with_new_publisher, with_new_subscriber, new_publisher, new_subscriber, first_segment_fits, buffer_for}
 use Rattle.iox2_store.specs.declared.service_config.ServiceConfig.{ServiceConfig}
 use Rattle.iox2_store.specs.declared.service_config.TypeVariant.{TypeVariant}
@@ -25,7 +24,7 @@ use Rattle.iox2_store.specs.declared.errors.PublisherCreateError.{PublisherCreat
 use Rattle.iox2_store.specs.declared.errors.SubscriberCreateError.{SubscriberCreateError}
 use Rattle.iox2_store.specs.declared.warning.Warning.TheVariants.{PublisherPartlyConnected, SubscriberPartlyConnected}
 use Rattle.iox2_laws.proofs.Cases.{by_option, by_bool}
-use Rattle.iox2_laws.proofs.Puts.{put_at-same, put_at-other}
+use Rattle.iox2_laws.proofs.Puts.{put_at-same}
 use Rattle.iox2_laws.proofs.LoanKeeping.{create_publisher_loans, create_subscriber_loans}
 use Rattle.iox2_commands.specs.Outcomes.{Handle, Publisher_handle, Subscriber_handle, Loan_handle, Sample_handle, Event, No_event, outcome}
 use Rattle.iox2_commands.specs.Runs.{Defaults}
@@ -36,10 +35,12 @@ use Rattle.iox2_commands.specs.declared.command.Command.{Command}
 use Rattle.iox2_commands.specs.declared.command.Command.TheVariants.{CreatePublisher as PublisherCommand, CreateSubscriber as SubscriberCommand, LoanUninit}
 use Rattle.iox2_commands.specs.declared.reply.Reply.{Reply}
 use Rattle.iox2_commands.specs.declared.reply.Reply.TheVariants.{Skipped, PublisherMade, PublisherRefused, SubscriberMade, SubscriberRefused, Loaned, LoanRefused}
-use Rattle.iox2_runs.proofs.PortsStay.{PortsStay, update_publisher_stays, update_subscriber_stays, warning_stays, create_publisher_stays, create_subscriber_stays, grant_loan_stays, ports_stay_trans}
+use Rattle.iox2_laws.proofs.PortsStay.{PortsStay, update_publisher_stays, update_subscriber_stays, warning_stays, create_publisher_stays, create_subscriber_stays, grant_loan_stays, ports_stay_trans}
 use Rattle.iox2_runs.proofs.TableSteps.{table_next, all_still}
 use Rattle.iox2_runs.proofs.TableLooks.{Lacks, is_publisher, lacks_publisher, has_publisher, handle_of}
-use Rattle.iox2_runs.proofs.TableCalls.{same_borrowed, quiet_comes, skip_comes, at_none, at_some}
+use Rattle.iox2_laws.proofs.SamplesStay.{same_borrowed}
+use Rattle.iox2_laws.proofs.NextLoan.{IsNextLoan, loan_next, loan_refused}
+use Rattle.iox2_runs.proofs.TableCalls.{quiet_comes, skip_comes, at_none, at_some}
 
 module _ {T U : Type 0} (environment : Environment) (s : State T U) where
   -- a publisher that was made is there, and free
@@ -74,54 +75,6 @@ module _ {T U : Type 0} (environment : Environment) (s : State T U) where
           let stay : PortsStay new s' = subst (PortsStay new) (sym i.3)
           (ports_stay_trans new i.0 _ (update_subscriber_stays environment new s.next_port i.0 i.1 i.2) (warning_stays i.0 (SubscriberPartlyConnected s.next_port) i.1)) in
           (stay.remain).subscribers s.next_port (new_subscriber given place) (put_at-same s.subscribers s.next_port (Some (new_subscriber given place))) refl
-
-  -- a loan that was granted is the next number's, and nothing else changed of the loans
-  pub record IsNextLoan (p : ℕ) (s' : State T U) : Type 0 where
-    pub loan : Loan T U
-    pub there : s'.loans s.next_message ≡ Some loan
-    pub publisher : loan.publisher ≡ p
-    pub unwritten : loan.is_written ≡ false
-    pub next : s'.next_message ≡ s.next_message + 1
-    pub others : (n : ℕ) → n < s.next_message → s'.loans n ≡ s.loans n
-
-  granted_next : (default_header : U) (p : ℕ) (x : Publisher) (len segments : ℕ) → IsNextLoan p (loan_granted default_header s p x len segments)
-  granted_next default_header p x len segments = record {
-    loan = _;
-    there = put_at-same s.loans s.next_message _;
-    publisher = refl;
-    unwritten = refl;
-    next = refl;
-    others = λ n low. put_at-other s.loans s.next_message _ n (ne_eqb n s.next_message (λ e. omega (arith, low, e)));
-  }
-
-  pub loan_next : (default_header : U) (checks_length : Bool) (len p : ℕ) (s' : State T U) → GrantLoan environment default_header checks_length len s p s' None → IsNextLoan p s'
-  loan_next default_header checks_length len p s' h =
-      by_option (IsNextLoan p s') (s.publishers p) _ _ h (λ _ v. absurd v) (λ x _ k.
-      by_option (IsNextLoan p s') (limit_error checks_length x len) _ _ k
-      (λ _ j. by_bool (IsNextLoan p s') (is_static x.allocation_strategy) _ _ j
-      (λ _ i. by_bool (IsNextLoan p s') (size (held s p x) == x.slots) _ _ i (λ _ g. absurd (none-some _ g.1)) (λ _ g.
-      by_bool (IsNextLoan p s') (s.next_message == last_number) _ _ g (λ _ f. absurd (none-some _ f.1))
-      (λ _ f. subst (IsNextLoan p) (sym f.0) (granted_next default_header p x len x.segments))))
-      (λ _ i. subst (IsNextLoan p) (sym i.4) (granted_next default_header p x len i.2)))
-      (λ limit _ j. absurd (none-some _ j.1)))
-
-  dynamic_refused : (default_header : U) (p : ℕ) (x : Publisher) (len : ℕ) (s' : State T U) (e : LoanError) → DynamicLoan environment default_header s p x len s' (Some e) → s' ≡ s
-  dynamic_refused default_header p x len s' OutOfMemory h = h.0
-  dynamic_refused default_header p x len s' InternalFailure h = h.0
-  dynamic_refused default_header p x len s' ExceedsMaxLoans h = absurd h
-  dynamic_refused default_header p x len s' ExceedsMaxLoanSize h = absurd h
-
-  -- a loan that was refused changed nothing
-  pub loan_refused : (default_header : U) (checks_length : Bool) (len p : ℕ) (s' : State T U) (e : LoanError) → GrantLoan environment default_header checks_length len s p s' (Some e) → s' ≡ s
-  loan_refused default_header checks_length len p s' e h =
-      by_option (s' ≡ s) (s.publishers p) _ _ h (λ _ v. absurd v) (λ x _ k.
-      by_option (s' ≡ s) (limit_error checks_length x len) _ _ k
-      (λ _ j. by_bool (s' ≡ s) (is_static x.allocation_strategy) _ _ j
-      (λ _ i. by_bool (s' ≡ s) (size (held s p x) == x.slots) _ _ i (λ _ g. g.0) (λ _ g.
-      by_bool (s' ≡ s) (s.next_message == last_number) _ _ g (λ _ f. f.0)
-      (λ _ f. let clash : Some e ≡ None = f.1 in absurd (none-some e (sym clash)))))
-      (λ _ i. dynamic_refused default_header p x len s' e i))
-      (λ limit _ j. j.0))
 
 module _ {T U : Type 0} (defaults : Defaults T U) (Shown : Messages T U → State T U → Type 0) (m : Messages T U) (s : State T U) (handles : List Handle)
     (events : List (Event T U)) (table : List Kept) (w : IsTable s handles events table) (default_value : T) (default_header : U)

@@ -12,7 +12,7 @@ use Rattle.iox2_commands.specs.Runs.{received}
 use Rattle.iox2_runs.specs.Tables.{Kept, Nothing_kept, Kept_publisher, Kept_subscriber, Kept_unwritten, Kept_written, Kept_sample, IsFree, HasLoan, IsSingle, IsKept, IsTable}
 use Rattle.iox2_laws.proofs.NumberLemmas.{IsOnce-apart, contains_left, contains_right, contains_first}
 use Rattle.iox2_commands.proofs.GrowingLists.{old_or_last, longer}
-use Rattle.iox2_runs.proofs.PortsStay.{Remain}
+use Rattle.iox2_laws.proofs.PortsStay.{Remain}
 use Rattle.iox2_commands.proofs.Order.{received-append}
 
 module _ {T U : Type 0} (s s' : State T U) (remain : Remain s s') where

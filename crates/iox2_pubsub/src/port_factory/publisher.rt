@@ -3,7 +3,7 @@ ghost use Rattle.std.specs.Prelude.{◌≡◌, ℕ, None, Some, IfOk, MatchResul
 ghost use Rattle.iox2_store.specs.Environments.{fixed_handlers};
 ghost use Rattle.iox2_store.specs.Ports.{CreatePublisher};
 ghost use Rattle.iox2_store.specs.State.{State, Messages};
-ghost use Rattle.iox2_pubsub.specs.Handles.{IsPublisherHandle};
+ghost use Rattle.iox2_pubsub.specs.Live.{IsLivePublisher, Stays};
 ghost use Rattle.iox2_domain.specs.NewPublisher.{plain_publisher};
 ghost use Rattle.iox2_domain.specs.Shows.{Shows};
 
@@ -78,7 +78,8 @@ impl PortFactoryPublisher {
             × MatchResult result
             (λ publisher. (publisher.id ≡ s.next_port) × CreatePublisher fixed_handlers s self s' None)
             (λ e. CreatePublisher fixed_handlers s self s' (Some e)) }
-        ensures held { IfOk result (λ publisher. IsPublisherHandle domain.new publisher.service_id publisher.id) }
+        ensures live { IfOk result (λ publisher. IsLivePublisher domain.new publisher) }
+        ensures stays { Stays domain.old domain.new }
     {
         let service_id = domain.state.config().service_id;
         let id = UniquePublisherId::new(domain.state.next_port());

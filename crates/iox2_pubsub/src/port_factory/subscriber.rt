@@ -3,7 +3,7 @@ ghost use Rattle.std.specs.Prelude.{◌≡◌, None, Some, IfOk, MatchResult};
 ghost use Rattle.iox2_store.specs.Environments.{fixed_handlers};
 ghost use Rattle.iox2_store.specs.Ports.{default_subscriber_settings, buffer_for, CreateSubscriber};
 ghost use Rattle.iox2_store.specs.State.{State, Messages};
-ghost use Rattle.iox2_pubsub.specs.Handles.{IsSubscriberHandle};
+ghost use Rattle.iox2_pubsub.specs.Live.{IsLiveSubscriber, Stays};
 ghost use Rattle.iox2_domain.specs.Shows.{Shows};
 
 use crate::domain::Domain;
@@ -58,7 +58,8 @@ impl PortFactorySubscriber {
         ensures creates { (m : Messages T U) (s : State T U) → Shows domain.old m s → (s' : State T U) × Shows domain.new m s' × MatchResult result
             (λ subscriber. CreateSubscriber fixed_handlers s self s' None × (subscriber.id ≡ s.next_port) × (subscriber.buffer_size ≡ buffer_for self))
             (λ error. CreateSubscriber fixed_handlers s self s' (Some error)) }
-        ensures held { IfOk result (λ subscriber. IsSubscriberHandle domain.new subscriber.service_id subscriber.id) }
+        ensures live { IfOk result (λ subscriber. IsLiveSubscriber domain.new subscriber) }
+        ensures stays { Stays domain.old domain.new }
     {
         let service_id = domain.state.config().service_id;
         let id = UniqueSubscriberId::new(domain.state.next_port());

@@ -8,7 +8,7 @@ use iox2_store::{BackpressureFn, DegradationFn, Key, LoanError};
 
 impl Publisher {
     ghost use Rattle.iox2_store.specs.State.{State, Messages};
-    ghost use Rattle.iox2_pubsub.specs.Handles.{IsPublisherHandle, IsUnwrittenLoanHandle};
+    ghost use Rattle.iox2_pubsub.specs.Live.{IsLivePublisher, IsSingleValued, IsUnwrittenLoan, IsNewIn, A_loan, Stays};
     ghost use Rattle.iox2_domain.specs.Lending.{LoanCall};
     ghost use Rattle.iox2_domain.specs.Shows.{Shows};
 
@@ -27,11 +27,14 @@ impl Publisher {
         &self,
         domain: &mut Domain<T, U, F, G>,
     ) -> Result<SampleMutUninit, LoanError>
-        requires { IsPublisherHandle domain.old self.now.service_id self.now.id }
+        requires live { IsLivePublisher domain.old self.now }
+        requires single_valued { IsSingleValued domain.old }
         ensures lends { (m : Messages T U) (s : State T U) → Shows domain.old m s → (s' : State T U) × Shows domain.new m s' × LoanCall U.is_default s self.now.id result s' }
-        ensures held { IfOk result (λ loan. IsUnwrittenLoanHandle domain.new loan.service_id loan.publisher loan.number) }
+        ensures live { IfOk result (λ loan. IsUnwrittenLoan domain.new loan) }
+        ensures new { IfOk result (λ loan. IsNewIn domain.old (A_loan loan.number)) }
         ensures number { IfOk result (λ loan. loan.number ≡ domain.old.next_message) }
         ensures publisher { IfOk result (λ loan. loan.publisher ≡ self.now.id) }
+        ensures stays { Stays domain.old domain.new }
     {
         let Some(place) = domain.state.find_publisher(self.id.value(), self.place) else {
             unreachable!();
@@ -49,10 +52,11 @@ impl Publisher {
 
 impl<T: Drop, U: Default + Drop, F: BackpressureFn, G: DegradationFn> Domain<T, U, F, G> {
     ghost use Rattle.std.specs.Prelude.{IsTrue, ◌↔◌};
-    ghost use Rattle.iox2_pubsub.specs.Handles.{IsLoanKey};
+    ghost use Rattle.iox2_pubsub.specs.Live.{IsLoanKey};
 
     /// Whether the key is that of a loan of this domain that is out: its message wasn't sent, nor
     /// was it given back. This library's own.
+    #[tactic(auto, unfolding(crate::specs::Live::IsLoanKey))]
     pub fn holds_loan(&self, key: Key) -> bool
         ensures { IsTrue result ↔ IsLoanKey self.now key }
     {

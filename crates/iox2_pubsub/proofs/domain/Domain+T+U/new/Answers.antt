@@ -1,8 +1,20 @@
+use Rattle.std.proofs.Common.{ap, ◌∙◌}
+use Rattle.iox2_store.specs.declared.service_config.ServiceConfig.{ServiceConfig}
+use Rattle.iox2_domain.specs.Fields.{kept_of}
+use Rattle.iox2_pubsub.proofs.LiveParts.{single-valued}
 use Rattle.iox2_pubsub.proofs.Fresh.{new_is_domain, new_is_shown}
 use Rattle.iox2_pubsub.proofs.domain.Domain+T+U.new.Goals as goal
 
-pub returns : goal.returns
-returns g c = new_is_shown {T = g.row.T.Denot} {U = g.row.U.Denot} c.args.config c.in-Ok.state c.in-Ok.ensures
+pub returns-clause-fresh : goal.returns-clause-fresh
+returns-clause-fresh g c = new_is_shown {T = g.row.T.Denot} {U = g.row.U.Denot} c.args.config c.in-Ok.state c.in-Ok.ensures
+
+pub returns-clause-settings : goal.returns-clause-settings
+returns-clause-settings g c = c.in-Ok.ensures.settings
+
+pub returns-clause-single_valued : goal.returns-clause-single_valued
+returns-clause-single_valued g c = λ units.
+    single-valued {T = g.row.T.Denot} {U = g.row.U.Denot} (kept_of c.in-Ok.state) (ap (λ (config : ServiceConfig). config.variant) c.in-Ok.ensures.settings ∙ c.requires.fixed_size)
+    (ap (λ (config : ServiceConfig). config.units_per_element) c.in-Ok.ensures.settings ∙ units)
 
 pub invariant_of-result : goal.invariant_of-result
 invariant_of-result g c =

@@ -1,4 +1,6 @@
-use Rattle.std.proofs.Common.{ap, ◌∙◌}
+use Rattle.std.proofs.Common.{ap, sym, ◌∙◌}
+use Rattle.iox2_store.specs.declared.service_config.ServiceConfig.{ServiceConfig}
+use Rattle.iox2_pubsub.proofs.LiveParts.{single-valued}
 use Rattle.iox2_domain.specs.Fields.{kept_of}
 use Rattle.iox2_domain.specs.Kept.{Kept, entries_of}
 use Rattle.iox2_pubsub.proofs.AlwaysShows.{shows_itself}
@@ -13,3 +15,8 @@ returns-clause-shown g c =
 
 pub returns-clause-supported : goal.returns-clause-supported
 returns-clause-supported g c = rw (← c.self.view_is) c.self.invariant.supported
+
+pub returns-clause-single_valued : goal.returns-clause-single_valued
+returns-clause-single_valued g c = λ units.
+    let value = returns-clause-value g c in
+    single-valued c.args.self.now (returns-clause-supported g c).single_values (ap (λ (config : ServiceConfig). config.units_per_element) (sym value) ∙ units)

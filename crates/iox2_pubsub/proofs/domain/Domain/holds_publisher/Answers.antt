@@ -1,11 +1,13 @@
 use Rattle.std.proofs.Common.{◌≡◌, ap, sym, subst}
 use Rattle.iox2_store.specs.SingleCalls.{HoldsPublisher}
 use Rattle.iox2_domain.specs.Kept.{Kept, state_of}
+use Rattle.iox2_pubsub.specs.Live.{IsPublisherKey}
 use Rattle.iox2_pubsub.proofs.domain.Domain.holds_publisher.Goals as goal
 
 pub returns : goal.returns
+unfolding IsPublisherKey
 returns g c =
     let its : c.args.key.service_id ≡ (c.args.self.now.config).service_id = cc (ap (λ (k : Kept g.row.T.Denot g.row.U.Denot). (k.config).service_id) c.self.view_is) in (
-      λ yes. (c.if-key-ne0.false, (its, subst (λ (k : Kept g.row.T.Denot g.row.U.Denot). HoldsPublisher (state_of k) c.args.key.port) c.self.view_is (c.has_publisher.ensures.0 yes))),
-      λ held. c.has_publisher.ensures.1 (subst (λ (k : Kept g.row.T.Denot g.row.U.Denot). HoldsPublisher (state_of k) c.args.key.port) (sym c.self.view_is) held.1.1),
+      λ yes. (c.if-key-ne0.false, its, subst (λ (k : Kept g.row.T.Denot g.row.U.Denot). HoldsPublisher (state_of k) c.args.key.port) c.self.view_is (c.has_publisher.ensures.0 yes)),
+      λ live. c.has_publisher.ensures.1 (subst (λ (k : Kept g.row.T.Denot g.row.U.Denot). HoldsPublisher (state_of k) c.args.key.port) (sym c.self.view_is) live.2),
     )

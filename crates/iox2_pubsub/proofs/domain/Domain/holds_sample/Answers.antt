@@ -2,6 +2,7 @@ use Rattle.std.proofs.Common.{◌≡◌, ap, sym, subst}
 use Rattle.iox2_store.specs.SingleCalls.{HoldsSample}
 use Rattle.iox2_domain.specs.Kept.{Kept, state_of}
 use Rattle.iox2_domain.specs.Shows.{KeepsEntries}
+use Rattle.iox2_pubsub.specs.Live.{IsSampleKey}
 use Rattle.iox2_pubsub.proofs.domain.Domain.holds_sample.Goals as goal
 
 pub returns-then-key-config-clause-entries : goal.returns-then-key-config-clause-entries
@@ -11,8 +12,9 @@ pub returns-clause-entries : goal.returns-clause-entries
 returns-clause-entries g c = subst (λ (k : Kept g.row.T.Denot g.row.U.Denot). KeepsEntries k) c.self.view_is c.self.invariant.entries
 
 pub returns-clause-held : goal.returns-clause-held
+unfolding IsSampleKey
 returns-clause-held g c =
     let its : c.args.key.service_id ≡ (c.args.self.now.config).service_id = cc (ap (λ (k : Kept g.row.T.Denot g.row.U.Denot). (k.config).service_id) c.self.view_is) in (
       λ yes. (its, subst (λ (k : Kept g.row.T.Denot g.row.U.Denot). HoldsSample (state_of k) c.args.key.port c.args.key.message) c.self.view_is (c.has_sample.ensures.0 yes)),
-      λ held. c.has_sample.ensures.1 (subst (λ (k : Kept g.row.T.Denot g.row.U.Denot). HoldsSample (state_of k) c.args.key.port c.args.key.message) (sym c.self.view_is) held.1),
+      λ live. c.has_sample.ensures.1 (subst (λ (k : Kept g.row.T.Denot g.row.U.Denot). HoldsSample (state_of k) c.args.key.port c.args.key.message) (sym c.self.view_is) live.1),
     )

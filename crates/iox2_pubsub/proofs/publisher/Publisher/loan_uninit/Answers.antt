@@ -1,6 +1,8 @@
-use Rattle.std.proofs.Common.{ap, ◌∙◌}
+use Rattle.std.proofs.Common.{refl, ap, ◌∙◌, Ok}
 use Rattle.iox2_domain.specs.Kept.{Kept}
-use Rattle.iox2_pubsub.proofs.UninitLoans.{err-shown, ok-shown, ok-held}
+use Rattle.iox2_pubsub.proofs.UninitLoans.{err-shown, ok-shown, ok-live, publisher-missing}
+use Rattle.iox2_pubsub.proofs.CallsStay.{always-shown, loan-is-new, loan-stays}
+use Rattle.iox2_pubsub.proofs.LiveParts.{publisher-parts}
 use Rattle.iox2_pubsub.proofs.publisher.Publisher.loan_uninit.Goals as goal
 
 pub returns-in_err-slot-clause-lends : goal.returns-in_err-slot-clause-lends
@@ -13,10 +15,33 @@ returns-clause-lends g c = λ m s shown.
     ok-shown {T = g.row.T.Denot} {U = g.row.U.Denot} g.U.Default.is_default c.domain.inside.state c.loan.new.self c.in-Some.place c.args.self.now.id c.loan.result
     (c.in-Some.ensures.0, c.in-Some.ensures.1, c.in-Some.ensures.2 ∙ c.value.ensures) c.loan.ensures.reaches _ c.in_ok-slot.slot c.in_ok-slot.slot c.in_ok-slot.was c.args.domain.now c.domain.view_is m s shown
 
-pub returns-clause-held : goal.returns-clause-held
-returns-clause-held g c =
-    ok-held {T = g.row.T.Denot} {U = g.row.U.Denot} g.U.Default.is_default c.domain.inside.state c.loan.new.self c.in-Some.place c.args.self.now.id c.loan.result
-    (c.in-Some.ensures.0, c.in-Some.ensures.1, c.in-Some.ensures.2 ∙ c.value.ensures) c.loan.ensures.reaches c.args.self.now.service_id c.in_ok-slot.slot _ c.in_ok-slot.was c.next_message-number.ensures c.args.domain.now c.domain.view_is c.requires
+pub returns-clause-live : goal.returns-clause-live
+returns-clause-live g c =
+    ok-live {T = g.row.T.Denot} {U = g.row.U.Denot} g.U.Default.is_default c.domain.inside.state c.loan.new.self c.in-Some.place c.args.self.now.id c.loan.result
+    (c.in-Some.ensures.0, c.in-Some.ensures.1, c.in-Some.ensures.2 ∙ c.value.ensures) c.loan.ensures.reaches _ c.in_ok-slot.slot c.in_ok-slot.was refl c.next_message-number.ensures
+    c.args.domain.now c.domain.view_is (publisher-parts c.args.domain.now _ c.requires.live).1
 
 pub returns-clause-number : goal.returns-clause-number
 returns-clause-number g c = c.next_message-number.ensures ∙ ap (λ (k : Kept g.row.T.Denot g.row.U.Denot). k.next_message) c.domain.view_is
+
+pub returns-clause-new : goal.returns-clause-new
+returns-clause-new g c =
+    let it = always-shown {T = g.row.T.Denot} {U = g.row.U.Denot} c.domain.inside.state c.args.domain.now c.domain.invariant c.domain.view_is in
+    loan-is-new {T = g.row.T.Denot} {U = g.row.U.Denot} c.args.domain.now c.args.domain.now it.0 it.1 it.2 _ (returns-clause-number g c)
+
+pub returns-in_err-slot-clause-stays : goal.returns-in_err-slot-clause-stays
+returns-in_err-slot-clause-stays g c =
+    let it = always-shown {T = g.row.T.Denot} {U = g.row.U.Denot} c.domain.inside.state c.args.domain.now c.domain.invariant c.domain.view_is in
+    let step = returns-in_err-slot-clause-lends g c it.0 it.1 it.2 in
+    loan-stays {T = g.row.T.Denot} {U = g.row.U.Denot} c.args.domain.now _ it.0 it.1 it.2 g.U.Default.is_default c.args.self.now.id c.from_residual.result step.0 step.1 step.2
+
+pub returns-clause-stays : goal.returns-clause-stays
+returns-clause-stays g c =
+    let it = always-shown {T = g.row.T.Denot} {U = g.row.U.Denot} c.domain.inside.state c.args.domain.now c.domain.invariant c.domain.view_is in
+    let step = returns-clause-lends g c it.0 it.1 it.2 in
+    loan-stays {T = g.row.T.Denot} {U = g.row.U.Denot} c.args.domain.now _ it.0 it.1 it.2 g.U.Default.is_default c.args.self.now.id (Ok c.in_ok-slot.slot) step.0 step.1 step.2
+
+pub unreachable-requires : goal.unreachable-requires
+unreachable-requires g c =
+    publisher-missing {T = g.row.T.Denot} {U = g.row.U.Denot} c.domain.inside.state c.args.domain.now c.domain.view_is c.args.self.now c.value.result c.value.ensures
+    c.in_default.ensures c.requires.live

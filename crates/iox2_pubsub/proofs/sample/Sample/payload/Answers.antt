@@ -1,14 +1,19 @@
 use Rattle.std.proofs.Common.{ap, sym, subst, ◌∙◌}
 use Rattle.iox2_store.specs.SingleCalls.{HoldsSample}
 use Rattle.iox2_domain.specs.Kept.{Kept, entries_of, state_of}
+use Rattle.iox2_pubsub.proofs.LiveParts.{single-parts, sample-parts}
 use Rattle.iox2_pubsub.proofs.sample.Sample.payload.Goals as goal
 
 pub sample_payload-requires-clause-held : goal.sample_payload-requires-clause-held
 sample_payload-requires-clause-held g c =
     rw c.value-receiver.ensures
-    (subst (λ (k : Kept g.row.T.Denot g.row.U.Denot). HoldsSample (state_of k) c.args.self.now.subscriber c.args.self.now.number) (sym c.domain.view_is) c.requires.held.1)
+    (subst (λ (k : Kept g.row.T.Denot g.row.U.Denot). HoldsSample (state_of k) c.args.self.now.subscriber c.args.self.now.number) (sym c.domain.view_is) (sample-parts c.args.domain.now _ c.requires.live).1)
 
 pub returns : goal.returns
 returns g c = λ m s shown.
     let read = c.sample_payload.ensures in
     (read.0, shown.entries c.args.self.now.number read.0 (ap (λ (k : Kept g.row.T.Denot g.row.U.Denot). entries_of k c.args.self.now.number) (sym c.domain.view_is) ∙ read.1), read.2)
+
+pub sample_payload-requires-clause-single : goal.sample_payload-requires-clause-single
+sample_payload-requires-clause-single g c =
+    ap (λ (k : Kept g.row.T.Denot g.row.U.Denot). (k.config).units_per_element) c.domain.view_is ∙ (single-parts c.args.domain.now c.requires.single_valued).1

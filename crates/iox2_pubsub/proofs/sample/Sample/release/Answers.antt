@@ -1,15 +1,35 @@
-use Rattle.std.proofs.Common.{sym, subst}
+use Rattle.std.proofs.Common.{refl, ap, sym, subst, ◌∙◌}
+use Rattle.iox2_store.specs.Mailbox.{is_borrowed}
+use Rattle.iox2_store.specs.State.{State}
 use Rattle.iox2_store.specs.SingleCalls.{HoldsSample}
 use Rattle.iox2_domain.specs.Kept.{Kept, state_of}
 use Rattle.iox2_pubsub.proofs.ReleaseShows.{release-shows}
+use Rattle.iox2_pubsub.proofs.CallsStay.{always-shown, release-stays, release-spends}
+use Rattle.iox2_pubsub.proofs.LiveParts.{sample-parts}
 use Rattle.iox2_pubsub.proofs.sample.Sample.release.Goals as goal
 
 pub give_back-requires-clause-held : goal.give_back-requires-clause-held
 give_back-requires-clause-held g c =
     rw c.value.ensures
-    (subst (λ (k : Kept g.row.T.Denot g.row.U.Denot). HoldsSample (state_of k) c.args.self.subscriber c.args.self.number) (sym c.domain.view_is) c.requires.1)
+    (subst (λ (k : Kept g.row.T.Denot g.row.U.Denot). HoldsSample (state_of k) c.args.self.subscriber c.args.self.number) (sym c.domain.view_is) (sample-parts c.args.domain.now _ c.requires).1)
 
-pub returns : goal.returns
-returns g c =
+pub returns-clause-released : goal.returns-clause-released
+returns-clause-released g c =
     release-shows {T = g.row.T.Denot} {U = g.row.U.Denot} c.args.domain.now c.domain.inside.state c.give_back.new.self c.domain.view_is
     c.args.self.subscriber c.args.self.number c.value.result c.value.ensures c.give_back.ensures.released
+
+pub returns-clause-spent : goal.returns-clause-spent
+returns-clause-spent g c = λ live.
+    let it = always-shown {T = g.row.T.Denot} {U = g.row.U.Denot} c.domain.inside.state c.args.domain.now c.domain.invariant c.domain.view_is in
+    let has = (sample-parts c.args.domain.now _ c.requires).1 in
+    let borrowed = ap (λ (t : State g.row.T.Denot g.row.U.Denot). is_borrowed c.args.self.number (t.mailboxes has.0 c.args.self.subscriber)) (it.2).state ∙ has.1 in
+    let step = returns-clause-released g c it.0 it.1 it.2 has.0 borrowed in
+    release-spends {T = g.row.T.Denot} {U = g.row.U.Denot} c.args.domain.now _ it.0 it.1 it.2 has.0 c.args.self.subscriber c.args.self.number step.0 step.1 borrowed step.2 _ refl refl live
+
+pub returns-clause-stays : goal.returns-clause-stays
+returns-clause-stays g c =
+    let it = always-shown {T = g.row.T.Denot} {U = g.row.U.Denot} c.domain.inside.state c.args.domain.now c.domain.invariant c.domain.view_is in
+    let has = (sample-parts c.args.domain.now _ c.requires).1 in
+    let borrowed = ap (λ (t : State g.row.T.Denot g.row.U.Denot). is_borrowed c.args.self.number (t.mailboxes has.0 c.args.self.subscriber)) (it.2).state ∙ has.1 in
+    let step = returns-clause-released g c it.0 it.1 it.2 has.0 borrowed in
+    release-stays {T = g.row.T.Denot} {U = g.row.U.Denot} c.args.domain.now _ it.0 it.1 it.2 has.0 c.args.self.subscriber c.args.self.number step.0 step.1 step.2

@@ -1,15 +1,21 @@
-use Rattle.std.proofs.Common.{Some}
+use Rattle.std.proofs.Common.{Some, ap, ◌∙◌}
 use Rattle.iox2_store.specs.State.{State}
 use Rattle.iox2_domain.specs.LoanCalls.{HasCell}
-use Rattle.iox2_pubsub.proofs.LoanHandles.{of-shown, written-held}
+use Rattle.iox2_domain.specs.Kept.{Kept}
+use Rattle.iox2_pubsub.proofs.LiveParts.{single-parts}
+use Rattle.iox2_pubsub.proofs.LoanHandles.{of-shown, written-out}
 use Rattle.iox2_pubsub.proofs.sample_mut.SampleMut.payload.Goals as goal
 
 pub loan_value-requires-clause-held : goal.loan_value-requires-clause-held
 loan_value-requires-clause-held g c =
-    written-held {T = g.row.T.Denot} {U = g.row.U.Denot} _ c.args.domain.now c.domain.view_is
-    c.args.self.now.service_id c.args.self.now.publisher c.args.self.now.number c.value.result c.value.ensures c.requires.held
+    written-out {T = g.row.T.Denot} {U = g.row.U.Denot} _ c.args.domain.now c.domain.view_is
+    c.args.self.now c.value.result c.value.ensures c.requires.live
 
 pub returns : goal.returns
 returns g c =
     of-shown {T = g.row.T.Denot} {U = g.row.U.Denot} _ c.args.domain.now c.domain.view_is
     (λ (s : State g.row.T.Denot g.row.U.Denot). HasCell s c.args.self.now.number (Some c.loan_value.result.now)) c.loan_value.ensures
+
+pub loan_value-requires-clause-single : goal.loan_value-requires-clause-single
+loan_value-requires-clause-single g c =
+    ap (λ (k : Kept g.row.T.Denot g.row.U.Denot). (k.config).units_per_element) c.domain.view_is ∙ (single-parts c.args.domain.now c.requires.single_valued).1

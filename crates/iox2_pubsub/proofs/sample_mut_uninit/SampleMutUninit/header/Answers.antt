@@ -1,12 +1,13 @@
 use Rattle.iox2_store.specs.State.{State}
 use Rattle.iox2_domain.specs.LoanCalls.{HasLoanHeader}
-use Rattle.iox2_pubsub.proofs.LoanHandles.{of-shown, live-loan, header-origin}
+use Rattle.iox2_pubsub.specs.Live.{unwritten_key}
+use Rattle.iox2_pubsub.proofs.LoanHandles.{of-shown, loan-out, header-origin}
 use Rattle.iox2_pubsub.proofs.sample_mut_uninit.SampleMutUninit.header.Goals as goal
 
 pub loan_header-requires-clause-held : goal.loan_header-requires-clause-held
 loan_header-requires-clause-held g c =
-    live-loan {T = g.row.T.Denot} {U = g.row.U.Denot} _ c.args.domain.now c.domain.view_is
-    c.args.self.now.service_id c.args.self.now.publisher c.args.self.now.number c.value.result c.value.ensures c.requires
+    loan-out {T = g.row.T.Denot} {U = g.row.U.Denot} _ c.args.domain.now c.domain.view_is
+    (unwritten_key c.args.self.now) c.value.result c.value.ensures c.requires
 
 pub returns-clause-header : goal.returns-clause-header
 returns-clause-header g c =
@@ -17,6 +18,6 @@ pub returns-clause-origin : goal.returns-clause-origin
 returns-clause-origin g c =
     header-origin {T = g.row.T.Denot} {U = g.row.U.Denot} c.domain.inside.state c.domain.invariant
     c.args.self.now.number c.value.result c.args.self.now.publisher c.loan_header.result.now c.value.ensures
-    (live-loan {T = g.row.T.Denot} {U = g.row.U.Denot} _ c.args.domain.now c.domain.view_is
-    c.args.self.now.service_id c.args.self.now.publisher c.args.self.now.number c.value.result c.value.ensures c.requires)
+    (loan-out {T = g.row.T.Denot} {U = g.row.U.Denot} _ c.args.domain.now c.domain.view_is
+    (unwritten_key c.args.self.now) c.value.result c.value.ensures c.requires)
     c.loan_header.ensures

@@ -1,7 +1,10 @@
 use Rattle.std.proofs.Common.{ℕ, ap, sym, ◌∙◌, Ok, Err, Some, None, refl, Option}
+use Rattle.iox2_store.specs.Receives.{Got_sample, No_sample}
 use Rattle.iox2_domain.specs.Fields.{kept_of}
+use Rattle.iox2_pubsub.specs.ReceivedSamples.{received}
 use Rattle.iox2_domain.specs.declared.receipts.Receipt.{Receipt}
-use Rattle.iox2_pubsub.proofs.ReceptionShown.{reception-at, reception-shows, reception-holds, error-shows, error-holds}
+use Rattle.iox2_pubsub.proofs.ReceptionShown.{reception-at, reception-shows, reception-live, reception-origin, subscriber-missing, error-shows}
+use Rattle.iox2_pubsub.proofs.CallsStay.{always-shown, receive-stays, received-is-new}
 use Rattle.iox2_pubsub.proofs.subscriber.Subscriber.receive.Goals as goal
 
 pub returns-in_err-receipt-clause-receives : goal.returns-in_err-receipt-clause-receives
@@ -9,10 +12,6 @@ returns-in_err-receipt-clause-receives g c =
     error-shows {T = g.row.T.Denot} {U = g.row.U.Denot} c.args.domain.now c.domain.inside.state c.receive_at.new.self c.domain.view_is c.args.self.now.id c.in_err-receipt.field-0.0
     (reception-at {T = g.row.T.Denot} {U = g.row.U.Denot} c.domain.inside.state c.receive_at.new.self c.in-Some.place c.args.self.now.id c.value.result c.receive_at.result (Err c.in_err-receipt.field-0.0)
     c.in-Some.ensures c.value.ensures c.in_err-receipt.was c.receive_at.ensures) c.from_residual.result c.from_residual.ensures.1
-
-pub returns-in_err-receipt-clause-held : goal.returns-in_err-receipt-clause-held
-returns-in_err-receipt-clause-held g c =
-    error-holds {T = g.row.T.Denot} {U = g.row.U.Denot} (kept_of c.receive_at.new.self) c.args.self.now.id c.in_err-receipt.field-0.0 c.from_residual.result c.from_residual.ensures.1
 
 pub returns-in_default-receipt-clause-receives : goal.returns-in_default-receipt-clause-receives
 returns-in_default-receipt-clause-receives g c =
@@ -28,13 +27,50 @@ returns-clause-receives g c =
     c.in-Some.ensures c.value.ensures (c.in_ok-receipt.was ∙ ap (λ (o : Option Receipt). Ok o) c.in-Some-receipt.is
     ∙ ap (λ (p : ℕ). Ok (Some (record c.in-Some-receipt.receipt { publisher = p }))) (sym c.new.ensures)) c.receive_at.ensures)
 
-pub returns-clause-held : goal.returns-clause-held
-returns-clause-held g c =
-    let receipt : Receipt = record c.in-Some-receipt.receipt { publisher = c.new.result } in (
-      refl,
-      reception-holds {T = g.row.T.Denot} {U = g.row.U.Denot} c.args.domain.now c.domain.inside.state c.receive_at.new.self c.domain.view_is c.args.self.now.service_id c.args.self.now.id receipt
-          (reception-at {T = g.row.T.Denot} {U = g.row.U.Denot} c.domain.inside.state c.receive_at.new.self c.in-Some.place c.args.self.now.id c.value.result c.receive_at.result (Ok (Some receipt))
-          c.in-Some.ensures c.value.ensures (c.in_ok-receipt.was ∙ ap (λ (o : Option Receipt). Ok o) c.in-Some-receipt.is
-          ∙ ap (λ (p : ℕ). Ok (Some (record c.in-Some-receipt.receipt { publisher = p }))) (sym c.new.ensures)) c.receive_at.ensures)
-          c.requires,
-    )
+pub returns-clause-live : goal.returns-clause-live
+returns-clause-live g c =
+    let receipt : Receipt = record c.in-Some-receipt.receipt { publisher = c.new.result } in
+    reception-live {T = g.row.T.Denot} {U = g.row.U.Denot} c.args.domain.now c.domain.inside.state c.receive_at.new.self c.domain.view_is c.args.self.now
+    (record { service_id = c.args.self.now.service_id; subscriber = c.args.self.now.id; publisher = c.new.result; number = receipt.number; connection = receipt.connection; slot = receipt.slot }) receipt
+    (reception-at {T = g.row.T.Denot} {U = g.row.U.Denot} c.domain.inside.state c.receive_at.new.self c.in-Some.place c.args.self.now.id c.value.result c.receive_at.result (Ok (Some receipt))
+    c.in-Some.ensures c.value.ensures (c.in_ok-receipt.was ∙ ap (λ (o : Option Receipt). Ok o) c.in-Some-receipt.is
+    ∙ ap (λ (p : ℕ). Ok (Some (record c.in-Some-receipt.receipt { publisher = p }))) (sym c.new.ensures)) c.receive_at.ensures) refl refl refl refl c.requires
+
+pub returns-clause-origin : goal.returns-clause-origin
+returns-clause-origin g c =
+    let receipt : Receipt = record c.in-Some-receipt.receipt { publisher = c.new.result } in
+    reception-origin {T = g.row.T.Denot} {U = g.row.U.Denot} c.args.domain.now c.domain.inside.state c.receive_at.new.self c.domain.view_is c.args.self.now
+    (record { service_id = c.args.self.now.service_id; subscriber = c.args.self.now.id; publisher = c.new.result; number = receipt.number; connection = receipt.connection; slot = receipt.slot }) receipt
+    (reception-at {T = g.row.T.Denot} {U = g.row.U.Denot} c.domain.inside.state c.receive_at.new.self c.in-Some.place c.args.self.now.id c.value.result c.receive_at.result (Ok (Some receipt))
+    c.in-Some.ensures c.value.ensures (c.in_ok-receipt.was ∙ ap (λ (o : Option Receipt). Ok o) c.in-Some-receipt.is
+    ∙ ap (λ (p : ℕ). Ok (Some (record c.in-Some-receipt.receipt { publisher = p }))) (sym c.new.ensures)) c.receive_at.ensures) refl refl refl
+
+pub returns-clause-new : goal.returns-clause-new
+returns-clause-new g c =
+    let it = always-shown {T = g.row.T.Denot} {U = g.row.U.Denot} c.domain.inside.state c.args.domain.now c.domain.invariant c.domain.view_is in
+    let step = returns-clause-receives g c it.0 it.1 it.2 in
+    received-is-new {T = g.row.T.Denot} {U = g.row.U.Denot} c.args.domain.now (kept_of c.receive_at.new.self) it.0 it.1 it.2 c.new.result c.args.self.now.id
+    c.in-Some-receipt.receipt.number step.0 step.1 step.2
+
+pub returns-in_err-receipt-clause-stays : goal.returns-in_err-receipt-clause-stays
+returns-in_err-receipt-clause-stays g c =
+    let it = always-shown {T = g.row.T.Denot} {U = g.row.U.Denot} c.domain.inside.state c.args.domain.now c.domain.invariant c.domain.view_is in
+    let step = returns-in_err-receipt-clause-receives g c it.0 it.1 it.2 in
+    receive-stays {T = g.row.T.Denot} {U = g.row.U.Denot} c.args.domain.now _ it.0 it.1 it.2 c.args.self.now.id (received c.from_residual.result) step.0 step.1 step.2
+
+pub returns-in_default-receipt-clause-stays : goal.returns-in_default-receipt-clause-stays
+returns-in_default-receipt-clause-stays g c =
+    let it = always-shown {T = g.row.T.Denot} {U = g.row.U.Denot} c.domain.inside.state c.args.domain.now c.domain.invariant c.domain.view_is in
+    let step = returns-in_default-receipt-clause-receives g c it.0 it.1 it.2 in
+    receive-stays {T = g.row.T.Denot} {U = g.row.U.Denot} c.args.domain.now _ it.0 it.1 it.2 c.args.self.now.id No_sample step.0 step.1 step.2
+
+pub returns-clause-stays : goal.returns-clause-stays
+returns-clause-stays g c =
+    let it = always-shown {T = g.row.T.Denot} {U = g.row.U.Denot} c.domain.inside.state c.args.domain.now c.domain.invariant c.domain.view_is in
+    let step = returns-clause-receives g c it.0 it.1 it.2 in
+    receive-stays {T = g.row.T.Denot} {U = g.row.U.Denot} c.args.domain.now _ it.0 it.1 it.2 c.args.self.now.id (Got_sample c.new.result c.in-Some-receipt.receipt.number) step.0 step.1 step.2
+
+pub unreachable-requires : goal.unreachable-requires
+unreachable-requires g c =
+    subscriber-missing {T = g.row.T.Denot} {U = g.row.U.Denot} c.domain.inside.state c.args.domain.now c.domain.view_is c.args.self.now c.value.result c.value.ensures
+    c.in_default.ensures c.requires

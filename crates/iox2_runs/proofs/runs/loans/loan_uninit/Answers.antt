@@ -4,6 +4,7 @@ use Rattle.iox2_runs.specs.Holdings.{kept_of}
 use Rattle.iox2_runs.specs.declared.runs.held.Held.{Held}
 use Rattle.iox2_runs.proofs.TableLooks.{is_publisher}
 use Rattle.iox2_runs.proofs.Holdings.{looked, looked_past, not_publisher}
+use Rattle.iox2_pubsub.proofs.LiveParts.{unwritten-parts}
 use Rattle.iox2_runs.proofs.LiveHeld.{live_publisher}
 use Rattle.iox2_runs.proofs.CarriedLoans.{loan_passed, loan_of_other, loan_carried, loan_denied}
 use Rattle.iox2_runs.proofs.runs.loans.loan_uninit.Goals as goal
@@ -13,10 +14,13 @@ returns-then-config-ne1 g c =
     loan_of_other {T = g.row.T.Denot} {U = g.row.U.Denot} _ c.args.domain.now c.args.domain.now c.args.table.now c.args.table.now c.args.of
     (λ units. c.if-config-ne1.true (ap (λ (k : ServiceConfig). k.units_per_element) c.config.ensures.value ∙ units)) refl
 
-pub loan_uninit-requires : goal.loan_uninit-requires
-loan_uninit-requires g c =
+pub loan_uninit-requires-clause-live : goal.loan_uninit-requires-clause-live
+loan_uninit-requires-clause-live g c =
     live_publisher {T = g.row.T.Denot} {U = g.row.U.Denot} c.args.domain.now c.args.table.now c.requires c.args.of c.in-Publisher.publisher
     (looked c.args.table.now c.args.of c.get.result c.in-Some.held _ c.get.ensures.lookup c.in-Some.is c.in-Publisher.is)
+
+pub loan_uninit-requires-clause-single_valued : goal.loan_uninit-requires-clause-single_valued
+loan_uninit-requires-clause-single_valued g c = c.config.ensures.single_valued c.if-config-ne1.false
 
 pub returns-in-Ok : goal.returns-in-Ok
 returns-in-Ok g c =
@@ -24,7 +28,7 @@ returns-in-Ok g c =
     refl c.in-Publisher.publisher c.in-Ok.sample
     (looked c.args.table.now c.args.of c.get.result c.in-Some.held _ c.get.ensures.lookup c.in-Some.is c.in-Publisher.is)
     c.config.ensures.supported.single_values (ap (λ (k : ServiceConfig). k.units_per_element) (sym c.config.ensures.value) ∙ c.if-config-ne1.false)
-    c.in-Ok.ensures.lends c.in-Ok.ensures.held.0 c.in-Ok.ensures.publisher c.in-Ok.ensures.number
+    c.in-Ok.ensures.lends (unwritten-parts {T = g.row.T.Denot} {U = g.row.U.Denot} c.loan_uninit.new.domain c.in-Ok.sample c.in-Ok.ensures.live).0 c.in-Ok.ensures.publisher c.in-Ok.ensures.number
 
 pub returns-in-Err : goal.returns-in-Err
 returns-in-Err g c =

@@ -9,13 +9,13 @@ use Rattle.iox2_runs.proofs.LiveHeld.{live_unwritten}
 use Rattle.iox2_runs.proofs.CarriedLoans.{write_carried, write_passed}
 use Rattle.iox2_runs.proofs.runs.loans.write_all.Goals as goal
 
-pub write_payload-sample-requires-clause-held : goal.write_payload-sample-requires-clause-held
-write_payload-sample-requires-clause-held g c =
+pub write_payload-sample-requires-clause-live : goal.write_payload-sample-requires-clause-live
+write_payload-sample-requires-clause-live g c =
     (live_unwritten {T = g.row.T.Denot} {U = g.row.U.Denot} c.args.domain.now c.args.table.now.items c.requires c.args.of c.in-Unwritten.sample (sym c.take.ensures.held ∙ c.in-Unwritten.is)).0
 
-pub write_payload-sample-requires-clause-single : goal.write_payload-sample-requires-clause-single
-write_payload-sample-requires-clause-single g c =
-    ((live_unwritten {T = g.row.T.Denot} {U = g.row.U.Denot} c.args.domain.now c.args.table.now.items c.requires c.args.of c.in-Unwritten.sample (sym c.take.ensures.held ∙ c.in-Unwritten.is)).1).1
+pub write_payload-sample-requires-clause-single_valued : goal.write_payload-sample-requires-clause-single_valued
+write_payload-sample-requires-clause-single_valued g c =
+    (live_unwritten {T = g.row.T.Denot} {U = g.row.U.Denot} c.args.domain.now c.args.table.now.items c.requires c.args.of c.in-Unwritten.sample (sym c.take.ensures.held ∙ c.in-Unwritten.is)).1
 
 pub returns-in-Unwritten-clause-carries : goal.returns-in-Unwritten-clause-carries
 returns-in-Unwritten-clause-carries g c =

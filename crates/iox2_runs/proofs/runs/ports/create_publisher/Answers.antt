@@ -3,6 +3,7 @@ use Rattle.iox2_store.specs.Environments.{fixed_handlers}
 use Rattle.iox2_store.specs.Records.{PublisherSettings}
 use Rattle.iox2_store.specs.Ports.{CreatePublisher}
 use Rattle.iox2_domain.specs.NewPublisher.{plain_publisher}
+use Rattle.iox2_pubsub.proofs.LiveParts.{publisher-parts}
 use Rattle.iox2_runs.proofs.CarriedPorts.{publisher_carried, publisher_denied}
 use Rattle.iox2_runs.proofs.runs.ports.create_publisher.Goals as goal
 
@@ -10,7 +11,7 @@ pub returns-in-Ok : goal.returns-in-Ok
 returns-in-Ok g c = λ len.
     let told : c.max_loaned_samples.result ≡ plain_publisher c.args.loans = c.max_loaned_samples.ensures ∙ ap (λ (given : PublisherSettings). record given { max_loaned_samples = c.args.loans }) c.publisher_builder.ensures in
     publisher_carried {T = g.row.T.Denot} {U = g.row.U.Denot} _ c.args.domain.now c.create.new.domain c.args.table.now c.args.loans len c.in-Ok.publisher c.id.result c.variant.ensures.single
-    (λ m s shown. let made = c.in-Ok.ensures.creates m s shown in (made.0, made.1, (made.2.0, subst (λ (given : PublisherSettings). CreatePublisher fixed_handlers s given made.0 None) told made.2.1))) c.in-Ok.ensures.held.0 c.id.ensures
+    (λ m s shown. let made = c.in-Ok.ensures.creates m s shown in (made.0, made.1, (made.2.0, subst (λ (given : PublisherSettings). CreatePublisher fixed_handlers s given made.0 None) told made.2.1))) (publisher-parts {T = g.row.T.Denot} {U = g.row.U.Denot} c.create.new.domain _ c.in-Ok.ensures.live).1 c.id.ensures
 
 pub returns-in-Err : goal.returns-in-Err
 returns-in-Err g c = λ len.

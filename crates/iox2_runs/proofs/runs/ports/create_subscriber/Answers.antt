@@ -1,6 +1,7 @@
 use Rattle.std.proofs.Common.{◌≡◌, sym, ap, ◌∙◌}
 use Rattle.iox2_store.specs.Limits.{buffer_limit}
 use Rattle.iox2_store.specs.Records.{SubscriberSettings}
+use Rattle.iox2_pubsub.proofs.LiveParts.{subscriber-parts}
 use Rattle.iox2_runs.proofs.CarriedPorts.{given_for, subscriber_carried, subscriber_denied}
 use Rattle.iox2_runs.proofs.runs.ports.create_subscriber.Goals as goal
 use Rattle.iox2_runs.proofs.runs.ports.create_subscriber.Goals.{in-Some, in-None}
@@ -13,7 +14,7 @@ returns-in-Ok g c =
       | in-None w ↦ w.factory-is ∙ c.subscriber_builder-factory.ensures ∙ ap (given_for (buffer_limit c.args.domain.now.config)) (sym w.in-None.is)
     ] in
     subscriber_carried {T = g.row.T.Denot} {U = g.row.U.Denot} _ c.args.domain.now c.create.new.domain c.args.table.now c.args.buffer c.match-buffer.factory told c.in-Ok.subscriber c.id.result
-    (λ m s shown. let made = c.in-Ok.ensures.creates m s shown in (made.0, made.1, ((made.2).0, (made.2).1))) c.in-Ok.ensures.held.0 c.id.ensures
+    (λ m s shown. let made = c.in-Ok.ensures.creates m s shown in (made.0, made.1, ((made.2).0, (made.2).1))) (subscriber-parts {T = g.row.T.Denot} {U = g.row.U.Denot} c.create.new.domain _ c.in-Ok.ensures.live).1 c.id.ensures
 
 pub returns-in-Err : goal.returns-in-Err
 returns-in-Err g c =

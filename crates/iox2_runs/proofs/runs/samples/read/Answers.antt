@@ -3,33 +3,33 @@ use Rattle.iox2_runs.specs.Holdings.{kept_of}
 use Rattle.iox2_runs.specs.declared.runs.held.Held.{Held}
 use Rattle.iox2_runs.proofs.TableLooks.{is_sample, is_loan}
 use Rattle.iox2_runs.proofs.Holdings.{looked, looked_past, not_sample, not_loan}
-use Rattle.iox2_runs.proofs.LiveHeld.{live_unwritten, live_written, live_sample, live_borrowed}
+use Rattle.iox2_runs.proofs.LiveHeld.{live_unwritten, live_written, live_sample}
 use Rattle.iox2_runs.proofs.CarriedSamples.{read_unwritten, read_written, read_sampled, read_passed}
 use Rattle.iox2_runs.proofs.runs.samples.read.Goals as goal
 
-pub payload-requires-clause-held : goal.payload-requires-clause-held
-payload-requires-clause-held g c =
+pub payload-requires-clause-live : goal.payload-requires-clause-live
+payload-requires-clause-live g c =
     (live_unwritten {T = g.row.T.Denot} {U = g.row.U.Denot} c.args.domain.now c.args.table.now c.requires c.args.of c.in-Unwritten.sample (looked c.args.table.now c.args.of c.get.result c.in-Some.held _ c.get.ensures.lookup c.in-Some.is c.in-Unwritten.is)).0
 
-pub payload-requires-clause-single : goal.payload-requires-clause-single
-payload-requires-clause-single g c =
-    ((live_unwritten {T = g.row.T.Denot} {U = g.row.U.Denot} c.args.domain.now c.args.table.now c.requires c.args.of c.in-Unwritten.sample (looked c.args.table.now c.args.of c.get.result c.in-Some.held _ c.get.ensures.lookup c.in-Some.is c.in-Unwritten.is)).1).1
+pub payload-requires-clause-single_valued : goal.payload-requires-clause-single_valued
+payload-requires-clause-single_valued g c =
+    (live_unwritten {T = g.row.T.Denot} {U = g.row.U.Denot} c.args.domain.now c.args.table.now c.requires c.args.of c.in-Unwritten.sample (looked c.args.table.now c.args.of c.get.result c.in-Some.held _ c.get.ensures.lookup c.in-Some.is c.in-Unwritten.is)).1
 
-pub payload-requires-in-Written-clause-held : goal.payload-requires-in-Written-clause-held
-payload-requires-in-Written-clause-held g c =
+pub payload-requires-in-Written-clause-live : goal.payload-requires-in-Written-clause-live
+payload-requires-in-Written-clause-live g c =
     (live_written {T = g.row.T.Denot} {U = g.row.U.Denot} c.args.domain.now c.args.table.now c.requires c.args.of c.in-Written.sample (looked c.args.table.now c.args.of c.get.result c.in-Some.held _ c.get.ensures.lookup c.in-Some.is c.in-Written.is)).0
 
-pub payload-requires-in-Written-clause-single : goal.payload-requires-in-Written-clause-single
-payload-requires-in-Written-clause-single g c =
-    ((live_written {T = g.row.T.Denot} {U = g.row.U.Denot} c.args.domain.now c.args.table.now c.requires c.args.of c.in-Written.sample (looked c.args.table.now c.args.of c.get.result c.in-Some.held _ c.get.ensures.lookup c.in-Some.is c.in-Written.is)).1).1
+pub payload-requires-in-Written-clause-single_valued : goal.payload-requires-in-Written-clause-single_valued
+payload-requires-in-Written-clause-single_valued g c =
+    (live_written {T = g.row.T.Denot} {U = g.row.U.Denot} c.args.domain.now c.args.table.now c.requires c.args.of c.in-Written.sample (looked c.args.table.now c.args.of c.get.result c.in-Some.held _ c.get.ensures.lookup c.in-Some.is c.in-Written.is)).1
 
-pub payload-requires-in-Sample-clause-held : goal.payload-requires-in-Sample-clause-held
-payload-requires-in-Sample-clause-held g c =
-    live_borrowed {T = g.row.T.Denot} {U = g.row.U.Denot} c.args.domain.now c.args.table.now c.requires c.args.of c.in-Sample.sample (looked c.args.table.now c.args.of c.get.result c.in-Some.held _ c.get.ensures.lookup c.in-Some.is c.in-Sample.is)
+pub payload-requires-in-Sample-clause-live : goal.payload-requires-in-Sample-clause-live
+payload-requires-in-Sample-clause-live g c =
+    (live_sample {T = g.row.T.Denot} {U = g.row.U.Denot} c.args.domain.now c.args.table.now c.requires c.args.of c.in-Sample.sample (looked c.args.table.now c.args.of c.get.result c.in-Some.held _ c.get.ensures.lookup c.in-Some.is c.in-Sample.is)).0
 
-pub payload-requires-in-Sample-clause-single : goal.payload-requires-in-Sample-clause-single
-payload-requires-in-Sample-clause-single g c =
-    ((live_sample {T = g.row.T.Denot} {U = g.row.U.Denot} c.args.domain.now c.args.table.now c.requires c.args.of c.in-Sample.sample (looked c.args.table.now c.args.of c.get.result c.in-Some.held _ c.get.ensures.lookup c.in-Some.is c.in-Sample.is)).1).1
+pub payload-requires-in-Sample-clause-single_valued : goal.payload-requires-in-Sample-clause-single_valued
+payload-requires-in-Sample-clause-single_valued g c =
+    (live_sample {T = g.row.T.Denot} {U = g.row.U.Denot} c.args.domain.now c.args.table.now c.requires c.args.of c.in-Sample.sample (looked c.args.table.now c.args.of c.get.result c.in-Some.held _ c.get.ensures.lookup c.in-Some.is c.in-Sample.is)).1
 
 pub returns-in-Unwritten : goal.returns-in-Unwritten
 returns-in-Unwritten g c =

@@ -1,9 +1,13 @@
 use Rattle.std.proofs.Common.{◌≡◌, refl, sym, ap, subst, ◌∙◌, Option, None, Some}
+use Rattle.std.specs.Prelude.{Result, IfOk, IfSome}
 use Rattle.std.specs.declared.result.Result.TheVariants.{Ok}
 use Rattle.iox2_store.specs.Environments.{fixed_handlers}
 use Rattle.iox2_store.specs.Receives.{Receive}
 use Rattle.iox2_store.specs.declared.service_config.ServiceConfig.{ServiceConfig}
-use Rattle.iox2_pubsub.specs.ReceivedSamples.{received, IsHeldIfAny}
+use Rattle.iox2_pubsub.specs.ReceivedSamples.{received}
+use Rattle.iox2_pubsub.specs.Live.{IsLiveSample}
+use Rattle.iox2_pubsub.proofs.LiveParts.{sample-parts}
+use Rattle.iox2_store.specs.declared.errors.ReceiveError.{ReceiveError}
 use Rattle.iox2_pubsub.specs.declared.sample.Sample.{Sample}
 use Rattle.iox2_runs.specs.Holdings.{kept_of}
 use Rattle.iox2_runs.specs.declared.runs.held.Held.{Held}
@@ -25,13 +29,16 @@ receive-requires g c =
 pub returns-in-Ok-Some : goal.returns-in-Ok-Some
 returns-in-Ok-Some g c =
     let result : c.receive.result ≡ Ok (Some c.in-Ok-Some.sample) = c.in-Ok-Some.is ∙ ap (λ (o : Option Sample). Ok o) c.in-Ok-Some.field-0-is in
-    let held : IsHeldIfAny c.receive.new.domain c.in-Subscriber.subscriber.id (Ok (Some c.in-Ok-Some.sample)) = subst (IsHeldIfAny c.receive.new.domain c.in-Subscriber.subscriber.id) result c.receive.ensures.held in
+    let live : IsLiveSample c.receive.new.domain c.in-Ok-Some.sample =
+    subst (λ (r : Result (Option Sample) ReceiveError). IfOk r (λ o. IfSome o (IsLiveSample c.receive.new.domain))) result c.receive.ensures.live in
+    let whose : c.in-Ok-Some.sample.subscriber ≡ c.in-Subscriber.subscriber.id =
+    subst (λ (r : Result (Option Sample) ReceiveError). IfOk r (λ o. IfSome o (λ (it : Sample). it.subscriber ≡ c.in-Subscriber.subscriber.id))) result c.receive.ensures.subscriber in
     receive_carried {T = g.row.T.Denot} {U = g.row.U.Denot} _ c.args.domain.now c.receive.new.domain c.args.table.now c.args.table.now c.args.of
     refl
     c.in-Subscriber.subscriber c.in-Ok-Some.sample c.origin.result (looked c.args.table.now c.args.of c.get.result c.in-Some.held _ c.get.ensures.lookup c.in-Some.is c.in-Subscriber.is) c.config.ensures.supported.single_values
     (ap (λ (k : ServiceConfig). k.units_per_element) (sym c.config.ensures.value) ∙ c.if-config-ne1.false)
     (λ m s shown. let got = c.receive.ensures.receives m s shown in (got.0, got.1, subst (λ r. Receive fixed_handlers s c.in-Subscriber.subscriber.id got.0 (received r)) result got.2))
-    (held.1).0 held.0 c.origin.ensures
+    (sample-parts {T = g.row.T.Denot} {U = g.row.U.Denot} c.receive.new.domain _ live).0 whose c.origin.ensures
 
 pub returns-in-Ok-None : goal.returns-in-Ok-None
 returns-in-Ok-None g c =

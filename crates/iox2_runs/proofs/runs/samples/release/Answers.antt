@@ -3,20 +3,20 @@ use Rattle.iox2_runs.specs.Holdings.{kept_of}
 use Rattle.iox2_runs.specs.declared.runs.held.Held.{Held}
 use Rattle.iox2_runs.proofs.TableLooks.{is_sample}
 use Rattle.iox2_runs.proofs.Holdings.{back, not_sample}
-use Rattle.iox2_runs.proofs.LiveHeld.{live_sample, live_borrowed}
+use Rattle.iox2_runs.proofs.LiveHeld.{live_sample, borrowed_there}
 use Rattle.iox2_runs.proofs.CarriedSamples.{release_passed, release_carried}
 use Rattle.iox2_runs.proofs.runs.samples.release.Goals as goal
 
 pub release-requires : goal.release-requires
 release-requires g c =
-    live_borrowed {T = g.row.T.Denot} {U = g.row.U.Denot} c.args.domain.now c.args.table.now.items c.requires c.args.of c.in-Sample.sample (sym c.take.ensures.held ∙ c.in-Sample.is)
+    (live_sample {T = g.row.T.Denot} {U = g.row.U.Denot} c.args.domain.now c.args.table.now.items c.requires c.args.of c.in-Sample.sample (sym c.take.ensures.held ∙ c.in-Sample.is)).0
 
 pub returns-in-Sample-clause-carries : goal.returns-in-Sample-clause-carries
 returns-in-Sample-clause-carries g c =
     release_carried {T = g.row.T.Denot} {U = g.row.U.Denot} _ c.args.domain.now c.release.new.domain c.args.table.now.items c.take.new.table.items c.args.of
     c.in-Sample.sample (sym c.take.ensures.held ∙ c.in-Sample.is)
-    ((live_sample {T = g.row.T.Denot} {U = g.row.U.Denot} c.args.domain.now c.args.table.now.items c.requires c.args.of c.in-Sample.sample (sym c.take.ensures.held ∙ c.in-Sample.is)).0).1
-    c.release.ensures c.take.ensures.items
+    (borrowed_there {T = g.row.T.Denot} {U = g.row.U.Denot} c.args.domain.now c.args.table.now.items c.requires c.args.of c.in-Sample.sample (sym c.take.ensures.held ∙ c.in-Sample.is))
+    c.release.ensures.released c.take.ensures.items
 
 pub returns-in_default-clause-carries : goal.returns-in_default-clause-carries
 returns-in_default-clause-carries g c =

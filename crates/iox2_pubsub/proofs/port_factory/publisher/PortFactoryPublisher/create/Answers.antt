@@ -3,13 +3,13 @@ use Rattle.std.specs.declared.option.Option.TheVariants.{None, Some}
 use Rattle.iox2_store.specs.Environments.{fixed_handlers}
 use Rattle.iox2_store.specs.Ports.{CreatePublisher}
 use Rattle.iox2_store.specs.Records.{PublisherSettings}
-use Rattle.iox2_store.specs.SingleCalls.{HoldsPublisher}
 use Rattle.iox2_store.specs.State.{State}
 use Rattle.iox2_store.specs.declared.service_config.ServiceConfig.{ServiceConfig}
 use Rattle.iox2_domain.specs.Kept.{Kept, state_of}
 use Rattle.iox2_domain.specs.Fields.{kept_of}
 use Rattle.iox2_domain.specs.Shows.{Shows}
-use Rattle.iox2_pubsub.proofs.PublishersShown.{created-shows, created-held}
+use Rattle.iox2_pubsub.proofs.PublishersShown.{created-shows, created-live}
+use Rattle.iox2_pubsub.proofs.CallsStay.{always-shown, publisher-creation-stays}
 use Rattle.iox2_pubsub.proofs.port_factory.publisher.PortFactoryPublisher.create.Goals as goal
 
 pub returns-in-Err-clause-creates : goal.returns-in-Err-clause-creates
@@ -33,10 +33,21 @@ returns-clause-creates g c m s shows =
       ),
     )
 
-pub returns-clause-held : goal.returns-clause-held
-returns-clause-held g c =
+pub returns-clause-live : goal.returns-clause-live
+returns-clause-live g c =
     let made = c.in-Ok.ensures.step in
-    let held = created-held {T = g.row.T.Denot} {U = g.row.U.Denot} c.domain.inside.state c.create_publisher.new.self c.self.inside.max_loaned_samples fixed_handlers made.0 made.1 made.2 in (
-      ap (λ (config : ServiceConfig). config.service_id) c.config.ensures ∙ held.0,
-      subst (HoldsPublisher (state_of (kept_of c.create_publisher.new.self))) (sym (c.new-id.ensures ∙ c.next_port.ensures)) held.1,
-    )
+    created-live {T = g.row.T.Denot} {U = g.row.U.Denot} c.domain.inside.state c.create_publisher.new.self c.self.inside.max_loaned_samples fixed_handlers made.0 made.1 made.2
+    (record { service_id = c.config.result.now.service_id; id = c.new-id.result; place = c.in-Ok.place })
+    (ap (λ (config : ServiceConfig). config.service_id) c.config.ensures) (c.new-id.ensures ∙ c.next_port.ensures)
+
+pub returns-in-Err-clause-stays : goal.returns-in-Err-clause-stays
+returns-in-Err-clause-stays g c =
+    let it = always-shown {T = g.row.T.Denot} {U = g.row.U.Denot} c.domain.inside.state c.args.domain.now c.domain.invariant c.domain.view_is in
+    let step = returns-in-Err-clause-creates g c it.0 it.1 it.2 in
+    publisher-creation-stays {T = g.row.T.Denot} {U = g.row.U.Denot} c.args.domain.now _ it.0 it.1 it.2 c.args.self (Some c.in-Err.e) step.0 step.1 step.2
+
+pub returns-clause-stays : goal.returns-clause-stays
+returns-clause-stays g c =
+    let it = always-shown {T = g.row.T.Denot} {U = g.row.U.Denot} c.domain.inside.state c.args.domain.now c.domain.invariant c.domain.view_is in
+    let step = returns-clause-creates g c it.0 it.1 it.2 in
+    publisher-creation-stays {T = g.row.T.Denot} {U = g.row.U.Denot} c.args.domain.now _ it.0 it.1 it.2 c.args.self None step.0 step.1 (step.2).1

@@ -25,7 +25,7 @@ use Rattle.iox2_store.specs.declared.warning.Warning.{Warning}
 use Rattle.iox2_store.specs.declared.warning.Warning.TheVariants.{PublisherPartlyConnected, SubscriberPartlyConnected}
 use Rattle.iox2_laws.proofs.Cases.{by_option, by_bool}
 use Rattle.iox2_laws.proofs.Puts.{at_each}
-use Rattle.iox2_commands.proofs.MailboxWalks.{sender_side_keeps, receiver_side_keeps, deliver_keeps}
+use Rattle.iox2_laws.proofs.MailboxWalks.{sender_side_keeps, receiver_side_keeps, deliver_keeps}
 
 -- Publishers stay, and no send of theirs is blocked where none was; open subscribers stay open.
 pub record Remain {T U : Type 0} (s s' : State T U) : Type 0 where

@@ -1,0 +1,213 @@
+-- What each call leaves of a domain.
+use Rattle.std.proofs.Common.{◌≡◌, ℕ, ◌<◌, List, true, false, sym, ap, subst, ◌∙◌, Option, None, Some, Result, Ok, Err, inl, inr, arith}
+use Rattle.std.specs.Prelude.{◌≢◌}
+use Rattle.std.proofs.lemmas.Bool.{cases_eq, ne_eqb, true≢false}
+use Rattle.iox2_store.specs.Environments.{fixed_handlers, ample_memory}
+use Rattle.iox2_store.specs.Loans.{written}
+use Rattle.iox2_store.specs.Mailbox.{is_borrowed}
+use Rattle.iox2_store.specs.Numbers.{put_at, contains}
+use Rattle.iox2_store.specs.Ports.{CreatePublisher, CreateSubscriber}
+use Rattle.iox2_store.specs.Receives.{ReceiveResult, Got_sample, No_sample, Receive_error, Receive}
+use Rattle.iox2_store.specs.Records.{Entry, Loan, PublisherSettings, SubscriberSettings}
+use Rattle.iox2_store.specs.Releases.{released}
+use Rattle.iox2_store.specs.Sends.{SendResult, Blocked_send, Send}
+use Rattle.iox2_store.specs.Shows.{In_mailbox}
+use Rattle.iox2_store.specs.State.{State, Messages, with_loan}
+use Rattle.iox2_store.specs.declared.errors.LoanError.{LoanError}
+use Rattle.iox2_store.specs.declared.errors.PublisherCreateError.{PublisherCreateError}
+use Rattle.iox2_store.specs.declared.errors.SubscriberCreateError.{SubscriberCreateError}
+use Rattle.iox2_store.specs.declared.key.Key.{Key}
+use Rattle.iox2_laws.proofs.Cases.{by_option}
+use Rattle.iox2_laws.proofs.LoanKeeping.{create_publisher_loans, create_subscriber_loans, receive_loans, released_loans, send_loans}
+use Rattle.iox2_laws.proofs.NextLoan.{loan_next}
+use Rattle.iox2_laws.proofs.NumberLemmas.{IsOnce-apart, contains_first, contains_right}
+use Rattle.iox2_laws.proofs.PortsStay.{PortsStay, Remain, ports_stay_themselves, create_publisher_stays, create_subscriber_stays, grant_loan_stays, loan_set_stays, send_stays, update_subscriber_stays}
+use Rattle.iox2_laws.proofs.Puts.{put_at-other, put_at-same}
+use Rattle.iox2_laws.proofs.SamplesStay.{same_borrowed, IsReceived, received_one, nothing_received, released_remain, released_now, released_others}
+use Rattle.iox2_laws.proofs.SubscriberUpdates.{update_subscriber_keeps}
+use Rattle.iox2_domain.specs.Fields.{Fields, kept_of}
+use Rattle.iox2_domain.specs.Invariant.{IsDomain}
+use Rattle.iox2_domain.specs.Kept.{Kept, state_of, entries_of}
+use Rattle.iox2_domain.specs.Lending.{LoanCall}
+use Rattle.iox2_domain.specs.Shows.{Shows}
+use Rattle.iox2_pubsub.specs.Live.{IsLoanKey, IsSampleKey, No_item, A_loan, A_sample, IsOtherSample, StaysBut, Stays, IsNewIn, unwritten_key, written_key, sample_key}
+use Rattle.iox2_pubsub.proofs.AlwaysShows.{shows_itself}
+use Rattle.iox2_pubsub.proofs.LiveParts.{loan-parts, sample-parts}
+use Rattle.iox2_pubsub.proofs.StaysBut.{stays-between}
+
+-- a domain shows some state
+pub always-shown : {T U : Type 0} (f : Fields T U) (kept : Kept T U) → IsDomain f → kept_of f ≡ kept → (m : Messages T U) × (s : State T U) × Shows kept m s
+always-shown {T} {U} f kept sound view = (entries_of (kept_of f), state_of (kept_of f), subst (λ (k : Kept T U). Shows k (entries_of (kept_of f)) (state_of (kept_of f))) view (shows_itself f sound))
+
+-- two publishers whose messages with one number are borrowed are one
+one-origin : {T U : Type 0} (kept : Kept T U) (m : Messages T U) (s : State T U) → Shows kept m s → (p p' q q' n : ℕ)
+    → is_borrowed n (s.mailboxes p q) ≡ true → is_borrowed n (s.mailboxes p' q') ≡ true → p ≡ p'
+one-origin {T} {U} kept m s shown p p' q q' n here there =
+    let a = entry p q (ap (λ (t : State T U). is_borrowed n (t.mailboxes p q)) (sym shown.state) ∙ here) in
+    let b = entry p' q' (ap (λ (t : State T U). is_borrowed n (t.mailboxes p' q')) (sym shown.state) ∙ there) in
+    let both : Some a.0 ≡ Some b.0 = sym a.1 ∙ b.1 in
+    let same : a.0 ≡ b.0 = cc in
+    sym a.2 ∙ ap (λ (e : Entry T U). (e.header).publisher_id) same ∙ b.2
+  where
+    entry : (i j : ℕ) → is_borrowed n ((state_of kept).mailboxes i j) ≡ true → (e : Entry T U) × (entries_of kept n ≡ Some e) × ((e.header).publisher_id ≡ i)
+    entry i j borrowed = shown.complete i n (In_mailbox j (contains_right ((state_of kept).mailboxes i j).waiting ((state_of kept).mailboxes i j).borrowed n borrowed))
+
+module _ {T U : Type 0} (old new : Kept T U) (m : Messages T U) (s : State T U) (shown : Shows old m s) where
+  -- ports, loans and samples stay
+  quiet : (m' : Messages T U) (s' : State T U) → Shows new m' s' → PortsStay s s' → s'.loans ≡ s.loans → Stays old new
+  quiet m' s' shown' stay loans =
+      stays-between No_item old new m m' s s' shown shown' stay.remain (λ n l at _. ap (λ (f : ℕ → Option (Loan T U)). f n) loans ∙ at)
+      (λ p q n at _. same_borrowed s s' stay p q n ∙ at)
+
+  -- a publisher is made, or refused
+  pub publisher-creation-stays : (given : PublisherSettings) (refusal : Option PublisherCreateError) (s' : State T U) → Shows new m s'
+      → CreatePublisher fixed_handlers s given s' refusal → Stays old new
+  publisher-creation-stays given refusal s' shown' h =
+      quiet m s' shown' (create_publisher_stays fixed_handlers s given s' refusal h) (create_publisher_loans fixed_handlers s given s' refusal h)
+
+  -- a subscriber is made, or refused
+  pub subscriber-creation-stays : (given : SubscriberSettings) (refusal : Option SubscriberCreateError) (s' : State T U) → Shows new m s'
+      → CreateSubscriber fixed_handlers s given s' refusal → Stays old new
+  subscriber-creation-stays given refusal s' shown' h =
+      quiet m s' shown' (create_subscriber_stays fixed_handlers s given s' refusal h) (create_subscriber_loans fixed_handlers s given s' refusal h)
+
+  -- a loan is granted, or refused
+  pub loan-stays : {A : Type 0} (is_default : U → Type 0) (p : ℕ) (answer : Result A LoanError) (s' : State T U) → Shows new m s' → LoanCall is_default s p answer s' → Stays old new
+  loan-stays is_default p (Ok a) s' shown' h =
+      let stay : PortsStay s s' = grant_loan_stays ample_memory h.0 false 1 s p s' None h.2 in
+      let next = loan_next ample_memory s h.0 false 1 p s' h.2 in
+      stays-between No_item old new m m s s' shown shown' stay.remain (λ n l at _. next.others n (shown.well_formed.loans n l at).below ∙ at)
+      (λ i j n at _. same_borrowed s s' stay i j n ∙ at)
+  loan-stays is_default p (Err e) s' shown' h =
+      quiet m s' shown' (subst (PortsStay s) (sym h.0) (ports_stay_themselves s)) (ap (λ (t : State T U). t.loans) h.0)
+
+  -- the new loan is none that was there
+  pub loan-is-new : (number : ℕ) → number ≡ old.next_message → IsNewIn old (A_loan number)
+  loan-is-new number is = record {
+    loans = apart;
+    unwritten_loans = λ it live. apart (unwritten_key it) live.live;
+    written_loans = λ it live. apart (written_key it) live.live;
+    samples = λ it live. tt;
+  }
+    where
+      apart : (key : Key) → IsLoanKey old key → key.message ≢ number
+      apart key live same =
+          let has = (loan-parts old key live).1 in
+          let at : s.loans key.message ≡ Some has.0 = ap (λ (t : State T U). t.loans key.message) shown.state ∙ has.1 in
+          let low : key.message < s.next_message = (shown.well_formed.loans key.message has.0 at).below in
+          let next : s.next_message ≡ old.next_message = ap (λ (t : State T U). t.next_message) shown.state in
+          omega arith
+
+  -- a loan is written
+  pub write-stays : (n : ℕ) (l : Loan T U) (value : T) → Shows new m (with_loan s n (Some (written l value))) → StaysBut (A_loan n) old new
+  write-stays n l value shown' =
+      let s' : State T U = with_loan s n (Some (written l value)) in
+      let stay : PortsStay s s' = loan_set_stays s n (Some (written l value)) in
+      stays-between (A_loan n) old new m m s s' shown shown' stay.remain
+      (λ k loan at other. put_at-other s.loans n (Some (written l value)) k (ne_eqb k n other) ∙ at)
+      (λ i j k at _. same_borrowed s s' stay i j k ∙ at)
+
+  -- a loan is sent
+  pub send-stays : (n : ℕ) (l : Loan T U) (result : SendResult) (m' : Messages T U) (s' : State T U) → Shows new m' s' → Send fixed_handlers s n l s' result
+      → (result ≡ Blocked_send → ⊥) → StaysBut (A_loan n) old new
+  send-stays n l result m' s' shown' h free =
+      let stay : PortsStay s s' = send_stays fixed_handlers s n l s' result h free in
+      let loans : s'.loans ≡ put_at s.loans n None = send_loans fixed_handlers s n l s' result h in
+      stays-between (A_loan n) old new m m' s s' shown shown' stay.remain
+      (λ k loan at other. ap (λ (f : ℕ → Option (Loan T U)). f k) loans ∙ put_at-other s.loans n None k (ne_eqb k n other) ∙ at)
+      (λ i j k at _. same_borrowed s s' stay i j k ∙ at)
+
+  -- it is out no more
+  pub send-spends : (key : Key) (l : Loan T U) (result : SendResult) (m' : Messages T U) (s' : State T U) → Shows new m' s'
+      → Send fixed_handlers s key.message l s' result → IsLoanKey new key → ⊥
+  send-spends key l result m' s' shown' h live =
+      let has = (loan-parts new key live).1 in
+      let loans : s'.loans ≡ put_at s.loans key.message None = send_loans fixed_handlers s key.message l s' result h in
+      let clash : None ≡ Some has.0 =
+      sym (ap (λ (f : ℕ → Option (Loan T U)). f key.message) loans ∙ put_at-same s.loans key.message None)
+      ∙ ap (λ (t : State T U). t.loans key.message) shown'.state ∙ has.1 in
+      absurd cc
+
+  -- a subscriber receives, or doesn't
+  pub receive-stays : (q : ℕ) (result : ReceiveResult) (s' : State T U) → Shows new m s' → Receive fixed_handlers s q s' result → Stays old new
+  receive-stays q (Got_sample p n) s' shown' h =
+      let got : IsReceived fixed_handlers s q p n s' = received_one fixed_handlers s q p n s' h in
+      stays-between No_item old new m m s s' shown shown' got.remain (λ k l at _. ap (λ (f : ℕ → Option (Loan T U)). f k) got.loans ∙ at)
+      (λ i j k at _. elim (cases_eq i p) [
+        | inr away ↦ got.others i j k (λ e _ _. away e) ∙ at
+        | inl e_p ↦ elim (cases_eq j q) [
+          | inr away ↦ got.others i j k (λ _ e _. away e) ∙ at
+          | inl e_q ↦ elim (cases_eq k n) [
+            | inr away ↦ got.others i j k (λ _ _ e. away e) ∙ at
+            | inl e_n ↦
+                ap (λ (v : ℕ). is_borrowed k (s'.mailboxes v j)) e_p ∙ ap (λ (v : ℕ). is_borrowed k (s'.mailboxes p v)) e_q
+                ∙ ap (λ (v : ℕ). is_borrowed v (s'.mailboxes p q)) e_n ∙ got.now
+          ]
+        ]
+      ])
+  receive-stays q No_sample s' shown' h =
+      quiet m s' shown' (nothing_received fixed_handlers s q s' No_sample (λ p n e. let clash : No_sample ≡ Got_sample p n = e in absurd cc) h) (receive_loans fixed_handlers s q s' No_sample h)
+  receive-stays q (Receive_error e) s' shown' h =
+      quiet m s' shown' (nothing_received fixed_handlers s q s' (Receive_error e) (λ p n f. let clash : Receive_error e ≡ Got_sample p n = f in absurd cc) h)
+      (receive_loans fixed_handlers s q s' (Receive_error e) h)
+
+  -- what is received wasn't borrowed
+  not-borrowed : (p q n : ℕ) (s' : State T U) → Receive fixed_handlers s q s' (Got_sample p n) → is_borrowed n (s.mailboxes p q) ≡ true → ⊥
+  not-borrowed p q n s' h borrowed =
+      let first : PortsStay s h.0 = update_subscriber_stays fixed_handlers s q h.0 h.1 h.2 in
+      by_option ⊥ h.1 _ _ h.3
+      (λ _ k. by_option ⊥ ((h.0).subscribers q) _ _ k (λ _ v. absurd v) (λ y _ k.
+      let box = (h.0).mailboxes p q in
+      let once = ((update_subscriber_keeps fixed_handlers s q h.0 h.1 shown.well_formed h.2).mailboxes p q).within.once in
+      let waits : contains box.waiting n ≡ true = ap (λ (ns : List ℕ). contains ns n) (k.2).1 ∙ contains_first n (k.2).0 in
+      true≢false (sym (same_borrowed s h.0 first p q n ∙ borrowed) ∙ IsOnce-apart box.waiting box.borrowed once n waits)))
+      (λ e _ k. let clash : Got_sample p n ≡ Receive_error _ = k.1 in absurd cc)
+
+  pub received-is-new : (p q n : ℕ) (s' : State T U) → Shows new m s' → Receive fixed_handlers s q s' (Got_sample p n) → IsNewIn old (A_sample q n)
+  received-is-new p q n s' shown' h = record { loans = λ key live. tt; unwritten_loans = λ it live. tt; written_loans = λ it live. tt; samples = λ it live. apart (sample_key it) live } where
+    got : IsReceived fixed_handlers s q p n s'
+    got = received_one fixed_handlers s q p n s' h
+
+    same : (i : ℕ) → is_borrowed n (s.mailboxes i q) ≡ true → ⊥
+    same i there = elim (cases_eq i p) [
+      | inl e ↦ not-borrowed p q n s' h (ap (λ (v : ℕ). is_borrowed n (s.mailboxes v q)) (sym e) ∙ there)
+      | inr away ↦ away (one-origin new m s' shown' i p q q n (got.others i q n (λ e _ _. away e) ∙ there) got.now)
+    ]
+
+    apart : (key : Key) → IsSampleKey old key → IsOtherSample (A_sample q n) key.port key.message
+    apart key live = let has = (sample-parts old key live).1 in elim (cases_eq key.port q) [
+      | inr away ↦ inl away
+      | inl e_q ↦ elim (cases_eq key.message n) [
+        | inr away ↦ inr away
+        | inl e_n ↦ absurd (same has.0 (
+            ap (λ (v : ℕ). is_borrowed n (s.mailboxes has.0 v)) (sym e_q) ∙ ap (λ (v : ℕ). is_borrowed v (s.mailboxes has.0 key.port)) (sym e_n)
+            ∙ ap (λ (t : State T U). is_borrowed key.message (t.mailboxes has.0 key.port)) shown.state ∙ has.1))
+      ]
+    ]
+
+  -- a sample is released
+  pub release-stays : (p q n : ℕ) (s' : State T U) → Shows new m s' → s' ≡ released s p q n → StaysBut (A_sample q n) old new
+  release-stays p q n s' shown' is =
+      stays-between (A_sample q n) old new m m s s' shown shown' (subst (Remain s) (sym is) (released_remain s p q n))
+      (λ k l at _. ap (λ (t : State T U). t.loans k) is ∙ ap (λ (f : ℕ → Option (Loan T U)). f k) (released_loans s p q n) ∙ at)
+      (λ i j k at other. ap (λ (t : State T U). is_borrowed k (t.mailboxes i j)) is ∙ released_others s p q n i j k (λ _ e_q e_n. apart other e_q e_n) ∙ at)
+    where
+      apart : {j k : ℕ} → IsOtherSample (A_sample q n) j k → j ≡ q → k ≡ n → ⊥
+      apart (inl away) e_q e_n = away e_q
+      apart (inr away) e_q e_n = away e_n
+
+  -- its message is borrowed no more
+  pub release-spends : (p q n : ℕ) (s' : State T U) → Shows new m s' → is_borrowed n (s.mailboxes p q) ≡ true → s' ≡ released s p q n
+      → (key : Key) → key.port ≡ q → key.message ≡ n → IsSampleKey new key → ⊥
+  release-spends p q n s' shown' borrowed is key e_q e_n live =
+      let has = (sample-parts new key live).1 in
+      same has.0 (
+      ap (λ (t : State T U). is_borrowed n (t.mailboxes has.0 q)) (sym is ∙ shown'.state)
+      ∙ ap (λ (v : ℕ). is_borrowed n ((state_of new).mailboxes has.0 v)) (sym e_q)
+      ∙ ap (λ (v : ℕ). is_borrowed v ((state_of new).mailboxes has.0 key.port)) (sym e_n) ∙ has.1)
+    where
+      same : (i : ℕ) → is_borrowed n ((released s p q n).mailboxes i q) ≡ true → ⊥
+      same i there = elim (cases_eq i p) [
+        | inl e ↦ true≢false (sym there ∙ ap (λ (v : ℕ). is_borrowed n ((released s p q n).mailboxes v q)) e ∙ released_now s p q n)
+        | inr away ↦ away (one-origin old m s shown i p q q n (sym (released_others s p q n i q n (λ e _ _. away e)) ∙ there) borrowed)
+      ]

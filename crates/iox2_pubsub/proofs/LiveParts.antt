@@ -1,0 +1,102 @@
+-- What it takes for a handle to be live, part by part.
+use Rattle.std.proofs.Common.{◌≡◌, ℕ, Bool, true, ap, sym, ◌∙◌, Some}
+use Rattle.iox2_store.specs.Mailbox.{is_borrowed}
+use Rattle.iox2_store.specs.Records.{Loan}
+use Rattle.iox2_store.specs.SingleCalls.{HoldsPublisher, HoldsSubscriber, HoldsLoan, HoldsSample}
+use Rattle.iox2_store.specs.declared.key.Key.{Key}
+use Rattle.iox2_store.specs.declared.service_config.TypeVariant.TheVariants.{FixedSize}
+use Rattle.iox2_domain.specs.Kept.{Kept, state_of}
+use Rattle.iox2_domain.specs.LoanCalls.{HoldsUnwritten, HoldsWritten}
+use Rattle.iox2_pubsub.specs.Live.{IsSingleValued, IsPublisherKey, IsSubscriberKey, IsLoanKey, IsSampleKey, HasMark, IsFromOrigin, IsUnwrittenLoan, IsWrittenLoan}
+use Rattle.iox2_pubsub.specs.declared.sample.Sample.{Sample}
+use Rattle.iox2_pubsub.specs.declared.sample_mut.SampleMut.{SampleMut}
+use Rattle.iox2_pubsub.specs.declared.sample_mut_uninit.SampleMutUninit.{SampleMutUninit}
+
+module _ {T U : Type 0} (kept : Kept T U) where
+  -- the key has this service's number
+  abbrev IsOfService : Key → Type 0
+  IsOfService key = key.service_id ≡ (kept.config).service_id
+
+  pub single-parts : IsSingleValued kept → ((kept.config).variant ≡ FixedSize) × ((kept.config).units_per_element ≡ 1)
+  unfolding IsSingleValued
+  single-parts single = single
+
+  pub single-valued : (kept.config).variant ≡ FixedSize → (kept.config).units_per_element ≡ 1 → IsSingleValued kept
+  unfolding IsSingleValued
+  single-valued variant units = (variant, units)
+
+  module _ (key : Key) where
+    pub publisher-parts : IsPublisherKey kept key → (key.message ≡ 0) × IsOfService key × HoldsPublisher (state_of kept) key.port
+    unfolding IsPublisherKey
+    publisher-parts live = live
+
+    pub publisher-live : (key.message ≡ 0) × IsOfService key × HoldsPublisher (state_of kept) key.port → IsPublisherKey kept key
+    unfolding IsPublisherKey
+    publisher-live parts = parts
+
+    pub subscriber-parts : IsSubscriberKey kept key → (key.message ≡ 0) × IsOfService key × HoldsSubscriber (state_of kept) key.port
+    unfolding IsSubscriberKey
+    subscriber-parts live = live
+
+    pub subscriber-live : (key.message ≡ 0) × IsOfService key × HoldsSubscriber (state_of kept) key.port → IsSubscriberKey kept key
+    unfolding IsSubscriberKey
+    subscriber-live parts = parts
+
+    pub loan-parts : IsLoanKey kept key → IsOfService key × HoldsLoan (state_of kept) key.port key.message
+    unfolding IsLoanKey
+    loan-parts live = live
+
+    pub loan-live : IsOfService key × HoldsLoan (state_of kept) key.port key.message → IsLoanKey kept key
+    unfolding IsLoanKey
+    loan-live parts = parts
+
+    pub sample-parts : IsSampleKey kept key → IsOfService key × HoldsSample (state_of kept) key.port key.message
+    unfolding IsSampleKey
+    sample-parts live = live
+
+    pub sample-live : IsOfService key × HoldsSample (state_of kept) key.port key.message → IsSampleKey kept key
+    unfolding IsSampleKey
+    sample-live parts = parts
+
+  -- ---- loans and their marks
+
+  module _ (publisher number : ℕ) (l : Loan T U) (at : (state_of kept).loans number ≡ Some l) (its : l.publisher ≡ publisher) where
+    -- a loan with its mark
+    marked : (is_written : Bool) → HasMark kept number is_written → l.is_written ≡ is_written
+    unfolding HasMark
+    marked is_written has =
+        let both : Some l ≡ Some has.0 = sym at ∙ has.1 in
+        let same : l ≡ has.0 = cc in
+        ap (λ (k : Loan T U). k.is_written) same ∙ has.2
+
+  has-mark : (number : ℕ) (is_written : Bool) (l : Loan T U) → (state_of kept).loans number ≡ Some l → l.is_written ≡ is_written → HasMark kept number is_written
+  unfolding HasMark
+  has-mark number is_written l at mark = (l, at, mark)
+
+  pub unwritten-parts : (loan : SampleMutUninit) → IsUnwrittenLoan kept loan → (loan.service_id ≡ (kept.config).service_id) × HoldsUnwritten (state_of kept) loan.publisher loan.number
+  unwritten-parts loan live =
+      let parts = loan-parts _ live.live in
+      (parts.0, ((parts.1).0, (parts.1).1, (parts.1).2, marked loan.publisher loan.number (parts.1).0 (parts.1).1 (parts.1).2 _ live.unwritten))
+
+  pub unwritten-live : (loan : SampleMutUninit) → loan.service_id ≡ (kept.config).service_id → HoldsUnwritten (state_of kept) loan.publisher loan.number → IsUnwrittenLoan kept loan
+  unwritten-live loan service has =
+      record { live = loan-live _ (service, (has.0, has.1, has.2)); unwritten = has-mark loan.number _ has.0 has.1 has.3 }
+
+  pub written-parts : (loan : SampleMut) → IsWrittenLoan kept loan → (loan.service_id ≡ (kept.config).service_id) × HoldsWritten (state_of kept) loan.publisher loan.number
+  written-parts loan live =
+      let parts = loan-parts _ live.live in
+      (parts.0, ((parts.1).0, (parts.1).1, (parts.1).2, marked loan.publisher loan.number (parts.1).0 (parts.1).1 (parts.1).2 _ live.written))
+
+  pub written-live : (loan : SampleMut) → loan.service_id ≡ (kept.config).service_id → HoldsWritten (state_of kept) loan.publisher loan.number → IsWrittenLoan kept loan
+  written-live loan service has =
+      record { live = loan-live _ (service, (has.0, has.1, has.2)); written = has-mark loan.number _ has.0 has.1 has.3 }
+
+  -- ---- origins
+
+  pub origin-parts : (sample : Sample) → IsFromOrigin kept sample → is_borrowed sample.number ((state_of kept).mailboxes sample.publisher sample.subscriber) ≡ true
+  unfolding IsFromOrigin
+  origin-parts sample from = from
+
+  pub origin-live : (sample : Sample) → is_borrowed sample.number ((state_of kept).mailboxes sample.publisher sample.subscriber) ≡ true → IsFromOrigin kept sample
+  unfolding IsFromOrigin
+  origin-live sample borrowed = borrowed
