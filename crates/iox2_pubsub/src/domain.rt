@@ -36,9 +36,9 @@ impl<T, U, F, G> Model for Domain<T, U, F, G> {
 }
 
 impl<T: Drop, U: Default + Drop> Domain<T, U> {
-    /// A domain with these settings and no port. In it a message is a single value, at most one
-    /// publisher and one subscriber are open, and a publisher keeps no history and overwrites
-    /// nothing.
+    /// A domain with these settings and no port. So far it takes single values, one publisher, one
+    /// subscriber, no history and no overflow, as in `ServiceConfig { max_publishers: 1,
+    /// max_subscribers: 1, enable_safe_overflow: false, ..ServiceConfig::new(7) }`.
     ///
     /// Fails with `DomainCreateError::OutOfMemory` where memory is refused.
     pub fn new(alloc: Global, config: ServiceConfig) -> Result<Self, DomainCreateError>

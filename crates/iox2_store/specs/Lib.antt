@@ -1,3 +1,4 @@
+pub mod Defaults
 pub mod Limits
 pub mod Numbers
 pub mod Places

@@ -1,3 +1,6 @@
+ghost use Rattle.std.specs.Prelude.{◌≡◌};
+ghost use Rattle.iox2_store.specs.Defaults.{default_config};
+
 use crate::allocation::AllocationStrategy;
 use crate::backpressure::BackpressureStrategy;
 
@@ -15,9 +18,10 @@ pub enum TypeVariant {
 /// The settings of a domain: the limits that all of its ports share, and what a publisher gets
 /// where its factory sets nothing else.
 ///
-/// This library's own. Every number may be anything that its type holds. Where one asks for more
-/// memory than there can be, the creation of a port is refused, or a connection isn't made, which is
-/// a warning.
+/// This library's own. `new` gives the defaults, of which `..` keeps what isn't set. A number may be
+/// anything that its type holds, but for what the call that makes a domain asks for so far. Where
+/// one asks for more memory than there can be, the creation of a port is refused, or a connection
+/// isn't made, which is a warning.
 #[derive(Debug, Clone, Copy, PartialEq, Eq)]
 pub struct ServiceConfig {
     /// Names the domain. Its handles carry this number, so two domains need two numbers if their
@@ -56,4 +60,33 @@ pub struct ServiceConfig {
     /// How a publisher's memory grows, where its factory sets no strategy. So far it changes
     /// nothing: the memory doesn't grow.
     pub publisher_allocation_strategy: AllocationStrategy,
+}
+
+impl ServiceConfig {
+    /// The defaults of a service with this id: single values, of node 0; up to 2 publishers with 2
+    /// loans each, and up to 8 subscribers with a buffer of 2, 2 borrowed samples and room for 128
+    /// departed publishers; no history; overflow. Where there is none a publisher retries until its
+    /// message is delivered. Its memory is static.
+    ///
+    /// The limits and choices are those of iceoryx2's configuration where nothing else is set.
+    pub fn new(service_id: u128) -> ServiceConfig
+        ensures { result ≡ default_config service_id }
+    {
+        ServiceConfig {
+            service_id,
+            node_id: 0,
+            variant: TypeVariant::FixedSize,
+            units_per_element: 1,
+            max_publishers: 2,
+            max_subscribers: 8,
+            subscriber_max_buffer_size: 2,
+            subscriber_max_borrowed_samples: 2,
+            history_size: 0,
+            enable_safe_overflow: true,
+            subscriber_expired_connection_buffer: 128,
+            publisher_max_loaned_samples: 2,
+            backpressure_strategy: BackpressureStrategy::RetryUntilDelivered,
+            publisher_allocation_strategy: AllocationStrategy::Static,
+        }
+    }
 }

@@ -15,4 +15,6 @@ mod handlers;
 #[cfg(test)]
 mod plain_types;
 #[cfg(test)]
+mod settings;
+#[cfg(test)]
 mod slots;

@@ -1,8 +1,8 @@
 use iox2_ends::receiver::{Found, find, release, take};
 use iox2_ends::sender::{Delivery, DeliveryOutcome, ReceiverDetails, deliver, reclaim_all};
 use iox2_store::{
-    AllocationStrategy, BackpressureStrategy, Connection, Header, Home, ServiceConfig, SlotBook,
-    TypeVariant, UniqueNodeId, UniquePublisherId,
+    BackpressureStrategy, Connection, Header, Home, ServiceConfig, SlotBook, UniqueNodeId,
+    UniquePublisherId,
 };
 use slab::Slab;
 use std::test::Fail;
@@ -14,25 +14,14 @@ const HOME: Home = Home {
     subscriber_place: 0,
 };
 
-const CONFIG: ServiceConfig = ServiceConfig {
-    service_id: 1,
-    node_id: 1,
-    variant: TypeVariant::FixedSize,
-    units_per_element: 1,
-    max_publishers: 1,
-    max_subscribers: 1,
-    subscriber_max_buffer_size: 2,
-    subscriber_max_borrowed_samples: 1,
-    history_size: 0,
-    enable_safe_overflow: false,
-    subscriber_expired_connection_buffer: 1,
-    publisher_max_loaned_samples: 1,
-    backpressure_strategy: BackpressureStrategy::DiscardData,
-    publisher_allocation_strategy: AllocationStrategy::Static,
-};
-
 #[test]
 fn a_message_goes_there_and_back(rt: HostRuntime) -> Result<(), Fail> {
+    let config = ServiceConfig {
+        subscriber_max_borrowed_samples: 1,
+        enable_safe_overflow: false,
+        backpressure_strategy: BackpressureStrategy::DiscardData,
+        ..ServiceConfig::new(1)
+    };
     let connection = Connection::new(rt.alloc(), HOME, 2, 1)?;
     let mut book = SlotBook::new(rt.alloc(), UniquePublisherId::new(1), 1)?;
     let mut connections = Slab::new(rt.alloc());
@@ -53,11 +42,11 @@ fn a_message_goes_there_and_back(rt: HostRuntime) -> Result<(), Fail> {
     let delivery = Delivery {
         publisher: 1,
         slot,
-        strategy: CONFIG.backpressure_strategy,
+        strategy: config.backpressure_strategy,
     };
 
     let outcome = deliver(
-        &CONFIG,
+        &config,
         &delivery,
         &mut connections,
         &mut book,

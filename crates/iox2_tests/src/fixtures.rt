@@ -1,9 +1,11 @@
 //! What several tests start from.
 
+ghost use Rattle.std.specs.Prelude.{◌≡◌, false};
+ghost use Rattle.iox2_store.specs.Defaults.{default_config};
 ghost use Rattle.iox2_pubsub.specs.Handles.{IsUnwrittenLoanHandle};
 
 use iox2_pubsub::{Domain, Publisher, SampleMutUninit, SendOutcome};
-use iox2_store::{AllocationStrategy, BackpressureStrategy, ServiceConfig, TypeVariant};
+use iox2_store::ServiceConfig;
 use std::alloc::Global;
 use std::process::Abort;
 
@@ -19,26 +21,22 @@ pub(crate) struct Station {
     pub(crate) number: u32,
 }
 
-pub(crate) const SETTINGS: ServiceConfig = ServiceConfig {
-    service_id: 7,
-    node_id: 3,
-    variant: TypeVariant::FixedSize,
-    units_per_element: 1,
-    max_publishers: 1,
-    max_subscribers: 1,
-    subscriber_max_buffer_size: 2,
-    subscriber_max_borrowed_samples: 2,
-    history_size: 0,
-    enable_safe_overflow: false,
-    subscriber_expired_connection_buffer: 1,
-    publisher_max_loaned_samples: 2,
-    backpressure_strategy: BackpressureStrategy::DiscardData,
-    publisher_allocation_strategy: AllocationStrategy::Static,
-};
+/// One publisher and one subscriber, without overflow.
+pub(crate) fn settings() -> ServiceConfig
+    ensures { result ≡ record (default_config 7) { node_id = 3; max_publishers = 1; max_subscribers = 1; enable_safe_overflow = false } }
+{
+    ServiceConfig {
+        node_id: 3,
+        max_publishers: 1,
+        max_subscribers: 1,
+        enable_safe_overflow: false,
+        ..ServiceConfig::new(7)
+    }
+}
 
 /// A domain with these settings.
 pub(crate) fn domain(rt: &impl Abort, alloc: Global) -> Domain<Reading, Station> {
-    Domain::new(alloc, SETTINGS).expect(rt, "a domain")
+    Domain::new(alloc, settings()).expect(rt, "a domain")
 }
 
 /// A loan of the domain's first publisher, which is made for it.

@@ -26,6 +26,4 @@ mod samples;
 #[cfg(test)]
 mod sends;
 #[cfg(test)]
-mod settings;
-#[cfg(test)]
 mod subscribers;

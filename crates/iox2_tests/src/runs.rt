@@ -1,4 +1,4 @@
-use crate::fixtures::SETTINGS;
+use crate::fixtures::settings;
 use iox2_pubsub::Domain;
 use iox2_runs::{Command, Reply, run};
 use iox2_store::{
@@ -31,7 +31,7 @@ const COMMANDS: [Command<u64, u8>; 9] = [
 
 #[test]
 fn a_message_goes_from_its_loan_to_its_release(rt: HostRuntime) {
-    let mut domain: Domain<u64, u8> = Domain::new(rt.alloc(), SETTINGS).expect(&rt, "a domain");
+    let mut domain: Domain<u64, u8> = Domain::new(rt.alloc(), settings()).expect(&rt, "a domain");
     let commands = Vec::from_array(rt.alloc(), COMMANDS).expect(&rt, "commands");
     let outcome = run(rt.alloc(), &mut domain, commands);
     drop(domain);

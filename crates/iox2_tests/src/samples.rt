@@ -1,7 +1,7 @@
 ghost use Rattle.std.specs.Prelude.{IfSome};
 ghost use Rattle.iox2_pubsub.specs.Handles.{IsSampleHandle};
 
-use crate::fixtures::{Reading, SETTINGS, Station, domain, publish};
+use crate::fixtures::{Reading, Station, domain, publish, settings};
 use iox2_pubsub::{Domain, Sample, Subscriber};
 use iox2_store::ServiceConfig;
 use std::process::Abort;
@@ -63,11 +63,11 @@ fn a_test_of_its_handle_lets_a_sample_be_released(rt: HostRuntime) {
     let subscriber = subscribed(&rt, &mut domain);
     let sample = received(&rt, &mut domain, &subscriber).expect(&rt, "a sample");
     subscriber.disown();
-    let settings = ServiceConfig {
-        service_id: SETTINGS.service_id + 1,
-        ..SETTINGS
+    let elsewhere = ServiceConfig {
+        service_id: 8,
+        ..settings()
     };
-    let other = Domain::<Reading, Station>::new(rt.alloc(), settings).expect(&rt, "a domain");
+    let other = Domain::<Reading, Station>::new(rt.alloc(), elsewhere).expect(&rt, "a domain");
     let is_held_by_another = other.holds_sample(sample.key());
     let was_released = release_if_held(&mut domain, sample);
     drop(other);

@@ -11,9 +11,7 @@ use crate::failure::ScriptError;
 use crate::lines::Lines;
 use arrayvec::ArrayVec;
 use iox2_commands::Command;
-use iox2_store::{
-    AllocationStrategy, BackpressureStrategy, DegradationAction, ServiceConfig, TypeVariant,
-};
+use iox2_store::{AllocationStrategy, BackpressureStrategy, DegradationAction, ServiceConfig};
 use std::alloc::Global;
 
 /// A script: the settings of its domain, which its first line names, and the commands of its other
@@ -99,20 +97,16 @@ fn parse_domain(words: &[&str]) -> Option<ServiceConfig>
         return None;
     }
     Some(ServiceConfig {
-        service_id: 1,
         node_id: 1,
-        variant: TypeVariant::FixedSize,
-        units_per_element: 1,
         max_publishers: 1,
         max_subscribers: 1,
         subscriber_max_buffer_size: parse_size(buffer)?,
         subscriber_max_borrowed_samples: parse_size(borrowed)?,
-        history_size: 0,
         enable_safe_overflow: false,
         subscriber_expired_connection_buffer: parse_size(expired)?,
         publisher_max_loaned_samples: 1,
         backpressure_strategy: BackpressureStrategy::DiscardData,
-        publisher_allocation_strategy: AllocationStrategy::Static,
+        ..ServiceConfig::new(1)
     })
 }
 

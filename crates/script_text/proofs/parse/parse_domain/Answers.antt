@@ -12,5 +12,5 @@ returns-clause-reads c = record {
   history = search rules;
   expired = search rules;
   keep = search rules;
-  settings = λ k. script_config (c.in_ok-parse_size-4.ensures.value k) (c.in_ok-parse_size-5.ensures.value k) (c.in_ok-parse_size-6.ensures.value k);
+  settings = rw c.new.ensures (λ k. script_config (c.in_ok-parse_size-4.ensures.value k) (c.in_ok-parse_size-5.ensures.value k) (c.in_ok-parse_size-6.ensures.value k));
 }

@@ -1,0 +1,26 @@
+-- The settings that a service has where nothing else is asked for.
+use Rattle.std.specs.Prelude.{ℕ, true}
+use Rattle.iox2_store.specs.declared.service_config.ServiceConfig.{ServiceConfig}
+use Rattle.iox2_store.specs.declared.service_config.TypeVariant.TheVariants.{FixedSize}
+use Rattle.iox2_store.specs.declared.allocation.AllocationStrategy.TheVariants.{Static}
+use Rattle.iox2_store.specs.declared.backpressure.BackpressureStrategy.TheVariants.{RetryUntilDelivered}
+
+-- Single values, of node 0, in memory that doesn't grow, with the limits and the choices that iceoryx2 has where its
+-- configuration says nothing else.
+abbrev pub default_config : (service_id : ℕ) → ServiceConfig
+default_config service_id = record {
+  service_id = service_id;
+  node_id = 0;
+  variant = FixedSize;
+  units_per_element = 1;
+  max_publishers = 2;
+  max_subscribers = 8;
+  subscriber_max_buffer_size = 2;
+  subscriber_max_borrowed_samples = 2;
+  history_size = 0;
+  enable_safe_overflow = true;
+  subscriber_expired_connection_buffer = 128;
+  publisher_max_loaned_samples = 2;
+  backpressure_strategy = RetryUntilDelivered;
+  publisher_allocation_strategy = Static;
+}
