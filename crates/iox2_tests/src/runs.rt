@@ -1,3 +1,11 @@
+ghost use Rattle.std.specs.Prelude.{IfOk, ℕ};
+ghost use Rattle.std.specs.List.{All};
+ghost use Rattle.iox2_commands.specs.Runs.{only_defaults};
+ghost use Rattle.iox2_domain.specs.Shows.{Shows};
+ghost use Rattle.iox2_runs.specs.DomainRuns.{RunsOn};
+ghost use Rattle.iox2_runs.specs.Supported.{IsSupported};
+ghost use Rattle.iox2_store.specs.State.{State, Messages};
+
 use crate::fixtures::SETTINGS;
 use iox2_pubsub::Domain;
 use iox2_runs::{Command, Reply, run};
@@ -5,6 +13,7 @@ use iox2_store::{
     AllocationStrategy, BackpressureStrategy, DegradationAction, UniquePublisherId,
     UniqueSubscriberId,
 };
+use std::alloc::Global;
 
 const COMMANDS: [Command<u64, u8>; 9] = [
     Command::CreateSubscriber {
@@ -28,6 +37,19 @@ const COMMANDS: [Command<u64, u8>; 9] = [
     Command::Read { of: 6, at: 0 },
     Command::Release { of: 6 },
 ];
+
+/// Replies of a run whose types have one default value each, which the run uses throughout.
+fn replies_to_numbers(
+    alloc: Global,
+    domain: &mut Domain<u64, u8>,
+    commands: Vec<Command<u64, u8>>,
+) -> Result<Vec<Reply<u64, u8>>, Vec<Command<u64, u8>>>
+    requires { All IsSupported commands.items }
+    ensures { IfOk result (λ replies. (m : Messages ℕ ℕ) (s : State ℕ ℕ) → Shows domain.old m s → RunsOn (only_defaults 0 0) domain.new m s commands.items replies.items) }
+{
+    let replies = run(alloc, domain, commands)?;
+    Ok(replies)
+}
 
 #[test]
 fn a_message_goes_from_its_loan_to_its_release(rt: HostRuntime) {
