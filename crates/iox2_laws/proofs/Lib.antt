@@ -22,3 +22,4 @@ pub mod LoanLaws
 pub mod DeliveryLaws
 pub mod SendLaws
 pub mod LoanKeeping
+pub mod SliceLoans

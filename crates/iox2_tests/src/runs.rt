@@ -51,11 +51,24 @@ fn replies_to_numbers(
     Ok(replies)
 }
 
+/// The same with a header of which there is one value at all.
+fn replies_without_headers(
+    alloc: Global,
+    domain: &mut Domain<u64, ()>,
+    commands: Vec<Command<u64, ()>>,
+) -> Result<Vec<Reply<u64, ()>>, Vec<Command<u64, ()>>>
+    requires { All IsSupported commands.items }
+    ensures { IfOk result (λ replies. (m : Messages ℕ (Unit {0})) (s : State ℕ (Unit {0})) → Shows domain.old m s → RunsOn (only_defaults 0 tt) domain.new m s commands.items replies.items) }
+{
+    let replies = run(alloc, domain, commands)?;
+    Ok(replies)
+}
+
 #[test]
 fn a_message_goes_from_its_loan_to_its_release(rt: HostRuntime) {
     let mut domain: Domain<u64, u8> = Domain::new(rt.alloc(), SETTINGS).expect(&rt, "a domain");
     let commands = Vec::from_array(rt.alloc(), COMMANDS).expect(&rt, "commands");
-    let outcome = run(rt.alloc(), &mut domain, commands);
+    let outcome = replies_to_numbers(rt.alloc(), &mut domain, commands);
     drop(domain);
     let replies = outcome.ok().expect(&rt, "replies");
     let expected: [Reply<u64, u8>; 9] = [
@@ -69,5 +82,17 @@ fn a_message_goes_from_its_loan_to_its_release(rt: HostRuntime) {
         Reply::Cell(Some(5)),
         Reply::Done,
     ];
+    assert!(rt; replies.as_slice() == expected.as_slice());
+}
+
+#[test]
+fn a_command_that_names_nothing_is_skipped(rt: HostRuntime) {
+    let mut domain: Domain<u64, ()> = Domain::new(rt.alloc(), SETTINGS).expect(&rt, "a domain");
+    let commands = [Command::Nothing, Command::Send { of: 0 }];
+    let commands = Vec::from_array(rt.alloc(), commands).expect(&rt, "commands");
+    let outcome = replies_without_headers(rt.alloc(), &mut domain, commands);
+    drop(domain);
+    let replies = outcome.ok().expect(&rt, "replies");
+    let expected: [Reply<u64, ()>; 2] = [Reply::Done, Reply::Skipped];
     assert!(rt; replies.as_slice() == expected.as_slice());
 }
