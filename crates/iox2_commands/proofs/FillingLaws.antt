@@ -175,7 +175,7 @@ module _ {T U : Type 0} where
       (λ (grants : Grants c loans value None able replies s).
       let full : (x : Publisher) × (s.publishers 1 ≡ Some x) × (size (held s 1 x) ≡ worst_case c loans) × (size (held s 1 x) ≤ given_slots c loans None) =
       publisher_full c loans value None able replies s grants in
-      (grants.0, (1, full.0, full.1, full.2)))
+      (grants.0, (1, full.0, first_reply c loans value None able replies events m s run, full.1, full.2)))
       (runs_so c loans value None able replies events m s run)
 
   -- with fewer slots a loan is refused early

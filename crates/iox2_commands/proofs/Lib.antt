@@ -20,6 +20,8 @@ pub mod ReadSteps
 pub mod Reached
 pub mod ReadRuns
 pub mod ReadLaws
+pub mod Faithful
+pub mod OneDefault
 pub mod FillingNumbers
 pub mod FillingRuns
 pub mod FillingShape

@@ -93,7 +93,7 @@ RefusesForWantOfSlots {T} {U} c loans commands =
     × RunFrom ample_memory any_defaults m' s' handles' (drop i commands) (drop i replies) (drop i events) m s
     × (p : ℕ) × (x : Publisher) × (slice_get replies 0 ≡ Some (PublisherMade p)) × (s'.publishers p ≡ Some x) × (length x.loans < loans)
 
--- Without an override of its slots, the list skips and refuses nothing and ends with a publisher that holds the worst case.
+-- Without an override of its slots, the list skips and refuses nothing, and its publisher holds the worst case in the end.
 abbrev pub WorstCaseIsReached : Type 0 → Type 0 → Type 0
 WorstCaseIsReached T U = (c : ServiceConfig) (loans : ℕ) (value : T) → IsFillable c loans → Fills {T = T} {U = U} c loans (filling_commands c loans value None)
 

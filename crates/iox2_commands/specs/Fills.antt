@@ -1,5 +1,5 @@
--- A list of commands that makes a publisher need every slot of the worst case.
-use Rattle.std.specs.Prelude.{ℕ, Bool, true, false, List, ◌≡◌}
+-- A list of commands that makes its publisher need every slot of the worst case.
+use Rattle.std.specs.Prelude.{ℕ, Bool, true, false, List, ◌≡◌, slice_get}
 use Rattle.std.specs.List.{list_all}
 use Rattle.std.specs.declared.option.Option.TheVariants.{Some}
 use Rattle.iox2_store.specs.Limits.{worst_case}
@@ -12,7 +12,7 @@ use Rattle.iox2_store.specs.Environments.{ample_memory}
 use Rattle.iox2_commands.specs.Runs.{Run, any_defaults}
 use Rattle.iox2_commands.specs.declared.command.Command.{Command}
 use Rattle.iox2_commands.specs.declared.reply.Reply.{Reply}
-use Rattle.iox2_commands.specs.declared.reply.Reply.TheVariants.{Skipped, PublisherRefused, SubscriberRefused, LoanRefused, SendRefused, UpdateRefused, ReceiveRefused}
+use Rattle.iox2_commands.specs.declared.reply.Reply.TheVariants.{Skipped, PublisherMade, PublisherRefused, SubscriberRefused, LoanRefused, SendRefused, UpdateRefused, ReceiveRefused}
 
 -- The command was neither skipped nor refused.
 abbrev pub is_granted : {T U : Type 0} → Reply T U → Bool
@@ -25,11 +25,11 @@ is_granted (UpdateRefused e) = false
 is_granted (ReceiveRefused e) = false
 is_granted _ = true
 
--- Every run of the list on a new domain, with ample memory, skips and refuses no command, and ends with a publisher that
--- holds the worst case for so many loans.
+-- Every run of the list on a new domain, with ample memory, skips and refuses no command. The publisher that the first
+-- command made holds the worst case for so many loans in the end.
 abbrev pub Fills : {T U : Type 0} → ServiceConfig → (loans : ℕ) → List (Command T U) → Type 0
 Fills {T} {U} c loans commands =
     (replies : List (Reply T U)) (events : List (Event T U)) (m : Messages T U) (s : State T U)
     → Run ample_memory any_defaults no_messages (fresh c) commands replies events m s
     → (list_all is_granted replies ≡ true)
-    × ((p : ℕ) × (x : Publisher) × (s.publishers p ≡ Some x) × (size (held s p x) ≡ worst_case c loans))
+    × ((p : ℕ) × (x : Publisher) × (slice_get replies 0 ≡ Some (PublisherMade p)) × (s.publishers p ≡ Some x) × (size (held s p x) ≡ worst_case c loans))

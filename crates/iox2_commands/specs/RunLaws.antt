@@ -36,11 +36,14 @@ OfEachRun T U Holds =
     → Run (cond may_refuse_memory fixed_handlers ample_memory) any_defaults m s commands replies events m' s'
     → Holds commands replies events
 
--- A publisher sends each number once. What a subscriber receives from it is a subsequence of what it sent, in which each
+-- Each publisher sent each number once. What a subscriber received from it is a subsequence of what it sent, in which each
 -- number occurs once.
+abbrev pub AreReceivedInOrder : {T U : Type 0} → List (Event T U) → Type 0
+AreReceivedInOrder events = (p q : ℕ) → IsOnce (sent p events) × IsSubsequence (received p q events) (sent p events) × IsOnce (received p q events)
+
+-- Messages are received in the order in which they were sent.
 abbrev pub ReceivesInOrder : Type 0 → Type 0 → Type 0
-ReceivesInOrder T U = OfEachRun T U (λ commands replies events.
-    (p q : ℕ) → IsOnce (sent p events) × IsSubsequence (received p q events) (sent p events) × IsOnce (received p q events))
+ReceivesInOrder T U = OfEachRun T U (λ commands replies events. AreReceivedInOrder events)
 
 -- The message n of p was sent with that entry.
 abbrev pub WasSent : {T U : Type 0} → (p n : ℕ) → Entry T U → List (Event T U) → Type 0
@@ -48,10 +51,14 @@ WasSent p n entry events = (i : ℕ) × (slice_get events i ≡ Some (Message_se
 
 -- The reply to a receive names the publisher that sent the message before it was received, and so does the message's
 -- header.
-abbrev pub SamplesNameTheirPublisher : Type 0 → Type 0 → Type 0
-SamplesNameTheirPublisher T U = OfEachRun T U (λ commands replies events.
+abbrev pub NameTheirPublisher : {T U : Type 0} → List (Reply T U) → List (Event T U) → Type 0
+NameTheirPublisher {T} {U} replies events =
     (i origin : ℕ) → slice_get replies i ≡ Some (Sample origin)
-    → (q n : ℕ) × (entry : Entry T U) × (slice_get events i ≡ Some (Message_received origin q n)) × WasSent origin n entry (take i events) × ((entry.header).publisher_id ≡ origin))
+    → (q n : ℕ) × (entry : Entry T U) × (slice_get events i ≡ Some (Message_received origin q n)) × WasSent origin n entry (take i events) × ((entry.header).publisher_id ≡ origin)
+
+-- Samples name the publisher of their message.
+abbrev pub SamplesNameTheirPublisher : Type 0 → Type 0 → Type 0
+SamplesNameTheirPublisher T U = OfEachRun T U (λ commands replies events. NameTheirPublisher replies events)
 
 -- No command between the two positions releases the sample received at `of`.
 abbrev pub IsUnreleased : {T U : Type 0} → List (Command T U) → (of i : ℕ) → Type 0
@@ -59,14 +66,25 @@ IsUnreleased commands of i = (j : ℕ) → of < j → j < i → slice_get comman
 
 -- Each sample has one entry, with which its message was sent before it was received. Every read until the release gives
 -- that entry; a read past its end is skipped.
-abbrev pub ReadsGiveWhatWasSent : Type 0 → Type 0 → Type 0
-ReadsGiveWhatWasSent T U = OfEachRun T U (λ commands replies events.
+abbrev pub GiveWhatWasSent : {T U : Type 0} → List (Command T U) → List (Reply T U) → List (Event T U) → Type 0
+GiveWhatWasSent {T} {U} commands replies events =
     (of p q n : ℕ) → slice_get events of ≡ Some (Message_received p q n)
     → (entry : Entry T U) × WasSent p n entry (take of events)
     × ((i : ℕ) → of < i → IsUnreleased commands of i
     → ((at : ℕ) → slice_get commands i ≡ Some (Read of at) → slice_get replies i ≡ Some (option_map_or (λ value. Cell (Some value)) (slice_get entry.values at) Skipped))
     × (slice_get commands i ≡ Some (ReadHeader of) → slice_get replies i ≡ Some (Header entry.header))
-    × (slice_get commands i ≡ Some (ReadUserHeader of) → slice_get replies i ≡ Some (UserHeader entry.user_header))))
+    × (slice_get commands i ≡ Some (ReadUserHeader of) → slice_get replies i ≡ Some (UserHeader entry.user_header)))
+
+-- Reads through a sample give its message as it was sent.
+abbrev pub ReadsGiveWhatWasSent : Type 0 → Type 0 → Type 0
+ReadsGiveWhatWasSent T U = OfEachRun T U (λ commands replies events. GiveWhatWasSent commands replies events)
+
+-- What holds of every run from a well-formed state: each subscriber receives a part of what each publisher sent, in order
+-- and each message once; each sample names its publisher; and each read through a sample gives what was sent.
+pub record IsFaithful {T U : Type 0} (commands : List (Command T U)) (replies : List (Reply T U)) (events : List (Event T U)) : Type 0 where
+  pub order : AreReceivedInOrder events
+  pub origins : NameTheirPublisher replies events
+  pub reads : GiveWhatWasSent commands replies events
 
 -- ---- enough slots
 

@@ -58,7 +58,7 @@ pub fn reads_give_what_was_sent<T, U>()
 {}
 
 /// With ample memory, for each fillable configuration, every run of a stated list of commands skips and refuses none, and
-/// ends with a publisher that holds the worst case of messages and loans.
+/// the publisher that its first command made holds the worst case of messages and loans in the end.
 pub fn worst_case_is_reached<T, U>()
     ensures { WorstCaseIsReached T U }
 {}

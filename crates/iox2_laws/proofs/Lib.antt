@@ -26,3 +26,4 @@ pub mod MailboxWalks
 pub mod PortsStay
 pub mod SamplesStay
 pub mod NextLoan
+pub mod SliceLoans

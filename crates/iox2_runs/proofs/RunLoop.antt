@@ -8,12 +8,17 @@ use Rattle.iox2_store.specs.State.{State, Messages}
 use Rattle.iox2_domain.specs.Kept.{Kept as Domain}
 use Rattle.iox2_domain.specs.Shows.{Shows}
 use Rattle.iox2_commands.specs.Outcomes.{Handle, Event, messages_after}
-use Rattle.iox2_commands.specs.Runs.{Defaults, RunTo, Run}
+use Rattle.iox2_commands.specs.Runs.{Defaults, RunTo, Run, only_defaults}
+use Rattle.iox2_commands.specs.RunLaws.{IsFaithful}
+use Rattle.iox2_commands.specs.OneDefault.{HasOneDefault}
 use Rattle.iox2_runs.specs.Tables.{IsTable}
 use Rattle.iox2_runs.specs.Holdings.{kept_of, Keeps, Carries}
+use Rattle.iox2_runs.specs.DomainRuns.{RunsOn}
 use Rattle.iox2_commands.specs.declared.command.Command.{Command}
 use Rattle.iox2_commands.specs.declared.reply.Reply.{Reply}
 use Rattle.iox2_runs.specs.declared.runs.held.Held.{Held}
+use Rattle.iox2_commands.proofs.Faithful.{is_faithful}
+use Rattle.iox2_commands.proofs.OneDefault.{uses_one_default}
 use Rattle.iox2_runs.proofs.RunsOn.{run_of, run_more, received_once}
 
 module _ {T U : Type 0} (defaults : Defaults T U) where
@@ -73,10 +78,28 @@ module _ {T U : Type 0} (defaults : Defaults T U) where
   still_keeps old new commands replies table m s shown ran =
       let now = ran m s shown in (now.2, now.3, now.1, now.0, now.4, now.6)
 
-  -- it is a run
+  -- it is a run, and a faithful one
   pub is_run : (old new : Domain T U) (commands : List (Command T U)) (replies : List (Reply T U)) (table : List Held) → HasRun old new commands replies table
       → (m : Messages T U) (s : State T U) → Shows old m s
       → (events : List (Event T U)) × (m' : Messages T U) × (s' : State T U) × Shows new m' s' × Run fixed_handlers defaults m s commands replies events m' s'
+      × IsFaithful commands replies events
   is_run old new commands replies table ran = λ m s shown.
       let now = ran m s shown in
-      (now.0, now.2, now.3, now.4, run_of fixed_handlers defaults m now.2 s now.3 [] now.1 commands replies now.0 now.5)
+      let run = run_of fixed_handlers defaults m now.2 s now.3 [] now.1 commands replies now.0 now.5 in
+      (now.0, now.2, now.3, now.4, run, is_faithful fixed_handlers defaults m now.2 s now.3 commands replies now.0 shown.well_formed run)
+
+  -- it has one default value and one default header throughout, where there are no others
+  pub runs_on : (old new : Domain T U) (commands : List (Command T U)) (replies : List (Reply T U)) (table : List Held) → HasRun old new commands replies table
+      → HasOneDefault defaults → (default_value : T) (default_header : U) → defaults.IsDefaultValue default_value → defaults.IsDefaultHeader default_header
+      → (m : Messages T U) (s : State T U) → Shows old m s → RunsOn (only_defaults default_value default_header) new m s commands replies
+  runs_on old new commands replies table ran one default_value default_header is_value is_header m s shown =
+      let now = ran m s shown in record {
+        events = now.0;
+        messages = now.2;
+        state = now.3;
+        handles = now.1;
+        shown = now.4;
+        run = uses_one_default fixed_handlers defaults one default_value default_header is_value is_header m now.2 s now.3 [] now.1 commands replies now.0 now.5;
+        faithful = is_faithful fixed_handlers defaults m now.2 s now.3 commands replies now.0 shown.well_formed
+            (run_of fixed_handlers defaults m now.2 s now.3 [] now.1 commands replies now.0 now.5);
+      }

@@ -3,3 +3,4 @@ pub mod Supported
 pub mod RunSteps
 pub mod Rooms
 pub mod Holdings
+pub mod DomainRuns

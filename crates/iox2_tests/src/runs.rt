@@ -1,3 +1,11 @@
+ghost use Rattle.std.specs.Prelude.{IfOk, ℕ};
+ghost use Rattle.std.specs.List.{All};
+ghost use Rattle.iox2_commands.specs.Runs.{only_defaults};
+ghost use Rattle.iox2_domain.specs.Shows.{Shows};
+ghost use Rattle.iox2_runs.specs.DomainRuns.{RunsOn};
+ghost use Rattle.iox2_runs.specs.Supported.{IsSupported};
+ghost use Rattle.iox2_store.specs.State.{State, Messages};
+
 use crate::fixtures::settings;
 use iox2_pubsub::Domain;
 use iox2_runs::{Command, Reply, run};
@@ -5,6 +13,7 @@ use iox2_store::{
     AllocationStrategy, BackpressureStrategy, DegradationAction, UniquePublisherId,
     UniqueSubscriberId,
 };
+use std::alloc::Global;
 
 const COMMANDS: [Command<u64, u8>; 9] = [
     Command::CreateSubscriber {
@@ -29,11 +38,37 @@ const COMMANDS: [Command<u64, u8>; 9] = [
     Command::Release { of: 6 },
 ];
 
+/// Replies of a run whose types have one default value each, which the run uses throughout.
+fn replies_to_numbers(
+    alloc: Global,
+    domain: &mut Domain<u64, u8>,
+    commands: Vec<Command<u64, u8>>,
+) -> Result<Vec<Reply<u64, u8>>, Vec<Command<u64, u8>>>
+    requires { All IsSupported commands.items }
+    ensures { IfOk result (λ replies. (m : Messages ℕ ℕ) (s : State ℕ ℕ) → Shows domain.old m s → RunsOn (only_defaults 0 0) domain.new m s commands.items replies.items) }
+{
+    let replies = run(alloc, domain, commands)?;
+    Ok(replies)
+}
+
+/// The same with a header of which there is one value at all.
+fn replies_without_headers(
+    alloc: Global,
+    domain: &mut Domain<u64, ()>,
+    commands: Vec<Command<u64, ()>>,
+) -> Result<Vec<Reply<u64, ()>>, Vec<Command<u64, ()>>>
+    requires { All IsSupported commands.items }
+    ensures { IfOk result (λ replies. (m : Messages ℕ (Unit {0})) (s : State ℕ (Unit {0})) → Shows domain.old m s → RunsOn (only_defaults 0 tt) domain.new m s commands.items replies.items) }
+{
+    let replies = run(alloc, domain, commands)?;
+    Ok(replies)
+}
+
 #[test]
 fn a_message_goes_from_its_loan_to_its_release(rt: HostRuntime) {
     let mut domain: Domain<u64, u8> = Domain::new(rt.alloc(), settings()).expect(&rt, "a domain");
     let commands = Vec::from_array(rt.alloc(), COMMANDS).expect(&rt, "commands");
-    let outcome = run(rt.alloc(), &mut domain, commands);
+    let outcome = replies_to_numbers(rt.alloc(), &mut domain, commands);
     drop(domain);
     let replies = outcome.ok().expect(&rt, "replies");
     let expected: [Reply<u64, u8>; 9] = [
@@ -47,5 +82,17 @@ fn a_message_goes_from_its_loan_to_its_release(rt: HostRuntime) {
         Reply::Cell(Some(5)),
         Reply::Done,
     ];
+    assert!(rt; replies.as_slice() == expected.as_slice());
+}
+
+#[test]
+fn a_command_that_names_nothing_is_skipped(rt: HostRuntime) {
+    let mut domain: Domain<u64, ()> = Domain::new(rt.alloc(), SETTINGS).expect(&rt, "a domain");
+    let commands = [Command::Nothing, Command::Send { of: 0 }];
+    let commands = Vec::from_array(rt.alloc(), commands).expect(&rt, "commands");
+    let outcome = replies_without_headers(rt.alloc(), &mut domain, commands);
+    drop(domain);
+    let replies = outcome.ok().expect(&rt, "replies");
+    let expected: [Reply<u64, ()>; 2] = [Reply::Done, Reply::Skipped];
     assert!(rt; replies.as_slice() == expected.as_slice());
 }
