@@ -32,7 +32,7 @@ use Rattle.iox2_domain.specs.Lending.{LoanCall}
 use Rattle.iox2_domain.specs.Shows.{Shows}
 use Rattle.iox2_pubsub.specs.Live.{IsLoanKey, IsSampleKey, No_item, A_loan, A_sample, IsOtherSample, StaysBut, Stays, IsNewIn, unwritten_key, written_key, sample_key}
 use Rattle.iox2_pubsub.proofs.AlwaysShows.{shows_itself}
-use Rattle.iox2_pubsub.proofs.LiveParts.{loan-parts, sample-parts}
+use Rattle.iox2_pubsub.proofs.LiveParts.{loan-parts, sample-parts, origin-parts}
 use Rattle.iox2_pubsub.proofs.StaysBut.{stays-between}
 
 -- a domain shows some state
@@ -88,6 +88,7 @@ module _ {T U : Type 0} (old new : Kept T U) (m : Messages T U) (s : State T U) 
     unwritten_loans = λ it live. apart (unwritten_key it) live.live;
     written_loans = λ it live. apart (written_key it) live.live;
     samples = λ it live. tt;
+    origins = λ it from. tt;
   }
     where
       apart : (key : Key) → IsLoanKey old key → key.message ≢ number
@@ -164,7 +165,7 @@ module _ {T U : Type 0} (old new : Kept T U) (m : Messages T U) (s : State T U) 
       (λ e _ k. let clash : Got_sample p n ≡ Receive_error _ = k.1 in absurd cc)
 
   pub received-is-new : (p q n : ℕ) (s' : State T U) → Shows new m s' → Receive fixed_handlers s q s' (Got_sample p n) → IsNewIn old (A_sample q n)
-  received-is-new p q n s' shown' h = record { loans = λ key live. tt; unwritten_loans = λ it live. tt; written_loans = λ it live. tt; samples = λ it live. apart (sample_key it) live } where
+  received-is-new p q n s' shown' h = record { loans = λ key live. tt; unwritten_loans = λ it live. tt; written_loans = λ it live. tt; samples = λ it live. apart (sample_key it) live; origins = λ it from. away it.publisher it.subscriber it.number (origin-parts old it from) } where
     got : IsReceived fixed_handlers s q p n s'
     got = received_one fixed_handlers s q p n s' h
 
@@ -174,16 +175,19 @@ module _ {T U : Type 0} (old new : Kept T U) (m : Messages T U) (s : State T U) 
       | inr away ↦ away (one-origin new m s' shown' i p q q n (got.others i q n (λ e _ _. away e) ∙ there) got.now)
     ]
 
-    apart : (key : Key) → IsSampleKey old key → IsOtherSample (A_sample q n) key.port key.message
-    apart key live = let has = (sample-parts old key live).1 in elim (cases_eq key.port q) [
-      | inr away ↦ inl away
-      | inl e_q ↦ elim (cases_eq key.message n) [
-        | inr away ↦ inr away
-        | inl e_n ↦ absurd (same has.0 (
-            ap (λ (v : ℕ). is_borrowed n (s.mailboxes has.0 v)) (sym e_q) ∙ ap (λ (v : ℕ). is_borrowed v (s.mailboxes has.0 key.port)) (sym e_n)
-            ∙ ap (λ (t : State T U). is_borrowed key.message (t.mailboxes has.0 key.port)) shown.state ∙ has.1))
+    away : (i j k : ℕ) → is_borrowed k ((state_of old).mailboxes i j) ≡ true → IsOtherSample (A_sample q n) j k
+    away i j k borrowed = elim (cases_eq j q) [
+      | inr other ↦ inl other
+      | inl e_q ↦ elim (cases_eq k n) [
+        | inr other ↦ inr other
+        | inl e_n ↦ absurd (same i (
+            ap (λ (v : ℕ). is_borrowed n (s.mailboxes i v)) (sym e_q) ∙ ap (λ (v : ℕ). is_borrowed v (s.mailboxes i j)) (sym e_n)
+            ∙ ap (λ (t : State T U). is_borrowed k (t.mailboxes i j)) shown.state ∙ borrowed))
       ]
     ]
+
+    apart : (key : Key) → IsSampleKey old key → IsOtherSample (A_sample q n) key.port key.message
+    apart key live = let has = (sample-parts old key live).1 in away has.0 key.port key.message has.1
 
   -- a sample is released
   pub release-stays : (p q n : ℕ) (s' : State T U) → Shows new m s' → s' ≡ released s p q n → StaysBut (A_sample q n) old new

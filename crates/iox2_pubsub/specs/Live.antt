@@ -132,3 +132,4 @@ module _ {T U : Type 0} where
     pub unwritten_loans : (loan : SampleMutUninit) → IsUnwrittenLoan old loan → IsOtherLoan made loan.number
     pub written_loans : (loan : SampleMut) → IsWrittenLoan old loan → IsOtherLoan made loan.number
     pub samples : (sample : Sample) → IsLiveSample old sample → IsOtherSample made sample.subscriber sample.number
+    pub origins : (sample : Sample) → IsFromOrigin old sample → IsOtherSample made sample.subscriber sample.number

@@ -87,7 +87,7 @@ fn a_message_goes_from_its_loan_to_its_release(rt: HostRuntime) {
 
 #[test]
 fn a_command_that_names_nothing_is_skipped(rt: HostRuntime) {
-    let mut domain: Domain<u64, ()> = Domain::new(rt.alloc(), SETTINGS).expect(&rt, "a domain");
+    let mut domain: Domain<u64, ()> = Domain::new(rt.alloc(), settings()).expect(&rt, "a domain");
     let commands = [Command::Nothing, Command::Send { of: 0 }];
     let commands = Vec::from_array(rt.alloc(), commands).expect(&rt, "commands");
     let outcome = replies_without_headers(rt.alloc(), &mut domain, commands);

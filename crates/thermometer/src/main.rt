@@ -1,19 +1,20 @@
-//! A thermometer: readings go from a publisher to a subscriber, and are printed.
+//! A thermometer sends its readings to a display, which prints them.
 //!
-//! It shows how a program over `iox2_pubsub` is written and proved. That the calls may be made
-//! follows from what the calls before them ensure: nothing is tested when it runs.
+//! This is how a program over `iox2_pubsub` is written. Each call asks for live handles, and each
+//! call says which handles are live after it, so that the whole is proved with nothing tested when
+//! it runs.
 #![tactic(auto)]
 
-ghost use Rattle.iox2_pubsub.specs.Live.{IsLivePublisher, IsLiveSubscriber, IsLiveSample, IsSingleValued, IsWrittenLoan, A_loan, A_sample, Stays, StaysBut};
+ghost use Rattle.iox2_pubsub.specs.Live.{IsLiveSubscriber, IsSingleValued, Stays};
 
 mod failure;
 mod reading;
+mod report;
 
 use failure::Failure;
-use iox2_pubsub::{Domain, Publisher, Sample, SampleMut, ServiceConfig, Subscriber};
+use iox2_pubsub::{Domain, ServiceConfig, Subscriber};
 use reading::Reading;
-
-type Readings = Domain<Reading, ()>;
+use report::report_day;
 
 fn main(rt: HostRuntime) -> Result<(), Failure> {
     let config = ServiceConfig {
@@ -22,12 +23,25 @@ fn main(rt: HostRuntime) -> Result<(), Failure> {
         enable_safe_overflow: false,
         ..ServiceConfig::new(1)
     };
-    let mut domain = Readings::new(rt.alloc(), config)?;
+    let mut domain = Domain::<Reading, ()>::new(rt.alloc(), config)?;
     let subscriber = domain.subscriber_builder().create(&mut domain)?;
-    let publisher = domain.publisher_builder().create(&mut domain)?;
-    report_all(&rt, &mut domain, &publisher, &subscriber, &[19, 20, 22])?;
-    report_both(&rt, &mut domain, &publisher, &subscriber)?;
-    publisher.disown();
+    let outcome = run(&rt, &mut domain, &subscriber);
     subscriber.disown();
-    Ok(())
+    outcome
+}
+
+// Makes the thermometer's publisher, and reports with it.
+fn run(
+    rt: &HostRuntime,
+    domain: &mut Domain<Reading, ()>,
+    subscriber: &Subscriber,
+) -> Result<(), Failure>
+    requires single_valued { IsSingleValued domain.old }
+    requires subscriber { IsLiveSubscriber domain.old subscriber.now }
+    ensures { Stays domain.old domain.new }
+{
+    let publisher = domain.publisher_builder().create(domain)?;
+    let outcome = report_day(rt, domain, &publisher, subscriber);
+    publisher.disown();
+    outcome
 }

@@ -1,0 +1,125 @@
+//! Readings go from the thermometer to the display.
+ghost use Rattle.iox2_pubsub.specs.Live.{IsLivePublisher, IsLiveSubscriber, IsSingleValued, IsUnwrittenLoan, A_loan, Stays, StaysBut};
+
+use crate::failure::Failure;
+use crate::reading::Reading;
+use iox2_pubsub::{Domain, Publisher, SampleMutUninit, SendOutcome, Subscriber};
+
+/// Reports a day's temperatures: some one by one, and the last two together.
+pub fn report_day(
+    rt: &HostRuntime,
+    domain: &mut Domain<Reading, ()>,
+    publisher: &Publisher,
+    subscriber: &Subscriber,
+) -> Result<(), Failure>
+    requires single_valued { IsSingleValued domain.old }
+    requires publisher { IsLivePublisher domain.old publisher.now }
+    requires subscriber { IsLiveSubscriber domain.old subscriber.now }
+    ensures { Stays domain.old domain.new }
+{
+    report_all(rt, domain, publisher, subscriber, &[19, 20, 22])?;
+    report_pair(rt, domain, publisher, subscriber, 23, 21)
+}
+
+// Reports each of the temperatures, one after the other.
+fn report_all(
+    rt: &HostRuntime,
+    domain: &mut Domain<Reading, ()>,
+    publisher: &Publisher,
+    subscriber: &Subscriber,
+    temperatures: &[u32],
+) -> Result<(), Failure>
+    requires single_valued { IsSingleValued domain.old }
+    requires publisher { IsLivePublisher domain.old publisher.now }
+    requires subscriber { IsLiveSubscriber domain.old subscriber.now }
+    ensures { Stays domain.old domain.new }
+{
+    let [celsius, later @ ..] = temperatures else {
+        return Ok(());
+    };
+    report(rt, domain, publisher, subscriber, *celsius)?;
+    report_all(rt, domain, publisher, subscriber, later)
+}
+
+// Sends one reading, and shows it.
+fn report(
+    rt: &HostRuntime,
+    domain: &mut Domain<Reading, ()>,
+    publisher: &Publisher,
+    subscriber: &Subscriber,
+    celsius: u32,
+) -> Result<(), Failure>
+    requires single_valued { IsSingleValued domain.old }
+    requires publisher { IsLivePublisher domain.old publisher.now }
+    requires subscriber { IsLiveSubscriber domain.old subscriber.now }
+    ensures { Stays domain.old domain.new }
+{
+    let loan = publisher.loan_uninit(domain)?;
+    send(domain, loan, celsius)?;
+    show(rt, domain, subscriber)
+}
+
+// Has two loans out at a time, sends the later one first, and shows both.
+fn report_pair(
+    rt: &HostRuntime,
+    domain: &mut Domain<Reading, ()>,
+    publisher: &Publisher,
+    subscriber: &Subscriber,
+    celsius: u32,
+    later: u32,
+) -> Result<(), Failure>
+    requires single_valued { IsSingleValued domain.old }
+    requires publisher { IsLivePublisher domain.old publisher.now }
+    requires subscriber { IsLiveSubscriber domain.old subscriber.now }
+    ensures { Stays domain.old domain.new }
+{
+    let first = publisher.loan_uninit(domain)?;
+    let second = match publisher.loan_uninit(domain) {
+        Ok(second) => second,
+        Err(error) => {
+            first.disown();
+            return Err(Failure::from(error));
+        }
+    };
+    let outcome = send(domain, second, later);
+    send(domain, first, celsius)?;
+    outcome?;
+    show(rt, domain, subscriber)?;
+    show(rt, domain, subscriber)
+}
+
+// Writes a reading into the loan, and sends it.
+fn send(
+    domain: &mut Domain<Reading, ()>,
+    loan: SampleMutUninit,
+    celsius: u32,
+) -> Result<(), Failure>
+    requires single_valued { IsSingleValued domain.old }
+    requires loan { IsUnwrittenLoan domain.old loan }
+    ensures { StaysBut (A_loan loan.number) domain.old domain.new }
+{
+    let message = loan.write_payload(domain, Reading { celsius });
+    let SendOutcome::Delivered(_) = message.send(domain)?;
+    Ok(())
+}
+
+// Receives a reading, prints it and gives it back.
+fn show(
+    rt: &HostRuntime,
+    domain: &mut Domain<Reading, ()>,
+    subscriber: &Subscriber,
+) -> Result<(), Failure>
+    requires single_valued { IsSingleValued domain.old }
+    requires subscriber { IsLiveSubscriber domain.old subscriber.now }
+    ensures { Stays domain.old domain.new }
+{
+    let Some(sample) = subscriber.receive(domain)? else {
+        println!(rt; "no reading")?;
+        return Ok(());
+    };
+    let Reading { celsius } = sample.payload(domain);
+    let printed = println!(rt; "{celsius} °C");
+    sample.release(domain);
+    printed?;
+    Ok(())
+}
