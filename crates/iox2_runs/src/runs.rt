@@ -10,7 +10,7 @@ ghost use Rattle.iox2_commands.specs.Outcomes.{Event};
 ghost use Rattle.iox2_commands.specs.OneDefault.{HasOneDefault};
 ghost use Rattle.iox2_commands.specs.RunLaws.{IsFaithful};
 ghost use Rattle.iox2_commands.specs.Runs.{Run, only_defaults};
-ghost use Rattle.iox2_runs.specs.DomainRuns.{RunsOn};
+ghost use Rattle.iox2_runs.specs.DomainRuns.{RunsOnDomain};
 ghost use Rattle.iox2_runs.specs.Supported.{IsSupported};
 ghost use Rattle.iox2_runs.specs.declared.runs.held.Held.TheVariants.{Nothing};
 
@@ -100,7 +100,7 @@ pub fn run<T: Copy + Default + Drop, U: Copy + Default + Drop, F: BackpressureFn
     ensures one_default { IfOk result (λ replies. HasOneDefault (defaults_of T.is_default U.is_default)
         → (default_value : T) (default_header : U) → T.is_default default_value → U.is_default default_header
         → (m : Messages T U) (s : State T U) → Shows domain.old m s
-        → RunsOn (only_defaults default_value default_header) domain.new m s commands.items replies.items) }
+        → RunsOnDomain (only_defaults default_value default_header) domain.new m s commands.items replies.items) }
     ensures refused { IfErr result (λ given. (given.items ≡ commands.items) × (domain.new ≡ domain.old)) }
 {
     let Ok(mut replies) = Vec::with_capacity(alloc, commands.len()) else {
