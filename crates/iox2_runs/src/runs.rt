@@ -78,8 +78,8 @@ fn carry_out<
 /// Carries out the commands on the domain, one after the other, and answers a reply for each.
 ///
 /// Each subscriber receives a part of what each publisher sent in the run, in order and each message
-/// once; each sample names its publisher, and each read gives what was sent. For types of which one
-/// value alone is a default, as `u64` and `()`, loans start with that one throughout.
+/// once; each sample names its publisher, and each read gives what was sent. Of types of which one
+/// value alone is a default, as `u64` and `()`, the run uses that one throughout.
 ///
 /// What the commands made is spent at the end: ports stay in the domain, loans stay out and
 /// messages stay borrowed. The memory for the replies and for what the commands make is taken
