@@ -13,7 +13,7 @@ use Rattle.iox2_commands.specs.RunLaws.{IsFaithful}
 use Rattle.iox2_commands.specs.OneDefault.{HasOneDefault}
 use Rattle.iox2_runs.specs.Tables.{IsTable}
 use Rattle.iox2_runs.specs.Holdings.{kept_of, Keeps, Carries}
-use Rattle.iox2_runs.specs.DomainRuns.{RunsOn}
+use Rattle.iox2_runs.specs.DomainRuns.{RunsOnDomain}
 use Rattle.iox2_commands.specs.declared.command.Command.{Command}
 use Rattle.iox2_commands.specs.declared.reply.Reply.{Reply}
 use Rattle.iox2_runs.specs.declared.runs.held.Held.{Held}
@@ -89,10 +89,10 @@ module _ {T U : Type 0} (defaults : Defaults T U) where
       (now.0, now.2, now.3, now.4, run, is_faithful fixed_handlers defaults m now.2 s now.3 commands replies now.0 shown.well_formed run)
 
   -- it has one default value and one default header throughout, where there are no others
-  pub runs_on : (old new : Domain T U) (commands : List (Command T U)) (replies : List (Reply T U)) (table : List Held) → HasRun old new commands replies table
+  pub runs_on_domain : (old new : Domain T U) (commands : List (Command T U)) (replies : List (Reply T U)) (table : List Held) → HasRun old new commands replies table
       → HasOneDefault defaults → (default_value : T) (default_header : U) → defaults.IsDefaultValue default_value → defaults.IsDefaultHeader default_header
-      → (m : Messages T U) (s : State T U) → Shows old m s → RunsOn (only_defaults default_value default_header) new m s commands replies
-  runs_on old new commands replies table ran one default_value default_header is_value is_header m s shown =
+      → (m : Messages T U) (s : State T U) → Shows old m s → RunsOnDomain (only_defaults default_value default_header) new m s commands replies
+  runs_on_domain old new commands replies table ran one default_value default_header is_value is_header m s shown =
       let now = ran m s shown in record {
         events = now.0;
         messages = now.2;

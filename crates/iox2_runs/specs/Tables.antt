@@ -19,7 +19,8 @@ pub data Kept : Type 0 where
   Kept_sample : (service publisher subscriber message : ℕ) → Kept
 
 module _ {T U : Type 0} (s : State T U) where
-  -- The handle names nothing live.
+  -- The handle names nothing live. No command that `run` carries out so far closes a port or blocks a send: a port's handle is
+  -- never spent, and none names a blocked send.
   abbrev pub IsSpent : Handle → Type 0
   IsSpent No_handle = Unit {0}
   IsSpent (Publisher_handle p) = ⊥
@@ -32,7 +33,7 @@ module _ {T U : Type 0} (s : State T U) where
   abbrev pub IsFree : (p : ℕ) → Type 0
   IsFree p = (x : Publisher) × (s.publishers p ≡ Some x) × (x.blocked ≡ None)
 
-  -- The publisher, of which no send is blocked, has the loan n, which is written or not.
+  -- The publisher has the loan n, which is written or not. So far it is still there, and no send of it is blocked.
   abbrev pub HasLoan : (p n : ℕ) → (is_written : Bool) → Type 0
   HasLoan p n is_written = ((l : Loan T U) × (s.loans n ≡ Some l) × (l.publisher ≡ p) × (l.is_written ≡ is_written)) × IsFree p
 

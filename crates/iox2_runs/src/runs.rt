@@ -10,7 +10,7 @@ ghost use Rattle.iox2_commands.specs.Outcomes.{Event};
 ghost use Rattle.iox2_commands.specs.OneDefault.{HasOneDefault};
 ghost use Rattle.iox2_commands.specs.RunLaws.{IsFaithful};
 ghost use Rattle.iox2_commands.specs.Runs.{Run, only_defaults};
-ghost use Rattle.iox2_runs.specs.DomainRuns.{RunsOn};
+ghost use Rattle.iox2_runs.specs.DomainRuns.{RunsOnDomain};
 ghost use Rattle.iox2_runs.specs.Supported.{IsSupported};
 ghost use Rattle.iox2_runs.specs.declared.runs.held.Held.TheVariants.{Nothing};
 
@@ -78,8 +78,8 @@ fn carry_out<
 /// Carries out the commands on the domain, one after the other, and answers a reply for each.
 ///
 /// Each subscriber receives a part of what each publisher sent in the run, in order and each message
-/// once; each sample names its publisher, and each read gives what was sent. For types of which one
-/// value alone is a default, as `u64` and `()`, loans start with that one throughout.
+/// once; each sample names its publisher, and each read gives what was sent. Of types of which one
+/// value alone is a default, as `u64` and `()`, the run uses that one throughout.
 ///
 /// What the commands made is spent at the end: ports stay in the domain, loans stay out and
 /// messages stay borrowed. The memory for the replies and for what the commands make is taken
@@ -100,7 +100,7 @@ pub fn run<T: Copy + Default + Drop, U: Copy + Default + Drop, F: BackpressureFn
     ensures one_default { IfOk result (λ replies. HasOneDefault (defaults_of T.is_default U.is_default)
         → (default_value : T) (default_header : U) → T.is_default default_value → U.is_default default_header
         → (m : Messages T U) (s : State T U) → Shows domain.old m s
-        → RunsOn (only_defaults default_value default_header) domain.new m s commands.items replies.items) }
+        → RunsOnDomain (only_defaults default_value default_header) domain.new m s commands.items replies.items) }
     ensures refused { IfErr result (λ given. (given.items ≡ commands.items) × (domain.new ≡ domain.old)) }
 {
     let Ok(mut replies) = Vec::with_capacity(alloc, commands.len()) else {

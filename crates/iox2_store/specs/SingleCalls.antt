@@ -1,5 +1,5 @@
--- What no command does as it stands: loans of slices with default values, writes through a reference, and the tests of
--- handles.
+-- Loans that are written at once; what no command does as it stands: loans of slices of default values, and writes through
+-- a reference; and the tests of handles.
 use Rattle.std.specs.Prelude.{ℕ, Bool, true, List, map, length, ◌≡◌, MatchOption, IsTrue}
 use Rattle.std.specs.List.{All}
 use Rattle.std.specs.declared.option.Option.{Option}

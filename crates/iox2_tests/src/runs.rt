@@ -2,7 +2,7 @@ ghost use Rattle.std.specs.Prelude.{IfOk, ℕ};
 ghost use Rattle.std.specs.List.{All};
 ghost use Rattle.iox2_commands.specs.Runs.{only_defaults};
 ghost use Rattle.iox2_domain.specs.Shows.{Shows};
-ghost use Rattle.iox2_runs.specs.DomainRuns.{RunsOn};
+ghost use Rattle.iox2_runs.specs.DomainRuns.{RunsOnDomain};
 ghost use Rattle.iox2_runs.specs.Supported.{IsSupported};
 ghost use Rattle.iox2_store.specs.State.{State, Messages};
 
@@ -45,7 +45,7 @@ fn replies_to_numbers(
     commands: Vec<Command<u64, u8>>,
 ) -> Result<Vec<Reply<u64, u8>>, Vec<Command<u64, u8>>>
     requires { All IsSupported commands.items }
-    ensures { IfOk result (λ replies. (m : Messages ℕ ℕ) (s : State ℕ ℕ) → Shows domain.old m s → RunsOn (only_defaults 0 0) domain.new m s commands.items replies.items) }
+    ensures { IfOk result (λ replies. (m : Messages ℕ ℕ) (s : State ℕ ℕ) → Shows domain.old m s → RunsOnDomain (only_defaults 0 0) domain.new m s commands.items replies.items) }
 {
     let replies = run(alloc, domain, commands)?;
     Ok(replies)
@@ -58,7 +58,7 @@ fn replies_without_headers(
     commands: Vec<Command<u64, ()>>,
 ) -> Result<Vec<Reply<u64, ()>>, Vec<Command<u64, ()>>>
     requires { All IsSupported commands.items }
-    ensures { IfOk result (λ replies. (m : Messages ℕ (Unit {0})) (s : State ℕ (Unit {0})) → Shows domain.old m s → RunsOn (only_defaults 0 tt) domain.new m s commands.items replies.items) }
+    ensures { IfOk result (λ replies. (m : Messages ℕ (Unit {0})) (s : State ℕ (Unit {0})) → Shows domain.old m s → RunsOnDomain (only_defaults 0 tt) domain.new m s commands.items replies.items) }
 {
     let replies = run(alloc, domain, commands)?;
     Ok(replies)

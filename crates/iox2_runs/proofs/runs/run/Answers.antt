@@ -4,7 +4,7 @@ use Rattle.std.proofs.lemmas.List.Elements.{All-get_or}
 use Rattle.iox2_runs.specs.Holdings.{defaults_of}
 use Rattle.iox2_runs.specs.Supported.{IsSupported}
 use Rattle.iox2_commands.specs.declared.command.Command.{Command}
-use Rattle.iox2_runs.proofs.RunLoop.{has_run_none, has_run_more, still_keeps, is_run, runs_on}
+use Rattle.iox2_runs.proofs.RunLoop.{has_run_none, has_run_more, still_keeps, is_run, runs_on_domain}
 use Rattle.iox2_runs.proofs.runs.run.Goals as goal
 
 pub loop-command-init : goal.loop-command-init
@@ -65,7 +65,7 @@ returns-clause-one_default g c =
     let xs = c.args.commands.items in
     let i = c.loop-command.command-index in
     let all : take i xs ≡ xs = take_all i xs (omega (arith, ap length c.deref-command-items.ensures.value, c.loop-command-test.false)) in
-    rw all at (runs_on {T = g.row.T.Denot} {U = g.row.U.Denot} (defaults_of g.T.Default.is_default g.U.Default.is_default) c.args.domain.now c.loop-command.domain
+    rw all at (runs_on_domain {T = g.row.T.Denot} {U = g.row.U.Denot} (defaults_of g.T.Default.is_default g.U.Default.is_default) c.args.domain.now c.loop-command.domain
     (take i xs) c.loop-command.replies.items c.loop-command.table.items c.loop-command.invariant.ran)
 
 pub returns-in_default-with_capacity-clause-refused : goal.returns-in_default-with_capacity-clause-refused
