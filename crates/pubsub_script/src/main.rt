@@ -11,6 +11,6 @@ use std::process::ExitCode;
 
 fn main(rt: HostRuntime) -> ExitCode {
     let mut output = io::writer(&rt);
-    let status = script(rt.alloc(), &mut rt.stdin(), &mut output, &mut rt.stderr());
-    ExitCode::from(status)
+    let ending = script(rt.alloc(), &mut rt.stdin(), &mut output, &mut rt.stderr());
+    ExitCode::from(ending.status())
 }

@@ -1,11 +1,12 @@
+mod arrivals;
 mod streams;
 
-use script_runner::script;
+use script_runner::{Ending, ScriptError, script};
 use std::alloc::Global;
 use std::io::Read;
 use std::process::Abort;
 use std::test::Fail;
-use streams::{Dribble, Narrow, NoFlush};
+use streams::{Dribble, Narrow, NoFlush, Tank};
 
 /// What a script comes to.
 #[derive(Drop)]
@@ -27,10 +28,10 @@ impl<'a> Outcome<'a> {
     fn of_input<R: Read>(alloc: Global, text: &'a [u8], input: &mut R) -> Self {
         let mut replies = Vec::new(alloc);
         let mut errors = Vec::new(alloc);
-        let status = script(alloc, input, &mut replies, &mut errors);
+        let ending = script(alloc, input, &mut replies, &mut errors);
         Outcome {
             text,
-            status,
+            status: ending.status(),
             replies,
             errors,
         }
@@ -325,20 +326,38 @@ fn a_fault_of_the_input_comes_first(rt: HostRuntime) {
 
 #[test]
 fn a_fault_of_the_output_ends_the_printing(rt: HostRuntime) {
+    let reported = Ending::Reported(ScriptError::OutputFailed);
     for room in [0, 1, 76, 200] {
         let mut input = WORKED;
         let mut output = Narrow::new(room);
         let mut errors = Vec::new(rt.alloc());
-        let status = script(rt.alloc(), &mut input, &mut output, &mut errors);
+        let ending = script(rt.alloc(), &mut input, &mut output, &mut errors);
         assert!(rt;
-            status == 4 && output.room() == 0 && errors.as_slice() == b"output failed\n".as_slice(),
+            ending == reported && ending.status() == 4,
+            "with room for {room}"
+        );
+        assert!(rt;
+            output.room() == 0 && errors.as_slice() == b"output failed\n".as_slice(),
             "with room for {room}"
         );
     }
+}
+
+#[test]
+fn the_output_is_flushed(rt: HostRuntime) {
     let mut input = WORKED;
+    let mut output = Tank::new();
     let mut errors = Vec::new(rt.alloc());
-    let status = script(rt.alloc(), &mut input, &mut NoFlush, &mut errors);
-    assert_eq!(rt; status, 4);
+    let ending = script(rt.alloc(), &mut input, &mut output, &mut errors);
+    assert!(rt; ending == Ending::Printed);
+    assert_eq!(rt;
+        [output.held(), output.flushed()],
+        [0, WORKED_REPLIES.len()]
+    );
+
+    let mut input = WORKED;
+    let ending = script(rt.alloc(), &mut input, &mut NoFlush, &mut errors);
+    assert!(rt; ending == Ending::Reported(ScriptError::OutputFailed));
     assert_eq!(rt; errors.as_slice(), b"output failed\n".as_slice());
 }
 
@@ -347,7 +366,8 @@ fn a_fault_of_the_errors_changes_nothing(rt: HostRuntime) {
     let mut input = b"bad".as_slice();
     let mut replies = Vec::new(rt.alloc());
     let mut errors = Narrow::new(5);
-    let status = script(rt.alloc(), &mut input, &mut replies, &mut errors);
-    assert_eq!(rt; status, 2);
+    let ending = script(rt.alloc(), &mut input, &mut replies, &mut errors);
+    assert!(rt; ending == Ending::Unreported(ScriptError::BadCommand(1)));
+    assert_eq!(rt; ending.status(), 2);
     assert_eq!(rt; replies.as_slice(), b"".as_slice());
 }

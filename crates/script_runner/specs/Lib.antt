@@ -1,2 +1,4 @@
+pub mod Endings
 pub mod Reading
 pub mod Script
+pub mod Writing

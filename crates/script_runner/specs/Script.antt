@@ -1,6 +1,6 @@
 -- How a script ends.
 use Rattle.std.specs.Prelude.{ℕ, List, Option, IfSome, ◌≡◌, ◌⊎◌}
-use Rattle.std.specs.Io.KnownBytes.{Appends}
+use Rattle.std.specs.Io.KnownBytes.{Appends, Keeps}
 use Rattle.iox2_store.specs.declared.service_config.ServiceConfig.{ServiceConfig}
 use Rattle.iox2_store.specs.Environments.{fixed_handlers}
 use Rattle.iox2_store.specs.State.{State, Messages, fresh, no_messages}
@@ -12,10 +12,7 @@ use Rattle.script_text.specs.Replies.{reply_lines}
 use Rattle.script_text.specs.ScriptText.{IsMalformedAt, IsScript}
 use Rattle.script_text.specs.declared.failure.ScriptError.{ScriptError}
 use Rattle.script_text.specs.declared.failure.ScriptError.TheVariants.{BadCommand, OutOfMemory, InputFailed, OutputFailed}
-
--- The exit status is 0, 2, 3 or 4.
-abbrev pub IsStatus : ℕ → Type 0
-IsStatus status = (status ≡ 0) ⊎ (status ≡ 2) ⊎ (status ≡ 3) ⊎ (status ≡ 4)
+use Rattle.script_runner.specs.Writing.{AppendsPart}
 
 -- The text is all that the input had left, where that is known.
 abbrev pub IsAllOf : Option (List ℕ) → List ℕ → Type 0
@@ -35,13 +32,27 @@ AreReplies input replies =
 abbrev pub PrintsReplies : (input output output' : Option (List ℕ)) → Type 0
 PrintsReplies input output output' = (replies : List (Reply ℕ ℕ)) × AreReplies input replies × Appends output output' (reply_lines replies)
 
+-- The input was a script, and the output grew by some first bytes of those lines, or by all of them, and by nothing else.
+abbrev pub BeginsReplies : (input output output' : Option (List ℕ)) → Type 0
+BeginsReplies input output output' =
+    (replies : List (Reply ℕ ℕ)) × AreReplies input replies
+    × (Appends output output' (reply_lines replies) ⊎ AppendsPart output output' (reply_lines replies))
+
 -- The input was no script: this is its first malformed line.
 abbrev pub IsMalformedInput : Option (List ℕ) → ℕ → Type 0
 IsMalformedInput input line = (text : List ℕ) × IsAllOf input text × IsMalformedAt text line
 
--- A malformed line is blamed only where it is the first such line of the input.
-abbrev pub IsFailure : Option (List ℕ) → ScriptError → Type 0
-IsFailure input (BadCommand line) = IsMalformedInput input line
-IsFailure input OutOfMemory = Unit {0}
-IsFailure input InputFailed = Unit {0}
-IsFailure input OutputFailed = Unit {0}
+-- Why an input has no replies: a malformed line is blamed only where it is the first such line of the input, and the output
+-- never.
+abbrev pub IsInputFailure : Option (List ℕ) → ScriptError → Type 0
+IsInputFailure input (BadCommand line) = IsMalformedInput input line
+IsInputFailure input OutOfMemory = Unit {0}
+IsInputFailure input InputFailed = Unit {0}
+IsInputFailure input OutputFailed = ⊥
+
+-- Why the replies aren't printed. Where the output is blamed it may have a part of the lines, and else it is as it was.
+abbrev pub IsFailure : (input output output' : Option (List ℕ)) → ScriptError → Type 0
+IsFailure input output output' (BadCommand line) = IsMalformedInput input line × Keeps output output'
+IsFailure input output output' OutOfMemory = Keeps output output'
+IsFailure input output output' InputFailed = Keeps output output'
+IsFailure input output output' OutputFailed = BeginsReplies input output output'

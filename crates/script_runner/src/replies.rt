@@ -1,6 +1,6 @@
 //! The replies of a script.
 ghost use Rattle.std.specs.Prelude.{IfErr, IfOk};
-ghost use Rattle.script_runner.specs.Script.{AreReplies, IsFailure};
+ghost use Rattle.script_runner.specs.Script.{AreReplies, IsInputFailure};
 
 use crate::source;
 use iox2_pubsub::Domain;
@@ -18,7 +18,7 @@ pub fn replies_of<R: Read>(
     input: &mut R,
 ) -> Result<Vec<Reply<u64, u64>>, ScriptError>
     ensures ok { IfOk result (λ replies. AreReplies (R.remaining input.old) replies.items) }
-    ensures err { IfErr result (IsFailure (R.remaining input.old)) }
+    ensures err { IfErr result (IsInputFailure (R.remaining input.old)) }
 {
     let text = source::read_to_end(alloc, input)?;
     let script = Script::parse(alloc, &text)?;

@@ -1,8 +1,13 @@
-ghost use Rattle.std.specs.Prelude.{◌≡◌, Some};
+ghost use Rattle.std.specs.Prelude.{◌≡◌, ◌<◌, Some, length};
 ghost use Rattle.script_text.specs.Failures.{error_text, status_of};
 
+use arrayvec::ArrayString;
+use itoa::Buffer;
 use std::alloc::AllocError;
 use std::fmt;
+
+/// The longest line that a failure has, with its line feed: a number has at most 20 digits.
+const LONGEST_LINE: usize = 39;
 
 /// Why a script has no replies, or not all of them are printed.
 #[derive(Debug, Clone, Copy, PartialEq, Eq)]
@@ -28,18 +33,32 @@ impl ScriptError {
             ScriptError::InputFailed | ScriptError::OutputFailed => 4,
         }
     }
+
+    /// What is said of the failure, with room for a line feed. It takes no memory.
+    pub fn text(&self) -> ArrayString<LONGEST_LINE>
+        ensures value { result.bytes ≡ error_text self.now }
+        ensures room { length result.bytes < LONGEST_LINE }
+    {
+        let mut text = ArrayString::new();
+        match self {
+            ScriptError::BadCommand(line) => {
+                text.push_str("line ");
+                text.push_str(Buffer::new().format(*line));
+                text.push_str(": bad command");
+            }
+            ScriptError::OutOfMemory => text.push_str("out of memory"),
+            ScriptError::InputFailed => text.push_str("input failed"),
+            ScriptError::OutputFailed => text.push_str("output failed"),
+        }
+        text
+    }
 }
 
 impl fmt::Display for ScriptError {
     ghost output = { λ error. Some (error_text error) };
 
     fn fmt<W: fmt::Write>(&self, f: &mut fmt::Formatter<W>) -> fmt::Result {
-        match self {
-            ScriptError::BadCommand(line) => write!(f, "line {line}: bad command"),
-            ScriptError::OutOfMemory => write!(f, "out of memory"),
-            ScriptError::InputFailed => write!(f, "input failed"),
-            ScriptError::OutputFailed => write!(f, "output failed"),
-        }
+        f.write_str(self.text().as_str())
     }
 }
 

@@ -87,3 +87,48 @@ impl Write for NoFlush {
         Err(io::Error::other("not flushed"))
     }
 }
+
+/// Holds what it takes until it is flushed, and is interrupted before each write.
+#[derive(Drop)]
+pub struct Tank {
+    held: usize,
+    flushed: usize,
+    is_interrupted: bool,
+}
+
+impl Tank {
+    pub fn new() -> Self {
+        Tank {
+            held: 0,
+            flushed: 0,
+            is_interrupted: false,
+        }
+    }
+
+    /// How many bytes wait for a flush.
+    pub fn held(&self) -> usize {
+        self.held
+    }
+
+    /// How many bytes were flushed.
+    pub fn flushed(&self) -> usize {
+        self.flushed
+    }
+}
+
+impl Write for Tank {
+    fn write(&mut self, buf: &[u8]) -> io::Result<usize> {
+        self.is_interrupted = !self.is_interrupted;
+        if self.is_interrupted {
+            return Err(io::Error::new(ErrorKind::Interrupted, "interrupted"));
+        }
+        self.held = self.held.saturating_add(buf.len());
+        Ok(buf.len())
+    }
+
+    fn flush(&mut self) -> io::Result<()> {
+        self.flushed = self.flushed.saturating_add(self.held);
+        self.held = 0;
+        Ok(())
+    }
+}

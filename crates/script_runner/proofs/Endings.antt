@@ -1,0 +1,18 @@
+-- Lemmas on the endings of a script.
+use Rattle.std.proofs.Common.{◌≡◌, ap}
+use Rattle.script_text.specs.declared.failure.ScriptError.{ScriptError}
+use Rattle.script_text.specs.declared.failure.ScriptError.TheVariants.{OutOfMemory}
+use Rattle.script_runner.specs.declared.ending.Ending.{Ending}
+use Rattle.script_runner.specs.declared.ending.Ending.TheVariants.{Printed, Reported, Unreported}
+
+-- The failure of an ending, if it is one.
+abbrev failure_of : Ending → ScriptError
+failure_of Printed = OutOfMemory
+failure_of (Reported error) = error
+failure_of (Unreported error) = error
+
+pub Reported-injective : (a b : ScriptError) → Reported a ≡ Reported b → a ≡ b
+Reported-injective a b same = ap failure_of same
+
+pub Unreported-injective : (a b : ScriptError) → Unreported a ≡ Unreported b → a ≡ b
+Unreported-injective a b same = ap failure_of same
