@@ -25,6 +25,7 @@ mod subscriber_state;
 mod updates;
 mod warnings;
 
-pub use loan_slots::LoanSlot;
+pub use loan_slots::LoanAt;
 pub use receipts::Receipt;
+pub use sample_slots::SampleAt;
 pub use state::DomainState;

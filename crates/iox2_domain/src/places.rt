@@ -6,6 +6,7 @@ ghost use Rattle.iox2_domain.specs.Placed.{placed, lowest_empty};
 use crate::publisher_state::PublisherState;
 use crate::state::DomainState;
 use crate::subscriber_state::SubscriberState;
+use iox2_store::{UniquePublisherId, UniqueSubscriberId};
 use std::alloc::AllocError;
 
 /// A port has an id, which no other port of its side has.
@@ -97,18 +98,18 @@ impl<T: Drop, U: Default + Drop> DomainState<T, U> {
 
     /// The place of the publisher with an id, and `None` where there is none. It is looked for at
     /// the hint first.
-    pub fn find_publisher(&self, id: u128, hint: usize) -> Option<usize>
+    pub fn find_publisher(&self, id: UniquePublisherId, hint: usize) -> Option<usize>
         ensures { MatchOption result (look_up (is_publisher id) self.now.publishers ≡ None) (λ i. (x : PublisherFields) × (slice_index_or self.now.publishers i None ≡ Some x) × (x.id ≡ id)) }
     {
-        find_place(&self.publishers, id, hint)
+        find_place(&self.publishers, id.value(), hint)
     }
 
     /// The place of the subscriber with an id, and `None` where there is none. It is looked for at
     /// the hint first.
-    pub fn find_subscriber(&self, id: u128, hint: usize) -> Option<usize>
+    pub fn find_subscriber(&self, id: UniqueSubscriberId, hint: usize) -> Option<usize>
         ensures { MatchOption result (look_up (is_subscriber id) self.now.subscribers ≡ None) (λ i. (y : SubscriberFields) × (slice_index_or self.now.subscribers i None ≡ Some y) × (y.id ≡ id)) }
     {
-        find_place(&self.subscribers, id, hint)
+        find_place(&self.subscribers, id.value(), hint)
     }
 }
 
