@@ -26,6 +26,7 @@ mod updates;
 mod warnings;
 
 pub use loan_slots::LoanAt;
+pub use places::PortAt;
 pub use receipts::Receipt;
 pub use sample_slots::SampleAt;
 pub use state::DomainState;

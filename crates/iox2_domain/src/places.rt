@@ -34,6 +34,15 @@ impl Port for SubscriberState {
     }
 }
 
+/// Names a port, and says where it is looked for first.
+#[derive(Drop)]
+pub struct PortAt<I> {
+    /// Its id.
+    pub id: I,
+    /// The place at which it is looked for first.
+    pub place: usize,
+}
+
 /// The lowest place at which nothing stands, where it is below the limit.
 pub(crate) fn free_place<P>(places: &[Option<P>], limit: usize) -> Option<usize>
     ensures { result ≡ cond (nat_lt (lowest_empty places.now) limit) (Some (lowest_empty places.now)) None }

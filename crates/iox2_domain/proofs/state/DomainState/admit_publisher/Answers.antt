@@ -88,3 +88,6 @@ returns-clause-stands g c = (
   ap (λ xs. get_or xs c.args.place None) c.put_at_place.ensures.items ∙ placed-here c.in-Ok-entering.publisher c.try_reserve.new.self.items c.args.place,
   ap (λ (x : PublisherFields). x.id) c.in-Ok-entering.ensures.enters ∙ c.new-id.ensures ∙ ap (λ (f : Fields g.row.T.Denot g.row.U.Denot). f.next_port) c.self.view_is,
 )
+
+pub returns-clause-id : goal.returns-clause-id
+returns-clause-id g c = c.new-id.ensures ∙ ap (λ (f : Fields g.row.T.Denot g.row.U.Denot). f.next_port) c.self.view_is

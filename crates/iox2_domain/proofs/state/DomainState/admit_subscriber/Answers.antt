@@ -1,13 +1,14 @@
 use Rattle.std.proofs.Common.{◌≡◌, ◌∙◌, max, ap, map, refl, arith}
 use Rattle.std.proofs.lemmas.List.{with_items_is}
 use Rattle.std.specs.Option.{option_map}
+use Rattle.iox2_domain.specs.Fields.{Fields}
 use Rattle.iox2_domain.specs.Ports.{due, entering}
 use Rattle.iox2_domain.specs.Placed.{placed}
 use Rattle.iox2_domain.proofs.SubscriberEntries.{has-entered}
 use Rattle.iox2_domain.proofs.state.DomainState.admit_subscriber.Goals as goal
 
-pub returns-in_default : goal.returns-in_default
-returns-in_default g c = (
+pub returns-in_default-clause-step : goal.returns-in_default-clause-step
+returns-in_default-clause-step g c = (
   (λ k. record {
     config = c.self.inside.config;
     next_port = c.self.inside.next_port;
@@ -22,8 +23,11 @@ returns-in_default g c = (
   refl,
 )
 
-pub returns : goal.returns
-returns g c =
+pub returns-clause-id : goal.returns-clause-id
+returns-clause-id g c = c.new-id.ensures ∙ ap (λ (f : Fields g.row.T.Denot g.row.U.Denot). f.next_port) c.self.view_is
+
+pub returns-clause-step : goal.returns-clause-step
+returns-clause-step g c =
     let all_due : c.make_all_due.new.publishers ≡ map (option_map due) c.self.inside.publishers.items = c.make_all_due.ensures ∙ ap (map (option_map due)) c.deref_mut.ensures.value in
     let size : c.max.result ≡ max 1 c.args.asked = grind (arith, c.max.ensures) in
     has-entered {T = g.row.T.Denot} {U = g.row.U.Denot} c.args.self.now c.args.asked _ c.self.view_is c.requires.agrees c.args.place c.new-subscriber.result
