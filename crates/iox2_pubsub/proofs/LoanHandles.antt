@@ -22,16 +22,16 @@ module _ {T U : Type 0} (inside kept : Kept T U) (view : inside ≡ kept) where
   pub of-shown : (P : State T U → Type 0) → P (state_of inside) → (m : Messages T U) (s : State T U) → Shows kept m s → P s
   of-shown P holds m s shown = subst P (ap state_of view ∙ sym shown.state) holds
 
-  module _ (service publisher number id : ℕ) (same : id ≡ publisher) where
+  module _ (service publisher number : ℕ) where
     -- a handle's loan is out
-    pub unwritten-held : IsUnwrittenLoanHandle kept service publisher number → HoldsUnwritten (state_of inside) id number
-    unwritten-held handle = subst (λ k. HoldsUnwritten (state_of k) id number) (sym view) ((handle.1).0, (handle.1).1, (handle.1).2 ∙ sym same, (handle.1).3)
+    pub unwritten-held : IsUnwrittenLoanHandle kept service publisher number → HoldsUnwritten (state_of inside) publisher number
+    unwritten-held handle = subst (λ k. HoldsUnwritten (state_of k) publisher number) (sym view) handle.1
 
-    pub written-held : IsWrittenLoanHandle kept service publisher number → HoldsWritten (state_of inside) id number
-    written-held handle = subst (λ k. HoldsWritten (state_of k) id number) (sym view) ((handle.1).0, (handle.1).1, (handle.1).2 ∙ sym same, (handle.1).3)
+    pub written-held : IsWrittenLoanHandle kept service publisher number → HoldsWritten (state_of inside) publisher number
+    written-held handle = subst (λ k. HoldsWritten (state_of k) publisher number) (sym view) handle.1
 
-    pub live-loan : IsLiveLoan kept service publisher number → HoldsLoan (state_of inside) id number
-    live-loan handle = subst (λ k. HoldsLoan (state_of k) id number) (sym view) ((handle.1).0, (handle.1).1, (handle.1).2 ∙ sym same)
+    pub live-loan : IsLiveLoan kept service publisher number → HoldsLoan (state_of inside) publisher number
+    live-loan handle = subst (λ k. HoldsLoan (state_of k) publisher number) (sym view) handle.1
 
 -- ---- a loan is written
 
@@ -69,12 +69,12 @@ module _ {T U : Type 0} (f g : Fields T U) (kept : Kept T U) (view : kept_of f �
 
 -- ---- the header of a loan
 
-module _ {T U : Type 0} (f : Fields T U) (sound : IsDomain f) (number id publisher : ℕ) (header : Header) (same : id ≡ publisher) where
+module _ {T U : Type 0} (f : Fields T U) (sound : IsDomain f) (number publisher : ℕ) (header : Header) where
   -- it names the publisher
-  pub header-origin : HoldsLoan (state_of (kept_of f)) id number → HasLoanHeader (state_of (kept_of f)) number header → header.publisher_id ≡ publisher
+  pub header-origin : HoldsLoan (state_of (kept_of f)) publisher number → HasLoanHeader (state_of (kept_of f)) number header → header.publisher_id ≡ publisher
   header-origin held has =
       let both : Some held.0 ≡ Some has.0 = sym held.1 ∙ has.1 in
       let loan : held.0 ≡ has.0 = cc in
       ap (λ (h : Header). h.publisher_id) (sym has.2)
       ∙ (sound.well_formed.loans number has.0 has.1).origin
-      ∙ ap (λ (l : Loan T U). l.publisher) (sym loan) ∙ held.2 ∙ same
+      ∙ ap (λ (l : Loan T U). l.publisher) (sym loan) ∙ held.2

@@ -37,22 +37,23 @@ module _ {T U : Type 0} where
 
   -- the domain holds the sample
   pub reception-holds : (kept : Kept T U) (f g : Fields T U) → kept_of f ≡ kept → (service_id q : ℕ) (receipt : Receipt) → ReceivesAs f q (Ok (Some receipt)) g
-      → IsSubscriberHandle kept service_id q → IsSampleHandle (kept_of g) service_id q receipt.publisher receipt.number
+      → IsSubscriberHandle kept service_id q → IsSampleHandle (kept_of g) service_id receipt.sample.subscriber receipt.publisher receipt.sample.number
   reception-holds kept f g same service_id q receipt receives handle =
       let config : g.config ≡ f.config =
-      ap (λ (s : State T U). s.config) receives.1.state ∙ (receive_advances fixed_handlers (state_of (kept_of f)) q receives.0 (Got_sample receipt.publisher receipt.number) receives.2).config in (
+      ap (λ (s : State T U). s.config) receives.1.state ∙ (receive_advances fixed_handlers (state_of (kept_of f)) q receives.0 (Got_sample receipt.publisher receipt.sample.number) receives.2).config in
+      rw (receives.3).its (
         handle.0 ∙ ap (λ (k : Kept T U). (k.config).service_id) (sym same) ∙ ap (λ (x : ServiceConfig). x.service_id) (sym config),
-        ap (λ (s : State T U). is_borrowed receipt.number (s.mailboxes receipt.publisher q)) receives.1.state
-            ∙ received-borrowed (state_of (kept_of f)) q receipt.publisher receipt.number receives.0 receives.2,
+        ap (λ (s : State T U). is_borrowed receipt.sample.number (s.mailboxes receipt.publisher q)) receives.1.state
+            ∙ received-borrowed (state_of (kept_of f)) q receipt.publisher receipt.sample.number receives.0 receives.2,
       )
 
   -- the subscriber that was found receives
-  pub reception-at : (f g : Fields T U) (place q q' : ℕ) (result result' : Result (Option Receipt) ReceiveError)
-      → (y : SubscriberFields) × (get_or f.subscribers place None ≡ Some y) × (y.id ≡ q') → q' ≡ q → result ≡ result'
+  pub reception-at : (f g : Fields T U) (place q : ℕ) (result result' : Result (Option Receipt) ReceiveError)
+      → (y : SubscriberFields) × (get_or f.subscribers place None ≡ Some y) × (y.id ≡ q) → result ≡ result'
       → ((y : SubscriberFields) → get_or f.subscribers place None ≡ Some y → ReceivesAs f y.id result g) → ReceivesAs f q result' g
-  reception-at f g place q q' result result' found same is receives =
+  reception-at f g place q result result' found is receives =
       subst (λ (r : Result (Option Receipt) ReceiveError). ReceivesAs f q r g) is
-      (subst (λ (r : ℕ). ReceivesAs f r result g) (found.2 ∙ same) (receives found.0 found.1))
+      (subst (λ (r : ℕ). ReceivesAs f r result g) found.2 (receives found.0 found.1))
 
 -- ---- a receive that failed
 

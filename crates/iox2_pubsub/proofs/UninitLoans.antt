@@ -1,31 +1,27 @@
 -- A loan of a single value, seen from outside.
-use Rattle.std.proofs.Common.{◌≡◌, ℕ, ◌*◌, replicate, Bool, true, false, cond, get_or, refl, ap, sym, subst, ◌∙◌, inl, inr, arith, Result, Ok, Err, IsTrue}
+use Rattle.std.proofs.Common.{◌≡◌, ℕ, ◌*◌, replicate, false, cond, get_or, refl, ap, sym, subst, ◌∙◌, inl, inr, arith, Result, Ok, Err}
 use Rattle.std.proofs.lemmas.Bool.{cases_eq, eq-eqb, ne_eqb}
 use Rattle.std.specs.declared.option.Option.{Option}
 use Rattle.std.specs.declared.option.Option.TheVariants.{None, Some}
 use Rattle.std.specs.Option.{option_map}
-use Rattle.std.specs.Prelude.{IsSomeAnd, IsErrAnd, MatchOption, is_some}
+use Rattle.std.specs.Prelude.{IsSomeAnd, IsErrAnd}
 use Rattle.iox2_store.specs.Loans.{loan_granted}
 use Rattle.iox2_store.specs.Numbers.{put_at}
 use Rattle.iox2_store.specs.Records.{Loan, Publisher}
-use Rattle.iox2_store.specs.SingleCalls.{HoldsLoan, HoldsPublisher}
+use Rattle.iox2_store.specs.SingleCalls.{HoldsPublisher}
 use Rattle.iox2_store.specs.State.{State, Messages}
 use Rattle.iox2_store.specs.declared.errors.LoanError.{LoanError}
 use Rattle.iox2_ends.specs.LookUp.{look_up}
-use Rattle.iox2_store.specs.declared.key.Key.{Key}
-use Rattle.iox2_pubsub.specs.Handles.{IsPublisherHandle, IsUnwrittenLoanHandle, IsLoanKey}
+use Rattle.iox2_pubsub.specs.Handles.{IsPublisherHandle, IsUnwrittenLoanHandle}
 use Rattle.iox2_domain.specs.Ports.{PublisherFields}
 use Rattle.iox2_domain.specs.Kept.{Kept, Named, state_of, is_named}
-use Rattle.iox2_domain.specs.Fields.{Fields, kept_of, publisher_of, contents_at}
+use Rattle.iox2_domain.specs.Fields.{Fields, kept_of, publisher_of}
 use Rattle.iox2_domain.specs.Invariant.{is_publisher}
-use Rattle.iox2_domain.specs.Lending.{LoanReaches, LoanCall}
-use Rattle.iox2_domain.specs.LoanSlots.{LiesInSlot}
-use Rattle.iox2_domain.specs.declared.loan_slots.LoanSlot.{LoanSlot}
+use Rattle.iox2_domain.specs.Lending.{IsNamed, LoanReaches, LoanCall}
+use Rattle.iox2_domain.specs.declared.loan_slots.LoanAt.{LoanAt}
 use Rattle.iox2_domain.specs.Shows.{Shows}
 use Rattle.iox2_domain.proofs.Containers.{look_up-map}
-use Rattle.iox2_domain.proofs.Messages.{message_in-parts}
 use Rattle.iox2_domain.proofs.ReachesShows.{reaches-shows, reaches-shows-same}
-use Rattle.iox2_domain.proofs.RecountedState.{loan-publisher}
 
 module _ {T U : Type 0} (f : Fields T U) where
   abbrev state : State T U
@@ -43,17 +39,9 @@ module _ {T U : Type 0} (f : Fields T U) where
       let clash : None ≡ Some held.0 = sym nothing ∙ held.1 in
       absurd cc
 
-  -- a loan that lies in a slot is held
-  pub lies-held : (p n key slot : ℕ) → LiesInSlot f p n key slot → HoldsLoan state p n
-  lies-held p n key slot at = (
-    at.loan,
-    at.held,
-    loan-publisher at.book (contents_at f.contents key) slot n at.loan (message_in-parts at.book (contents_at f.contents key) slot _ at.lies) ∙ at.is_its,
-  )
-
   module _ (is_default : U → Type 0) (new : Fields T U) (x : PublisherFields) (m : Messages T U) (s : State T U) (shown : Shows (kept_of f) m s) where
     -- a loan that is refused changes nothing
-    pub refused-shows : (A : Type 0) (e : LoanError) → LoanReaches {A = ℕ} is_default f x (Err e) new
+    pub refused-shows : (A : Type 0) (e : LoanError) → LoanReaches {A = LoanAt} is_default f x (Err e) new
         → (s' : State T U) × Shows (kept_of new) m s' × LoanCall {A = A} is_default s x.id (Err e) s'
     refused-shows A e reaches =
         subst (λ (t : State T U). (s' : State T U) × Shows (kept_of new) m s' × LoanCall {A = A} is_default t x.id (Err e) s')
@@ -69,9 +57,9 @@ module _ {T U : Type 0} (f : Fields T U) where
     ]
 
     -- a loan that is granted is shown
-    pub granted-shows : (A : Type 0) (slot : ℕ) (answer : A) → LoanReaches {A = ℕ} is_default f x (Ok slot) new
+    pub granted-shows : (A : Type 0) (loan : LoanAt) (answer : A) → LoanReaches {A = LoanAt} is_default f x (Ok loan) new
         → (s' : State T U) × Shows (kept_of new) m s' × LoanCall {A = A} is_default s x.id (Ok answer) s'
-    granted-shows A slot answer reaches =
+    granted-shows A loan answer reaches =
         let s' : State T U = loan_granted reaches.0 state x.id (machine x) 1 x.segments in
         subst (λ (t : State T U). (s' : State T U) × Shows (kept_of new) m s' × LoanCall {A = A} is_default t x.id (Ok answer) s')
         (sym shown.state) (
@@ -83,9 +71,9 @@ module _ {T U : Type 0} (f : Fields T U) where
         )
 
   -- the new loan is held, and isn't written
-  pub granted-held : (is_default : U → Type 0) (new : Fields T U) (x : PublisherFields) (service_id slot : ℕ) → service_id ≡ (f.config).service_id
-      → LoanReaches {A = ℕ} is_default f x (Ok slot) new → IsUnwrittenLoanHandle (kept_of new) service_id x.id f.next_message
-  granted-held is_default new x service_id slot its reaches =
+  pub granted-held : (is_default : U → Type 0) (new : Fields T U) (x : PublisherFields) (service_id : ℕ) (loan : LoanAt) → service_id ≡ (f.config).service_id
+      → LoanReaches {A = LoanAt} is_default f x (Ok loan) new → IsUnwrittenLoanHandle (kept_of new) service_id x.id f.next_message
+  granted-held is_default new x service_id loan its reaches =
       let reached : state_of (kept_of new) ≡ loan_granted reaches.0 state x.id (machine x) 1 x.segments = reaches.3.state in
       let lent : Loan T U = record {
         publisher = x.id;
@@ -104,7 +92,7 @@ module _ {T U : Type 0} (f : Fields T U) where
         ),
       )
 
-module _ {T U : Type 0} (is_default : U → Type 0) (f new : Fields T U) (i p : ℕ) (answer : Result ℕ LoanError)
+module _ {T U : Type 0} (is_default : U → Type 0) (f new : Fields T U) (i p : ℕ) (answer : Result LoanAt LoanError)
     (stands : (x : PublisherFields) × (get_or f.publishers i None ≡ Some x) × (x.id ≡ p))
     (reaches : IsSomeAnd (get_or f.publishers i None) (λ z. LoanReaches is_default f z answer new)) where
   its : LoanReaches is_default f stands.0 answer new
@@ -117,36 +105,29 @@ module _ {T U : Type 0} (is_default : U → Type 0) (f new : Fields T U) (i p : 
   err-shown A e is (Err e') same kept view m s shown =
       subst (λ (q : ℕ). (s' : State T U) × Shows (kept_of new) m s' × LoanCall {A = A} is_default s q (Err e') s') stands.2
       (refused-shows f is_default new stands.0 m s (subst (λ (k : Kept T U). Shows k m s) (sym view) shown) A e'
-      (subst (λ (r : Result ℕ LoanError). LoanReaches is_default f stands.0 r new) (is ∙ ap Err (sym same)) its))
+      (subst (λ (r : Result LoanAt LoanError). LoanReaches is_default f stands.0 r new) (is ∙ ap Err (sym same)) its))
 
   -- a loan that was granted
-  pub ok-shown : (A : Type 0) (a : A) (slot : ℕ) → answer ≡ Ok slot → (kept : Kept T U) → kept_of f ≡ kept
+  pub ok-shown : (A : Type 0) (a : A) (loan : LoanAt) → answer ≡ Ok loan → (kept : Kept T U) → kept_of f ≡ kept
       → (m : Messages T U) (s : State T U) → Shows kept m s → (s' : State T U) × Shows (kept_of new) m s' × LoanCall {A = A} is_default s p (Ok a) s'
-  ok-shown A a slot is kept view m s shown =
+  ok-shown A a loan is kept view m s shown =
       subst (λ (q : ℕ). (s' : State T U) × Shows (kept_of new) m s' × LoanCall {A = A} is_default s q (Ok a) s') stands.2
-      (granted-shows f is_default new stands.0 m s (subst (λ (k : Kept T U). Shows k m s) (sym view) shown) A slot a
-      (subst (λ (r : Result ℕ LoanError). LoanReaches is_default f stands.0 r new) is its))
+      (granted-shows f is_default new stands.0 m s (subst (λ (k : Kept T U). Shows k m s) (sym view) shown) A loan a
+      (subst (λ (r : Result LoanAt LoanError). LoanReaches is_default f stands.0 r new) is its))
 
   -- it is held
-  pub ok-held : (service_id slot number : ℕ) → answer ≡ Ok slot → number ≡ f.next_message → (kept : Kept T U) → kept_of f ≡ kept → IsPublisherHandle kept service_id p
-      → IsUnwrittenLoanHandle (kept_of new) service_id p number
-  ok-held service_id slot number is next kept view handle =
-      subst (λ (q : ℕ). IsUnwrittenLoanHandle (kept_of new) service_id q number) stands.2
-      (subst (λ (n : ℕ). IsUnwrittenLoanHandle (kept_of new) service_id stands.0.id n) (sym next)
-      (granted-held f is_default new stands.0 service_id slot (handle.0 ∙ sym (ap (λ (k : Kept T U). (k.config).service_id) view))
-      (subst (λ (r : Result ℕ LoanError). LoanReaches is_default f stands.0 r new) is its)))
+  pub ok-held : (service_id : ℕ) (loan : LoanAt) → answer ≡ Ok loan → IsSomeAnd (get_or f.publishers i None) (λ z. IsNamed f z loan) → (kept : Kept T U) → kept_of f ≡ kept → IsPublisherHandle kept service_id p
+      → IsUnwrittenLoanHandle (kept_of new) service_id loan.publisher loan.number
+  ok-held service_id loan is named kept view handle =
+      let names = subst (λ (o : Option PublisherFields). IsSomeAnd o (λ z. IsNamed f z loan)) stands.1 named in
+      rw (names.publisher, names.number)
+      (granted-held f is_default new stands.0 service_id loan (handle.0 ∙ sym (ap (λ (k : Kept T U). (k.config).service_id) view))
+      (subst (λ (r : Result LoanAt LoanError). LoanReaches is_default f stands.0 r new) is its))
 
--- a loan is held just where a slot is found for it
-pub loan-key : {T U : Type 0} (f : Fields T U) (kept : Kept T U) (key : Key) → kept_of f ≡ kept → key.service_id ≡ (f.config).service_id → (found : Option LoanSlot)
-    → MatchOption found (HoldsLoan (state_of (kept_of f)) key.port key.message → ⊥) (λ at. LiesInSlot f key.port key.message at.book at.slot)
-    → (b : Bool) → b ≡ is_some found → (IsTrue b → IsLoanKey kept key) × (IsLoanKey kept key → IsTrue b)
-loan-key {T} {U} f kept key view service found finds b is = (λ is_held. subst (λ (k : Kept T U). IsLoanKey k key) view (service, there found finds (sym is ∙ is_held)), λ held. is ∙ some found finds (subst (λ (k : Kept T U). IsLoanKey k key) (sym view) held).1) where
-  there : (o : Option LoanSlot) → MatchOption o (HoldsLoan (state_of (kept_of f)) key.port key.message → ⊥) (λ at. LiesInSlot f key.port key.message at.book at.slot) → is_some o ≡ true
-      → HoldsLoan (state_of (kept_of f)) key.port key.message
-  there None none is_held = absurd cc
-  there (Some at) lies is_held = lies-held f key.port key.message at.book at.slot lies
+  -- it is the publisher's
+  pub ok-publisher : (loan : LoanAt) → IsSomeAnd (get_or f.publishers i None) (λ z. IsNamed f z loan) → loan.publisher ≡ p
+  ok-publisher loan named = (subst (λ (o : Option PublisherFields). IsSomeAnd o (λ z. IsNamed f z loan)) stands.1 named).publisher ∙ stands.2
 
-  some : (o : Option LoanSlot) → MatchOption o (HoldsLoan (state_of (kept_of f)) key.port key.message → ⊥) (λ at. LiesInSlot f key.port key.message at.book at.slot)
-      → HoldsLoan (state_of (kept_of f)) key.port key.message → is_some o ≡ true
-  some None none held = absurd (none held)
-  some (Some at) lies held = refl
+  -- and has the number that was the next
+  pub ok-number : (loan : LoanAt) → IsSomeAnd (get_or f.publishers i None) (λ z. IsNamed f z loan) → loan.number ≡ f.next_message
+  ok-number loan named = (subst (λ (o : Option PublisherFields). IsSomeAnd o (λ z. IsNamed f z loan)) stands.1 named).number

@@ -4,7 +4,8 @@ ghost use Rattle.std.specs.Prelude.{◌≡◌};
 use crate::domain::Domain;
 use crate::sample::Sample;
 use crate::subscriber::Subscriber;
-use iox2_store::{BackpressureFn, DegradationFn, ReceiveError, UniquePublisherId};
+use iox2_domain::Receipt;
+use iox2_store::{BackpressureFn, DegradationFn, ReceiveError};
 
 impl Subscriber {
     ghost use Rattle.iox2_store.specs.Environments.{fixed_handlers};
@@ -32,20 +33,21 @@ impl Subscriber {
             → (s' : State T U) × Shows domain.new m s' × Receive fixed_handlers s self.now.id s' (received result) }
         ensures held { IsHeldIfAny domain.new self.now.id result }
     {
-        let Some(place) = domain.state.find_subscriber(self.id.value(), self.place) else {
+        let Some(place) = domain.state.find_subscriber(self.id, self.place) else {
             unreachable!()
         };
         let receipt = domain.state.receive_at(place)?;
         let Some(receipt) = receipt else {
             return Ok(None);
         };
+        let Receipt { publisher, sample } = receipt;
         Ok(Some(Sample {
             service_id: self.service_id,
-            subscriber: self.id,
-            publisher: UniquePublisherId::new(receipt.publisher),
-            number: receipt.number,
-            connection: receipt.connection,
-            slot: receipt.slot,
+            subscriber: sample.subscriber,
+            publisher,
+            number: sample.number,
+            connection: sample.connection,
+            slot: sample.slot,
         }))
     }
 }

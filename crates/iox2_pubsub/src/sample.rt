@@ -2,6 +2,7 @@
 ghost use Rattle.std.specs.Prelude.{◌≡◌};
 
 use crate::domain::Domain;
+use iox2_domain::SampleAt;
 use iox2_store::{
     BackpressureFn, DegradationFn, Header, Key, UniquePublisherId, UniqueSubscriberId,
 };
@@ -43,6 +44,18 @@ impl Sample {
         }
     }
 
+    // What the domain has of it.
+    fn sample(&self) -> SampleAt
+        ensures { result ≡ record { subscriber = self.now.subscriber; number = self.now.number; connection = self.now.connection; slot = self.now.slot } }
+    {
+        SampleAt {
+            subscriber: self.subscriber,
+            number: self.number,
+            connection: self.connection,
+            slot: self.slot,
+        }
+    }
+
     /// The publisher that sent the message, as it was when the sample was received.
     ///
     /// iceoryx2's `Sample::origin` (`src/sample.rs`).
@@ -65,10 +78,7 @@ impl Sample {
         ensures { (m : Messages T U) (s : State T U) → Shows domain.now m s
             → (entry : Entry T U) × (m self.now.number ≡ Some entry) × (entry.values ≡ result.now ∷ []) }
     {
-        let receiver = self.subscriber.value();
-        domain
-            .state
-            .sample_payload(receiver, self.number, self.connection, self.slot)
+        domain.state.sample_payload(&self.sample())
     }
 
     /// The message's header.
@@ -83,10 +93,7 @@ impl Sample {
             → (entry : Entry T U) × (m self.now.number ≡ Some entry) × (entry.header ≡ result.now) }
         ensures origin { IsSampleHandle domain.now self.now.service_id self.now.subscriber self.now.publisher self.now.number → (result.now).publisher_id ≡ self.now.publisher }
     {
-        let receiver = self.subscriber.value();
-        domain
-            .state
-            .sample_header(receiver, self.number, self.connection, self.slot)
+        domain.state.sample_header(&self.sample())
     }
 
     /// Gives the message back to its publisher, which may use its slot again once nobody else has
@@ -110,9 +117,13 @@ impl Sample {
             connection,
             slot,
         } = self;
-        domain
-            .state
-            .give_back(subscriber.value(), number, connection, slot);
+        let sample = SampleAt {
+            subscriber,
+            number,
+            connection,
+            slot,
+        };
+        domain.state.give_back(sample);
     }
 
     /// Spends the handle of a sample whose domain is gone. A domain that is still there isn't told,
@@ -144,6 +155,7 @@ impl<T: Drop, U: Default + Drop, F: BackpressureFn, G: DegradationFn> Domain<T, 
         if key.service_id != self.state.config().service_id {
             return false;
         }
-        self.state.has_sample(key.port, key.message)
+        self.state
+            .has_sample(UniqueSubscriberId::new(key.port), key.message)
     }
 }

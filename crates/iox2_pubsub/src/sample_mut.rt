@@ -2,6 +2,7 @@
 ghost use Rattle.std.specs.Prelude.{◌≡◌};
 
 use crate::domain::Domain;
+use iox2_domain::LoanAt;
 use iox2_store::{BackpressureFn, DegradationFn, Header, Key, UniquePublisherId};
 
 /// A loan whose payload is written. It is a value to be spent: the domain keeps the loan until its
@@ -34,9 +35,7 @@ impl SampleMut {
         requires single { (domain.now.config).units_per_element ≡ 1 }
         ensures { (m : Messages T U) (s : State T U) → Shows domain.now m s → HasCell s self.now.number (Some result.now) }
     {
-        domain
-            .state
-            .loan_value(self.publisher.value(), self.number, self.slot)
+        domain.state.loan_value(&self.loan())
     }
 
     /// Where the message comes from, and of how many elements it is.
@@ -50,9 +49,18 @@ impl SampleMut {
         ensures header { (m : Messages T U) (s : State T U) → Shows domain.now m s → HasLoanHeader s self.now.number result.now }
         ensures origin { (result.now).publisher_id ≡ self.now.publisher }
     {
-        domain
-            .state
-            .loan_header(self.publisher.value(), self.number, self.slot)
+        domain.state.loan_header(&self.loan())
+    }
+
+    // What the domain has of it.
+    fn loan(&self) -> LoanAt
+        ensures { result ≡ record { publisher = self.now.publisher; number = self.now.number; slot = self.now.slot } }
+    {
+        LoanAt {
+            publisher: self.publisher,
+            number: self.number,
+            slot: self.slot,
+        }
     }
 
     /// Names the loan without being its handle. This library's own.

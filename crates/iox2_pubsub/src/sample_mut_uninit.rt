@@ -3,6 +3,7 @@ ghost use Rattle.std.specs.Prelude.{◌≡◌};
 
 use crate::domain::Domain;
 use crate::sample_mut::SampleMut;
+use iox2_domain::LoanAt;
 use iox2_store::{BackpressureFn, DegradationFn, Header, Key, UniquePublisherId};
 
 /// A loan whose payload isn't written. It is a value to be spent: the domain keeps the loan until
@@ -49,14 +50,17 @@ impl SampleMutUninit {
             number,
             slot,
         } = self;
-        let slot = domain
-            .state
-            .write_loan(publisher.value(), number, slot, value);
-        SampleMut {
-            service_id,
+        let loan = LoanAt {
             publisher,
             number,
             slot,
+        };
+        let loan = domain.state.write_loan(loan, value);
+        SampleMut {
+            service_id,
+            publisher: loan.publisher,
+            number: loan.number,
+            slot: loan.slot,
         }
     }
 
@@ -71,9 +75,7 @@ impl SampleMutUninit {
         requires single { (domain.now.config).units_per_element ≡ 1 }
         ensures { (m : Messages T U) (s : State T U) → Shows domain.now m s → HasCell s self.now.number result.now }
     {
-        domain
-            .state
-            .loan_cell(self.publisher.value(), self.number, self.slot)
+        domain.state.loan_cell(&self.loan())
     }
 
     /// Where the message comes from, and of how many elements it is.
@@ -87,9 +89,18 @@ impl SampleMutUninit {
         ensures header { (m : Messages T U) (s : State T U) → Shows domain.now m s → HasLoanHeader s self.now.number result.now }
         ensures origin { (result.now).publisher_id ≡ self.now.publisher }
     {
-        domain
-            .state
-            .loan_header(self.publisher.value(), self.number, self.slot)
+        domain.state.loan_header(&self.loan())
+    }
+
+    // What the domain has of it.
+    fn loan(&self) -> LoanAt
+        ensures { result ≡ record { publisher = self.now.publisher; number = self.now.number; slot = self.now.slot } }
+    {
+        LoanAt {
+            publisher: self.publisher,
+            number: self.number,
+            slot: self.slot,
+        }
     }
 
     /// Names the loan without being its handle. This library's own.

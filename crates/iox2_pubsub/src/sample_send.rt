@@ -4,6 +4,7 @@ ghost use Rattle.std.specs.Prelude.{◌≡◌};
 use crate::domain::Domain;
 use crate::sample_mut::SampleMut;
 use crate::send_outcome::SendOutcome;
+use iox2_domain::LoanAt;
 use iox2_store::{BackpressureFn, DegradationFn, SendError};
 
 impl SampleMut {
@@ -40,7 +41,12 @@ impl SampleMut {
             number,
             slot,
         } = self;
-        let count = domain.state.send_loan(publisher.value(), number, slot);
+        let loan = LoanAt {
+            publisher,
+            number,
+            slot,
+        };
+        let count = domain.state.send_loan(loan);
         Ok(SendOutcome::Delivered(count))
     }
 }

@@ -4,7 +4,7 @@ ghost use Rattle.std.specs.Prelude.{◌≡◌, IfOk};
 use crate::domain::Domain;
 use crate::publisher::Publisher;
 use crate::sample_mut_uninit::SampleMutUninit;
-use iox2_store::{BackpressureFn, DegradationFn, Key, LoanError};
+use iox2_store::{BackpressureFn, DegradationFn, Key, LoanError, UniquePublisherId};
 
 impl Publisher {
     ghost use Rattle.iox2_store.specs.State.{State, Messages};
@@ -33,16 +33,15 @@ impl Publisher {
         ensures number { IfOk result (λ loan. loan.number ≡ domain.old.next_message) }
         ensures publisher { IfOk result (λ loan. loan.publisher ≡ self.now.id) }
     {
-        let Some(place) = domain.state.find_publisher(self.id.value(), self.place) else {
+        let Some(place) = domain.state.find_publisher(self.id, self.place) else {
             unreachable!();
         };
-        let number = domain.state.next_message();
-        let slot = domain.state.loan(place)?;
+        let loan = domain.state.loan(place)?;
         Ok(SampleMutUninit {
             service_id: self.service_id,
-            publisher: self.id,
-            number,
-            slot,
+            publisher: loan.publisher,
+            number: loan.number,
+            slot: loan.slot,
         })
     }
 }
@@ -59,6 +58,7 @@ impl<T: Drop, U: Default + Drop, F: BackpressureFn, G: DegradationFn> Domain<T, 
         if key.service_id != self.state.config().service_id {
             return false;
         }
-        self.state.find_loan(key.port, key.message, 0).is_some()
+        self.state
+            .has_loan(UniquePublisherId::new(key.port), key.message)
     }
 }

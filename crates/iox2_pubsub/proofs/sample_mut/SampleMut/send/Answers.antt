@@ -8,8 +8,7 @@ use Rattle.iox2_pubsub.proofs.sample_mut.SampleMut.send.Goals as goal
 
 pub send_loan-count-requires-clause-held : goal.send_loan-count-requires-clause-held
 send_loan-count-requires-clause-held g c =
-    rw c.value.ensures
-    (subst (λ (k : Kept g.row.T.Denot g.row.U.Denot). HoldsWritten (state_of k) c.args.self.publisher c.args.self.number) (sym c.domain.view_is) c.requires.1)
+    subst (λ (k : Kept g.row.T.Denot g.row.U.Denot). HoldsWritten (state_of k) c.args.self.publisher c.args.self.number) (sym c.domain.view_is) c.requires.1
 
 pub returns-clause-sent : goal.returns-clause-sent
 returns-clause-sent g c = λ m s l shown out.

@@ -1,27 +1,27 @@
-use Rattle.std.proofs.Common.{◌≡◌, ◌∙◌, ap, max, arith}
+use Rattle.std.proofs.Common.{◌≡◌, ap, max, arith}
 use Rattle.std.proofs.lemmas.Result.{err_from_is_err_and}
 use Rattle.iox2_domain.specs.SubscriberEntry.{asked_for}
 use Rattle.iox2_store.specs.declared.service_config.ServiceConfig.{ServiceConfig}
 use Rattle.iox2_pubsub.proofs.SubscribersShown.{made-shown, made-held, refused-shown}
 use Rattle.iox2_pubsub.proofs.port_factory.subscriber.PortFactorySubscriber.create.Goals as goal
 
-pub returns-in_err-place-clause-creates : goal.returns-in_err-place-clause-creates
-returns-in_err-place-clause-creates g c =
+pub returns-in_err-port-clause-creates : goal.returns-in_err-port-clause-creates
+returns-in_err-port-clause-creates g c =
     let refused = err_from_is_err_and c.from_residual.result c.from_residual.ensures.1 in
     rw (refused.1, refused.2) (
     refused-shown {T = g.row.T.Denot} {U = g.row.U.Denot} c.domain.inside.state c.create_subscriber.new.self c.args.domain.now c.domain.view_is
-    (asked_for c.self.inside.buffer_size) c.args.self c.self.view_is c.in_err-place.field-0.0 c.in_err-place.ensures.step
+    (asked_for c.self.inside.buffer_size) c.args.self c.self.view_is c.in_err-port.field-0.0 c.in_err-port.ensures.step
     )
 
 pub returns-clause-creates : goal.returns-clause-creates
 returns-clause-creates g c =
     let size : c.max.result ≡ max 1 c.self.inside.buffer_size = grind (arith, c.max.ensures) in
     made-shown {T = g.row.T.Denot} {U = g.row.U.Denot} c.domain.inside.state c.create_subscriber.new.self c.args.domain.now c.domain.view_is
-    (asked_for c.self.inside.buffer_size) c.args.self c.self.view_is c.in_ok-place.ensures.step c.new-id.result c.max.result
-    (c.new-id.ensures ∙ c.next_port.ensures) size
+    (asked_for c.self.inside.buffer_size) c.args.self c.self.view_is c.in_ok-port.ensures.step c.in_ok-port.port.id c.max.result
+    (c.in_ok-port.ensures.id) size
 
 pub returns-clause-held : goal.returns-clause-held
 returns-clause-held g c =
-    made-held {T = g.row.T.Denot} {U = g.row.U.Denot} c.domain.inside.state c.create_subscriber.new.self (asked_for c.self.inside.buffer_size) c.in_ok-place.ensures.step _ c.new-id.result
+    made-held {T = g.row.T.Denot} {U = g.row.U.Denot} c.domain.inside.state c.create_subscriber.new.self (asked_for c.self.inside.buffer_size) c.in_ok-port.ensures.step _ c.in_ok-port.port.id
     (ap (λ (config : ServiceConfig). config.service_id) c.config.ensures)
-    (c.new-id.ensures ∙ c.next_port.ensures)
+    (c.in_ok-port.ensures.id)
