@@ -1,47 +1,12 @@
 //! The places of a domain's ports.
-ghost use Rattle.std.specs.Prelude.{◌≡◌, ◌==◌, ◌<◌, ◌≤◌, ◌↔◌, ℕ, cond, nat_lt, slice_index_or, vec_capacity, IsTrue, IsSomeAnd, MatchOption, OnOk};
+ghost use Rattle.std.specs.Prelude.{◌≡◌, ◌==◌, ◌<◌, ◌≤◌, ◌↔◌, cond, nat_lt, slice_index_or, vec_capacity, IsTrue, IsSomeAnd, MatchOption, OnOk};
 ghost use Rattle.iox2_ends.specs.LookUp.{look_up};
 ghost use Rattle.iox2_domain.specs.Placed.{placed, lowest_empty};
 
-use crate::publisher_state::PublisherState;
+use crate::ports::Port;
 use crate::state::DomainState;
-use crate::subscriber_state::SubscriberState;
 use iox2_store::{UniquePublisherId, UniqueSubscriberId};
 use std::alloc::AllocError;
-
-/// A port has an id, which no other port of its side has.
-pub(crate) trait Port {
-    ghost number: { Self → ℕ };
-
-    /// The number of its id.
-    fn number(&self) -> u128
-        ensures { result ≡ number self.now };
-}
-
-impl Port for PublisherState {
-    ghost number = { λ x. x.id };
-
-    fn number(&self) -> u128 {
-        self.id.value()
-    }
-}
-
-impl Port for SubscriberState {
-    ghost number = { λ y. y.id };
-
-    fn number(&self) -> u128 {
-        self.id.value()
-    }
-}
-
-/// Names a port, and says where it is looked for first.
-#[derive(Drop)]
-pub struct PortAt<I> {
-    /// Its id.
-    pub id: I,
-    /// The place at which it is looked for first.
-    pub place: usize,
-}
 
 /// The lowest place at which nothing stands, where it is below the limit.
 pub(crate) fn free_place<P>(places: &[Option<P>], limit: usize) -> Option<usize>
@@ -136,4 +101,14 @@ pub(crate) fn reserve_place<A>(places: &mut Vec<Option<A>>, place: usize) -> Res
         return Err(AllocError);
     };
     places.try_reserve(additional)
+}
+
+/// The key at a place, past the end of the list too.
+pub(crate) fn key_in(keys: &[Option<usize>], place: usize) -> Option<usize>
+    ensures { result ≡ slice_index_or keys.now place None }
+{
+    match keys.get(place) {
+        Some(key) => *key,
+        None => None,
+    }
 }

@@ -5,11 +5,11 @@ ghost use Rattle.iox2_store.specs.Environments.{fixed_handlers};
 ghost use Rattle.iox2_store.specs.Ports.{CreatePublisher, with_new_publisher};
 ghost use Rattle.iox2_store.specs.declared.errors.PublisherCreateError.TheVariants.{UnableToCreateDataSegment, FailedToDeployThreadsafetyPolicy};
 
-use crate::places::{PortAt, free_place, put_at_place};
+use crate::places::{free_place, put_at_place};
+use crate::ports::{PortAt, make_all_due};
 use crate::publisher_state::PublisherState;
 use crate::segments::{Segment, add_segment, first_segment};
 use crate::state::DomainState;
-use crate::subscriber_state::make_all_due;
 use iox2_store::{PublisherCreateError, UniquePublisherId};
 
 impl<T: Drop, U: Default + Drop> DomainState<T, U> {

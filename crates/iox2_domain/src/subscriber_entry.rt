@@ -8,8 +8,8 @@ ghost use Rattle.iox2_store.specs.State.{State, warned};
 ghost use Rattle.iox2_store.specs.declared.errors.SubscriberCreateError.TheVariants.{FailedToDeployThreadsafetyPolicy};
 ghost use Rattle.iox2_store.specs.declared.warning.Warning.TheVariants.{ExpiredBufferRaised};
 
-use crate::places::{PortAt, free_place, put_at_place};
-use crate::publisher_state::make_all_due;
+use crate::places::{free_place, put_at_place};
+use crate::ports::{PortAt, make_all_due};
 use crate::state::DomainState;
 use crate::subscriber_state::SubscriberState;
 use crate::warnings::warn;

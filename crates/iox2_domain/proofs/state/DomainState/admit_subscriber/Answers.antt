@@ -28,12 +28,12 @@ returns-clause-id g c = c.new-id.ensures ∙ ap (λ (f : Fields g.row.T.Denot g.
 
 pub returns-clause-step : goal.returns-clause-step
 returns-clause-step g c =
-    let all_due : c.make_all_due.new.publishers ≡ map (option_map due) c.self.inside.publishers.items = c.make_all_due.ensures ∙ ap (map (option_map due)) c.deref_mut.ensures.value in
+    let all_due : c.make_all_due.new.ports ≡ map (option_map due) c.self.inside.publishers.items = c.make_all_due.ensures ∙ ap (map (option_map due)) c.deref_mut.ensures.value in
     let size : c.max.result ≡ max 1 c.args.asked = grind (arith, c.max.ensures) in
     has-entered {T = g.row.T.Denot} {U = g.row.U.Denot} c.args.self.now c.args.asked _ c.self.view_is c.requires.agrees c.args.place c.new-subscriber.result
     c.warn_of_expired_buffer.new.warnings _ _ c.requires.has_place
     (c.new-subscriber.ensures ∙ ap (λ id. entering id c.args.place c.max.result c.new-subscriber.result.key_room) c.new-id.ensures
     ∙ ap (λ size. entering c.self.inside.next_port c.args.place size c.new-subscriber.result.key_room) size)
     (rw (← c.new-id.ensures) c.warn_of_expired_buffer.ensures)
-    (with_items_is c.self.inside.publishers c.make_all_due.new.publishers (c.make_all_due.auto.publishers ∙ c.deref_mut.ensures.len) ∙ all_due)
+    (with_items_is c.self.inside.publishers c.make_all_due.new.ports (c.make_all_due.auto.ports ∙ c.deref_mut.ensures.len) ∙ all_due)
     (c.put_at_place.ensures.items ∙ ap (λ ys. placed ys c.args.place c.new-subscriber.result) c.in-Ok.ensures.items)
