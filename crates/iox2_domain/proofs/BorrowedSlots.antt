@@ -39,12 +39,14 @@ module _ (old new : Slab Link) (key slot : ℕ) (c : Link) (at_c : get old key �
       subst (λ (xs : List ℕ). Contains xs slot) (sym slots) (Contains-append_right _ (slot ∷ []) slot (zero, omega arith, refl))
 
   -- it lies where a receipt says that names the key and the slot
-  pub lies-there : {T U : Type 0} (f : Fields T U) (q : ℕ) (receipt : Receipt) → f.connections ≡ new → receipt.connection ≡ key → receipt.slot ≡ slot → receipt.publisher ≡ c.home.publisher → c.home.subscriber ≡ q
+  pub lies-there : {T U : Type 0} (f : Fields T U) (q : ℕ) (receipt : Receipt) → f.connections ≡ new → receipt.sample.connection ≡ key → receipt.sample.slot ≡ slot → receipt.publisher ≡ c.home.publisher
+      → receipt.sample.subscriber ≡ c.home.subscriber → c.home.subscriber ≡ q
       → LiesAt f q receipt
-  lies-there f q receipt connections key_is slot_is publisher_is subscriber_is = record {
+  lies-there f q receipt connections key_is slot_is publisher_is its subscriber_is = record {
     connection = stays.0;
-    stands = ap (λ (slab : Slab Link). get slab receipt.connection) connections ∙ ap (get new) key_is ∙ stays.1;
+    stands = ap (λ (slab : Slab Link). get slab receipt.sample.connection) connections ∙ ap (get new) key_is ∙ stays.1;
     publisher_is = ap (λ (h : Home). h.publisher) stays.2 ∙ sym publisher_is;
     subscriber_is = ap (λ (h : Home). h.subscriber) stays.2 ∙ subscriber_is;
+    its = its ∙ subscriber_is;
     borrowed = subst (Contains (stays.0).borrowed) (sym slot_is) borrowed;
   }

@@ -15,7 +15,8 @@ use Rattle.iox2_ends.proofs.MailboxChanges.{within_if_some}
 use Rattle.iox2_domain.specs.Ports.{PublisherFields}
 use Rattle.iox2_domain.specs.Fields.{Fields}
 use Rattle.iox2_domain.specs.Invariant.{IsDomain, IsBook, HasBook}
-use Rattle.iox2_domain.specs.Lending.{header_for, with_taken_slot, lending, Starts, CanLend, Lends}
+use Rattle.iox2_domain.specs.Lending.{header_for, with_taken_slot, lending, Starts, CanLend, IsNamed, Lends}
+use Rattle.iox2_domain.specs.declared.loan_slots.LoanAt.{LoanAt}
 use Rattle.iox2_domain.proofs.PublisherBooks.{read-there}
 
 module _ {T U : Type 0} (f : Fields T U) (sound : IsDomain f) (i : ℕ) (x : PublisherFields) (at : get_or f.publishers i None ≡ Some x) where
@@ -105,6 +106,13 @@ module _ {T U : Type 0} (f : Fields T U) (sound : IsDomain f) (i : ℕ) (x : Pub
 
       lender : y' ≡ Some (lending slot x)
       lender = lent ∙ ap (option_map (lending slot)) (sym (read-there f.publishers i x y at read_y) ∙ at)
+
+-- the loan is the publisher's, seen from the fields before
+pub named-seen : {T U : Type 0} (f old : Fields T U) (i : ℕ) (x : PublisherFields) (loan : LoanAt) → f ≡ old → get_or f.publishers i None ≡ Some x
+    → IsNamed f x loan → IsSomeAnd (get_or old.publishers i None) (λ z. IsNamed old z loan)
+named-seen {T} {U} f old i x loan view at named =
+    subst (λ (g : Fields T U). IsSomeAnd (get_or g.publishers i None) (λ z. IsNamed g z loan)) view
+    (subst (λ (o : Option PublisherFields). IsSomeAnd o (λ z. IsNamed f z loan)) (sym at) named)
 
 -- seen from the fields before
 pub lends-seen : {T U : Type 0} (is_default : U → Type 0) (f old new : Fields T U) (i slot : ℕ) (x : PublisherFields) → f ≡ old → get_or f.publishers i None ≡ Some x

@@ -54,6 +54,7 @@ pub mod Recounts
 pub mod RecountedState
 pub mod ReachesShows
 pub mod LoanSlots
+pub mod LoansOut
 pub mod PublisherBooks
 pub mod ReclaimSteps
 pub mod SlotChanges

@@ -13,9 +13,10 @@ use Rattle.iox2_domain.specs.Ports.{PublisherFields}
 use Rattle.iox2_domain.specs.Kept.{state_of}
 use Rattle.iox2_domain.specs.Fields.{Fields, kept_of, publisher_of}
 use Rattle.iox2_domain.specs.Invariant.{IsDomain}
-use Rattle.iox2_domain.specs.Lending.{CanLend, LoanDecided, Lends, LoanReaches}
+use Rattle.iox2_domain.specs.Lending.{CanLend, LoanDecided, IsNamed, Lends, LoanReaches}
 use Rattle.iox2_domain.specs.LoanSlots.{LiesInSlot}
 use Rattle.iox2_domain.specs.Reaches.{Reaches}
+use Rattle.iox2_domain.specs.declared.loan_slots.LoanAt.{LoanAt}
 use Rattle.iox2_domain.proofs.ConnectionEnds.{publisher-stands}
 use Rattle.iox2_domain.proofs.ReachesShows.{reaches-then}
 use Rattle.iox2_domain.proofs.Lent.{lent-reaches, lent-grants, lent-in_slot}
@@ -29,9 +30,9 @@ module _ {T U : Type 0} (is_default : U → Type 0) (f mid : Fields T U) (sound 
   at_mid = ap (λ xs. get_or xs i None) same ∙ stands.1
 
   -- the loan is refused
-  pub loan-refused : (e : LoanError) → LoanDecided mid i (Some e) → IsSomeAnd (get_or f.publishers i None) (λ z. LoanReaches {A = ℕ} is_default f z (Err e) mid)
+  pub loan-refused : (e : LoanError) → LoanDecided mid i (Some e) → IsSomeAnd (get_or f.publishers i None) (λ z. LoanReaches {A = LoanAt} is_default f z (Err e) mid)
   loan-refused e refused =
-      subst (λ (o : Option PublisherFields). IsSomeAnd o (λ z. LoanReaches {A = ℕ} is_default f z (Err e) mid)) (sym stands.1)
+      subst (λ (o : Option PublisherFields). IsSomeAnd o (λ z. LoanReaches {A = LoanAt} is_default f z (Err e) mid)) (sym stands.1)
       (subst (λ (s : State T U). (user_header : U) → GrantLoan ample_memory user_header false 1 s x.id s (Some e)) reached.state here, reached)
     where
       here : (user_header : U) → GrantLoan ample_memory user_header false 1 (state_of (kept_of mid)) x.id (state_of (kept_of mid)) (Some e)
@@ -42,15 +43,15 @@ module _ {T U : Type 0} (is_default : U → Type 0) (f mid : Fields T U) (sound 
   may-lend free = subst (λ (o : Option PublisherFields). IsSomeAnd o (λ z. CanLend mid i)) at_mid free
 
   -- a slot is lent
-  pub loan-lent : (reclaimed : (z : PublisherFields) → get_or f.publishers i None ≡ Some z → HasReclaimed mid.connections z.keys) → LoanDecided mid i None → (slot : ℕ) (new : Fields T U)
-      → IsSomeAnd (get_or mid.publishers i None) (λ z. Lends is_default mid i z slot new)
-      → IsSomeAnd (get_or f.publishers i None) (λ z. LoanReaches is_default f z (Ok slot) new)
-  loan-lent reclaimed free slot new lends =
-      subst (λ (o : Option PublisherFields). IsSomeAnd o (λ z. LoanReaches is_default f z (Ok slot) new)) (sym stands.1)
+  pub loan-lent : (reclaimed : (z : PublisherFields) → get_or f.publishers i None ≡ Some z → HasReclaimed mid.connections z.keys) → LoanDecided mid i None → (loan : LoanAt) (new : Fields T U)
+      → IsSomeAnd (get_or mid.publishers i None) (λ z. Lends is_default mid i z loan.slot new)
+      → IsSomeAnd (get_or f.publishers i None) (λ z. LoanReaches is_default f z (Ok loan) new)
+  loan-lent reclaimed free loan new lends =
+      subst (λ (o : Option PublisherFields). IsSomeAnd o (λ z. LoanReaches is_default f z (Ok loan) new)) (sym stands.1)
       (its.starts.user_header, its.starts.default, both.0, reaches-then f mid new _ _ reached both.1)
     where
-      its : Lends is_default mid i x slot new
-      its = subst (λ (o : Option PublisherFields). IsSomeAnd o (λ z. Lends is_default mid i z slot new)) at_mid lends
+      its : Lends is_default mid i x loan.slot new
+      its = subst (λ (o : Option PublisherFields). IsSomeAnd o (λ z. Lends is_default mid i z loan.slot new)) at_mid lends
 
       can : CanLend mid i
       can = may-lend free
@@ -75,23 +76,31 @@ module _ {T U : Type 0} (is_default : U → Type 0) (f mid : Fields T U) (sound 
       both : Step (state_of (kept_of f)) ((publisher_of f.books f.connections x).port)
       both = subst (λ (s : State T U). Step s ((publisher_of f.books f.connections x).port)) reached.state
           (subst (Step (state_of (kept_of mid))) machine-same (
-            lent-grants mid reached.agrees i x at_mid (reclaimed x stands.1) few can.more is_default slot new its,
-            lent-reaches mid reached.agrees i x at_mid (reclaimed x stands.1) few can.more is_default slot new its,
+            lent-grants mid reached.agrees i x at_mid (reclaimed x stands.1) few can.more is_default loan.slot new its,
+            lent-reaches mid reached.agrees i x at_mid (reclaimed x stands.1) few can.more is_default loan.slot new its,
           ))
 
+  -- it is the publisher's loan, of the next message
+  pub loan-named : (loan : LoanAt) → IsSomeAnd (get_or mid.publishers i None) (λ z. IsNamed mid z loan) → IsSomeAnd (get_or f.publishers i None) (λ z. IsNamed f z loan)
+  loan-named loan named =
+      let its = subst (λ (o : Option PublisherFields). IsSomeAnd o (λ z. IsNamed mid z loan)) at_mid named in
+      subst (λ (o : Option PublisherFields). IsSomeAnd o (λ z. IsNamed f z loan)) (sym stands.1)
+      (record { publisher = its.publisher; number = its.number ∙ ap (λ (s : State T U). s.next_message) reached.state })
+
   -- the loan lies in the slot that is lent
-  pub loan-lies : (reclaimed : (z : PublisherFields) → get_or f.publishers i None ≡ Some z → HasReclaimed mid.connections z.keys) → LoanDecided mid i None → (slot : ℕ) (new : Fields T U)
-      → IsSomeAnd (get_or mid.publishers i None) (λ z. Lends is_default mid i z slot new)
-      → IsSomeAnd (get_or f.publishers i None) (λ z. (key : ℕ) × LiesInSlot new z.id f.next_message key slot)
-  loan-lies reclaimed free slot new lends =
-      subst (λ (o : Option PublisherFields). IsSomeAnd o (λ z. (key : ℕ) × LiesInSlot new z.id f.next_message key slot)) (sym stands.1) (
+  pub loan-lies : (reclaimed : (z : PublisherFields) → get_or f.publishers i None ≡ Some z → HasReclaimed mid.connections z.keys) → LoanDecided mid i None → (loan : LoanAt) (new : Fields T U)
+      → IsSomeAnd (get_or mid.publishers i None) (λ z. IsNamed mid z loan)
+      → IsSomeAnd (get_or mid.publishers i None) (λ z. Lends is_default mid i z loan.slot new)
+      → (key : ℕ) × LiesInSlot new loan.publisher loan.number key loan.slot
+  loan-lies reclaimed free loan new named lends =
+      let names = subst (λ (o : Option PublisherFields). IsSomeAnd o (λ z. IsNamed mid z loan)) at_mid named in (
         x.book,
-        subst (λ (n : ℕ). LiesInSlot new x.id n x.book slot) (ap (λ (s : State T U). s.next_message) reached.state)
-            (lent-in_slot mid reached.agrees i x at_mid (reclaimed x stands.1) few can.more is_default slot new its),
+        rw (names.publisher, names.number)
+            (lent-in_slot mid reached.agrees i x at_mid (reclaimed x stands.1) few can.more is_default loan.slot new its),
       )
     where
-      its : Lends is_default mid i x slot new
-      its = subst (λ (o : Option PublisherFields). IsSomeAnd o (λ z. Lends is_default mid i z slot new)) at_mid lends
+      its : Lends is_default mid i x loan.slot new
+      its = subst (λ (o : Option PublisherFields). IsSomeAnd o (λ z. Lends is_default mid i z loan.slot new)) at_mid lends
 
       can : CanLend mid i
       can = may-lend free

@@ -56,20 +56,21 @@ module _ {T U : Type 0} (f now : Fields T U) (same : f ≡ now) (sound : IsDomai
       in_range b.holders slot (waiting-held now sound key book c b has.stands has.has_book has.book_is slot (rw has.stands at here))
 
   -- the first slot that waits is taken
-  pub takes-from : (receipt : Receipt) → receipt.connection ≡ key → receipt.publisher ≡ c.home.publisher → slice_get b.numbers receipt.slot ≡ Some receipt.number → (new : Slab Link)
-      → TakesSlot f.connections key receipt.slot new → SameHomes f.connections new → KeepsOtherKeys key f.connections new → SameStands f.connections new
+  pub takes-from : (receipt : Receipt) → receipt.sample.connection ≡ key → receipt.publisher ≡ c.home.publisher → receipt.sample.subscriber ≡ c.home.subscriber → slice_get b.numbers receipt.sample.slot ≡ Some receipt.sample.number → (new : Slab Link)
+      → TakesSlot f.connections key receipt.sample.slot new → SameHomes f.connections new → KeepsOtherKeys key f.connections new → SameStands f.connections new
       → TakesFrom now key receipt (record f { connections = new })
-  takes-from receipt connection publisher number new takes homes others stay = record {
+  takes-from receipt connection publisher subscriber number new takes homes others stay = record {
     link = c;
     stands = has.stands;
     only = ap (λ (h : Fields T U). record h { connections = new }) same;
-    takes = subst (λ (h : Fields T U). TakesSlot h.connections key receipt.slot new) same takes;
+    takes = subst (λ (h : Fields T U). TakesSlot h.connections key receipt.sample.slot new) same takes;
     homes = subst (λ (h : Fields T U). SameHomes h.connections new) same homes;
     others = subst (λ (h : Fields T U). KeepsOtherKeys key h.connections new) same others;
     stay = subst (λ (h : Fields T U). SameStands h.connections new) same stay;
     connection_is = connection;
     publisher_is = publisher;
-    number_is = sym (book-numbers now sound key book c b has.stands has.has_book has.book_is receipt.slot ∙ index-got b.numbers receipt.slot receipt.number number);
+    subscriber_is = subscriber;
+    number_is = sym (book-numbers now sound key book c b has.stands has.has_book has.book_is receipt.sample.slot ∙ index-got b.numbers receipt.sample.slot receipt.sample.number number);
   }
 
 -- ---- a subscriber
@@ -84,15 +85,15 @@ module _ {T U : Type 0} (f : Fields T U) (sound : IsDomain f) (i : ℕ) (y : Sub
   takes-ready key receipt new finds from =
       let reached : Reaches f new (with_mailboxes (state_of (kept_of f)) (mailboxes_of (numbers_of f.books) new.connections)) =
       subst (λ (h : Fields T U). Reaches f h (with_mailboxes (state_of (kept_of f)) (mailboxes_of (numbers_of f.books) new.connections))) (sym from.only)
-      (takes-reaches f sound i y at_y key receipt.slot from.link from.stands new.connections finds from.takes from.homes from.others from.stay) in (
+      (takes-reaches f sound i y at_y key receipt.sample.slot from.link from.stands new.connections finds from.takes from.homes from.others from.stay) in (
         with_mailboxes (state_of (kept_of f)) (mailboxes_of (numbers_of f.books) new.connections),
         reached,
-        its-result (with_mailboxes (state_of (kept_of f)) (mailboxes_of (numbers_of f.books) new.connections)) (Got_sample receipt.publisher receipt.number)
-            (subst (λ (p : ℕ). TakeSample (state_of (kept_of f)) y.id (receiver f sound i y at_y) (with_mailboxes (state_of (kept_of f)) (mailboxes_of (numbers_of f.books) new.connections)) (Got_sample p receipt.number)) (sym from.publisher_is)
+        its-result (with_mailboxes (state_of (kept_of f)) (mailboxes_of (numbers_of f.books) new.connections)) (Got_sample receipt.publisher receipt.sample.number)
+            (subst (λ (p : ℕ). TakeSample (state_of (kept_of f)) y.id (receiver f sound i y at_y) (with_mailboxes (state_of (kept_of f)) (mailboxes_of (numbers_of f.books) new.connections)) (Got_sample p receipt.sample.number)) (sym from.publisher_is)
             (subst (λ (n : ℕ). TakeSample (state_of (kept_of f)) y.id (receiver f sound i y at_y) (with_mailboxes (state_of (kept_of f)) (mailboxes_of (numbers_of f.books) new.connections)) (Got_sample (from.link).home.publisher n)) (sym from.number_is)
-            (takes-message f sound i y at_y key receipt.slot from.link from.stands new.connections finds from.takes))),
-        lies-there f.connections new.connections key receipt.slot from.link from.stands from.homes reached.agrees.apart from.takes new y.id receipt refl from.connection_is refl from.publisher_is
-            (found-ready f sound i y at_y key receipt.slot from.link from.stands new.connections finds from.takes).0,
+            (takes-message f sound i y at_y key receipt.sample.slot from.link from.stands new.connections finds from.takes))),
+        lies-there f.connections new.connections key receipt.sample.slot from.link from.stands from.homes reached.agrees.apart from.takes new y.id receipt refl from.connection_is refl from.publisher_is from.subscriber_is
+            (found-ready f sound i y at_y key receipt.sample.slot from.link from.stands new.connections finds from.takes).0,
       )
 
   -- none can be taken

@@ -18,6 +18,7 @@ use Rattle.iox2_domain.specs.Kept.{state_of}
 use Rattle.iox2_domain.specs.Reaches.{Reaches}
 use Rattle.iox2_domain.specs.Fields.{Fields, kept_of, publisher_of}
 use Rattle.iox2_domain.specs.Ports.{PublisherFields}
+use Rattle.iox2_domain.specs.declared.loan_slots.LoanAt.{LoanAt}
 
 -- The header of a single value of the publisher.
 abbrev pub header_for : ServiceConfig → (publisher : ℕ) → Header
@@ -74,6 +75,11 @@ module _ {T U : Type 0} where
       contents = slice_set old.contents x.book started;
       publishers = slice_set old.publishers place (Some (lending slot x));
     }
+
+  -- The loan is the publisher's, of the message with the next number.
+  pub record IsNamed (old : Fields T U) (x : PublisherFields) (loan : LoanAt) : Type 0 where
+    pub publisher : loan.publisher ≡ x.id
+    pub number : loan.number ≡ old.next_message
 
   -- A publisher is asked for a loan of a single value: it lends a slot, or refuses, and then nothing changes in the state.
   abbrev pub LoanReaches : {A : Type 0} → (is_default : U → Type 0) → Fields T U → PublisherFields → Result A LoanError → Fields T U → Type 0

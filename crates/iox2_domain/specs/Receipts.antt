@@ -20,7 +20,7 @@ use Rattle.iox2_domain.specs.declared.receipts.Receipt.{Receipt}
 -- What the machine answers where a call answers this.
 abbrev pub receive_result : Result (Option Receipt) ReceiveError → ReceiveResult
 receive_result (Ok None) = No_sample
-receive_result (Ok (Some receipt)) = Got_sample receipt.publisher receipt.number
+receive_result (Ok (Some receipt)) = Got_sample receipt.publisher receipt.sample.number
 receive_result (Err e) = Receive_error e
 
 module _ {T U : Type 0} where
@@ -29,22 +29,24 @@ module _ {T U : Type 0} where
     pub link : Link
     pub stands : get old.connections key ≡ Some link
     pub only : new ≡ record old { connections = new.connections }
-    pub takes : TakesSlot old.connections key receipt.slot new.connections
+    pub takes : TakesSlot old.connections key receipt.sample.slot new.connections
     pub homes : SameHomes old.connections new.connections
     pub others : KeepsOtherKeys key old.connections new.connections
     pub stay : SameStands old.connections new.connections
-    pub connection_is : receipt.connection ≡ key
+    pub connection_is : receipt.sample.connection ≡ key
     pub publisher_is : receipt.publisher ≡ link.home.publisher
-    pub number_is : receipt.number ≡ numbers_of old.books link.home.publisher receipt.slot
+    pub subscriber_is : receipt.sample.subscriber ≡ link.home.subscriber
+    pub number_is : receipt.sample.number ≡ numbers_of old.books link.home.publisher receipt.sample.slot
 
-  -- The connection that the receipt names stands between its publisher and the subscriber q, and the slot that it names is
-  -- borrowed there.
+  -- The sample of the receipt is the subscriber q's. The connection that it names stands between the receipt's publisher and q,
+  -- and the slot that it names is borrowed there.
   pub record LiesAt (f : Fields T U) (q : ℕ) (receipt : Receipt) : Type 0 where
     pub connection : Link
-    pub stands : get f.connections receipt.connection ≡ Some connection
+    pub stands : get f.connections receipt.sample.connection ≡ Some connection
     pub publisher_is : connection.home.publisher ≡ receipt.publisher
     pub subscriber_is : connection.home.subscriber ≡ q
-    pub borrowed : Contains connection.borrowed receipt.slot
+    pub its : receipt.sample.subscriber ≡ q
+    pub borrowed : Contains connection.borrowed receipt.sample.slot
 
   -- The same of what a call answers.
   abbrev pub LiesIfAny : Fields T U → (q : ℕ) → Result (Option Receipt) ReceiveError → Type 0

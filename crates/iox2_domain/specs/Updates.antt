@@ -29,13 +29,17 @@ with_sender_room room x = record x { key_room = room }
 abbrev pub with_receiver_room : (room : ℕ) → SubscriberFields → SubscriberFields
 with_receiver_room room y = record y { key_room = room }
 
+-- How many keys the port at a place has room for, where a port has room for so many.
+abbrev pub room_at : {A : Type 0} → (A → ℕ) → List (Option A) → (at : ℕ) → ℕ
+room_at room ports at = option_map_or room (slice_index_or ports at None) 0
+
 -- How many keys the publisher at a place has room for.
 abbrev pub sender_room : List (Option PublisherFields) → (at : ℕ) → ℕ
-sender_room publishers at = option_map_or (λ (x : PublisherFields). x.key_room) (slice_index_or publishers at None) 0
+sender_room publishers at = room_at (λ (x : PublisherFields). x.key_room) publishers at
 
 -- How many keys the subscriber at a place has room for.
 abbrev pub receiver_room : List (Option SubscriberFields) → (at : ℕ) → ℕ
-receiver_room subscribers at = option_map_or (λ (y : SubscriberFields). y.key_room) (slice_index_or subscribers at None) 0
+receiver_room subscribers at = room_at (λ (y : SubscriberFields). y.key_room) subscribers at
 
 -- The publisher, whatever room it has for keys.
 abbrev pub publisher_but_room : PublisherFields → PublisherFields
@@ -53,13 +57,17 @@ updated_publisher x = record x { is_due = false }
 abbrev pub updated_subscriber : SubscriberFields → SubscriberFields
 updated_subscriber y = record y { is_due = false }
 
+-- The key that the port at a place has for its connection at a place of the other side, where a port has these keys.
+abbrev pub key_at : {A : Type 0} → (A → List (Option ℕ)) → List (Option A) → (at place : ℕ) → Option ℕ
+key_at {A} keys ports at place = option_and_then (λ (x : A). slice_index_or (keys x) place None) (slice_index_or ports at None)
+
 -- The key of the publisher's connection at a subscriber's place.
 abbrev pub sender_key : List (Option PublisherFields) → (at place : ℕ) → Option ℕ
-sender_key publishers at place = option_and_then (λ (x : PublisherFields). slice_index_or x.keys place None) (slice_index_or publishers at None)
+sender_key publishers at place = key_at (λ (x : PublisherFields). x.keys) publishers at place
 
 -- The key of the subscriber's connection at a publisher's place.
 abbrev pub receiver_key : List (Option SubscriberFields) → (at place : ℕ) → Option ℕ
-receiver_key subscribers at place = option_and_then (λ (y : SubscriberFields). slice_index_or y.keys place None) (slice_index_or subscribers at None)
+receiver_key subscribers at place = key_at (λ (y : SubscriberFields). y.keys) subscribers at place
 
 -- A connection in which no slot stands was made at a key that was free.
 pub record MakesConnection (old : Slab Link) (home : Home) (buffer limit key : ℕ) (new : Slab Link) : Type 0 where
@@ -79,10 +87,14 @@ pub record StandApart (publishers : List (Option PublisherFields)) (subscribers 
   pub home_is : home ≡ home_of i j publisher subscriber
   pub buffer_is : buffer ≡ subscriber.buffer
 
+-- The port at the place is due for an update, where a port is due so.
+abbrev pub is_due_at : {A : Type 0} → (A → Bool) → List (Option A) → (place : ℕ) → Bool
+is_due_at is_due ports place = option_map_or is_due (slice_index_or ports place None) false
+
 -- The publisher at the place is due for an update.
 abbrev pub is_publisher_due : List (Option PublisherFields) → (place : ℕ) → Bool
-is_publisher_due publishers place = option_map_or (λ (x : PublisherFields). x.is_due) (slice_index_or publishers place None) false
+is_publisher_due publishers place = is_due_at (λ (x : PublisherFields). x.is_due) publishers place
 
 -- The subscriber at the place is due for an update.
 abbrev pub is_subscriber_due : List (Option SubscriberFields) → (place : ℕ) → Bool
-is_subscriber_due subscribers place = option_map_or (λ (y : SubscriberFields). y.is_due) (slice_index_or subscribers place None) false
+is_subscriber_due subscribers place = is_due_at (λ (y : SubscriberFields). y.is_due) subscribers place

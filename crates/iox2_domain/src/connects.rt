@@ -4,10 +4,7 @@ ghost use Rattle.iox2_store.specs.declared.warning.Warning.TheVariants.{Connecti
 ghost use Rattle.iox2_domain.specs.Ports.{PublisherFields, SubscriberFields};
 ghost use Rattle.iox2_domain.specs.Updates.{MakesConnection, StandApart, home_of};
 
-use crate::keys::{
-    publisher_key, reserve_publisher_key, reserve_subscriber_key, set_publisher_key,
-    set_subscriber_key, subscriber_key,
-};
+use crate::ports::{key_at, reserve_key_at, set_key_at};
 use crate::publisher_state::PublisherState;
 use crate::state::DomainState;
 use crate::subscriber_state::SubscriberState;
@@ -102,8 +99,8 @@ impl<T: Drop, U: Default + Drop> DomainState<T, U> {
         ensures made { IfOk result (λ key. MakesConnection (self.old).connections home buffer (self.old).config.subscriber_max_borrowed_samples key (self.new).connections) }
         ensures refused { OnErr result ((self.new).connections ≡ record (self.old).connections { capacity = (self.new).connections.capacity }) }
     {
-        reserve_publisher_key(&mut self.publishers, publisher_place, subscriber_place)?;
-        reserve_subscriber_key(&mut self.subscribers, subscriber_place, publisher_place)?;
+        reserve_key_at(&mut self.publishers, publisher_place, subscriber_place)?;
+        reserve_key_at(&mut self.subscribers, subscriber_place, publisher_place)?;
         let limit = self.config.subscriber_max_borrowed_samples;
         make_connection(self.alloc, &mut self.connections, home, buffer, limit)
     }
@@ -117,11 +114,11 @@ impl<T: Drop, U: Default + Drop> DomainState<T, U> {
         ensures { (x : PublisherFields) → slice_index_or self.old.publishers publisher_place None ≡ Some x → x.is_due ≡ false
             → ConnectsSender self.old publisher_place subscriber_place x self.new }
     {
-        if publisher_key(&self.publishers, publisher_place, subscriber_place).is_some() {
+        if key_at(&self.publishers, publisher_place, subscriber_place).is_some() {
             return;
         }
-        if let Some(key) = subscriber_key(&self.subscribers, subscriber_place, publisher_place) {
-            set_publisher_key(&mut self.publishers, publisher_place, subscriber_place, key);
+        if let Some(key) = key_at(&self.subscribers, subscriber_place, publisher_place) {
+            set_key_at(&mut self.publishers, publisher_place, subscriber_place, key);
             return;
         }
         let (home, buffer) = self.ports_at(publisher_place, subscriber_place);
@@ -129,7 +126,7 @@ impl<T: Drop, U: Default + Drop> DomainState<T, U> {
             warn(&mut self.warnings, not_made(home));
             return;
         };
-        set_publisher_key(&mut self.publishers, publisher_place, subscriber_place, key);
+        set_key_at(&mut self.publishers, publisher_place, subscriber_place, key);
     }
 
     /// The subscriber at a place that isn't due gets its connection with the publisher at another.
@@ -141,11 +138,11 @@ impl<T: Drop, U: Default + Drop> DomainState<T, U> {
         ensures { (y : SubscriberFields) → slice_index_or self.old.subscribers subscriber_place None ≡ Some y → y.is_due ≡ false
             → ConnectsReceiver self.old subscriber_place publisher_place y self.new }
     {
-        if subscriber_key(&self.subscribers, subscriber_place, publisher_place).is_some() {
+        if key_at(&self.subscribers, subscriber_place, publisher_place).is_some() {
             return;
         }
-        if let Some(key) = publisher_key(&self.publishers, publisher_place, subscriber_place) {
-            set_subscriber_key(
+        if let Some(key) = key_at(&self.publishers, publisher_place, subscriber_place) {
+            set_key_at(
                 &mut self.subscribers,
                 subscriber_place,
                 publisher_place,
@@ -158,7 +155,7 @@ impl<T: Drop, U: Default + Drop> DomainState<T, U> {
             warn(&mut self.warnings, not_made(home));
             return;
         };
-        set_subscriber_key(
+        set_key_at(
             &mut self.subscribers,
             subscriber_place,
             publisher_place,

@@ -5,12 +5,12 @@
 
 mod connects;
 mod deliveries;
-mod keys;
 mod loan_calls;
 mod loan_slots;
 mod loans;
 mod open_ports;
 mod places;
+mod ports;
 mod publisher_entry;
 mod publisher_state;
 mod receipts;
@@ -25,6 +25,8 @@ mod subscriber_state;
 mod updates;
 mod warnings;
 
-pub use loan_slots::LoanSlot;
+pub use loan_slots::LoanAt;
+pub use ports::PortAt;
 pub use receipts::Receipt;
+pub use sample_slots::SampleAt;
 pub use state::DomainState;

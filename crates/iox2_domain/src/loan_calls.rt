@@ -3,6 +3,7 @@ ghost use Rattle.std.specs.Prelude.{◌≡◌, ℕ, length, IsSomeAnd};
 ghost use Rattle.std.specs.Option.{option_map};
 ghost use Rattle.iox2_store.specs.SlotContents.{SomeAt, with_changed, written_content};
 
+use crate::loan_slots::LoanAt;
 use crate::state::DomainState;
 use iox2_store::{Contents, Header, SlotMark};
 
@@ -15,21 +16,24 @@ impl<T: Drop, U: Default + Drop> DomainState<T, U> {
     ghost use Rattle.iox2_domain.specs.LoanCalls.{HoldsUnwritten, HoldsWritten, HasCell, HasLoanHeader, CanWrite, WritesSlot, WritesLoan};
     ghost use Rattle.iox2_domain.specs.LoanSlots.{LiesInSlot};
 
-    /// Writes the value of a publisher's unwritten loan of one element, and answers the slot in
-    /// which it lies. The loan counts as written from then on. It is looked for in the slot `hint`
-    /// first.
-    pub fn write_loan(&mut self, publisher: u128, number: u128, hint: usize, value: T) -> usize
+    /// Writes the value of a publisher's unwritten loan of one element, which counts as written from
+    /// then on. Returns the loan with the slot in which it lies.
+    pub fn write_loan(&mut self, loan: LoanAt, value: T) -> LoanAt
         requires agrees { IsDomain self.old }
         requires single { (self.old.config).units_per_element ≡ 1 }
-        requires held { HoldsUnwritten (state_of (kept_of self.old)) publisher number }
-        ensures writes { WritesLoan self.old self.new number value }
-        ensures lies { (key : ℕ) × LiesInSlot self.old publisher number key result }
+        requires held { HoldsUnwritten (state_of (kept_of self.old)) loan.publisher loan.number }
+        ensures writes { WritesLoan self.old self.new loan.number value }
+        ensures same { result ≡ record loan { slot = result.slot } }
+        ensures lies { (key : ℕ) × LiesInSlot self.old loan.publisher loan.number key result.slot }
     {
-        let Some(at) = self.find_loan(publisher, number, hint) else {
+        let Some(at) = self.find_loan(&loan) else {
             unreachable!()
         };
         self.write_slot(at.book, at.slot, value);
-        at.slot
+        LoanAt {
+            slot: at.slot,
+            ..loan
+        }
     }
 
     // Writes the value of the one cell in a slot.
@@ -41,15 +45,14 @@ impl<T: Drop, U: Default + Drop> DomainState<T, U> {
         write_content(&mut self.contents[key], slot, value);
     }
 
-    /// The cell of a publisher's unwritten loan of one element. The loan is looked for in the slot
-    /// `hint` first.
-    pub fn loan_cell(&self, publisher: u128, number: u128, hint: usize) -> &Option<T>
+    /// The cell of a publisher's unwritten loan of one element.
+    pub fn loan_cell(&self, loan: &LoanAt) -> &Option<T>
         requires agrees { IsDomain self.now }
         requires single { (self.now.config).units_per_element ≡ 1 }
-        requires held { HoldsUnwritten (state_of (kept_of self.now)) publisher number }
-        ensures { HasCell (state_of (kept_of self.now)) number result.now }
+        requires held { HoldsUnwritten (state_of (kept_of self.now)) loan.now.publisher loan.now.number }
+        ensures { HasCell (state_of (kept_of self.now)) loan.now.number result.now }
     {
-        let Some(at) = self.find_loan(publisher, number, hint) else {
+        let Some(at) = self.find_loan(loan) else {
             unreachable!()
         };
         let Some(contents) = &self.contents[at.book] else {
@@ -58,15 +61,14 @@ impl<T: Drop, U: Default + Drop> DomainState<T, U> {
         contents.cell(at.slot)
     }
 
-    /// The value of a publisher's written loan of one element. The loan is looked for in the slot
-    /// `hint` first.
-    pub fn loan_value(&self, publisher: u128, number: u128, hint: usize) -> &T
+    /// The value of a publisher's written loan of one element.
+    pub fn loan_value(&self, loan: &LoanAt) -> &T
         requires agrees { IsDomain self.now }
         requires single { (self.now.config).units_per_element ≡ 1 }
-        requires held { HoldsWritten (state_of (kept_of self.now)) publisher number }
-        ensures { HasCell (state_of (kept_of self.now)) number (Some result.now) }
+        requires held { HoldsWritten (state_of (kept_of self.now)) loan.now.publisher loan.now.number }
+        ensures { HasCell (state_of (kept_of self.now)) loan.now.number (Some result.now) }
     {
-        let Some(at) = self.find_loan(publisher, number, hint) else {
+        let Some(at) = self.find_loan(loan) else {
             unreachable!()
         };
         let Some(contents) = &self.contents[at.book] else {
@@ -75,13 +77,13 @@ impl<T: Drop, U: Default + Drop> DomainState<T, U> {
         contents.value(at.slot)
     }
 
-    /// The header of a publisher's loan. The loan is looked for in the slot `hint` first.
-    pub fn loan_header(&self, publisher: u128, number: u128, hint: usize) -> &Header
+    /// The header of a publisher's loan.
+    pub fn loan_header(&self, loan: &LoanAt) -> &Header
         requires agrees { IsDomain self.now }
-        requires held { HoldsLoan (state_of (kept_of self.now)) publisher number }
-        ensures { HasLoanHeader (state_of (kept_of self.now)) number result.now }
+        requires held { HoldsLoan (state_of (kept_of self.now)) loan.now.publisher loan.now.number }
+        ensures { HasLoanHeader (state_of (kept_of self.now)) loan.now.number result.now }
     {
-        let Some(at) = self.find_loan(publisher, number, hint) else {
+        let Some(at) = self.find_loan(loan) else {
             unreachable!()
         };
         self.books[at.book].header(at.slot)

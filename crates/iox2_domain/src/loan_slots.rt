@@ -1,18 +1,27 @@
 //! The slots in which loans lie.
-ghost use Rattle.std.specs.Prelude.{◌≡◌, IsTrue, ◌↔◌, MatchOption};
+ghost use Rattle.std.specs.Prelude.{IsTrue, ◌≡◌, ◌↔◌, MatchOption};
 ghost use Rattle.iox2_domain.specs.Invariant.{is_lent};
 ghost use Rattle.iox2_domain.specs.LoanSlots.{IsLoanSlot, IsInNoSlot};
 
 use crate::state::DomainState;
-use iox2_store::{SlotBook, SlotMark};
+use iox2_store::{SlotBook, SlotMark, UniquePublisherId};
+
+/// Names a loan, and says where it is looked for first.
+#[derive(Drop)]
+pub struct LoanAt {
+    /// The publisher that lent it.
+    pub publisher: UniquePublisherId,
+    /// The number of its message.
+    pub number: u128,
+    /// The slot in which it is looked for first.
+    pub slot: usize,
+}
 
 /// Where a loan lies: the key of its publisher's book, and its slot.
 #[derive(Clone, Copy)]
-pub struct LoanSlot {
-    /// The key of the publisher's book.
-    pub book: usize,
-    /// The slot in that book.
-    pub slot: usize,
+pub(crate) struct LoanSlot {
+    pub(crate) book: usize,
+    pub(crate) slot: usize,
 }
 
 impl<T: Drop, U: Default + Drop> DomainState<T, U> {
@@ -22,19 +31,32 @@ impl<T: Drop, U: Default + Drop> DomainState<T, U> {
     ghost use Rattle.iox2_domain.specs.Invariant.{IsDomain};
     ghost use Rattle.iox2_domain.specs.LoanSlots.{LiesInSlot};
 
-    /// Where a publisher's loan lies, and `None` where it isn't out. It is looked for in the slot
-    /// `hint` first.
-    pub fn find_loan(&self, publisher: u128, number: u128, hint: usize) -> Option<LoanSlot>
+    /// Where a publisher's loan lies, and `None` where it isn't out. Its slot is tested first.
+    pub(crate) fn find_loan(&self, loan: &LoanAt) -> Option<LoanSlot>
         requires { IsDomain self.now }
-        ensures { MatchOption result (HoldsLoan (state_of (kept_of self.now)) publisher number → ⊥) (λ at. LiesInSlot self.now publisher number at.book at.slot) }
+        ensures { MatchOption result (HoldsLoan (state_of (kept_of self.now)) loan.now.publisher loan.now.number → ⊥) (λ at. LiesInSlot self.now loan.now.publisher loan.now.number at.book at.slot) }
     {
-        let place = self.find_publisher(publisher, 0)?;
+        let place = self.find_publisher(loan.publisher, 0)?;
         let publisher = self.publishers[place].as_ref()?;
-        let slot = find_slot(&self.books[publisher.book], &publisher.loans, number, hint)?;
+        let book = &self.books[publisher.book];
+        let slot = find_slot(book, &publisher.loans, loan.number, loan.slot)?;
         Some(LoanSlot {
             book: publisher.book,
             slot,
         })
+    }
+
+    /// Whether the publisher's loan of the message with this number is out.
+    pub fn has_loan(&self, publisher: UniquePublisherId, number: u128) -> bool
+        requires { IsDomain self.now }
+        ensures { IsTrue result ↔ HoldsLoan (state_of (kept_of self.now)) publisher number }
+    {
+        let loan = LoanAt {
+            publisher,
+            number,
+            slot: 0,
+        };
+        self.find_loan(&loan).is_some()
     }
 }
 

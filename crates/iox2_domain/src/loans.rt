@@ -3,9 +3,10 @@ ghost use Rattle.std.specs.Prelude.{◌≡◌, ◌<◌, ◌≤◌, ℕ, length, 
 ghost use Rattle.std.specs.Option.{option_map};
 ghost use Rattle.iox2_store.specs.SlotContents.{SomeAt};
 ghost use Rattle.iox2_ends.specs.Receivers.{HasReclaimed};
-ghost use Rattle.iox2_domain.specs.Lending.{lending, Starts, CanLend, LoanDecided, Lends, LoanReaches};
+ghost use Rattle.iox2_domain.specs.Lending.{lending, Starts, CanLend, LoanDecided, IsNamed, Lends, LoanReaches};
 ghost use Rattle.iox2_domain.specs.LoanSlots.{LiesInSlot};
 
+use crate::loan_slots::LoanAt;
 use crate::publisher_state::PublisherState;
 use crate::state::DomainState;
 use iox2_store::{Contents, Header, LoanError, UniqueNodeId};
@@ -46,17 +47,19 @@ impl<T: Drop, U: Default + Drop> DomainState<T, U> {
     ghost use Rattle.iox2_domain.specs.Ports.{PublisherFields};
     ghost use Rattle.iox2_domain.specs.Invariant.{IsDomain};
 
-    /// The publisher at a place lends a slot for a single value, with a default user header, and
-    /// answers which. It takes no memory.
+    /// The publisher at a place lends a slot for a single value, with a default user header. It
+    /// takes no memory. Returns the loan, which has the number that was the next and lies in its
+    /// slot.
     ///
     /// `ExceedsMaxLoans` where as many loans are out as the publisher may have, then `OutOfMemory`
     /// where each of its slots is held, then `InternalFailure` where no message number is left.
     /// Nothing changes then that can be seen.
-    pub fn loan(&mut self, place: usize) -> Result<usize, LoanError>
+    pub fn loan(&mut self, place: usize) -> Result<LoanAt, LoanError>
         requires agrees { IsDomain self.old }
         requires stands { (x : PublisherFields) × (slice_index_or self.old.publishers place None ≡ Some x) }
         ensures reaches { IsSomeAnd (slice_index_or self.old.publishers place None) (λ x. LoanReaches U.is_default self.old x result self.new) }
-        ensures lies { IfOk result (λ slot. IsSomeAnd (slice_index_or self.old.publishers place None) (λ x. (key : ℕ) × LiesInSlot self.new x.id self.old.next_message key slot)) }
+        ensures named { IfOk result (λ loan. IsSomeAnd (slice_index_or self.old.publishers place None) (λ x. IsNamed self.old x loan)) }
+        ensures lies { IfOk result (λ loan. (key : ℕ) × LiesInSlot self.new loan.publisher loan.number key loan.slot) }
     {
         self.reclaim(place);
         if let Some(refusal) = self.loan_refusal(place) {
@@ -88,26 +91,33 @@ impl<T: Drop, U: Default + Drop> DomainState<T, U> {
     }
 
     // The publisher at a place lends a slot that is free, for the next message.
-    fn grant(&mut self, place: usize) -> usize
+    fn grant(&mut self, place: usize) -> LoanAt
         requires agrees { IsDomain self.old }
         requires can { CanLend self.old place }
-        ensures { IsSomeAnd (slice_index_or self.old.publishers place None) (λ x. Lends U.is_default self.old place x result self.new) }
+        ensures named { IsSomeAnd (slice_index_or self.old.publishers place None) (λ x. IsNamed self.old x result) }
+        ensures lends { IsSomeAnd (slice_index_or self.old.publishers place None) (λ x. Lends U.is_default self.old place x result.slot self.new) }
     {
         let Some(publisher) = &self.publishers[place] else {
             unreachable!();
         };
+        let publisher_id = publisher.id;
+        let number = self.next_message;
         let header = Header {
             node_id: UniqueNodeId::new(self.config.node_id),
-            publisher_id: publisher.id,
+            publisher_id,
             number_of_elements: 1,
         };
         let key = publisher.book;
-        let Some(slot) = self.books[key].take(self.next_message, header) else {
+        let Some(slot) = self.books[key].take(number, header) else {
             unreachable!();
         };
         self.next_message += 1;
         start(&mut self.contents[key], slot, self.config.units_per_element);
         lend(&mut self.publishers[place], slot);
-        slot
+        LoanAt {
+            publisher: publisher_id,
+            number,
+            slot,
+        }
     }
 }

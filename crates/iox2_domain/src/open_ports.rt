@@ -3,6 +3,7 @@ ghost use Rattle.std.specs.Prelude.{◌↔◌, IsTrue};
 ghost use Rattle.iox2_store.specs.SingleCalls.{HoldsPublisher, HoldsSubscriber};
 
 use crate::state::DomainState;
+use iox2_store::{UniquePublisherId, UniqueSubscriberId};
 
 impl<T: Drop, U: Default + Drop> DomainState<T, U> {
     ghost use Rattle.iox2_domain.specs.Kept.{state_of};
@@ -10,7 +11,7 @@ impl<T: Drop, U: Default + Drop> DomainState<T, U> {
     ghost use Rattle.iox2_domain.specs.Invariant.{IsDomain};
 
     /// Whether a publisher has this id and wasn't closed.
-    pub fn has_publisher(&self, id: u128) -> bool
+    pub fn has_publisher(&self, id: UniquePublisherId) -> bool
         requires { IsDomain self.now }
         ensures { IsTrue result ↔ HoldsPublisher (state_of (kept_of self.now)) id }
     {
@@ -18,7 +19,7 @@ impl<T: Drop, U: Default + Drop> DomainState<T, U> {
     }
 
     /// Whether a subscriber has this id and wasn't closed.
-    pub fn has_open_subscriber(&self, id: u128) -> bool
+    pub fn has_open_subscriber(&self, id: UniqueSubscriberId) -> bool
         requires { IsDomain self.now }
         ensures { IsTrue result ↔ HoldsSubscriber (state_of (kept_of self.now)) id }
     {

@@ -1,37 +1,12 @@
 //! The places of a domain's ports.
-ghost use Rattle.std.specs.Prelude.{◌≡◌, ◌==◌, ◌<◌, ◌≤◌, ◌↔◌, ℕ, cond, nat_lt, slice_index_or, vec_capacity, IsTrue, IsSomeAnd, MatchOption, OnOk};
+ghost use Rattle.std.specs.Prelude.{◌≡◌, ◌==◌, ◌<◌, ◌≤◌, ◌↔◌, cond, nat_lt, slice_index_or, vec_capacity, IsTrue, IsSomeAnd, MatchOption, OnOk};
 ghost use Rattle.iox2_ends.specs.LookUp.{look_up};
 ghost use Rattle.iox2_domain.specs.Placed.{placed, lowest_empty};
 
-use crate::publisher_state::PublisherState;
+use crate::ports::Port;
 use crate::state::DomainState;
-use crate::subscriber_state::SubscriberState;
+use iox2_store::{UniquePublisherId, UniqueSubscriberId};
 use std::alloc::AllocError;
-
-/// A port has an id, which no other port of its side has.
-pub(crate) trait Port {
-    ghost number: { Self → ℕ };
-
-    /// The number of its id.
-    fn number(&self) -> u128
-        ensures { result ≡ number self.now };
-}
-
-impl Port for PublisherState {
-    ghost number = { λ x. x.id };
-
-    fn number(&self) -> u128 {
-        self.id.value()
-    }
-}
-
-impl Port for SubscriberState {
-    ghost number = { λ y. y.id };
-
-    fn number(&self) -> u128 {
-        self.id.value()
-    }
-}
 
 /// The lowest place at which nothing stands, where it is below the limit.
 pub(crate) fn free_place<P>(places: &[Option<P>], limit: usize) -> Option<usize>
@@ -97,18 +72,18 @@ impl<T: Drop, U: Default + Drop> DomainState<T, U> {
 
     /// The place of the publisher with an id, and `None` where there is none. It is looked for at
     /// the hint first.
-    pub fn find_publisher(&self, id: u128, hint: usize) -> Option<usize>
+    pub fn find_publisher(&self, id: UniquePublisherId, hint: usize) -> Option<usize>
         ensures { MatchOption result (look_up (is_publisher id) self.now.publishers ≡ None) (λ i. (x : PublisherFields) × (slice_index_or self.now.publishers i None ≡ Some x) × (x.id ≡ id)) }
     {
-        find_place(&self.publishers, id, hint)
+        find_place(&self.publishers, id.value(), hint)
     }
 
     /// The place of the subscriber with an id, and `None` where there is none. It is looked for at
     /// the hint first.
-    pub fn find_subscriber(&self, id: u128, hint: usize) -> Option<usize>
+    pub fn find_subscriber(&self, id: UniqueSubscriberId, hint: usize) -> Option<usize>
         ensures { MatchOption result (look_up (is_subscriber id) self.now.subscribers ≡ None) (λ i. (y : SubscriberFields) × (slice_index_or self.now.subscribers i None ≡ Some y) × (y.id ≡ id)) }
     {
-        find_place(&self.subscribers, id, hint)
+        find_place(&self.subscribers, id.value(), hint)
     }
 }
 
@@ -126,4 +101,14 @@ pub(crate) fn reserve_place<A>(places: &mut Vec<Option<A>>, place: usize) -> Res
         return Err(AllocError);
     };
     places.try_reserve(additional)
+}
+
+/// The key at a place, past the end of the list too.
+pub(crate) fn key_in(keys: &[Option<usize>], place: usize) -> Option<usize>
+    ensures { result ≡ slice_index_or keys.now place None }
+{
+    match keys.get(place) {
+        Some(key) => *key,
+        None => None,
+    }
 }

@@ -6,10 +6,10 @@ ghost use Rattle.iox2_store.specs.Ports.{CreatePublisher, with_new_publisher};
 ghost use Rattle.iox2_store.specs.declared.errors.PublisherCreateError.TheVariants.{UnableToCreateDataSegment, FailedToDeployThreadsafetyPolicy};
 
 use crate::places::{free_place, put_at_place};
+use crate::ports::{PortAt, make_all_due};
 use crate::publisher_state::PublisherState;
 use crate::segments::{Segment, add_segment, first_segment};
 use crate::state::DomainState;
-use crate::subscriber_state::make_all_due;
 use iox2_store::{PublisherCreateError, UniquePublisherId};
 
 impl<T: Drop, U: Default + Drop> DomainState<T, U> {
@@ -35,7 +35,7 @@ impl<T: Drop, U: Default + Drop> DomainState<T, U> {
     }
 
     /// A publisher with so many slots enters at the place that it has, and every subscriber is due
-    /// for an update.
+    /// for an update. Returns its id, which was the next.
     ///
     /// Where memory is refused it doesn't enter, and no id is used.
     pub(crate) fn admit_publisher(
@@ -43,11 +43,12 @@ impl<T: Drop, U: Default + Drop> DomainState<T, U> {
         place: usize,
         max_loaned_samples: usize,
         slots: usize,
-    ) -> Result<(), PublisherCreateError>
+    ) -> Result<UniquePublisherId, PublisherCreateError>
         requires agrees { IsDomain self.old }
         requires has_place { place_for_publisher self.old ≡ Ok place }
         requires slots { slots ≡ worst_case (self.old).config max_loaned_samples }
         ensures stands { OnOk result ((x : PublisherFields) × (slice_index_or self.new.publishers place None ≡ Some x) × (x.id ≡ self.old.next_port)) }
+        ensures id { IfOk result (λ id. id ≡ self.old.next_port) }
         ensures step { MatchResult result
             (λ _. Reaches self.old self.new (with_new_publisher (state_of (kept_of self.old)) (plain_publisher max_loaned_samples) place))
             (λ e. Reaches self.old self.new (state_of (kept_of self.old)) × ((e ≡ UnableToCreateDataSegment) ⊎ (e ≡ FailedToDeployThreadsafetyPolicy))) }
@@ -79,11 +80,11 @@ impl<T: Drop, U: Default + Drop> DomainState<T, U> {
         make_all_due(&mut self.subscribers);
         put_at_place(&mut self.publishers, place, publisher);
         self.next_port += 1;
-        Ok(())
+        Ok(id)
     }
 
     /// Makes a publisher that may have so many loans out, and connects it with the subscribers that
-    /// there are. Answers its place.
+    /// there are. Returns its id, which was the next, and its place.
     ///
     /// `UnableToCreatePortTag` where no id is left, then `ExceedsMaxSupportedPublishers` where no
     /// place is free, then `UnableToCreateDataSegment` where the segment's size doesn't fit `usize`.
@@ -93,9 +94,10 @@ impl<T: Drop, U: Default + Drop> DomainState<T, U> {
     pub fn create_publisher(
         &mut self,
         max_loaned_samples: usize,
-    ) -> Result<usize, PublisherCreateError>
+    ) -> Result<PortAt<UniquePublisherId>, PublisherCreateError>
         requires { IsDomain self.old }
-        ensures stands { IfOk result (λ place. (x : PublisherFields) × (slice_index_or self.new.publishers place None ≡ Some x) × (x.id ≡ self.old.next_port)) }
+        ensures id { IfOk result (λ port. port.id ≡ self.old.next_port) }
+        ensures stands { IfOk result (λ port. (x : PublisherFields) × (slice_index_or self.new.publishers port.place None ≡ Some x) × (x.id ≡ port.id)) }
         ensures step { MatchResult result
             (λ _. (s' : State T U) × CreatePublisher fixed_handlers (state_of (kept_of self.old)) (plain_publisher max_loaned_samples) s' None × Reaches self.old self.new s')
             (λ e. CreatePublisher fixed_handlers (state_of (kept_of self.old)) (plain_publisher max_loaned_samples) (state_of (kept_of self.old)) (Some e)
@@ -105,8 +107,8 @@ impl<T: Drop, U: Default + Drop> DomainState<T, U> {
         let Some(slots) = first_segment(&self.config, max_loaned_samples) else {
             return Err(PublisherCreateError::UnableToCreateDataSegment);
         };
-        self.admit_publisher(place, max_loaned_samples, slots)?;
+        let id = self.admit_publisher(place, max_loaned_samples, slots)?;
         self.update_publisher(place);
-        Ok(place)
+        Ok(PortAt { id, place })
     }
 }

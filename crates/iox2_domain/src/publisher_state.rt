@@ -1,8 +1,8 @@
 //! What a domain has of a publisher.
-ghost use Rattle.std.specs.Prelude.{◌≡◌, [], map, IfOk};
-ghost use Rattle.std.specs.Option.{option_map};
-ghost use Rattle.iox2_domain.specs.Ports.{due};
+ghost use Rattle.std.specs.Prelude.{◌≡◌, [], IfOk};
 
+use crate::places::{key_in, put_at_place, reserve_place};
+use crate::ports::Port;
 use circular_buffer::HeapCircularBuffer;
 use iox2_store::{AllocationStrategy, BackpressureStrategy, ServiceConfig, UniquePublisherId};
 use std::alloc::{AllocError, Global};
@@ -101,19 +101,44 @@ impl PublisherState {
     }
 }
 
-/// Each publisher is due for an update.
-pub(crate) fn make_all_due(publishers: &mut [Option<PublisherState>])
-    ensures { publishers.new ≡ map (option_map due) publishers.old }
-{
-    for place in 0..publishers.len() {
-        make_due(&mut publishers[place]);
-    }
-}
+impl Port for PublisherState {
+    ghost use Rattle.iox2_domain.specs.Updates.{with_sender_key, with_sender_room};
 
-fn make_due(publisher: &mut Option<PublisherState>)
-    ensures { publisher.new ≡ option_map due publisher.old }
-{
-    if let Some(publisher) = publisher {
-        publisher.is_due = true;
+    ghost number = { λ x. x.id };
+
+    ghost keys = { λ x. x.keys };
+
+    ghost key_room = { λ x. x.key_room };
+
+    ghost is_due = { λ x. x.is_due };
+
+    ghost with_key = { with_sender_key };
+
+    ghost with_room = { with_sender_room };
+
+    ghost with_due = { λ due x. record x { is_due = due } };
+
+    fn number(&self) -> u128 {
+        self.id.value()
+    }
+
+    fn key(&self, place: usize) -> Option<usize> {
+        key_in(&self.keys, place)
+    }
+
+    fn reserve_key(&mut self, place: usize) -> Result<(), AllocError> {
+        reserve_place(&mut self.keys, place)
+    }
+
+    fn set_key(&mut self, place: usize, key: usize) {
+        put_at_place(&mut self.keys, place, key);
+    }
+
+    fn is_due(&self) -> bool {
+        self.is_due
+    }
+
+    fn set_due(&mut self, due: bool) {
+        self.is_due = due;
     }
 }

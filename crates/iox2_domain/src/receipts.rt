@@ -3,21 +3,18 @@ ghost use Rattle.std.specs.Prelude.{◌≡◌, ℕ, true, None, Some, slice_inde
 ghost use Rattle.slab.specs.Slab.{get};
 ghost use Rattle.iox2_store.specs.Link.{can_borrow};
 
+use crate::sample_slots::SampleAt;
 use crate::state::DomainState;
 use iox2_ends::receiver::{Found, find, release, take};
-use iox2_store::ReceiveError;
+use iox2_store::{ReceiveError, UniquePublisherId, UniqueSubscriberId};
 
-/// A message that was received: whose it is, its number, and where it lies.
-#[derive(Clone, Copy)]
+/// A message that was received.
+#[derive(Drop)]
 pub struct Receipt {
-    /// The id of the publisher that sent it.
-    pub publisher: u128,
-    /// Its number.
-    pub number: u128,
-    /// The key of the connection that it came by.
-    pub connection: usize,
-    /// Its slot in the publisher's book.
-    pub slot: usize,
+    /// The publisher that sent it.
+    pub publisher: UniquePublisherId,
+    /// Its name as a sample, and where it lies.
+    pub sample: SampleAt,
 }
 
 impl<T: Drop, U: Default + Drop> DomainState<T, U> {
@@ -38,14 +35,18 @@ impl<T: Drop, U: Default + Drop> DomainState<T, U> {
         ensures { TakesFrom self.old key result self.new }
     {
         let book = self.book_of(key);
-        let publisher = self.connections[key].home().publisher;
+        let home = self.connections[key].home();
         let slot = take(&mut self.connections, key);
         let number = self.books[book].number(slot);
-        Receipt {
-            publisher,
+        let sample = SampleAt {
+            subscriber: UniqueSubscriberId::new(home.subscriber),
             number,
             connection: key,
             slot,
+        };
+        Receipt {
+            publisher: UniquePublisherId::new(home.publisher),
+            sample,
         }
     }
 
@@ -79,22 +80,16 @@ impl<T: Drop, U: Default + Drop> DomainState<T, U> {
         self.take_at(place)
     }
 
-    /// The subscriber gives back a message that it has borrowed, which is looked for at the hints
-    /// first. Its slot is free again once the publisher reclaims it and nobody else holds it.
-    pub fn give_back(
-        &mut self,
-        subscriber: u128,
-        number: u128,
-        connection_hint: usize,
-        slot_hint: usize,
-    )
+    /// The subscriber gives back a message that it has borrowed. Its slot is free again once the
+    /// publisher reclaims it and nobody else holds it.
+    pub fn give_back(&mut self, sample: SampleAt)
         requires agrees { IsDomain self.old }
-        requires held { HoldsSample (state_of (kept_of self.old)) subscriber number }
+        requires held { HoldsSample (state_of (kept_of self.old)) sample.subscriber sample.number }
         ensures stays { IsDomain self.new }
-        ensures released { (publisher : ℕ) → IsTrue (is_borrowed number ((state_of (kept_of self.old)).mailboxes publisher subscriber))
-            → Reaches self.old self.new (released (state_of (kept_of self.old)) publisher subscriber number) }
+        ensures released { (publisher : ℕ) → IsTrue (is_borrowed sample.number ((state_of (kept_of self.old)).mailboxes publisher sample.subscriber))
+            → Reaches self.old self.new (released (state_of (kept_of self.old)) publisher sample.subscriber sample.number) }
     {
-        let Some(at) = self.find_sample(subscriber, number, connection_hint, slot_hint) else {
+        let Some(at) = self.find_sample(&sample) else {
             unreachable!()
         };
         release(&mut self.connections, at.connection, at.slot);

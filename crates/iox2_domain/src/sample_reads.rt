@@ -1,8 +1,9 @@
 //! What is read of borrowed messages.
 ghost use Rattle.std.specs.Prelude.{◌≡◌, ◌↔◌, Some, [], ◌∷◌, IsTrue};
 
+use crate::sample_slots::SampleAt;
 use crate::state::DomainState;
-use iox2_store::Header;
+use iox2_store::{Header, UniqueSubscriberId};
 
 impl<T: Drop, U: Default + Drop> DomainState<T, U> {
     ghost use Rattle.iox2_store.specs.Records.{Entry};
@@ -11,20 +12,14 @@ impl<T: Drop, U: Default + Drop> DomainState<T, U> {
     ghost use Rattle.iox2_domain.specs.Fields.{kept_of};
     ghost use Rattle.iox2_domain.specs.Invariant.{IsDomain};
 
-    /// The value of a borrowed message, which is looked for at the hints first.
-    pub fn sample_payload(
-        &self,
-        subscriber: u128,
-        number: u128,
-        connection_hint: usize,
-        slot_hint: usize,
-    ) -> &T
+    /// The value of a borrowed message.
+    pub fn sample_payload(&self, sample: &SampleAt) -> &T
         requires agrees { IsDomain self.now }
         requires single { (self.now.config).units_per_element ≡ 1 }
-        requires held { HoldsSample (state_of (kept_of self.now)) subscriber number }
-        ensures { (entry : Entry T U) × (entries_of (kept_of self.now) number ≡ Some entry) × (entry.values ≡ result.now ∷ []) }
+        requires held { HoldsSample (state_of (kept_of self.now)) sample.now.subscriber sample.now.number }
+        ensures { (entry : Entry T U) × (entries_of (kept_of self.now) sample.now.number ≡ Some entry) × (entry.values ≡ result.now ∷ []) }
     {
-        let Some(at) = self.find_sample(subscriber, number, connection_hint, slot_hint) else {
+        let Some(at) = self.find_sample(sample) else {
             unreachable!()
         };
         let Some(contents) = &self.contents[at.book] else {
@@ -33,29 +28,29 @@ impl<T: Drop, U: Default + Drop> DomainState<T, U> {
         contents.value(at.slot)
     }
 
-    /// The header of a borrowed message, which is looked for at the hints first.
-    pub fn sample_header(
-        &self,
-        subscriber: u128,
-        number: u128,
-        connection_hint: usize,
-        slot_hint: usize,
-    ) -> &Header
+    /// The header of a borrowed message.
+    pub fn sample_header(&self, sample: &SampleAt) -> &Header
         requires agrees { IsDomain self.now }
-        requires held { HoldsSample (state_of (kept_of self.now)) subscriber number }
-        ensures { (entry : Entry T U) × (entries_of (kept_of self.now) number ≡ Some entry) × (entry.header ≡ result.now) }
+        requires held { HoldsSample (state_of (kept_of self.now)) sample.now.subscriber sample.now.number }
+        ensures { (entry : Entry T U) × (entries_of (kept_of self.now) sample.now.number ≡ Some entry) × (entry.header ≡ result.now) }
     {
-        let Some(at) = self.find_sample(subscriber, number, connection_hint, slot_hint) else {
+        let Some(at) = self.find_sample(sample) else {
             unreachable!()
         };
         self.books[at.book].header(at.slot)
     }
 
     /// Whether the subscriber has borrowed a message with this number.
-    pub fn has_sample(&self, subscriber: u128, number: u128) -> bool
+    pub fn has_sample(&self, subscriber: UniqueSubscriberId, number: u128) -> bool
         requires { IsDomain self.now }
         ensures { IsTrue result ↔ HoldsSample (state_of (kept_of self.now)) subscriber number }
     {
-        self.find_sample(subscriber, number, 0, 0).is_some()
+        let sample = SampleAt {
+            subscriber,
+            number,
+            connection: 0,
+            slot: 0,
+        };
+        self.find_sample(&sample).is_some()
     }
 }

@@ -4,7 +4,20 @@ ghost use Rattle.slab.specs.Slab.{get, ContainsKey};
 ghost use Rattle.iox2_domain.specs.SampleSlots.{HasNoneNumbered, IsNumberedSlot};
 
 use crate::state::DomainState;
-use iox2_store::{Connection, SlotBook};
+use iox2_store::{Connection, SlotBook, UniqueSubscriberId};
+
+/// Names a message that a subscriber has borrowed, and says where it is looked for first.
+#[derive(Drop)]
+pub struct SampleAt {
+    /// The subscriber that has borrowed it.
+    pub subscriber: UniqueSubscriberId,
+    /// Its number.
+    pub number: u128,
+    /// The key of the connection in which it is looked for first.
+    pub connection: usize,
+    /// The slot in which it is looked for first.
+    pub slot: usize,
+}
 
 /// Where a borrowed message lies: the keys of its connection and of its publisher's book, and its
 /// slot.
@@ -58,24 +71,18 @@ impl<T: Drop, U: Default + Drop> DomainState<T, U> {
         publisher.book
     }
 
-    // Where a message with this number lies that the subscriber has borrowed in the connection at the
-    // key. The slot that is a hint is tested first.
-    fn find_sample_at(
-        &self,
-        key: usize,
-        subscriber: u128,
-        number: u128,
-        slot_hint: usize,
-    ) -> Option<SampleSlot>
+    // Where the message lies that the subscriber has borrowed in the connection at the key. The
+    // sample's slot is tested first.
+    fn find_sample_at(&self, key: usize, sample: &SampleAt) -> Option<SampleSlot>
         requires { IsDomain self.now }
-        ensures { MatchOption result (BorrowsAt self.now key subscriber number → ⊥) (LiesBorrowed self.now subscriber number) }
+        ensures { MatchOption result (BorrowsAt self.now key sample.now.subscriber sample.now.number → ⊥) (LiesBorrowed self.now sample.now.subscriber sample.now.number) }
     {
         let connection = self.connections.get(key)?;
-        if connection.home().subscriber != subscriber {
+        if connection.home().subscriber != sample.subscriber.value() {
             return None;
         }
         let book = self.book_of(key);
-        let slot = find_borrowed(connection, &self.books[book], number, slot_hint)?;
+        let slot = find_borrowed(connection, &self.books[book], sample.number, sample.slot)?;
         Some(SampleSlot {
             connection: key,
             book,
@@ -83,24 +90,18 @@ impl<T: Drop, U: Default + Drop> DomainState<T, U> {
         })
     }
 
-    /// Where a message with this number lies that the subscriber has borrowed, and `None` where it
-    /// has borrowed none. It is looked for at the hints first.
-    pub(crate) fn find_sample(
-        &self,
-        subscriber: u128,
-        number: u128,
-        connection_hint: usize,
-        slot_hint: usize,
-    ) -> Option<SampleSlot>
+    /// Where a sample lies, and `None` where its subscriber hasn't borrowed it. Its connection and
+    /// its slot are tested first.
+    pub(crate) fn find_sample(&self, sample: &SampleAt) -> Option<SampleSlot>
         requires { IsDomain self.now }
-        ensures { MatchOption result (HoldsSample (state_of (kept_of self.now)) subscriber number → ⊥) (LiesBorrowed self.now subscriber number) }
+        ensures { MatchOption result (HoldsSample (state_of (kept_of self.now)) sample.now.subscriber sample.now.number → ⊥) (LiesBorrowed self.now sample.now.subscriber sample.now.number) }
     {
-        let hinted = self.find_sample_at(connection_hint, subscriber, number, slot_hint);
+        let hinted = self.find_sample_at(sample.connection, sample);
         if hinted.is_some() {
             return hinted;
         }
         for key in 0..self.connections.capacity() {
-            let found = self.find_sample_at(key, subscriber, number, slot_hint);
+            let found = self.find_sample_at(key, sample);
             if found.is_some() {
                 return found;
             }

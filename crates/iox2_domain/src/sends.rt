@@ -1,6 +1,7 @@
 //! A loan is sent.
 ghost use Rattle.std.specs.Prelude.{◌≡◌};
 
+use crate::loan_slots::LoanAt;
 use crate::state::DomainState;
 
 impl<T: Drop, U: Default + Drop> DomainState<T, U> {
@@ -12,21 +13,20 @@ impl<T: Drop, U: Default + Drop> DomainState<T, U> {
 
     /// Sends a publisher's written loan to its receivers, and answers how many took it. The
     /// publisher's connections are updated and its slots reclaimed first. Where memory for a
-    /// connection is refused, that is a warning. The loan is out no more afterwards. It is looked
-    /// for in the slot `hint` first.
+    /// connection is refused, that is a warning. The loan is out no more afterwards.
     ///
     /// iceoryx2's `PublisherSharedState::send_sample` (`src/port/publisher.rs`).
-    pub fn send_loan(&mut self, publisher: u128, number: u128, hint: usize) -> usize
+    pub fn send_loan(&mut self, loan: LoanAt) -> usize
         requires agrees { IsDomain self.old }
-        requires held { HoldsWritten (state_of (kept_of self.old)) publisher number }
-        ensures { SendsLoan self.old self.new number result }
+        requires held { HoldsWritten (state_of (kept_of self.old)) loan.publisher loan.number }
+        ensures { SendsLoan self.old self.new loan.number result }
     {
-        let Some(place) = self.find_publisher(publisher, 0) else {
+        let Some(place) = self.find_publisher(loan.publisher, 0) else {
             unreachable!()
         };
         self.update_publisher(place);
         self.reclaim(place);
-        let Some(at) = self.find_loan(publisher, number, hint) else {
+        let Some(at) = self.find_loan(&loan) else {
             unreachable!()
         };
         let count = self.deliver_slot(place, at.slot);

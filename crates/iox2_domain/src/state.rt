@@ -76,18 +76,4 @@ impl<T: Drop, U: Default + Drop> DomainState<T, U> {
     {
         &self.config
     }
-
-    /// The id of the next port.
-    pub fn next_port(&self) -> u128
-        ensures { result ≡ self.now.next_port }
-    {
-        self.next_port
-    }
-
-    /// The number of the next message.
-    pub fn next_message(&self) -> u128
-        ensures { result ≡ self.now.next_message }
-    {
-        self.next_message
-    }
 }

@@ -9,7 +9,7 @@ ghost use Rattle.iox2_store.specs.declared.errors.SubscriberCreateError.TheVaria
 ghost use Rattle.iox2_store.specs.declared.warning.Warning.TheVariants.{ExpiredBufferRaised};
 
 use crate::places::{free_place, put_at_place};
-use crate::publisher_state::make_all_due;
+use crate::ports::{PortAt, make_all_due};
 use crate::state::DomainState;
 use crate::subscriber_state::SubscriberState;
 use crate::warnings::warn;
@@ -55,16 +55,18 @@ impl<T: Drop, U: Default + Drop> DomainState<T, U> {
     }
 
     /// A subscriber enters at the place that it has, and every publisher is due for an update.
+    /// Returns its id, which was the next.
     ///
     /// Where memory is refused nothing changes.
     pub(crate) fn admit_subscriber(
         &mut self,
         place: usize,
         asked: usize,
-    ) -> Result<(), SubscriberCreateError>
+    ) -> Result<UniqueSubscriberId, SubscriberCreateError>
         requires agrees { IsDomain self.old }
         requires has_place { place_for_subscriber self.old asked ≡ Ok place }
-        ensures { MatchResult result
+        ensures id { IfOk result (λ id. id ≡ self.old.next_port) }
+        ensures step { MatchResult result
             (λ _. Reaches self.old self.new (with_new_subscriber (state_of (kept_of self.old)) (asked_for asked) place) × (y : SubscriberFields) × (slice_index_or self.new.subscribers place None ≡ Some y) × (y.id ≡ self.old.next_port))
             (λ e. (self.new ≡ self.old) × (e ≡ FailedToDeployThreadsafetyPolicy)) }
     {
@@ -77,26 +79,30 @@ impl<T: Drop, U: Default + Drop> DomainState<T, U> {
         make_all_due(&mut self.publishers);
         put_at_place(&mut self.subscribers, place, subscriber);
         self.next_port += 1;
-        Ok(())
+        Ok(id)
     }
 
     /// Makes a subscriber with a buffer of that size, at least 1, and connects it with the publishers
-    /// that there are. Answers its place.
+    /// that there are. Returns its id, which was the next, and its place.
     ///
     /// `UnableToCreatePortTag` where no id is left, then
     /// `BufferSizeExceedsMaxSupportedBufferSizeOfService`, then `ExceedsMaxSupportedSubscribers`
     /// where no place is free, then `FailedToDeployThreadsafetyPolicy` where memory is refused.
     /// Nothing changes then.
-    pub fn create_subscriber(&mut self, asked: usize) -> Result<usize, SubscriberCreateError>
+    pub fn create_subscriber(
+        &mut self,
+        asked: usize,
+    ) -> Result<PortAt<UniqueSubscriberId>, SubscriberCreateError>
         requires { IsDomain self.old }
-        ensures stands { IfOk result (λ place. (y : SubscriberFields) × (slice_index_or self.new.subscribers place None ≡ Some y) × (y.id ≡ self.old.next_port)) }
+        ensures id { IfOk result (λ port. port.id ≡ self.old.next_port) }
+        ensures stands { IfOk result (λ port. (y : SubscriberFields) × (slice_index_or self.new.subscribers port.place None ≡ Some y) × (y.id ≡ port.id)) }
         ensures step { MatchResult result
             (λ _. (s' : State T U) × CreateSubscriber fixed_handlers (state_of (kept_of self.old)) (asked_for asked) s' None × Reaches self.old self.new s')
             (λ e. CreateSubscriber fixed_handlers (state_of (kept_of self.old)) (asked_for asked) (state_of (kept_of self.old)) (Some e) × (self.new ≡ self.old)) }
     {
         let place = self.place_for_subscriber(asked)?;
-        self.admit_subscriber(place, asked)?;
+        let id = self.admit_subscriber(place, asked)?;
         self.update_subscriber(place);
-        Ok(place)
+        Ok(PortAt { id, place })
     }
 }

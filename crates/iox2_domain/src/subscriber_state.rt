@@ -1,11 +1,11 @@
 //! What a domain has of a subscriber.
-ghost use Rattle.std.specs.Prelude.{◌≡◌, map};
-ghost use Rattle.std.specs.Option.{option_map};
-ghost use Rattle.iox2_domain.specs.NewPublisher.{subscriber_due};
+ghost use Rattle.std.specs.Prelude.{◌≡◌};
 
+use crate::places::{key_in, put_at_place, reserve_place};
+use crate::ports::Port;
 use iox2_ends::sender::{Receiver, ReceiverDetails};
 use iox2_store::UniqueSubscriberId;
-use std::alloc::Global;
+use std::alloc::{AllocError, Global};
 use std::marker::Model;
 
 /// A subscriber that wasn't closed, or that was closed and has borrowed messages. It knows its
@@ -77,19 +77,44 @@ impl SubscriberState {
     }
 }
 
-/// Each subscriber is due for an update.
-pub(crate) fn make_all_due(subscribers: &mut [Option<SubscriberState>])
-    ensures { subscribers.new ≡ map (option_map subscriber_due) subscribers.old }
-{
-    for place in 0..subscribers.len() {
-        make_due(&mut subscribers[place]);
-    }
-}
+impl Port for SubscriberState {
+    ghost use Rattle.iox2_domain.specs.Updates.{with_receiver_key, with_receiver_room};
 
-fn make_due(subscriber: &mut Option<SubscriberState>)
-    ensures { subscriber.new ≡ option_map subscriber_due subscriber.old }
-{
-    if let Some(subscriber) = subscriber {
-        subscriber.is_due = true;
+    ghost number = { λ y. y.id };
+
+    ghost keys = { λ y. y.keys };
+
+    ghost key_room = { λ y. y.key_room };
+
+    ghost is_due = { λ y. y.is_due };
+
+    ghost with_key = { with_receiver_key };
+
+    ghost with_room = { with_receiver_room };
+
+    ghost with_due = { λ due y. record y { is_due = due } };
+
+    fn number(&self) -> u128 {
+        self.id.value()
+    }
+
+    fn key(&self, place: usize) -> Option<usize> {
+        key_in(&self.keys, place)
+    }
+
+    fn reserve_key(&mut self, place: usize) -> Result<(), AllocError> {
+        reserve_place(&mut self.keys, place)
+    }
+
+    fn set_key(&mut self, place: usize, key: usize) {
+        put_at_place(&mut self.keys, place, key);
+    }
+
+    fn is_due(&self) -> bool {
+        self.is_due
+    }
+
+    fn set_due(&mut self, due: bool) {
+        self.is_due = due;
     }
 }

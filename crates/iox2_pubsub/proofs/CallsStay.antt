@@ -165,7 +165,7 @@ module _ {T U : Type 0} (old new : Kept T U) (m : Messages T U) (s : State T U) 
       (λ e _ k. let clash : Got_sample p n ≡ Receive_error _ = k.1 in absurd cc)
 
   pub received-is-new : (p q n : ℕ) (s' : State T U) → Shows new m s' → Receive fixed_handlers s q s' (Got_sample p n) → IsNewIn old (A_sample q n)
-  received-is-new p q n s' shown' h = record { loans = λ key live. tt; unwritten_loans = λ it live. tt; written_loans = λ it live. tt; samples = λ it live. apart (sample_key it) live; origins = λ it from. away it.publisher it.subscriber it.number (origin-parts old it from) } where
+  received-is-new p q n s' shown' h = record { loans = λ key live. tt; unwritten_loans = λ it live. tt; written_loans = λ it live. tt; samples = λ it live. apart (sample_key it) live; origins = λ it from. away it.origin it.sample.subscriber it.sample.number (origin-parts old it from) } where
     got : IsReceived fixed_handlers s q p n s'
     got = received_one fixed_handlers s q p n s' h
 

@@ -73,30 +73,30 @@ module _ {T U : Type 0} (kept : Kept T U) where
   unfolding HasMark
   has-mark number is_written l at mark = (l, at, mark)
 
-  pub unwritten-parts : (loan : SampleMutUninit) → IsUnwrittenLoan kept loan → (loan.service_id ≡ (kept.config).service_id) × HoldsUnwritten (state_of kept) loan.publisher loan.number
+  pub unwritten-parts : (loan : SampleMutUninit) → IsUnwrittenLoan kept loan → (loan.service_id ≡ (kept.config).service_id) × HoldsUnwritten (state_of kept) loan.loan.publisher loan.loan.number
   unwritten-parts loan live =
       let parts = loan-parts _ live.live in
-      (parts.0, ((parts.1).0, (parts.1).1, (parts.1).2, marked loan.publisher loan.number (parts.1).0 (parts.1).1 (parts.1).2 _ live.unwritten))
+      (parts.0, ((parts.1).0, (parts.1).1, (parts.1).2, marked loan.loan.publisher loan.loan.number (parts.1).0 (parts.1).1 (parts.1).2 _ live.unwritten))
 
-  pub unwritten-live : (loan : SampleMutUninit) → loan.service_id ≡ (kept.config).service_id → HoldsUnwritten (state_of kept) loan.publisher loan.number → IsUnwrittenLoan kept loan
+  pub unwritten-live : (loan : SampleMutUninit) → loan.service_id ≡ (kept.config).service_id → HoldsUnwritten (state_of kept) loan.loan.publisher loan.loan.number → IsUnwrittenLoan kept loan
   unwritten-live loan service has =
-      record { live = loan-live _ (service, (has.0, has.1, has.2)); unwritten = has-mark loan.number _ has.0 has.1 has.3 }
+      record { live = loan-live _ (service, (has.0, has.1, has.2)); unwritten = has-mark loan.loan.number _ has.0 has.1 has.3 }
 
-  pub written-parts : (loan : SampleMut) → IsWrittenLoan kept loan → (loan.service_id ≡ (kept.config).service_id) × HoldsWritten (state_of kept) loan.publisher loan.number
+  pub written-parts : (loan : SampleMut) → IsWrittenLoan kept loan → (loan.service_id ≡ (kept.config).service_id) × HoldsWritten (state_of kept) loan.loan.publisher loan.loan.number
   written-parts loan live =
       let parts = loan-parts _ live.live in
-      (parts.0, ((parts.1).0, (parts.1).1, (parts.1).2, marked loan.publisher loan.number (parts.1).0 (parts.1).1 (parts.1).2 _ live.written))
+      (parts.0, ((parts.1).0, (parts.1).1, (parts.1).2, marked loan.loan.publisher loan.loan.number (parts.1).0 (parts.1).1 (parts.1).2 _ live.written))
 
-  pub written-live : (loan : SampleMut) → loan.service_id ≡ (kept.config).service_id → HoldsWritten (state_of kept) loan.publisher loan.number → IsWrittenLoan kept loan
+  pub written-live : (loan : SampleMut) → loan.service_id ≡ (kept.config).service_id → HoldsWritten (state_of kept) loan.loan.publisher loan.loan.number → IsWrittenLoan kept loan
   written-live loan service has =
-      record { live = loan-live _ (service, (has.0, has.1, has.2)); written = has-mark loan.number _ has.0 has.1 has.3 }
+      record { live = loan-live _ (service, (has.0, has.1, has.2)); written = has-mark loan.loan.number _ has.0 has.1 has.3 }
 
   -- ---- origins
 
-  pub origin-parts : (sample : Sample) → IsFromOrigin kept sample → is_borrowed sample.number ((state_of kept).mailboxes sample.publisher sample.subscriber) ≡ true
+  pub origin-parts : (sample : Sample) → IsFromOrigin kept sample → is_borrowed sample.sample.number ((state_of kept).mailboxes sample.origin sample.sample.subscriber) ≡ true
   unfolding IsFromOrigin
   origin-parts sample from = from
 
-  pub origin-live : (sample : Sample) → is_borrowed sample.number ((state_of kept).mailboxes sample.publisher sample.subscriber) ≡ true → IsFromOrigin kept sample
+  pub origin-live : (sample : Sample) → is_borrowed sample.sample.number ((state_of kept).mailboxes sample.origin sample.sample.subscriber) ≡ true → IsFromOrigin kept sample
   unfolding IsFromOrigin
   origin-live sample borrowed = borrowed

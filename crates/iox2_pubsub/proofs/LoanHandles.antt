@@ -27,20 +27,14 @@ module _ {T U : Type 0} (inside kept : Kept T U) (view : inside ≡ kept) where
   of-shown P holds m s shown = subst P (ap state_of view ∙ sym shown.state) holds
 
   -- a handle's loan is out
-  pub unwritten-out : (loan : SampleMutUninit) (id : ℕ) → id ≡ loan.publisher → IsUnwrittenLoan kept loan → HoldsUnwritten (state_of inside) id loan.number
-  unwritten-out loan id same live =
-      let has = (unwritten-parts kept loan live).1 in
-      subst (λ k. HoldsUnwritten (state_of k) id loan.number) (sym view) (has.0, has.1, has.2 ∙ sym same, has.3)
+  pub unwritten-out : (loan : SampleMutUninit) → IsUnwrittenLoan kept loan → HoldsUnwritten (state_of inside) loan.loan.publisher loan.loan.number
+  unwritten-out loan live = subst (λ k. HoldsUnwritten (state_of k) loan.loan.publisher loan.loan.number) (sym view) (unwritten-parts kept loan live).1
 
-  pub written-out : (loan : SampleMut) (id : ℕ) → id ≡ loan.publisher → IsWrittenLoan kept loan → HoldsWritten (state_of inside) id loan.number
-  written-out loan id same live =
-      let has = (written-parts kept loan live).1 in
-      subst (λ k. HoldsWritten (state_of k) id loan.number) (sym view) (has.0, has.1, has.2 ∙ sym same, has.3)
+  pub written-out : (loan : SampleMut) → IsWrittenLoan kept loan → HoldsWritten (state_of inside) loan.loan.publisher loan.loan.number
+  written-out loan live = subst (λ k. HoldsWritten (state_of k) loan.loan.publisher loan.loan.number) (sym view) (written-parts kept loan live).1
 
-  pub loan-out : (key : Key) (id : ℕ) → id ≡ key.port → IsLoanKey kept key → HoldsLoan (state_of inside) id key.message
-  loan-out key id same live =
-      let has = (loan-parts kept key live).1 in
-      subst (λ k. HoldsLoan (state_of k) id key.message) (sym view) (has.0, has.1, has.2 ∙ sym same)
+  pub loan-out : (key : Key) → IsLoanKey kept key → HoldsLoan (state_of inside) key.port key.message
+  loan-out key live = subst (λ k. HoldsLoan (state_of k) key.port key.message) (sym view) (loan-parts kept key live).1
 
 -- ---- a loan is written
 
@@ -61,8 +55,8 @@ module _ {T U : Type 0} (f g : Fields T U) (kept : Kept T U) (view : kept_of f �
       )
 
   -- and the written loan is out
-  pub write-live : (loan : SampleMutUninit) (loan' : SampleMut) → loan.number ≡ n → loan'.service_id ≡ loan.service_id → loan'.publisher ≡ loan.publisher → loan'.number ≡ n
-      → IsUnwrittenLoan kept loan → IsWrittenLoan (kept_of g) loan'
+  pub write-live : (loan : SampleMutUninit) (loan' : SampleMut) → loan.loan.number ≡ n → loan'.service_id ≡ loan.service_id → loan'.loan.publisher ≡ loan.loan.publisher
+      → loan'.loan.number ≡ n → IsUnwrittenLoan kept loan → IsWrittenLoan (kept_of g) loan'
   write-live loan loan' its service publisher number live =
       let old : IsUnwrittenLoan (kept_of f) loan = subst (λ k. IsUnwrittenLoan k loan) (sym view) live in
       let parts = unwritten-parts (kept_of f) loan old in
@@ -79,12 +73,12 @@ module _ {T U : Type 0} (f g : Fields T U) (kept : Kept T U) (view : kept_of f �
 
 -- ---- the header of a loan
 
-module _ {T U : Type 0} (f : Fields T U) (sound : IsDomain f) (number id publisher : ℕ) (header : Header) (same : id ≡ publisher) where
+module _ {T U : Type 0} (f : Fields T U) (sound : IsDomain f) (number publisher : ℕ) (header : Header) where
   -- it names the publisher
-  pub header-origin : HoldsLoan (state_of (kept_of f)) id number → HasLoanHeader (state_of (kept_of f)) number header → header.publisher_id ≡ publisher
+  pub header-origin : HoldsLoan (state_of (kept_of f)) publisher number → HasLoanHeader (state_of (kept_of f)) number header → header.publisher_id ≡ publisher
   header-origin held has =
       let both : Some held.0 ≡ Some has.0 = sym held.1 ∙ has.1 in
       let loan : held.0 ≡ has.0 = cc in
       ap (λ (h : Header). h.publisher_id) (sym has.2)
       ∙ (sound.well_formed.loans number has.0 has.1).origin
-      ∙ ap (λ (l : Loan T U). l.publisher) (sym loan) ∙ held.2 ∙ same
+      ∙ ap (λ (l : Loan T U). l.publisher) (sym loan) ∙ held.2

@@ -25,6 +25,7 @@ use Rattle.iox2_store.specs.Records.{Subscriber as MachineSubscriber}
 use Rattle.std.specs.Option.{option_map}
 use Rattle.iox2_domain.specs.Receipts.{receive_result, ReceivesAs}
 use Rattle.iox2_domain.specs.declared.receipts.Receipt.{Receipt}
+use Rattle.iox2_domain.specs.declared.sample_slots.SampleAt.{SampleAt}
 use Rattle.iox2_domain.proofs.ReachesShows.{reaches-shows}
 use Rattle.iox2_domain.proofs.Reception.{received-borrowed}
 
@@ -44,25 +45,24 @@ module _ {T U : Type 0} where
 
   -- the sample that was received
   module _ (kept : Kept T U) (f g : Fields T U) (same : kept_of f ≡ kept) (subscriber : Subscriber) (sample : Sample) (receipt : Receipt)
-      (receives : ReceivesAs f subscriber.id (Ok (Some receipt)) g) (whose : sample.subscriber ≡ subscriber.id) (publisher : sample.publisher ≡ receipt.publisher)
-      (number : sample.number ≡ receipt.number) where
-    is-borrowed : is_borrowed sample.number ((state_of (kept_of g)).mailboxes sample.publisher sample.subscriber) ≡ true
+      (receives : ReceivesAs f subscriber.id (Ok (Some receipt)) g) (origin : sample.origin ≡ receipt.publisher) (its : sample.sample ≡ receipt.sample) where
+    is-borrowed : is_borrowed sample.sample.number ((state_of (kept_of g)).mailboxes sample.origin sample.sample.subscriber) ≡ true
     is-borrowed =
-        ap (λ (n : ℕ). is_borrowed n ((state_of (kept_of g)).mailboxes sample.publisher sample.subscriber)) number
-        ∙ ap (λ (p : ℕ). is_borrowed receipt.number ((state_of (kept_of g)).mailboxes p sample.subscriber)) publisher
-        ∙ ap (λ (q : ℕ). is_borrowed receipt.number ((state_of (kept_of g)).mailboxes receipt.publisher q)) whose
-        ∙ ap (λ (s : State T U). is_borrowed receipt.number (s.mailboxes receipt.publisher subscriber.id)) receives.1.state
-        ∙ received-borrowed (state_of (kept_of f)) subscriber.id receipt.publisher receipt.number receives.0 receives.2
+        ap (λ (at : SampleAt). is_borrowed at.number ((state_of (kept_of g)).mailboxes sample.origin at.subscriber)) its
+        ∙ ap (λ (p : ℕ). is_borrowed receipt.sample.number ((state_of (kept_of g)).mailboxes p receipt.sample.subscriber)) origin
+        ∙ ap (λ (q : ℕ). is_borrowed receipt.sample.number ((state_of (kept_of g)).mailboxes receipt.publisher q)) (receives.3).its
+        ∙ ap (λ (s : State T U). is_borrowed receipt.sample.number (s.mailboxes receipt.publisher subscriber.id)) receives.1.state
+        ∙ received-borrowed (state_of (kept_of f)) subscriber.id receipt.publisher receipt.sample.number receives.0 receives.2
 
     -- it is live
     pub reception-live : sample.service_id ≡ subscriber.service_id → IsLiveSubscriber kept subscriber → IsLiveSample (kept_of g) sample
     reception-live service live =
         let config : g.config ≡ f.config =
         ap (λ (s : State T U). s.config) receives.1.state
-        ∙ (receive_advances fixed_handlers (state_of (kept_of f)) subscriber.id receives.0 (Got_sample receipt.publisher receipt.number) receives.2).config in
+        ∙ (receive_advances fixed_handlers (state_of (kept_of f)) subscriber.id receives.0 (Got_sample receipt.publisher receipt.sample.number) receives.2).config in
         sample-live (kept_of g) _ (
           service ∙ (subscriber-parts kept _ live).1 ∙ ap (λ (k : Kept T U). (k.config).service_id) (sym same) ∙ ap (λ (x : ServiceConfig). x.service_id) (sym config),
-          (sample.publisher, is-borrowed),
+          (sample.origin, is-borrowed),
         )
 
     -- and names whom it is from
@@ -70,12 +70,12 @@ module _ {T U : Type 0} where
     reception-origin = origin-live (kept_of g) sample is-borrowed
 
   -- the subscriber that was found receives
-  pub reception-at : (f g : Fields T U) (place q q' : ℕ) (result result' : Result (Option Receipt) ReceiveError)
-      → (y : SubscriberFields) × (get_or f.subscribers place None ≡ Some y) × (y.id ≡ q') → q' ≡ q → result ≡ result'
+  pub reception-at : (f g : Fields T U) (place q : ℕ) (result result' : Result (Option Receipt) ReceiveError)
+      → (y : SubscriberFields) × (get_or f.subscribers place None ≡ Some y) × (y.id ≡ q) → result ≡ result'
       → ((y : SubscriberFields) → get_or f.subscribers place None ≡ Some y → ReceivesAs f y.id result g) → ReceivesAs f q result' g
-  reception-at f g place q q' result result' found same is receives =
+  reception-at f g place q result result' found is receives =
       subst (λ (r : Result (Option Receipt) ReceiveError). ReceivesAs f q r g) is
-      (subst (λ (r : ℕ). ReceivesAs f r result g) (found.2 ∙ same) (receives found.0 found.1))
+      (subst (λ (r : ℕ). ReceivesAs f r result g) found.2 (receives found.0 found.1))
 
 -- ---- a receive that failed
 
@@ -92,13 +92,13 @@ module _ {T U : Type 0} (kept : Kept T U) (f g : Fields T U) (view : kept_of f �
       (reception-shows kept f g view q (Err e) receives m s shown)
 
 -- a subscriber that is live stands somewhere
-pub subscriber-missing : {T U : Type 0} (f : Fields T U) (kept : Kept T U) → kept_of f ≡ kept → (subscriber : Subscriber) (q : ℕ) → q ≡ subscriber.id
-    → look_up (is_subscriber q) f.subscribers ≡ None → IsLiveSubscriber kept subscriber → ⊥
-subscriber-missing {T} {U} f kept view subscriber q same none live =
+pub subscriber-missing : {T U : Type 0} (f : Fields T U) (kept : Kept T U) → kept_of f ≡ kept → (subscriber : Subscriber)
+    → look_up (is_subscriber subscriber.id) f.subscribers ≡ None → IsLiveSubscriber kept subscriber → ⊥
+subscriber-missing {T} {U} f kept view subscriber none live =
     let live-here : IsLiveSubscriber (kept_of f) subscriber = subst (λ (k : Kept T U). IsLiveSubscriber k subscriber) (sym view) live in
     let has = (subscriber-parts (kept_of f) _ live-here).2 in
-    let nothing : (state_of (kept_of f)).subscribers q ≡ None =
+    let nothing : (state_of (kept_of f)).subscribers subscriber.id ≡ None =
     ap (option_map (λ (z : Named MachineSubscriber). z.port))
-    (look_up-map (is_named q) (subscriber_of f.books f.connections) f.subscribers ∙ ap (option_map (subscriber_of f.books f.connections)) none) in
-    let clash : None ≡ Some has.0 = sym nothing ∙ ap (state_of (kept_of f)).subscribers same ∙ has.1 in
+    (look_up-map (is_named subscriber.id) (subscriber_of f.books f.connections) f.subscribers ∙ ap (option_map (subscriber_of f.books f.connections)) none) in
+    let clash : None ≡ Some has.0 = sym nothing ∙ has.1 in
     absurd cc

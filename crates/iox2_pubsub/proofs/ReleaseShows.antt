@@ -19,16 +19,14 @@ module _ {T U : Type 0} where
     by false = (refl, refl)
 
   -- the domain shows the released state, with the same messages, whoever the message is borrowed from
-  pub release-shows : (kept : Kept T U) (f g : Fields T U) → kept_of f ≡ kept → (q n q' : ℕ) → q' ≡ q
-      → ((p : ℕ) → is_borrowed n ((state_of (kept_of f)).mailboxes p q') ≡ true → Reaches f g (released (state_of (kept_of f)) p q' n))
+  pub release-shows : (kept : Kept T U) (f g : Fields T U) → kept_of f ≡ kept → (q n : ℕ)
+      → ((p : ℕ) → is_borrowed n ((state_of (kept_of f)).mailboxes p q) ≡ true → Reaches f g (released (state_of (kept_of f)) p q n))
       → (m : Messages T U) (s : State T U) → Shows kept m s → (p : ℕ) → is_borrowed n (s.mailboxes p q) ≡ true
       → (s' : State T U) × Shows (kept_of g) m s' × (s' ≡ released s p q n)
-  release-shows kept f g same q n q' same_q reaches m s shown p borrowed =
+  release-shows kept f g same q n reaches m s shown p borrowed =
       let here : Shows (kept_of f) m s = subst (λ (k : Kept T U). Shows k m s) (sym same) shown in
       let state : s ≡ state_of (kept_of f) = here.state in
-      let reaches_q : (r : ℕ) → is_borrowed n ((state_of (kept_of f)).mailboxes r q) ≡ true → Reaches f g (released (state_of (kept_of f)) r q n) =
-      subst (λ (z : ℕ). (r : ℕ) → is_borrowed n ((state_of (kept_of f)).mailboxes r z) ≡ true → Reaches f g (released (state_of (kept_of f)) r z n)) same_q reaches in
       let reached_from : Reaches f g (released s p q n) =
       subst (λ (u : State T U). Reaches f g (released u p q n)) (sym state)
-      (reaches_q p (subst (λ (u : State T U). is_borrowed n (u.mailboxes p q) ≡ true) state borrowed)) in
+      (reaches p (subst (λ (u : State T U). is_borrowed n (u.mailboxes p q) ≡ true) state borrowed)) in
       (released s p q n, reaches-shows-same f g m s (released s p q n) here reached_from (released-rest s p q n).0 (released-rest s p q n).1, refl)

@@ -49,9 +49,9 @@ module _ {T U : Type 0} (spent : Item) (old new : Kept T U) (remain : Remain (st
   unfolding IsSampleKey
   sample key live other = (service key.service_id live.0, ((live.1).0, samples (live.1).0 key.port key.message (live.1).1 other))
 
-  origin : (it : Sample) → IsFromOrigin old it → IsOtherSample spent it.subscriber it.number → IsFromOrigin new it
+  origin : (it : Sample) → IsFromOrigin old it → IsOtherSample spent it.sample.subscriber it.sample.number → IsFromOrigin new it
   unfolding IsFromOrigin
-  origin it from other = samples it.publisher it.subscriber it.number from other
+  origin it from other = samples it.origin it.sample.subscriber it.sample.number from other
 
   stays-but : StaysBut spent old new
   stays-but = record {
@@ -60,8 +60,8 @@ module _ {T U : Type 0} (spent : Item) (old new : Kept T U) (remain : Remain (st
     publishers = λ it. publisher (publisher_key it);
     subscribers = λ it. subscriber (subscriber_key it);
     loans = loan;
-    unwritten_loans = λ it live other. record { live = loan (unwritten_key it) live.live other; unwritten = mark it.number _ live.unwritten other };
-    written_loans = λ it live other. record { live = loan (written_key it) live.live other; written = mark it.number _ live.written other };
+    unwritten_loans = λ it live other. record { live = loan (unwritten_key it) live.live other; unwritten = mark it.loan.number _ live.unwritten other };
+    written_loans = λ it live other. record { live = loan (written_key it) live.live other; written = mark it.loan.number _ live.written other };
     samples = λ it. sample (sample_key it);
     origins = origin;
   }

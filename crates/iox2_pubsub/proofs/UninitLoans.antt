@@ -1,34 +1,29 @@
 -- A loan of a single value, seen from outside.
-use Rattle.std.proofs.Common.{◌≡◌, ℕ, ◌*◌, replicate, Bool, true, false, cond, get_or, refl, ap, sym, subst, ◌∙◌, inl, inr, arith, Result, Ok, Err, IsTrue}
+use Rattle.std.proofs.Common.{◌≡◌, ℕ, ◌*◌, replicate, false, cond, get_or, refl, ap, sym, subst, ◌∙◌, inl, inr, arith, Result, Ok, Err}
 use Rattle.std.proofs.lemmas.Bool.{cases_eq, eq-eqb, ne_eqb}
 use Rattle.std.specs.declared.option.Option.{Option}
 use Rattle.std.specs.declared.option.Option.TheVariants.{None, Some}
 use Rattle.std.specs.Option.{option_map}
-use Rattle.std.specs.Prelude.{IsSomeAnd, IsErrAnd, MatchOption, is_some}
+use Rattle.std.specs.Prelude.{IsSomeAnd, IsErrAnd}
 use Rattle.iox2_store.specs.Loans.{loan_granted}
 use Rattle.iox2_store.specs.Numbers.{put_at}
 use Rattle.iox2_store.specs.Records.{Loan, Publisher}
-use Rattle.iox2_store.specs.SingleCalls.{HoldsLoan}
 use Rattle.iox2_store.specs.State.{State, Messages}
 use Rattle.iox2_store.specs.declared.errors.LoanError.{LoanError}
 use Rattle.iox2_ends.specs.LookUp.{look_up}
-use Rattle.iox2_store.specs.declared.key.Key.{Key}
-use Rattle.iox2_pubsub.specs.Live.{IsLivePublisher, IsUnwrittenLoan, IsLoanKey}
+use Rattle.iox2_pubsub.specs.Live.{IsLivePublisher, IsUnwrittenLoan}
 use Rattle.iox2_pubsub.specs.declared.publisher.Publisher.{Publisher as PublisherHandle}
 use Rattle.iox2_pubsub.specs.declared.sample_mut_uninit.SampleMutUninit.{SampleMutUninit}
-use Rattle.iox2_pubsub.proofs.LiveParts.{loan-live, loan-parts, publisher-parts, unwritten-live}
+use Rattle.iox2_pubsub.proofs.LiveParts.{publisher-parts, unwritten-live}
 use Rattle.iox2_domain.specs.Ports.{PublisherFields}
 use Rattle.iox2_domain.specs.Kept.{Kept, Named, state_of, is_named}
-use Rattle.iox2_domain.specs.Fields.{Fields, kept_of, publisher_of, contents_at}
+use Rattle.iox2_domain.specs.Fields.{Fields, kept_of, publisher_of}
 use Rattle.iox2_domain.specs.Invariant.{is_publisher}
-use Rattle.iox2_domain.specs.Lending.{LoanReaches, LoanCall}
-use Rattle.iox2_domain.specs.LoanSlots.{LiesInSlot}
-use Rattle.iox2_domain.specs.declared.loan_slots.LoanSlot.{LoanSlot}
+use Rattle.iox2_domain.specs.Lending.{IsNamed, LoanReaches, LoanCall}
+use Rattle.iox2_domain.specs.declared.loan_slots.LoanAt.{LoanAt}
 use Rattle.iox2_domain.specs.Shows.{Shows}
 use Rattle.iox2_domain.proofs.Containers.{look_up-map}
-use Rattle.iox2_domain.proofs.Messages.{message_in-parts}
 use Rattle.iox2_domain.proofs.ReachesShows.{reaches-shows, reaches-shows-same}
-use Rattle.iox2_domain.proofs.RecountedState.{loan-publisher}
 
 module _ {T U : Type 0} (f : Fields T U) where
   abbrev state : State T U
@@ -38,28 +33,20 @@ module _ {T U : Type 0} (f : Fields T U) where
   machine x = (publisher_of f.books f.connections x).port
 
   -- a publisher that is live stands somewhere
-  pub publisher-missing : (kept : Kept T U) → kept_of f ≡ kept → (publisher : PublisherHandle) (p : ℕ) → p ≡ publisher.id → look_up (is_publisher p) f.publishers ≡ None
+  pub publisher-missing : (kept : Kept T U) → kept_of f ≡ kept → (publisher : PublisherHandle) → look_up (is_publisher publisher.id) f.publishers ≡ None
       → IsLivePublisher kept publisher → ⊥
-  publisher-missing kept view publisher p same none live =
+  publisher-missing kept view publisher none live =
       let live-here : IsLivePublisher (kept_of f) publisher = subst (λ (k : Kept T U). IsLivePublisher k publisher) (sym view) live in
       let has = (publisher-parts (kept_of f) _ live-here).2 in
-      let nothing : state.publishers p ≡ None =
+      let nothing : state.publishers publisher.id ≡ None =
       ap (option_map (λ (z : Named Publisher). z.port))
-      (look_up-map (is_named p) (publisher_of f.books f.connections) f.publishers ∙ ap (option_map (publisher_of f.books f.connections)) none) in
-      let clash : None ≡ Some has.0 = sym nothing ∙ ap state.publishers same ∙ has.1 in
+      (look_up-map (is_named publisher.id) (publisher_of f.books f.connections) f.publishers ∙ ap (option_map (publisher_of f.books f.connections)) none) in
+      let clash : None ≡ Some has.0 = sym nothing ∙ has.1 in
       absurd cc
-
-  -- a loan that lies in a slot is held
-  pub lies-held : (p n key slot : ℕ) → LiesInSlot f p n key slot → HoldsLoan state p n
-  lies-held p n key slot at = (
-    at.loan,
-    at.held,
-    loan-publisher at.book (contents_at f.contents key) slot n at.loan (message_in-parts at.book (contents_at f.contents key) slot _ at.lies) ∙ at.is_its,
-  )
 
   module _ (is_default : U → Type 0) (new : Fields T U) (x : PublisherFields) (m : Messages T U) (s : State T U) (shown : Shows (kept_of f) m s) where
     -- a loan that is refused changes nothing
-    pub refused-shows : (A : Type 0) (e : LoanError) → LoanReaches {A = ℕ} is_default f x (Err e) new
+    pub refused-shows : (A : Type 0) (e : LoanError) → LoanReaches {A = LoanAt} is_default f x (Err e) new
         → (s' : State T U) × Shows (kept_of new) m s' × LoanCall {A = A} is_default s x.id (Err e) s'
     refused-shows A e reaches =
         subst (λ (t : State T U). (s' : State T U) × Shows (kept_of new) m s' × LoanCall {A = A} is_default t x.id (Err e) s')
@@ -75,9 +62,9 @@ module _ {T U : Type 0} (f : Fields T U) where
     ]
 
     -- a loan that is granted is shown
-    pub granted-shows : (A : Type 0) (slot : ℕ) (answer : A) → LoanReaches {A = ℕ} is_default f x (Ok slot) new
+    pub granted-shows : (A : Type 0) (loan : LoanAt) (answer : A) → LoanReaches {A = LoanAt} is_default f x (Ok loan) new
         → (s' : State T U) × Shows (kept_of new) m s' × LoanCall {A = A} is_default s x.id (Ok answer) s'
-    granted-shows A slot answer reaches =
+    granted-shows A loan answer reaches =
         let s' : State T U = loan_granted reaches.0 state x.id (machine x) 1 x.segments in
         subst (λ (t : State T U). (s' : State T U) × Shows (kept_of new) m s' × LoanCall {A = A} is_default t x.id (Ok answer) s')
         (sym shown.state) (
@@ -89,9 +76,9 @@ module _ {T U : Type 0} (f : Fields T U) where
         )
 
   -- the new loan is out, and isn't written
-  granted-live : (is_default : U → Type 0) (new : Fields T U) (x : PublisherFields) (loan : SampleMutUninit) (slot : ℕ) → loan.service_id ≡ (f.config).service_id
-      → loan.publisher ≡ x.id → loan.number ≡ f.next_message → LoanReaches {A = ℕ} is_default f x (Ok slot) new → IsUnwrittenLoan (kept_of new) loan
-  granted-live is_default new x loan slot its publisher number reaches =
+  granted-live : (is_default : U → Type 0) (new : Fields T U) (x : PublisherFields) (loan : SampleMutUninit) → loan.service_id ≡ (f.config).service_id
+      → IsNamed f x loan.loan → LoanReaches {A = LoanAt} is_default f x (Ok loan.loan) new → IsUnwrittenLoan (kept_of new) loan
+  granted-live is_default new x loan its names reaches =
       let reached : state_of (kept_of new) ≡ loan_granted reaches.0 state x.id (machine x) 1 x.segments = reaches.3.state in
       let lent : Loan T U = record {
         publisher = x.id;
@@ -102,14 +89,14 @@ module _ {T U : Type 0} (f : Fields T U) where
       } in
       unwritten-live (kept_of new) loan (its ∙ ap (λ (t : State T U). (t.config).service_id) (sym reached)) (
         lent,
-        ap (state_of (kept_of new)).loans number
+        ap (state_of (kept_of new)).loans names.number
             ∙ ap (λ (t : State T U). t.loans f.next_message) reached
             ∙ ap (λ b. cond b (Some lent) (state.loans f.next_message)) (eq-eqb f.next_message f.next_message refl),
-        sym publisher,
+        sym names.publisher,
         refl,
       )
 
-module _ {T U : Type 0} (is_default : U → Type 0) (f new : Fields T U) (i p : ℕ) (answer : Result ℕ LoanError)
+module _ {T U : Type 0} (is_default : U → Type 0) (f new : Fields T U) (i p : ℕ) (answer : Result LoanAt LoanError)
     (stands : (x : PublisherFields) × (get_or f.publishers i None ≡ Some x) × (x.id ≡ p))
     (reaches : IsSomeAnd (get_or f.publishers i None) (λ z. LoanReaches is_default f z answer new)) where
   its : LoanReaches is_default f stands.0 answer new
@@ -122,34 +109,28 @@ module _ {T U : Type 0} (is_default : U → Type 0) (f new : Fields T U) (i p : 
   err-shown A e is (Err e') same kept view m s shown =
       subst (λ (q : ℕ). (s' : State T U) × Shows (kept_of new) m s' × LoanCall {A = A} is_default s q (Err e') s') stands.2
       (refused-shows f is_default new stands.0 m s (subst (λ (k : Kept T U). Shows k m s) (sym view) shown) A e'
-      (subst (λ (r : Result ℕ LoanError). LoanReaches is_default f stands.0 r new) (is ∙ ap Err (sym same)) its))
+      (subst (λ (r : Result LoanAt LoanError). LoanReaches is_default f stands.0 r new) (is ∙ ap Err (sym same)) its))
 
   -- a loan that was granted
-  pub ok-shown : (A : Type 0) (a : A) (slot : ℕ) → answer ≡ Ok slot → (kept : Kept T U) → kept_of f ≡ kept
+  pub ok-shown : (A : Type 0) (a : A) (loan : LoanAt) → answer ≡ Ok loan → (kept : Kept T U) → kept_of f ≡ kept
       → (m : Messages T U) (s : State T U) → Shows kept m s → (s' : State T U) × Shows (kept_of new) m s' × LoanCall {A = A} is_default s p (Ok a) s'
-  ok-shown A a slot is kept view m s shown =
+  ok-shown A a loan is kept view m s shown =
       subst (λ (q : ℕ). (s' : State T U) × Shows (kept_of new) m s' × LoanCall {A = A} is_default s q (Ok a) s') stands.2
-      (granted-shows f is_default new stands.0 m s (subst (λ (k : Kept T U). Shows k m s) (sym view) shown) A slot a
-      (subst (λ (r : Result ℕ LoanError). LoanReaches is_default f stands.0 r new) is its))
+      (granted-shows f is_default new stands.0 m s (subst (λ (k : Kept T U). Shows k m s) (sym view) shown) A loan a
+      (subst (λ (r : Result LoanAt LoanError). LoanReaches is_default f stands.0 r new) is its))
 
   -- it is out
-  pub ok-live : (loan : SampleMutUninit) (slot : ℕ) → answer ≡ Ok slot → loan.publisher ≡ p → loan.number ≡ f.next_message → (kept : Kept T U) → kept_of f ≡ kept
+  pub ok-live : (loan : SampleMutUninit) → answer ≡ Ok loan.loan → IsSomeAnd (get_or f.publishers i None) (λ z. IsNamed f z loan.loan) → (kept : Kept T U) → kept_of f ≡ kept
       → loan.service_id ≡ (kept.config).service_id → IsUnwrittenLoan (kept_of new) loan
-  ok-live loan slot is publisher number kept view service =
-      granted-live f is_default new stands.0 loan slot (service ∙ sym (ap (λ (k : Kept T U). (k.config).service_id) view)) (publisher ∙ sym stands.2) number
-      (subst (λ (r : Result ℕ LoanError). LoanReaches is_default f stands.0 r new) is its)
+  ok-live loan is named kept view service =
+      granted-live f is_default new stands.0 loan (service ∙ sym (ap (λ (k : Kept T U). (k.config).service_id) view))
+      (subst (λ (o : Option PublisherFields). IsSomeAnd o (λ z. IsNamed f z loan.loan)) stands.1 named)
+      (subst (λ (r : Result LoanAt LoanError). LoanReaches is_default f stands.0 r new) is its)
 
--- a loan is live just where a slot is found for it
-pub loan-key : {T U : Type 0} (f : Fields T U) (kept : Kept T U) (key : Key) → kept_of f ≡ kept → key.service_id ≡ (f.config).service_id → (found : Option LoanSlot)
-    → MatchOption found (HoldsLoan (state_of (kept_of f)) key.port key.message → ⊥) (λ at. LiesInSlot f key.port key.message at.book at.slot)
-    → (b : Bool) → b ≡ is_some found → (IsTrue b → IsLoanKey kept key) × (IsLoanKey kept key → IsTrue b)
-loan-key {T} {U} f kept key view service found finds b is = (λ is_live. subst (λ (k : Kept T U). IsLoanKey k key) view (loan-live (kept_of f) key (service, there found finds (sym is ∙ is_live))), λ live. is ∙ some found finds (loan-parts (kept_of f) key (subst (λ (k : Kept T U). IsLoanKey k key) (sym view) live)).1) where
-  there : (o : Option LoanSlot) → MatchOption o (HoldsLoan (state_of (kept_of f)) key.port key.message → ⊥) (λ at. LiesInSlot f key.port key.message at.book at.slot) → is_some o ≡ true
-      → HoldsLoan (state_of (kept_of f)) key.port key.message
-  there None none is_held = absurd cc
-  there (Some at) lies is_held = lies-held f key.port key.message at.book at.slot lies
+  -- it is the publisher's
+  pub ok-publisher : (loan : LoanAt) → IsSomeAnd (get_or f.publishers i None) (λ z. IsNamed f z loan) → loan.publisher ≡ p
+  ok-publisher loan named = (subst (λ (o : Option PublisherFields). IsSomeAnd o (λ z. IsNamed f z loan)) stands.1 named).publisher ∙ stands.2
 
-  some : (o : Option LoanSlot) → MatchOption o (HoldsLoan (state_of (kept_of f)) key.port key.message → ⊥) (λ at. LiesInSlot f key.port key.message at.book at.slot)
-      → HoldsLoan (state_of (kept_of f)) key.port key.message → is_some o ≡ true
-  some None none held = absurd (none held)
-  some (Some at) lies held = refl
+  -- and has the number that was the next
+  pub ok-number : (loan : LoanAt) → IsSomeAnd (get_or f.publishers i None) (λ z. IsNamed f z loan) → loan.number ≡ f.next_message
+  ok-number loan named = (subst (λ (o : Option PublisherFields). IsSomeAnd o (λ z. IsNamed f z loan)) stands.1 named).number

@@ -25,15 +25,15 @@ subscriber_key subscriber = record { service_id = subscriber.service_id; port = 
 
 -- The key of a loan that isn't written.
 abbrev pub unwritten_key : SampleMutUninit → Key
-unwritten_key loan = record { service_id = loan.service_id; port = loan.publisher; message = loan.number }
+unwritten_key loan = record { service_id = loan.service_id; port = loan.loan.publisher; message = loan.loan.number }
 
 -- The key of a written loan.
 abbrev pub written_key : SampleMut → Key
-written_key loan = record { service_id = loan.service_id; port = loan.publisher; message = loan.number }
+written_key loan = record { service_id = loan.service_id; port = loan.loan.publisher; message = loan.loan.number }
 
 -- The key of a sample.
 abbrev pub sample_key : Sample → Key
-sample_key sample = record { service_id = sample.service_id; port = sample.subscriber; message = sample.number }
+sample_key sample = record { service_id = sample.service_id; port = sample.sample.subscriber; message = sample.sample.number }
 
 -- ---- what is live
 
@@ -74,12 +74,12 @@ module _ {T U : Type 0} (domain : Kept T U) where
   -- The loan is one of the domain's that is out, and isn't written.
   pub record IsUnwrittenLoan (loan : SampleMutUninit) : Type 0 where
     pub live : IsLoanKey (unwritten_key loan)
-    pub unwritten : HasMark loan.number false
+    pub unwritten : HasMark loan.loan.number false
 
   -- The loan is one of the domain's that is out, and is written.
   pub record IsWrittenLoan (loan : SampleMut) : Type 0 where
     pub live : IsLoanKey (written_key loan)
-    pub written : HasMark loan.number true
+    pub written : HasMark loan.loan.number true
 
   -- The sample's message is borrowed by its subscriber.
   abbrev pub IsLiveSample : Sample → Type 0
@@ -87,7 +87,7 @@ module _ {T U : Type 0} (domain : Kept T U) where
 
   -- The sample's message is borrowed from the publisher that the sample names as its origin.
   unfoldable pub IsFromOrigin : Sample → Type 0
-  IsFromOrigin sample = IsTrue (is_borrowed sample.number ((state_of domain).mailboxes sample.publisher sample.subscriber))
+  IsFromOrigin sample = IsTrue (is_borrowed sample.sample.number ((state_of domain).mailboxes sample.origin sample.sample.subscriber))
 
 -- ---- what a call spends, and what stays
 
@@ -96,6 +96,18 @@ pub data Item : Type 0 where
   No_item : Item
   A_loan : (number : ℕ) → Item
   A_sample : (subscriber number : ℕ) → Item
+
+-- The loan of this handle.
+abbrev pub unwritten_loan : SampleMutUninit → Item
+unwritten_loan loan = A_loan loan.loan.number
+
+-- The loan of this handle.
+abbrev pub written_loan : SampleMut → Item
+written_loan loan = A_loan loan.loan.number
+
+-- The sample of this handle.
+abbrev pub received_sample : Sample → Item
+received_sample sample = A_sample sample.sample.subscriber sample.sample.number
 
 -- The loan with this number is another than the item.
 abbrev pub IsOtherLoan : Item → (number : ℕ) → Type 0
@@ -117,10 +129,10 @@ module _ {T U : Type 0} where
     pub publishers : (publisher : Publisher) → IsLivePublisher old publisher → IsLivePublisher new publisher
     pub subscribers : (subscriber : Subscriber) → IsLiveSubscriber old subscriber → IsLiveSubscriber new subscriber
     pub loans : (key : Key) → IsLoanKey old key → IsOtherLoan spent key.message → IsLoanKey new key
-    pub unwritten_loans : (loan : SampleMutUninit) → IsUnwrittenLoan old loan → IsOtherLoan spent loan.number → IsUnwrittenLoan new loan
-    pub written_loans : (loan : SampleMut) → IsWrittenLoan old loan → IsOtherLoan spent loan.number → IsWrittenLoan new loan
-    pub samples : (sample : Sample) → IsLiveSample old sample → IsOtherSample spent sample.subscriber sample.number → IsLiveSample new sample
-    pub origins : (sample : Sample) → IsFromOrigin old sample → IsOtherSample spent sample.subscriber sample.number → IsFromOrigin new sample
+    pub unwritten_loans : (loan : SampleMutUninit) → IsUnwrittenLoan old loan → IsOtherLoan spent loan.loan.number → IsUnwrittenLoan new loan
+    pub written_loans : (loan : SampleMut) → IsWrittenLoan old loan → IsOtherLoan spent loan.loan.number → IsWrittenLoan new loan
+    pub samples : (sample : Sample) → IsLiveSample old sample → IsOtherSample spent sample.sample.subscriber sample.sample.number → IsLiveSample new sample
+    pub origins : (sample : Sample) → IsFromOrigin old sample → IsOtherSample spent sample.sample.subscriber sample.sample.number → IsFromOrigin new sample
 
   -- The settings stay, and each port, loan and sample that was live is live.
   abbrev pub Stays : (old new : Kept T U) → Type 0
@@ -129,7 +141,7 @@ module _ {T U : Type 0} where
   -- The item is none of the loans and samples that were live.
   pub record IsNewIn (old : Kept T U) (made : Item) : Type 0 where
     pub loans : (key : Key) → IsLoanKey old key → IsOtherLoan made key.message
-    pub unwritten_loans : (loan : SampleMutUninit) → IsUnwrittenLoan old loan → IsOtherLoan made loan.number
-    pub written_loans : (loan : SampleMut) → IsWrittenLoan old loan → IsOtherLoan made loan.number
-    pub samples : (sample : Sample) → IsLiveSample old sample → IsOtherSample made sample.subscriber sample.number
-    pub origins : (sample : Sample) → IsFromOrigin old sample → IsOtherSample made sample.subscriber sample.number
+    pub unwritten_loans : (loan : SampleMutUninit) → IsUnwrittenLoan old loan → IsOtherLoan made loan.loan.number
+    pub written_loans : (loan : SampleMut) → IsWrittenLoan old loan → IsOtherLoan made loan.loan.number
+    pub samples : (sample : Sample) → IsLiveSample old sample → IsOtherSample made sample.sample.subscriber sample.sample.number
+    pub origins : (sample : Sample) → IsFromOrigin old sample → IsOtherSample made sample.sample.subscriber sample.sample.number

@@ -10,5 +10,5 @@ use Rattle.iox2_pubsub.specs.declared.sample.Sample.{Sample}
 -- What the machine answers where a receive answers this.
 abbrev pub received : Result (Option Sample) ReceiveError → ReceiveResult
 received (Ok None) = No_sample
-received (Ok (Some sample)) = Got_sample sample.publisher sample.number
+received (Ok (Some sample)) = Got_sample sample.origin sample.sample.number
 received (Err e) = Receive_error e

@@ -63,6 +63,6 @@ impl<T: Drop, U: Default + Drop, F: BackpressureFn, G: DegradationFn> Domain<T, 
         if key.service_id != self.state.config().service_id || key.message != 0 {
             return false;
         }
-        self.state.has_publisher(key.port)
+        self.state.has_publisher(UniquePublisherId::new(key.port))
     }
 }

@@ -4,13 +4,14 @@ ghost use Rattle.std.specs.Prelude.{◌≡◌, IfOk, IfSome};
 use crate::domain::Domain;
 use crate::sample::Sample;
 use crate::subscriber::Subscriber;
-use iox2_store::{BackpressureFn, DegradationFn, ReceiveError, UniquePublisherId};
+use iox2_domain::Receipt;
+use iox2_store::{BackpressureFn, DegradationFn, ReceiveError};
 
 impl Subscriber {
     ghost use Rattle.iox2_store.specs.Environments.{fixed_handlers};
     ghost use Rattle.iox2_store.specs.Receives.{Receive};
     ghost use Rattle.iox2_store.specs.State.{State, Messages};
-    ghost use Rattle.iox2_pubsub.specs.Live.{IsFromOrigin, IsLiveSample, IsLiveSubscriber, IsNewIn, A_sample, Stays};
+    ghost use Rattle.iox2_pubsub.specs.Live.{IsFromOrigin, IsLiveSample, IsLiveSubscriber, IsNewIn, Stays, received_sample};
     ghost use Rattle.iox2_pubsub.specs.ReceivedSamples.{received};
     ghost use Rattle.iox2_domain.specs.Shows.{Shows};
 
@@ -31,25 +32,23 @@ impl Subscriber {
         ensures receives { (m : Messages T U) (s : State T U) → Shows domain.old m s
             → (s' : State T U) × Shows domain.new m s' × Receive fixed_handlers s self.now.id s' (received result) }
         ensures live { IfOk result (λ sample. IfSome sample (IsLiveSample domain.new)) }
-        ensures new { IfOk result (λ sample. IfSome sample (λ it. IsNewIn domain.old (A_sample it.subscriber it.number))) }
+        ensures new { IfOk result (λ sample. IfSome sample (λ it. IsNewIn domain.old (received_sample it))) }
         ensures origin { IfOk result (λ sample. IfSome sample (IsFromOrigin domain.new)) }
-        ensures subscriber { IfOk result (λ sample. IfSome sample (λ it. it.subscriber ≡ self.now.id)) }
+        ensures subscriber { IfOk result (λ sample. IfSome sample (λ it. it.sample.subscriber ≡ self.now.id)) }
         ensures stays { Stays domain.old domain.new }
     {
-        let Some(place) = domain.state.find_subscriber(self.id.value(), self.place) else {
+        let Some(place) = domain.state.find_subscriber(self.id, self.place) else {
             unreachable!()
         };
         let receipt = domain.state.receive_at(place)?;
         let Some(receipt) = receipt else {
             return Ok(None);
         };
+        let Receipt { publisher, sample } = receipt;
         Ok(Some(Sample {
             service_id: self.service_id,
-            subscriber: self.id,
-            publisher: UniquePublisherId::new(receipt.publisher),
-            number: receipt.number,
-            connection: receipt.connection,
-            slot: receipt.slot,
+            origin: publisher,
+            sample,
         }))
     }
 }

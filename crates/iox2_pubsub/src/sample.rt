@@ -2,6 +2,7 @@
 ghost use Rattle.std.specs.Prelude.{◌≡◌};
 
 use crate::domain::Domain;
+use iox2_domain::SampleAt;
 use iox2_store::{
     BackpressureFn, DegradationFn, Header, Key, UniquePublisherId, UniqueSubscriberId,
 };
@@ -12,13 +13,9 @@ use iox2_store::{
 /// iceoryx2's `sample::Sample` (`src/sample.rs`).
 pub struct Sample {
     pub(crate) service_id: u128,
-    pub(crate) subscriber: UniqueSubscriberId,
     // Whom it was received from. Nothing is looked up by it.
-    pub(crate) publisher: UniquePublisherId,
-    pub(crate) number: u128,
-    // Where the domain looks for the message first.
-    pub(crate) connection: usize,
-    pub(crate) slot: usize,
+    pub(crate) origin: UniquePublisherId,
+    pub(crate) sample: SampleAt,
 }
 
 impl Sample {
@@ -27,7 +24,7 @@ impl Sample {
     ghost use Rattle.iox2_store.specs.Records.{Entry};
     ghost use Rattle.iox2_store.specs.Releases.{released};
     ghost use Rattle.iox2_store.specs.State.{State, Messages};
-    ghost use Rattle.iox2_pubsub.specs.Live.{IsFromOrigin, IsLiveSample, IsSingleValued, A_sample, StaysBut, sample_key};
+    ghost use Rattle.iox2_pubsub.specs.Live.{IsFromOrigin, IsLiveSample, IsSingleValued, StaysBut, received_sample, sample_key};
     ghost use Rattle.iox2_domain.specs.Shows.{Shows};
 
     /// Names the sample among all that its domain has: by its subscriber and its number.
@@ -38,8 +35,8 @@ impl Sample {
     {
         Key {
             service_id: self.service_id,
-            port: self.subscriber.value(),
-            message: self.number,
+            port: self.sample.subscriber.value(),
+            message: self.sample.number,
         }
     }
 
@@ -47,10 +44,9 @@ impl Sample {
     ///
     /// iceoryx2's `Sample::origin` (`src/sample.rs`).
     pub fn origin(&self) -> UniquePublisherId
-        ensures { result ≡ self.now.publisher }
+        ensures { result ≡ self.now.origin }
     {
-        let Sample { publisher, .. } = self;
-        *publisher
+        self.origin
     }
 
     /// The message's value, in a domain of single values.
@@ -63,12 +59,9 @@ impl Sample {
         requires live { IsLiveSample domain.now self.now }
         requires single_valued { IsSingleValued domain.now }
         ensures { (m : Messages T U) (s : State T U) → Shows domain.now m s
-            → (entry : Entry T U) × (m self.now.number ≡ Some entry) × (entry.values ≡ result.now ∷ []) }
+            → (entry : Entry T U) × (m self.now.sample.number ≡ Some entry) × (entry.values ≡ result.now ∷ []) }
     {
-        let receiver = self.subscriber.value();
-        domain
-            .state
-            .sample_payload(receiver, self.number, self.connection, self.slot)
+        domain.state.sample_payload(&self.sample)
     }
 
     /// The message's header.
@@ -80,13 +73,10 @@ impl Sample {
     ) -> &'a Header
         requires { IsLiveSample domain.now self.now }
         ensures header { (m : Messages T U) (s : State T U) → Shows domain.now m s
-            → (entry : Entry T U) × (m self.now.number ≡ Some entry) × (entry.header ≡ result.now) }
-        ensures origin { IsFromOrigin domain.now self.now → (result.now).publisher_id ≡ self.now.publisher }
+            → (entry : Entry T U) × (m self.now.sample.number ≡ Some entry) × (entry.header ≡ result.now) }
+        ensures origin { IsFromOrigin domain.now self.now → (result.now).publisher_id ≡ self.now.origin }
     {
-        let receiver = self.subscriber.value();
-        domain
-            .state
-            .sample_header(receiver, self.number, self.connection, self.slot)
+        domain.state.sample_header(&self.sample)
     }
 
     /// Gives the message back to its publisher, which may use its slot again once nobody else has
@@ -99,22 +89,17 @@ impl Sample {
     )
         requires { IsLiveSample domain.old self }
         ensures released { (m : Messages T U) (s : State T U) → Shows domain.old m s
-            → (publisher : ℕ) → IsTrue (is_borrowed self.number (s.mailboxes publisher self.subscriber))
-            → (s' : State T U) × Shows domain.new m s' × (s' ≡ released s publisher self.subscriber self.number) }
+            → (publisher : ℕ) → IsTrue (is_borrowed self.sample.number (s.mailboxes publisher self.sample.subscriber))
+            → (s' : State T U) × Shows domain.new m s' × (s' ≡ released s publisher self.sample.subscriber self.sample.number) }
         ensures spent { IsLiveSample domain.new self → ⊥ }
-        ensures stays { StaysBut (A_sample self.subscriber self.number) domain.old domain.new }
+        ensures stays { StaysBut (received_sample self) domain.old domain.new }
     {
         let Sample {
             service_id: _,
-            subscriber,
-            publisher: _,
-            number,
-            connection,
-            slot,
+            origin: _,
+            sample,
         } = self;
-        domain
-            .state
-            .give_back(subscriber.value(), number, connection, slot);
+        domain.state.give_back(sample);
     }
 
     /// Spends the handle of a sample whose domain is gone. A domain that is still there isn't told,
@@ -122,11 +107,8 @@ impl Sample {
     pub fn disown(self) {
         let Sample {
             service_id: _,
-            subscriber: _,
-            publisher: _,
-            number: _,
-            connection: _,
-            slot: _,
+            origin: _,
+            sample: _,
         } = self;
     }
 }
@@ -147,6 +129,7 @@ impl<T: Drop, U: Default + Drop, F: BackpressureFn, G: DegradationFn> Domain<T, 
         if key.service_id != self.state.config().service_id {
             return false;
         }
-        self.state.has_sample(key.port, key.message)
+        self.state
+            .has_sample(UniqueSubscriberId::new(key.port), key.message)
     }
 }

@@ -2,7 +2,8 @@
 ghost use Rattle.std.specs.Prelude.{◌≡◌};
 
 use crate::domain::Domain;
-use iox2_store::{BackpressureFn, DegradationFn, Header, Key, UniquePublisherId};
+use iox2_domain::LoanAt;
+use iox2_store::{BackpressureFn, DegradationFn, Header, Key};
 
 /// A loan whose payload is written. It is a value to be spent: the domain keeps the loan until its
 /// message was sent.
@@ -10,10 +11,7 @@ use iox2_store::{BackpressureFn, DegradationFn, Header, Key, UniquePublisherId};
 /// iceoryx2's `sample_mut::SampleMut` (`src/sample_mut.rs`).
 pub struct SampleMut {
     pub(crate) service_id: u128,
-    pub(crate) publisher: UniquePublisherId,
-    pub(crate) number: u128,
-    // Where the domain looks for it first.
-    pub(crate) slot: usize,
+    pub(crate) loan: LoanAt,
 }
 
 impl SampleMut {
@@ -32,11 +30,9 @@ impl SampleMut {
     ) -> &'a T
         requires live { IsWrittenLoan domain.now self.now }
         requires single_valued { IsSingleValued domain.now }
-        ensures { (m : Messages T U) (s : State T U) → Shows domain.now m s → HasCell s self.now.number (Some result.now) }
+        ensures { (m : Messages T U) (s : State T U) → Shows domain.now m s → HasCell s self.now.loan.number (Some result.now) }
     {
-        domain
-            .state
-            .loan_value(self.publisher.value(), self.number, self.slot)
+        domain.state.loan_value(&self.loan)
     }
 
     /// Where the message comes from, and of how many elements it is.
@@ -47,12 +43,10 @@ impl SampleMut {
         domain: &'a Domain<T, U, F, G>,
     ) -> &'a Header
         requires { IsLoanKey domain.now (written_key self.now) }
-        ensures header { (m : Messages T U) (s : State T U) → Shows domain.now m s → HasLoanHeader s self.now.number result.now }
-        ensures origin { (result.now).publisher_id ≡ self.now.publisher }
+        ensures header { (m : Messages T U) (s : State T U) → Shows domain.now m s → HasLoanHeader s self.now.loan.number result.now }
+        ensures origin { (result.now).publisher_id ≡ self.now.loan.publisher }
     {
-        domain
-            .state
-            .loan_header(self.publisher.value(), self.number, self.slot)
+        domain.state.loan_header(&self.loan)
     }
 
     /// Names the loan without being its handle. This library's own.
@@ -61,8 +55,8 @@ impl SampleMut {
     {
         Key {
             service_id: self.service_id,
-            port: self.publisher.value(),
-            message: self.number,
+            port: self.loan.publisher.value(),
+            message: self.loan.number,
         }
     }
 
@@ -71,9 +65,7 @@ impl SampleMut {
     pub fn disown(self) {
         let SampleMut {
             service_id: _,
-            publisher: _,
-            number: _,
-            slot: _,
+            loan: _,
         } = self;
     }
 }

@@ -3,7 +3,8 @@ ghost use Rattle.std.specs.Prelude.{◌≡◌};
 
 use crate::domain::Domain;
 use crate::sample_mut::SampleMut;
-use iox2_store::{BackpressureFn, DegradationFn, Header, Key, UniquePublisherId};
+use iox2_domain::LoanAt;
+use iox2_store::{BackpressureFn, DegradationFn, Header, Key};
 
 /// A loan whose payload isn't written. It is a value to be spent: the domain keeps the loan until
 /// its message was sent.
@@ -11,10 +12,7 @@ use iox2_store::{BackpressureFn, DegradationFn, Header, Key, UniquePublisherId};
 /// iceoryx2's `sample_mut_uninit::SampleMutUninit` (`src/sample_mut_uninit.rs`).
 pub struct SampleMutUninit {
     pub(crate) service_id: u128,
-    pub(crate) publisher: UniquePublisherId,
-    pub(crate) number: u128,
-    // Where the domain looks for it first.
-    pub(crate) slot: usize,
+    pub(crate) loan: LoanAt,
 }
 
 impl SampleMutUninit {
@@ -22,7 +20,7 @@ impl SampleMutUninit {
     ghost use Rattle.iox2_store.specs.Records.{Loan};
     ghost use Rattle.iox2_store.specs.State.{State, Messages, with_loan};
     ghost use Rattle.iox2_store.specs.Loans.{written};
-    ghost use Rattle.iox2_pubsub.specs.Live.{IsLoanKey, IsSingleValued, IsUnwrittenLoan, IsWrittenLoan, A_loan, StaysBut, unwritten_key};
+    ghost use Rattle.iox2_pubsub.specs.Live.{IsLoanKey, IsSingleValued, IsUnwrittenLoan, IsWrittenLoan, StaysBut, unwritten_key, unwritten_loan, written_key};
     ghost use Rattle.iox2_domain.specs.LoanCalls.{HasCell, HasLoanHeader};
     ghost use Rattle.iox2_domain.specs.Shows.{Shows};
 
@@ -37,27 +35,15 @@ impl SampleMutUninit {
     ) -> SampleMut
         requires live { IsUnwrittenLoan domain.old self }
         requires single_valued { IsSingleValued domain.old }
-        ensures written { (m : Messages T U) (s : State T U) → Shows domain.old m s → (l : Loan T U) × (s.loans self.number ≡ Some l) × Shows domain.new m (with_loan s self.number (Some (written l value))) }
+        ensures written { (m : Messages T U) (s : State T U) → Shows domain.old m s → (l : Loan T U) × (s.loans self.loan.number ≡ Some l) × Shows domain.new m (with_loan s self.loan.number (Some (written l value))) }
         ensures live { IsWrittenLoan domain.new result }
-        ensures service_id { result.service_id ≡ self.service_id }
-        ensures publisher { result.publisher ≡ self.publisher }
-        ensures number { result.number ≡ self.number }
-        ensures stays { StaysBut (A_loan self.number) domain.old domain.new }
+        ensures key { written_key result ≡ unwritten_key self }
+        ensures stays { StaysBut (unwritten_loan self) domain.old domain.new }
     {
-        let SampleMutUninit {
-            service_id,
-            publisher,
-            number,
-            slot,
-        } = self;
-        let slot = domain
-            .state
-            .write_loan(publisher.value(), number, slot, value);
+        let SampleMutUninit { service_id, loan } = self;
         SampleMut {
             service_id,
-            publisher,
-            number,
-            slot,
+            loan: domain.state.write_loan(loan, value),
         }
     }
 
@@ -70,11 +56,9 @@ impl SampleMutUninit {
     ) -> &'a Option<T>
         requires live { IsUnwrittenLoan domain.now self.now }
         requires single_valued { IsSingleValued domain.now }
-        ensures { (m : Messages T U) (s : State T U) → Shows domain.now m s → HasCell s self.now.number result.now }
+        ensures { (m : Messages T U) (s : State T U) → Shows domain.now m s → HasCell s self.now.loan.number result.now }
     {
-        domain
-            .state
-            .loan_cell(self.publisher.value(), self.number, self.slot)
+        domain.state.loan_cell(&self.loan)
     }
 
     /// Where the message comes from, and of how many elements it is.
@@ -85,12 +69,10 @@ impl SampleMutUninit {
         domain: &'a Domain<T, U, F, G>,
     ) -> &'a Header
         requires { IsLoanKey domain.now (unwritten_key self.now) }
-        ensures header { (m : Messages T U) (s : State T U) → Shows domain.now m s → HasLoanHeader s self.now.number result.now }
-        ensures origin { (result.now).publisher_id ≡ self.now.publisher }
+        ensures header { (m : Messages T U) (s : State T U) → Shows domain.now m s → HasLoanHeader s self.now.loan.number result.now }
+        ensures origin { (result.now).publisher_id ≡ self.now.loan.publisher }
     {
-        domain
-            .state
-            .loan_header(self.publisher.value(), self.number, self.slot)
+        domain.state.loan_header(&self.loan)
     }
 
     /// Names the loan without being its handle. This library's own.
@@ -99,8 +81,8 @@ impl SampleMutUninit {
     {
         Key {
             service_id: self.service_id,
-            port: self.publisher.value(),
-            message: self.number,
+            port: self.loan.publisher.value(),
+            message: self.loan.number,
         }
     }
 
@@ -109,9 +91,7 @@ impl SampleMutUninit {
     pub fn disown(self) {
         let SampleMutUninit {
             service_id: _,
-            publisher: _,
-            number: _,
-            slot: _,
+            loan: _,
         } = self;
     }
 }

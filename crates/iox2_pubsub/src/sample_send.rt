@@ -12,7 +12,7 @@ impl SampleMut {
     ghost use Rattle.iox2_store.specs.Numbers.{put_at};
     ghost use Rattle.iox2_store.specs.Records.{Loan};
     ghost use Rattle.iox2_store.specs.State.{State, Messages};
-    ghost use Rattle.iox2_pubsub.specs.Live.{IsLoanKey, IsWrittenLoan, A_loan, StaysBut, written_key};
+    ghost use Rattle.iox2_pubsub.specs.Live.{IsLoanKey, IsWrittenLoan, StaysBut, written_key, written_loan};
     ghost use Rattle.iox2_pubsub.specs.SendCalls.{Sends};
     ghost use Rattle.iox2_domain.specs.Shows.{Shows};
 
@@ -31,18 +31,16 @@ impl SampleMut {
     ) -> Result<SendOutcome, SendError>
         requires { IsWrittenLoan domain.old self }
         ensures ok { IsOk result }
-        ensures sent { (m : Messages T U) (s : State T U) (l : Loan T U) → Shows domain.old m s → s.loans self.number ≡ Some l
-            → (s' : State T U) × Shows domain.new (put_at m self.number (Some (entry_of l))) s' × Sends s self.number l result s' }
+        ensures sent { (m : Messages T U) (s : State T U) (l : Loan T U) → Shows domain.old m s → s.loans self.loan.number ≡ Some l
+            → (s' : State T U) × Shows domain.new (put_at m self.loan.number (Some (entry_of l))) s' × Sends s self.loan.number l result s' }
         ensures spent { IsLoanKey domain.new (written_key self) → ⊥ }
-        ensures stays { StaysBut (A_loan self.number) domain.old domain.new }
+        ensures stays { StaysBut (written_loan self) domain.old domain.new }
     {
         let SampleMut {
             service_id: _,
-            publisher,
-            number,
-            slot,
+            loan,
         } = self;
-        let count = domain.state.send_loan(publisher.value(), number, slot);
+        let count = domain.state.send_loan(loan);
         Ok(SendOutcome::Delivered(count))
     }
 }

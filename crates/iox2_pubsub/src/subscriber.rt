@@ -72,6 +72,7 @@ impl<T: Drop, U: Default + Drop, F: BackpressureFn, G: DegradationFn> Domain<T, 
         if key.service_id != self.state.config().service_id || key.message != 0 {
             return false;
         }
-        self.state.has_open_subscriber(key.port)
+        self.state
+            .has_open_subscriber(UniqueSubscriberId::new(key.port))
     }
 }

@@ -1,5 +1,5 @@
 //! Readings go from the thermometer to the display.
-ghost use Rattle.iox2_pubsub.specs.Live.{IsLivePublisher, IsLiveSubscriber, IsSingleValued, IsUnwrittenLoan, A_loan, Stays, StaysBut};
+ghost use Rattle.iox2_pubsub.specs.Live.{IsLivePublisher, IsLiveSubscriber, IsSingleValued, IsUnwrittenLoan, Stays, StaysBut, unwritten_loan};
 
 use crate::failure::Failure;
 use crate::reading::Reading;
@@ -96,7 +96,7 @@ fn send(
 ) -> Result<(), Failure>
     requires single_valued { IsSingleValued domain.old }
     requires loan { IsUnwrittenLoan domain.old loan }
-    ensures { StaysBut (A_loan loan.number) domain.old domain.new }
+    ensures { StaysBut (unwritten_loan loan) domain.old domain.new }
 {
     let message = loan.write_payload(domain, Reading { celsius });
     let SendOutcome::Delivered(_) = message.send(domain)?;

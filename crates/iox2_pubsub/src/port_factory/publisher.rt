@@ -9,7 +9,7 @@ ghost use Rattle.iox2_domain.specs.Shows.{Shows};
 
 use crate::domain::Domain;
 use crate::publisher::Publisher;
-use iox2_store::{BackpressureFn, DegradationFn, PublisherCreateError, UniquePublisherId};
+use iox2_store::{BackpressureFn, DegradationFn, PublisherCreateError};
 use std::marker::Model;
 
 /// Makes a publisher. It begins with the loans that the domain's settings allow a publisher. So far
@@ -82,15 +82,11 @@ impl PortFactoryPublisher {
         ensures stays { Stays domain.old domain.new }
     {
         let service_id = domain.state.config().service_id;
-        let id = UniquePublisherId::new(domain.state.next_port());
-        let place = match domain.state.create_publisher(self.max_loaned_samples) {
-            Ok(place) => place,
-            Err(e) => return Err(e),
-        };
+        let port = domain.state.create_publisher(self.max_loaned_samples)?;
         Ok(Publisher {
             service_id,
-            id,
-            place,
+            id: port.id,
+            place: port.place,
         })
     }
 }

@@ -8,7 +8,7 @@ ghost use Rattle.iox2_domain.specs.Shows.{Shows};
 
 use crate::domain::Domain;
 use crate::subscriber::Subscriber;
-use iox2_store::{BackpressureFn, DegradationFn, SubscriberCreateError, UniqueSubscriberId};
+use iox2_store::{BackpressureFn, DegradationFn, SubscriberCreateError};
 use std::marker::Model;
 
 /// Makes a subscriber. It begins with the largest buffer that the domain allows.
@@ -62,12 +62,11 @@ impl PortFactorySubscriber {
         ensures stays { Stays domain.old domain.new }
     {
         let service_id = domain.state.config().service_id;
-        let id = UniqueSubscriberId::new(domain.state.next_port());
-        let place = domain.state.create_subscriber(self.buffer_size)?;
+        let port = domain.state.create_subscriber(self.buffer_size)?;
         Ok(Subscriber {
             service_id,
-            id,
-            place,
+            id: port.id,
+            place: port.place,
             buffer_size: self.buffer_size.max(1),
         })
     }

@@ -4,11 +4,11 @@ ghost use Rattle.std.specs.Prelude.{◌≡◌, IfOk};
 use crate::domain::Domain;
 use crate::publisher::Publisher;
 use crate::sample_mut_uninit::SampleMutUninit;
-use iox2_store::{BackpressureFn, DegradationFn, Key, LoanError};
+use iox2_store::{BackpressureFn, DegradationFn, Key, LoanError, UniquePublisherId};
 
 impl Publisher {
     ghost use Rattle.iox2_store.specs.State.{State, Messages};
-    ghost use Rattle.iox2_pubsub.specs.Live.{IsLivePublisher, IsSingleValued, IsUnwrittenLoan, IsNewIn, A_loan, Stays};
+    ghost use Rattle.iox2_pubsub.specs.Live.{IsLivePublisher, IsSingleValued, IsUnwrittenLoan, IsNewIn, Stays, unwritten_loan};
     ghost use Rattle.iox2_domain.specs.Lending.{LoanCall};
     ghost use Rattle.iox2_domain.specs.Shows.{Shows};
 
@@ -31,21 +31,18 @@ impl Publisher {
         requires single_valued { IsSingleValued domain.old }
         ensures lends { (m : Messages T U) (s : State T U) → Shows domain.old m s → (s' : State T U) × Shows domain.new m s' × LoanCall U.is_default s self.now.id result s' }
         ensures live { IfOk result (λ loan. IsUnwrittenLoan domain.new loan) }
-        ensures new { IfOk result (λ loan. IsNewIn domain.old (A_loan loan.number)) }
-        ensures number { IfOk result (λ loan. loan.number ≡ domain.old.next_message) }
-        ensures publisher { IfOk result (λ loan. loan.publisher ≡ self.now.id) }
+        ensures new { IfOk result (λ loan. IsNewIn domain.old (unwritten_loan loan)) }
+        ensures number { IfOk result (λ loan. loan.loan.number ≡ domain.old.next_message) }
+        ensures publisher { IfOk result (λ loan. loan.loan.publisher ≡ self.now.id) }
         ensures stays { Stays domain.old domain.new }
     {
-        let Some(place) = domain.state.find_publisher(self.id.value(), self.place) else {
+        let Some(place) = domain.state.find_publisher(self.id, self.place) else {
             unreachable!();
         };
-        let number = domain.state.next_message();
-        let slot = domain.state.loan(place)?;
+        let loan = domain.state.loan(place)?;
         Ok(SampleMutUninit {
             service_id: self.service_id,
-            publisher: self.id,
-            number,
-            slot,
+            loan,
         })
     }
 }
@@ -63,6 +60,7 @@ impl<T: Drop, U: Default + Drop, F: BackpressureFn, G: DegradationFn> Domain<T, 
         if key.service_id != self.state.config().service_id {
             return false;
         }
-        self.state.find_loan(key.port, key.message, 0).is_some()
+        self.state
+            .has_loan(UniquePublisherId::new(key.port), key.message)
     }
 }

@@ -75,7 +75,7 @@ returns-clause-step g c =
         next_message = c.self.inside.next_message;
         warnings = c.self.inside.warnings;
         publishers = (c.put_at_place.ensures.items ∙ ap (λ xs. placed xs c.args.place c.in-Ok-entering.publisher) c.in-Ok-try_reserve.ensures.items) i;
-        subscribers = (with_items_is c.self.inside.subscribers c.make_all_due.new.subscribers (c.make_all_due.auto.subscribers ∙ c.deref_mut.ensures.len) ∙ c.make_all_due.ensures ∙ ap (map (option_map subscriber_due)) c.deref_mut.ensures.value) i;
+        subscribers = (with_items_is c.self.inside.subscribers c.make_all_due.new.ports (c.make_all_due.auto.ports ∙ c.deref_mut.ensures.len) ∙ c.make_all_due.ensures ∙ ap (map (option_map subscriber_due)) c.deref_mut.ensures.value) i;
         connections = c.self.inside.connections;
         books = c.add_segment.new.books;
         contents = c.in-Ok-add_segment.ensures.contents i;
@@ -88,3 +88,6 @@ returns-clause-stands g c = (
   ap (λ xs. get_or xs c.args.place None) c.put_at_place.ensures.items ∙ placed-here c.in-Ok-entering.publisher c.try_reserve.new.self.items c.args.place,
   ap (λ (x : PublisherFields). x.id) c.in-Ok-entering.ensures.enters ∙ c.new-id.ensures ∙ ap (λ (f : Fields g.row.T.Denot g.row.U.Denot). f.next_port) c.self.view_is,
 )
+
+pub returns-clause-id : goal.returns-clause-id
+returns-clause-id g c = c.new-id.ensures ∙ ap (λ (f : Fields g.row.T.Denot g.row.U.Denot). f.next_port) c.self.view_is

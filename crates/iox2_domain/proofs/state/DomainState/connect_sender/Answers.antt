@@ -16,20 +16,20 @@ returns-then-is_some g c = λ x at due.
     let old = c.args.self.now in
     let same : c.deref.result.now ≡ old.publishers = c.deref.ensures.value ∙ ap (λ (f : Fields g.row.T.Denot g.row.U.Denot). f.publishers) c.self.view_is in
     let some : is_some (sender_key old.publishers c.args.publisher_place c.args.subscriber_place) ≡ true =
-    ap (λ xs. is_some (sender_key xs c.args.publisher_place c.args.subscriber_place)) (sym same) ∙ ap is_some (sym c.publisher_key.ensures) ∙ sym c.is_some.ensures ∙ c.if-is_some.true in
+    ap (λ xs. is_some (sender_key xs c.args.publisher_place c.args.subscriber_place)) (sym same) ∙ ap is_some (sym c.key_at.ensures) ∙ sym c.is_some.ensures ∙ c.if-is_some.true in
     keeps-as old c.requires.agrees c.args.publisher_place c.args.subscriber_place x at due c.requires.subscriber some
 
-pub set_publisher_key-requires-clause-room : goal.set_publisher_key-requires-clause-room
-set_publisher_key-requires-clause-room g c = λ x at.
+pub set_key_at-requires-clause-room : goal.set_key_at-requires-clause-room
+set_key_at-requires-clause-room g c = λ x at.
     let old = c.args.self.now in
     let same : c.deref_mut.result.now ≡ old.publishers = c.deref_mut.ensures.value ∙ ap (λ (f : Fields g.row.T.Denot g.row.U.Denot). f.publishers) c.self.view_is in
     let subscribers : c.self.inside.subscribers.items ≡ old.subscribers = ap (λ (f : Fields g.row.T.Denot g.row.U.Denot). f.subscribers) c.self.view_is in
     let key : receiver_key old.subscribers c.args.subscriber_place c.args.publisher_place ≡ Some c.in-Some.key =
-    ap (λ zs. receiver_key zs c.args.subscriber_place c.args.publisher_place) (sym (c.deref-2.ensures.value ∙ subscribers)) ∙ sym c.subscriber_key.ensures ∙ c.in-Some.is in
+    ap (λ zs. receiver_key zs c.args.subscriber_place c.args.publisher_place) (sym (c.deref-2.ensures.value ∙ subscribers)) ∙ sym c.key_at-2.ensures ∙ c.in-Some.is in
     joins-room old c.requires.agrees c.args.publisher_place c.args.subscriber_place x (rw same at at) c.requires.subscriber c.in-Some.key key
 
-pub set_publisher_key-requires-2-clause-room : goal.set_publisher_key-requires-2-clause-room
-set_publisher_key-requires-2-clause-room g c = λ x at.
+pub set_key_at-requires-2-clause-room : goal.set_key_at-requires-2-clause-room
+set_key_at-requires-2-clause-room g c = λ x at.
     let same : c.deref_mut-2.result.now ≡ c.make_between.new.self.publishers = c.deref_mut-2.ensures.value ∙ ap (λ (f : Fields g.row.T.Denot g.row.U.Denot). f.publishers) c.self-2.view_is in
     c.in-Ok.ensures.sender_room x (rw same at at)
 
@@ -45,12 +45,12 @@ returns-in-Some g c = λ x at due.
     let publishers : c.self.inside.publishers.items ≡ old.publishers = ap (λ (f : Fields g.row.T.Denot g.row.U.Denot). f.publishers) viewed in
     let subscribers : c.self.inside.subscribers.items ≡ old.subscribers = ap (λ (f : Fields g.row.T.Denot g.row.U.Denot). f.subscribers) viewed in
     let none : is_some (sender_key old.publishers c.args.publisher_place c.args.subscriber_place) ≡ false =
-    ap (λ xs. is_some (sender_key xs c.args.publisher_place c.args.subscriber_place)) (sym (c.deref.ensures.value ∙ publishers)) ∙ ap is_some (sym c.publisher_key.ensures) ∙ sym c.is_some.ensures ∙ c.if-is_some.false in
+    ap (λ xs. is_some (sender_key xs c.args.publisher_place c.args.subscriber_place)) (sym (c.deref.ensures.value ∙ publishers)) ∙ ap is_some (sym c.key_at.ensures) ∙ sym c.is_some.ensures ∙ c.if-is_some.false in
     let key : receiver_key old.subscribers c.args.subscriber_place c.args.publisher_place ≡ Some c.in-Some.key =
-    ap (λ ys. receiver_key ys c.args.subscriber_place c.args.publisher_place) (sym (c.deref-2.ensures.value ∙ subscribers)) ∙ sym c.subscriber_key.ensures ∙ c.in-Some.is in
+    ap (λ ys. receiver_key ys c.args.subscriber_place c.args.publisher_place) (sym (c.deref-2.ensures.value ∙ subscribers)) ∙ sym c.key_at-2.ensures ∙ c.in-Some.is in
     let written : _ ≡ changed_at (with_sender_key c.args.subscriber_place c.in-Some.key) old.publishers c.args.publisher_place =
-    with_items_is c.self.inside.publishers c.set_publisher_key.new.publishers (c.set_publisher_key.auto.publishers ∙ c.deref_mut.ensures.len)
-    ∙ c.set_publisher_key.ensures ∙ ap (λ xs. changed_at (with_sender_key c.args.subscriber_place c.in-Some.key) xs c.args.publisher_place) (c.deref_mut.ensures.value ∙ publishers) in
+    with_items_is c.self.inside.publishers c.set_key_at.new.ports (c.set_key_at.auto.ports ∙ c.deref_mut.ensures.len)
+    ∙ c.set_key_at.ensures ∙ ap (λ xs. changed_at (with_sender_key c.args.subscriber_place c.in-Some.key) xs c.args.publisher_place) (c.deref_mut.ensures.value ∙ publishers) in
     joins-as old c.requires.agrees c.args.publisher_place c.args.subscriber_place x at due none c.requires.subscriber c.in-Some.key key _ (λ k. record (viewed k) { publishers = written k })
 
 pub returns-in_default-make_between : goal.returns-in_default-make_between
@@ -60,9 +60,9 @@ returns-in_default-make_between g c = λ x at due.
     let publishers : c.self.inside.publishers.items ≡ old.publishers = ap (λ (f : Fields g.row.T.Denot g.row.U.Denot). f.publishers) viewed in
     let subscribers : c.self.inside.subscribers.items ≡ old.subscribers = ap (λ (f : Fields g.row.T.Denot g.row.U.Denot). f.subscribers) viewed in
     let none : is_some (sender_key old.publishers c.args.publisher_place c.args.subscriber_place) ≡ false =
-    ap (λ xs. is_some (sender_key xs c.args.publisher_place c.args.subscriber_place)) (sym (c.deref.ensures.value ∙ publishers)) ∙ ap is_some (sym c.publisher_key.ensures) ∙ sym c.is_some.ensures ∙ c.if-is_some.false in
+    ap (λ xs. is_some (sender_key xs c.args.publisher_place c.args.subscriber_place)) (sym (c.deref.ensures.value ∙ publishers)) ∙ ap is_some (sym c.key_at.ensures) ∙ sym c.is_some.ensures ∙ c.if-is_some.false in
     let nobody : receiver_key old.subscribers c.args.subscriber_place c.args.publisher_place ≡ None =
-    ap (λ ys. receiver_key ys c.args.subscriber_place c.args.publisher_place) (sym (c.deref-2.ensures.value ∙ subscribers)) ∙ sym c.subscriber_key.ensures ∙ c.in_default.is in
+    ap (λ ys. receiver_key ys c.args.subscriber_place c.args.publisher_place) (sym (c.deref-2.ensures.value ∙ subscribers)) ∙ sym c.key_at-2.ensures ∙ c.in_default.is in
     let mid = c.make_between.new.self in
     misses-as old c.requires.agrees c.args.publisher_place c.args.subscriber_place x at due none nobody _ _ c.ports_at-buffer.ensures mid c.make_between.ensures.grows c.warn.new.warnings
     c.in_default-make_between.ensures.refused
@@ -76,13 +76,13 @@ returns g c = λ x at due.
     let publishers : c.self.inside.publishers.items ≡ old.publishers = ap (λ (f : Fields g.row.T.Denot g.row.U.Denot). f.publishers) viewed in
     let subscribers : c.self.inside.subscribers.items ≡ old.subscribers = ap (λ (f : Fields g.row.T.Denot g.row.U.Denot). f.subscribers) viewed in
     let none : is_some (sender_key old.publishers c.args.publisher_place c.args.subscriber_place) ≡ false =
-    ap (λ xs. is_some (sender_key xs c.args.publisher_place c.args.subscriber_place)) (sym (c.deref.ensures.value ∙ publishers)) ∙ ap is_some (sym c.publisher_key.ensures) ∙ sym c.is_some.ensures ∙ c.if-is_some.false in
+    ap (λ xs. is_some (sender_key xs c.args.publisher_place c.args.subscriber_place)) (sym (c.deref.ensures.value ∙ publishers)) ∙ ap is_some (sym c.key_at.ensures) ∙ sym c.is_some.ensures ∙ c.if-is_some.false in
     let nobody : receiver_key old.subscribers c.args.subscriber_place c.args.publisher_place ≡ None =
-    ap (λ ys. receiver_key ys c.args.subscriber_place c.args.publisher_place) (sym (c.deref-2.ensures.value ∙ subscribers)) ∙ sym c.subscriber_key.ensures ∙ c.in_default.is in
+    ap (λ ys. receiver_key ys c.args.subscriber_place c.args.publisher_place) (sym (c.deref-2.ensures.value ∙ subscribers)) ∙ sym c.key_at-2.ensures ∙ c.in_default.is in
     let mid = c.make_between.new.self in
     let written : _ ≡ changed_at (with_sender_key c.args.subscriber_place c.in-Ok.key) mid.publishers c.args.publisher_place =
-    with_items_is c.self-2.inside.publishers c.set_publisher_key-2.new.publishers (c.set_publisher_key-2.auto.publishers ∙ c.deref_mut-2.ensures.len)
-    ∙ c.set_publisher_key-2.ensures
+    with_items_is c.self-2.inside.publishers c.set_key_at-2.new.ports (c.set_key_at-2.auto.ports ∙ c.deref_mut-2.ensures.len)
+    ∙ c.set_key_at-2.ensures
     ∙ ap (λ zs. changed_at (with_sender_key c.args.subscriber_place c.in-Ok.key) zs c.args.publisher_place) (c.deref_mut-2.ensures.value ∙ ap (λ (f : Fields g.row.T.Denot g.row.U.Denot). f.publishers) c.self-2.view_is) in
     makes-as old c.requires.agrees c.args.publisher_place c.args.subscriber_place x at due none nobody _ _ c.ports_at-buffer.ensures mid c.make_between.ensures.grows
     c.in-Ok.ensures.sender_room c.in-Ok.ensures.receiver_room c.in-Ok.key c.in-Ok.ensures.made

@@ -30,25 +30,25 @@ returns-in_default-clause-step g c = (
   reaches-same c.args.self.now c.requires,
 )
 
-pub returns-in_err-admit_publisher-clause-step : goal.returns-in_err-admit_publisher-clause-step
-returns-in_err-admit_publisher-clause-step g c =
-    let refused = err_from_is_err_and c.from_residual-in_err-admit_publisher.result c.from_residual-in_err-admit_publisher.ensures.1 in
+pub returns-in_err-id-clause-step : goal.returns-in_err-id-clause-step
+returns-in_err-id-clause-step g c =
+    let refused = err_from_is_err_and c.from_residual-in_err-id.result c.from_residual-in_err-id.ensures.1 in
     rw (refused.1, refused.2) (
-      created-made {T = g.row.T.Denot} {U = g.row.U.Denot} c.args.self.now c.args.max_loaned_samples fixed_handlers c.in_ok-place.place (state_of (kept_of c.args.self.now)) (Some c.in_err-admit_publisher.field-0.0)
+      created-made {T = g.row.T.Denot} {U = g.row.U.Denot} c.args.self.now c.args.max_loaned_samples fixed_handlers c.in_ok-place.place (state_of (kept_of c.args.self.now)) (Some c.in_err-id.field-0.0)
           (sym c.place_for_publisher.ensures ∙ c.in_ok-place.was)
           (subst (λ (f : Fields g.row.T.Denot g.row.U.Denot). IsTrue (first_segment_fits f.config (plain_publisher c.args.max_loaned_samples))) c.self.view_is c.in-Some.ensures.0)
-          (tt, refl, c.in_err-admit_publisher.ensures.step.1),
-      c.in_err-admit_publisher.ensures.step.0,
+          (tt, refl, c.in_err-id.ensures.step.1),
+      c.in_err-id.ensures.step.0,
     )
 
 pub update_publisher-requires-clause-stands : goal.update_publisher-requires-clause-stands
 update_publisher-requires-clause-stands g c =
-    let entered = c.in_ok-admit_publisher.ensures in
+    let entered = c.in_ok-id.ensures in
     within_if_some c.admit_publisher.new.self.publishers c.in_ok-place.place entered.stands.0 entered.stands.1
 
 pub returns-clause-step : goal.returns-clause-step
 returns-clause-step g c =
-    let entered = c.in_ok-admit_publisher.ensures in
+    let entered = c.in_ok-id.ensures in
     let updated = c.update_publisher.ensures entered.stands.0 entered.stands.1 in
     created-updated {T = g.row.T.Denot} {U = g.row.U.Denot} c.args.self.now c.args.max_loaned_samples fixed_handlers
     c.admit_publisher.new.self c.update_publisher.new.self c.in_ok-place.place updated.after (sym c.place_for_publisher.ensures ∙ c.in_ok-place.was)
@@ -63,14 +63,14 @@ admit_publisher-requires-clause-slots g c =
     c.in-Some.ensures.1 ∙ ap (λ (f : Fields g.row.T.Denot g.row.U.Denot). worst_case f.config c.args.max_loaned_samples) c.self.view_is
 
 pub update_publisher-requires-clause-agrees : goal.update_publisher-requires-clause-agrees
-update_publisher-requires-clause-agrees g c = c.in_ok-admit_publisher.ensures.step.agrees
+update_publisher-requires-clause-agrees g c = c.in_ok-id.ensures.step.agrees
 
 pub returns-clause-stands : goal.returns-clause-stands
 returns-clause-stands g c =
-    let entered = c.in_ok-admit_publisher.ensures in
+    let entered = c.in_ok-id.ensures in
     let updated = c.update_publisher.ensures entered.stands.0 entered.stands.1 in (
       record (entered.stands.0) { keys = updated.keys; key_room = updated.key_room; is_due = false },
       ap (λ (f : Fields g.row.T.Denot g.row.U.Denot). get_or f.publishers c.in_ok-place.place None) updated.fields
           ∙ get_or-set_same c.admit_publisher.new.self.publishers c.in_ok-place.place (Some (record (entered.stands.0) { keys = updated.keys; key_room = updated.key_room; is_due = false })) None (within_if_some c.admit_publisher.new.self.publishers c.in_ok-place.place entered.stands.0 entered.stands.1),
-      entered.stands.2,
+      entered.stands.2 ∙ sym entered.id,
     )

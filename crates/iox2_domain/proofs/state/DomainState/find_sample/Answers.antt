@@ -5,12 +5,12 @@ use Rattle.iox2_domain.proofs.state.DomainState.find_sample.Goals as goal
 
 pub loop-key-preserved : goal.loop-key-preserved
 loop-key-preserved g c =
-    below_more _ _ c.loop-key.invariant (not-there c.args.self.now c.loop-key.key c.args.subscriber c.args.number
+    below_more _ _ c.loop-key.invariant (not-there c.args.self.now c.loop-key.key c.args.sample.now.subscriber c.args.sample.now.number
     c.find_sample_at-found.result c.find_sample_at-found.ensures c.is_some-in-loop-key.result c.is_some-in-loop-key.ensures c.if-is_some-2.false)
 
 pub returns : goal.returns
 returns g c =
-    held-nowhere c.args.self.now c.requires c.args.subscriber c.args.number (λ k below.
+    held-nowhere c.args.self.now c.requires c.args.sample.now.subscriber c.args.sample.now.number (λ k below.
     let long : length c.self.inside.connections.slots ≡ length c.args.self.now.connections.slots =
     ap (λ (f : Fields g.row.T.Denot g.row.U.Denot). length f.connections.slots) c.self.view_is in
     c.loop-key.invariant k (omega (arith, below, c.capacity-key-end.ensures.slots, c.loop-key-test.false)))

@@ -14,12 +14,12 @@ returns-in_err-slot g c =
     rw c.from_residual-in_err-slot.ensures (
     none-borrows c.args.self.now c.requires c.args.key c.book_of-book.result c.in_ok-connection.connection.now c.index.result.now
     (has-its-book _ c.args.self.now c.args.key c.book_of-book.result c.in_ok-connection.connection.now c.index.result.now c.self.view_is (sym c.in_ok-connection.ensures) c.book_of-book.ensures c.index.ensures)
-    c.args.subscriber c.args.number c.in_err-slot.ensures
+    c.args.sample.now.subscriber c.args.sample.now.number c.in_err-slot.ensures
     )
 
 pub returns : goal.returns
 returns g c =
     lies-there c.args.self.now c.requires c.args.key c.book_of-book.result c.in_ok-connection.connection.now c.index.result.now
     (has-its-book _ c.args.self.now c.args.key c.book_of-book.result c.in_ok-connection.connection.now c.index.result.now c.self.view_is (sym c.in_ok-connection.ensures) c.book_of-book.ensures c.index.ensures)
-    c.args.subscriber c.args.number c.in_ok-slot.slot
-    (ap (λ (h : Home). h.subscriber) (sym c.home.ensures.value) ∙ c.if-home-subscriber.false) c.in_ok-slot.ensures
+    c.args.sample.now.subscriber c.args.sample.now.number c.in_ok-slot.slot
+    (ap (λ (h : Home). h.subscriber) (sym c.home.ensures.value) ∙ c.if-home-value.false ∙ c.value.ensures) c.in_ok-slot.ensures

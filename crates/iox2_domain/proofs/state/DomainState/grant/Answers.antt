@@ -9,7 +9,7 @@ use Rattle.iox2_domain.specs.Invariant.{IsDomain}
 use Rattle.iox2_domain.specs.Lending.{CanLend}
 use Rattle.iox2_domain.proofs.Parts.{parts_of}
 use Rattle.iox2_domain.proofs.PublisherBooks.{read-there, book-there}
-use Rattle.iox2_domain.proofs.LendingSteps.{contents-within, single-fits, never-full, lends-from, lends-seen}
+use Rattle.iox2_domain.proofs.LendingSteps.{contents-within, single-fits, never-full, lends-from, lends-seen, named-seen}
 use Rattle.iox2_domain.proofs.state.DomainState.grant.Goals as goal
 
 pub index_mut-requires : goal.index_mut-requires
@@ -37,8 +37,8 @@ start-requires g c =
     (read-there _ c.args.place _ _ (ap (λ (f : Fields g.row.T.Denot g.row.U.Denot). slice_index_or f.publishers c.args.place None) c.self.view_is ∙ c.requires.can.stands) c.index.ensures ∙ c.in-Some.is ∙ ap Some (sym c.publisher.view_is))
     _ c.index_mut.ensures.value c.in-Some-take.slot c.in-Some-take.ensures.taken.in_bounds _ c.index_mut-2.ensures.value
 
-pub returns : goal.returns
-returns g c =
+pub returns-clause-lends : goal.returns-clause-lends
+returns-clause-lends g c =
     lends-seen {T = g.row.T.Denot} {U = g.row.U.Denot} g.U.Default.is_default _ _ _ c.args.place c.in-Some-take.slot _ c.self.view_is
     (read-there _ c.args.place _ _ (ap (λ (f : Fields g.row.T.Denot g.row.U.Denot). slice_index_or f.publishers c.args.place None) c.self.view_is ∙ c.requires.can.stands) c.index.ensures ∙ c.in-Some.is ∙ ap Some (sym c.publisher.view_is))
     (lends-from _ (subst (IsDomain {T = g.row.T.Denot} {U = g.row.U.Denot}) (sym c.self.view_is) c.requires.agrees) c.args.place _
@@ -46,6 +46,12 @@ returns g c =
     g.U.Default.is_default _ _ c.in-Some-take.slot _ c.index_mut.ensures.value
     (λ t. record { node_id = c.new.ensures t; publisher_id = c.publisher.inside.id; number_of_elements = 1 }) c.in-Some-take.ensures.taken
     _ _ c.index_mut-2.ensures.value c.start.ensures _ _ c.index_mut-3.ensures.value c.lend.ensures)
+
+pub returns-clause-named : goal.returns-clause-named
+returns-clause-named g c =
+    named-seen {T = g.row.T.Denot} {U = g.row.U.Denot} _ _ c.args.place _ _ c.self.view_is
+    (read-there _ c.args.place _ _ (ap (λ (f : Fields g.row.T.Denot g.row.U.Denot). slice_index_or f.publishers c.args.place None) c.self.view_is ∙ c.requires.can.stands) c.index.ensures ∙ c.in-Some.is ∙ ap Some (sym c.publisher.view_is))
+    (record { publisher = refl; number = refl })
 
 pub index-requires : goal.index-requires
 index-requires g c =

@@ -1,6 +1,6 @@
 use Rattle.std.proofs.Common.{ap}
 use Rattle.iox2_domain.specs.Fields.{Fields}
-use Rattle.iox2_domain.proofs.Loaned.{loan-refused, loan-lent, loan-lies}
+use Rattle.iox2_domain.proofs.Loaned.{loan-refused, loan-lent, loan-lies, loan-named}
 use Rattle.iox2_domain.proofs.state.DomainState.loan.Goals as goal
 
 pub returns-in-Some-clause-reaches : goal.returns-in-Some-clause-reaches
@@ -12,10 +12,15 @@ pub returns-clause-reaches : goal.returns-clause-reaches
 returns-clause-reaches g c =
     loan-lent {T = g.row.T.Denot} {U = g.row.U.Denot} g.U.Default.is_default c.args.self.now c.reclaim.new.self c.requires.agrees c.args.place c.requires.stands
     c.reclaim.ensures.reaches (ap (λ (f : Fields g.row.T.Denot g.row.U.Denot). f.publishers) c.reclaim.ensures.only) c.reclaim.ensures.reclaimed c.in_default.ensures
-    c.grant.result c.grant.new.self c.grant.ensures
+    c.grant.result c.grant.new.self c.grant.ensures.lends
+
+pub returns-clause-named : goal.returns-clause-named
+returns-clause-named g c =
+    loan-named {T = g.row.T.Denot} {U = g.row.U.Denot} g.U.Default.is_default c.args.self.now c.reclaim.new.self c.requires.agrees c.args.place c.requires.stands
+    c.reclaim.ensures.reaches (ap (λ (f : Fields g.row.T.Denot g.row.U.Denot). f.publishers) c.reclaim.ensures.only) c.grant.result c.grant.ensures.named
 
 pub returns-clause-lies : goal.returns-clause-lies
 returns-clause-lies g c =
     loan-lies {T = g.row.T.Denot} {U = g.row.U.Denot} g.U.Default.is_default c.args.self.now c.reclaim.new.self c.requires.agrees c.args.place c.requires.stands
     c.reclaim.ensures.reaches (ap (λ (f : Fields g.row.T.Denot g.row.U.Denot). f.publishers) c.reclaim.ensures.only) c.reclaim.ensures.reclaimed c.in_default.ensures
-    c.grant.result c.grant.new.self c.grant.ensures
+    c.grant.result c.grant.new.self c.grant.ensures.named c.grant.ensures.lends

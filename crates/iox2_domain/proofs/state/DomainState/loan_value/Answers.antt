@@ -6,10 +6,10 @@ unreachable-requires g c = let held = c.requires.held in c.in_default.ensures (h
 
 pub value-requires : goal.value-requires
 value-requires g c =
-    value-allowed {T = g.row.T.Denot} {U = g.row.U.Denot} c.args.self.now _ c.self.view_is c.requires.agrees c.requires.single c.args.publisher c.args.number
+    value-allowed {T = g.row.T.Denot} {U = g.row.U.Denot} c.args.self.now _ c.self.view_is c.requires.agrees c.requires.single c.args.loan.now.publisher c.args.loan.now.number
     c.in-Some.at.book c.in-Some.at.slot c.in-Some.ensures c.index.result.now c.index.ensures c.in-Some-index.contents c.in-Some-index.is c.requires.held
 
 pub returns : goal.returns
 returns g c =
-    value-shown {T = g.row.T.Denot} {U = g.row.U.Denot} c.args.self.now _ c.self.view_is c.requires.agrees c.requires.single c.args.publisher c.args.number
+    value-shown {T = g.row.T.Denot} {U = g.row.U.Denot} c.args.self.now _ c.self.view_is c.requires.agrees c.requires.single c.args.loan.now.publisher c.args.loan.now.number
     c.in-Some.at.book c.in-Some.at.slot c.in-Some.ensures c.index.result.now c.index.ensures c.in-Some-index.contents c.in-Some-index.is c.requires.held c.value.result.now c.value.ensures

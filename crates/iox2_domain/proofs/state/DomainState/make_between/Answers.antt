@@ -7,43 +7,43 @@ use Rattle.iox2_domain.specs.Updates.{MakesConnection}
 use Rattle.iox2_domain.proofs.MadeRoom.{always, gets-sender-room, gets-receiver-room, keeps-receiver-room, makes-room}
 use Rattle.iox2_domain.proofs.state.DomainState.make_between.Goals as goal
 
-pub returns-in_err-reserve_publisher_key-clause-grows : goal.returns-in_err-reserve_publisher_key-clause-grows
-returns-in_err-reserve_publisher_key-clause-grows g c =
-    let items = with_items_is c.self.inside.publishers c.reserve_publisher_key.new.publishers (c.reserve_publisher_key.auto.publishers ∙ c.deref_mut.ensures.len) in
+pub returns-in_err-reserve_key_at-clause-grows : goal.returns-in_err-reserve_key_at-clause-grows
+returns-in_err-reserve_key_at-clause-grows g c =
+    let items = with_items_is c.self.inside.publishers c.reserve_key_at.new.ports (c.reserve_key_at.auto.ports ∙ c.deref_mut.ensures.len) in
     makes-room c.args.self.now _ c.self.view_is c.args.publisher_place c.args.subscriber_place _ _ _
-    (gets-sender-room _ _ c.deref_mut.result.now c.reserve_publisher_key.new.publishers c.args.publisher_place c.deref_mut.ensures.value items
-    (record { same = c.in_err-reserve_publisher_key.ensures.same; grows = c.in_err-reserve_publisher_key.ensures.grows }))
+    (gets-sender-room _ _ c.deref_mut.result.now c.reserve_key_at.new.ports c.args.publisher_place c.deref_mut.ensures.value items
+    (record { same = c.in_err-reserve_key_at.ensures.same; grows = c.in_err-reserve_key_at.ensures.grows }))
     (keeps-receiver-room c.self.inside.subscribers.items c.args.subscriber_place)
 
-pub returns-in_err-reserve_subscriber_key-clause-grows : goal.returns-in_err-reserve_subscriber_key-clause-grows
-returns-in_err-reserve_subscriber_key-clause-grows g c =
-    let publishers = with_items_is c.self.inside.publishers c.reserve_publisher_key.new.publishers (c.reserve_publisher_key.auto.publishers ∙ c.deref_mut.ensures.len) in
-    let subscribers = with_items_is c.self.inside.subscribers c.reserve_subscriber_key.new.subscribers (c.reserve_subscriber_key.auto.subscribers ∙ c.deref_mut-2.ensures.len) in
+pub returns-in_err-reserve_key_at-2-clause-grows : goal.returns-in_err-reserve_key_at-2-clause-grows
+returns-in_err-reserve_key_at-2-clause-grows g c =
+    let publishers = with_items_is c.self.inside.publishers c.reserve_key_at.new.ports (c.reserve_key_at.auto.ports ∙ c.deref_mut.ensures.len) in
+    let subscribers = with_items_is c.self.inside.subscribers c.reserve_key_at-2.new.ports (c.reserve_key_at-2.auto.ports ∙ c.deref_mut-2.ensures.len) in
     makes-room c.args.self.now _ c.self.view_is c.args.publisher_place c.args.subscriber_place _ _ _
-    (gets-sender-room _ _ c.deref_mut.result.now c.reserve_publisher_key.new.publishers c.args.publisher_place c.deref_mut.ensures.value publishers
-    (record { same = c.in_ok-reserve_publisher_key.ensures.same; grows = c.in_ok-reserve_publisher_key.ensures.grows }))
-    (gets-receiver-room _ _ c.deref_mut-2.result.now c.reserve_subscriber_key.new.subscribers c.args.subscriber_place c.deref_mut-2.ensures.value subscribers
-    (record { same = c.in_err-reserve_subscriber_key.ensures.same; grows = c.in_err-reserve_subscriber_key.ensures.grows }))
+    (gets-sender-room _ _ c.deref_mut.result.now c.reserve_key_at.new.ports c.args.publisher_place c.deref_mut.ensures.value publishers
+    (record { same = c.in_ok-reserve_key_at.ensures.same; grows = c.in_ok-reserve_key_at.ensures.grows }))
+    (gets-receiver-room _ _ c.deref_mut-2.result.now c.reserve_key_at-2.new.ports c.args.subscriber_place c.deref_mut-2.ensures.value subscribers
+    (record { same = c.in_err-reserve_key_at-2.ensures.same; grows = c.in_err-reserve_key_at-2.ensures.grows }))
 
 pub returns-clause-grows : goal.returns-clause-grows
 returns-clause-grows g c =
-    let publishers = with_items_is c.self.inside.publishers c.reserve_publisher_key.new.publishers (c.reserve_publisher_key.auto.publishers ∙ c.deref_mut.ensures.len) in
-    let subscribers = with_items_is c.self.inside.subscribers c.reserve_subscriber_key.new.subscribers (c.reserve_subscriber_key.auto.subscribers ∙ c.deref_mut-2.ensures.len) in
+    let publishers = with_items_is c.self.inside.publishers c.reserve_key_at.new.ports (c.reserve_key_at.auto.ports ∙ c.deref_mut.ensures.len) in
+    let subscribers = with_items_is c.self.inside.subscribers c.reserve_key_at-2.new.ports (c.reserve_key_at-2.auto.ports ∙ c.deref_mut-2.ensures.len) in
     makes-room c.args.self.now _ c.self.view_is c.args.publisher_place c.args.subscriber_place _ _ _
-    (gets-sender-room _ _ c.deref_mut.result.now c.reserve_publisher_key.new.publishers c.args.publisher_place c.deref_mut.ensures.value publishers
-    (record { same = c.in_ok-reserve_publisher_key.ensures.same; grows = c.in_ok-reserve_publisher_key.ensures.grows }))
-    (gets-receiver-room _ _ c.deref_mut-2.result.now c.reserve_subscriber_key.new.subscribers c.args.subscriber_place c.deref_mut-2.ensures.value subscribers
-    (record { same = c.in_ok-reserve_subscriber_key.ensures.same; grows = c.in_ok-reserve_subscriber_key.ensures.grows }))
+    (gets-sender-room _ _ c.deref_mut.result.now c.reserve_key_at.new.ports c.args.publisher_place c.deref_mut.ensures.value publishers
+    (record { same = c.in_ok-reserve_key_at.ensures.same; grows = c.in_ok-reserve_key_at.ensures.grows }))
+    (gets-receiver-room _ _ c.deref_mut-2.result.now c.reserve_key_at-2.new.ports c.args.subscriber_place c.deref_mut-2.ensures.value subscribers
+    (record { same = c.in_ok-reserve_key_at-2.ensures.same; grows = c.in_ok-reserve_key_at-2.ensures.grows }))
 
 pub returns-clause-sender_room : goal.returns-clause-sender_room
 returns-clause-sender_room g c =
-    let publishers = with_items_is c.self.inside.publishers c.reserve_publisher_key.new.publishers (c.reserve_publisher_key.auto.publishers ∙ c.deref_mut.ensures.len) in
-    always c.make_connection.result (λ x at. c.in_ok-reserve_publisher_key.ensures.room x (sym (ap (λ zs. get_or zs c.args.publisher_place None) publishers) ∙ at))
+    let publishers = with_items_is c.self.inside.publishers c.reserve_key_at.new.ports (c.reserve_key_at.auto.ports ∙ c.deref_mut.ensures.len) in
+    always c.make_connection.result (λ x at. c.in_ok-reserve_key_at.ensures.room x (sym (ap (λ zs. get_or zs c.args.publisher_place None) publishers) ∙ at))
 
 pub returns-clause-receiver_room : goal.returns-clause-receiver_room
 returns-clause-receiver_room g c =
-    let subscribers = with_items_is c.self.inside.subscribers c.reserve_subscriber_key.new.subscribers (c.reserve_subscriber_key.auto.subscribers ∙ c.deref_mut-2.ensures.len) in
-    always c.make_connection.result (λ y at. c.in_ok-reserve_subscriber_key.ensures.room y (sym (ap (λ zs. get_or zs c.args.subscriber_place None) subscribers) ∙ at))
+    let subscribers = with_items_is c.self.inside.subscribers c.reserve_key_at-2.new.ports (c.reserve_key_at-2.auto.ports ∙ c.deref_mut-2.ensures.len) in
+    always c.make_connection.result (λ y at. c.in_ok-reserve_key_at-2.ensures.room y (sym (ap (λ zs. get_or zs c.args.subscriber_place None) subscribers) ∙ at))
 
 pub returns-clause-made : goal.returns-clause-made
 returns-clause-made g c =

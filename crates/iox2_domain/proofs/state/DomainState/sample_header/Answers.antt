@@ -3,11 +3,11 @@ use Rattle.iox2_domain.proofs.state.DomainState.sample_header.Goals as goal
 
 pub header-requires : goal.header-requires
 header-requires g c =
-    slot-within _ c.args.self.now c.args.subscriber c.args.number c.in-Some.at
+    slot-within _ c.args.self.now c.args.sample.now.subscriber c.args.sample.now.number c.in-Some.at
     (record { same = c.self.view_is; sound = c.requires.agrees; lies = c.in-Some.ensures }) c.index.result.now c.index.ensures
 
 pub returns : goal.returns
 returns g c =
-    header-read _ c.args.self.now c.args.subscriber c.args.number c.in-Some.at
+    header-read _ c.args.self.now c.args.sample.now.subscriber c.args.sample.now.number c.in-Some.at
     (record { same = c.self.view_is; sound = c.requires.agrees; lies = c.in-Some.ensures }) c.index.result.now c.index.ensures
     c.header.result.now c.header.ensures

@@ -6,24 +6,24 @@ pub index-requires : goal.index-requires
 index-requires g c =
     let long : vec_len c.self.inside.contents ≡ length c.self.inside.contents.items = search rules in
     let within : c.in-Some.at.book < length c.self.inside.contents.items =
-    book-within _ c.args.self.now c.args.subscriber c.args.number c.in-Some.at
+    book-within _ c.args.self.now c.args.sample.now.subscriber c.args.sample.now.number c.in-Some.at
     (record { same = c.self.view_is; sound = c.requires.agrees; lies = c.in-Some.ensures }) in
     omega arith
 
 pub unreachable-requires-in_default-index : goal.unreachable-requires-in_default-index
 unreachable-requires-in_default-index g c =
-    no-contents _ c.args.self.now c.args.subscriber c.args.number c.in-Some.at
+    no-contents _ c.args.self.now c.args.sample.now.subscriber c.args.sample.now.number c.in-Some.at
     (record { same = c.self.view_is; sound = c.requires.agrees; lies = c.in-Some.ensures })
     c.index.result.now c.index.ensures c.in_default-index.is
 
 pub value-requires : goal.value-requires
 value-requires g c =
-    value-there _ c.args.self.now c.args.subscriber c.args.number c.in-Some.at
+    value-there _ c.args.self.now c.args.sample.now.subscriber c.args.sample.now.number c.in-Some.at
     (record { same = c.self.view_is; sound = c.requires.agrees; lies = c.in-Some.ensures })
     c.index.result.now c.index.ensures c.in-Some-index.contents c.in-Some-index.is c.requires.single
 
 pub returns : goal.returns
 returns g c =
-    value-read _ c.args.self.now c.args.subscriber c.args.number c.in-Some.at
+    value-read _ c.args.self.now c.args.sample.now.subscriber c.args.sample.now.number c.in-Some.at
     (record { same = c.self.view_is; sound = c.requires.agrees; lies = c.in-Some.ensures })
     c.index.result.now c.index.ensures c.in-Some-index.contents c.in-Some-index.is c.requires.single c.value.result.now c.value.ensures

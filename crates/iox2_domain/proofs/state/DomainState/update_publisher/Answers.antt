@@ -6,12 +6,12 @@ use Rattle.iox2_domain.specs.Updates.{is_publisher_due, changed_at, updated_publ
 use Rattle.iox2_domain.proofs.SenderUpdates.{WalksSender, walk-begins, walk-more, walk-updates, walking-stands, walking-publishers, walking-subscribers, idle-updates, due-at}
 use Rattle.iox2_domain.proofs.state.DomainState.update_publisher.Goals as goal
 
-pub returns-then-not-is_publisher_due : goal.returns-then-not-is_publisher_due
-returns-then-not-is_publisher_due g c = λ x at.
+pub returns-then-not-is_due_at : goal.returns-then-not-is_due_at
+returns-then-not-is_due_at g c = λ x at.
     let old = c.args.self.now in
     let same : c.deref.result.now ≡ old.publishers = c.deref.ensures.value ∙ ap (λ (f : Fields g.row.T.Denot g.row.U.Denot). f.publishers) c.self.view_is in
     let due : x.is_due ≡ false =
-    sym (due-at old.publishers c.args.place x at) ∙ ap (λ xs. is_publisher_due xs c.args.place) (sym same) ∙ sym c.is_publisher_due.ensures ∙ c.if-not-is_publisher_due.true in
+    sym (due-at old.publishers c.args.place x at) ∙ ap (λ xs. is_publisher_due xs c.args.place) (sym same) ∙ sym c.is_due_at.ensures ∙ c.if-not-is_due_at.true in
     idle-updates old c.requires.agrees c.args.place x at due
 
 pub loop-other-init : goal.loop-other-init
@@ -19,8 +19,8 @@ loop-other-init g c = λ x at.
     let old = c.args.self.now in
     let viewed = c.self.view_is in
     let settled : _ ≡ changed_at updated_publisher old.publishers c.args.place =
-    with_items_is c.self.inside.publishers c.settle_publisher.new.publishers (c.settle_publisher.auto.publishers ∙ c.deref_mut.ensures.len)
-    ∙ c.settle_publisher.ensures
+    with_items_is c.self.inside.publishers c.settle.new.ports (c.settle.auto.ports ∙ c.deref_mut.ensures.len)
+    ∙ c.settle.ensures
     ∙ ap (λ xs. changed_at updated_publisher xs c.args.place) (c.deref_mut.ensures.value ∙ ap (λ (f : Fields g.row.T.Denot g.row.U.Denot). f.publishers) viewed) in
     subst (WalksSender old c.args.place x 0)
     (sym ((λ k. record (viewed k) { publishers = settled k }) ∙ ap (λ o. record old { publishers = slice_set old.publishers c.args.place (option_map updated_publisher o) }) at))
@@ -58,7 +58,7 @@ returns g c = λ x at.
     let old = c.args.self.now in
     let publishers : c.deref.result.now ≡ old.publishers = c.deref.ensures.value ∙ ap (λ (f : Fields g.row.T.Denot g.row.U.Denot). f.publishers) c.self.view_is in
     let due : x.is_due ≡ true =
-    sym (due-at old.publishers c.args.place x at) ∙ ap (λ xs. is_publisher_due xs c.args.place) (sym publishers) ∙ sym c.is_publisher_due.ensures ∙ c.if-not-is_publisher_due.false in
+    sym (due-at old.publishers c.args.place x at) ∙ ap (λ xs. is_publisher_due xs c.args.place) (sym publishers) ∙ sym c.is_due_at.ensures ∙ c.if-not-is_due_at.false in
     let size : vec_len c.self.inside.subscribers ≡ length c.self.inside.subscribers.items = search rules in
     let same : length c.self.inside.subscribers.items ≡ length old.subscribers = ap (λ (f : Fields g.row.T.Denot g.row.U.Denot). length f.subscribers) c.self.view_is in
     walk-updates old c.requires.agrees c.args.place x at c.loop-other.other c.loop-other.self (c.loop-other.invariant x at) due (omega arith)

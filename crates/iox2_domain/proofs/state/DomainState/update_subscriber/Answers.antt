@@ -6,12 +6,12 @@ use Rattle.iox2_domain.specs.Updates.{is_subscriber_due, changed_at, updated_sub
 use Rattle.iox2_domain.proofs.ReceiverUpdates.{WalksReceiver, walk-begins, walk-more, walk-updates, walking-stands, walking-subscribers, walking-publishers, idle-updates, due-at}
 use Rattle.iox2_domain.proofs.state.DomainState.update_subscriber.Goals as goal
 
-pub returns-then-not-is_subscriber_due : goal.returns-then-not-is_subscriber_due
-returns-then-not-is_subscriber_due g c = λ y at.
+pub returns-then-not-is_due_at : goal.returns-then-not-is_due_at
+returns-then-not-is_due_at g c = λ y at.
     let old = c.args.self.now in
     let same : c.deref.result.now ≡ old.subscribers = c.deref.ensures.value ∙ ap (λ (f : Fields g.row.T.Denot g.row.U.Denot). f.subscribers) c.self.view_is in
     let due : y.is_due ≡ false =
-    sym (due-at old.subscribers c.args.place y at) ∙ ap (λ xs. is_subscriber_due xs c.args.place) (sym same) ∙ sym c.is_subscriber_due.ensures ∙ c.if-not-is_subscriber_due.true in
+    sym (due-at old.subscribers c.args.place y at) ∙ ap (λ xs. is_subscriber_due xs c.args.place) (sym same) ∙ sym c.is_due_at.ensures ∙ c.if-not-is_due_at.true in
     idle-updates old c.requires.agrees c.args.place y at due
 
 pub loop-other-init : goal.loop-other-init
@@ -19,8 +19,8 @@ loop-other-init g c = λ y at.
     let old = c.args.self.now in
     let viewed = c.self.view_is in
     let settled : _ ≡ changed_at updated_subscriber old.subscribers c.args.place =
-    with_items_is c.self.inside.subscribers c.settle_subscriber.new.subscribers (c.settle_subscriber.auto.subscribers ∙ c.deref_mut.ensures.len)
-    ∙ c.settle_subscriber.ensures
+    with_items_is c.self.inside.subscribers c.settle.new.ports (c.settle.auto.ports ∙ c.deref_mut.ensures.len)
+    ∙ c.settle.ensures
     ∙ ap (λ xs. changed_at updated_subscriber xs c.args.place) (c.deref_mut.ensures.value ∙ ap (λ (f : Fields g.row.T.Denot g.row.U.Denot). f.subscribers) viewed) in
     subst (WalksReceiver old c.args.place y 0)
     (sym ((λ k. record (viewed k) { subscribers = settled k }) ∙ ap (λ o. record old { subscribers = slice_set old.subscribers c.args.place (option_map updated_subscriber o) }) at))
@@ -58,7 +58,7 @@ returns g c = λ y at.
     let old = c.args.self.now in
     let subscribers : c.deref.result.now ≡ old.subscribers = c.deref.ensures.value ∙ ap (λ (f : Fields g.row.T.Denot g.row.U.Denot). f.subscribers) c.self.view_is in
     let due : y.is_due ≡ true =
-    sym (due-at old.subscribers c.args.place y at) ∙ ap (λ xs. is_subscriber_due xs c.args.place) (sym subscribers) ∙ sym c.is_subscriber_due.ensures ∙ c.if-not-is_subscriber_due.false in
+    sym (due-at old.subscribers c.args.place y at) ∙ ap (λ xs. is_subscriber_due xs c.args.place) (sym subscribers) ∙ sym c.is_due_at.ensures ∙ c.if-not-is_due_at.false in
     let size : vec_len c.self.inside.publishers ≡ length c.self.inside.publishers.items = search rules in
     let same : length c.self.inside.publishers.items ≡ length old.publishers = ap (λ (f : Fields g.row.T.Denot g.row.U.Denot). length f.publishers) c.self.view_is in
     walk-updates old c.requires.agrees c.args.place y at c.loop-other.other c.loop-other.self (c.loop-other.invariant y at) due (omega arith)

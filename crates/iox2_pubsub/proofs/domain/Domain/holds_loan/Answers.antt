@@ -1,10 +1,14 @@
-use Rattle.std.proofs.Common.{ap, ◌∙◌}
-use Rattle.iox2_store.specs.declared.service_config.ServiceConfig.{ServiceConfig}
-use Rattle.iox2_pubsub.proofs.UninitLoans.{loan-key}
+use Rattle.std.proofs.Common.{◌≡◌, ap, sym, subst}
+use Rattle.iox2_store.specs.SingleCalls.{HoldsLoan}
+use Rattle.iox2_domain.specs.Kept.{Kept, state_of}
+use Rattle.iox2_pubsub.specs.Live.{IsLoanKey}
 use Rattle.iox2_pubsub.proofs.domain.Domain.holds_loan.Goals as goal
 
 pub returns : goal.returns
+unfolding IsLoanKey
 returns g c =
-    loan-key {T = g.row.T.Denot} {U = g.row.U.Denot} c.self.inside.state c.args.self.now c.args.key c.self.view_is
-    (c.if-key-config.false ∙ ap (λ (config : ServiceConfig). config.service_id) c.config.ensures)
-    c.find_loan.result c.find_loan.ensures c.is_some.result c.is_some.ensures
+    let has = rw c.new.ensures at c.has_loan.ensures in
+    let its : c.args.key.service_id ≡ (c.args.self.now.config).service_id = cc (ap (λ (k : Kept g.row.T.Denot g.row.U.Denot). (k.config).service_id) c.self.view_is) in (
+      λ yes. (its, subst (λ (k : Kept g.row.T.Denot g.row.U.Denot). HoldsLoan (state_of k) c.args.key.port c.args.key.message) c.self.view_is (has.0 yes)),
+      λ live. has.1 (subst (λ (k : Kept g.row.T.Denot g.row.U.Denot). HoldsLoan (state_of k) c.args.key.port c.args.key.message) (sym c.self.view_is) live.1),
+    )

@@ -14,7 +14,8 @@ returns-clause-entries g c = subst (λ (k : Kept g.row.T.Denot g.row.U.Denot). K
 pub returns-clause-held : goal.returns-clause-held
 unfolding IsSampleKey
 returns-clause-held g c =
+    let has = rw c.new.ensures at c.has_sample.ensures in
     let its : c.args.key.service_id ≡ (c.args.self.now.config).service_id = cc (ap (λ (k : Kept g.row.T.Denot g.row.U.Denot). (k.config).service_id) c.self.view_is) in (
-      λ yes. (its, subst (λ (k : Kept g.row.T.Denot g.row.U.Denot). HoldsSample (state_of k) c.args.key.port c.args.key.message) c.self.view_is (c.has_sample.ensures.0 yes)),
-      λ live. c.has_sample.ensures.1 (subst (λ (k : Kept g.row.T.Denot g.row.U.Denot). HoldsSample (state_of k) c.args.key.port c.args.key.message) (sym c.self.view_is) live.1),
+      λ yes. (its, subst (λ (k : Kept g.row.T.Denot g.row.U.Denot). HoldsSample (state_of k) c.args.key.port c.args.key.message) c.self.view_is (has.0 yes)),
+      λ live. has.1 (subst (λ (k : Kept g.row.T.Denot g.row.U.Denot). HoldsSample (state_of k) c.args.key.port c.args.key.message) (sym c.self.view_is) live.1),
     )

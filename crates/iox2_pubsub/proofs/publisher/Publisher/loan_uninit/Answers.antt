@@ -1,47 +1,54 @@
-use Rattle.std.proofs.Common.{refl, ap, ◌∙◌, Ok}
+use Rattle.std.proofs.Common.{ap, ◌∙◌, Ok}
 use Rattle.iox2_domain.specs.Kept.{Kept}
-use Rattle.iox2_pubsub.proofs.UninitLoans.{err-shown, ok-shown, ok-live, publisher-missing}
+use Rattle.iox2_pubsub.proofs.UninitLoans.{err-shown, ok-shown, ok-live, ok-number, ok-publisher, publisher-missing}
 use Rattle.iox2_pubsub.proofs.CallsStay.{always-shown, loan-is-new, loan-stays}
 use Rattle.iox2_pubsub.proofs.LiveParts.{publisher-parts}
 use Rattle.iox2_pubsub.proofs.publisher.Publisher.loan_uninit.Goals as goal
 
-pub returns-in_err-slot-clause-lends : goal.returns-in_err-slot-clause-lends
-returns-in_err-slot-clause-lends g c = λ m s shown.
+pub returns-in_err-loan-clause-lends : goal.returns-in_err-loan-clause-lends
+returns-in_err-loan-clause-lends g c = λ m s shown.
     err-shown {T = g.row.T.Denot} {U = g.row.U.Denot} g.U.Default.is_default c.domain.inside.state c.loan.new.self c.in-Some.place c.args.self.now.id c.loan.result
-    (c.in-Some.ensures.0, c.in-Some.ensures.1, c.in-Some.ensures.2 ∙ c.value.ensures) c.loan.ensures.reaches _ c.in_err-slot.field-0.0 c.in_err-slot.was c.from_residual.result c.from_residual.ensures.1 c.args.domain.now c.domain.view_is m s shown
+    c.in-Some.ensures c.loan.ensures.reaches _ c.in_err-loan.field-0.0 c.in_err-loan.was c.from_residual.result c.from_residual.ensures.1 c.args.domain.now c.domain.view_is m s shown
 
 pub returns-clause-lends : goal.returns-clause-lends
 returns-clause-lends g c = λ m s shown.
     ok-shown {T = g.row.T.Denot} {U = g.row.U.Denot} g.U.Default.is_default c.domain.inside.state c.loan.new.self c.in-Some.place c.args.self.now.id c.loan.result
-    (c.in-Some.ensures.0, c.in-Some.ensures.1, c.in-Some.ensures.2 ∙ c.value.ensures) c.loan.ensures.reaches _ c.in_ok-slot.slot c.in_ok-slot.slot c.in_ok-slot.was c.args.domain.now c.domain.view_is m s shown
+    c.in-Some.ensures c.loan.ensures.reaches _ c.in_ok-loan.loan c.in_ok-loan.loan c.in_ok-loan.was c.args.domain.now c.domain.view_is m s shown
 
 pub returns-clause-live : goal.returns-clause-live
 returns-clause-live g c =
     ok-live {T = g.row.T.Denot} {U = g.row.U.Denot} g.U.Default.is_default c.domain.inside.state c.loan.new.self c.in-Some.place c.args.self.now.id c.loan.result
-    (c.in-Some.ensures.0, c.in-Some.ensures.1, c.in-Some.ensures.2 ∙ c.value.ensures) c.loan.ensures.reaches _ c.in_ok-slot.slot c.in_ok-slot.was refl c.next_message-number.ensures
+    c.in-Some.ensures c.loan.ensures.reaches (record { service_id = c.args.self.now.service_id; loan = c.in_ok-loan.loan }) c.in_ok-loan.was c.in_ok-loan.ensures.named
     c.args.domain.now c.domain.view_is (publisher-parts c.args.domain.now _ c.requires.live).1
 
 pub returns-clause-number : goal.returns-clause-number
-returns-clause-number g c = c.next_message-number.ensures ∙ ap (λ (k : Kept g.row.T.Denot g.row.U.Denot). k.next_message) c.domain.view_is
+returns-clause-number g c =
+    ok-number {T = g.row.T.Denot} {U = g.row.U.Denot} g.U.Default.is_default c.domain.inside.state c.loan.new.self c.in-Some.place c.args.self.now.id c.loan.result
+    c.in-Some.ensures c.loan.ensures.reaches c.in_ok-loan.loan c.in_ok-loan.ensures.named ∙ ap (λ (k : Kept g.row.T.Denot g.row.U.Denot). k.next_message) c.domain.view_is
+
+pub returns-clause-publisher : goal.returns-clause-publisher
+returns-clause-publisher g c =
+    ok-publisher {T = g.row.T.Denot} {U = g.row.U.Denot} g.U.Default.is_default c.domain.inside.state c.loan.new.self c.in-Some.place c.args.self.now.id c.loan.result
+    c.in-Some.ensures c.loan.ensures.reaches c.in_ok-loan.loan c.in_ok-loan.ensures.named
 
 pub returns-clause-new : goal.returns-clause-new
 returns-clause-new g c =
     let it = always-shown {T = g.row.T.Denot} {U = g.row.U.Denot} c.domain.inside.state c.args.domain.now c.domain.invariant c.domain.view_is in
     loan-is-new {T = g.row.T.Denot} {U = g.row.U.Denot} c.args.domain.now c.args.domain.now it.0 it.1 it.2 _ (returns-clause-number g c)
 
-pub returns-in_err-slot-clause-stays : goal.returns-in_err-slot-clause-stays
-returns-in_err-slot-clause-stays g c =
+pub returns-in_err-loan-clause-stays : goal.returns-in_err-loan-clause-stays
+returns-in_err-loan-clause-stays g c =
     let it = always-shown {T = g.row.T.Denot} {U = g.row.U.Denot} c.domain.inside.state c.args.domain.now c.domain.invariant c.domain.view_is in
-    let step = returns-in_err-slot-clause-lends g c it.0 it.1 it.2 in
+    let step = returns-in_err-loan-clause-lends g c it.0 it.1 it.2 in
     loan-stays {T = g.row.T.Denot} {U = g.row.U.Denot} c.args.domain.now _ it.0 it.1 it.2 g.U.Default.is_default c.args.self.now.id c.from_residual.result step.0 step.1 step.2
 
 pub returns-clause-stays : goal.returns-clause-stays
 returns-clause-stays g c =
     let it = always-shown {T = g.row.T.Denot} {U = g.row.U.Denot} c.domain.inside.state c.args.domain.now c.domain.invariant c.domain.view_is in
     let step = returns-clause-lends g c it.0 it.1 it.2 in
-    loan-stays {T = g.row.T.Denot} {U = g.row.U.Denot} c.args.domain.now _ it.0 it.1 it.2 g.U.Default.is_default c.args.self.now.id (Ok c.in_ok-slot.slot) step.0 step.1 step.2
+    loan-stays {T = g.row.T.Denot} {U = g.row.U.Denot} c.args.domain.now _ it.0 it.1 it.2 g.U.Default.is_default c.args.self.now.id (Ok c.in_ok-loan.loan) step.0 step.1 step.2
 
 pub unreachable-requires : goal.unreachable-requires
 unreachable-requires g c =
-    publisher-missing {T = g.row.T.Denot} {U = g.row.U.Denot} c.domain.inside.state c.args.domain.now c.domain.view_is c.args.self.now c.value.result c.value.ensures
+    publisher-missing {T = g.row.T.Denot} {U = g.row.U.Denot} c.domain.inside.state c.args.domain.now c.domain.view_is c.args.self.now
     c.in_default.ensures c.requires.live

@@ -6,13 +6,12 @@ use Rattle.iox2_pubsub.proofs.sample.Sample.payload.Goals as goal
 
 pub sample_payload-requires-clause-held : goal.sample_payload-requires-clause-held
 sample_payload-requires-clause-held g c =
-    rw c.value-receiver.ensures
-    (subst (λ (k : Kept g.row.T.Denot g.row.U.Denot). HoldsSample (state_of k) c.args.self.now.subscriber c.args.self.now.number) (sym c.domain.view_is) (sample-parts c.args.domain.now _ c.requires.live).1)
+    subst (λ (k : Kept g.row.T.Denot g.row.U.Denot). HoldsSample (state_of k) c.args.self.now.sample.subscriber c.args.self.now.sample.number) (sym c.domain.view_is) (sample-parts c.args.domain.now _ c.requires.live).1
 
 pub returns : goal.returns
 returns g c = λ m s shown.
     let read = c.sample_payload.ensures in
-    (read.0, shown.entries c.args.self.now.number read.0 (ap (λ (k : Kept g.row.T.Denot g.row.U.Denot). entries_of k c.args.self.now.number) (sym c.domain.view_is) ∙ read.1), read.2)
+    (read.0, shown.entries c.args.self.now.sample.number read.0 (ap (λ (k : Kept g.row.T.Denot g.row.U.Denot). entries_of k c.args.self.now.sample.number) (sym c.domain.view_is) ∙ read.1), read.2)
 
 pub sample_payload-requires-clause-single : goal.sample_payload-requires-clause-single
 sample_payload-requires-clause-single g c =

@@ -10,26 +10,25 @@ use Rattle.iox2_pubsub.proofs.sample.Sample.release.Goals as goal
 
 pub give_back-requires-clause-held : goal.give_back-requires-clause-held
 give_back-requires-clause-held g c =
-    rw c.value.ensures
-    (subst (λ (k : Kept g.row.T.Denot g.row.U.Denot). HoldsSample (state_of k) c.args.self.subscriber c.args.self.number) (sym c.domain.view_is) (sample-parts c.args.domain.now _ c.requires).1)
+    subst (λ (k : Kept g.row.T.Denot g.row.U.Denot). HoldsSample (state_of k) c.args.self.sample.subscriber c.args.self.sample.number) (sym c.domain.view_is) (sample-parts c.args.domain.now _ c.requires).1
 
 pub returns-clause-released : goal.returns-clause-released
 returns-clause-released g c =
     release-shows {T = g.row.T.Denot} {U = g.row.U.Denot} c.args.domain.now c.domain.inside.state c.give_back.new.self c.domain.view_is
-    c.args.self.subscriber c.args.self.number c.value.result c.value.ensures c.give_back.ensures.released
+    c.args.self.sample.subscriber c.args.self.sample.number c.give_back.ensures.released
 
 pub returns-clause-spent : goal.returns-clause-spent
 returns-clause-spent g c = λ live.
     let it = always-shown {T = g.row.T.Denot} {U = g.row.U.Denot} c.domain.inside.state c.args.domain.now c.domain.invariant c.domain.view_is in
     let has = (sample-parts c.args.domain.now _ c.requires).1 in
-    let borrowed = ap (λ (t : State g.row.T.Denot g.row.U.Denot). is_borrowed c.args.self.number (t.mailboxes has.0 c.args.self.subscriber)) (it.2).state ∙ has.1 in
+    let borrowed = ap (λ (t : State g.row.T.Denot g.row.U.Denot). is_borrowed c.args.self.sample.number (t.mailboxes has.0 c.args.self.sample.subscriber)) (it.2).state ∙ has.1 in
     let step = returns-clause-released g c it.0 it.1 it.2 has.0 borrowed in
-    release-spends {T = g.row.T.Denot} {U = g.row.U.Denot} c.args.domain.now _ it.0 it.1 it.2 has.0 c.args.self.subscriber c.args.self.number step.0 step.1 borrowed step.2 _ refl refl live
+    release-spends {T = g.row.T.Denot} {U = g.row.U.Denot} c.args.domain.now _ it.0 it.1 it.2 has.0 c.args.self.sample.subscriber c.args.self.sample.number step.0 step.1 borrowed step.2 _ refl refl live
 
 pub returns-clause-stays : goal.returns-clause-stays
 returns-clause-stays g c =
     let it = always-shown {T = g.row.T.Denot} {U = g.row.U.Denot} c.domain.inside.state c.args.domain.now c.domain.invariant c.domain.view_is in
     let has = (sample-parts c.args.domain.now _ c.requires).1 in
-    let borrowed = ap (λ (t : State g.row.T.Denot g.row.U.Denot). is_borrowed c.args.self.number (t.mailboxes has.0 c.args.self.subscriber)) (it.2).state ∙ has.1 in
+    let borrowed = ap (λ (t : State g.row.T.Denot g.row.U.Denot). is_borrowed c.args.self.sample.number (t.mailboxes has.0 c.args.self.sample.subscriber)) (it.2).state ∙ has.1 in
     let step = returns-clause-released g c it.0 it.1 it.2 has.0 borrowed in
-    release-stays {T = g.row.T.Denot} {U = g.row.U.Denot} c.args.domain.now _ it.0 it.1 it.2 has.0 c.args.self.subscriber c.args.self.number step.0 step.1 step.2
+    release-stays {T = g.row.T.Denot} {U = g.row.U.Denot} c.args.domain.now _ it.0 it.1 it.2 has.0 c.args.self.sample.subscriber c.args.self.sample.number step.0 step.1 step.2

@@ -7,17 +7,17 @@ use Rattle.iox2_pubsub.proofs.sample_mut.SampleMut.header.Goals as goal
 pub loan_header-requires-clause-held : goal.loan_header-requires-clause-held
 loan_header-requires-clause-held g c =
     loan-out {T = g.row.T.Denot} {U = g.row.U.Denot} _ c.args.domain.now c.domain.view_is
-    (written_key c.args.self.now) c.value.result c.value.ensures c.requires
+    (written_key c.args.self.now) c.requires
 
 pub returns-clause-header : goal.returns-clause-header
 returns-clause-header g c =
     of-shown {T = g.row.T.Denot} {U = g.row.U.Denot} _ c.args.domain.now c.domain.view_is
-    (λ (s : State g.row.T.Denot g.row.U.Denot). HasLoanHeader s c.args.self.now.number c.loan_header.result.now) c.loan_header.ensures
+    (λ (s : State g.row.T.Denot g.row.U.Denot). HasLoanHeader s c.args.self.now.loan.number c.loan_header.result.now) c.loan_header.ensures
 
 pub returns-clause-origin : goal.returns-clause-origin
 returns-clause-origin g c =
     header-origin {T = g.row.T.Denot} {U = g.row.U.Denot} c.domain.inside.state c.domain.invariant
-    c.args.self.now.number c.value.result c.args.self.now.publisher c.loan_header.result.now c.value.ensures
+    c.args.self.now.loan.number c.args.self.now.loan.publisher c.loan_header.result.now
     (loan-out {T = g.row.T.Denot} {U = g.row.U.Denot} _ c.args.domain.now c.domain.view_is
-    (written_key c.args.self.now) c.value.result c.value.ensures c.requires)
+    (written_key c.args.self.now) c.requires)
     c.loan_header.ensures

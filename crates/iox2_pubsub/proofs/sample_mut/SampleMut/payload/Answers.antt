@@ -9,12 +9,12 @@ use Rattle.iox2_pubsub.proofs.sample_mut.SampleMut.payload.Goals as goal
 pub loan_value-requires-clause-held : goal.loan_value-requires-clause-held
 loan_value-requires-clause-held g c =
     written-out {T = g.row.T.Denot} {U = g.row.U.Denot} _ c.args.domain.now c.domain.view_is
-    c.args.self.now c.value.result c.value.ensures c.requires.live
+    c.args.self.now c.requires.live
 
 pub returns : goal.returns
 returns g c =
     of-shown {T = g.row.T.Denot} {U = g.row.U.Denot} _ c.args.domain.now c.domain.view_is
-    (λ (s : State g.row.T.Denot g.row.U.Denot). HasCell s c.args.self.now.number (Some c.loan_value.result.now)) c.loan_value.ensures
+    (λ (s : State g.row.T.Denot g.row.U.Denot). HasCell s c.args.self.now.loan.number (Some c.loan_value.result.now)) c.loan_value.ensures
 
 pub loan_value-requires-clause-single : goal.loan_value-requires-clause-single
 loan_value-requires-clause-single g c =

@@ -9,12 +9,12 @@ use Rattle.iox2_pubsub.proofs.sample_mut_uninit.SampleMutUninit.payload.Goals as
 pub loan_cell-requires-clause-held : goal.loan_cell-requires-clause-held
 loan_cell-requires-clause-held g c =
     unwritten-out {T = g.row.T.Denot} {U = g.row.U.Denot} _ c.args.domain.now c.domain.view_is
-    c.args.self.now c.value.result c.value.ensures c.requires.live
+    c.args.self.now c.requires.live
 
 pub returns : goal.returns
 returns g c =
     of-shown {T = g.row.T.Denot} {U = g.row.U.Denot} _ c.args.domain.now c.domain.view_is
-    (λ (s : State g.row.T.Denot g.row.U.Denot). HasCell s c.args.self.now.number c.loan_cell.result.now) c.loan_cell.ensures
+    (λ (s : State g.row.T.Denot g.row.U.Denot). HasCell s c.args.self.now.loan.number c.loan_cell.result.now) c.loan_cell.ensures
 
 pub loan_cell-requires-clause-single : goal.loan_cell-requires-clause-single
 loan_cell-requires-clause-single g c =

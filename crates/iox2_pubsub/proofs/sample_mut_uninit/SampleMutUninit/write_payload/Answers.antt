@@ -1,31 +1,33 @@
 use Rattle.std.proofs.Common.{refl, ap, ◌∙◌}
 use Rattle.iox2_domain.specs.Kept.{Kept}
 use Rattle.iox2_pubsub.proofs.LiveParts.{single-parts}
+use Rattle.iox2_domain.specs.declared.loan_slots.LoanAt.{LoanAt}
 use Rattle.iox2_pubsub.proofs.LoanHandles.{unwritten-out, write-shown, write-live}
 use Rattle.iox2_pubsub.proofs.CallsStay.{always-shown, write-stays}
 use Rattle.iox2_pubsub.proofs.sample_mut_uninit.SampleMutUninit.write_payload.Goals as goal
 
-pub write_loan-slot-requires-clause-held : goal.write_loan-slot-requires-clause-held
-write_loan-slot-requires-clause-held g c =
+pub write_loan-requires-clause-held : goal.write_loan-requires-clause-held
+write_loan-requires-clause-held g c =
     unwritten-out {T = g.row.T.Denot} {U = g.row.U.Denot} _ c.args.domain.now c.domain.view_is
-    c.args.self c.value.result c.value.ensures c.requires.live
+    c.args.self c.requires.live
 
 pub returns-clause-written : goal.returns-clause-written
 returns-clause-written g c =
-    write-shown {T = g.row.T.Denot} {U = g.row.U.Denot} c.domain.inside.state c.write_loan-slot.new.self c.args.domain.now c.domain.view_is
-    c.args.self.number c.args.value c.write_loan-slot.ensures.writes
+    write-shown {T = g.row.T.Denot} {U = g.row.U.Denot} c.domain.inside.state c.write_loan.new.self c.args.domain.now c.domain.view_is
+    c.args.self.loan.number c.args.value c.write_loan.ensures.writes
 
 pub returns-clause-live : goal.returns-clause-live
 returns-clause-live g c =
-    write-live {T = g.row.T.Denot} {U = g.row.U.Denot} c.domain.inside.state c.write_loan-slot.new.self c.args.domain.now c.domain.view_is
-    c.args.self.number c.args.value c.write_loan-slot.ensures.writes c.args.self _ refl refl refl refl c.requires.live
+    write-live {T = g.row.T.Denot} {U = g.row.U.Denot} c.domain.inside.state c.write_loan.new.self c.args.domain.now c.domain.view_is
+    c.args.self.loan.number c.args.value c.write_loan.ensures.writes c.args.self (record { service_id = c.args.self.service_id; loan = c.write_loan.result }) refl refl
+    (ap (λ (at : LoanAt). at.publisher) c.write_loan.ensures.same) (ap (λ (at : LoanAt). at.number) c.write_loan.ensures.same) c.requires.live
 
 pub returns-clause-stays : goal.returns-clause-stays
 returns-clause-stays g c =
     let it = always-shown {T = g.row.T.Denot} {U = g.row.U.Denot} c.domain.inside.state c.args.domain.now c.domain.invariant c.domain.view_is in
     let step = returns-clause-written g c it.0 it.1 it.2 in
-    write-stays {T = g.row.T.Denot} {U = g.row.U.Denot} c.args.domain.now _ it.0 it.1 it.2 c.args.self.number step.0 c.args.value step.2
+    write-stays {T = g.row.T.Denot} {U = g.row.U.Denot} c.args.domain.now _ it.0 it.1 it.2 c.args.self.loan.number step.0 c.args.value step.2
 
-pub write_loan-slot-requires-clause-single : goal.write_loan-slot-requires-clause-single
-write_loan-slot-requires-clause-single g c =
+pub write_loan-requires-clause-single : goal.write_loan-requires-clause-single
+write_loan-requires-clause-single g c =
     ap (λ (k : Kept g.row.T.Denot g.row.U.Denot). (k.config).units_per_element) c.domain.view_is ∙ (single-parts c.args.domain.now c.requires.single_valued).1

@@ -1,4 +1,5 @@
 use Rattle.std.proofs.Common.{◌∙◌, ap, sym, subst}
+use Rattle.std.proofs.lemmas.Result.{err_from_is_err_and}
 use Rattle.std.specs.declared.option.Option.TheVariants.{None, Some}
 use Rattle.iox2_store.specs.Environments.{fixed_handlers}
 use Rattle.iox2_store.specs.Ports.{CreatePublisher}
@@ -7,44 +8,50 @@ use Rattle.iox2_store.specs.State.{State}
 use Rattle.iox2_store.specs.declared.service_config.ServiceConfig.{ServiceConfig}
 use Rattle.iox2_domain.specs.Kept.{Kept, state_of}
 use Rattle.iox2_domain.specs.Fields.{kept_of}
+use Rattle.iox2_domain.specs.NewPublisher.{plain_publisher}
 use Rattle.iox2_domain.specs.Shows.{Shows}
 use Rattle.iox2_pubsub.proofs.PublishersShown.{created-shows, created-live}
 use Rattle.iox2_pubsub.proofs.CallsStay.{always-shown, publisher-creation-stays}
 use Rattle.iox2_pubsub.proofs.port_factory.publisher.PortFactoryPublisher.create.Goals as goal
 
-pub returns-in-Err-clause-creates : goal.returns-in-Err-clause-creates
-returns-in-Err-clause-creates g c m s shows =
-    let made = c.in-Err.ensures.step in
+pub returns-in_err-port-clause-creates : goal.returns-in_err-port-clause-creates
+returns-in_err-port-clause-creates g c m s shows =
+    let refused = err_from_is_err_and c.from_residual.result c.from_residual.ensures.1 in
+    let why = c.in_err-port.field-0.0 in
+    let made = c.in_err-port.ensures.step in
     let before : State g.row.T.Denot g.row.U.Denot = state_of (kept_of c.domain.inside.state) in
     let shown : Shows (kept_of c.domain.inside.state) m s = subst (λ (kept : Kept g.row.T.Denot g.row.U.Denot). Shows kept m s) (sym c.domain.view_is) shows in
-    let next = created-shows {T = g.row.T.Denot} {U = g.row.U.Denot} c.domain.inside.state c.create_publisher.new.self c.self.inside.max_loaned_samples fixed_handlers m s before (Some c.in-Err.e) shown made.0 made.1 in
-    (before, next.0, subst (λ (given : PublisherSettings). CreatePublisher fixed_handlers s given before (Some c.in-Err.e)) c.self.view_is next.1)
+    let next = created-shows {T = g.row.T.Denot} {U = g.row.U.Denot} c.domain.inside.state c.create_publisher.new.self c.self.inside.max_loaned_samples fixed_handlers m s before (Some why) shown made.0 made.1 in
+    rw (refused.1, refused.2) (before, next.0, subst (λ (given : PublisherSettings). CreatePublisher fixed_handlers s given before (Some why)) c.self.view_is next.1)
 
 pub returns-clause-creates : goal.returns-clause-creates
 returns-clause-creates g c m s shows =
-    let made = c.in-Ok.ensures.step in
+    let made = c.in_ok-port.ensures.step in
     let shown : Shows (kept_of c.domain.inside.state) m s = subst (λ (kept : Kept g.row.T.Denot g.row.U.Denot). Shows kept m s) (sym c.domain.view_is) shows in
     let next = created-shows {T = g.row.T.Denot} {U = g.row.U.Denot} c.domain.inside.state c.create_publisher.new.self c.self.inside.max_loaned_samples fixed_handlers m s made.0 None shown made.1 made.2 in (
       made.0,
       next.0,
       (
-        c.new-id.ensures ∙ c.next_port.ensures ∙ sym (ap (λ (u : State g.row.T.Denot g.row.U.Denot). u.next_port) shown.state),
+        c.in_ok-port.ensures.id ∙ sym (ap (λ (u : State g.row.T.Denot g.row.U.Denot). u.next_port) shown.state),
         subst (λ (given : PublisherSettings). CreatePublisher fixed_handlers s given made.0 None) c.self.view_is next.1,
       ),
     )
 
 pub returns-clause-live : goal.returns-clause-live
 returns-clause-live g c =
-    let made = c.in-Ok.ensures.step in
+    let made = c.in_ok-port.ensures.step in
     created-live {T = g.row.T.Denot} {U = g.row.U.Denot} c.domain.inside.state c.create_publisher.new.self c.self.inside.max_loaned_samples fixed_handlers made.0 made.1 made.2
-    (record { service_id = c.config.result.now.service_id; id = c.new-id.result; place = c.in-Ok.place })
-    (ap (λ (config : ServiceConfig). config.service_id) c.config.ensures) (c.new-id.ensures ∙ c.next_port.ensures)
+    (record { service_id = c.config.result.now.service_id; id = c.in_ok-port.port.id; place = c.in_ok-port.port.place })
+    (ap (λ (config : ServiceConfig). config.service_id) c.config.ensures) c.in_ok-port.ensures.id
 
-pub returns-in-Err-clause-stays : goal.returns-in-Err-clause-stays
-returns-in-Err-clause-stays g c =
+pub returns-in_err-port-clause-stays : goal.returns-in_err-port-clause-stays
+returns-in_err-port-clause-stays g c =
     let it = always-shown {T = g.row.T.Denot} {U = g.row.U.Denot} c.domain.inside.state c.args.domain.now c.domain.invariant c.domain.view_is in
-    let step = returns-in-Err-clause-creates g c it.0 it.1 it.2 in
-    publisher-creation-stays {T = g.row.T.Denot} {U = g.row.U.Denot} c.args.domain.now _ it.0 it.1 it.2 c.args.self (Some c.in-Err.e) step.0 step.1 step.2
+    let made = c.in_err-port.ensures.step in
+    let why = c.in_err-port.field-0.0 in
+    let shown : Shows (kept_of c.domain.inside.state) it.0 it.1 = subst (λ (kept : Kept g.row.T.Denot g.row.U.Denot). Shows kept it.0 it.1) (sym c.domain.view_is) it.2 in
+    let next = created-shows {T = g.row.T.Denot} {U = g.row.U.Denot} c.domain.inside.state c.create_publisher.new.self c.self.inside.max_loaned_samples fixed_handlers it.0 it.1 _ (Some why) shown made.0 made.1 in
+    publisher-creation-stays {T = g.row.T.Denot} {U = g.row.U.Denot} c.args.domain.now _ it.0 it.1 it.2 (plain_publisher c.self.inside.max_loaned_samples) (Some why) _ next.0 next.1
 
 pub returns-clause-stays : goal.returns-clause-stays
 returns-clause-stays g c =
