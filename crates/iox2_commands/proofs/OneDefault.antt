@@ -1,5 +1,5 @@
 -- Where there is one default value, a run uses that one throughout.
-use Rattle.std.proofs.Common.{◌≡◌, List, [], ◌∷◌, ◌++◌}
+use Rattle.std.proofs.Common.{List, [], ◌∷◌, ◌++◌}
 use Rattle.iox2_store.specs.Records.{Environment}
 use Rattle.iox2_store.specs.State.{State, Messages}
 use Rattle.iox2_commands.specs.Outcomes.{Handle, Event, messages_after}
