@@ -31,19 +31,19 @@ use Rattle.iox2_runs.proofs.Holdings.{kept-set, stands, lacks}
 module _ {T U : Type 0} (defaults : Defaults T U) (old new : Domain T U) (table table' : List Held) (of : ℕ) where
   -- a written loan
   pub write_carried : (value : T) (h : SampleMutUninit) (h' : SampleMut) → slice_index_or table of Nothing ≡ Unwritten h
-      → ((m : Messages T U) (s : State T U) → Shows old m s → (l : Loan T U) × (s.loans h.number ≡ Some l) × Shows new m (with_loan s h.number (Some (written l value))))
-      → h'.service_id ≡ h.service_id → h'.publisher ≡ h.publisher → h'.number ≡ h.number
+      → ((m : Messages T U) (s : State T U) → Shows old m s → (l : Loan T U) × (s.loans h.loan.number ≡ Some l) × Shows new m (with_loan s h.loan.number (Some (written l value))))
+      → h'.service_id ≡ h.service_id → h'.loan.publisher ≡ h.loan.publisher → h'.loan.number ≡ h.loan.number
       → table' ≡ slice_set table of (Written h')
       → Carries defaults old new table (WriteAll of value) Done table' Nothing
   write_carried value h h' at writes service publisher number is = λ m s handles events shown w default_value default_header is_value is_header.
       let wrote = writes m s shown in
-      let same : kept_of (Written h') ≡ Kept_written h.service_id h.publisher h.number = λ i. Kept_written (service i) (publisher i) (number i) in
-      let after : map kept_of table' ≡ slice_set (map kept_of table) of (Kept_written h.service_id h.publisher h.number) =
+      let same : kept_of (Written h') ≡ Kept_written h.service_id h.loan.publisher h.loan.number = λ i. Kept_written (service i) (publisher i) (number i) in
+      let after : map kept_of table' ≡ slice_set (map kept_of table) of (Kept_written h.service_id h.loan.publisher h.loan.number) =
       ap (λ (t : List Held). map kept_of t) is ∙ kept-set table of (Written h') ∙ ap (λ (k : Kept). slice_set (map kept_of table) of k) same in
       subst (λ (ks : List Kept). Comes defaults (Shows new) m s handles events (WriteAll of value) Done (ks ++ Nothing_kept ∷ [])) (sym after)
-      (write_comes defaults (Shows new) m s handles events (map kept_of table) w default_value default_header is_value is_header of h.service_id h.publisher h.number value
+      (write_comes defaults (Shows new) m s handles events (map kept_of table) w default_value default_header is_value is_header of h.service_id h.loan.publisher h.loan.number value
       (stands table of (Unwritten h) at (λ e. let clash : Unwritten h ≡ Nothing = e in cc))
-      (λ l there. subst (λ (k : Loan T U). Shows new m (with_loan s h.number (Some (written k value)))) (same_loan wrote.0 l (sym wrote.1 ∙ there)) wrote.2))
+      (λ l there. subst (λ (k : Loan T U). Shows new m (with_loan s h.loan.number (Some (written k value)))) (same_loan wrote.0 l (sym wrote.1 ∙ there)) wrote.2))
     where
       same_loan : (k l : Loan T U) → Some k ≡ Some l → k ≡ l
       same_loan k l e = cc
@@ -73,7 +73,7 @@ module _ {T U : Type 0} (defaults : Defaults T U) (old new : Domain T U) (table 
       → (old.config).variant ≡ FixedSize → (old.config).units_per_element ≡ 1
       → ((m : Messages T U) (s : State T U) → Shows old m s → (s' : State T U) × Shows new m s'
       × ((header : U) × defaults.IsDefaultHeader header × GrantLoan ample_memory header false 1 s h.id s' None))
-      → h'.service_id ≡ (new.config).service_id → h'.publisher ≡ h.id → h'.number ≡ old.next_message
+      → h'.service_id ≡ (new.config).service_id → h'.loan.publisher ≡ h.id → h'.loan.number ≡ old.next_message
       → Carries defaults old new table (LoanUninit of) Loaned table' (Unwritten h')
   loan_carried is h h' at variant units lends service publisher number = λ m s handles events shown w default_value default_header is_value is_header.
       let lent = lends m s shown in
@@ -110,15 +110,15 @@ module _ {T U : Type 0} (defaults : Defaults T U) (old new : Domain T U) (table 
       (lacks is_written refl table of other) (subst (λ (d : Domain T U). Shows d m s) same shown))
 
   pub send_carried : (h : SampleMut) (count : ℕ) → slice_index_or table of Nothing ≡ Written h
-      → ((m : Messages T U) (s : State T U) (l : Loan T U) → Shows old m s → s.loans h.number ≡ Some l
-      → (s' : State T U) × Shows new (put_at m h.number (Some (entry_of l))) s' × Send fixed_handlers s h.number l s' (Delivered_to count))
+      → ((m : Messages T U) (s : State T U) (l : Loan T U) → Shows old m s → s.loans h.loan.number ≡ Some l
+      → (s' : State T U) × Shows new (put_at m h.loan.number (Some (entry_of l))) s' × Send fixed_handlers s h.loan.number l s' (Delivered_to count))
       → table' ≡ slice_set table of Nothing
       → Carries defaults old new table (SendLoan of) (Delivered count) table' Nothing
   send_carried h count at sends is = λ m s handles events shown w default_value default_header is_value is_header.
       let stand = stands table of (Written h) at (λ e. let clash : Written h ≡ Nothing = e in cc) in
-      let named = has_written s handles events (map kept_of table) w of h.service_id h.publisher h.number stand in
+      let named = has_written s handles events (map kept_of table) w of h.service_id h.loan.publisher h.loan.number stand in
       let sent = sends m s named.0 shown named.3 in
       let after : map kept_of table' ≡ slice_set (map kept_of table) of Nothing_kept = ap (λ (t : List Held). map kept_of t) is ∙ kept-set table of Nothing in
       subst (λ (ks : List Kept). Comes defaults (Shows new) m s handles events (SendLoan of) (Delivered count) (ks ++ Nothing_kept ∷ [])) (sym after)
-      (send_comes defaults (Shows new) m s handles events (map kept_of table) w default_value default_header is_value is_header of h.service_id h.publisher h.number count
-      stand named.0 named.3 sent.0 sent.2 (send_advances fixed_handlers s h.number named.0 sent.0 (Delivered_to count) sent.2).next_message sent.1)
+      (send_comes defaults (Shows new) m s handles events (map kept_of table) w default_value default_header is_value is_header of h.service_id h.loan.publisher h.loan.number count
+      stand named.0 named.3 sent.0 sent.2 (send_advances fixed_handlers s h.loan.number named.0 sent.0 (Delivered_to count) sent.2).next_message sent.1)

@@ -50,19 +50,19 @@ module _ {T U : Type 0} (defaults : Defaults T U) (old new : Domain T U) (table 
       (lacks is_sample refl table of other) (subst (λ (d : Domain T U). Shows d m s) same shown))
 
   pub release_carried : (h : SampleHandle) → slice_index_or table of Nothing ≡ HeldSample h
-      → is_borrowed h.number ((state_of old).mailboxes h.publisher h.subscriber) ≡ true
-      → ((m : Messages T U) (s : State T U) → Shows old m s → (p : ℕ) → is_borrowed h.number (s.mailboxes p h.subscriber) ≡ true
-      → (s' : State T U) × Shows new m s' × (s' ≡ released s p h.subscriber h.number))
+      → is_borrowed h.sample.number ((state_of old).mailboxes h.origin h.sample.subscriber) ≡ true
+      → ((m : Messages T U) (s : State T U) → Shows old m s → (p : ℕ) → is_borrowed h.sample.number (s.mailboxes p h.sample.subscriber) ≡ true
+      → (s' : State T U) × Shows new m s' × (s' ≡ released s p h.sample.subscriber h.sample.number))
       → table' ≡ slice_set table of Nothing
       → Carries defaults old new table (ReleaseCommand of) Done table' Nothing
   release_carried h at held releases is = λ m s handles events shown w default_value default_header is_value is_header.
       let freed =
-      releases m s shown h.publisher (subst (λ (t : State T U). is_borrowed h.number (t.mailboxes h.publisher h.subscriber) ≡ true) (sym shown.state) held) in
+      releases m s shown h.origin (subst (λ (t : State T U). is_borrowed h.sample.number (t.mailboxes h.origin h.sample.subscriber) ≡ true) (sym shown.state) held) in
       let after : map kept_of table' ≡ slice_set (map kept_of table) of Nothing_kept = ap (λ (t : List Held). map kept_of t) is ∙ kept-set table of Nothing in
       subst (λ (ks : List Kept). Comes defaults (Shows new) m s handles events (ReleaseCommand of) Done (ks ++ Nothing_kept ∷ [])) (sym after)
-      (release_comes defaults (Shows new) m s handles events (map kept_of table) w default_value default_header is_value is_header of h.service_id h.publisher h.subscriber h.number
+      (release_comes defaults (Shows new) m s handles events (map kept_of table) w default_value default_header is_value is_header of h.service_id h.origin h.sample.subscriber h.sample.number
       (stands table of (HeldSample h) at (λ e. let clash : HeldSample h ≡ Nothing = e in cc))
-      (released_advances s h.publisher h.subscriber h.number).next_message (subst (Shows new m) freed.2 freed.1))
+      (released_advances s h.origin h.sample.subscriber h.sample.number).next_message (subst (Shows new m) freed.2 freed.1))
 
   -- ---- receive
 
@@ -79,19 +79,19 @@ module _ {T U : Type 0} (defaults : Defaults T U) (old new : Domain T U) (table 
 
   pub receive_carried : table' ≡ table → (h : SubscriberHandle) (h' : SampleHandle) (origin : ℕ) → slice_index_or table of Nothing ≡ HeldSubscriber h
       → (old.config).variant ≡ FixedSize → (old.config).units_per_element ≡ 1
-      → ((m : Messages T U) (s : State T U) → Shows old m s → (s' : State T U) × Shows new m s' × Receive fixed_handlers s h.id s' (Got_sample h'.publisher h'.number))
-      → h'.service_id ≡ (new.config).service_id → h'.subscriber ≡ h.id → origin ≡ h'.publisher
+      → ((m : Messages T U) (s : State T U) → Shows old m s → (s' : State T U) × Shows new m s' × Receive fixed_handlers s h.id s' (Got_sample h'.origin h'.sample.number))
+      → h'.service_id ≡ (new.config).service_id → h'.sample.subscriber ≡ h.id → origin ≡ h'.origin
       → Carries defaults old new table (ReceiveCommand of) (SampleReply origin) table' (HeldSample h')
   receive_carried is h h' origin at variant units receives service subscriber same = λ m s handles events shown w default_value default_header is_value is_header.
       let got = receives m s shown in
-      let made : Kept_sample h'.service_id h'.publisher h.id h'.number ≡ kept_of (HeldSample h') = λ i. Kept_sample h'.service_id h'.publisher (sym subscriber i) h'.number in
+      let made : Kept_sample h'.service_id h'.origin h.id h'.sample.number ≡ kept_of (HeldSample h') = λ i. Kept_sample h'.service_id h'.origin (sym subscriber i) h'.sample.number in
       subst (λ (t : List Held). Comes defaults (Shows new) m s handles events (ReceiveCommand of) (SampleReply origin) (map kept_of t ++ kept_of (HeldSample h') ∷ [])) (sym is)
       (subst (λ (p : ℕ). Comes defaults (Shows new) m s handles events (ReceiveCommand of) (SampleReply p) (map kept_of table ++ kept_of (HeldSample h') ∷ [])) (sym same)
-      (subst (λ (k : Kept). Comes defaults (Shows new) m s handles events (ReceiveCommand of) (SampleReply h'.publisher) (map kept_of table ++ k ∷ [])) made
+      (subst (λ (k : Kept). Comes defaults (Shows new) m s handles events (ReceiveCommand of) (SampleReply h'.origin) (map kept_of table ++ k ∷ [])) made
       (receive_comes defaults (Shows new) m s handles events (map kept_of table) w default_value default_header is_value is_header of h.service_id h.id
       (stands table of (HeldSubscriber h) at (λ e. let clash : HeldSubscriber h ≡ Nothing = e in cc))
       (ap (λ (t : State T U). (t.config).variant) shown.state ∙ variant, ap (λ (t : State T U). (t.config).units_per_element) shown.state ∙ units)
-      got.0 h'.publisher h'.number got.2 (receive_advances fixed_handlers s h.id got.0 (Got_sample h'.publisher h'.number) got.2).next_message got.1
+      got.0 h'.origin h'.sample.number got.2 (receive_advances fixed_handlers s h.id got.0 (Got_sample h'.origin h'.sample.number) got.2).next_message got.1
       h'.service_id (service ∙ sym (ap (λ (t : State T U). (t.config).service_id) (got.1).state)))))
 
   pub receive_none : table' ≡ table → (h : SubscriberHandle) → slice_index_or table of Nothing ≡ HeldSubscriber h → (old.config).units_per_element ≡ 1
@@ -160,38 +160,38 @@ module _ {T U : Type 0} (defaults : Defaults T U) (old new : Domain T U) (table 
       (step m s handles events shown w default_value default_header) shown)
 
   pub read_unwritten : table' ≡ table → (at : ℕ) (h : SampleMutUninit) (cell : Option T) (reply : Reply T U) → slice_index_or table of Nothing ≡ Unwritten h
-      → ((m : Messages T U) (s : State T U) → Shows old m s → HasCell s h.number cell) → reply ≡ cond (eqb at 0) (Cell cell) Skipped
+      → ((m : Messages T U) (s : State T U) → Shows old m s → HasCell s h.loan.number cell) → reply ≡ cond (eqb at 0) (Cell cell) Skipped
       → Carries defaults old old table (ReadCommand of at) reply table' Nothing
   read_unwritten is at h cell reply stood has so = subst (λ (r : Reply T U). Carries defaults old old table (ReadCommand of at) r table' Nothing) (sym so)
       (reads is at (cond (eqb at 0) (Cell cell) Skipped) (λ m s handles events shown w default_value default_header.
       let stand = stands table of (Unwritten h) stood (λ e. let clash : Unwritten h ≡ Nothing = e in cc) in
-      let named = has_unwritten s handles events (map kept_of table) w of h.service_id h.publisher h.number stand in
+      let named = has_unwritten s handles events (map kept_of table) w of h.service_id h.loan.publisher h.loan.number stand in
       let read = has m s shown in
-      read_loan m s handles default_value default_header at h.number named.0 cell
+      read_loan m s handles default_value default_header at h.loan.number named.0 cell
       (lacks_sample s handles events (map kept_of table) w of (lacks is_sample refl table of (ap (λ (v : Held). is_sample (kept_of v)) stood))) named.2
       (ap (λ (l : Loan T U). l.cells) (same_Some named.0 read.0 (sym named.3 ∙ read.1)) ∙ read.2)))
 
   pub read_written : table' ≡ table → (at : ℕ) (h : SampleMut) (value : T) (reply : Reply T U) → slice_index_or table of Nothing ≡ Written h
-      → ((m : Messages T U) (s : State T U) → Shows old m s → HasCell s h.number (Some value)) → reply ≡ cond (eqb at 0) (Cell (Some value)) Skipped
+      → ((m : Messages T U) (s : State T U) → Shows old m s → HasCell s h.loan.number (Some value)) → reply ≡ cond (eqb at 0) (Cell (Some value)) Skipped
       → Carries defaults old old table (ReadCommand of at) reply table' Nothing
   read_written is at h value reply stood has so = subst (λ (r : Reply T U). Carries defaults old old table (ReadCommand of at) r table' Nothing) (sym so)
       (reads is at (cond (eqb at 0) (Cell (Some value)) Skipped) (λ m s handles events shown w default_value default_header.
       let stand = stands table of (Written h) stood (λ e. let clash : Written h ≡ Nothing = e in cc) in
-      let named = has_written s handles events (map kept_of table) w of h.service_id h.publisher h.number stand in
+      let named = has_written s handles events (map kept_of table) w of h.service_id h.loan.publisher h.loan.number stand in
       let read = has m s shown in
-      read_loan m s handles default_value default_header at h.number named.0 (Some value)
+      read_loan m s handles default_value default_header at h.loan.number named.0 (Some value)
       (lacks_sample s handles events (map kept_of table) w of (lacks is_sample refl table of (ap (λ (v : Held). is_sample (kept_of v)) stood))) named.2
       (ap (λ (l : Loan T U). l.cells) (same_Some named.0 read.0 (sym named.3 ∙ read.1)) ∙ read.2)))
 
   pub read_sampled : table' ≡ table → (at : ℕ) (h : SampleHandle) (value : T) (reply : Reply T U) → slice_index_or table of Nothing ≡ HeldSample h
-      → ((m : Messages T U) (s : State T U) → Shows old m s → (entry : Entry T U) × (m h.number ≡ Some entry) × (entry.values ≡ value ∷ [])) → reply ≡ cond (eqb at 0) (Cell (Some value)) Skipped
+      → ((m : Messages T U) (s : State T U) → Shows old m s → (entry : Entry T U) × (m h.sample.number ≡ Some entry) × (entry.values ≡ value ∷ [])) → reply ≡ cond (eqb at 0) (Cell (Some value)) Skipped
       → Carries defaults old old table (ReadCommand of at) reply table' Nothing
   read_sampled is at h value reply stood has so = subst (λ (r : Reply T U). Carries defaults old old table (ReadCommand of at) r table' Nothing) (sym so)
       (reads is at (cond (eqb at 0) (Cell (Some value)) Skipped) (λ m s handles events shown w default_value default_header.
       let stand = stands table of (HeldSample h) stood (λ e. let clash : HeldSample h ≡ Nothing = e in cc) in
       let read = has m s shown in
-      read_sample m s handles default_value default_header at h.publisher h.subscriber h.number read.0 value
-      (has_sample s handles events (map kept_of table) w of h.service_id h.publisher h.subscriber h.number stand) read.1 read.2))
+      read_sample m s handles default_value default_header at h.origin h.sample.subscriber h.sample.number read.0 value
+      (has_sample s handles events (map kept_of table) w of h.service_id h.origin h.sample.subscriber h.sample.number stand) read.1 read.2))
 
   pub read_passed : table' ≡ table → (at : ℕ) → is_sample (kept_of (slice_index_or table of Nothing)) ≡ false → is_loan (kept_of (slice_index_or table of Nothing)) ≡ false
       → Carries defaults old old table (ReadCommand of at) Skipped table' Nothing

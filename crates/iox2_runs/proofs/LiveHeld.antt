@@ -49,8 +49,8 @@ module _ {T U : Type 0} (domain : Domain T U) (table : List Held) (keeps : Keeps
   pub live_sample : (h : SampleHandle) → slice_index_or table of Nothing ≡ HeldSample h → IsLiveSample domain h × IsSingleValued domain
   live_sample h at =
       let v = (is_kept (HeldSample h) at (λ e. let clash : HeldSample h ≡ Nothing = e in cc)).1 in
-      (sample-live domain _ (v.0, (h.publisher, v.2)), single-valued domain (v.3).0 (v.3).1)
+      (sample-live domain _ (v.0, (h.origin, v.2)), single-valued domain (v.3).0 (v.3).1)
 
   -- its message is borrowed from its publisher
-  pub borrowed_there : (h : SampleHandle) → slice_index_or table of Nothing ≡ HeldSample h → is_borrowed h.number ((state_of domain).mailboxes h.publisher h.subscriber) ≡ true
+  pub borrowed_there : (h : SampleHandle) → slice_index_or table of Nothing ≡ HeldSample h → is_borrowed h.sample.number ((state_of domain).mailboxes h.origin h.sample.subscriber) ≡ true
   borrowed_there h at = ((is_kept (HeldSample h) at (λ e. let clash : HeldSample h ≡ Nothing = e in cc)).1).2

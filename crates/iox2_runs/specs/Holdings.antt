@@ -17,9 +17,9 @@ abbrev pub kept_of : Held → Kept
 kept_of Nothing = Nothing_kept
 kept_of (Publisher publisher) = Kept_publisher publisher.service_id publisher.id
 kept_of (Subscriber subscriber) = Kept_subscriber subscriber.service_id subscriber.id
-kept_of (Unwritten sample) = Kept_unwritten sample.service_id sample.publisher sample.number
-kept_of (Written sample) = Kept_written sample.service_id sample.publisher sample.number
-kept_of (Sample sample) = Kept_sample sample.service_id sample.publisher sample.subscriber sample.number
+kept_of (Unwritten sample) = Kept_unwritten sample.service_id sample.loan.publisher sample.loan.number
+kept_of (Written sample) = Kept_written sample.service_id sample.loan.publisher sample.loan.number
+kept_of (Sample sample) = Kept_sample sample.service_id sample.origin sample.sample.subscriber sample.sample.number
 
 -- What is kept in a table, with what one command more made.
 abbrev pub kept_with : List Held → Held → List Kept

@@ -18,7 +18,7 @@ returns-in-Ok-clause-carries g c =
     send_carried {T = g.row.T.Denot} {U = g.row.U.Denot} _ c.args.domain.now c.send.new.domain c.args.table.now.items c.take.new.table.items c.args.of
     c.in-Written.sample c.delivered_count.result (sym c.take.ensures.held ∙ c.in-Written.is)
     (λ m s l shown there. let sent = c.in-Ok.ensures.sent m s l shown there in
-    (sent.0, sent.1, subst (λ r. Send fixed_handlers s c.in-Written.sample.number l sent.0 r) c.delivered_count.ensures sent.2)) c.take.ensures.items
+    (sent.0, sent.1, subst (λ r. Send fixed_handlers s c.in-Written.sample.loan.number l sent.0 r) c.delivered_count.ensures sent.2)) c.take.ensures.items
 
 pub returns-in_default-clause-carries : goal.returns-in_default-clause-carries
 returns-in_default-clause-carries g c =

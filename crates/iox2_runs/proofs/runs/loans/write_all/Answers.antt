@@ -3,6 +3,7 @@ use Rattle.std.specs.Prelude.{slice_set}
 use Rattle.iox2_runs.specs.Holdings.{kept_of}
 use Rattle.iox2_runs.specs.declared.runs.held.Held.{Held}
 use Rattle.iox2_runs.specs.declared.runs.held.Held.TheVariants.{Nothing, Written}
+use Rattle.iox2_store.specs.declared.key.Key.{Key}
 use Rattle.iox2_runs.proofs.TableLooks.{is_unwritten}
 use Rattle.iox2_runs.proofs.Holdings.{put_back, set_again, not_unwritten}
 use Rattle.iox2_runs.proofs.LiveHeld.{live_unwritten}
@@ -21,7 +22,7 @@ pub returns-in-Unwritten-clause-carries : goal.returns-in-Unwritten-clause-carri
 returns-in-Unwritten-clause-carries g c =
     write_carried {T = g.row.T.Denot} {U = g.row.U.Denot} _ c.args.domain.now c.write_payload-sample.new.domain c.args.table.now.items c.put.new.table.items c.args.of
     c.args.value c.in-Unwritten.sample c.write_payload-sample.result (sym c.take.ensures.held ∙ c.in-Unwritten.is) c.write_payload-sample.ensures.written
-    c.write_payload-sample.ensures.service_id c.write_payload-sample.ensures.publisher c.write_payload-sample.ensures.number
+    (ap (λ (k : Key). k.service_id) c.write_payload-sample.ensures.key) (ap (λ (k : Key). k.port) c.write_payload-sample.ensures.key) (ap (λ (k : Key). k.message) c.write_payload-sample.ensures.key)
     (c.put.ensures.items ∙ ap (λ (t : List Held). slice_set t c.args.of (Written c.write_payload-sample.result)) c.take.ensures.items ∙ set_again c.args.table.now.items c.args.of Nothing (Written c.write_payload-sample.result))
 
 pub returns-in_default-clause-carries : goal.returns-in_default-clause-carries

@@ -31,8 +31,8 @@ returns-in-Ok-Some g c =
     let result : c.receive.result ≡ Ok (Some c.in-Ok-Some.sample) = c.in-Ok-Some.is ∙ ap (λ (o : Option Sample). Ok o) c.in-Ok-Some.field-0-is in
     let live : IsLiveSample c.receive.new.domain c.in-Ok-Some.sample =
     subst (λ (r : Result (Option Sample) ReceiveError). IfOk r (λ o. IfSome o (IsLiveSample c.receive.new.domain))) result c.receive.ensures.live in
-    let whose : c.in-Ok-Some.sample.subscriber ≡ c.in-Subscriber.subscriber.id =
-    subst (λ (r : Result (Option Sample) ReceiveError). IfOk r (λ o. IfSome o (λ (it : Sample). it.subscriber ≡ c.in-Subscriber.subscriber.id))) result c.receive.ensures.subscriber in
+    let whose : c.in-Ok-Some.sample.sample.subscriber ≡ c.in-Subscriber.subscriber.id =
+    subst (λ (r : Result (Option Sample) ReceiveError). IfOk r (λ o. IfSome o (λ (it : Sample). it.sample.subscriber ≡ c.in-Subscriber.subscriber.id))) result c.receive.ensures.subscriber in
     receive_carried {T = g.row.T.Denot} {U = g.row.U.Denot} _ c.args.domain.now c.receive.new.domain c.args.table.now c.args.table.now c.args.of
     refl
     c.in-Subscriber.subscriber c.in-Ok-Some.sample c.origin.result (looked c.args.table.now c.args.of c.get.result c.in-Some.held _ c.get.ensures.lookup c.in-Some.is c.in-Subscriber.is) c.config.ensures.supported.single_values
