@@ -44,7 +44,7 @@ impl Sample {
         }
     }
 
-    // What the domain has of it.
+    // The sample, as its domain names it.
     fn sample(&self) -> SampleAt
         ensures { result ≡ record { subscriber = self.now.subscriber; number = self.now.number; connection = self.now.connection; slot = self.now.slot } }
     {

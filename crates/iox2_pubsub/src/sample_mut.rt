@@ -52,7 +52,7 @@ impl SampleMut {
         domain.state.loan_header(&self.loan())
     }
 
-    // What the domain has of it.
+    // The loan, as its domain names it.
     fn loan(&self) -> LoanAt
         ensures { result ≡ record { publisher = self.now.publisher; number = self.now.number; slot = self.now.slot } }
     {
