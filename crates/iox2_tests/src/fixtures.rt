@@ -2,7 +2,7 @@
 
 ghost use Rattle.std.specs.Prelude.{◌≡◌, false};
 ghost use Rattle.iox2_store.specs.Defaults.{default_config};
-ghost use Rattle.iox2_pubsub.specs.Handles.{IsUnwrittenLoanHandle};
+ghost use Rattle.iox2_pubsub.specs.Live.{IsLivePublisher, IsSingleValued, IsUnwrittenLoan, Stays};
 
 use iox2_pubsub::{Domain, Publisher, SampleMutUninit, SendOutcome};
 use iox2_store::ServiceConfig;
@@ -35,13 +35,17 @@ pub(crate) fn settings() -> ServiceConfig
 }
 
 /// A domain with these settings.
-pub(crate) fn domain(rt: &impl Abort, alloc: Global) -> Domain<Reading, Station> {
+pub(crate) fn domain(rt: &impl Abort, alloc: Global) -> Domain<Reading, Station>
+    ensures { IsSingleValued result }
+{
     Domain::new(alloc, settings()).expect(rt, "a domain")
 }
 
 /// A loan of the domain's first publisher, which is made for it.
 pub(crate) fn lend(rt: &impl Abort, domain: &mut Domain<Reading, Station>) -> SampleMutUninit
-    ensures { IsUnwrittenLoanHandle domain.new result.service_id result.publisher result.number }
+    requires { IsSingleValued domain.old }
+    ensures loan { IsUnwrittenLoan domain.new result }
+    ensures stays { Stays domain.old domain.new }
 {
     let factory = domain.publisher_builder();
     let publisher = factory.create(domain).expect(rt, "a publisher");
@@ -50,21 +54,18 @@ pub(crate) fn lend(rt: &impl Abort, domain: &mut Domain<Reading, Station>) -> Sa
     loan
 }
 
-/// Lends, writes and sends a message, and answers how many subscribers took it. `None` where the
+/// Lends, writes and sends a message, and returns how many subscribers took it. `None` where the
 /// publisher may not lend.
 pub(crate) fn publish(
     domain: &mut Domain<Reading, Station>,
     publisher: &Publisher,
     celsius: u64,
-) -> Option<usize> {
-    if !domain.holds_publisher(publisher.key()) {
-        return None;
-    }
+) -> Option<usize>
+    requires single_valued { IsSingleValued domain.old }
+    requires publisher { IsLivePublisher domain.old publisher.now }
+    ensures { Stays domain.old domain.new }
+{
     let loan = publisher.loan_uninit(domain).ok()?;
-    if domain.config().units_per_element != 1 {
-        loan.disown();
-        return None;
-    }
     let message = loan.write_payload(domain, Reading { celsius });
     message.send(domain).ok().map(receiver_count)
 }

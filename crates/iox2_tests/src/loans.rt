@@ -1,3 +1,5 @@
+ghost use Rattle.iox2_pubsub.specs.Live.{IsLivePublisher, IsSingleValued, Stays};
+
 use crate::fixtures::{Reading, Station, domain, lend};
 use iox2_pubsub::{Domain, Publisher};
 use iox2_store::{Key, LoanError};
@@ -8,22 +10,16 @@ const FIRST: Key = Key {
     message: 1,
 };
 
-// The key of a loan that stays out. `None` where the domain doesn't hold the publisher.
-fn lent(
-    domain: &mut Domain<Reading, Station>,
-    publisher: &Publisher,
-) -> Option<Result<Key, LoanError>> {
-    if !domain.holds_publisher(publisher.key()) {
-        return None;
-    }
-    match publisher.loan_uninit(domain) {
-        Ok(loan) => {
-            let key = loan.key();
-            loan.disown();
-            Some(Ok(key))
-        }
-        Err(error) => Some(Err(error)),
-    }
+// The key of a loan that stays out.
+fn lent(domain: &mut Domain<Reading, Station>, publisher: &Publisher) -> Result<Key, LoanError>
+    requires single_valued { IsSingleValued domain.old }
+    requires publisher { IsLivePublisher domain.old publisher.now }
+    ensures { Stays domain.old domain.new }
+{
+    let loan = publisher.loan_uninit(domain)?;
+    let key = loan.key();
+    loan.disown();
+    Ok(key)
 }
 
 #[test]
@@ -60,7 +56,7 @@ fn a_publisher_lends_as_much_as_it_may(rt: HostRuntime) {
     publisher.disown();
     let is_held = domain.holds_loan(FIRST);
     drop(domain);
-    assert!(rt; first == Some(Ok(FIRST)));
-    assert!(rt; second == Some(Err(LoanError::ExceedsMaxLoans)));
+    assert!(rt; first == Ok(FIRST));
+    assert!(rt; second == Err(LoanError::ExceedsMaxLoans));
     assert!(rt; is_held);
 }

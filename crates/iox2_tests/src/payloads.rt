@@ -4,7 +4,6 @@ use crate::fixtures::{Reading, domain, lend};
 fn a_loan_has_no_payload_until_it_is_written(rt: HostRuntime) {
     let mut domain = domain(&rt, rt.alloc());
     let loan = lend(&rt, &mut domain);
-    assert!(rt; domain.config().units_per_element == 1);
     let is_empty = loan.payload(&domain).is_none();
     let header = *loan.header(&domain);
     loan.disown();
@@ -19,9 +18,7 @@ fn a_written_loan_has_its_payload(rt: HostRuntime) {
     let mut domain = domain(&rt, rt.alloc());
     let loan = lend(&rt, &mut domain);
     let key = loan.key();
-    assert!(rt; domain.config().units_per_element == 1);
     let message = loan.write_payload(&mut domain, Reading { celsius: 21 });
-    assert!(rt; domain.config().units_per_element == 1);
     let celsius = message.payload(&domain).celsius;
     let origin = message.header(&domain).publisher_id.value();
     let written = message.key();

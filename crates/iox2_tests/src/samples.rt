@@ -1,5 +1,5 @@
 ghost use Rattle.std.specs.Prelude.{IfSome};
-ghost use Rattle.iox2_pubsub.specs.Handles.{IsSampleHandle};
+ghost use Rattle.iox2_pubsub.specs.Live.{IsLiveSample, IsLiveSubscriber, IsSingleValued, Stays};
 
 use crate::fixtures::{Reading, Station, domain, publish, settings};
 use iox2_pubsub::{Domain, Sample, Subscriber};
@@ -7,7 +7,11 @@ use iox2_store::ServiceConfig;
 use std::process::Abort;
 
 // A subscriber for which a message waits.
-fn subscribed(rt: &impl Abort, domain: &mut Domain<Reading, Station>) -> Subscriber {
+fn subscribed(rt: &impl Abort, domain: &mut Domain<Reading, Station>) -> Subscriber
+    requires { IsSingleValued domain.old }
+    ensures subscriber { IsLiveSubscriber domain.new result }
+    ensures stays { Stays domain.old domain.new }
+{
     let factory = domain.subscriber_builder();
     let subscriber = factory.create(domain).expect(rt, "a subscriber");
     let factory = domain.publisher_builder();
@@ -23,9 +27,10 @@ fn received(
     domain: &mut Domain<Reading, Station>,
     subscriber: &Subscriber,
 ) -> Option<Sample>
-    ensures { IfSome result (λ sample. IsSampleHandle domain.new sample.service_id sample.subscriber sample.publisher sample.number) }
+    requires { IsLiveSubscriber domain.old subscriber.now }
+    ensures sample { IfSome result (IsLiveSample domain.new) }
+    ensures stays { Stays domain.old domain.new }
 {
-    assert!(rt; domain.holds_subscriber(subscriber.key()));
     subscriber.receive(domain).expect(rt, "an answer")
 }
 
@@ -35,7 +40,6 @@ fn a_sent_message_is_received_and_read(rt: HostRuntime) {
     let subscriber = subscribed(&rt, &mut domain);
     let sample = received(&rt, &mut domain, &subscriber).expect(&rt, "a sample");
     subscriber.disown();
-    assert!(rt; domain.config().units_per_element == 1);
     let celsius = sample.payload(&domain).celsius;
     let header = *sample.header(&domain);
     let origins = [sample.origin().value(), header.publisher_id.value()];

@@ -5,7 +5,6 @@ fn a_message_without_subscribers_goes_to_nobody(rt: HostRuntime) {
     let mut domain = domain(&rt, rt.alloc());
     let loan = lend(&rt, &mut domain);
     let key = loan.key();
-    assert!(rt; domain.config().units_per_element == 1);
     let message = loan.write_payload(&mut domain, Reading { celsius: 20 });
     let count = message.send(&mut domain).ok().map(receiver_count);
     let is_held = domain.holds_loan(key);
