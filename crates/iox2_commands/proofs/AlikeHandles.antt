@@ -2,15 +2,15 @@
 use Rattle.std.proofs.Common.{◌≡◌, ◌⊎◌, inl, inr, ℕ, ◌+◌, Bool, true, false, cond, List, refl, sym, ap, subst, ◌∙◌, Option, None, Some, eqb}
 use Rattle.std.specs.Prelude.{slice_get, nat_lt}
 use Rattle.std.specs.Option.{MatchOption}
-use Rattle.iox2_store.specs.Limits.{last_number, buffer_limit}
-use Rattle.iox2_store.specs.Places.{free_place}
-use Rattle.iox2_store.specs.Records.{Entry, Publisher, SubscriberSettings}
-use Rattle.iox2_store.specs.State.{State, Messages}
-use Rattle.iox2_store.specs.SubscriberUpdate.{UpdateSubscriber}
-use Rattle.iox2_store.specs.Loans.{GrantLoan, is_initialized, initialized}
-use Rattle.iox2_store.specs.Sends.{SendResult, Delivered_to, Blocked_send, Send_error}
-use Rattle.iox2_store.specs.Receives.{ReceiveResult, Got_sample, No_sample, Receive_error}
-use Rattle.iox2_store.specs.Ports.{CreateSubscriber as MakesSubscriber, MakeSubscriber, with_new_subscriber, with_failure_warning, buffer_for}
+use Rattle.iox2_store.specs.machine.Limits.{last_number, buffer_limit}
+use Rattle.iox2_store.specs.machine.Places.{free_place}
+use Rattle.iox2_store.specs.machine.Records.{Entry, Publisher, SubscriberSettings}
+use Rattle.iox2_store.specs.machine.State.{State, Messages}
+use Rattle.iox2_store.specs.machine.SubscriberUpdate.{UpdateSubscriber}
+use Rattle.iox2_store.specs.machine.Loans.{GrantLoan, is_initialized, initialized}
+use Rattle.iox2_store.specs.machine.Sends.{SendResult, Delivered_to, Blocked_send, Send_error}
+use Rattle.iox2_store.specs.machine.Receives.{ReceiveResult, Got_sample, No_sample, Receive_error}
+use Rattle.iox2_store.specs.machine.Ports.{CreateSubscriber as MakesSubscriber, MakeSubscriber, with_new_subscriber, with_failure_warning, buffer_for}
 use Rattle.iox2_store.specs.declared.warning.Warning.{Warning}
 use Rattle.iox2_store.specs.declared.errors.ConnectionFailure.{ConnectionFailure}
 use Rattle.iox2_store.specs.declared.errors.LoanError.{LoanError}
@@ -18,7 +18,7 @@ use Rattle.iox2_store.specs.declared.errors.SendError.TheVariants.{ConnectionBro
 use Rattle.iox2_store.specs.declared.errors.PublisherCreateError.{PublisherCreateError}
 use Rattle.iox2_store.specs.declared.errors.SubscriberCreateError.{SubscriberCreateError}
 use Rattle.iox2_laws.proofs.Cases.{by_option, by_bool}
-use Rattle.iox2_store.specs.Environments.{ample_memory}
+use Rattle.iox2_store.specs.machine.Environments.{ample_memory}
 use Rattle.iox2_commands.specs.Outcomes.{Handle, No_handle, Subscriber_handle, Sample_handle, Outcome, replied, done, skipped}
 use Rattle.iox2_commands.specs.Step.{Step, after_publisher, after_subscriber, after_loan, after_send, after_retry, after_receive, after_update, after_question, unblocked_at, subscriber_at, loan_at, unwritten_at, written_at, with_cell_at, sendable_at, blocked_at, sample_at, if_single_units, if_fixed_size, if_dynamic}
 use Rattle.iox2_commands.specs.declared.command.Command.{Command}

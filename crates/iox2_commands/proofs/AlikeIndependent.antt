@@ -3,19 +3,19 @@ use Rattle.std.proofs.Common.{◌≡◌, ℕ, Bool, true, false, not, List, [], 
 use Rattle.std.specs.Prelude.{nat_lt}
 use Rattle.std.specs.Option.{option_map}
 use Rattle.std.proofs.lemmas.Bool.{true≢false}
-use Rattle.iox2_store.specs.Limits.{worst_case, buffer_limit, last_number}
-use Rattle.iox2_store.specs.Places.{free_place}
-use Rattle.iox2_store.specs.Numbers.{put_at, size, without, last_n}
-use Rattle.iox2_store.specs.Records.{Loan, Publisher, Subscriber, Environment, PublisherSettings, SubscriberSettings}
-use Rattle.iox2_store.specs.State.{State, held, with_loan}
-use Rattle.iox2_store.specs.PublisherUpdate.{UpdatePublisher}
-use Rattle.iox2_store.specs.SubscriberUpdate.{UpdateSubscriber}
-use Rattle.iox2_store.specs.Loans.{GrantLoan, is_static, limit_error, loan_discarded}
-use Rattle.iox2_store.specs.SingleCalls.{GrantWrittenLoan}
-use Rattle.iox2_store.specs.Sends.{Send, SendResult, Publish}
-use Rattle.iox2_store.specs.Receives.{Receive, TakeSample, ReceiveResult, Got_sample, No_sample, Receive_error}
-use Rattle.iox2_store.specs.Releases.{released, pruned, unborrowed}
-use Rattle.iox2_store.specs.Ports.{new_publisher, new_subscriber, with_new_publisher, with_new_subscriber, with_failure_warning, MakePublisher, CreatePublisher, MakeSubscriber, CreateSubscriber, first_segment_fits, buffer_for, slots_for, publisher_gone, publisher_closed, subscribers_pruned}
+use Rattle.iox2_store.specs.machine.Limits.{worst_case, buffer_limit, last_number}
+use Rattle.iox2_store.specs.machine.Places.{free_place}
+use Rattle.iox2_store.specs.machine.Numbers.{put_at, size, without, last_n}
+use Rattle.iox2_store.specs.machine.Records.{Loan, Publisher, Subscriber, Environment, PublisherSettings, SubscriberSettings}
+use Rattle.iox2_store.specs.machine.State.{State, held, with_loan}
+use Rattle.iox2_store.specs.machine.PublisherUpdate.{UpdatePublisher}
+use Rattle.iox2_store.specs.machine.SubscriberUpdate.{UpdateSubscriber}
+use Rattle.iox2_store.specs.machine.Loans.{GrantLoan, is_static, limit_error, loan_discarded}
+use Rattle.iox2_store.specs.machine.SingleCalls.{GrantWrittenLoan}
+use Rattle.iox2_store.specs.machine.Sends.{Send, SendResult, Publish}
+use Rattle.iox2_store.specs.machine.Receives.{Receive, TakeSample, ReceiveResult, Got_sample, No_sample, Receive_error}
+use Rattle.iox2_store.specs.machine.Releases.{released, pruned, unborrowed}
+use Rattle.iox2_store.specs.machine.Ports.{new_publisher, new_subscriber, with_new_publisher, with_new_subscriber, with_failure_warning, MakePublisher, CreatePublisher, MakeSubscriber, CreateSubscriber, first_segment_fits, buffer_for, slots_for, publisher_gone, publisher_closed, subscribers_pruned}
 use Rattle.iox2_store.specs.declared.service_config.ServiceConfig.{ServiceConfig}
 use Rattle.iox2_store.specs.declared.warning.Warning.{Warning}
 use Rattle.iox2_store.specs.declared.errors.ConnectionFailure.{ConnectionFailure}
@@ -25,7 +25,7 @@ use Rattle.iox2_store.specs.declared.errors.SubscriberCreateError.{SubscriberCre
 use Rattle.iox2_laws.proofs.Cases.{by_option, by_bool}
 use Rattle.iox2_laws.proofs.PublisherUpdates.{update_publisher_changes}
 use Rattle.iox2_laws.proofs.Puts.{found_put, found_removed, found_mapped, at_each}
-use Rattle.iox2_store.specs.Environments.{ample_memory}
+use Rattle.iox2_store.specs.machine.Environments.{ample_memory}
 use Rattle.iox2_commands.specs.Isolation.{IsIndependentPublisher, never_waits}
 use Rattle.iox2_commands.proofs.AlikeViews.{View, view_of}
 use Rattle.iox2_commands.proofs.AlikeSends.{delivered_view, published_view, publish_is}

@@ -4,9 +4,9 @@ use Rattle.std.specs.Prelude.{slice_get, map}
 use Rattle.std.specs.Option.{option_map, option_map_or, option_and_then}
 use Rattle.std.proofs.lemmas.Bool.{eqb-true, eqb-false, eq-eqb, ne_eqb, true≢false}
 use Rattle.std.proofs.lemmas.Option.{none-some, same_Some, slice_get-map}
-use Rattle.iox2_store.specs.Mailbox.{Mailbox, is_borrowed}
-use Rattle.iox2_store.specs.Records.{Loan, Publisher, Subscriber}
-use Rattle.iox2_store.specs.State.{State}
+use Rattle.iox2_store.specs.machine.Mailbox.{Mailbox, is_borrowed}
+use Rattle.iox2_store.specs.machine.Records.{Loan, Publisher, Subscriber}
+use Rattle.iox2_store.specs.machine.State.{State}
 use Rattle.iox2_store.specs.declared.service_config.TypeVariant.TheVariants.{FixedSize, Dynamic}
 use Rattle.iox2_commands.specs.Outcomes.{Handle, No_handle, Publisher_handle, Subscriber_handle, Loan_handle, Blocked_handle, Sample_handle}
 use Rattle.iox2_commands.specs.Views.{seen_handle}
@@ -40,14 +40,14 @@ names_sample q (Some (Sample_handle p r n)) = eqb r q
 names_sample q _ = false
 
 -- a handle of q is that
-pub is_subscriber : (q : ℕ) (o : Option Handle) → names_subscriber q o ≡ true → o ≡ Some (Subscriber_handle q)
-is_subscriber q (Some (Subscriber_handle r)) h = ap (λ k. Some (Subscriber_handle k)) (eqb-true r q h)
-is_subscriber q _ h = absurd (true≢false (sym h))
+pub named-subscriber : (q : ℕ) (o : Option Handle) → names_subscriber q o ≡ true → o ≡ Some (Subscriber_handle q)
+named-subscriber q (Some (Subscriber_handle r)) h = ap (λ k. Some (Subscriber_handle k)) (eqb-true r q h)
+named-subscriber q _ h = absurd (true≢false (sym h))
 
 -- a handle of a sample of q names its publisher and message
-pub is_sample : (q : ℕ) (o : Option Handle) → names_sample q o ≡ true → (p : ℕ) × (n : ℕ) × (o ≡ Some (Sample_handle p q n))
-is_sample q (Some (Sample_handle p r n)) h = (p, n, ap (λ k. Some (Sample_handle p k n)) (eqb-true r q h))
-is_sample q _ h = absurd (true≢false (sym h))
+pub named-sample : (q : ℕ) (o : Option Handle) → names_sample q o ≡ true → (p : ℕ) × (n : ℕ) × (o ≡ Some (Sample_handle p q n))
+named-sample q (Some (Sample_handle p r n)) h = (p, n, ap (λ k. Some (Sample_handle p k n)) (eqb-true r q h))
+named-sample q _ h = absurd (true≢false (sym h))
 
 -- a handle of others is neither
 pub others_no_subscriber : (q : ℕ) (o : Option Handle) → is_of_others q o ≡ true → names_subscriber q o ≡ false

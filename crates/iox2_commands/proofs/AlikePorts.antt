@@ -4,16 +4,16 @@ use Rattle.std.specs.Prelude.{nat_lt}
 use Rattle.std.specs.Option.{option_map, option_map_or}
 use Rattle.std.specs.List.{filter}
 use Rattle.std.proofs.lemmas.Bool.{eqb-true}
-use Rattle.iox2_store.specs.Limits.{last_number, buffer_limit}
-use Rattle.iox2_store.specs.Numbers.{put_at}
-use Rattle.iox2_store.specs.Places.{occupant, is_port, vacated, set_place, free_place, places_kept}
-use Rattle.iox2_store.specs.Mailbox.{has_numbers, waiting_dropped, with_released}
-use Rattle.iox2_store.specs.Records.{Publisher, Subscriber, PublisherSettings, SubscriberSettings}
-use Rattle.iox2_store.specs.State.{State, subscribers_due}
-use Rattle.iox2_store.specs.PublisherUpdate.{UpdatePublisher}
-use Rattle.iox2_store.specs.SubscriberUpdate.{UpdateSubscriber}
-use Rattle.iox2_store.specs.Releases.{released, pruned, unborrowed}
-use Rattle.iox2_store.specs.Ports.{new_publisher, new_subscriber, with_new_publisher, with_new_subscriber, with_failure_warning, MakePublisher, CreatePublisher, MakeSubscriber, CreateSubscriber, first_segment_fits, buffer_for, publisher_gone, subscribers_pruned, publisher_closed, mailbox_after_publisher, slots_for}
+use Rattle.iox2_store.specs.machine.Limits.{last_number, buffer_limit}
+use Rattle.iox2_store.specs.machine.Numbers.{put_at}
+use Rattle.iox2_store.specs.machine.Places.{occupant, is_port, vacated, set_place, free_place, places_kept}
+use Rattle.iox2_store.specs.machine.Mailbox.{has_numbers, waiting_dropped, with_released}
+use Rattle.iox2_store.specs.machine.Records.{Publisher, Subscriber, PublisherSettings, SubscriberSettings}
+use Rattle.iox2_store.specs.machine.State.{State, subscribers_due}
+use Rattle.iox2_store.specs.machine.PublisherUpdate.{UpdatePublisher}
+use Rattle.iox2_store.specs.machine.SubscriberUpdate.{UpdateSubscriber}
+use Rattle.iox2_store.specs.machine.Releases.{released, pruned, unborrowed}
+use Rattle.iox2_store.specs.machine.Ports.{new_publisher, new_subscriber, with_new_publisher, with_new_subscriber, with_failure_warning, MakePublisher, CreatePublisher, MakeSubscriber, CreateSubscriber, first_segment_fits, buffer_for, publisher_gone, subscribers_pruned, publisher_closed, mailbox_after_publisher, slots_for}
 use Rattle.iox2_store.specs.declared.service_config.ServiceConfig.{ServiceConfig}
 use Rattle.iox2_store.specs.declared.warning.Warning.{Warning}
 use Rattle.iox2_store.specs.declared.errors.ConnectionFailure.{ConnectionFailure}
@@ -22,7 +22,7 @@ use Rattle.iox2_store.specs.declared.errors.PublisherCreateError.TheVariants.{Un
 use Rattle.iox2_store.specs.declared.errors.SubscriberCreateError.{SubscriberCreateError}
 use Rattle.iox2_store.specs.declared.errors.SubscriberCreateError.TheVariants.{UnableToCreatePortTag as NoSubscriberTag, BufferSizeExceedsMaxSupportedBufferSizeOfService, ExceedsMaxSupportedSubscribers}
 use Rattle.iox2_laws.proofs.Cases.{by_options, by_bools}
-use Rattle.iox2_store.specs.Environments.{ample_memory}
+use Rattle.iox2_store.specs.machine.Environments.{ample_memory}
 use Rattle.iox2_commands.specs.Views.{public_part}
 use Rattle.iox2_commands.proofs.AlikeViews.{View, view_of, others_put, others_same, row_put, cell_put}
 use Rattle.iox2_commands.proofs.AlikeUpdates.{update_publisher_alike}

@@ -4,16 +4,16 @@ use Rattle.std.specs.Prelude.{slice_get, map}
 use Rattle.std.specs.Option.{MatchOption, option_and_then, option_map}
 use Rattle.std.proofs.lemmas.Bool.{eqb-true, true≢false}
 use Rattle.std.proofs.lemmas.Option.{none-some, same_Some}
-use Rattle.iox2_store.specs.Limits.{buffer_limit}
-use Rattle.iox2_store.specs.Numbers.{put_at}
-use Rattle.iox2_store.specs.Mailbox.{is_borrowed}
-use Rattle.iox2_store.specs.Records.{Loan, Publisher, Subscriber, BlockedSend, PublisherSettings, SubscriberSettings, Fixed}
-use Rattle.iox2_store.specs.State.{State, Messages, with_loan}
-use Rattle.iox2_store.specs.SubscriberUpdate.{UpdateSubscriber}
-use Rattle.iox2_store.specs.Loans.{GrantLoan, written, with_cell, is_initialized, initialized, entry_of}
-use Rattle.iox2_store.specs.Sends.{Send, SendResult}
-use Rattle.iox2_store.specs.Releases.{released}
-use Rattle.iox2_store.specs.Ports.{CreatePublisher, CreateSubscriber}
+use Rattle.iox2_store.specs.machine.Limits.{buffer_limit}
+use Rattle.iox2_store.specs.machine.Numbers.{put_at}
+use Rattle.iox2_store.specs.machine.Mailbox.{is_borrowed}
+use Rattle.iox2_store.specs.machine.Records.{Loan, Publisher, Subscriber, BlockedSend, PublisherSettings, SubscriberSettings, Fixed}
+use Rattle.iox2_store.specs.machine.State.{State, Messages, with_loan}
+use Rattle.iox2_store.specs.machine.SubscriberUpdate.{UpdateSubscriber}
+use Rattle.iox2_store.specs.machine.Loans.{GrantLoan, written, with_cell, is_initialized, initialized, entry_of}
+use Rattle.iox2_store.specs.machine.Sends.{Send, SendResult}
+use Rattle.iox2_store.specs.machine.Releases.{released}
+use Rattle.iox2_store.specs.machine.Ports.{CreatePublisher, CreateSubscriber}
 use Rattle.iox2_store.specs.declared.service_config.ServiceConfig.{ServiceConfig}
 use Rattle.iox2_store.specs.declared.errors.ConnectionFailure.{ConnectionFailure}
 use Rattle.iox2_store.specs.declared.errors.LoanError.{LoanError}
@@ -21,7 +21,7 @@ use Rattle.iox2_store.specs.declared.errors.SendError.TheVariants.{LoanError as 
 use Rattle.iox2_store.specs.declared.errors.PublisherCreateError.{PublisherCreateError}
 use Rattle.iox2_store.specs.declared.errors.SubscriberCreateError.{SubscriberCreateError}
 use Rattle.iox2_laws.proofs.Cases.{by_option, by_options}
-use Rattle.iox2_store.specs.Environments.{ample_memory}
+use Rattle.iox2_store.specs.machine.Environments.{ample_memory}
 use Rattle.iox2_commands.specs.Views.{seen_handle}
 use Rattle.iox2_commands.specs.Isolation.{IsIndependent, IsIndependentPublisher, ClosesNoSubscriber, reads_at}
 use Rattle.iox2_commands.specs.Outcomes.{Handle, Publisher_handle, Subscriber_handle, Loan_handle, Sample_handle, Outcome, replied, done, skipped}
@@ -36,9 +36,9 @@ use Rattle.iox2_commands.proofs.AlikeReceives.{IsAlike, alike_equal, alike_sym, 
 use Rattle.iox2_commands.proofs.AlikeSends.{send_alike, loan_discarded_alike}
 use Rattle.iox2_commands.proofs.AlikeLoans.{grant_loan_alike, grant_written_loan_alike}
 use Rattle.iox2_commands.proofs.AlikePorts.{create_publisher_alike, create_subscriber_alike, publisher_closed_alike, released_alike}
-use Rattle.iox2_commands.proofs.AlikeNamed.{names_subscriber, names_sample, is_subscriber, is_sample, seen_subscriber, same_sample, subscriber_handle_at, own_at, own_sample_at, no_sample_at, looked_up, names_subscriber_same, names_sample_same, unblocked_at_same, loan_at_same, unwritten_at_same, written_at_same, sendable_at_same, single_same, fixed_size_same, dynamic_same}
+use Rattle.iox2_commands.proofs.AlikeNamed.{names_subscriber, names_sample, named-subscriber, named-sample, seen_subscriber, same_sample, subscriber_handle_at, own_at, own_sample_at, no_sample_at, looked_up, names_subscriber_same, names_sample_same, unblocked_at_same, loan_at_same, unwritten_at_same, written_at_same, sendable_at_same, single_same, fixed_size_same, dynamic_same}
 use Rattle.iox2_commands.proofs.AlikeIndependent.{StaysOpen, grant_written_loan_open}
-use Rattle.iox2_store.specs.Receives.{Receive as Receives}
+use Rattle.iox2_store.specs.machine.Receives.{Receive as Receives}
 use Rattle.iox2_commands.proofs.ApartCalls.{read_quiet, read_header_quiet, read_user_header_quiet, receive_of_other, question_of_other, update_of_other, release_of_other}
 
 -- a subscriber that is named under its own id
@@ -141,8 +141,8 @@ module _ {T U : Type 0} where
       own_same : (of : ℕ) → names_subscriber q (slice_get handles of) ≡ true
           → (slice_get handles of ≡ Some (Subscriber_handle q)) × (subscriber_at a handles of ≡ subscriber_at b handles' of) × ((named : ℕ × Subscriber) → subscriber_at a handles of ≡ Some named → named.0 ≡ q)
       own_same of t =
-          let here : slice_get handles of ≡ Some (Subscriber_handle q) = is_subscriber q (slice_get handles of) t in
-          let there : slice_get handles' of ≡ Some (Subscriber_handle q) = is_subscriber q (slice_get handles' of) (sym (names_subscriber_same q a b handles handles' e same of) ∙ t) in (
+          let here : slice_get handles of ≡ Some (Subscriber_handle q) = named-subscriber q (slice_get handles of) t in
+          let there : slice_get handles' of ≡ Some (Subscriber_handle q) = named-subscriber q (slice_get handles' of) (sym (names_subscriber_same q a b handles handles' e same of) ∙ t) in (
             here,
             own_at q a handles of here ∙ ap (λ (v : View T U). option_and_then {U = ℕ × Subscriber} (λ y. cond y.is_open (Some (q, y)) None) v.own) e ∙ sym (own_at q b handles' of there),
             λ named f. own_id q (a.subscribers q) named (sym (own_at q a handles of here) ∙ f),
@@ -177,9 +177,9 @@ module _ {T U : Type 0} where
       -- a sample of q is the same in both, where its handle is
       own_sample_same : (of : ℕ) → names_sample q (slice_get handles of) ≡ true → sample_at a handles of ≡ sample_at b handles' of
       own_sample_same of t =
-          let here : (p : ℕ) × (n : ℕ) × (slice_get handles of ≡ Some (Sample_handle p q n)) = is_sample q (slice_get handles of) t in
+          let here : (p : ℕ) × (n : ℕ) × (slice_get handles of ≡ Some (Sample_handle p q n)) = named-sample q (slice_get handles of) t in
           let there : (p : ℕ) × (n : ℕ) × (slice_get handles' of ≡ Some (Sample_handle p q n)) =
-          is_sample q (slice_get handles' of) (sym (names_sample_same q a b handles handles' e same of) ∙ t) in
+          named-sample q (slice_get handles' of) (sym (names_sample_same q a b handles handles' e same of) ∙ t) in
           let numbers : (here.0 ≡ there.0) × (here.1 ≡ there.1) = same_sample q here.0 there.0 here.1 there.1
           (ap (option_map (seen_handle q)) (sym here.2) ∙ looked_up q a b handles handles' e same of ∙ ap (option_map (seen_handle q)) there.2) in
           own_sample_at q a handles of here.0 here.1 here.2
@@ -188,7 +188,7 @@ module _ {T U : Type 0} where
 
       release_own : (of : ℕ) (o o' : Outcome T U) → names_sample q (slice_get handles of) ≡ true → StepA (Release of) o → StepB (Release of) o' → IsAlike q o o'
       release_own of o o' t h k =
-          let here : (p : ℕ) × (n : ℕ) × (slice_get handles of ≡ Some (Sample_handle p q n)) = is_sample q (slice_get handles of) t in
+          let here : (p : ℕ) × (n : ℕ) × (slice_get handles of ≡ Some (Sample_handle p q n)) = named-sample q (slice_get handles of) t in
           live o o' (sample_at a handles of) (sample_at b handles' of) _ _ (own_sample_same of t) h k (λ sample f j l.
           let is : sample.1 ≡ q = sym (ap (λ (s : ℕ × ℕ × ℕ). s.1)
           (same_Some (here.0, q, here.1) sample (kept_if (is_borrowed here.1 (a.mailboxes here.0 q)) (Some (here.0, q, here.1)) sample (sym (own_sample_at q a handles of here.0 here.1 here.2) ∙ f)))) in

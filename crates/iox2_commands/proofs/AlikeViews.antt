@@ -2,10 +2,10 @@
 use Rattle.std.proofs.Common.{◌≡◌, ℕ, true, false, cond, List, refl, sym, ap, ◌∙◌, Option, None, Some, eqb}
 use Rattle.std.proofs.Math.Path.{fun_ext}
 use Rattle.std.specs.Option.{option_and_then}
-use Rattle.iox2_store.specs.Numbers.{put_at}
-use Rattle.iox2_store.specs.Mailbox.{Mailbox}
-use Rattle.iox2_store.specs.Records.{Loan, Publisher, Subscriber}
-use Rattle.iox2_store.specs.State.{State, receiving_buffer}
+use Rattle.iox2_store.specs.machine.Numbers.{put_at}
+use Rattle.iox2_store.specs.machine.Mailbox.{Mailbox}
+use Rattle.iox2_store.specs.machine.Records.{Loan, Publisher, Subscriber}
+use Rattle.iox2_store.specs.machine.State.{State, receiving_buffer}
 use Rattle.iox2_store.specs.declared.service_config.ServiceConfig.{ServiceConfig}
 use Rattle.iox2_laws.proofs.Puts.{put_at-same, put_at-other, at_each}
 use Rattle.iox2_commands.specs.Views.{PublicPart, public_part}

@@ -4,13 +4,13 @@ use Rattle.std.specs.Prelude.{nat_lt, nat_le, cond, ◌==◌, ◌&&◌, MatchOpt
 use Rattle.std.specs.Bool.{MatchBool}
 use Rattle.std.proofs.lemmas.Bool.{true≢false, ne_eqb, le-ltb, lt-leb}
 use Rattle.std.proofs.lemmas.Option.{none-some}
-use Rattle.iox2_store.specs.Limits.{buffer_limit, worst_case, last_number}
-use Rattle.iox2_store.specs.Numbers.{size}
-use Rattle.iox2_store.specs.Records.{Loan, Publisher, Environment}
-use Rattle.iox2_store.specs.State.{State, Messages, fresh, no_messages, held, with_loan}
-use Rattle.iox2_store.specs.Loans.{GrantLoan, loan_granted, StaticLoan, DynamicLoan, limit_error, is_static, written}
-use Rattle.iox2_store.specs.SingleCalls.{GrantWrittenLoan}
-use Rattle.iox2_store.specs.WellFormed.{IsWellFormed, HoldsAtMostWorstCase}
+use Rattle.iox2_store.specs.machine.Limits.{buffer_limit, worst_case, last_number}
+use Rattle.iox2_store.specs.machine.Numbers.{size}
+use Rattle.iox2_store.specs.machine.Records.{Loan, Publisher, Environment}
+use Rattle.iox2_store.specs.machine.State.{State, Messages, fresh, no_messages, held, with_loan}
+use Rattle.iox2_store.specs.machine.Loans.{GrantLoan, loan_granted, StaticLoan, DynamicLoan, limit_error, is_static, written}
+use Rattle.iox2_store.specs.machine.SingleCalls.{GrantWrittenLoan}
+use Rattle.iox2_store.specs.machine.WellFormed.{IsWellFormed, HoldsAtMostWorstCase}
 use Rattle.iox2_store.specs.declared.service_config.ServiceConfig.{ServiceConfig}
 use Rattle.iox2_store.specs.declared.service_config.TypeVariant.TheVariants.{FixedSize, Dynamic}
 use Rattle.iox2_store.specs.declared.errors.LoanError.{LoanError}

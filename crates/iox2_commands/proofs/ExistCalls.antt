@@ -9,21 +9,21 @@ use Rattle.std.proofs.lemmas.Bool.{true≢false, eq-eqb, eqb-false, eqb-true, or
 use Rattle.std.proofs.lemmas.Nat.{mul-le}
 use Rattle.std.proofs.lemmas.Option.{none-some}
 use Rattle.std.proofs.lemmas.List.Folds.{list_any-append}
-use Rattle.iox2_store.specs.Limits.{last_number, segment_fits, buffer_limit}
-use Rattle.iox2_store.specs.Numbers.{put_at, contains, size, without, last_n}
-use Rattle.iox2_store.specs.Places.{occupants, free_place}
-use Rattle.iox2_store.specs.Mailbox.{Mailbox, can_receive, has_data, BorrowsFirst}
-use Rattle.iox2_store.specs.Records.{Loan, Publisher, Subscriber, PublisherSettings, SubscriberSettings}
-use Rattle.iox2_store.specs.State.{State, held, receiving_buffer, connected_publishers, with_mailbox, with_loan, publisher_changed}
-use Rattle.iox2_store.specs.Delivery.{Deliver, DeliveryEnd, Complete, Suspended, no_time}
-use Rattle.iox2_store.specs.PublisherUpdate.{UpdatePublisher}
-use Rattle.iox2_store.specs.SubscriberUpdate.{UpdateSubscriber}
-use Rattle.iox2_store.specs.Loans.{GrantLoan, StaticLoan, DynamicLoan, IsGuaranteed, NoSegmentFits, known_length, loan_granted, limit_error, is_static, loan_discarded, written}
-use Rattle.iox2_store.specs.SingleCalls.{GrantWrittenLoan}
-use Rattle.iox2_store.specs.Sends.{Send, Publish, DeliverAndConclude, ConcludeSend, SendResult, Delivered_to, Blocked_send, Send_error, with_mailboxes, published, send_ended, send_blocked}
-use Rattle.iox2_store.specs.Receives.{Receive, HasSamples, TakeSample, ReceiveResult, Got_sample, No_sample, Receive_error, has_any_data, can_receive_of}
-use Rattle.iox2_store.specs.Releases.{released, freed_if_unused, subscriber_pruned, is_unused, place_freed, unborrowed}
-use Rattle.iox2_store.specs.Ports.{CreatePublisher, CreateSubscriber, with_new_publisher, with_new_subscriber, new_publisher, new_subscriber, with_failure_warning, first_segment_fits, buffer_for, publisher_closed, subscriber_closed, subscriber_shut}
+use Rattle.iox2_store.specs.machine.Limits.{last_number, segment_fits, buffer_limit}
+use Rattle.iox2_store.specs.machine.Numbers.{put_at, contains, size, without, last_n}
+use Rattle.iox2_store.specs.machine.Places.{occupants, free_place}
+use Rattle.iox2_store.specs.machine.Mailbox.{Mailbox, can_receive, has_data, BorrowsFirst}
+use Rattle.iox2_store.specs.machine.Records.{Loan, Publisher, Subscriber, PublisherSettings, SubscriberSettings}
+use Rattle.iox2_store.specs.machine.State.{State, held, receiving_buffer, connected_publishers, with_mailbox, with_loan, publisher_changed}
+use Rattle.iox2_store.specs.machine.Delivery.{Deliver, DeliveryEnd, Complete, Suspended, no_time}
+use Rattle.iox2_store.specs.machine.PublisherUpdate.{UpdatePublisher}
+use Rattle.iox2_store.specs.machine.SubscriberUpdate.{UpdateSubscriber}
+use Rattle.iox2_store.specs.machine.Loans.{GrantLoan, StaticLoan, DynamicLoan, IsGuaranteed, NoSegmentFits, known_length, loan_granted, limit_error, is_static, loan_discarded, written}
+use Rattle.iox2_store.specs.machine.SingleCalls.{GrantWrittenLoan}
+use Rattle.iox2_store.specs.machine.Sends.{Send, Publish, DeliverAndConclude, ConcludeSend, SendResult, Delivered_to, Blocked_send, Send_error, with_mailboxes, published, send_ended, send_blocked}
+use Rattle.iox2_store.specs.machine.Receives.{Receive, HasSamples, TakeSample, ReceiveResult, Got_sample, No_sample, Receive_error, has_any_data, can_receive_of}
+use Rattle.iox2_store.specs.machine.Releases.{released, freed_if_unused, subscriber_pruned, is_unused, place_freed, unborrowed}
+use Rattle.iox2_store.specs.machine.Ports.{CreatePublisher, CreateSubscriber, with_new_publisher, with_new_subscriber, new_publisher, new_subscriber, with_failure_warning, first_segment_fits, buffer_for, publisher_closed, subscriber_closed, subscriber_shut}
 use Rattle.iox2_store.specs.declared.service_config.ServiceConfig.{ServiceConfig}
 use Rattle.iox2_store.specs.declared.allocation.AllocationStrategy.{AllocationStrategy}
 use Rattle.iox2_store.specs.declared.allocation.AllocationStrategy.TheVariants.{Static, BestFit, PowerOfTwo}
@@ -41,8 +41,8 @@ use Rattle.iox2_store.specs.declared.errors.SubscriberCreateError.TheVariants.{U
 use Rattle.iox2_laws.proofs.Cases.{by_option, by_bool}
 use Rattle.iox2_laws.proofs.Puts.{at_each, found_put, found_removed, found_mapped, put_at-same}
 use Rattle.iox2_laws.proofs.PublisherUpdates.{update_publisher_changes}
-use Rattle.iox2_store.specs.Environments.{ample_memory}
-use Rattle.iox2_commands.proofs.ExistUpdates.{Comes, anything, at_some, comes_option, comes_bool, is_fixed, AllFixed, deliver_comes, update_publisher_comes, update_subscriber_comes}
+use Rattle.iox2_store.specs.machine.Environments.{ample_memory}
+use Rattle.iox2_commands.proofs.ExistUpdates.{ComesWith, anything, at_some, comes_option, comes_bool, is_fixed, AllFixed, deliver_comes, update_publisher_comes, update_subscriber_comes}
 
 -- ---- fixed handlers
 
@@ -128,7 +128,7 @@ module _ {T U : Type 0} where
 
   -- a call comes to a state that is so
   abbrev pub ComesTo : (R : Type 0) → (State T U → R → Type 0) → Type 0
-  ComesTo R Rel = Comes (State T U) R Rel (λ s' r. IsFixed s')
+  ComesTo R Rel = ComesWith (State T U) R Rel (λ s' r. IsFixed s')
 
   changed_fixed : (s : State T U) (p : ℕ) (change : Publisher → Publisher) → ((x : Publisher) → (change x).backpressure_handler ≡ x.backpressure_handler)
       → IsFixed s → IsFixed (publisher_changed s p change)
@@ -197,7 +197,7 @@ module _ {T U : Type 0} where
     refused : (e : LoanError) → Grants s.next_message s (Some e)
     refused e = (k, λ f. absurd (none-some e (sym f)))
 
-    static_comes : Comes (State T U) (Option LoanError) (StaticLoan default_header s p x len) (Grants s.next_message)
+    static_comes : ComesWith (State T U) (Option LoanError) (StaticLoan default_header s p x len) (Grants s.next_message)
     static_comes =
         comes_bool (State T U) (Option LoanError) (Grants s.next_message) (eqb (size (held s p x)) x.slots) _ _
         (λ _. (s, Some OutOfMemory, (refl, refl), refused OutOfMemory))
@@ -205,36 +205,36 @@ module _ {T U : Type 0} where
         (λ _. (s, Some InternalFailure, (refl, refl), refused InternalFailure))
         (λ apart. (loan_granted default_header s p x len x.segments, None, (refl, refl), granted x.segments (below_last s.next_message last_number k.message apart))))
 
-    dynamic_comes : is_static x.allocation_strategy ≡ false → Comes (State T U) (Option LoanError) (DynamicLoan ample_memory default_header s p x len) (Grants s.next_message)
+    dynamic_comes : is_static x.allocation_strategy ≡ false → ComesWith (State T U) (Option LoanError) (DynamicLoan ample_memory default_header s p x len) (Grants s.next_message)
     dynamic_comes dynamic = at (eqb s.next_message last_number) refl
       where
         grants : s.next_message < last_number → (IsGuaranteed s p x len ⊎ (segment_fits s.config x.slots len ≡ true))
-            → Comes (State T U) (Option LoanError) (DynamicLoan ample_memory default_header s p x len) (Grants s.next_message)
+            → ComesWith (State T U) (Option LoanError) (DynamicLoan ample_memory default_header s p x len) (Grants s.next_message)
         grants below may = (loan_granted default_header s p x len x.segments, None, (below, may, x.segments, inl refl, refl), granted x.segments below)
 
         fails : segment_fits s.config x.slots len ≡ false → ¬ (IsGuaranteed s p x len)
-            → Comes (State T U) (Option LoanError) (DynamicLoan ample_memory default_header s p x len) (Grants s.next_message)
+            → ComesWith (State T U) (Option LoanError) (DynamicLoan ample_memory default_header s p x len) (Grants s.next_message)
         fails short none = (s, Some InternalFailure, (refl, inr (inr (no_segment_fits s.config x len dynamic short), none)), refused InternalFailure)
 
         by_slots : s.next_message < last_number → segment_fits s.config x.slots len ≡ false → (a b : Bool) → ltb (size (held s p x)) x.slots ≡ a → ltb (known_length x) len ≡ b
-            → Comes (State T U) (Option LoanError) (DynamicLoan ample_memory default_header s p x len) (Grants s.next_message)
+            → ComesWith (State T U) (Option LoanError) (DynamicLoan ample_memory default_header s p x len) (Grants s.next_message)
         by_slots below short false b full f = fails short (λ g. absurd (true≢false (sym (lt-ltb (size (held s p x)) x.slots g.0) ∙ full)))
         by_slots below short true false room f = grants below (inl (ltb-true (size (held s p x)) x.slots room, ltb-false (known_length x) len f))
         by_slots below short true true room f = fails short (λ g. absurd (true≢false (sym f ∙ le-ltb (known_length x) len g.1)))
 
         by_fit : s.next_message < last_number → (b : Bool) → segment_fits s.config x.slots len ≡ b
-            → Comes (State T U) (Option LoanError) (DynamicLoan ample_memory default_header s p x len) (Grants s.next_message)
+            → ComesWith (State T U) (Option LoanError) (DynamicLoan ample_memory default_header s p x len) (Grants s.next_message)
         by_fit below true f = grants below (inr f)
         by_fit below false f = by_slots below f (ltb (size (held s p x)) x.slots) (ltb (known_length x) len) refl refl
 
-        at : (b : Bool) → eqb s.next_message last_number ≡ b → Comes (State T U) (Option LoanError) (DynamicLoan ample_memory default_header s p x len) (Grants s.next_message)
+        at : (b : Bool) → eqb s.next_message last_number ≡ b → ComesWith (State T U) (Option LoanError) (DynamicLoan ample_memory default_header s p x len) (Grants s.next_message)
         at true f = (s, Some InternalFailure, (refl, inl (eqb-true s.next_message last_number f)), refused InternalFailure)
         at false f = by_fit (below_last s.next_message last_number k.message f) (segment_fits s.config x.slots len) refl
 
     -- A loan is granted or refused.
-    pub grant_comes : (checks_length : Bool) → Comes (State T U) (Option LoanError) (GrantLoan ample_memory default_header checks_length len s p) (Grants s.next_message)
+    pub grant_comes : (checks_length : Bool) → ComesWith (State T U) (Option LoanError) (GrantLoan ample_memory default_header checks_length len s p) (Grants s.next_message)
     grant_comes checks_length =
-        let v : Comes (State T U) (Option LoanError) (λ s' refusal. MatchOption (limit_error checks_length x len)
+        let v : ComesWith (State T U) (Option LoanError) (λ s' refusal. MatchOption (limit_error checks_length x len)
         (MatchBool (is_static x.allocation_strategy) (StaticLoan default_header s p x len s' refusal) (DynamicLoan ample_memory default_header s p x len s' refusal))
         (λ limit. (s' ≡ s) × (refusal ≡ Some limit))) (Grants s.next_message) =
         comes_option (State T U) (Option LoanError) (Grants s.next_message) (limit_error checks_length x len) _ _
@@ -243,13 +243,13 @@ module _ {T U : Type 0} where
         (v.0, v.1, at_some (s.publishers p) x _ _ present v.2, v.3)
 
     pub grant_written_comes : (value : T) (checks_length : Bool)
-        → Comes (State T U) (Option LoanError) (GrantWrittenLoan ample_memory value default_header checks_length len s p) (Grants s.next_message)
+        → ComesWith (State T U) (Option LoanError) (GrantWrittenLoan ample_memory value default_header checks_length len s p) (Grants s.next_message)
     grant_written_comes value checks_length =
-        let v : Comes (State T U) (Option LoanError) (GrantLoan ample_memory default_header checks_length len s p) (Grants s.next_message) = grant_comes checks_length in
+        let v : ComesWith (State T U) (Option LoanError) (GrantLoan ample_memory default_header checks_length len s p) (Grants s.next_message) = grant_comes checks_length in
         at v.0 v.1 v.2 v.3
       where
         at : (mid : State T U) (refusal : Option LoanError) → GrantLoan ample_memory default_header checks_length len s p mid refusal → Grants s.next_message mid refusal
-            → Comes (State T U) (Option LoanError) (GrantWrittenLoan ample_memory value default_header checks_length len s p) (Grants s.next_message)
+            → ComesWith (State T U) (Option LoanError) (GrantWrittenLoan ample_memory value default_header checks_length len s p) (Grants s.next_message)
         at mid None h g =
             let found : (l : Loan T U) × (mid.loans s.next_message ≡ Some l) = g.1 refl in (
               with_loan mid s.next_message (Some (written found.0 value)),
@@ -269,7 +269,7 @@ module _ {T U : Type 0} where
   pub delivers : (s : State T U) (p : ℕ) (x : Publisher) → s.publishers p ≡ Some x → IsFixed s → (n retries : ℕ) (elapsed : Duration) (place : ℕ) (ends : List (Option ℕ)) (count : ℕ) (has_failed : Bool)
       → ComesTo SendResult (DeliverAndConclude ample_memory s p n retries elapsed place ends count has_failed)
   delivers s p x present k n retries elapsed place ends count has_failed =
-      let d : Comes DeliveryEnd (ℕ → Mailbox) (Deliver ample_memory s.config p x.backpressure_strategy x.backpressure_handler (receiving_buffer s) n retries elapsed place ends count has_failed (s.mailboxes p)) (anything DeliveryEnd (ℕ → Mailbox)) =
+      let d : ComesWith DeliveryEnd (ℕ → Mailbox) (Deliver ample_memory s.config p x.backpressure_strategy x.backpressure_handler (receiving_buffer s) n retries elapsed place ends count has_failed (s.mailboxes p)) (anything DeliveryEnd (ℕ → Mailbox)) =
       deliver_comes s.config p x.backpressure_strategy x.backpressure_handler (k.handlers p x present) (receiving_buffer s) n retries elapsed place ends count has_failed (s.mailboxes p) in
       let e : ComesTo SendResult (ConcludeSend (with_mailboxes s p d.1) p n d.0) = conclude_comes (with_mailboxes s p d.1) p n d.0 (record { message = k.message; handlers = k.handlers }) in
       (e.0, e.1, at_some (s.publishers p) x _ _ present (d.0, d.1, d.2, e.2), e.3)

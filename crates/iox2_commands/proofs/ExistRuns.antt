@@ -4,14 +4,14 @@ use Rattle.std.specs.Prelude.{MatchOption, slice_get, nat_lt}
 use Rattle.std.specs.Option.{option_map}
 use Rattle.std.proofs.lemmas.Bool.{true≢false, ltb-true}
 use Rattle.std.proofs.lemmas.Option.{none-some, same_Some, slice_get_cases}
-use Rattle.iox2_store.specs.Mailbox.{is_borrowed, numbers_in}
-use Rattle.iox2_store.specs.Numbers.{contains}
-use Rattle.iox2_store.specs.Records.{Entry, Loan, Publisher, Handler, Fixed}
-use Rattle.iox2_store.specs.State.{State, Messages, fresh, no_messages, with_loan}
-use Rattle.iox2_store.specs.Loans.{GrantLoan, is_initialized, initialized, entry_of, written, with_cell, loan_discarded}
-use Rattle.iox2_store.specs.SingleCalls.{GrantWrittenLoan}
-use Rattle.iox2_store.specs.Sends.{Send, SendResult, Delivered_to, Blocked_send, Send_error}
-use Rattle.iox2_store.specs.Receives.{HasSamples as Asks}
+use Rattle.iox2_store.specs.machine.Mailbox.{is_borrowed, numbers_in}
+use Rattle.iox2_store.specs.machine.Numbers.{contains}
+use Rattle.iox2_store.specs.machine.Records.{Entry, Loan, Publisher, Handler, Fixed}
+use Rattle.iox2_store.specs.machine.State.{State, Messages, fresh, no_messages, with_loan}
+use Rattle.iox2_store.specs.machine.Loans.{GrantLoan, is_initialized, initialized, entry_of, written, with_cell, loan_discarded}
+use Rattle.iox2_store.specs.machine.SingleCalls.{GrantWrittenLoan}
+use Rattle.iox2_store.specs.machine.Sends.{Send, SendResult, Delivered_to, Blocked_send, Send_error}
+use Rattle.iox2_store.specs.machine.Receives.{HasSamples as Asks}
 use Rattle.iox2_store.specs.declared.service_config.ServiceConfig.{ServiceConfig}
 use Rattle.iox2_store.specs.declared.backpressure.BackpressureAction.{BackpressureAction}
 use Rattle.iox2_store.specs.declared.errors.ConnectionFailure.{ConnectionFailure}
@@ -21,7 +21,7 @@ use Rattle.iox2_laws.proofs.Enough.{fresh_is_well_formed}
 use Rattle.iox2_laws.proofs.NumberLemmas.{contains_right}
 use Rattle.iox2_commands.specs.Outcomes.{Handle, Sample_handle, Event, Outcome, replied, done, skipped, messages_after}
 use Rattle.iox2_commands.specs.Step.{Step, after_publisher, after_subscriber, after_loan, after_send, after_retry, after_receive, after_update, after_question, unblocked_at, subscriber_at, loan_at, unwritten_at, written_at, with_cell_at, sendable_at, blocked_at, sample_at, if_single_units, if_fixed_size, if_dynamic}
-use Rattle.iox2_store.specs.Environments.{ample_memory}
+use Rattle.iox2_store.specs.machine.Environments.{ample_memory}
 use Rattle.iox2_commands.specs.Runs.{RunFrom, only_defaults}
 use Rattle.iox2_commands.specs.Existence.{EveryListRuns}
 use Rattle.iox2_commands.specs.declared.command.Command.{Command}
@@ -29,10 +29,10 @@ use Rattle.iox2_commands.specs.declared.command.Command.TheVariants.{Nothing, Cr
 use Rattle.iox2_commands.specs.declared.reply.Reply.{Reply}
 use Rattle.iox2_commands.specs.declared.reply.Reply.TheVariants.{Unwritten, SendRefused, Cell, Header as HeaderRead, UserHeader}
 use Rattle.iox2_commands.proofs.Named.{unblocked_is, subscriber_is, blocked_is, passes, in_single_units, in_fixed_size, in_dynamic}
-use Rattle.iox2_commands.proofs.ReadSteps.{Past, past_after}
+use Rattle.iox2_commands.proofs.ReadSteps.{PastSends, past_after}
 use Rattle.iox2_commands.proofs.Reached.{HasReached, goes_on}
 use Rattle.iox2_commands.proofs.AlikeOpen.{state_publisher, state_subscriber, state_loan, state_update, state_question, state_receive, state_send}
-use Rattle.iox2_commands.proofs.ExistUpdates.{Comes, at_some, is_fixed}
+use Rattle.iox2_commands.proofs.ExistUpdates.{ComesWith, at_some, is_fixed}
 use Rattle.iox2_commands.proofs.ExistCalls.{IsFixed, ComesTo, Grants, with_loan_fixed, loan_discarded_fixed, publisher_updates, subscriber_updates, grant_comes, grant_written_comes, delivers, send_comes, receive_comes, has_samples_comes, released_fixed, publisher_closed_fixed, subscriber_closed_fixed, create_publisher_comes, create_subscriber_comes}
 
 -- a handler that a command gives is fixed
@@ -80,7 +80,7 @@ module _ {T U : Type 0} where
       → Ends (λ o. (s' : State T U) × (r : R) × Rel s' r × (o ≡ after s' r))
   ends_call R Rel after same v = (after v.0 v.1, (v.0, v.1, v.2, refl), subst IsFixed (sym (same v.0 v.1)) v.3)
 
-  module _ (default_value : T) (default_header : U) (past : Past T U) (first : past.first_port ≡ 0) (m : Messages T U) (s : State T U) (handles : List Handle)
+  module _ (default_value : T) (default_header : U) (past : PastSends T U) (first : past.first_port ≡ 0) (m : Messages T U) (s : State T U) (handles : List Handle)
       (reached : HasReached past m s handles) (k : IsFixed s) where
     -- the message of a sample that is named was sent
     sample_sent : (of : ℕ) (named : ℕ × ℕ × ℕ) → sample_at s handles of ≡ Some named → (entry : Entry T U) × (m named.2 ≡ Some entry)
@@ -98,13 +98,13 @@ module _ {T U : Type 0} where
     loans : (checks_length : Bool) (len p : ℕ) (x : Publisher) → s.publishers p ≡ Some x
         → Ends (λ o. (s' : State T U) × (refusal : Option LoanError) × GrantLoan ample_memory default_header checks_length len s p s' refusal × (o ≡ after_loan s' s.next_message refusal))
     loans checks_length len p x present =
-        let v : Comes (State T U) (Option LoanError) (GrantLoan ample_memory default_header checks_length len s p) (Grants s.next_message) = grant_comes default_header s p x present k len checks_length in
+        let v : ComesWith (State T U) (Option LoanError) (GrantLoan ample_memory default_header checks_length len s p) (Grants s.next_message) = grant_comes default_header s p x present k len checks_length in
         ends_call (Option LoanError) (GrantLoan ample_memory default_header checks_length len s p) (λ s' r. after_loan s' s.next_message r) (λ s' r. state_loan s' s.next_message r) (v.0, v.1, v.2, (v.3).0)
 
     loans_default : (p : ℕ) (x : Publisher) → s.publishers p ≡ Some x
         → Ends (λ o. (s' : State T U) × (refusal : Option LoanError) × GrantWrittenLoan ample_memory default_value default_header false 1 s p s' refusal × (o ≡ after_loan s' s.next_message refusal))
     loans_default p x present =
-        let v : Comes (State T U) (Option LoanError) (GrantWrittenLoan ample_memory default_value default_header false 1 s p) (Grants s.next_message) =
+        let v : ComesWith (State T U) (Option LoanError) (GrantWrittenLoan ample_memory default_value default_header false 1 s p) (Grants s.next_message) =
         grant_written_comes default_header s p x present k 1 default_value false in
         ends_call (Option LoanError) (GrantWrittenLoan ample_memory default_value default_header false 1 s p) (λ s' r. after_loan s' s.next_message r) (λ s' r. state_loan s' s.next_message r) (v.0, v.1, v.2, (v.3).0)
 
@@ -122,7 +122,7 @@ module _ {T U : Type 0} where
         → Ends (λ o. (mid : State T U) × (refusal : Option LoanError) × GrantWrittenLoan ample_memory value default_header false 1 s p mid refusal
         × MatchOption refusal (SendsGranted mid o) (λ e. o ≡ replied (SendRefused (NotLoaned e)) mid))
     sends_copy value p x present =
-        let v : Comes (State T U) (Option LoanError) (GrantWrittenLoan ample_memory value default_header false 1 s p) (Grants s.next_message) =
+        let v : ComesWith (State T U) (Option LoanError) (GrantWrittenLoan ample_memory value default_header false 1 s p) (Grants s.next_message) =
         grant_written_comes default_header s p x present k 1 value false in
         at v.0 v.1 v.2 v.3
       where
@@ -233,7 +233,7 @@ module _ {T U : Type 0} where
       (replies : List (Reply T U)) × (events : List (Event T U)) × (m' : Messages T U) × (s' : State T U)
       × RunFrom ample_memory (only_defaults default_value default_header) m s handles commands replies events m' s'
 
-  runs : (default_value : T) (default_header : U) (past : Past T U) → past.first_port ≡ 0 → (m : Messages T U) (s : State T U) (handles : List Handle) (commands : List (Command T U))
+  runs : (default_value : T) (default_header : U) (past : PastSends T U) → past.first_port ≡ 0 → (m : Messages T U) (s : State T U) (handles : List Handle) (commands : List (Command T U))
       → HasReached past m s handles → IsFixed s → Runs default_value default_header m s handles commands
   runs default_value default_header past first m s handles [] reached k = ([], [], m, s, (refl, refl))
   runs default_value default_header past first m s handles (command ∷ commands) reached k =
@@ -245,7 +245,7 @@ module _ {T U : Type 0} where
       (o.reply ∷ rest.0, o.event ∷ rest.1, rest.2, rest.3, (default_value, default_header, refl, refl, o, v.1, refl, refl, rest.4))
 
   -- a new domain is reached
-  abbrev nothing_past : Past T U
+  abbrev nothing_past : PastSends T U
   nothing_past = record { first_port = 0; first_message = 0; WasSent = λ p n entry. ⊥ }
 
   new_reached : (c : ServiceConfig) → HasReached nothing_past no_messages (fresh c) []

@@ -4,12 +4,12 @@ use Rattle.std.proofs.Common.{◌≡◌, ℕ, zero, suc, ◌+◌, ◌*◌, ◌-�
 use Rattle.std.specs.Prelude.{slice_get}
 use Rattle.std.specs.List.{flat_map}
 use Rattle.std.proofs.lemmas.List.{length-append}
-use Rattle.iox2_store.specs.Limits.{buffer_limit, worst_case, last_number}
-use Rattle.iox2_store.specs.Numbers.{put_at, contains, last_n, size, IsOnce}
-use Rattle.iox2_store.specs.Places.{occupants}
-use Rattle.iox2_store.specs.Mailbox.{Mailbox, numbers_in, has_numbers, with_waiting}
-use Rattle.iox2_store.specs.State.{State, held}
-use Rattle.iox2_store.specs.WellFormed.{MailboxIsWellFormed}
+use Rattle.iox2_store.specs.machine.Limits.{buffer_limit, worst_case, last_number}
+use Rattle.iox2_store.specs.machine.Numbers.{put_at, contains, last_n, size, IsOnce}
+use Rattle.iox2_store.specs.machine.Places.{occupants}
+use Rattle.iox2_store.specs.machine.Mailbox.{Mailbox, numbers_in, has_numbers, with_waiting}
+use Rattle.iox2_store.specs.machine.State.{State, held}
+use Rattle.iox2_store.specs.machine.WellFormed.{MailboxIsWellFormed}
 use Rattle.iox2_store.specs.declared.service_config.ServiceConfig.{ServiceConfig}
 use Rattle.iox2_laws.proofs.Puts.{put_at-same}
 use Rattle.iox2_laws.proofs.Sizes.{size_is}
@@ -23,8 +23,8 @@ use Rattle.iox2_commands.proofs.GrowingLists.{found_earlier}
 use Rattle.iox2_commands.proofs.FillingNumbers.{numbers_from, length-numbers_from, within_numbers_from, IsOnce-numbers_from, ports_from, occupants-ports_from, recent, length-flat_map_each}
 use Rattle.iox2_commands.proofs.FillingRuns.{Leads, leads_append, leads_further}
 use Rattle.iox2_commands.proofs.FillingShape.{filler, IsFilling, handle_new, named_next}
-use Rattle.iox2_commands.proofs.FillingLoans.{IsLoaned, loan_step}
-use Rattle.iox2_commands.proofs.FillingUpdates.{IsUpdated, update_step}
+use Rattle.iox2_commands.proofs.FillingLoans.{IsLoanedOutcome, loan_step}
+use Rattle.iox2_commands.proofs.FillingUpdates.{IsUpdatedOutcome, update_step}
 use Rattle.iox2_commands.proofs.FillingPorts.{IsMade, subscriber_step}
 use Rattle.iox2_commands.proofs.FillingBoxes.{AreFull, IsOpening, full_kept, one_more_full, opening_served}
 use Rattle.iox2_commands.proofs.FillingSteps.{IsFull, IsServing, full_sends, serving_sends, serving_rounds}
@@ -193,7 +193,7 @@ module _ {T U : Type 0} (c : ServiceConfig) (most available : ℕ) (value : T) (
       inr (
         ap is_granted new.reply,
         λ dv' dh' m' o' step' w'.
-            let up : IsUpdated c most available o.state sent made boxes new.filling o' =
+            let up : IsUpdatedOutcome c most available o.state sent made boxes new.filling o' =
             update_step c most available o.state sent made boxes new.filling dv' dh' m' (handles ++ o.handle ∷ []) o'
             (found_earlier handles (o.handle ∷ []) 0 (Publisher_handle 1) ((f.full).named).publisher) step' w' in
             inr (
@@ -246,7 +246,7 @@ module _ {T U : Type 0} (c : ServiceConfig) (most available : ℕ) (value : T) (
   loans_lead (suc count) sent made out s handles e more f = λ dv dh m o step w.
       ⊎_elim
       (λ refused. inl refused)
-      (λ (loaned : IsLoaned c most available s sent out made (ports_from 2 made) false f.boxes f.filling o). inr (
+      (λ (loaned : IsLoanedOutcome c most available s sent out made (ports_from 2 made) false f.boxes f.filling o). inr (
         ap is_granted loaned.reply,
         loans_lead count sent made (suc out) o.state (handles ++ o.handle ∷ []) (omega arith) more (record {
           boxes = f.boxes;

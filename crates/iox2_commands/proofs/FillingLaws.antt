@@ -2,16 +2,16 @@
 use Rattle.std.proofs.Common.{◌≡◌, ℕ, suc, ◌+◌, ◌*◌, ◌-◌, ◌^◌, ◌≤◌, ◌<◌, true, false, ◌&&◌, List, [], ◌∷◌, length, refl, sym, ap, subst, ◌∙◌, arith, Option, None, Some, ◌⊎◌, ⊎_elim, inr, replicate}
 use Rattle.std.specs.Prelude.{slice_get}
 use Rattle.std.proofs.lemmas.Bool.{lt-ltb}
-use Rattle.iox2_store.specs.Limits.{buffer_limit, worst_case, last_number, fits, segment_fits}
-use Rattle.iox2_store.specs.Numbers.{size}
-use Rattle.iox2_store.specs.Records.{Publisher}
-use Rattle.iox2_store.specs.State.{State, Messages, fresh, no_messages, held}
-use Rattle.iox2_store.specs.Ports.{slots_for, first_segment_fits}
+use Rattle.iox2_store.specs.machine.Limits.{buffer_limit, worst_case, last_number, fits, segment_fits}
+use Rattle.iox2_store.specs.machine.Numbers.{size}
+use Rattle.iox2_store.specs.machine.Records.{Publisher}
+use Rattle.iox2_store.specs.machine.State.{State, Messages, fresh, no_messages, held}
+use Rattle.iox2_store.specs.machine.Ports.{slots_for, first_segment_fits}
 use Rattle.iox2_store.specs.declared.service_config.ServiceConfig.{ServiceConfig}
 use Rattle.iox2_laws.proofs.Enough.{fresh_is_well_formed, holds_at_most_worst_case}
 use Rattle.iox2_commands.specs.Outcomes.{Handle, Event}
 use Rattle.iox2_commands.specs.Fills.{is_granted}
-use Rattle.iox2_store.specs.Environments.{ample_memory}
+use Rattle.iox2_store.specs.machine.Environments.{ample_memory}
 use Rattle.iox2_commands.specs.Runs.{Run, any_defaults}
 use Rattle.iox2_commands.specs.FillingCommands.{publisher_command, loan_command, subscribers_filled, filling_commands, IsFillable, WorstCaseIsReached, WorstCaseIsLeast}
 use Rattle.iox2_commands.specs.declared.command.Command.{Command}
@@ -19,7 +19,7 @@ use Rattle.iox2_commands.specs.declared.reply.Reply.{Reply}
 use Rattle.iox2_commands.specs.declared.reply.Reply.TheVariants.{PublisherMade}
 use Rattle.iox2_commands.proofs.StepLaws.{IsSound, step_sound}
 use Rattle.iox2_commands.proofs.FillingNumbers.{numbers_from, ports_from, recent}
-use Rattle.iox2_commands.proofs.FillingRuns.{IsRefused, Leads, leads_append, leads_further, RefusesAt, GrantsAll, run_leads}
+use Rattle.iox2_commands.proofs.FillingRuns.{IsRefusedLoan, Leads, leads_append, leads_further, RefusesAt, GrantsAll, run_leads}
 use Rattle.iox2_commands.proofs.FillingShape.{filler, IsFilling}
 use Rattle.iox2_commands.proofs.FillingPorts.{IsBegun, publisher_step, filler_settings, length_one}
 use Rattle.iox2_commands.proofs.FillingBoxes.{none_full}
@@ -167,7 +167,7 @@ module _ {T U : Type 0} where
       ⊎_elim
       (λ (refuses : Refuses c loans value None able replies events m s).
       let s' : State T U = refuses.6 in
-      let r : IsRefused c loans (given_slots c loans None) s' refuses.1 refuses.2 = refuses.10 in
+      let r : IsRefusedLoan c loans (given_slots c loans None) s' refuses.1 refuses.2 = refuses.10 in
       let some : size (held s' 1 r.publisher) ≤ worst_case c (length (r.publisher).loans) =
       subst (λ (v : ServiceConfig). size (held s' 1 r.publisher) ≤ worst_case v (length (r.publisher).loans)) r.config
       (holds_at_most_worst_case s' r.well_formed 1 r.publisher r.present) in
@@ -184,7 +184,7 @@ module _ {T U : Type 0} where
       let fewer : Option ℕ = Some slots in
       ⊎_elim
       (λ (refuses : Refuses c loans value fewer able replies events m s).
-      let r : IsRefused c loans (given_slots c loans fewer) refuses.6 refuses.1 refuses.2 = refuses.10 in (
+      let r : IsRefusedLoan c loans (given_slots c loans fewer) refuses.6 refuses.1 refuses.2 = refuses.10 in (
         refuses.0,
         refuses.3 ∙ ap (λ (e : Command T U). Some e) r.asks,
         refuses.4 ∙ ap (λ (e : Reply T U). Some e) r.refused,

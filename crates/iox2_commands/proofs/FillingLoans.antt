@@ -2,13 +2,13 @@
 use Rattle.std.proofs.Common.{◌≡◌, ℕ, suc, ◌+◌, ◌<◌, Bool, true, false, cond, List, length, max, refl, ap, subst, ◌∙◌, arith, eqb, Option, None, Some, ◌⊎◌, inl, inr}
 use Rattle.std.specs.Prelude.{slice_get}
 use Rattle.std.proofs.lemmas.Bool.{lt-leb, eqb-true}
-use Rattle.iox2_store.specs.Limits.{last_number}
-use Rattle.iox2_store.specs.Numbers.{size}
-use Rattle.iox2_store.specs.Mailbox.{Mailbox}
-use Rattle.iox2_store.specs.Records.{Loan, Publisher}
-use Rattle.iox2_store.specs.State.{State, Messages, held, with_loan}
-use Rattle.iox2_store.specs.Loans.{GrantLoan, StaticLoan, loan_granted, limit_error, written}
-use Rattle.iox2_store.specs.WellFormed.{IsWellFormed}
+use Rattle.iox2_store.specs.machine.Limits.{last_number}
+use Rattle.iox2_store.specs.machine.Numbers.{size}
+use Rattle.iox2_store.specs.machine.Mailbox.{Mailbox}
+use Rattle.iox2_store.specs.machine.Records.{Loan, Publisher}
+use Rattle.iox2_store.specs.machine.State.{State, Messages, held, with_loan}
+use Rattle.iox2_store.specs.machine.Loans.{GrantLoan, StaticLoan, loan_granted, limit_error, written}
+use Rattle.iox2_store.specs.machine.WellFormed.{IsWellFormed}
 use Rattle.iox2_store.specs.declared.service_config.ServiceConfig.{ServiceConfig}
 use Rattle.iox2_store.specs.declared.service_config.TypeVariant.{TypeVariant}
 use Rattle.iox2_store.specs.declared.service_config.TypeVariant.TheVariants.{FixedSize, Dynamic}
@@ -18,13 +18,13 @@ use Rattle.iox2_laws.proofs.Cases.{by_bool}
 use Rattle.iox2_laws.proofs.Puts.{put_at-same}
 use Rattle.iox2_commands.specs.Outcomes.{Handle, Publisher_handle, Loan_handle, Outcome, done}
 use Rattle.iox2_commands.specs.Step.{Step, after_loan, unblocked_at, if_single_units, if_fixed_size, if_dynamic, unwritten_at}
-use Rattle.iox2_store.specs.Environments.{ample_memory}
+use Rattle.iox2_store.specs.machine.Environments.{ample_memory}
 use Rattle.iox2_commands.specs.FillingCommands.{loan_command}
 use Rattle.iox2_commands.specs.declared.command.Command.TheVariants.{WriteAll}
 use Rattle.iox2_commands.specs.declared.reply.Reply.TheVariants.{Loaned, Done}
 use Rattle.iox2_commands.proofs.FillingNumbers.{numbers_from, numbers_from_push, length-numbers_from, recent}
-use Rattle.iox2_commands.proofs.FillingShape.{filler, IsFilling, HasLoan, at_some, at_none, concluded, publisher_named, unwritten_named}
-use Rattle.iox2_commands.proofs.FillingRuns.{IsRefused}
+use Rattle.iox2_commands.proofs.FillingShape.{filler, IsFilling, HasFillingLoan, at_some, at_none, concluded, publisher_named, unwritten_named}
+use Rattle.iox2_commands.proofs.FillingRuns.{IsRefusedLoan}
 
 module _ {T U : Type 0} (c : ServiceConfig) (most available : ℕ) (s : State T U) (sent out made : ℕ) (links : List (Option ℕ)) (due : Bool) (boxes : ℕ → Mailbox)
     (f : IsFilling c most available s sent out made links due boxes) where
@@ -33,11 +33,11 @@ module _ {T U : Type 0} (c : ServiceConfig) (most available : ℕ) (s : State T 
   before = filler most available f.longest (numbers_from (suc sent) out) (recent c.history_size sent) links due
 
   -- What a granted loan comes to.
-  pub record IsLoaned (o : Outcome T U) : Type 0 where
+  pub record IsLoanedOutcome (o : Outcome T U) : Type 0 where
     pub reply : o.reply ≡ Loaned
     pub handle : o.handle ≡ Loan_handle (suc sent + out)
     pub filling : IsFilling c most available o.state sent (suc out) made links due boxes
-    pub loan : HasLoan o.state (suc sent + out) false
+    pub loan : HasFillingLoan o.state (suc sent + out) false
 
   granted : (default_header : U) → IsWellFormed (loan_granted default_header s 1 before 1 1)
       → IsFilling c most available (loan_granted default_header s 1 before 1 1) sent (suc out) made links due boxes
@@ -55,9 +55,9 @@ module _ {T U : Type 0} (c : ServiceConfig) (most available : ℕ) (s : State T 
     mailboxes = f.mailboxes;
   }
 
-  granted_loan : (default_header : U) → HasLoan (loan_granted default_header s 1 before 1 1) (suc sent + out) false
+  granted_loan : (default_header : U) → HasFillingLoan (loan_granted default_header s 1 before 1 1) (suc sent + out) false
   granted_loan default_header =
-      subst (λ n. HasLoan (loan_granted default_header s 1 before 1 1) n false) f.next_message
+      subst (λ n. HasFillingLoan (loan_granted default_header s 1 before 1 1) n false) f.next_message
       (_, put_at-same s.loans s.next_message _, refl, refl)
 
   no_limit : (checks_length : Bool) → out < most → limit_error checks_length before 1 ≡ None
@@ -69,11 +69,11 @@ module _ {T U : Type 0} (c : ServiceConfig) (most available : ℕ) (s : State T 
   asked : (checks_length : Bool) (default_header : U) (o : Outcome T U) → out < most → suc sent + out < last_number → IsWellFormed o.state
       → ((s' : State T U) × (refusal : Option LoanError) × GrantLoan ample_memory default_header checks_length 1 s 1 s' refusal ×
       (o ≡ after_loan s' s.next_message refusal))
-      → IsRefused c most available s (loan_command c.variant) o.reply ⊎ IsLoaned o
+      → IsRefusedLoan c most available s (loan_command c.variant) o.reply ⊎ IsLoanedOutcome o
   asked checks_length default_header o low more w h =
       let within : StaticLoan default_header s 1 before 1 h.0 h.1 =
       at_none (limit_error checks_length before 1) _ _ (no_limit checks_length low) (at_some (s.publishers 1) before _ _ f.publisher h.2) in
-      by_bool (IsRefused c most available s (loan_command c.variant) o.reply ⊎ IsLoaned o) (eqb (size (held s 1 before)) available) _ _ within
+      by_bool (IsRefusedLoan c most available s (loan_command c.variant) o.reply ⊎ IsLoanedOutcome o) (eqb (size (held s 1 before)) available) _ _ within
       (λ full k. inl (record {
         asks = refl;
         well_formed = f.well_formed;
@@ -84,12 +84,12 @@ module _ {T U : Type 0} (c : ServiceConfig) (most available : ℕ) (s : State T 
         full = eqb-true (size (held s 1 before)) available full;
         refused = ap (λ (v : Outcome T U). v.reply) (h.3 ∙ ap (after_loan h.0 s.next_message) k.1);
       }))
-      (λ _ k. by_bool (IsRefused c most available s (loan_command c.variant) o.reply ⊎ IsLoaned o) (eqb s.next_message last_number) _ _ k
+      (λ _ k. by_bool (IsRefusedLoan c most available s (loan_command c.variant) o.reply ⊎ IsLoanedOutcome o) (eqb s.next_message last_number) _ _ k
       (λ last _. let same : s.next_message ≡ last_number = eqb-true s.next_message last_number last in absurd (omega (arith, f.next_message)))
       (λ _ k. inr (
       let same : o ≡ after_loan (loan_granted default_header s 1 before 1 1) s.next_message None =
       h.3 ∙ ap (after_loan h.0 s.next_message) k.1 ∙ ap (λ (v : State T U). after_loan v s.next_message None) k.0 in
-      concluded IsLoaned o (after_loan (loan_granted default_header s 1 before 1 1) s.next_message None) same w (λ w'. record {
+      concluded IsLoanedOutcome o (after_loan (loan_granted default_header s 1 before 1 1) s.next_message None) same w (λ w'. record {
         reply = refl {a = Loaned};
         handle = ap (λ n. Loan_handle n) f.next_message;
         filling = granted default_header w';
@@ -100,7 +100,7 @@ module _ {T U : Type 0} (c : ServiceConfig) (most available : ℕ) (s : State T 
   pub loan_step : (default_value : T) (default_header : U) (m : Messages T U) (handles : List Handle) (o : Outcome T U)
       → c.units_per_element ≡ 1 → out < most → suc sent + out < last_number → slice_get handles 0 ≡ Some (Publisher_handle 1)
       → Step ample_memory default_value default_header m s handles (loan_command c.variant) o → IsWellFormed o.state
-      → IsRefused c most available s (loan_command c.variant) o.reply ⊎ IsLoaned o
+      → IsRefusedLoan c most available s (loan_command c.variant) o.reply ⊎ IsLoanedOutcome o
   loan_step default_value default_header m handles o units low more publisher step w =
       at c.variant (ap (λ (v : ServiceConfig). v.variant) f.config) step
     where
@@ -111,7 +111,7 @@ module _ {T U : Type 0} (c : ServiceConfig) (most available : ℕ) (s : State T 
       single = ap (λ n. cond (eqb n 1) (Some (1, before)) None) (ap (λ (v : ServiceConfig). v.units_per_element) f.config ∙ units)
 
       at : (v : TypeVariant) → (s.config).variant ≡ v → Step ample_memory default_value default_header m s handles (loan_command v) o
-          → IsRefused c most available s (loan_command c.variant) o.reply ⊎ IsLoaned o
+          → IsRefusedLoan c most available s (loan_command c.variant) o.reply ⊎ IsLoanedOutcome o
       at FixedSize e h =
           let fixed : if_single_units {A = ℕ × Publisher} s (if_fixed_size {A = ℕ × Publisher} s (unblocked_at s handles 0)) ≡ Some (1, before) =
           ap (λ (v : TypeVariant). if_single_units {A = ℕ × Publisher} s
@@ -129,11 +129,11 @@ module _ {T U : Type 0} (c : ServiceConfig) (most available : ℕ) (s : State T 
   pub record IsWritten (n : ℕ) (o : Outcome T U) : Type 0 where
     pub reply : o.reply ≡ Done
     pub filling : IsFilling c most available o.state sent out made links due boxes
-    pub loan : HasLoan o.state n true
+    pub loan : HasFillingLoan o.state n true
 
   -- a loan is written
   pub write_step : (value : T) (position n : ℕ) (default_value : T) (default_header : U) (m : Messages T U) (handles : List Handle) (o : Outcome T U)
-      → slice_get handles position ≡ Some (Loan_handle n) → HasLoan s n false
+      → slice_get handles position ≡ Some (Loan_handle n) → HasFillingLoan s n false
       → Step ample_memory default_value default_header m s handles (WriteAll position value) o → IsWellFormed o.state
       → IsWritten n o
   write_step value position n default_value default_header m handles o handle loan step w =

@@ -2,16 +2,16 @@
 use Rattle.std.proofs.Common.{◌≡◌, ℕ, suc, ◌+◌, ◌-◌, ◌≤◌, ◌<◌, Bool, true, false, cond, List, [], ◌∷◌, min, refl, sym, ap, subst, ◌∙◌, arith, eqb, ltb, Option, None, Some, option_map, ◌⊎◌, ⊎_elim}
 use Rattle.std.specs.Bool.{MatchBool}
 use Rattle.std.proofs.lemmas.Bool.{le-ltb, lt-ltb, ne_eqb, eqb-false, eqb-true}
-use Rattle.iox2_store.specs.Limits.{buffer_limit, expired_limit, last_number}
-use Rattle.iox2_store.specs.Places.{occupant, free_place, lowest_free, set_place}
-use Rattle.iox2_store.specs.Mailbox.{Mailbox, empty_mailbox}
-use Rattle.iox2_store.specs.Records.{Publisher, Subscriber, PublisherSettings, SubscriberSettings, Handler, Fixed}
-use Rattle.iox2_store.specs.State.{State, Messages, fresh, has_sender_end}
-use Rattle.iox2_store.specs.Connections.{ForEachPlace, first_failure}
-use Rattle.iox2_store.specs.PublisherUpdate.{sender_side, with_sender_side}
-use Rattle.iox2_store.specs.SubscriberUpdate.{ReceiverSide, with_end, UpdateReceiverSide, ConnectReceiver, ConnectAtPlace, DisconnectAtPlace, receiver_side, with_receiver_side}
-use Rattle.iox2_store.specs.Ports.{slots_for, first_segment_fits, buffer_for, new_subscriber, new_publisher, with_new_publisher, with_new_subscriber, with_failure_warning, FirstSubscriberUpdate, MakePublisher, MakeSubscriber}
-use Rattle.iox2_store.specs.WellFormed.{IsWellFormed}
+use Rattle.iox2_store.specs.machine.Limits.{buffer_limit, expired_limit, last_number}
+use Rattle.iox2_store.specs.machine.Places.{occupant, free_place, lowest_free, set_place}
+use Rattle.iox2_store.specs.machine.Mailbox.{Mailbox, empty_mailbox}
+use Rattle.iox2_store.specs.machine.Records.{Publisher, Subscriber, PublisherSettings, SubscriberSettings, Handler, Fixed}
+use Rattle.iox2_store.specs.machine.State.{State, Messages, fresh, has_sender_end}
+use Rattle.iox2_store.specs.machine.Connections.{ForEachPlace, first_failure}
+use Rattle.iox2_store.specs.machine.PublisherUpdate.{sender_side, with_sender_side}
+use Rattle.iox2_store.specs.machine.SubscriberUpdate.{ReceiverSide, with_end, UpdateReceiverSide, ConnectReceiver, ConnectAtPlace, DisconnectAtPlace, receiver_side, with_receiver_side}
+use Rattle.iox2_store.specs.machine.Ports.{slots_for, first_segment_fits, buffer_for, new_subscriber, new_publisher, with_new_publisher, with_new_subscriber, with_failure_warning, FirstSubscriberUpdate, MakePublisher, MakeSubscriber}
+use Rattle.iox2_store.specs.machine.WellFormed.{IsWellFormed}
 use Rattle.iox2_store.specs.declared.service_config.ServiceConfig.{ServiceConfig}
 use Rattle.iox2_store.specs.declared.service_config.TypeVariant.{TypeVariant}
 use Rattle.iox2_store.specs.declared.service_config.TypeVariant.TheVariants.{FixedSize, Dynamic}
@@ -26,7 +26,7 @@ use Rattle.iox2_store.specs.declared.warning.Warning.TheVariants.{PublisherPartl
 use Rattle.iox2_laws.proofs.Puts.{put_at-same}
 use Rattle.iox2_commands.specs.Outcomes.{Handle, Publisher_handle, Subscriber_handle, Outcome}
 use Rattle.iox2_commands.specs.Step.{Step, after_publisher, after_subscriber, publisher_settings}
-use Rattle.iox2_store.specs.Environments.{ample_memory}
+use Rattle.iox2_store.specs.machine.Environments.{ample_memory}
 use Rattle.iox2_commands.specs.declared.command.Command.TheVariants.{CreatePublisher as PublisherCommand, CreateSubscriber as SubscriberCommand}
 use Rattle.iox2_commands.specs.declared.reply.Reply.TheVariants.{PublisherMade, SubscriberMade}
 use Rattle.iox2_commands.proofs.FillingNumbers.{numbers_from, recent, lowest_free-ports_from, set_place-ports_from, put_at_own}

@@ -2,18 +2,18 @@
 use Rattle.std.proofs.Common.{◌≡◌, ℕ, ◌+◌, ◌-◌, ◌≤◌, ◌<◌, Bool, true, false, cond, not, ◌&&◌, ◌||◌, List, [], ◌∷◌, ◌++◌, length, drop, take, refl, sym, ap, subst, ◌∙◌, arith, eqb, ltb, Option, None, Some}
 use Rattle.std.specs.Prelude.{slice_get, MatchOption}
 use Rattle.std.proofs.lemmas.Bool.{true≢false, lt-ltb}
-use Rattle.iox2_store.specs.Limits.{buffer_limit}
-use Rattle.iox2_store.specs.Numbers.{put_at, is_nil}
-use Rattle.iox2_store.specs.Mailbox.{Mailbox, BorrowsFirst, has_data, can_receive}
-use Rattle.iox2_store.specs.Records.{Subscriber}
-use Rattle.iox2_store.specs.State.{State, Messages, with_mailbox}
-use Rattle.iox2_store.specs.Receives.{Receive, TakeSample, ReceiveResult, Got_sample, No_sample, Receive_error}
-use Rattle.iox2_store.specs.WellFormed.{IsWellFormed}
+use Rattle.iox2_store.specs.machine.Limits.{buffer_limit}
+use Rattle.iox2_store.specs.machine.Numbers.{put_at, is_nil}
+use Rattle.iox2_store.specs.machine.Mailbox.{Mailbox, BorrowsFirst, has_data, can_receive}
+use Rattle.iox2_store.specs.machine.Records.{Subscriber}
+use Rattle.iox2_store.specs.machine.State.{State, Messages, with_mailbox}
+use Rattle.iox2_store.specs.machine.Receives.{Receive, TakeSample, ReceiveResult, Got_sample, No_sample, Receive_error}
+use Rattle.iox2_store.specs.machine.WellFormed.{IsWellFormed}
 use Rattle.iox2_store.specs.declared.service_config.ServiceConfig.{ServiceConfig}
 use Rattle.iox2_laws.proofs.NumberLemmas.{contains_one}
 use Rattle.iox2_commands.specs.Outcomes.{Handle, Subscriber_handle, Outcome}
 use Rattle.iox2_commands.specs.Step.{Step, subscriber_at, if_single_units, after_receive}
-use Rattle.iox2_store.specs.Environments.{ample_memory}
+use Rattle.iox2_store.specs.machine.Environments.{ample_memory}
 use Rattle.iox2_commands.specs.declared.command.Command.TheVariants.{Receive as ReceiveSample}
 use Rattle.iox2_commands.specs.declared.reply.Reply.TheVariants.{Sample}
 use Rattle.iox2_commands.proofs.FillingShape.{reader, IsFilling, at_some, at_none, concluded, subscriber_named}
@@ -47,7 +47,7 @@ module _ {T U : Type 0} (c : ServiceConfig) (most available : ℕ) (s : State T 
   who = reader (buffer_limit c) (q - 2)
 
   -- What the receive comes to.
-  pub record IsReceived (o : Outcome T U) : Type 0 where
+  pub record IsReceivedOutcome (o : Outcome T U) : Type 0 where
     pub reply : o.reply ≡ Sample 1
     pub filling : IsFilling c most available o.state sent 0 made links due (put_at boxes q (one_received (boxes q)))
 
@@ -106,7 +106,7 @@ module _ {T U : Type 0} (c : ServiceConfig) (most available : ℕ) (s : State T 
   -- the subscriber receives a sample
   pub receive_step : (position : ℕ) (default_value : T) (default_header : U) (m : Messages T U) (handles : List Handle) (o : Outcome T U)
       → c.units_per_element ≡ 1 → slice_get handles position ≡ Some (Subscriber_handle q)
-      → Step ample_memory default_value default_header m s handles (ReceiveSample position) o → IsWellFormed o.state → IsReceived o
+      → Step ample_memory default_value default_header m s handles (ReceiveSample position) o → IsWellFormed o.state → IsReceivedOutcome o
   receive_step position default_value default_header m handles o units handle step w =
       let named : if_single_units {A = ℕ × Subscriber} s (subscriber_at s handles position) ≡ Some (q, who) =
       ap (if_single_units {A = ℕ × Subscriber} s) (subscriber_named s handles position q who handle (f.subscribers q low high) refl)
@@ -116,5 +116,5 @@ module _ {T U : Type 0} (c : ServiceConfig) (most available : ℕ) (s : State T 
       let j : (n : ℕ) × (box : Mailbox) × (box ≡ one_received (boxes q)) × (k.0 ≡ with_mailbox s 1 q box) × (k.1 ≡ Got_sample 1 n) = received_so k.0 k.1 k.2 in
       let same : o ≡ after_receive (after j.1) q (Got_sample 1 j.0) = k.3 ∙ ap (after_receive k.0 q) j.4
       ∙ ap (λ (v : State T U). after_receive v q (Got_sample 1 j.0)) j.3 in
-      concluded IsReceived o (after_receive (after j.1) q (Got_sample 1 j.0)) same w
+      concluded IsReceivedOutcome o (after_receive (after j.1) q (Got_sample 1 j.0)) same w
       (λ w'. record { reply = refl {a = Sample 1}; filling = filling_after j.1 j.2 w' })

@@ -2,15 +2,15 @@
 use Rattle.std.proofs.Common.{◌≡◌, ℕ, suc, ◌<◌, Bool, true, false, ◌&&◌, List, [], ◌∷◌, ◌++◌, length, take, drop, refl, sym, ap, subst, ◌∙◌, Some, ◌⊎◌, inl, inr, ⊎_elim}
 use Rattle.std.specs.Prelude.{slice_get}
 use Rattle.std.specs.List.{list_all}
-use Rattle.iox2_store.specs.Numbers.{size}
-use Rattle.iox2_store.specs.Records.{Publisher}
-use Rattle.iox2_store.specs.State.{State, Messages, held}
-use Rattle.iox2_store.specs.WellFormed.{IsWellFormed}
+use Rattle.iox2_store.specs.machine.Numbers.{size}
+use Rattle.iox2_store.specs.machine.Records.{Publisher}
+use Rattle.iox2_store.specs.machine.State.{State, Messages, held}
+use Rattle.iox2_store.specs.machine.WellFormed.{IsWellFormed}
 use Rattle.iox2_store.specs.declared.service_config.ServiceConfig.{ServiceConfig}
 use Rattle.iox2_store.specs.declared.errors.LoanError.TheVariants.{OutOfMemory}
 use Rattle.iox2_commands.specs.Outcomes.{Handle, Event, Outcome, messages_after}
 use Rattle.iox2_commands.specs.Step.{Step}
-use Rattle.iox2_store.specs.Environments.{ample_memory}
+use Rattle.iox2_store.specs.machine.Environments.{ample_memory}
 use Rattle.iox2_commands.specs.Runs.{RunFrom, RunTo, Defaults}
 use Rattle.iox2_commands.specs.Fills.{is_granted}
 use Rattle.iox2_commands.specs.FillingCommands.{loan_command}
@@ -20,7 +20,7 @@ use Rattle.iox2_commands.specs.declared.reply.Reply.TheVariants.{LoanRefused}
 use Rattle.iox2_commands.proofs.StepLaws.{IsSound, step_sound}
 
 -- In this state the publisher 1 has fewer loans out than that and holds as much as it has slots, and so its loan is refused.
-pub record IsRefused {T U : Type 0} (c : ServiceConfig) (most slots : ℕ) (s : State T U) (command : Command T U) (reply : Reply T U) : Type 0 where
+pub record IsRefusedLoan {T U : Type 0} (c : ServiceConfig) (most slots : ℕ) (s : State T U) (command : Command T U) (reply : Reply T U) : Type 0 where
   pub asks : command ≡ loan_command c.variant
   pub well_formed : IsWellFormed s
   pub config : s.config ≡ c
@@ -37,7 +37,7 @@ module _ {T U : Type 0} (c : ServiceConfig) (most slots : ℕ) where
   Leads Post s handles (command ∷ commands) =
       (default_value : T) (default_header : U) (m : Messages T U) (o : Outcome T U)
       → Step ample_memory default_value default_header m s handles command o → IsWellFormed o.state
-      → IsRefused c most slots s command o.reply ⊎ ((is_granted o.reply ≡ true) × Leads Post o.state (handles ++ o.handle ∷ []) commands)
+      → IsRefusedLoan c most slots s command o.reply ⊎ ((is_granted o.reply ≡ true) × Leads Post o.state (handles ++ o.handle ∷ []) commands)
 
   -- one list after another
   pub leads_append : (Post : State T U → List Handle → Type 0) (xs ys : List (Command T U)) (s : State T U) (handles : List Handle)
@@ -60,7 +60,7 @@ module _ {T U : Type 0} (c : ServiceConfig) (most slots : ℕ) where
       × (m' : Messages T U) × (s' : State T U) × (handles' : List Handle)
       × RunTo ample_memory defaults m s handles (take i commands) (take i replies) (take i events) m' s' handles'
       × RunFrom ample_memory defaults m' s' handles' (drop i commands) (drop i replies) (drop i events) last_messages last
-      × IsRefused c most slots s' command reply
+      × IsRefusedLoan c most slots s' command reply
 
   -- Every reply is granted, and the run ends so.
   abbrev pub GrantsAll : (Post : State T U → List Handle → Type 0) → List (Reply T U) → State T U → Type 0

@@ -3,25 +3,25 @@ use Rattle.std.proofs.Common.{◌≡◌, ℕ, suc, Bool, true, false, cond, not,
 use Rattle.std.specs.Prelude.{slice_get, MatchOption}
 use Rattle.std.specs.Option.{option_map_or}
 use Rattle.std.proofs.lemmas.Bool.{eq-eqb}
-use Rattle.iox2_store.specs.Numbers.{last_n, without}
-use Rattle.iox2_store.specs.Mailbox.{Mailbox}
-use Rattle.iox2_store.specs.Records.{Loan, Publisher, Subscriber}
-use Rattle.iox2_store.specs.State.{State, Messages, receiving_buffer, is_blocked}
-use Rattle.iox2_store.specs.Loans.{entry_of}
-use Rattle.iox2_store.specs.Delivery.{Deliver, DeliveryEnd, Complete, no_time}
-use Rattle.iox2_store.specs.PublisherUpdate.{UpdatePublisher}
-use Rattle.iox2_store.specs.Sends.{Send, Publish, DeliverAndConclude, ConcludeSend, SendResult, Delivered_to, published, send_ended, with_mailboxes}
-use Rattle.iox2_store.specs.WellFormed.{IsWellFormed}
+use Rattle.iox2_store.specs.machine.Numbers.{last_n, without}
+use Rattle.iox2_store.specs.machine.Mailbox.{Mailbox}
+use Rattle.iox2_store.specs.machine.Records.{Loan, Publisher, Subscriber}
+use Rattle.iox2_store.specs.machine.State.{State, Messages, receiving_buffer, is_blocked}
+use Rattle.iox2_store.specs.machine.Loans.{entry_of}
+use Rattle.iox2_store.specs.machine.Delivery.{Deliver, DeliveryEnd, Complete, no_time}
+use Rattle.iox2_store.specs.machine.PublisherUpdate.{UpdatePublisher}
+use Rattle.iox2_store.specs.machine.Sends.{Send, Publish, DeliverAndConclude, ConcludeSend, SendResult, Delivered_to, published, send_ended, with_mailboxes}
+use Rattle.iox2_store.specs.machine.WellFormed.{IsWellFormed}
 use Rattle.iox2_store.specs.declared.service_config.ServiceConfig.{ServiceConfig}
 use Rattle.iox2_store.specs.declared.errors.ConnectionFailure.{ConnectionFailure}
 use Rattle.iox2_store.specs.declared.backpressure.BackpressureStrategy.TheVariants.{DiscardData}
 use Rattle.iox2_commands.specs.Outcomes.{Handle, Loan_handle, Outcome}
 use Rattle.iox2_commands.specs.Step.{Step, sendable_at, after_send}
-use Rattle.iox2_store.specs.Environments.{ample_memory}
+use Rattle.iox2_store.specs.machine.Environments.{ample_memory}
 use Rattle.iox2_commands.specs.declared.command.Command.TheVariants.{Send as SendLoan}
 use Rattle.iox2_commands.specs.declared.reply.Reply.TheVariants.{Delivered}
 use Rattle.iox2_commands.proofs.FillingNumbers.{ports_from, recent, recent_next}
-use Rattle.iox2_commands.proofs.FillingShape.{filler, IsFilling, HasLoan, at_some, at_none, concluded, written_named}
+use Rattle.iox2_commands.proofs.FillingShape.{filler, IsFilling, HasFillingLoan, at_some, at_none, concluded, written_named}
 use Rattle.iox2_commands.proofs.FillingDeliveries.{Delivers}
 
 without_only : (n m : ℕ) → n ≡ m → without n (m ∷ []) ≡ []
@@ -34,7 +34,7 @@ module _ {T U : Type 0} (c : ServiceConfig) (most available : ℕ) (s : State T 
   before = filler most available f.longest (suc sent ∷ []) (recent c.history_size sent) (ports_from 2 made) false
 
   -- What a send comes to.
-  pub record IsSent (o : Outcome T U) : Type 0 where
+  pub record IsSentOutcome (o : Outcome T U) : Type 0 where
     pub count : ℕ
     pub reply : o.reply ≡ Delivered count
     pub filling : IsFilling c most available o.state (suc sent) 0 made (ports_from 2 made) false wanted
@@ -123,17 +123,17 @@ module _ {T U : Type 0} (c : ServiceConfig) (most available : ℕ) (s : State T 
       (subst (λ i. Publish ample_memory k.0 l.publisher i s' result) number publish)))
 
   sent_as : (n : ℕ) (l : Loan T U) (o : Outcome T U) (s' : State T U) (result : SendResult) (count : ℕ) (boxes' : ℕ → Mailbox)
-      → boxes' ≡ wanted → s' ≡ after boxes' → result ≡ Delivered_to count → o ≡ after_send s' l.publisher n (entry_of l) result → IsWellFormed o.state → IsSent o
+      → boxes' ≡ wanted → s' ≡ after boxes' → result ≡ Delivered_to count → o ≡ after_send s' l.publisher n (entry_of l) result → IsWellFormed o.state → IsSentOutcome o
   sent_as n l o s' result count boxes' served state answer e w =
-      concluded IsSent o (after_send (after boxes') l.publisher n (entry_of l) (Delivered_to count))
+      concluded IsSentOutcome o (after_send (after boxes') l.publisher n (entry_of l) (Delivered_to count))
       (e ∙ ap (after_send s' l.publisher n (entry_of l)) answer ∙ ap (λ (v : State T U). after_send v l.publisher n (entry_of l) (Delivered_to count)) state)
       w (λ w'. record { count = count; reply = refl {a = Delivered count}; filling = filling_after boxes' served w' })
 
   -- a written loan is sent
   pub send_step : (position n : ℕ) (default_value : T) (default_header : U) (m : Messages T U) (handles : List Handle) (o : Outcome T U)
-      → n ≡ suc sent → slice_get handles position ≡ Some (Loan_handle n) → HasLoan s n true
+      → n ≡ suc sent → slice_get handles position ≡ Some (Loan_handle n) → HasFillingLoan s n true
       → Step ample_memory default_value default_header m s handles (SendLoan position) o → IsWellFormed o.state
-      → IsSent o
+      → IsSentOutcome o
   send_step position n default_value default_header m handles o number handle loan step w =
       let l : Loan T U = loan.0 in
       let unblocked : is_blocked s l.publisher ≡ false =

@@ -2,11 +2,11 @@
 use Rattle.std.proofs.Common.{◌≡◌, ℕ, suc, ◌+◌, ◌-◌, ◌≤◌, ◌<◌, Bool, true, false, cond, List, [], ◌∷◌, ◌++◌, length, sym, ap, subst, ◌∙◌, arith, Option, None, Some, is_none, option_map, option_and_then}
 use Rattle.std.specs.Prelude.{slice_get, MatchOption}
 use Rattle.std.proofs.lemmas.List.{length-append}
-use Rattle.iox2_store.specs.Limits.{buffer_limit}
-use Rattle.iox2_store.specs.Mailbox.{Mailbox}
-use Rattle.iox2_store.specs.Records.{Loan, Publisher, Subscriber, BlockedSend, Fixed}
-use Rattle.iox2_store.specs.State.{State}
-use Rattle.iox2_store.specs.WellFormed.{IsWellFormed}
+use Rattle.iox2_store.specs.machine.Limits.{buffer_limit}
+use Rattle.iox2_store.specs.machine.Mailbox.{Mailbox}
+use Rattle.iox2_store.specs.machine.Records.{Loan, Publisher, Subscriber, BlockedSend, Fixed}
+use Rattle.iox2_store.specs.machine.State.{State}
+use Rattle.iox2_store.specs.machine.WellFormed.{IsWellFormed}
 use Rattle.iox2_store.specs.declared.service_config.ServiceConfig.{ServiceConfig}
 use Rattle.iox2_store.specs.declared.allocation.AllocationStrategy.TheVariants.{Static}
 use Rattle.iox2_store.specs.declared.backpressure.BackpressureStrategy.TheVariants.{DiscardData}
@@ -64,8 +64,8 @@ pub record IsFilling {T U : Type 0} (c : ServiceConfig) (most available : ℕ) (
   pub mailboxes : s.mailboxes 1 ≡ boxes
 
 -- A loan of the publisher's is there.
-abbrev pub HasLoan : {T U : Type 0} → State T U → (n : ℕ) → (is_written : Bool) → Type 0
-HasLoan {T} {U} s n is_written = (l : Loan T U) × (s.loans n ≡ Some l) × (l.publisher ≡ 1) × (l.is_written ≡ is_written)
+abbrev pub HasFillingLoan : {T U : Type 0} → State T U → (n : ℕ) → (is_written : Bool) → Type 0
+HasFillingLoan {T} {U} s n is_written = (l : Loan T U) × (s.loans n ≡ Some l) × (l.publisher ≡ 1) × (l.is_written ≡ is_written)
 
 -- what holds of the one case, where it is that one
 pub at_some : {A : Type 0} (o : Option A) (a : A) (P : Type 0) (Q : A → Type 0) → o ≡ Some a → MatchOption o P Q → Q a

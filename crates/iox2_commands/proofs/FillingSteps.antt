@@ -1,10 +1,10 @@
 -- The commands that fill a publisher's slots, a message or a subscriber at a time.
 use Rattle.std.proofs.Common.{◌≡◌, ℕ, zero, suc, ◌+◌, ◌*◌, ◌≤◌, ◌<◌, false, List, [], ◌∷◌, ◌++◌, refl, sym, ap, subst, ◌∙◌, arith, Some, ⊎_elim, inl, inr}
 use Rattle.std.specs.Prelude.{slice_get}
-use Rattle.iox2_store.specs.Limits.{buffer_limit, last_number}
-use Rattle.iox2_store.specs.Numbers.{put_at}
-use Rattle.iox2_store.specs.Mailbox.{Mailbox}
-use Rattle.iox2_store.specs.State.{State}
+use Rattle.iox2_store.specs.machine.Limits.{buffer_limit, last_number}
+use Rattle.iox2_store.specs.machine.Numbers.{put_at}
+use Rattle.iox2_store.specs.machine.Mailbox.{Mailbox}
+use Rattle.iox2_store.specs.machine.State.{State}
 use Rattle.iox2_store.specs.declared.service_config.ServiceConfig.{ServiceConfig}
 use Rattle.iox2_laws.proofs.Puts.{put_at-same}
 use Rattle.iox2_commands.specs.Outcomes.{Handle, Subscriber_handle, Loan_handle}
@@ -16,15 +16,15 @@ use Rattle.iox2_commands.proofs.GrowingLists.{found_earlier}
 use Rattle.iox2_commands.proofs.FillingNumbers.{ports_from}
 use Rattle.iox2_commands.proofs.FillingRuns.{Leads}
 use Rattle.iox2_commands.proofs.FillingShape.{IsFilling, IsNamed, handle_new, named_next}
-use Rattle.iox2_commands.proofs.FillingLoans.{IsLoaned, loan_step, IsWritten, write_step}
+use Rattle.iox2_commands.proofs.FillingLoans.{IsLoanedOutcome, loan_step, IsWritten, write_step}
 use Rattle.iox2_commands.proofs.FillingDeliveries.{Delivers, taken, delivers_to_none, delivers_to_last}
-use Rattle.iox2_commands.proofs.FillingSends.{IsSent, send_step}
-use Rattle.iox2_commands.proofs.FillingReceives.{IsReceived, receive_step, one_received}
+use Rattle.iox2_commands.proofs.FillingSends.{IsSentOutcome, send_step}
+use Rattle.iox2_commands.proofs.FillingReceives.{IsReceivedOutcome, receive_step, one_received}
 use Rattle.iox2_commands.proofs.FillingBoxes.{AreFull, IsOpening, no_room, full_kept, opening_taken, opening_received}
 
 -- What every earlier position names, it names still.
-abbrev pub Keeps : List Handle → List Handle → Type 0
-Keeps handles handles' = (of : ℕ) (h : Handle) → slice_get handles of ≡ Some h → slice_get handles' of ≡ Some h
+abbrev pub KeepsHandles : List Handle → List Handle → Type 0
+KeepsHandles handles handles' = (of : ℕ) (h : Handle) → slice_get handles of ≡ Some h → slice_get handles' of ≡ Some h
 
 module _ {T U : Type 0} (c : ServiceConfig) (most available : ℕ) (value : T) (some : 0 < most) (units : c.units_per_element ≡ 1)
     (keeps : c.enable_safe_overflow ≡ false) where
@@ -52,13 +52,13 @@ module _ {T U : Type 0} (c : ServiceConfig) (most available : ℕ) (value : T) (
       → IsFilling c most available s sent 0 made (ports_from 2 made) false boxes → Delivers c made (suc sent) boxes wanted → IsNamed handles position
       → suc sent < last_number
       → ((s' : State T U) (handles' : List Handle) → IsFilling c most available s' (suc sent) 0 made (ports_from 2 made) false wanted → IsNamed handles'
-      (position + 3) → Keeps handles handles'
+      (position + 3) → KeepsHandles handles handles'
       → Leads c most available Post s' handles' rest)
       → Leads c most available Post s handles (loan_command c.variant ∷ WriteAll position value ∷ Send position ∷ rest)
   send_leads Post rest s handles sent made position boxes wanted f delivers named more next = λ dv dh m o step w.
       ⊎_elim
       (λ refused. inl refused)
-      (λ (loaned : IsLoaned c most available s sent 0 made (ports_from 2 made) false boxes f o). inr (
+      (λ (loaned : IsLoanedOutcome c most available s sent 0 made (ports_from 2 made) false boxes f o). inr (
         ap is_granted loaned.reply,
         λ dv' dh' m' o' step' w'.
             let handles1 : List Handle = handles ++ o.handle ∷ [] in
@@ -71,7 +71,7 @@ module _ {T U : Type 0} (c : ServiceConfig) (most available : ℕ) (value : T) (
               ap is_granted wrote.reply,
               λ dv'' dh'' m'' o'' step'' w''.
                   let handles2 : List Handle = handles1 ++ o'.handle ∷ [] in
-                  let sent_so : IsSent c most available o'.state sent made boxes wanted wrote.filling delivers o'' =
+                  let sent_so : IsSentOutcome c most available o'.state sent made boxes wanted wrote.filling delivers o'' =
                   send_step c most available o'.state sent made boxes wanted wrote.filling delivers position (suc sent + 0) dv'' dh'' m'' handles2 o'' (omega arith)
                   (found_earlier handles1 (o'.handle ∷ []) position _ loan1) wrote.loan step'' w'' in
                   inr (
@@ -109,7 +109,7 @@ module _ {T U : Type 0} (c : ServiceConfig) (most available : ℕ) (value : T) (
       → (f : IsServing sent made bound position from least lent s handles)
       → IsFilling c most available s' (suc sent) 0 (suc made) (ports_from 2 (suc made)) false
       (put_at f.boxes (2 + made) (taken (buffer_limit c) (suc sent) (f.boxes (2 + made))))
-      → IsNamed handles' (position + 3) → Keeps handles handles' → IsServing (suc sent) made bound (position + 3) from more lent s' handles'
+      → IsNamed handles' (position + 3) → KeepsHandles handles handles' → IsServing (suc sent) made bound (position + 3) from more lent s' handles'
   served_more sent made bound position from least more lent s s' handles handles' e room f filling named kept = record {
     boxes = put_at f.boxes (2 + made) (taken (buffer_limit c) (suc sent) (f.boxes (2 + made)));
     filling = filling;
@@ -178,7 +178,7 @@ module _ {T U : Type 0} (c : ServiceConfig) (most available : ℕ) (value : T) (
       (λ s' handles' filling named kept. λ dv dh m o step w.
       let g : IsServing (suc sent) made bound (position + 3) from 1 lent s' handles' =
       served_more sent made bound position from 0 1 lent s s' handles handles' refl (omega arith) f filling named kept in
-      let got : IsReceived c most available s' (suc sent) (suc made) (ports_from 2 (suc made)) false g.boxes g.filling (2 + made) _ _ _ _ o =
+      let got : IsReceivedOutcome c most available s' (suc sent) (suc made) (ports_from 2 (suc made)) false g.boxes g.filling (2 + made) _ _ _ _ o =
       receive_step c most available s' (suc sent) (suc made) (ports_from 2 (suc made)) false g.boxes g.filling (2 + made) (omega arith) (omega arith)
       (omega (arith, (g.opening).at_least)) (omega (arith, (g.opening).borrows)) from dv dh m handles' o units g.subscriber step w in
       let later : suc (position + 3) ≡ position + 4 = omega arith in

@@ -2,21 +2,21 @@
 use Rattle.std.proofs.Common.{◌≡◌, ℕ, zero, suc, ◌+◌, ◌≤◌, ◌<◌, Bool, true, false, cond, List, [], ◌∷◌, ◌++◌, refl, sym, ap, subst, ◌∙◌, arith, Option, None, Some, option_and_then, ⊎_elim}
 use Rattle.std.specs.Prelude.{slice_get}
 use Rattle.std.proofs.lemmas.Bool.{eq-eqb}
-use Rattle.iox2_store.specs.Limits.{buffer_limit}
-use Rattle.iox2_store.specs.Numbers.{last_n, put_at}
-use Rattle.iox2_store.specs.Places.{occupant, is_port}
-use Rattle.iox2_store.specs.Mailbox.{Mailbox, with_waiting}
-use Rattle.iox2_store.specs.Records.{Publisher, Subscriber, Handler}
-use Rattle.iox2_store.specs.State.{State, Messages, receiving_buffer, has_receiver_end}
-use Rattle.iox2_store.specs.Connections.{ForEachPlace, first_failure}
-use Rattle.iox2_store.specs.PublisherUpdate.{SenderSide, SenderAction, Keep_end, Drop_waiting, Disconnect, Connect, sender_action, connected, disconnected, ConnectSender, Performs, UpdateSenderPlace, UpdatePublisher, sender_side, with_sender_side}
-use Rattle.iox2_store.specs.WellFormed.{IsWellFormed}
+use Rattle.iox2_store.specs.machine.Limits.{buffer_limit}
+use Rattle.iox2_store.specs.machine.Numbers.{last_n, put_at}
+use Rattle.iox2_store.specs.machine.Places.{occupant, is_port}
+use Rattle.iox2_store.specs.machine.Mailbox.{Mailbox, with_waiting}
+use Rattle.iox2_store.specs.machine.Records.{Publisher, Subscriber, Handler}
+use Rattle.iox2_store.specs.machine.State.{State, Messages, receiving_buffer, has_receiver_end}
+use Rattle.iox2_store.specs.machine.Connections.{ForEachPlace, first_failure}
+use Rattle.iox2_store.specs.machine.PublisherUpdate.{SenderSide, SenderAction, Keep_end, Drop_waiting, Disconnect, Connect, sender_action, connected, disconnected, ConnectSender, Performs, UpdateSenderPlace, UpdatePublisher, sender_side, with_sender_side}
+use Rattle.iox2_store.specs.machine.WellFormed.{IsWellFormed}
 use Rattle.iox2_store.specs.declared.service_config.ServiceConfig.{ServiceConfig}
 use Rattle.iox2_store.specs.declared.degradation.DegradationAction.{DegradationAction}
 use Rattle.iox2_store.specs.declared.errors.ConnectionFailure.{ConnectionFailure}
 use Rattle.iox2_commands.specs.Outcomes.{Handle, Publisher_handle, Outcome}
 use Rattle.iox2_commands.specs.Step.{Step, unblocked_at, after_update}
-use Rattle.iox2_store.specs.Environments.{ample_memory}
+use Rattle.iox2_store.specs.machine.Environments.{ample_memory}
 use Rattle.iox2_commands.specs.declared.command.Command.TheVariants.{Update}
 use Rattle.iox2_commands.specs.declared.reply.Reply.TheVariants.{Done}
 use Rattle.iox2_commands.proofs.FillingNumbers.{ports_from, recent, ports_from_push, set_place-ports_from, occupant-ports_from, nobody-ports_from}
@@ -97,7 +97,7 @@ module _ {T U : Type 0} (c : ServiceConfig) (most available : ℕ) (s : State T 
   served = put_at boxes (2 + made) (with_waiting (last_n (buffer_limit c) (recent c.history_size sent)) (boxes (2 + made)))
 
   -- What the update comes to.
-  pub record IsUpdated (o : Outcome T U) : Type 0 where
+  pub record IsUpdatedOutcome (o : Outcome T U) : Type 0 where
     pub reply : o.reply ≡ Done
     pub filling : IsFilling c most available o.state sent 0 (suc made) (ports_from 2 (suc made)) false served
 
@@ -154,10 +154,10 @@ module _ {T U : Type 0} (c : ServiceConfig) (most available : ℕ) (s : State T 
   -- the publisher's connections are updated
   pub update_step : (default_value : T) (default_header : U) (m : Messages T U) (handles : List Handle) (o : Outcome T U)
       → slice_get handles 0 ≡ Some (Publisher_handle 1)
-      → Step ample_memory default_value default_header m s handles (Update 0) o → IsWellFormed o.state → IsUpdated o
+      → Step ample_memory default_value default_header m s handles (Update 0) o → IsWellFormed o.state → IsUpdatedOutcome o
   update_step default_value default_header m handles o publisher step w =
       let k : (s' : State T U) × (failure : Option ConnectionFailure) × UpdatePublisher ample_memory s 1 s' failure × (o ≡ after_update s' failure) =
       at_some (unblocked_at s handles 0) (1, before) _ _ (publisher_named s handles 0 1 before publisher f.publisher refl) step in
       let j : (k.0 ≡ after) × (k.1 ≡ None) = updated_so k.0 k.1 k.2 in
       let same : o ≡ after_update after None = k.3 ∙ ap (after_update k.0) j.1 ∙ ap (λ (v : State T U). after_update v None) j.0 in
-      concluded IsUpdated o (after_update after None) same w (λ w'. record { reply = refl {a = Done}; filling = filling_after w' })
+      concluded IsUpdatedOutcome o (after_update after None) same w (λ w'. record { reply = refl {a = Done}; filling = filling_after w' })

@@ -5,21 +5,21 @@ use Rattle.std.specs.Option.{option_map, option_map_or}
 use Rattle.std.specs.declared.time.Duration.{Duration}
 use Rattle.std.proofs.lemmas.Bool.{cond_both, true≢false, ne_eqb}
 use Rattle.std.proofs.lemmas.Option.{none-some, same_Some}
-use Rattle.iox2_store.specs.Limits.{last_number, buffer_limit}
-use Rattle.iox2_store.specs.Numbers.{put_at, contains, without, last_n, size}
-use Rattle.iox2_store.specs.Places.{occupant, is_port, free_place}
-use Rattle.iox2_store.specs.Mailbox.{Mailbox, numbers_in, is_borrowed, waiting_dropped, with_released}
-use Rattle.iox2_store.specs.Records.{Loan, Publisher, Subscriber, Environment, BlockedSend, PublisherSettings, SubscriberSettings}
-use Rattle.iox2_store.specs.State.{State, held, receiving_buffer, has_receiver_end, has_sender_end, is_present, with_mailbox, with_loan, publishers_due}
-use Rattle.iox2_store.specs.Delivery.{DeliveryEnd, Complete, Suspended, no_time}
-use Rattle.iox2_store.specs.PublisherUpdate.{sender_side, UpdatePublisher}
-use Rattle.iox2_store.specs.SubscriberUpdate.{receiver_side, UpdateSubscriber}
-use Rattle.iox2_store.specs.Loans.{GrantLoan, DynamicLoan, limit_error, is_static, loan_granted, loan_discarded, written}
-use Rattle.iox2_store.specs.Sends.{Retry, GiveUp, Publish, DeliverAndConclude, ConcludeSend, SendResult, with_mailboxes, published, more_retries}
-use Rattle.iox2_store.specs.Receives.{Receive, TakeSample, ReceiveResult, Got_sample, No_sample, Receive_error}
-use Rattle.iox2_store.specs.Releases.{released, unborrowed, subscriber_pruned, freed_if_unused, place_freed, is_unused}
-use Rattle.iox2_store.specs.Ports.{CreatePublisher, CreateSubscriber, MakePublisher, MakeSubscriber, with_new_publisher, with_new_subscriber, with_failure_warning, first_segment_fits, buffer_for, publisher_closed, subscriber_closed, subscriber_shut, mailbox_after_publisher, mailbox_after_subscriber, new_publisher}
-use Rattle.iox2_store.specs.SingleCalls.{GrantWrittenLoan}
+use Rattle.iox2_store.specs.machine.Limits.{last_number, buffer_limit}
+use Rattle.iox2_store.specs.machine.Numbers.{put_at, contains, without, last_n, size}
+use Rattle.iox2_store.specs.machine.Places.{occupant, is_port, free_place}
+use Rattle.iox2_store.specs.machine.Mailbox.{Mailbox, numbers_in, is_borrowed, waiting_dropped, with_released}
+use Rattle.iox2_store.specs.machine.Records.{Loan, Publisher, Subscriber, Environment, BlockedSend, PublisherSettings, SubscriberSettings}
+use Rattle.iox2_store.specs.machine.State.{State, held, receiving_buffer, has_receiver_end, has_sender_end, is_present, with_mailbox, with_loan, publishers_due}
+use Rattle.iox2_store.specs.machine.Delivery.{DeliveryEnd, Complete, Suspended, no_time}
+use Rattle.iox2_store.specs.machine.PublisherUpdate.{sender_side, UpdatePublisher}
+use Rattle.iox2_store.specs.machine.SubscriberUpdate.{receiver_side, UpdateSubscriber}
+use Rattle.iox2_store.specs.machine.Loans.{GrantLoan, DynamicLoan, limit_error, is_static, loan_granted, loan_discarded, written}
+use Rattle.iox2_store.specs.machine.Sends.{Retry, GiveUp, Publish, DeliverAndConclude, ConcludeSend, SendResult, with_mailboxes, published, more_retries}
+use Rattle.iox2_store.specs.machine.Receives.{Receive, TakeSample, ReceiveResult, Got_sample, No_sample, Receive_error}
+use Rattle.iox2_store.specs.machine.Releases.{released, unborrowed, subscriber_pruned, freed_if_unused, place_freed, is_unused}
+use Rattle.iox2_store.specs.machine.Ports.{CreatePublisher, CreateSubscriber, MakePublisher, MakeSubscriber, with_new_publisher, with_new_subscriber, with_failure_warning, first_segment_fits, buffer_for, publisher_closed, subscriber_closed, subscriber_shut, mailbox_after_publisher, mailbox_after_subscriber, new_publisher}
+use Rattle.iox2_store.specs.machine.SingleCalls.{GrantWrittenLoan}
 use Rattle.iox2_store.specs.declared.errors.ConnectionFailure.{ConnectionFailure}
 use Rattle.iox2_store.specs.declared.errors.LoanError.{LoanError}
 use Rattle.iox2_store.specs.declared.errors.LoanError.TheVariants.{OutOfMemory, ExceedsMaxLoans, ExceedsMaxLoanSize, InternalFailure}

@@ -6,14 +6,14 @@ use Rattle.std.proofs.Math.Path.{fun_ext}
 use Rattle.std.proofs.lemmas.Bool.{true≢false}
 use Rattle.std.proofs.lemmas.Option.{none-some, same_Some}
 use Rattle.std.proofs.lemmas.List.{map-append, length-append, length-map}
-use Rattle.iox2_store.specs.Records.{Environment, Subscriber}
-use Rattle.iox2_store.specs.State.{State, Messages, fresh, no_messages}
-use Rattle.iox2_store.specs.WellFormed.{IsWellFormed}
+use Rattle.iox2_store.specs.machine.Records.{Environment, Subscriber}
+use Rattle.iox2_store.specs.machine.State.{State, Messages, fresh, no_messages}
+use Rattle.iox2_store.specs.machine.WellFormed.{IsWellFormed}
 use Rattle.iox2_store.specs.declared.service_config.ServiceConfig.{ServiceConfig}
 use Rattle.iox2_laws.proofs.Enough.{fresh_is_well_formed}
 use Rattle.iox2_commands.specs.Outcomes.{Handle, Subscriber_handle, Sample_handle, Event, No_event, Message_sent, Message_received, Outcome, done, messages_after}
 use Rattle.iox2_commands.specs.Step.{Step}
-use Rattle.iox2_store.specs.Environments.{ample_memory}
+use Rattle.iox2_store.specs.machine.Environments.{ample_memory}
 use Rattle.iox2_commands.specs.Runs.{RunTo, Defaults, only_defaults, RunFrom}
 use Rattle.iox2_commands.specs.Views.{PublicPart, public_part, seen_handle, SameView, may_be_omitted, OmitsOthersFrom}
 use Rattle.iox2_commands.specs.Isolation.{IsIndependent, makes_independent_publisher, AreIndependent, is_of_others, subscriber_call, SameViewAfter, ClosesNoSubscriber, CallsLeaveOthersViews, AlikeStatesStayAlike, SubscribersAreIsolated, IsIndependentPublisher, reads_at}
@@ -194,8 +194,8 @@ module _ {T U : Type 0} (environment : Environment) (defaults : Defaults T U) wh
 -- a run with its handles under these default values
 module _ {T U : Type 0} (default_value : T) (default_header : U) where
   -- Memory is ample, and these are the default values.
-  abbrev pub RunsTo : Messages T U → State T U → List Handle → List (Command T U) → List (Reply T U) → List (Event T U) → Messages T U → State T U → List Handle → Type 0
-  RunsTo = RunTo ample_memory (only_defaults default_value default_header)
+  abbrev pub RunsBetween : Messages T U → State T U → List Handle → List (Command T U) → List (Reply T U) → List (Event T U) → Messages T U → State T U → List Handle → Type 0
+  RunsBetween = RunTo ample_memory (only_defaults default_value default_header)
 
   -- The first step of a run, and the rest.
   pub record Begun (m : Messages T U) (s : State T U) (handles : List Handle) (command : Command T U) (commands : List (Command T U)) (replies : List (Reply T U)) (m' : Messages T U) (s' : State T U) (handles' : List Handle) : Type 0 where
@@ -204,10 +204,10 @@ module _ {T U : Type 0} (default_value : T) (default_header : U) where
     pub later : List (Reply T U)
     pub replies_are : replies ≡ outcome.reply ∷ later
     pub events : List (Event T U)
-    pub rest : RunsTo (messages_after outcome.event m) outcome.state (handles ++ outcome.handle ∷ []) commands later events m' s' handles'
+    pub rest : RunsBetween (messages_after outcome.event m) outcome.state (handles ++ outcome.handle ∷ []) commands later events m' s' handles'
 
   begun : (m : Messages T U) (s : State T U) (handles : List Handle) (command : Command T U) (commands : List (Command T U)) (replies : List (Reply T U)) (events : List (Event T U)) (m' : Messages T U) (s' : State T U) (handles' : List Handle)
-      → RunsTo m s handles (command ∷ commands) replies events m' s' handles' → Begun m s handles command commands replies m' s' handles'
+      → RunsBetween m s handles (command ∷ commands) replies events m' s' handles' → Begun m s handles command commands replies m' s' handles'
   begun m s handles command commands [] [] m' s' handles' h = absurd h
   begun m s handles command commands [] (e ∷ es) m' s' handles' h = absurd h
   begun m s handles command commands (r ∷ rs) [] m' s' handles' h = absurd h
@@ -222,7 +222,7 @@ module _ {T U : Type 0} (default_value : T) (default_header : U) where
 
   -- A run of no commands.
   ended : (m : Messages T U) (s : State T U) (handles : List Handle) (replies : List (Reply T U)) (events : List (Event T U)) (m' : Messages T U) (s' : State T U) (handles' : List Handle)
-      → RunsTo m s handles [] replies events m' s' handles' → (m' ≡ m) × (s' ≡ s) × (handles' ≡ handles) × (replies ≡ [])
+      → RunsBetween m s handles [] replies events m' s' handles' → (m' ≡ m) × (s' ≡ s) × (handles' ≡ handles) × (replies ≡ [])
   ended m s handles [] [] m' s' handles' h = (h.0, h.1, h.2, refl)
   ended m s handles [] (e ∷ es) m' s' handles' h = absurd h
   ended m s handles (r ∷ rs) [] m' s' handles' h = absurd h
@@ -230,7 +230,7 @@ module _ {T U : Type 0} (default_value : T) (default_header : U) where
 
   -- a subscriber that is made later has no smaller id than the counter's next
   made_later : (commands : List (Command T U)) (m : Messages T U) (s : State T U) (handles : List Handle) (replies : List (Reply T U)) (events : List (Event T U)) (m' : Messages T U) (s' : State T U) (handles' : List Handle) (q j : ℕ)
-      → IsWellFormed s → RunsTo m s handles commands replies events m' s' handles' → slice_get replies j ≡ Some (SubscriberMade q) → s.next_port ≤ q
+      → IsWellFormed s → RunsBetween m s handles commands replies events m' s' handles' → slice_get replies j ≡ Some (SubscriberMade q) → s.next_port ≤ q
   made_later [] m s handles replies events m' s' handles' q j w h e =
       let nothing : slice_get {X = Reply T U} [] j ≡ Some (SubscriberMade q) = subst (λ (v : List (Reply T U)). slice_get v j ≡ Some (SubscriberMade q)) (ended m s handles replies events m' s' handles' h).3 e in
       absurd (none-some (SubscriberMade q) nothing)
@@ -380,8 +380,8 @@ module _ {T U : Type 0} (default_value : T) (default_header : U) (c : ServiceCon
   -- Both runs end alike, and reads of the subscriber's own samples get the same replies.
   runs_alike : (commands others : List (Command T U)) (replies replies' : List (Reply T U)) (events events' : List (Event T U)) (m m' n n' : Messages T U) (a b a' b' : State T U) (handles handles' ends ends' : List Handle)
       → OmitsOthersFrom position whole commands others → StandAlike commands replies m m' a b handles handles'
-      → RunsTo default_value default_header m a handles commands replies events n a' ends
-      → RunsTo default_value default_header m' b handles' others replies' events' n' b' ends'
+      → RunsBetween default_value default_header m a handles commands replies events n a' ends
+      → RunsBetween default_value default_header m' b handles' others replies' events' n' b' ends'
       → ((i : ℕ) → slice_get commands i ≡ Some (Receive position) → slice_get replies i ≡ slice_get replies' i)
       → SameView q n a' ends n' b' ends'
       × ((i of : ℕ) (read : Command T U) → slice_get whole of ≡ Some (Receive position)

@@ -3,12 +3,12 @@ use Rattle.std.proofs.Common.{◌≡◌, ◌⊎◌, ℕ, ◌≤◌, ◌<◌, tru
 use Rattle.std.specs.Option.{MatchOption}
 use Rattle.std.proofs.lemmas.Bool.{eqb-true, eq-eqb, ne_eqb}
 use Rattle.std.proofs.lemmas.Option.{none-some}
-use Rattle.iox2_store.specs.Records.{Entry, Loan, Environment}
-use Rattle.iox2_store.specs.State.{State, Messages}
+use Rattle.iox2_store.specs.machine.Records.{Entry, Loan, Environment}
+use Rattle.iox2_store.specs.machine.State.{State, Messages}
 use Rattle.iox2_laws.proofs.LoanKeeping.{LoansFollow}
 use Rattle.iox2_commands.specs.Outcomes.{Handle, Outcome, Event, No_event, Message_sent, Message_received, messages_after}
 use Rattle.iox2_commands.specs.Step.{Step, sample_at}
-use Rattle.iox2_store.specs.Shows.{Stored, Shows}
+use Rattle.iox2_store.specs.Stored.{Stored, StoredShows}
 use Rattle.iox2_commands.specs.StoredSteps.{StoredStep, IsNewEntry}
 use Rattle.iox2_commands.specs.declared.command.Command.{Command}
 use Rattle.iox2_commands.specs.declared.command.Command.TheVariants.{Read, ReadHeader, ReadUserHeader}
@@ -76,8 +76,8 @@ module _ {T U : Type 0} where
 
   pub lift : (environment : Environment) (default_value : T) (default_header : U) (old new : Stored T U) (handles : List Handle) (command : Command T U) (o : Outcome T U)
       → StoredStep environment default_value default_header old handles command o new
-      → (m : Messages T U) (s : State T U) → Shows old m s
-      → (m' : Messages T U) × (s' : State T U) × Shows new m' s'
+      → (m : Messages T U) (s : State T U) → StoredShows old m s
+      → (m' : Messages T U) × (s' : State T U) × StoredShows new m' s'
       × Step environment default_value default_header m s handles command o × (m' ≡ messages_after o.event m) × (s' ≡ o.state)
   lift environment default_value default_header old new handles command o moves m s shown =
       let step : Step environment default_value default_header m s handles command o =

@@ -3,22 +3,22 @@ use Rattle.std.proofs.Common.{◌≡◌, ℕ, ◌<◌, true, false, cond, ◌&&�
 use Rattle.std.proofs.lemmas.Bool.{true≢false, eqb-true, eq-eqb, ne_eqb, ltb-true, ltb-false}
 use Rattle.std.proofs.lemmas.List.{append-nil}
 use Rattle.std.proofs.lemmas.Option.{none-some}
-use Rattle.iox2_store.specs.Numbers.{put_at, is_nil, IsOnce}
-use Rattle.iox2_store.specs.Mailbox.{Mailbox, has_numbers}
-use Rattle.iox2_store.specs.Records.{Environment}
-use Rattle.iox2_store.specs.State.{State, Messages}
-use Rattle.iox2_store.specs.WellFormed.{IsWellFormed}
+use Rattle.iox2_store.specs.machine.Numbers.{put_at, is_nil, IsOnce}
+use Rattle.iox2_store.specs.machine.Mailbox.{Mailbox, has_numbers}
+use Rattle.iox2_store.specs.machine.Records.{Environment}
+use Rattle.iox2_store.specs.machine.State.{State, Messages}
+use Rattle.iox2_store.specs.machine.WellFormed.{IsWellFormed}
 use Rattle.iox2_laws.proofs.NumberLemmas.{false_from}
 use Rattle.iox2_commands.specs.Outcomes.{Event, No_event, Message_sent, Message_received, Outcome, messages_after}
 use Rattle.iox2_commands.specs.Step.{Step}
-use Rattle.iox2_store.specs.Environments.{fixed_handlers, ample_memory}
+use Rattle.iox2_store.specs.machine.Environments.{fixed_handlers, ample_memory}
 use Rattle.iox2_commands.specs.Runs.{Defaults, any_defaults, Run, sent, received, IsSubsequence}
 use Rattle.iox2_commands.specs.RunLaws.{ReceivesInOrder}
 use Rattle.iox2_commands.specs.declared.command.Command.{Command}
 use Rattle.iox2_commands.specs.declared.reply.Reply.{Reply}
 use Rattle.iox2_commands.proofs.GrowingLists.{old_or_last}
 use Rattle.iox2_commands.proofs.StepLaws.{IsSound, step_sound}
-use Rattle.iox2_commands.proofs.RunInduction.{Past, no_past, past_with, run_induction}
+use Rattle.iox2_commands.proofs.RunInduction.{PastCommands, no_past, past_with, run_induction}
 use Rattle.iox2_commands.proofs.Subsequences.{IsSubsequence-nil, IsSubsequence-same, IsSubsequence-trans, IsSubsequence-front, once_part}
 use Rattle.iox2_commands.proofs.Ordered.{Ordered}
 use Rattle.iox2_commands.proofs.OrderCommands.{IsNew, AllNew, out_after, got_then, Goes, command_goes}
@@ -94,7 +94,7 @@ module _ {T U : Type 0} where
   -- ---- the run
 
   -- What holds throughout a run that began with the counters at p0 and n0.
-  pub record IsInOrder (p0 n0 : ℕ) (past : Past T U) (m : Messages T U) (s : State T U) : Type 0 where
+  pub record IsInOrder (p0 n0 : ℕ) (past : PastCommands T U) (m : Messages T U) (s : State T U) : Type 0 where
     pub well_formed : IsWellFormed s
     pub ordered : Ordered p0 n0 (λ p. sent p past.events) (λ p q. received p q past.events) s
     pub handles_new : AllNew p0 n0 past.handles
@@ -124,7 +124,7 @@ module _ {T U : Type 0} where
 
   module _ (environment : Environment) (defaults : Defaults T U) where
     -- Each step keeps it.
-    keeps_in_order : (p0 n0 : ℕ) (past : Past T U) (m : Messages T U) (s : State T U) (default_value : T) (default_header : U) (command : Command T U) (o : Outcome T U)
+    keeps_in_order : (p0 n0 : ℕ) (past : PastCommands T U) (m : Messages T U) (s : State T U) (default_value : T) (default_header : U) (command : Command T U) (o : Outcome T U)
         → IsInOrder p0 n0 past m s → Step environment default_value default_header m s past.handles command o
         → IsInOrder p0 n0 (past_with past command o) (messages_after o.event m) o.state
     keeps_in_order p0 n0 past m s default_value default_header command o k h =
@@ -155,7 +155,7 @@ module _ {T U : Type 0} where
     receives_in_order m m' s s' commands replies events w h p q =
         let p0 : ℕ = s.next_port in
         let n0 : ℕ = s.next_message in
-        let k : (past : Past T U) × (past.commands ≡ commands) × (past.replies ≡ replies) × (past.events ≡ events) × IsInOrder p0 n0 past m' s' =
+        let k : (past : PastCommands T U) × (past.commands ≡ commands) × (past.replies ≡ replies) × (past.events ≡ events) × IsInOrder p0 n0 past m' s' =
         run_induction environment defaults (IsInOrder p0 n0)
         (λ past m s default_value default_header command o _ _ v step. keeps_in_order p0 n0 past m s default_value default_header command o v step)
         no_past m m' s s' commands replies events (begins_in_order m s w) h in

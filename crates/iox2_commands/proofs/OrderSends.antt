@@ -3,11 +3,11 @@ use Rattle.std.proofs.Common.{◌≡◌, ℕ, suc, ◌≤◌, ◌+◌, Bool, tru
 use Rattle.std.specs.declared.time.Duration.{Duration}
 use Rattle.std.proofs.lemmas.Bool.{cond_both, true≢false}
 use Rattle.std.proofs.lemmas.List.{append_assoc}
-use Rattle.iox2_store.specs.Numbers.{put_at}
-use Rattle.iox2_store.specs.Mailbox.{Mailbox, with_appended, has_room}
-use Rattle.iox2_store.specs.Records.{Handler, Environment}
-use Rattle.iox2_store.specs.Delivery.{PutResult, accepted_count, is_failed, is_blocking, DeliveryEnd, Complete, Suspended, Put, PutAtEnd, Deliver, no_time}
-use Rattle.iox2_store.specs.WellFormed.{LeadsTo, IsInjective}
+use Rattle.iox2_store.specs.machine.Numbers.{put_at}
+use Rattle.iox2_store.specs.machine.Mailbox.{Mailbox, with_appended, has_room}
+use Rattle.iox2_store.specs.machine.Records.{Handler, Environment}
+use Rattle.iox2_store.specs.machine.Delivery.{PutResult, accepted_count, is_failed, is_blocking, DeliveryEnd, Complete, Suspended, Put, PutAtEnd, Deliver, no_time}
+use Rattle.iox2_store.specs.machine.WellFormed.{LeadsTo, IsInjective}
 use Rattle.iox2_store.specs.declared.service_config.ServiceConfig.{ServiceConfig}
 use Rattle.iox2_store.specs.declared.backpressure.BackpressureStrategy.{BackpressureStrategy}
 use Rattle.iox2_store.specs.declared.backpressure.BackpressureAction.{BackpressureAction}

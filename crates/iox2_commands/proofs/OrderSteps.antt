@@ -2,15 +2,15 @@
 use Rattle.std.proofs.Common.{◌≡◌, ℕ, ◌≤◌, Bool, true, false, cond, List, refl, sym, ap, subst, ◌∙◌, arith, eqb, inl, inr, Option, None, Some, is_some}
 use Rattle.std.specs.Option.{option_map, option_and_then}
 use Rattle.std.proofs.lemmas.Bool.{cond_both, true≢false}
-use Rattle.iox2_store.specs.Limits.{last_number}
-use Rattle.iox2_store.specs.Numbers.{put_at, without, size}
-use Rattle.iox2_store.specs.Mailbox.{Mailbox, waiting_dropped, with_released}
-use Rattle.iox2_store.specs.Records.{Loan, Publisher, Subscriber, Environment}
-use Rattle.iox2_store.specs.State.{State, held, with_loan, with_mailbox, subscriber_changed}
-use Rattle.iox2_store.specs.Loans.{GrantLoan, limit_error, is_static, DynamicLoan, loan_granted, loan_discarded, written}
-use Rattle.iox2_store.specs.SingleCalls.{GrantWrittenLoan}
-use Rattle.iox2_store.specs.Releases.{released, unborrowed, subscriber_pruned, pruned, freed_if_unused, place_freed, is_unused}
-use Rattle.iox2_store.specs.Ports.{publisher_closed, publisher_gone, subscribers_pruned, mailbox_after_publisher, subscriber_closed, subscriber_shut, mailbox_after_subscriber}
+use Rattle.iox2_store.specs.machine.Limits.{last_number}
+use Rattle.iox2_store.specs.machine.Numbers.{put_at, without, size}
+use Rattle.iox2_store.specs.machine.Mailbox.{Mailbox, waiting_dropped, with_released}
+use Rattle.iox2_store.specs.machine.Records.{Loan, Publisher, Subscriber, Environment}
+use Rattle.iox2_store.specs.machine.State.{State, held, with_loan, with_mailbox, subscriber_changed}
+use Rattle.iox2_store.specs.machine.Loans.{GrantLoan, limit_error, is_static, DynamicLoan, loan_granted, loan_discarded, written}
+use Rattle.iox2_store.specs.machine.SingleCalls.{GrantWrittenLoan}
+use Rattle.iox2_store.specs.machine.Releases.{released, unborrowed, subscriber_pruned, pruned, freed_if_unused, place_freed, is_unused}
+use Rattle.iox2_store.specs.machine.Ports.{publisher_closed, publisher_gone, subscribers_pruned, mailbox_after_publisher, subscriber_closed, subscriber_shut, mailbox_after_subscriber}
 use Rattle.iox2_store.specs.declared.errors.LoanError.{LoanError}
 use Rattle.iox2_store.specs.declared.errors.LoanError.TheVariants.{OutOfMemory, ExceedsMaxLoans, ExceedsMaxLoanSize, InternalFailure}
 use Rattle.iox2_laws.proofs.Cases.{by_option, by_bool}

@@ -3,17 +3,17 @@ use Rattle.std.proofs.Common.{◌≡◌, ℕ, ◌≤◌, Bool, true, false, cond
 use Rattle.std.specs.Option.{option_and_then}
 use Rattle.std.proofs.lemmas.Bool.{true≢false, ne_eqb, eq-eqb}
 use Rattle.std.proofs.lemmas.Option.{none-some, same_Some, option_and_then_some}
-use Rattle.iox2_store.specs.Limits.{last_number, expired_limit, buffer_limit}
-use Rattle.iox2_store.specs.Numbers.{last_n}
-use Rattle.iox2_store.specs.Places.{occupant, set_place, is_port, free_place}
-use Rattle.iox2_store.specs.Mailbox.{Mailbox, waiting_dropped, with_waiting}
-use Rattle.iox2_store.specs.Records.{Publisher, Subscriber, Handler, Environment, PublisherSettings, SubscriberSettings}
-use Rattle.iox2_store.specs.State.{State, receiving_buffer, has_receiver_end, has_sender_end, with_warning}
-use Rattle.iox2_store.specs.Connections.{ForEachPlace}
-use Rattle.iox2_store.specs.PublisherUpdate.{SenderSide, SenderAction, Keep_end, Drop_waiting, Disconnect, Connect, sender_action, dropped, disconnected, connected, Performs, UpdateSenderPlace, sender_side, with_sender_side, UpdatePublisher}
-use Rattle.iox2_store.specs.SubscriberUpdate.{ReceiverSide, Retirement, Keep_expired, Evict, Discard_data, Refuse, data_discarded, after_retirement, is_refused, retirement_of, with_end, ConnectReceiver, Retire, ConnectAtPlace, DisconnectAtPlace, UpdateReceiverSide, receiver_side, with_receiver_side, UpdateSubscriber}
-use Rattle.iox2_store.specs.Ports.{with_new_publisher, new_publisher, with_new_subscriber, new_subscriber, with_failure_warning, buffer_for, first_segment_fits, MakePublisher, CreatePublisher, MakeSubscriber, CreateSubscriber}
-use Rattle.iox2_store.specs.WellFormed.{LeadsTo, IsInjective, IsWellFormed}
+use Rattle.iox2_store.specs.machine.Limits.{last_number, expired_limit, buffer_limit}
+use Rattle.iox2_store.specs.machine.Numbers.{last_n}
+use Rattle.iox2_store.specs.machine.Places.{occupant, set_place, is_port, free_place}
+use Rattle.iox2_store.specs.machine.Mailbox.{Mailbox, waiting_dropped, with_waiting}
+use Rattle.iox2_store.specs.machine.Records.{Publisher, Subscriber, Handler, Environment, PublisherSettings, SubscriberSettings}
+use Rattle.iox2_store.specs.machine.State.{State, receiving_buffer, has_receiver_end, has_sender_end, with_warning}
+use Rattle.iox2_store.specs.machine.Connections.{ForEachPlace}
+use Rattle.iox2_store.specs.machine.PublisherUpdate.{SenderSide, SenderAction, Keep_end, Drop_waiting, Disconnect, Connect, sender_action, dropped, disconnected, connected, Performs, UpdateSenderPlace, sender_side, with_sender_side, UpdatePublisher}
+use Rattle.iox2_store.specs.machine.SubscriberUpdate.{ReceiverSide, Retirement, Keep_expired, Evict, Discard_data, Refuse, data_discarded, after_retirement, is_refused, retirement_of, with_end, ConnectReceiver, Retire, ConnectAtPlace, DisconnectAtPlace, UpdateReceiverSide, receiver_side, with_receiver_side, UpdateSubscriber}
+use Rattle.iox2_store.specs.machine.Ports.{with_new_publisher, new_publisher, with_new_subscriber, new_subscriber, with_failure_warning, buffer_for, first_segment_fits, MakePublisher, CreatePublisher, MakeSubscriber, CreateSubscriber}
+use Rattle.iox2_store.specs.machine.WellFormed.{LeadsTo, IsInjective, IsWellFormed}
 use Rattle.iox2_store.specs.declared.degradation.DegradationAction.{DegradationAction}
 use Rattle.iox2_store.specs.declared.errors.ConnectionFailure.{ConnectionFailure}
 use Rattle.iox2_store.specs.declared.errors.PublisherCreateError.{PublisherCreateError}

@@ -3,10 +3,10 @@ use Rattle.std.proofs.Common.{◌≡◌, ℕ, suc, ◌≤◌, ◌<◌, Bool, tru
 use Rattle.std.specs.Prelude.{◌==◌, ◌&&◌}
 use Rattle.std.proofs.lemmas.Option.{none-some}
 use Rattle.std.proofs.lemmas.Bool.{eq-eqb, or_parts}
-use Rattle.iox2_store.specs.Numbers.{put_at, contains, IsOnce}
-use Rattle.iox2_store.specs.Records.{Entry, Environment}
-use Rattle.iox2_store.specs.State.{State, Messages}
-use Rattle.iox2_store.specs.WellFormed.{IsWellFormed}
+use Rattle.iox2_store.specs.machine.Numbers.{put_at, contains, IsOnce}
+use Rattle.iox2_store.specs.machine.Records.{Entry, Environment}
+use Rattle.iox2_store.specs.machine.State.{State, Messages}
+use Rattle.iox2_store.specs.machine.WellFormed.{IsWellFormed}
 use Rattle.iox2_laws.specs.Laws.{Advances}
 use Rattle.iox2_laws.proofs.Puts.{at_each, put_at-same}
 use Rattle.iox2_laws.proofs.MailboxLemmas.{has_numbers-contains}
@@ -19,7 +19,7 @@ use Rattle.iox2_commands.proofs.GrowingLists.{old_or_last}
 use Rattle.iox2_commands.proofs.StepLaws.{IsSound, step_sound}
 use Rattle.iox2_commands.proofs.Owned.{IsOwn, AreOwn}
 use Rattle.iox2_commands.proofs.Follows.{IsTraced}
-use Rattle.iox2_commands.proofs.ReadSteps.{Past, scope_of, past_after, IsTold, step_told}
+use Rattle.iox2_commands.proofs.ReadSteps.{PastSends, scope_of, past_after, IsTold, step_told}
 
 -- no number is below one that isn't above it
 not_below : {a b : ℕ} → a ≤ b → b < a → ⊥
@@ -56,7 +56,7 @@ module _ {T U : Type 0} where
   -- ---- what a run has reached
 
   -- What holds after each command of a run.
-  pub record HasReached (past : Past T U) (m : Messages T U) (s : State T U) (handles : List Handle) : Type 0 where
+  pub record HasReached (past : PastSends T U) (m : Messages T U) (s : State T U) (handles : List Handle) : Type 0 where
     pub well_formed : IsWellFormed s
     pub ports : past.first_port ≤ s.next_port
     pub messages : past.first_message ≤ s.next_message
@@ -67,7 +67,7 @@ module _ {T U : Type 0} where
     pub kept : (p n : ℕ) (entry : Entry T U) → past.WasSent p n entry → m n ≡ Some entry
 
   -- what was sent is kept when another message is sent
-  kept_after : (past : Past T U) (m : Messages T U) (event : Event T U) → ((p n : ℕ) (entry : Entry T U) → past.WasSent p n entry → m n ≡ Some entry)
+  kept_after : (past : PastSends T U) (m : Messages T U) (event : Event T U) → ((p n : ℕ) (entry : Entry T U) → past.WasSent p n entry → m n ≡ Some entry)
       → ((p n : ℕ) (entry : Entry T U) → event ≡ Message_sent p n entry → (p' : ℕ) (entry' : Entry T U) → past.WasSent p' n entry' → ⊥)
       → (p n : ℕ) (entry : Entry T U) → (past.WasSent p n entry ⊎ (event ≡ Message_sent p n entry)) → messages_after event m n ≡ Some entry
   kept_after past m No_event kept apart p n entry h = ⊎_elim (λ old. kept p n entry old) (λ new. absurd (cc)) h
@@ -81,7 +81,7 @@ module _ {T U : Type 0} where
       subst (λ i. put_at m n' (Some entry') i ≡ Some entry) a (put_at-same m n' (Some entry') ∙ ap (λ (e : Entry T U). Some e) b)) h
 
   -- a run begins so
-  abbrev pub started : State T U → Past T U
+  abbrev pub started : State T U → PastSends T U
   started s = record { first_port = s.next_port; first_message = s.next_message; WasSent = λ p n entry. ⊥ }
 
   -- A run begins so from a well-formed state.
@@ -100,7 +100,7 @@ module _ {T U : Type 0} where
     kept = λ p n entry v. absurd v;
   }
 
-  module _ (environment : Environment) (default_value : T) (default_header : U) (past : Past T U) (m : Messages T U) (s : State T U) (handles : List Handle)
+  module _ (environment : Environment) (default_value : T) (default_header : U) (past : PastSends T U) (m : Messages T U) (s : State T U) (handles : List Handle)
       (reached : HasReached past m s handles)
       (command : Command T U) (o : Outcome T U) (step : Step environment default_value default_header m s handles command o) where
     -- each step keeps the state well-formed
@@ -128,7 +128,7 @@ module _ {T U : Type 0} where
     }
 
   -- what was sent before or in the rest of the events was sent before or in all of them
-  pub sent_in_all : (past : Past T U) (p n : ℕ) (entry : Entry T U) (now event : Event T U) (events : List (Event T U)) → now ≡ event
+  pub sent_in_all : (past : PastSends T U) (p n : ℕ) (entry : Entry T U) (now event : Event T U) (events : List (Event T U)) → now ≡ event
       → ((past_after past now).WasSent p n entry ⊎ WasSent p n entry events) → (past.WasSent p n entry ⊎ WasSent p n entry (event ∷ events))
   sent_in_all past p n entry now event events same h =
       ⊎_elim (λ before. ⊎_elim (λ old. inl old) (λ new. inr (0, ap (λ (e : Event T U). Some e) (sym same ∙ new))) before) (λ later. inr (suc later.0, later.1)) h

@@ -4,11 +4,11 @@ use Rattle.std.specs.Prelude.{MatchOption, slice_get, take}
 use Rattle.std.specs.Option.{option_map_or}
 use Rattle.std.proofs.lemmas.Option.{none-some, same_Some}
 use Rattle.std.proofs.lemmas.Bool.{true≢false}
-use Rattle.iox2_store.specs.Numbers.{contains, IsOnce}
-use Rattle.iox2_store.specs.Mailbox.{is_borrowed}
-use Rattle.iox2_store.specs.Records.{Entry, Environment}
-use Rattle.iox2_store.specs.State.{State, Messages}
-use Rattle.iox2_store.specs.WellFormed.{IsWellFormed}
+use Rattle.iox2_store.specs.machine.Numbers.{contains, IsOnce}
+use Rattle.iox2_store.specs.machine.Mailbox.{is_borrowed}
+use Rattle.iox2_store.specs.machine.Records.{Entry, Environment}
+use Rattle.iox2_store.specs.machine.State.{State, Messages}
+use Rattle.iox2_store.specs.machine.WellFormed.{IsWellFormed}
 use Rattle.iox2_laws.proofs.Cases.{by_option}
 use Rattle.iox2_laws.proofs.NumberLemmas.{contains_first}
 use Rattle.iox2_commands.specs.Outcomes.{Handle, Sample_handle, Event, Message_received, Outcome, messages_after, replied, skipped}
@@ -21,17 +21,17 @@ use Rattle.iox2_commands.specs.declared.reply.Reply.{Reply}
 use Rattle.iox2_commands.specs.declared.reply.Reply.TheVariants.{Skipped, Sample, Cell, Header, UserHeader}
 use Rattle.iox2_commands.proofs.GrowingLists.{old_or_last, found_earlier, found_last, longer}
 use Rattle.iox2_commands.proofs.Reached.{rest_absent, rest_once, received_first, HasReached, started, start, told, goes_on, sent_in_all}
-use Rattle.iox2_commands.proofs.ReadSteps.{Past, past_after, IsSpared, IsTold}
+use Rattle.iox2_commands.proofs.ReadSteps.{PastSends, past_after, IsSpared, IsTold}
 
 module _ {T U : Type 0} where
   -- ---- samples
 
-  abbrev NamesPublisher : Past T U → List (Event T U) → (i origin : ℕ) → Type 0
+  abbrev NamesPublisher : PastSends T U → List (Event T U) → (i origin : ℕ) → Type 0
   NamesPublisher past events i origin =
       (q n : ℕ) × (entry : Entry T U) × (slice_get events i ≡ Some (Message_received origin q n))
       × (past.WasSent origin n entry ⊎ WasSent origin n entry (take i events)) × ((entry.header).publisher_id ≡ origin)
 
-  samples_from : (environment : Environment) (defaults : Defaults T U) (past : Past T U) (m : Messages T U) (s : State T U) (handles : List Handle)
+  samples_from : (environment : Environment) (defaults : Defaults T U) (past : PastSends T U) (m : Messages T U) (s : State T U) (handles : List Handle)
       (commands : List (Command T U)) (replies : List (Reply T U)) (events : List (Event T U)) (m' : Messages T U) (s' : State T U)
       → HasReached past m s handles → RunFrom environment defaults m s handles commands replies events m' s'
       → (i origin : ℕ) → slice_get replies i ≡ Some (Sample origin) → NamesPublisher past events i origin
@@ -119,7 +119,7 @@ module _ {T U : Type 0} where
       × (slice_get commands i ≡ Some (ReadUserHeader at) → slice_get replies i ≡ Some (UserHeader entry.user_header))
 
   -- reads while the sample is borrowed
-  held_reads : (environment : Environment) (defaults : Defaults T U) (past : Past T U) (m : Messages T U) (s : State T U) (handles : List Handle)
+  held_reads : (environment : Environment) (defaults : Defaults T U) (past : PastSends T U) (m : Messages T U) (s : State T U) (handles : List Handle)
       (commands : List (Command T U)) (replies : List (Reply T U)) (events : List (Event T U)) (m' : Messages T U) (s' : State T U)
       → HasReached past m s handles → RunFrom environment defaults m s handles commands replies events m' s'
       → (at p q n : ℕ) (entry : Entry T U) → past.WasSent p n entry
@@ -152,7 +152,7 @@ module _ {T U : Type 0} where
   held_reads environment defaults past m s handles _ _ _ m' s' reached h at p q n entry sent named only never held i unreleased = absurd h
 
   -- the sample that was received there has one entry, which each read until its release gives
-  abbrev ReadsSo : Past T U → List (Command T U) → List (Reply T U) → List (Event T U) → (at p n of : ℕ) → Type 0
+  abbrev ReadsSo : PastSends T U → List (Command T U) → List (Reply T U) → List (Event T U) → (at p n of : ℕ) → Type 0
   ReadsSo past commands replies events at p n of =
       (entry : Entry T U) × (past.WasSent p n entry ⊎ WasSent p n entry (take of events))
       × ((i : ℕ) → of < i → ((j : ℕ) → of < j → j < i → slice_get commands j ≡ Some (Release at) → ⊥) → Gives at entry commands replies i)
@@ -179,7 +179,7 @@ module _ {T U : Type 0} where
   abbrev NeverAgain : List Handle → List (Event T U) → Type 0
   NeverAgain handles events = (p q n k : ℕ) → slice_get handles k ≡ Some (Sample_handle p q n) → contains (received p q events) n ≡ false
 
-  reads_from : (environment : Environment) (defaults : Defaults T U) (past : Past T U) (m : Messages T U) (s : State T U) (handles : List Handle)
+  reads_from : (environment : Environment) (defaults : Defaults T U) (past : PastSends T U) (m : Messages T U) (s : State T U) (handles : List Handle)
       (commands : List (Command T U)) (replies : List (Reply T U)) (events : List (Event T U)) (m' : Messages T U) (s' : State T U)
       → HasReached past m s handles → RunFrom environment defaults m s handles commands replies events m' s'
       → NeverAgain handles events → ((p q : ℕ) → IsOnce (received p q events))

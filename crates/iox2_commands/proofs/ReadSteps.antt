@@ -2,16 +2,16 @@
 use Rattle.std.proofs.Common.{◌≡◌, ℕ, ◌≤◌, Bool, true, false, List, length, ltb, refl, sym, ap, subst, ◌∙◌, eqb, Option, None, Some, ◌⊎◌, inl, inr, ⊎_elim}
 use Rattle.std.specs.Prelude.{MatchOption, slice_get}
 use Rattle.std.proofs.lemmas.Bool.{true≢false, cond_both, eqb-false}
-use Rattle.iox2_store.specs.Mailbox.{is_borrowed}
-use Rattle.iox2_store.specs.Records.{Entry, Loan, Publisher, Environment}
-use Rattle.iox2_store.specs.State.{State, Messages, with_loan}
-use Rattle.iox2_store.specs.Loans.{GrantLoan, written, with_cell, is_initialized, initialized, loan_discarded, entry_of}
-use Rattle.iox2_store.specs.Delivery.{DeliveryEnd, Complete, Suspended}
-use Rattle.iox2_store.specs.Sends.{Send, Publish, ConcludeSend, SendResult, Delivered_to, Blocked_send, Send_error, with_mailboxes, published}
-use Rattle.iox2_store.specs.Receives.{Receive as Receives, ReceiveResult, Got_sample, No_sample, Receive_error}
-use Rattle.iox2_store.specs.Releases.{released}
-use Rattle.iox2_store.specs.Ports.{publisher_closed, subscriber_closed}
-use Rattle.iox2_store.specs.WellFormed.{IsWellFormed}
+use Rattle.iox2_store.specs.machine.Mailbox.{is_borrowed}
+use Rattle.iox2_store.specs.machine.Records.{Entry, Loan, Publisher, Environment}
+use Rattle.iox2_store.specs.machine.State.{State, Messages, with_loan}
+use Rattle.iox2_store.specs.machine.Loans.{GrantLoan, written, with_cell, is_initialized, initialized, loan_discarded, entry_of}
+use Rattle.iox2_store.specs.machine.Delivery.{DeliveryEnd, Complete, Suspended}
+use Rattle.iox2_store.specs.machine.Sends.{Send, Publish, ConcludeSend, SendResult, Delivered_to, Blocked_send, Send_error, with_mailboxes, published}
+use Rattle.iox2_store.specs.machine.Receives.{Receive as Receives, ReceiveResult, Got_sample, No_sample, Receive_error}
+use Rattle.iox2_store.specs.machine.Releases.{released}
+use Rattle.iox2_store.specs.machine.Ports.{publisher_closed, subscriber_closed}
+use Rattle.iox2_store.specs.machine.WellFormed.{IsWellFormed}
 use Rattle.iox2_store.specs.declared.errors.ConnectionFailure.{ConnectionFailure}
 use Rattle.iox2_store.specs.declared.errors.LoanError.{LoanError}
 use Rattle.iox2_store.specs.declared.errors.SendError.TheVariants.{ConnectionBrokenSinceSenderNoLongerExists, LoanError as NotLoaned, ConnectionError, UnableToDeliver}
@@ -30,7 +30,7 @@ use Rattle.iox2_commands.proofs.Owned.{IsOwn, AreOwn, unblocked_own, subscriber_
 use Rattle.iox2_commands.proofs.Follows.{Scope, IsTraced, Follows, LoanTraced, MailboxesTraced, PublishersTraced, follows_itself, traced_after, follows_trans, update_publisher_follows, update_subscriber_follows, receive_follows, received_was_sent, released_traced, released_stays, grant_loan_follows, with_loan_follows, grant_written_loan_follows, without_loan_follows, loan_discarded_follows, publish_follows, retry_follows, give_up_follows, create_publisher_follows, create_subscriber_follows, publisher_closed_follows, subscriber_closed_follows}
 
 -- What a run has done so far: ports and loans from these numbers on are its own, and it sent these messages.
-pub record Past (T U : Type 0) : Type 1 where
+pub record PastSends (T U : Type 0) : Type 1 where
   pub first_port : ℕ
   pub first_message : ℕ
   pub WasSent : (p n : ℕ) → Entry T U → Type 0
@@ -42,7 +42,7 @@ names_sample _ = false
 
 module _ {T U : Type 0} where
   -- A message of p was sent whose header names p; and a number wasn't sent at all.
-  abbrev pub scope_of : Past T U → Scope
+  abbrev pub scope_of : PastSends T U → Scope
   scope_of past = record {
     first_port = past.first_port;
     first_message = past.first_message;
@@ -51,7 +51,7 @@ module _ {T U : Type 0} where
   }
 
   -- The same with one event more.
-  abbrev pub past_after : Past T U → Event T U → Past T U
+  abbrev pub past_after : PastSends T U → Event T U → PastSends T U
   past_after past event = record past { WasSent = λ p n entry. past.WasSent p n entry ⊎ (event ≡ Message_sent p n entry) }
 
   -- The command doesn't release that sample.
@@ -59,7 +59,7 @@ module _ {T U : Type 0} where
   IsSpared handles command p q n = (of : ℕ) → command ≡ Release of → slice_get handles of ≡ Some (Sample_handle p q n) → ⊥
 
   -- What an outcome tells.
-  pub record IsTold (past : Past T U) (s : State T U) (handles : List Handle) (command : Command T U) (o : Outcome T U) : Type 0 where
+  pub record IsTold (past : PastSends T U) (s : State T U) (handles : List Handle) (command : Command T U) (o : Outcome T U) : Type 0 where
     pub traced : IsTraced (scope_of (past_after past o.event)) o.state
     pub own : IsOwn past.first_port past.first_message o.handle
     -- a message that is sent wasn't sent before, and its header names its publisher
@@ -82,7 +82,7 @@ module _ {T U : Type 0} where
   is_sample _ = false
 
   -- an event that sends nothing leaves the state traced
-  still_traced : (past : Past T U) (s : State T U) (event : Event T U) → ((p n : ℕ) (entry : Entry T U) → event ≡ Message_sent p n entry → ⊥)
+  still_traced : (past : PastSends T U) (s : State T U) (event : Event T U) → ((p n : ℕ) (entry : Entry T U) → event ≡ Message_sent p n entry → ⊥)
       → IsTraced (scope_of past) s → IsTraced (scope_of (past_after past event)) s
   still_traced past s event none t = (
     λ p q k h low. let v : (scope_of past).WasSent p k = t.0 p q k h low in (v.0, inl v.1, v.2),
@@ -93,7 +93,7 @@ module _ {T U : Type 0} where
     λ n l e. (λ p entry w. ⊎_elim (λ old. (t.2 n l e).0 p entry old) (λ new. none p n entry new) w, (t.2 n l e).1),
   )
 
-  module _ (past : Past T U) (s : State T U) (handles : List Handle) (command : Command T U) where
+  module _ (past : PastSends T U) (s : State T U) (handles : List Handle) (command : Command T U) where
     abbrev Tells : Outcome T U → Type 0
     Tells o = IsTold past s handles command o
 
@@ -262,7 +262,7 @@ module _ {T U : Type 0} where
 
 module _ {T U : Type 0} (environment : Environment) (default_value : T) (default_header : U) (m : Messages T U) (s : State T U) (handles : List Handle)
     (w : IsWellFormed s)
-    (past : Past T U) (t : IsTraced (scope_of past) s) (own : AreOwn past.first_port past.first_message handles)
+    (past : PastSends T U) (t : IsTraced (scope_of past) s) (own : AreOwn past.first_port past.first_message handles)
     (ports : past.first_port ≤ s.next_port) (messages : past.first_message ≤ s.next_message)
     (new : (p : ℕ) (entry : Entry T U) → past.WasSent p s.next_message entry → ⊥) where
   -- a loan as an outcome

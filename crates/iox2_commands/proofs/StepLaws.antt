@@ -2,14 +2,14 @@
 use Rattle.std.proofs.Common.{◌≡◌, ℕ, ◌<◌, Bool, true, false, List, length, ltb, refl, sym, subst, ◌∙◌, arith, Option, None, Some, is_none}
 use Rattle.std.specs.Prelude.{MatchOption, slice_get}
 use Rattle.std.proofs.lemmas.Bool.{cond_both}
-use Rattle.iox2_store.specs.Records.{Entry, Loan, Publisher, Environment}
-use Rattle.iox2_store.specs.State.{State, Messages, with_loan, is_blocked}
-use Rattle.iox2_store.specs.Loans.{GrantLoan, written, with_cell, is_initialized, initialized, loan_discarded, entry_of}
-use Rattle.iox2_store.specs.Sends.{Send, SendResult, Delivered_to, Blocked_send, Send_error}
-use Rattle.iox2_store.specs.Receives.{ReceiveResult, Got_sample, No_sample, Receive_error}
-use Rattle.iox2_store.specs.Releases.{released}
-use Rattle.iox2_store.specs.Ports.{publisher_closed, subscriber_closed}
-use Rattle.iox2_store.specs.WellFormed.{IsWellFormed}
+use Rattle.iox2_store.specs.machine.Records.{Entry, Loan, Publisher, Environment}
+use Rattle.iox2_store.specs.machine.State.{State, Messages, with_loan, is_blocked}
+use Rattle.iox2_store.specs.machine.Loans.{GrantLoan, written, with_cell, is_initialized, initialized, loan_discarded, entry_of}
+use Rattle.iox2_store.specs.machine.Sends.{Send, SendResult, Delivered_to, Blocked_send, Send_error}
+use Rattle.iox2_store.specs.machine.Receives.{ReceiveResult, Got_sample, No_sample, Receive_error}
+use Rattle.iox2_store.specs.machine.Releases.{released}
+use Rattle.iox2_store.specs.machine.Ports.{publisher_closed, subscriber_closed}
+use Rattle.iox2_store.specs.machine.WellFormed.{IsWellFormed}
 use Rattle.iox2_store.specs.declared.errors.ConnectionFailure.{ConnectionFailure}
 use Rattle.iox2_store.specs.declared.errors.LoanError.{LoanError}
 use Rattle.iox2_store.specs.declared.errors.SendError.TheVariants.{ConnectionBrokenSinceSenderNoLongerExists, ConnectionCorrupted, LoanError as NotLoaned, ConnectionError, UnableToDeliver, InternalError}

@@ -1,13 +1,13 @@
 -- What is in a run's mailboxes and histories was sent in that run, and what is borrowed stays so.
 use Rattle.std.proofs.Common.{◌≡◌, ℕ, Bool, true, List, [], ◌∷◌, sym, subst, Option, ⊎_elim}
 use Rattle.std.specs.declared.time.Duration.{Duration}
-use Rattle.iox2_store.specs.Numbers.{contains, last_n}
-use Rattle.iox2_store.specs.Mailbox.{Mailbox, numbers_in, is_borrowed, with_appended, with_waiting, waiting_dropped, BorrowsFirst}
-use Rattle.iox2_store.specs.Records.{Handler, Environment, BlockedSend}
-use Rattle.iox2_store.specs.Delivery.{DeliveryEnd, Suspended, Deliver}
-use Rattle.iox2_store.specs.Connections.{ForEachPlace}
-use Rattle.iox2_store.specs.PublisherUpdate.{SenderSide, UpdateSenderPlace}
-use Rattle.iox2_store.specs.SubscriberUpdate.{ReceiverSide, UpdateReceiverSide}
+use Rattle.iox2_store.specs.machine.Numbers.{contains, last_n}
+use Rattle.iox2_store.specs.machine.Mailbox.{Mailbox, numbers_in, is_borrowed, with_appended, with_waiting, waiting_dropped, BorrowsFirst}
+use Rattle.iox2_store.specs.machine.Records.{Handler, Environment, BlockedSend}
+use Rattle.iox2_store.specs.machine.Delivery.{DeliveryEnd, Suspended, Deliver}
+use Rattle.iox2_store.specs.machine.Connections.{ForEachPlace}
+use Rattle.iox2_store.specs.machine.PublisherUpdate.{SenderSide, UpdateSenderPlace}
+use Rattle.iox2_store.specs.machine.SubscriberUpdate.{ReceiverSide, UpdateReceiverSide}
 use Rattle.iox2_store.specs.declared.service_config.ServiceConfig.{ServiceConfig}
 use Rattle.iox2_store.specs.declared.backpressure.BackpressureStrategy.{BackpressureStrategy}
 use Rattle.iox2_store.specs.declared.backpressure.BackpressureAction.{BackpressureAction}

@@ -1,16 +1,16 @@
 -- Worked runs: sends that are blocked.
 use Rattle.std.proofs.Common.{◌≡◌, ℕ, false, List, [], ◌∷◌, refl, inl, None, Some}
-use Rattle.iox2_store.specs.State.{State, Messages, fresh, no_messages}
-use Rattle.iox2_store.specs.Delivery.{Accepted, Would_block, Complete, Suspended, no_time}
-use Rattle.iox2_store.specs.Sends.{Delivered_to, Blocked_send}
-use Rattle.iox2_store.specs.Receives.{Got_sample, No_sample, Receive_error}
+use Rattle.iox2_store.specs.machine.State.{State, Messages, fresh, no_messages}
+use Rattle.iox2_store.specs.machine.Delivery.{Accepted, Would_block, Complete, Suspended, no_time}
+use Rattle.iox2_store.specs.machine.Sends.{Delivered_to, Blocked_send}
+use Rattle.iox2_store.specs.machine.Receives.{Got_sample, No_sample, Receive_error}
 use Rattle.iox2_store.specs.declared.allocation.AllocationStrategy.TheVariants.{Static}
 use Rattle.iox2_store.specs.declared.backpressure.BackpressureStrategy.TheVariants.{RetryUntilDelivered}
 use Rattle.iox2_store.specs.declared.degradation.DegradationAction.TheVariants.{Warn}
 use Rattle.iox2_store.specs.declared.errors.ReceiveError.TheVariants.{ExceedsMaxBorrows}
 use Rattle.iox2_store.specs.declared.warning.Warning.TheVariants.{ExpiredBufferRaised}
 use Rattle.iox2_commands.specs.Outcomes.{Event}
-use Rattle.iox2_store.specs.Environments.{ample_memory}
+use Rattle.iox2_store.specs.machine.Environments.{ample_memory}
 use Rattle.iox2_commands.specs.Runs.{Run, only_defaults}
 use Rattle.iox2_commands.specs.declared.command.Command.TheVariants.{CreatePublisher, CreateSubscriber, SendCopy, Retry, GiveUp, Update}
 use Rattle.iox2_commands.specs.declared.command.Command.TheVariants.{Receive, Read, Release}

@@ -1,9 +1,9 @@
 -- A worked run: a send that a handler fails.
 use Rattle.std.proofs.Common.{◌≡◌, ℕ, true, false, List, [], ◌∷◌, refl, inl, None, Some}
-use Rattle.iox2_store.specs.State.{State, Messages, fresh, no_messages}
-use Rattle.iox2_store.specs.Delivery.{Accepted, Failed, Complete}
-use Rattle.iox2_store.specs.Sends.{Delivered_to, Send_error}
-use Rattle.iox2_store.specs.Receives.{Got_sample}
+use Rattle.iox2_store.specs.machine.State.{State, Messages, fresh, no_messages}
+use Rattle.iox2_store.specs.machine.Delivery.{Accepted, Failed, Complete}
+use Rattle.iox2_store.specs.machine.Sends.{Delivered_to, Send_error}
+use Rattle.iox2_store.specs.machine.Receives.{Got_sample}
 use Rattle.iox2_store.specs.declared.allocation.AllocationStrategy.TheVariants.{Static}
 use Rattle.iox2_store.specs.declared.backpressure.BackpressureStrategy.TheVariants.{DiscardData}
 use Rattle.iox2_store.specs.declared.backpressure.BackpressureAction.TheVariants.{DiscardDataAndFail}
@@ -11,7 +11,7 @@ use Rattle.iox2_store.specs.declared.degradation.DegradationAction.TheVariants.{
 use Rattle.iox2_store.specs.declared.errors.SendError.TheVariants.{UnableToDeliver}
 use Rattle.iox2_store.specs.declared.warning.Warning.TheVariants.{ExpiredBufferRaised}
 use Rattle.iox2_commands.specs.Outcomes.{Event}
-use Rattle.iox2_store.specs.Environments.{ample_memory}
+use Rattle.iox2_store.specs.machine.Environments.{ample_memory}
 use Rattle.iox2_commands.specs.Runs.{Run, only_defaults}
 use Rattle.iox2_commands.specs.declared.command.Command.TheVariants.{CreatePublisher, CreateSubscriber, SendCopy, Update}
 use Rattle.iox2_commands.specs.declared.command.Command.TheVariants.{Receive, Read, Release, Close}

@@ -1,16 +1,16 @@
 -- Worked runs of the list of commands that fills every slot.
 use Rattle.std.proofs.Common.{◌≡◌, ℕ, false, List, [], ◌∷◌, length, refl, inl, None, Some, arith}
-use Rattle.iox2_store.specs.Limits.{worst_case}
-use Rattle.iox2_store.specs.Numbers.{size}
-use Rattle.iox2_store.specs.Records.{Publisher}
-use Rattle.iox2_store.specs.State.{State, Messages, fresh, no_messages, held}
-use Rattle.iox2_store.specs.Delivery.{Accepted, Skipped as Passed, Complete}
-use Rattle.iox2_store.specs.Sends.{Delivered_to}
-use Rattle.iox2_store.specs.Receives.{Got_sample}
+use Rattle.iox2_store.specs.machine.Limits.{worst_case}
+use Rattle.iox2_store.specs.machine.Numbers.{size}
+use Rattle.iox2_store.specs.machine.Records.{Publisher}
+use Rattle.iox2_store.specs.machine.State.{State, Messages, fresh, no_messages, held}
+use Rattle.iox2_store.specs.machine.Delivery.{Accepted, Skipped as Passed, Complete}
+use Rattle.iox2_store.specs.machine.Sends.{Delivered_to}
+use Rattle.iox2_store.specs.machine.Receives.{Got_sample}
 use Rattle.iox2_store.specs.declared.service_config.ServiceConfig.{ServiceConfig}
 use Rattle.iox2_store.specs.declared.errors.LoanError.TheVariants.{OutOfMemory}
 use Rattle.iox2_commands.specs.Outcomes.{Event}
-use Rattle.iox2_store.specs.Environments.{ample_memory}
+use Rattle.iox2_store.specs.machine.Environments.{ample_memory}
 use Rattle.iox2_commands.specs.Runs.{Run, any_defaults}
 use Rattle.iox2_commands.specs.FillingCommands.{filling_commands, IsFillable}
 use Rattle.iox2_commands.specs.declared.reply.Reply.TheVariants.{Done, Skipped, PublisherMade, SubscriberMade, Loaned, LoanRefused, Delivered, Sample}

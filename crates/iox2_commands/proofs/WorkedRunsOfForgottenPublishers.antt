@@ -1,16 +1,16 @@
 -- Worked runs: what a closed subscriber forgets.
 use Rattle.std.proofs.Common.{◌≡◌, ℕ, true, false, List, [], ◌∷◌, refl, inl, None, Some}
-use Rattle.iox2_store.specs.Mailbox.{empty_mailbox}
-use Rattle.iox2_store.specs.Records.{Fixed}
-use Rattle.iox2_store.specs.State.{State, Messages, fresh, no_messages}
-use Rattle.iox2_store.specs.Delivery.{Accepted, Complete}
-use Rattle.iox2_store.specs.Sends.{Delivered_to}
-use Rattle.iox2_store.specs.Receives.{Got_sample}
+use Rattle.iox2_store.specs.machine.Mailbox.{empty_mailbox}
+use Rattle.iox2_store.specs.machine.Records.{Fixed}
+use Rattle.iox2_store.specs.machine.State.{State, Messages, fresh, no_messages}
+use Rattle.iox2_store.specs.machine.Delivery.{Accepted, Complete}
+use Rattle.iox2_store.specs.machine.Sends.{Delivered_to}
+use Rattle.iox2_store.specs.machine.Receives.{Got_sample}
 use Rattle.iox2_store.specs.declared.allocation.AllocationStrategy.TheVariants.{Static}
 use Rattle.iox2_store.specs.declared.backpressure.BackpressureStrategy.TheVariants.{DiscardData}
 use Rattle.iox2_store.specs.declared.degradation.DegradationAction.TheVariants.{Warn}
 use Rattle.iox2_commands.specs.Outcomes.{Event}
-use Rattle.iox2_store.specs.Environments.{ample_memory}
+use Rattle.iox2_store.specs.machine.Environments.{ample_memory}
 use Rattle.iox2_commands.specs.Runs.{Run, only_defaults}
 use Rattle.iox2_commands.specs.declared.command.Command.TheVariants.{CreatePublisher, CreateSubscriber, SendCopy, Update, Receive}
 use Rattle.iox2_commands.specs.declared.command.Command.TheVariants.{Close}

@@ -1,9 +1,9 @@
 -- Worked runs: limits of loans, buffers, borrows and slots.
 use Rattle.std.proofs.Common.{◌≡◌, ℕ, true, false, List, [], ◌∷◌, refl, inl, None, Some}
-use Rattle.iox2_store.specs.State.{State, Messages, fresh, no_messages}
-use Rattle.iox2_store.specs.Delivery.{Accepted, Would_block, Complete, Suspended, no_time}
-use Rattle.iox2_store.specs.Sends.{Delivered_to, Blocked_send}
-use Rattle.iox2_store.specs.Receives.{Got_sample, Receive_error}
+use Rattle.iox2_store.specs.machine.State.{State, Messages, fresh, no_messages}
+use Rattle.iox2_store.specs.machine.Delivery.{Accepted, Would_block, Complete, Suspended, no_time}
+use Rattle.iox2_store.specs.machine.Sends.{Delivered_to, Blocked_send}
+use Rattle.iox2_store.specs.machine.Receives.{Got_sample, Receive_error}
 use Rattle.iox2_store.specs.declared.allocation.AllocationStrategy.TheVariants.{Static}
 use Rattle.iox2_store.specs.declared.backpressure.BackpressureStrategy.TheVariants.{RetryUntilDelivered, DiscardData}
 use Rattle.iox2_store.specs.declared.degradation.DegradationAction.TheVariants.{Warn}
@@ -12,7 +12,7 @@ use Rattle.iox2_store.specs.declared.errors.ReceiveError.TheVariants.{ExceedsMax
 use Rattle.iox2_store.specs.declared.errors.SubscriberCreateError.TheVariants.{BufferSizeExceedsMaxSupportedBufferSizeOfService}
 use Rattle.iox2_store.specs.declared.warning.Warning.TheVariants.{ExpiredBufferRaised}
 use Rattle.iox2_commands.specs.Outcomes.{Event}
-use Rattle.iox2_store.specs.Environments.{ample_memory}
+use Rattle.iox2_store.specs.machine.Environments.{ample_memory}
 use Rattle.iox2_commands.specs.Runs.{Run, only_defaults}
 use Rattle.iox2_commands.specs.declared.command.Command.TheVariants.{CreatePublisher, CreateSubscriber, LoanUninit, SendCopy, Discard, Retry}
 use Rattle.iox2_commands.specs.declared.command.Command.TheVariants.{Receive, HasSamples, Read, Release}

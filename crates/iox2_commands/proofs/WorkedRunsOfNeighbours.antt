@@ -1,15 +1,15 @@
 -- Worked runs: one subscriber beside another.
 use Rattle.std.proofs.Common.{◌≡◌, ℕ, false, List, [], ◌∷◌, refl, inl, None, Some}
-use Rattle.iox2_store.specs.State.{State, Messages, fresh, no_messages}
-use Rattle.iox2_store.specs.Delivery.{Accepted, Skipped as Passed, Complete}
-use Rattle.iox2_store.specs.Sends.{Delivered_to}
-use Rattle.iox2_store.specs.Receives.{Got_sample, No_sample}
+use Rattle.iox2_store.specs.machine.State.{State, Messages, fresh, no_messages}
+use Rattle.iox2_store.specs.machine.Delivery.{Accepted, Skipped as Passed, Complete}
+use Rattle.iox2_store.specs.machine.Sends.{Delivered_to}
+use Rattle.iox2_store.specs.machine.Receives.{Got_sample, No_sample}
 use Rattle.iox2_store.specs.declared.allocation.AllocationStrategy.TheVariants.{Static}
 use Rattle.iox2_store.specs.declared.backpressure.BackpressureStrategy.TheVariants.{DiscardData}
 use Rattle.iox2_store.specs.declared.degradation.DegradationAction.TheVariants.{Warn}
 use Rattle.iox2_store.specs.declared.warning.Warning.TheVariants.{ExpiredBufferRaised}
 use Rattle.iox2_commands.specs.Outcomes.{Event}
-use Rattle.iox2_store.specs.Environments.{ample_memory}
+use Rattle.iox2_store.specs.machine.Environments.{ample_memory}
 use Rattle.iox2_commands.specs.Runs.{Run, only_defaults}
 use Rattle.iox2_commands.specs.declared.command.Command.TheVariants.{Nothing, CreatePublisher, CreateSubscriber, SendCopy, Receive, Read}
 use Rattle.iox2_commands.specs.declared.reply.Reply.TheVariants.{Done, PublisherMade, SubscriberMade, Delivered, Sample, NoSample, Cell}

@@ -1,9 +1,9 @@
 -- Worked runs: requests for memory that are refused.
 use Rattle.std.proofs.Common.{◌≡◌, ℕ, false, List, [], ◌∷◌, refl, inl, inr, None, Some}
-use Rattle.iox2_store.specs.State.{State, Messages, fresh, no_messages}
-use Rattle.iox2_store.specs.Delivery.{Accepted, Complete}
-use Rattle.iox2_store.specs.Sends.{Delivered_to}
-use Rattle.iox2_store.specs.Receives.{Got_sample, No_sample}
+use Rattle.iox2_store.specs.machine.State.{State, Messages, fresh, no_messages}
+use Rattle.iox2_store.specs.machine.Delivery.{Accepted, Complete}
+use Rattle.iox2_store.specs.machine.Sends.{Delivered_to}
+use Rattle.iox2_store.specs.machine.Receives.{Got_sample, No_sample}
 use Rattle.iox2_store.specs.declared.allocation.AllocationStrategy.TheVariants.{Static}
 use Rattle.iox2_store.specs.declared.backpressure.BackpressureStrategy.TheVariants.{DiscardData}
 use Rattle.iox2_store.specs.declared.degradation.DegradationAction.TheVariants.{Warn, DegradeAndFail}
@@ -14,7 +14,7 @@ use Rattle.iox2_store.specs.declared.errors.SendError.TheVariants.{LoanError as 
 use Rattle.iox2_store.specs.declared.errors.PublisherCreateError.TheVariants.{ExceedsMaxSupportedPublishers, UnableToCreateDataSegment}
 use Rattle.iox2_store.specs.declared.warning.Warning.TheVariants.{ExpiredBufferRaised, ConnectionNotMade, PublisherPartlyConnected}
 use Rattle.iox2_commands.specs.Outcomes.{Event}
-use Rattle.iox2_store.specs.Environments.{ample_memory, fixed_handlers}
+use Rattle.iox2_store.specs.machine.Environments.{ample_memory, fixed_handlers}
 use Rattle.iox2_commands.specs.Runs.{Run, only_defaults}
 use Rattle.iox2_commands.specs.declared.command.Command.TheVariants.{CreatePublisher, CreateSubscriber, LoanUninit, SendCopy, Receive, Read, Release, Close}
 use Rattle.iox2_commands.specs.declared.reply.Reply.TheVariants.{Done, PublisherMade, PublisherRefused, SubscriberMade, Loaned, LoanRefused, Delivered, SendRefused}

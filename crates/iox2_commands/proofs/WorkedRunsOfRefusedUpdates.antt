@@ -1,10 +1,10 @@
 -- Worked runs: updates that are refused.
 use Rattle.std.proofs.Common.{◌≡◌, ℕ, false, List, [], ◌∷◌, refl, inl, None, Some}
-use Rattle.iox2_store.specs.State.{State, Messages, fresh, no_messages}
-use Rattle.iox2_store.specs.Delivery.{Accepted, Complete}
-use Rattle.iox2_store.specs.Connections.{expired_buffer_full}
-use Rattle.iox2_store.specs.Sends.{Delivered_to}
-use Rattle.iox2_store.specs.Receives.{Got_sample, Receive_error}
+use Rattle.iox2_store.specs.machine.State.{State, Messages, fresh, no_messages}
+use Rattle.iox2_store.specs.machine.Delivery.{Accepted, Complete}
+use Rattle.iox2_store.specs.machine.Connections.{expired_buffer_full}
+use Rattle.iox2_store.specs.machine.Sends.{Delivered_to}
+use Rattle.iox2_store.specs.machine.Receives.{Got_sample, Receive_error}
 use Rattle.iox2_store.specs.declared.allocation.AllocationStrategy.TheVariants.{Static}
 use Rattle.iox2_store.specs.declared.backpressure.BackpressureStrategy.TheVariants.{DiscardData}
 use Rattle.iox2_store.specs.declared.degradation.DegradationAction.TheVariants.{Warn}
@@ -12,7 +12,7 @@ use Rattle.iox2_store.specs.declared.errors.ConnectionFailure.TheVariants.{Faile
 use Rattle.iox2_store.specs.declared.errors.ZeroCopyCreationError.TheVariants.{ExpiredConnectionBufferFull}
 use Rattle.iox2_store.specs.declared.errors.ReceiveError.TheVariants.{ConnectionFailure}
 use Rattle.iox2_commands.specs.Outcomes.{Event}
-use Rattle.iox2_store.specs.Environments.{ample_memory}
+use Rattle.iox2_store.specs.machine.Environments.{ample_memory}
 use Rattle.iox2_commands.specs.Runs.{Run, only_defaults}
 use Rattle.iox2_commands.specs.declared.command.Command.TheVariants.{CreatePublisher, CreateSubscriber, LoanUninit, WriteAll, Send, SendCopy, Update, Receive}
 use Rattle.iox2_commands.specs.declared.command.Command.TheVariants.{HasSamples, Read, Release, Close}

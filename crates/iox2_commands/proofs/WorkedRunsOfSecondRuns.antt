@@ -1,12 +1,12 @@
 -- A worked run: a second run on the same domain.
 use Rattle.std.proofs.Common.{◌≡◌, ℕ, false, List, [], ◌∷◌, refl, None, Some}
-use Rattle.iox2_store.specs.State.{State, Messages, fresh, no_messages}
+use Rattle.iox2_store.specs.machine.State.{State, Messages, fresh, no_messages}
 use Rattle.iox2_store.specs.declared.allocation.AllocationStrategy.TheVariants.{Static}
 use Rattle.iox2_store.specs.declared.backpressure.BackpressureStrategy.TheVariants.{DiscardData}
 use Rattle.iox2_store.specs.declared.degradation.DegradationAction.TheVariants.{Warn}
 use Rattle.iox2_store.specs.declared.errors.PublisherCreateError.TheVariants.{ExceedsMaxSupportedPublishers}
 use Rattle.iox2_commands.specs.Outcomes.{Event}
-use Rattle.iox2_store.specs.Environments.{ample_memory}
+use Rattle.iox2_store.specs.machine.Environments.{ample_memory}
 use Rattle.iox2_commands.specs.Runs.{Run, only_defaults}
 use Rattle.iox2_commands.specs.declared.command.Command.TheVariants.{CreatePublisher, Update}
 use Rattle.iox2_commands.specs.declared.reply.Reply.TheVariants.{Skipped, PublisherMade, PublisherRefused}

@@ -1,8 +1,8 @@
 -- The laws of steps.
 use Rattle.std.specs.Prelude.{ℕ, Bool, List, ◌≡◌, IsTrue}
-use Rattle.iox2_store.specs.Records.{Environment}
-use Rattle.iox2_store.specs.State.{State, Messages}
-use Rattle.iox2_store.specs.WellFormed.{IsWellFormed}
+use Rattle.iox2_store.specs.machine.Records.{Environment}
+use Rattle.iox2_store.specs.machine.State.{State, Messages}
+use Rattle.iox2_store.specs.machine.WellFormed.{IsWellFormed}
 use Rattle.iox2_store.specs.declared.backpressure.BackpressureAction.{BackpressureAction}
 use Rattle.iox2_store.specs.declared.backpressure.BackpressureInfo.{BackpressureInfo}
 use Rattle.iox2_store.specs.declared.degradation.DegradationAction.{DegradationAction}
@@ -11,7 +11,7 @@ use Rattle.iox2_store.specs.declared.degradation.DegradationInfo.{DegradationInf
 use Rattle.iox2_laws.specs.Laws.{Advances}
 use Rattle.iox2_commands.specs.Outcomes.{Handle, Outcome, messages_after}
 use Rattle.iox2_commands.specs.Step.{Step}
-use Rattle.iox2_store.specs.Shows.{Stored, Shows}
+use Rattle.iox2_store.specs.Stored.{Stored, StoredShows}
 use Rattle.iox2_commands.specs.StoredSteps.{StoredStep}
 use Rattle.iox2_commands.specs.declared.command.Command.{Command}
 
@@ -40,7 +40,7 @@ StepsLift T U =
     (may_refuse_memory : Bool) (backpressure : ℕ → BackpressureInfo → BackpressureAction → Bool) (degradation : ℕ → DegradationCause → DegradationInfo → DegradationAction → Bool)
     (default_value : T) (default_header : U) (old new : Stored T U) (handles : List Handle) (command : Command T U) (o : Outcome T U)
     → StoredStep (tested_environment may_refuse_memory backpressure degradation) default_value default_header old handles command o new
-    → (m : Messages T U) (s : State T U) → Shows old m s
-    → (m' : Messages T U) × (s' : State T U) × Shows new m' s'
+    → (m : Messages T U) (s : State T U) → StoredShows old m s
+    → (m' : Messages T U) × (s' : State T U) × StoredShows new m' s'
     × Step (tested_environment may_refuse_memory backpressure degradation) default_value default_header m s handles command o
     × (m' ≡ messages_after o.event m) × (s' ≡ o.state)

@@ -4,18 +4,18 @@ use Rattle.std.specs.Option.{option_and_then, option_map}
 use Rattle.std.specs.declared.option.Option.{Option}
 use Rattle.std.specs.declared.option.Option.TheVariants.{None, Some}
 use Rattle.std.specs.declared.time.Duration.{Duration}
-use Rattle.iox2_store.specs.Limits.{buffer_limit}
-use Rattle.iox2_store.specs.Mailbox.{is_borrowed}
-use Rattle.iox2_store.specs.Records.{Entry, Loan, Publisher, Subscriber, PublisherSettings, Environment, BlockedSend, Handler, Fixed}
-use Rattle.iox2_store.specs.State.{State, Messages, with_loan, is_blocked}
-use Rattle.iox2_store.specs.PublisherUpdate.{UpdatePublisher}
-use Rattle.iox2_store.specs.SubscriberUpdate.{UpdateSubscriber}
-use Rattle.iox2_store.specs.Loans.{GrantLoan, written, with_cell, is_initialized, initialized, loan_discarded, entry_of}
-use Rattle.iox2_store.specs.Sends.{Send, Retry, GiveUp, SendResult, Delivered_to, Blocked_send, Send_error}
-use Rattle.iox2_store.specs.Receives.{Receive, HasSamples, ReceiveResult, Got_sample, No_sample, Receive_error}
-use Rattle.iox2_store.specs.Releases.{released}
-use Rattle.iox2_store.specs.Ports.{CreatePublisher, CreateSubscriber, publisher_closed, subscriber_closed}
-use Rattle.iox2_store.specs.SingleCalls.{GrantWrittenLoan}
+use Rattle.iox2_store.specs.machine.Limits.{buffer_limit}
+use Rattle.iox2_store.specs.machine.Mailbox.{is_borrowed}
+use Rattle.iox2_store.specs.machine.Records.{Entry, Loan, Publisher, Subscriber, PublisherSettings, Environment, BlockedSend, Handler, Fixed}
+use Rattle.iox2_store.specs.machine.State.{State, Messages, with_loan, is_blocked}
+use Rattle.iox2_store.specs.machine.PublisherUpdate.{UpdatePublisher}
+use Rattle.iox2_store.specs.machine.SubscriberUpdate.{UpdateSubscriber}
+use Rattle.iox2_store.specs.machine.Loans.{GrantLoan, written, with_cell, is_initialized, initialized, loan_discarded, entry_of}
+use Rattle.iox2_store.specs.machine.Sends.{Send, Retry, GiveUp, SendResult, Delivered_to, Blocked_send, Send_error}
+use Rattle.iox2_store.specs.machine.Receives.{Receive, HasSamples, ReceiveResult, Got_sample, No_sample, Receive_error}
+use Rattle.iox2_store.specs.machine.Releases.{released}
+use Rattle.iox2_store.specs.machine.Ports.{CreatePublisher, CreateSubscriber, publisher_closed, subscriber_closed}
+use Rattle.iox2_store.specs.machine.SingleCalls.{GrantWrittenLoan}
 use Rattle.iox2_store.specs.declared.service_config.TypeVariant.{TypeVariant}
 use Rattle.iox2_store.specs.declared.service_config.TypeVariant.TheVariants.{FixedSize, Dynamic}
 use Rattle.iox2_store.specs.declared.allocation.AllocationStrategy.{AllocationStrategy}

@@ -1,8 +1,8 @@
 -- What one call has to show of what is kept.
 use Rattle.std.specs.Prelude.{ℕ, List, ◌≡◌, ◌⊎◌}
 use Rattle.std.specs.declared.option.Option.TheVariants.{Some}
-use Rattle.iox2_store.specs.Records.{Entry, Environment}
-use Rattle.iox2_store.specs.Shows.{Stored, KeepsEntries}
+use Rattle.iox2_store.specs.machine.Records.{Entry, Environment}
+use Rattle.iox2_store.specs.Stored.{Stored, StoredKeepsEntries}
 use Rattle.iox2_commands.specs.Outcomes.{Handle, Event, No_event, Message_sent, Message_received, Outcome}
 use Rattle.iox2_commands.specs.Step.{Step}
 use Rattle.iox2_commands.specs.declared.command.Command.{Command}
@@ -20,4 +20,4 @@ pub record StoredStep {T U : Type 0} (environment : Environment) (default_value 
   pub state : o.state ≡ new.state
   pub entries_kept : (n : ℕ) (entry : Entry T U) → new.entries n ≡ Some entry
       → IsNewEntry o.event n entry ⊎ ((old.entries n ≡ Some entry) × ((entry' : Entry T U) → ¬ IsNewEntry o.event n entry'))
-  pub complete : KeepsEntries new
+  pub complete : StoredKeepsEntries new

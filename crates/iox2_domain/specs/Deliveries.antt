@@ -3,13 +3,13 @@ use Rattle.std.specs.Prelude.{◌≡◌, ◌⊎◌, ℕ, ◌-◌, false, List, m
 use Rattle.std.specs.declared.option.Option.TheVariants.{None, Some}
 use Rattle.std.specs.Option.{option_map}
 use Rattle.slab.specs.Slab.{Slab, get, with_value}
-use Rattle.iox2_store.specs.Delivery.{Complete, Deliver, no_time}
-use Rattle.iox2_store.specs.Environments.{fixed_handlers}
+use Rattle.iox2_store.specs.machine.Delivery.{Complete, Deliver, no_time}
+use Rattle.iox2_store.specs.machine.Environments.{fixed_handlers}
 use Rattle.iox2_store.specs.Link.{Link}
-use Rattle.iox2_store.specs.Loans.{entry_of}
-use Rattle.iox2_store.specs.Numbers.{put_at, without}
-use Rattle.iox2_store.specs.Records.{Entry, Loan}
-use Rattle.iox2_store.specs.Sends.{Publish, Delivered_to}
+use Rattle.iox2_store.specs.machine.Loans.{entry_of}
+use Rattle.iox2_store.specs.machine.Numbers.{put_at, without}
+use Rattle.iox2_store.specs.machine.Records.{Entry, Loan}
+use Rattle.iox2_store.specs.machine.Sends.{Publish, Delivered_to}
 use Rattle.iox2_store.specs.SlotBook.{Book}
 use Rattle.iox2_store.specs.declared.slots.mark.SlotMark.TheVariants.{Sent}
 use Rattle.iox2_ends.specs.Counters.{with_counters}

@@ -6,10 +6,10 @@ use Rattle.std.specs.Option.{option_map, option_and_then, option_map_or}
 use Rattle.slab.specs.Slab.{Slab}
 use Rattle.circular_buffer.specs.Buffer.{Buffer}
 use Rattle.iox2_store.specs.Link.{Link}
-use Rattle.iox2_store.specs.Places.{occupants}
+use Rattle.iox2_store.specs.machine.Places.{occupants}
 use Rattle.iox2_store.specs.SlotBook.{Book, holders_at}
 use Rattle.iox2_store.specs.SlotContents.{ContentState}
-use Rattle.iox2_store.specs.Records.{Publisher, Subscriber, Fixed}
+use Rattle.iox2_store.specs.machine.Records.{Publisher, Subscriber, Fixed}
 use Rattle.iox2_store.specs.declared.header.Header.{Header}
 use Rattle.iox2_store.specs.declared.slots.mark.SlotMark.{SlotMark}
 use Rattle.iox2_store.specs.declared.slots.mark.SlotMark.TheVariants.{Unwritten, Written, Sent}
@@ -60,7 +60,7 @@ module _ {T U : Type 0} where
   message_of publisher number header content Sent =
       Sent_message number (record { header = header; user_header = content.user_header; values = content.values })
 
-  -- What lies in a slot, where something holds it.
+  -- What lies in a slot, where it is in use.
   abbrev pub message_in : Book → List (ContentState T U) → (slot : ℕ) → Option (KeptMessage T U)
   message_in book contents slot =
       cond (nat_lt 0 (holders_at book slot))

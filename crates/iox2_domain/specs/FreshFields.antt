@@ -1,7 +1,7 @@
 -- The fields of a new domain.
 use Rattle.std.specs.Prelude.{◌≡◌, []}
 use Rattle.circular_buffer.specs.Buffer.{buffer}
-use Rattle.iox2_store.specs.Limits.{warning_limit}
+use Rattle.iox2_store.specs.machine.Limits.{warning_limit}
 use Rattle.iox2_store.specs.declared.service_config.ServiceConfig.{ServiceConfig}
 use Rattle.iox2_domain.specs.Fields.{Fields}
 

@@ -5,12 +5,12 @@ use Rattle.std.specs.declared.option.Option.{Option}
 use Rattle.std.specs.declared.option.Option.TheVariants.{None, Some}
 use Rattle.std.specs.Option.{option_map, option_map_or}
 use Rattle.slab.specs.Slab.{Slab, get}
-use Rattle.iox2_store.specs.Limits.{warning_limit}
+use Rattle.iox2_store.specs.machine.Limits.{warning_limit}
 use Rattle.iox2_store.specs.Link.{Link}
 use Rattle.iox2_store.specs.SlotBook.{Book, IsAligned, holders_at}
 use Rattle.iox2_store.specs.SlotContents.{ContentState}
-use Rattle.iox2_store.specs.Loans.{is_static}
-use Rattle.iox2_store.specs.WellFormed.{IsWellFormed}
+use Rattle.iox2_store.specs.machine.Loans.{is_static}
+use Rattle.iox2_store.specs.machine.WellFormed.{IsWellFormed}
 use Rattle.iox2_store.specs.declared.allocation.AllocationStrategy.TheVariants.{Static}
 use Rattle.iox2_store.specs.declared.backpressure.BackpressureStrategy.TheVariants.{DiscardData}
 use Rattle.iox2_store.specs.declared.service_config.ServiceConfig.{ServiceConfig}
@@ -115,7 +115,7 @@ pub record HasBooks {T U : Type 0} (f : Fields T U) : Type 0 where
 
 -- ---- slots
 
--- How many hold the slot of the publisher p, by its book.
+-- How many holders the slot of the publisher p has, by its book.
 abbrev pub holders_of : Slab Book → (p slot : ℕ) → ℕ
 holders_of books p slot = option_map_or (λ b. holders_at b slot) (look_up (is_book_of p) books.slots) 0
 
@@ -135,18 +135,18 @@ own_holders f p slot =
     option_map_or (λ (x : PublisherFields). times slot x.loans + times slot (x.history).items) (look_up (is_publisher p) f.publishers)
     (option_map_or (λ b. cond (is_loan_in b slot) 1 0) (look_up (is_book_of p) f.books.slots) 0)
 
--- Each slot has as many holders as there are places where it stands.
+-- Each slot has as many holders as it stands in lists.
 pub record IsCounted {T U : Type 0} (f : Fields T U) : Type 0 where
   pub at : (p slot : ℕ) → holders_of f.books p slot ≡ own_holders f p slot + sum_by (stands p slot) f.connections.slots
 
--- The slot of the book at the key is held and has this number.
+-- The slot of the book at the key is in use and has this number.
 pub record HasNumber (books : Slab Book) (key slot n : ℕ) : Type 0 where
   pub book : Book
   pub stands : get books key ≡ Some book
-  pub held : 0 < holders_at book slot
+  pub in_use : 0 < holders_at book slot
   pub number : slice_index book.numbers slot ≡ n
 
--- No two held slots have the same number, and each number was given out.
+-- No two slots in use have the same number, and each number was given out.
 pub record IsNumbered (next_message : ℕ) (books : Slab Book) : Type 0 where
   pub one : (key key' slot slot' number : ℕ) → HasNumber books key slot number → HasNumber books key' slot' number → (key ≡ key') × (slot ≡ slot')
   pub below : (key slot number : ℕ) → HasNumber books key slot number → number < next_message
@@ -158,7 +158,7 @@ pub record HasShape {T U : Type 0} (c : ServiceConfig) (m : KeptMessage T U) : T
   pub length : length_of m ≡ (header_of m).number_of_elements * c.units_per_element
   pub single : c.variant ≡ FixedSize → (header_of m).number_of_elements ≡ 1
 
--- What lies in each held slot has its shape.
+-- What lies in each slot in use has its shape.
 pub record HasShapes {T U : Type 0} (f : Fields T U) : Type 0 where
   pub at : (key slot : ℕ) (b : Book) (m : KeptMessage T U) → get f.books key ≡ Some b
       → message_in b (contents_at f.contents key) slot ≡ Some m → HasShape f.config m
@@ -166,7 +166,7 @@ pub record HasShapes {T U : Type 0} (f : Fields T U) : Type 0 where
 -- ---- what isn't there yet
 
 -- The settings that a domain may have.
-pub record IsSupported (c : ServiceConfig) : Type 0 where
+pub record IsSupportedConfig (c : ServiceConfig) : Type 0 where
   pub single_values : c.variant ≡ FixedSize
   pub one_publisher : c.max_publishers ≡ 1
   pub one_subscriber : c.max_subscribers ≡ 1
@@ -207,7 +207,7 @@ pub record IsDomain {T U : Type 0} (f : Fields T U) : Type 0 where
   pub publisher_room : (i : ℕ) (x : PublisherFields) → slice_index_or f.publishers i None ≡ Some x → HasPublisherRoom f.config x
   pub warning_room : (f.warnings).capacity ≡ warning_limit
   pub shapes : HasShapes f
-  pub supported : IsSupported f.config
+  pub supported : IsSupportedConfig f.config
   pub plain : (i : ℕ) (x : PublisherFields) → slice_index_or f.publishers i None ≡ Some x → IsPlain x
   pub open_ports : HasOnlyOpenPorts f
   pub well_formed : IsWellFormed (state_of (kept_of f))

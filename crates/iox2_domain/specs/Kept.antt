@@ -3,9 +3,9 @@ use Rattle.std.specs.Prelude.{ℕ, Bool, ◌&&◌, ◌==◌, List, [], ◌∷◌
 use Rattle.std.specs.declared.option.Option.{Option}
 use Rattle.std.specs.declared.option.Option.TheVariants.{None, Some}
 use Rattle.std.specs.Option.{option_map, option_and_then}
-use Rattle.iox2_store.specs.Mailbox.{Mailbox, empty_mailbox}
-use Rattle.iox2_store.specs.Records.{Entry, Loan, Publisher, Subscriber}
-use Rattle.iox2_store.specs.State.{State, Messages}
+use Rattle.iox2_store.specs.machine.Mailbox.{Mailbox, empty_mailbox}
+use Rattle.iox2_store.specs.machine.Records.{Entry, Loan, Publisher, Subscriber}
+use Rattle.iox2_store.specs.machine.State.{State, Messages}
 use Rattle.iox2_store.specs.declared.header.Header.{Header}
 use Rattle.iox2_store.specs.declared.service_config.ServiceConfig.{ServiceConfig}
 use Rattle.iox2_store.specs.declared.warning.Warning.{Warning}

@@ -4,16 +4,16 @@ use Rattle.std.specs.declared.option.Option.{Option}
 use Rattle.std.specs.declared.option.Option.TheVariants.{None, Some}
 use Rattle.std.specs.List.{All}
 use Rattle.slab.specs.Slab.{get, with_value}
-use Rattle.iox2_store.specs.Limits.{last_number}
-use Rattle.iox2_store.specs.Loans.{GrantLoan, loan_granted}
+use Rattle.iox2_store.specs.machine.Limits.{last_number}
+use Rattle.iox2_store.specs.machine.Loans.{GrantLoan, loan_granted}
 use Rattle.iox2_store.specs.SlotBook.{Book, holders_at}
 use Rattle.iox2_store.specs.SlotContents.{ContentState, with_changed, unwritten_content}
-use Rattle.iox2_store.specs.State.{State}
+use Rattle.iox2_store.specs.machine.State.{State}
 use Rattle.iox2_store.specs.declared.errors.LoanError.{LoanError}
 use Rattle.iox2_store.specs.declared.header.Header.{Header}
 use Rattle.iox2_store.specs.declared.service_config.ServiceConfig.{ServiceConfig}
 use Rattle.iox2_store.specs.declared.slots.mark.SlotMark.TheVariants.{Unwritten}
-use Rattle.iox2_store.specs.Environments.{ample_memory}
+use Rattle.iox2_store.specs.machine.Environments.{ample_memory}
 use Rattle.iox2_domain.specs.Kept.{state_of}
 use Rattle.iox2_domain.specs.Reaches.{Reaches}
 use Rattle.iox2_domain.specs.Fields.{Fields, kept_of, publisher_of}
@@ -83,8 +83,8 @@ module _ {T U : Type 0} where
 
   -- A publisher is asked for a loan of a single value: it lends a slot, or refuses, and then nothing changes in the state.
   abbrev pub LoanReaches : {A : Type 0} → (is_default : U → Type 0) → Fields T U → PublisherFields → Result A LoanError → Fields T U → Type 0
-  LoanReaches is_default f x answer f' =
-      MatchResult answer
+  LoanReaches is_default f x result f' =
+      MatchResult result
       (λ _. (user_header : U) × is_default user_header
       × GrantLoan ample_memory user_header false 1 (state_of (kept_of f)) x.id
       (loan_granted user_header (state_of (kept_of f)) x.id ((publisher_of f.books f.connections x).port) 1 x.segments) None
@@ -95,7 +95,7 @@ module _ {T U : Type 0} where
   -- The publisher p is asked for a loan of a single value: it is granted, with a default user header, or refused for this
   -- reason, and then nothing changes.
   abbrev pub LoanCall : {A : Type 0} → (is_default : U → Type 0) → State T U → (p : ℕ) → Result A LoanError → State T U → Type 0
-  LoanCall is_default s p answer s' =
-      MatchResult answer
+  LoanCall is_default s p result s' =
+      MatchResult result
       (λ _. (user_header : U) × is_default user_header × GrantLoan ample_memory user_header false 1 s p s' None)
       (λ e. (s' ≡ s) × ((user_header : U) → GrantLoan ample_memory user_header false 1 s p s' (Some e)))

@@ -3,9 +3,9 @@ use Rattle.std.specs.Prelude.{◌≡◌, ℕ, true, false, ◌<◌, List, [], �
 use Rattle.std.specs.declared.option.Option.{Option}
 use Rattle.std.specs.declared.option.Option.TheVariants.{None, Some}
 use Rattle.slab.specs.Slab.{get, with_value}
-use Rattle.iox2_store.specs.Records.{Loan}
-use Rattle.iox2_store.specs.State.{State, with_loan}
-use Rattle.iox2_store.specs.Loans.{written}
+use Rattle.iox2_store.specs.machine.Records.{Loan}
+use Rattle.iox2_store.specs.machine.State.{State, with_loan}
+use Rattle.iox2_store.specs.machine.Loans.{written}
 use Rattle.iox2_store.specs.SlotBook.{Book}
 use Rattle.iox2_store.specs.SlotContents.{ContentState, SomeAt, with_changed, written_content}
 use Rattle.iox2_store.specs.declared.header.Header.{Header}

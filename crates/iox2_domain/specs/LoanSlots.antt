@@ -4,7 +4,7 @@ use Rattle.std.specs.declared.option.Option.TheVariants.{Some}
 use Rattle.std.specs.Option.{option_map_or}
 use Rattle.slab.specs.Slab.{get}
 use Rattle.iox2_store.specs.SlotBook.{Book, holders_at}
-use Rattle.iox2_store.specs.Records.{Loan}
+use Rattle.iox2_store.specs.machine.Records.{Loan}
 use Rattle.iox2_domain.specs.Kept.{Lent_message, state_of}
 use Rattle.iox2_domain.specs.Fields.{Fields, kept_of, message_in, contents_at}
 use Rattle.iox2_domain.specs.Invariant.{is_lent}
@@ -12,7 +12,7 @@ use Rattle.iox2_domain.specs.Invariant.{is_lent}
 -- A loan with this number lies in the slot.
 pub record IsLoanSlot (book : Book) (slot number : ℕ) : Type 0 where
   pub in_bounds : slot < length book.holders
-  pub held : 0 < holders_at book slot
+  pub in_use : 0 < holders_at book slot
   pub lent : option_map_or is_lent (slice_get book.marks slot) false ≡ true
   pub numbered : slice_index book.numbers slot ≡ number
 
@@ -28,4 +28,4 @@ pub record LiesInSlot {T U : Type 0} (f : Fields T U) (publisher number key slot
   pub loan_slot : IsLoanSlot book slot number
   pub loan : Loan T U
   pub lies : message_in book (contents_at f.contents key) slot ≡ Some (Lent_message number loan)
-  pub held : (state_of (kept_of f)).loans number ≡ Some loan
+  pub is_out : (state_of (kept_of f)).loans number ≡ Some loan

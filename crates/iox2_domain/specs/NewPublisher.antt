@@ -7,8 +7,8 @@ use Rattle.std.specs.declared.result.Result.{Result}
 use Rattle.std.specs.declared.result.Result.TheVariants.{Ok, Err}
 use Rattle.slab.specs.Slab.{Slab, get, Updates}
 use Rattle.circular_buffer.specs.Buffer.{Buffer}
-use Rattle.iox2_store.specs.Limits.{last_number}
-use Rattle.iox2_store.specs.Records.{PublisherSettings, Fixed}
+use Rattle.iox2_store.specs.machine.Limits.{last_number}
+use Rattle.iox2_store.specs.machine.Records.{PublisherSettings, Fixed}
 use Rattle.iox2_store.specs.SlotBook.{Book, IsAligned}
 use Rattle.iox2_store.specs.SlotContents.{ContentState}
 use Rattle.iox2_store.specs.declared.allocation.AllocationStrategy.TheVariants.{Static}
@@ -65,7 +65,7 @@ module _ {T U : Type 0} where
 abbrev pub subscriber_due : SubscriberFields → SubscriberFields
 subscriber_due y = record y { is_due = true }
 
--- A book of so many slots of the publisher, none of which is held, and their contents, each with room for so many elements.
+-- A book of so many slots of the publisher, none of which is in use, and their contents, each with room for so many elements.
 pub record IsNewSegment {T U : Type 0} (book : Book) (contents : List (ContentState T U)) (publisher slots room : ℕ) : Type 0 where
   pub is_its : book.publisher ≡ publisher
   pub unused : book.holders ≡ replicate slots 0
@@ -73,7 +73,7 @@ pub record IsNewSegment {T U : Type 0} (book : Book) (contents : List (ContentSt
   pub contents_length : length contents ≡ slots
   pub contents_room : All (λ content. content.room ≡ room) contents
 
--- A book of the publisher, none of whose slots is held, is among the books now, at a key that had none. At that key are
+-- A book of the publisher, none of whose slots is in use, is among the books now, at a key that had none. At that key are
 -- contents for its slots, each with room for so many elements. Nothing else changes.
 pub record BookEnters {T U : Type 0} (publisher slots room key : ℕ) (old_books : Slab Book) (old_contents : List (Option (List (ContentState T U))))
     (books : Slab Book) (contents : List (Option (List (ContentState T U)))) : Type 0 where

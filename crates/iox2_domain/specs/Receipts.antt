@@ -6,18 +6,18 @@ use Rattle.std.specs.declared.result.Result.{Result}
 use Rattle.std.specs.declared.result.Result.TheVariants.{Ok, Err}
 use Rattle.slab.specs.Slab.{get}
 use Rattle.iox2_store.specs.Link.{Link}
-use Rattle.iox2_store.specs.State.{State}
-use Rattle.iox2_store.specs.Environments.{fixed_handlers}
-use Rattle.iox2_store.specs.Receives.{ReceiveResult, Got_sample, No_sample, Receive_error, TakeSample, Receive}
+use Rattle.iox2_store.specs.machine.State.{State}
+use Rattle.iox2_store.specs.machine.Environments.{fixed_handlers}
+use Rattle.iox2_store.specs.machine.Receives.{ReceiveResult, Got_sample, No_sample, Receive_error, TakeSample, Receive}
 use Rattle.iox2_store.specs.declared.errors.ReceiveError.{ReceiveError}
 use Rattle.iox2_ends.specs.Homes.{SameHomes}
-use Rattle.iox2_ends.specs.Takes.{KeepsOtherKeys, SameStands, TakesSlot}
+use Rattle.iox2_ends.specs.Takes.{KeepsOtherKeys, SameStands, BorrowsSlot}
 use Rattle.iox2_domain.specs.Kept.{state_of}
 use Rattle.iox2_domain.specs.Fields.{Fields, kept_of, numbers_of}
 use Rattle.iox2_domain.specs.Reaches.{Reaches}
 use Rattle.iox2_domain.specs.declared.receipts.Receipt.{Receipt}
 
--- What the machine answers where a call answers this.
+-- The machine's result where a call returns this.
 abbrev pub receive_result : Result (Option Receipt) ReceiveError → ReceiveResult
 receive_result (Ok None) = No_sample
 receive_result (Ok (Some receipt)) = Got_sample receipt.publisher receipt.sample.number
@@ -29,7 +29,7 @@ module _ {T U : Type 0} where
     pub link : Link
     pub stands : get old.connections key ≡ Some link
     pub only : new ≡ record old { connections = new.connections }
-    pub takes : TakesSlot old.connections key receipt.sample.slot new.connections
+    pub takes : BorrowsSlot old.connections key receipt.sample.slot new.connections
     pub homes : SameHomes old.connections new.connections
     pub others : KeepsOtherKeys key old.connections new.connections
     pub stay : SameStands old.connections new.connections
@@ -48,7 +48,7 @@ module _ {T U : Type 0} where
     pub its : receipt.sample.subscriber ≡ q
     pub borrowed : Contains connection.borrowed receipt.sample.slot
 
-  -- The same of what a call answers.
+  -- The same of what a call returns.
   abbrev pub LiesIfAny : Fields T U → (q : ℕ) → Result (Option Receipt) ReceiveError → Type 0
   LiesIfAny f q (Ok None) = Unit {0}
   LiesIfAny f q (Ok (Some receipt)) = LiesAt f q receipt

@@ -3,7 +3,7 @@ use Rattle.std.specs.Prelude.{◌≡◌, ◌≢◌, ℕ, true, map, slice_index,
 use Rattle.std.specs.declared.option.Option.TheVariants.{Some}
 use Rattle.slab.specs.Slab.{Slab, get}
 use Rattle.iox2_store.specs.Link.{Link}
-use Rattle.iox2_store.specs.Numbers.{contains}
+use Rattle.iox2_store.specs.machine.Numbers.{contains}
 use Rattle.iox2_store.specs.SlotBook.{Book}
 use Rattle.iox2_domain.specs.Fields.{Fields, numbers_of}
 use Rattle.iox2_domain.specs.declared.sample_slots.SampleSlot.{SampleSlot}

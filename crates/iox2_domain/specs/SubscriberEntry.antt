@@ -2,9 +2,9 @@
 use Rattle.std.specs.Prelude.{ℕ, cond, nat_lt, ◌==◌}
 use Rattle.std.specs.declared.result.Result.{Result}
 use Rattle.std.specs.declared.result.Result.TheVariants.{Ok, Err}
-use Rattle.iox2_store.specs.Limits.{buffer_limit, last_number}
-use Rattle.iox2_store.specs.Ports.{buffer_for}
-use Rattle.iox2_store.specs.Records.{SubscriberSettings, Fixed}
+use Rattle.iox2_store.specs.machine.Limits.{buffer_limit, last_number}
+use Rattle.iox2_store.specs.machine.Ports.{buffer_for}
+use Rattle.iox2_store.specs.machine.Records.{SubscriberSettings, Fixed}
 use Rattle.iox2_store.specs.declared.degradation.DegradationAction.TheVariants.{Warn}
 use Rattle.iox2_store.specs.declared.errors.SubscriberCreateError.{SubscriberCreateError}
 use Rattle.iox2_store.specs.declared.errors.SubscriberCreateError.TheVariants.{UnableToCreatePortTag, BufferSizeExceedsMaxSupportedBufferSizeOfService, ExceedsMaxSupportedSubscribers}

@@ -5,7 +5,7 @@ use Rattle.std.specs.declared.option.Option.TheVariants.{None, Some}
 use Rattle.std.specs.Option.{option_map, option_map_or, option_and_then}
 use Rattle.slab.specs.Slab.{Slab, Updates, get}
 use Rattle.iox2_store.specs.Link.{Link, empty_link}
-use Rattle.iox2_store.specs.Places.{set_place}
+use Rattle.iox2_store.specs.machine.Places.{set_place}
 use Rattle.iox2_store.specs.declared.connection.Home.{Home}
 use Rattle.iox2_domain.specs.Ports.{PublisherFields, SubscriberFields}
 

@@ -39,7 +39,7 @@ fn not_made(home: Home) -> Warning
     }
 }
 
-// Makes a connection in which no slot stands, and answers its key.
+// Makes a connection in which no slot stands, and returns its key.
 fn make_connection(
     alloc: Global,
     connections: &mut Slab<Connection>,
@@ -82,7 +82,7 @@ impl<T: Drop, U: Default + Drop> DomainState<T, U> {
     }
 
     // Makes a connection in which no slot stands, with room for its key in the ports at these places,
-    // and answers its key.
+    // and returns its key.
     fn make_between(
         &mut self,
         publisher_place: usize,

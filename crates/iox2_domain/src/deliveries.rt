@@ -1,8 +1,8 @@
 //! A publisher delivers a message.
 ghost use Rattle.std.specs.Prelude.{◌≡◌, ℕ, ◌<◌, None, Some, slice_index_or, vec_capacity};
 ghost use Rattle.slab.specs.Slab.{get};
-ghost use Rattle.iox2_store.specs.SlotBook.{Book, IsHeld, holders_at};
-ghost use Rattle.iox2_store.specs.Numbers.{without};
+ghost use Rattle.iox2_store.specs.SlotBook.{Book, IsInUse, holders_at};
+ghost use Rattle.iox2_store.specs.machine.Numbers.{without};
 ghost use Rattle.iox2_ends.specs.Receivers.{HasReclaimed};
 
 use crate::publisher_state::PublisherState;
@@ -35,12 +35,12 @@ impl<T: Drop, U: Default + Drop> DomainState<T, U> {
     ghost use Rattle.iox2_domain.specs.Deliveries.{DeliversTo, with_send_ended};
 
     /// Delivers the message in a slot of the publisher at a place, whose given back slots are
-    /// reclaimed. Answers how many receivers took it.
+    /// reclaimed. Returns how many receivers took it.
     pub(crate) fn deliver_slot(&mut self, place: usize, slot: usize) -> usize
         requires agrees { IsDomain self.old }
         requires stands { (x : PublisherFields) × (slice_index_or self.old.publishers place None ≡ Some x) }
         requires reclaimed { (x : PublisherFields) → slice_index_or self.old.publishers place None ≡ Some x → HasReclaimed self.old.connections x.keys }
-        requires held { (x : PublisherFields) (b : Book) → slice_index_or self.old.publishers place None ≡ Some x → get self.old.books x.book ≡ Some b → IsHeld b slot × (holders_at b slot ≡ 1) }
+        requires in_use { (x : PublisherFields) (b : Book) → slice_index_or self.old.publishers place None ≡ Some x → get self.old.books x.book ≡ Some b → IsInUse b slot × (holders_at b slot ≡ 1) }
         ensures { (x : PublisherFields) → slice_index_or self.old.publishers place None ≡ Some x → DeliversTo self.old x slot result self.new }
     {
         let Some(publisher) = &self.publishers[place] else {
@@ -67,7 +67,7 @@ impl<T: Drop, U: Default + Drop> DomainState<T, U> {
 
     /// The loan in a slot of the publisher at a place was sent: it is out no more.
     pub(crate) fn end_send(&mut self, place: usize, slot: usize)
-        requires stands { (x : PublisherFields) × (b : Book) × (slice_index_or self.old.publishers place None ≡ Some x) × (get self.old.books x.book ≡ Some b) × IsHeld b slot }
+        requires stands { (x : PublisherFields) × (b : Book) × (slice_index_or self.old.publishers place None ≡ Some x) × (get self.old.books x.book ≡ Some b) × IsInUse b slot }
         ensures { (x : PublisherFields) (b : Book) → slice_index_or self.old.publishers place None ≡ Some x → get self.old.books x.book ≡ Some b → self.new ≡ with_send_ended self.old place x slot b }
     {
         let Some(publisher) = &mut self.publishers[place] else {

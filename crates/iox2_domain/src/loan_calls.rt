@@ -9,7 +9,7 @@ use iox2_store::{Contents, Header, SlotMark};
 
 impl<T: Drop, U: Default + Drop> DomainState<T, U> {
     ghost use Rattle.std.specs.Prelude.{Some};
-    ghost use Rattle.iox2_store.specs.SingleCalls.{HoldsLoan};
+    ghost use Rattle.iox2_store.specs.machine.SingleCalls.{HoldsLoan};
     ghost use Rattle.iox2_domain.specs.Kept.{state_of};
     ghost use Rattle.iox2_domain.specs.Fields.{kept_of};
     ghost use Rattle.iox2_domain.specs.Invariant.{IsDomain};
@@ -21,7 +21,7 @@ impl<T: Drop, U: Default + Drop> DomainState<T, U> {
     pub fn write_loan(&mut self, loan: LoanAt, value: T) -> LoanAt
         requires agrees { IsDomain self.old }
         requires single { (self.old.config).units_per_element ≡ 1 }
-        requires held { HoldsUnwritten (state_of (kept_of self.old)) loan.publisher loan.number }
+        requires live { HoldsUnwritten (state_of (kept_of self.old)) loan.publisher loan.number }
         ensures writes { WritesLoan self.old self.new loan.number value }
         ensures same { result ≡ record loan { slot = result.slot } }
         ensures lies { (key : ℕ) × LiesInSlot self.old loan.publisher loan.number key result.slot }
@@ -49,7 +49,7 @@ impl<T: Drop, U: Default + Drop> DomainState<T, U> {
     pub fn loan_cell(&self, loan: &LoanAt) -> &Option<T>
         requires agrees { IsDomain self.now }
         requires single { (self.now.config).units_per_element ≡ 1 }
-        requires held { HoldsUnwritten (state_of (kept_of self.now)) loan.now.publisher loan.now.number }
+        requires live { HoldsUnwritten (state_of (kept_of self.now)) loan.now.publisher loan.now.number }
         ensures { HasCell (state_of (kept_of self.now)) loan.now.number result.now }
     {
         let Some(at) = self.find_loan(loan) else {
@@ -65,7 +65,7 @@ impl<T: Drop, U: Default + Drop> DomainState<T, U> {
     pub fn loan_value(&self, loan: &LoanAt) -> &T
         requires agrees { IsDomain self.now }
         requires single { (self.now.config).units_per_element ≡ 1 }
-        requires held { HoldsWritten (state_of (kept_of self.now)) loan.now.publisher loan.now.number }
+        requires live { HoldsWritten (state_of (kept_of self.now)) loan.now.publisher loan.now.number }
         ensures { HasCell (state_of (kept_of self.now)) loan.now.number (Some result.now) }
     {
         let Some(at) = self.find_loan(loan) else {
@@ -80,7 +80,7 @@ impl<T: Drop, U: Default + Drop> DomainState<T, U> {
     /// The header of a publisher's loan.
     pub fn loan_header(&self, loan: &LoanAt) -> &Header
         requires agrees { IsDomain self.now }
-        requires held { HoldsLoan (state_of (kept_of self.now)) loan.now.publisher loan.now.number }
+        requires live { HoldsLoan (state_of (kept_of self.now)) loan.now.publisher loan.now.number }
         ensures { HasLoanHeader (state_of (kept_of self.now)) loan.now.number result.now }
     {
         let Some(at) = self.find_loan(loan) else {

@@ -25,7 +25,7 @@ pub(crate) struct LoanSlot {
 }
 
 impl<T: Drop, U: Default + Drop> DomainState<T, U> {
-    ghost use Rattle.iox2_store.specs.SingleCalls.{HoldsLoan};
+    ghost use Rattle.iox2_store.specs.machine.SingleCalls.{HoldsLoan};
     ghost use Rattle.iox2_domain.specs.Kept.{state_of};
     ghost use Rattle.iox2_domain.specs.Fields.{kept_of};
     ghost use Rattle.iox2_domain.specs.Invariant.{IsDomain};

@@ -52,7 +52,7 @@ impl<T: Drop, U: Default + Drop> DomainState<T, U> {
     /// slot.
     ///
     /// `ExceedsMaxLoans` where as many loans are out as the publisher may have, then `OutOfMemory`
-    /// where each of its slots is held, then `InternalFailure` where no message number is left.
+    /// where each of its slots is in use, then `InternalFailure` where no message number is left.
     /// Nothing changes then that can be seen.
     pub fn loan(&mut self, place: usize) -> Result<LoanAt, LoanError>
         requires agrees { IsDomain self.old }

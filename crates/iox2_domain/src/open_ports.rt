@@ -1,6 +1,6 @@
 //! The ports of a domain that weren't closed.
 ghost use Rattle.std.specs.Prelude.{◌↔◌, IsTrue};
-ghost use Rattle.iox2_store.specs.SingleCalls.{HoldsPublisher, HoldsSubscriber};
+ghost use Rattle.iox2_store.specs.machine.SingleCalls.{HoldsPublisher, HoldsSubscriber};
 
 use crate::state::DomainState;
 use iox2_store::{UniquePublisherId, UniqueSubscriberId};

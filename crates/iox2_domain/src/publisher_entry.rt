@@ -1,8 +1,8 @@
 //! A publisher enters a domain.
 ghost use Rattle.std.specs.Prelude.{◌≡◌, ◌⊎◌, None, Some, slice_index_or, IfOk, MatchResult, OnOk};
-ghost use Rattle.iox2_store.specs.Limits.{worst_case};
-ghost use Rattle.iox2_store.specs.Environments.{fixed_handlers};
-ghost use Rattle.iox2_store.specs.Ports.{CreatePublisher, with_new_publisher};
+ghost use Rattle.iox2_store.specs.machine.Limits.{worst_case};
+ghost use Rattle.iox2_store.specs.machine.Environments.{fixed_handlers};
+ghost use Rattle.iox2_store.specs.machine.Ports.{CreatePublisher, with_new_publisher};
 ghost use Rattle.iox2_store.specs.declared.errors.PublisherCreateError.TheVariants.{UnableToCreateDataSegment, FailedToDeployThreadsafetyPolicy};
 
 use crate::places::{free_place, put_at_place};
@@ -13,7 +13,7 @@ use crate::state::DomainState;
 use iox2_store::{PublisherCreateError, UniquePublisherId};
 
 impl<T: Drop, U: Default + Drop> DomainState<T, U> {
-    ghost use Rattle.iox2_store.specs.State.{State};
+    ghost use Rattle.iox2_store.specs.machine.State.{State};
     ghost use Rattle.iox2_domain.specs.Ports.{PublisherFields};
     ghost use Rattle.iox2_domain.specs.Kept.{state_of};
     ghost use Rattle.iox2_domain.specs.Fields.{kept_of};

@@ -18,9 +18,9 @@ pub struct Receipt {
 }
 
 impl<T: Drop, U: Default + Drop> DomainState<T, U> {
-    ghost use Rattle.iox2_store.specs.Mailbox.{is_borrowed};
-    ghost use Rattle.iox2_store.specs.Releases.{released};
-    ghost use Rattle.iox2_store.specs.SingleCalls.{HoldsSample};
+    ghost use Rattle.iox2_store.specs.machine.Mailbox.{is_borrowed};
+    ghost use Rattle.iox2_store.specs.machine.Releases.{released};
+    ghost use Rattle.iox2_store.specs.machine.SingleCalls.{HoldsSample};
     ghost use Rattle.iox2_domain.specs.Ports.{SubscriberFields};
     ghost use Rattle.iox2_domain.specs.Kept.{state_of};
     ghost use Rattle.iox2_domain.specs.Fields.{kept_of};
@@ -84,7 +84,7 @@ impl<T: Drop, U: Default + Drop> DomainState<T, U> {
     /// publisher reclaims it and nobody else holds it.
     pub fn give_back(&mut self, sample: SampleAt)
         requires agrees { IsDomain self.old }
-        requires held { HoldsSample (state_of (kept_of self.old)) sample.subscriber sample.number }
+        requires live { HoldsSample (state_of (kept_of self.old)) sample.subscriber sample.number }
         ensures stays { IsDomain self.new }
         ensures released { (publisher : ℕ) → IsTrue (is_borrowed sample.number ((state_of (kept_of self.old)).mailboxes publisher sample.subscriber))
             → Reaches self.old self.new (released (state_of (kept_of self.old)) publisher sample.subscriber sample.number) }

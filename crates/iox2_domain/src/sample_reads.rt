@@ -6,8 +6,8 @@ use crate::state::DomainState;
 use iox2_store::{Header, UniqueSubscriberId};
 
 impl<T: Drop, U: Default + Drop> DomainState<T, U> {
-    ghost use Rattle.iox2_store.specs.Records.{Entry};
-    ghost use Rattle.iox2_store.specs.SingleCalls.{HoldsSample};
+    ghost use Rattle.iox2_store.specs.machine.Records.{Entry};
+    ghost use Rattle.iox2_store.specs.machine.SingleCalls.{HoldsSample};
     ghost use Rattle.iox2_domain.specs.Kept.{state_of, entries_of};
     ghost use Rattle.iox2_domain.specs.Fields.{kept_of};
     ghost use Rattle.iox2_domain.specs.Invariant.{IsDomain};
@@ -16,7 +16,7 @@ impl<T: Drop, U: Default + Drop> DomainState<T, U> {
     pub fn sample_payload(&self, sample: &SampleAt) -> &T
         requires agrees { IsDomain self.now }
         requires single { (self.now.config).units_per_element ≡ 1 }
-        requires held { HoldsSample (state_of (kept_of self.now)) sample.now.subscriber sample.now.number }
+        requires live { HoldsSample (state_of (kept_of self.now)) sample.now.subscriber sample.now.number }
         ensures { (entry : Entry T U) × (entries_of (kept_of self.now) sample.now.number ≡ Some entry) × (entry.values ≡ result.now ∷ []) }
     {
         let Some(at) = self.find_sample(sample) else {
@@ -31,7 +31,7 @@ impl<T: Drop, U: Default + Drop> DomainState<T, U> {
     /// The header of a borrowed message.
     pub fn sample_header(&self, sample: &SampleAt) -> &Header
         requires agrees { IsDomain self.now }
-        requires held { HoldsSample (state_of (kept_of self.now)) sample.now.subscriber sample.now.number }
+        requires live { HoldsSample (state_of (kept_of self.now)) sample.now.subscriber sample.now.number }
         ensures { (entry : Entry T U) × (entries_of (kept_of self.now) sample.now.number ≡ Some entry) × (entry.header ≡ result.now) }
     {
         let Some(at) = self.find_sample(sample) else {

@@ -1,8 +1,8 @@
 //! The memory of a publisher: a book of its slots, and their contents at the book's key.
 ghost use Rattle.std.specs.Prelude.{◌≡◌, None, Some, IfOk, OnOk, OnErr, IsTrue, SomeIff};
 ghost use Rattle.slab.specs.Slab.{Updates, get};
-ghost use Rattle.iox2_store.specs.Limits.{worst_case as slots_at_most, fits};
-ghost use Rattle.iox2_store.specs.Ports.{first_segment_fits};
+ghost use Rattle.iox2_store.specs.machine.Limits.{worst_case as slots_at_most, fits};
+ghost use Rattle.iox2_store.specs.machine.Ports.{first_segment_fits};
 ghost use Rattle.iox2_domain.specs.NewPublisher.{IsNewSegment, plain_publisher};
 ghost use Rattle.iox2_domain.specs.Placed.{placed};
 

@@ -11,14 +11,14 @@ impl<T: Drop, U: Default + Drop> DomainState<T, U> {
     ghost use Rattle.iox2_domain.specs.LoanCalls.{HoldsWritten};
     ghost use Rattle.iox2_domain.specs.SentLoans.{SendsLoan};
 
-    /// Sends a publisher's written loan to its receivers, and answers how many took it. The
+    /// Sends a publisher's written loan to its receivers, and returns how many took it. The
     /// publisher's connections are updated and its slots reclaimed first. Where memory for a
     /// connection is refused, that is a warning. The loan is out no more afterwards.
     ///
     /// iceoryx2's `PublisherSharedState::send_sample` (`src/port/publisher.rs`).
     pub fn send_loan(&mut self, loan: LoanAt) -> usize
         requires agrees { IsDomain self.old }
-        requires held { HoldsWritten (state_of (kept_of self.old)) loan.publisher loan.number }
+        requires live { HoldsWritten (state_of (kept_of self.old)) loan.publisher loan.number }
         ensures { SendsLoan self.old self.new loan.number result }
     {
         let Some(place) = self.find_publisher(loan.publisher, 0) else {

@@ -1,10 +1,10 @@
 //! A subscriber enters a domain.
 ghost use Rattle.std.specs.Prelude.{◌≡◌, cond, nat_lt, slice_index_or, IfOk, MatchResult};
 ghost use Rattle.circular_buffer.specs.Buffer.{buffer};
-ghost use Rattle.iox2_store.specs.Limits.{warning_limit};
-ghost use Rattle.iox2_store.specs.Environments.{fixed_handlers};
-ghost use Rattle.iox2_store.specs.Ports.{with_new_subscriber, CreateSubscriber};
-ghost use Rattle.iox2_store.specs.State.{State, warned};
+ghost use Rattle.iox2_store.specs.machine.Limits.{warning_limit};
+ghost use Rattle.iox2_store.specs.machine.Environments.{fixed_handlers};
+ghost use Rattle.iox2_store.specs.machine.Ports.{with_new_subscriber, CreateSubscriber};
+ghost use Rattle.iox2_store.specs.machine.State.{State, warned};
 ghost use Rattle.iox2_store.specs.declared.errors.SubscriberCreateError.TheVariants.{FailedToDeployThreadsafetyPolicy};
 ghost use Rattle.iox2_store.specs.declared.warning.Warning.TheVariants.{ExpiredBufferRaised};
 

@@ -1,8 +1,8 @@
 //! The warnings of a domain.
 ghost use Rattle.std.specs.Prelude.{◌≡◌};
 ghost use Rattle.circular_buffer.specs.Buffer.{buffer};
-ghost use Rattle.iox2_store.specs.Limits.{warning_limit};
-ghost use Rattle.iox2_store.specs.State.{warned};
+ghost use Rattle.iox2_store.specs.machine.Limits.{warning_limit};
+ghost use Rattle.iox2_store.specs.machine.State.{warned};
 
 use circular_buffer::HeapCircularBuffer;
 use iox2_store::Warning;

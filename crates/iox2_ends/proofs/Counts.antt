@@ -7,7 +7,7 @@ use Rattle.std.proofs.lemmas.List.{length-set, get_or-set_same, get_or-set_other
 use Rattle.iox2_store.specs.Link.{Link, IsPut}
 use Rattle.iox2_store.specs.declared.connection.PutOutcome.{PutOutcome}
 use Rattle.iox2_store.specs.declared.connection.PutOutcome.TheVariants.{Taken, Overwrote, Full}
-use Rattle.iox2_ends.specs.Counters.{times, stands_in, stands, IsCovered, Follows, held_more, held_less, recounted, CanLeave}
+use Rattle.iox2_ends.specs.Counters.{times, stands_in, stands, IsCovered, CountersFollow, one_holder_more, one_holder_less, recounted, CanLeave}
 use Rattle.iox2_ends.proofs.MailboxChanges.{within_if_some}
 
 -- one where the two slots are the same
@@ -37,18 +37,18 @@ in_range hs n some =
       | inr past ↦ absurd (let none : get_or hs n 0 ≡ 0 = get_or_past hs n 0 past in omega arith)
     ]
 
-pub get_or-held_more : (hs : List ℕ) (slot n : ℕ) → slot < length hs → get_or (held_more slot hs) n 0 ≡ get_or hs n 0 + one_if n slot
-get_or-held_more hs slot n below =
+pub get_or-one_holder_more : (hs : List ℕ) (slot n : ℕ) → slot < length hs → get_or (one_holder_more slot hs) n 0 ≡ get_or hs n 0 + one_if n slot
+get_or-one_holder_more hs slot n below =
     elim (cases_eq n slot) [
       | inl same ↦ rw same (get_or-set_same hs slot _ 0 below ∙ ap (λ k. get_or hs slot 0 + k) (sym (one_if_same slot)))
       | inr differs ↦ get_or-set_other hs slot n _ 0 differs ∙ omega (arith, one_if_other n slot differs)
     ]
 
-pub get_or-held_less : (hs : List ℕ) (slot n : ℕ) → 0 < get_or hs slot 0 → get_or (held_less slot hs) n 0 + one_if n slot ≡ get_or hs n 0
-get_or-held_less hs slot n some =
+pub get_or-one_holder_less : (hs : List ℕ) (slot n : ℕ) → 0 < get_or hs slot 0 → get_or (one_holder_less slot hs) n 0 + one_if n slot ≡ get_or hs n 0
+get_or-one_holder_less hs slot n some =
     elim (cases_eq n slot) [
-      | inl same ↦ rw same (let e : get_or (held_less slot hs) slot 0 ≡ get_or hs slot 0 - 1 = get_or-set_same hs slot _ 0 (in_range hs slot some) in omega (arith, one_if_same slot))
-      | inr differs ↦ let e : get_or (held_less slot hs) n 0 ≡ get_or hs n 0 = get_or-set_other hs slot n _ 0 differs in omega (arith, one_if_other n slot differs)
+      | inl same ↦ rw same (let e : get_or (one_holder_less slot hs) slot 0 ≡ get_or hs slot 0 - 1 = get_or-set_same hs slot _ 0 (in_range hs slot some) in omega (arith, one_if_same slot))
+      | inr differs ↦ let e : get_or (one_holder_less slot hs) n 0 ≡ get_or hs n 0 = get_or-set_other hs slot n _ 0 differs in omega (arith, one_if_other n slot differs)
     ]
 
 -- a publisher's own connection counts with all that stands in it
@@ -62,18 +62,18 @@ counter_if_stands p hs ls key n c covered at mine some =
     omega (arith, covered.at n, stands-own p n c mine)
 
 -- any change of one connection, with counters that follow it
-pub Follows-changed : (p : ℕ) (hs hs' : List ℕ) (ls : List (Option Link)) (key : ℕ) (c d : Link) → get_or ls key None ≡ Some c → c.home.publisher ≡ p → d.home.publisher ≡ p
-    → ((n : ℕ) → get_or hs' n 0 + stands_in n c ≡ get_or hs n 0 + stands_in n d) → Follows p hs ls hs' (set ls key (Some d))
-Follows-changed p hs hs' ls key c d at mine mine' follows = record {
+pub CountersFollow-changed : (p : ℕ) (hs hs' : List ℕ) (ls : List (Option Link)) (key : ℕ) (c d : Link) → get_or ls key None ≡ Some c → c.home.publisher ≡ p → d.home.publisher ≡ p
+    → ((n : ℕ) → get_or hs' n 0 + stands_in n c ≡ get_or hs n 0 + stands_in n d) → CountersFollow p hs ls hs' (set ls key (Some d))
+CountersFollow-changed p hs hs' ls key c d at mine mine' follows = record {
   at = λ n.
       let changed : sum_by (stands p n) (set ls key (Some d)) + stands p n (Some c) ≡ sum_by (stands p n) ls + stands p n (Some d) = rw at at (sum_by-set (stands p n) ls key (Some d) None (within_if_some ls key c at)) in
       omega (arith, changed, follows n, stands-own p n c mine, stands-own p n d mine');
 }
 
 -- a change of one connection in which each slot stands as often as before
-pub Follows-kept : (p : ℕ) (hs : List ℕ) (ls : List (Option Link)) (key : ℕ) (c d : Link) → get_or ls key None ≡ Some c → d.home ≡ c.home
-    → ((n : ℕ) → stands_in n d ≡ stands_in n c) → Follows p hs ls hs (set ls key (Some d))
-Follows-kept p hs ls key c d at home same = record {
+pub CountersFollow-kept : (p : ℕ) (hs : List ℕ) (ls : List (Option Link)) (key : ℕ) (c d : Link) → get_or ls key None ≡ Some c → d.home ≡ c.home
+    → ((n : ℕ) → stands_in n d ≡ stands_in n c) → CountersFollow p hs ls hs (set ls key (Some d))
+CountersFollow-kept p hs ls key c d at home same = record {
   at = λ n.
       let changed : sum_by (stands p n) (set ls key (Some d)) + stands p n (Some c) ≡ sum_by (stands p n) ls + stands p n (Some d) = rw at at (sum_by-set (stands p n) ls key (Some d) None (within_if_some ls key c at)) in
       let alike : stands p n (Some d) ≡ stands p n (Some c) = ap (λ h. cond (eqb h.publisher p) (stands_in n d) 0) home ∙ ap (λ (k : ℕ). cond (eqb c.home.publisher p) k 0) (same n) in
@@ -89,49 +89,49 @@ put-can_leave p hs ls key slot overflow c d Full covered at mine q = tt
 
 -- the counters after a put follow it
 put-counts : (hs : List ℕ) (slot : ℕ) (overflow : Bool) (c d : Link) (o : PutOutcome) → slot < length hs → CanLeave o hs → IsPut c slot overflow o d → (n : ℕ) → get_or (recounted o slot hs) n 0 + stands_in n c ≡ get_or hs n 0 + stands_in n d
-put-counts hs slot overflow c d Taken below can q n = rw q.1 (omega (arith, times_push n c.waiting slot, get_or-held_more hs slot n below))
+put-counts hs slot overflow c d Taken below can q n = rw q.1 (omega (arith, times_push n c.waiting slot, get_or-one_holder_more hs slot n below))
 put-counts hs slot overflow c d (Overwrote oldest) below can q n =
     rw (q.2.2, q.2.1) (omega (
       arith,
       times_push n q.2.0 slot,
       times-cons n oldest q.2.0,
-      get_or-held_more hs slot n below,
-      get_or-held_less (held_more slot hs) oldest n (omega (arith, can, get_or-held_more hs slot oldest below)),
+      get_or-one_holder_more hs slot n below,
+      get_or-one_holder_less (one_holder_more slot hs) oldest n (omega (arith, can, get_or-one_holder_more hs slot oldest below)),
     ))
 put-counts hs slot overflow c d Full below can q n = rw q.2 refl
 
 pub put-follows : (p : ℕ) (hs : List ℕ) (ls : List (Option Link)) (key slot : ℕ) (overflow : Bool) (c d : Link) (o : PutOutcome) → slot < length hs → IsCovered p hs ls → get_or ls key None ≡ Some c → c.home.publisher ≡ p → d.home ≡ c.home → IsPut c slot overflow o d
-    → Follows p hs ls (recounted o slot hs) (set ls key (Some d))
+    → CountersFollow p hs ls (recounted o slot hs) (set ls key (Some d))
 put-follows p hs ls key slot overflow c d o below covered at mine home q =
-    Follows-changed p hs (recounted o slot hs) ls key c d at mine (ap (λ h. h.publisher) home ∙ mine)
+    CountersFollow-changed p hs (recounted o slot hs) ls key c d at mine (ap (λ h. h.publisher) home ∙ mine)
     (put-counts hs slot overflow c d o below (put-can_leave p hs ls key slot overflow c d o covered at mine q) q)
 
 -- a put adds at most one holder to the slot
 pub recounted-grows : (o : PutOutcome) (slot : ℕ) (hs : List ℕ) → slot < length hs → CanLeave o hs → get_or (recounted o slot hs) slot 0 ≤ get_or hs slot 0 + 1
-recounted-grows Taken slot hs below can = omega (arith, get_or-held_more hs slot slot below, one_if_same slot)
+recounted-grows Taken slot hs below can = omega (arith, get_or-one_holder_more hs slot slot below, one_if_same slot)
 recounted-grows (Overwrote oldest) slot hs below can =
-    omega (arith, get_or-held_more hs slot slot below, one_if_same slot, get_or-held_less (held_more slot hs) oldest slot (omega (arith, can, get_or-held_more hs slot oldest below)))
+    omega (arith, get_or-one_holder_more hs slot slot below, one_if_same slot, get_or-one_holder_less (one_holder_more slot hs) oldest slot (omega (arith, can, get_or-one_holder_more hs slot oldest below)))
 recounted-grows Full slot hs below can = omega arith
 
 pub length-recounted : (o : PutOutcome) (slot : ℕ) (hs : List ℕ) → length (recounted o slot hs) ≡ length hs
 length-recounted Taken slot hs = length-set hs slot _
-length-recounted (Overwrote oldest) slot hs = length-set (held_more slot hs) oldest _ ∙ length-set hs slot _
+length-recounted (Overwrote oldest) slot hs = length-set (one_holder_more slot hs) oldest _ ∙ length-set hs slot _
 length-recounted Full slot hs = refl
 
-pub Follows-same : (p : ℕ) (hs : List ℕ) (ls : List (Option Link)) → Follows p hs ls hs ls
-Follows-same p hs ls = record { at = λ n. refl }
+pub CountersFollow-same : (p : ℕ) (hs : List ℕ) (ls : List (Option Link)) → CountersFollow p hs ls hs ls
+CountersFollow-same p hs ls = record { at = λ n. refl }
 
-pub Follows-trans : (p : ℕ) (hs hs' hs'' : List ℕ) (ls ls' ls'' : List (Option Link)) → Follows p hs ls hs' ls' → Follows p hs' ls' hs'' ls'' → Follows p hs ls hs'' ls''
-Follows-trans p hs hs' hs'' ls ls' ls'' a b = record { at = λ n. omega (arith, a.at n, b.at n) }
+pub CountersFollow-trans : (p : ℕ) (hs hs' hs'' : List ℕ) (ls ls' ls'' : List (Option Link)) → CountersFollow p hs ls hs' ls' → CountersFollow p hs' ls' hs'' ls'' → CountersFollow p hs ls hs'' ls''
+CountersFollow-trans p hs hs' hs'' ls ls' ls'' a b = record { at = λ n. omega (arith, a.at n, b.at n) }
 
 -- counters that follow still cover
-pub IsCovered-follows : (p : ℕ) (hs hs' : List ℕ) (ls ls' : List (Option Link)) → IsCovered p hs ls → Follows p hs ls hs' ls' → IsCovered p hs' ls'
+pub IsCovered-follows : (p : ℕ) (hs hs' : List ℕ) (ls ls' : List (Option Link)) → IsCovered p hs ls → CountersFollow p hs ls hs' ls' → IsCovered p hs' ls'
 IsCovered-follows p hs hs' ls ls' covered f = record { at = λ n. omega (arith, covered.at n, f.at n) }
 
 -- a put takes no holder from the slot
 pub recounted-keeps : (o : PutOutcome) (slot : ℕ) (hs : List ℕ) → slot < length hs → CanLeave o hs → get_or hs slot 0 ≤ get_or (recounted o slot hs) slot 0
-recounted-keeps Taken slot hs below can = omega (arith, get_or-held_more hs slot slot below)
+recounted-keeps Taken slot hs below can = omega (arith, get_or-one_holder_more hs slot slot below)
 recounted-keeps (Overwrote oldest) slot hs below can =
-    let less = get_or-held_less (held_more slot hs) oldest slot (omega (arith, can, get_or-held_more hs slot oldest below)) in
-    omega (arith, get_or-held_more hs slot slot below, one_if_same slot, less, one_if-le slot oldest)
+    let less = get_or-one_holder_less (one_holder_more slot hs) oldest slot (omega (arith, can, get_or-one_holder_more hs slot oldest below)) in
+    omega (arith, get_or-one_holder_more hs slot slot below, one_if_same slot, less, one_if-le slot oldest)
 recounted-keeps Full slot hs below can = omega arith

@@ -7,9 +7,9 @@ use Rattle.std.specs.Option.{option_map, option_and_then}
 use Rattle.std.specs.Prelude.{IsSomeAnd}
 use Rattle.slab.specs.Slab.{Slab, get, Updates, with_value, ContainsKey}
 use Rattle.iox2_store.specs.Link.{Link, IsPut, IsBounded, load}
-use Rattle.iox2_store.specs.Mailbox.{Mailbox}
-use Rattle.iox2_store.specs.Environments.{fixed_handlers}
-use Rattle.iox2_store.specs.Delivery.{Skipped, DeliveryEnd, Put, is_blocking, is_failed, accepted_count, no_time}
+use Rattle.iox2_store.specs.machine.Mailbox.{Mailbox}
+use Rattle.iox2_store.specs.machine.Environments.{fixed_handlers}
+use Rattle.iox2_store.specs.machine.Delivery.{Skipped, DeliveryEnd, Put, is_blocking, is_failed, accepted_count, no_time}
 use Rattle.iox2_store.specs.declared.service_config.ServiceConfig.{ServiceConfig}
 use Rattle.iox2_store.specs.declared.backpressure.BackpressureStrategy.{BackpressureStrategy}
 use Rattle.iox2_store.specs.declared.connection.Home.{Home}
@@ -20,29 +20,29 @@ use Rattle.iox2_ends.specs.declared.sender.Delivery.{Delivery}
 use Rattle.iox2_ends.specs.declared.sender.Reception.{Reception}
 use Rattle.iox2_ends.specs.declared.sender.DeliveryOutcome.{DeliveryOutcome}
 use Rattle.iox2_ends.specs.LookUp.{look_up, IsOnly}
-use Rattle.iox2_ends.specs.Mailboxes.{mailbox_of, mailboxes_of, subscriber_at, sender_ends}
+use Rattle.iox2_ends.specs.Mailboxes.{mailbox_of, mailboxes_of, subscriber_of_key, sender_ends}
 use Rattle.iox2_ends.specs.Homes.{SameHomes, KeepsOthers, IsSenders, IsSenderLinked, fixed_of}
 use Rattle.iox2_ends.specs.Receivers.{has_id, buffer_if_open, buffers_of, is_open_one, is_open_at, KnowsReceivers, HasReclaimed, IsReadyToDeliver}
 use Rattle.iox2_ends.specs.Deliveries.{result_of, result_of_put, end_of, PutsMessage, DeliversMessage}
 use Rattle.iox2_ends.proofs.LookUps.{look_up-found, look_up-there}
-use Rattle.iox2_ends.proofs.MailboxChanges.{Updates-with_value, SameHomes-updated, KeepsOthers-updated, was, IsApart-same, both-true, mailbox-there, row-changed, put_at-same}
+use Rattle.iox2_ends.proofs.MailboxChanges.{Updates-with_value, SameHomes-updated, KeepsOthers-updated, was, IsApart-same, both-true, mailbox-there, row-changed, put_at-own}
 use mathlib.Core.Path.{fun_ext}
 
 -- ---- the connection at a place
 
 -- a key at a publisher's place leads to its connection
-pub there : (p : ℕ) (slab : Slab Link) (places : List (Option ℕ)) (i key : ℕ) → IsSenderLinked p slab places → get_or places i None ≡ Some key → (c : Link) × (get slab key ≡ Some c) × IsSenders p i c
-there p slab places i key l at = by (get slab key) refl (l.at i key at) where
+pub there : (p : ℕ) (slab : Slab Link) (keys : List (Option ℕ)) (i key : ℕ) → IsSenderLinked p slab keys → get_or keys i None ≡ Some key → (c : Link) × (get slab key ≡ Some c) × IsSenders p i c
+there p slab keys i key l at = by (get slab key) refl (l.at i key at) where
   by : (o : Option Link) → get slab key ≡ o → IsSomeAnd o (IsSenders p i) → (c : Link) × (get slab key ≡ Some c) × IsSenders p i c
   by None e h = absurd h
   by (Some c) e h = (c, e, h)
 
-pub contains-at : (p : ℕ) (slab : Slab Link) (places : List (Option ℕ)) (i key : ℕ) → IsSenderLinked p slab places → get_or places i None ≡ Some key → ContainsKey slab key
-contains-at p slab places i key l at = let c = there p slab places i key l at in rw c.1 refl
+pub contains-at : (p : ℕ) (slab : Slab Link) (keys : List (Option ℕ)) (i key : ℕ) → IsSenderLinked p slab keys → get_or keys i None ≡ Some key → ContainsKey slab key
+contains-at p slab keys i key l at = let c = there p slab keys i key l at in rw c.1 refl
 
 -- the connection found at a place is its publisher's
-pub senders-at : (p : ℕ) (slab : Slab Link) (places : List (Option ℕ)) (i key : ℕ) (c : Link) → IsSenderLinked p slab places → get_or places i None ≡ Some key → get slab key ≡ Some c → IsSenders p i c
-senders-at p slab places i key c l at is = let h = there p slab places i key l at in let e : Some h.0 ≡ Some c = sym h.1 ∙ is in subst (IsSenders p i) (let f : h.0 ≡ c = cc in f) h.2
+pub senders-at : (p : ℕ) (slab : Slab Link) (keys : List (Option ℕ)) (i key : ℕ) (c : Link) → IsSenderLinked p slab keys → get_or keys i None ≡ Some key → get slab key ≡ Some c → IsSenders p i c
+senders-at p slab keys i key c l at is = let h = there p slab keys i key l at in let e : Some h.0 ≡ Some c = sym h.1 ∙ is in subst (IsSenders p i) (let f : h.0 ≡ c = cc in f) h.2
 
 -- two looks at one key find one connection
 pub same_link : (slab : Slab Link) (key : ℕ) (b c : Link) → get slab key ≡ Some b → get slab key ≡ Some c → b ≡ c
@@ -108,9 +108,9 @@ put-returned c slot overflow Taken d h = ap (λ (e : Link). e.returned) h.1
 put-returned c slot overflow (Overwrote _) d h = ap (λ (e : Link). e.returned) h.2.2
 put-returned c slot overflow Full d h = ap (λ (e : Link). e.returned) h.2
 
-module _ {p : ℕ} {slab : Slab Link} {places : List (Option ℕ)} {receivers : List (Option ReceiverDetails)} (i key : ℕ) (ready : IsReadyToDeliver p slab places receivers) (at : get_or places i None ≡ Some key) where
+module _ {p : ℕ} {slab : Slab Link} {keys : List (Option ℕ)} {receivers : List (Option ReceiverDetails)} (i key : ℕ) (ready : IsReadyToDeliver p slab keys receivers) (at : get_or keys i None ≡ Some key) where
   pub home-of : (c : Link) → get slab key ≡ Some c → IsSenders p i c
-  home-of c was_c = senders-at p slab places i key c ready.linked at was_c
+  home-of c was_c = senders-at p slab keys i key c ready.linked at was_c
 
   -- a connection from which all was reclaimed has room for one slot more
   pub put-room : (b c : Link) → get slab key ≡ Some b → IsBounded b → get slab key ≡ Some c → load c ≤ c.buffer + c.limit
@@ -123,7 +123,7 @@ module _ {p : ℕ} {slab : Slab Link} {places : List (Option ℕ)} {receivers : 
   put-others slot overflow o c d was_c put =
       KeepsOthers-updated p slab (with_value slab key d) key c (Some d) was_c (home-of c was_c).publisher (Updates-with_value slab key c d was_c)
 
-  pub put-reclaimed : (slot : ℕ) (overflow : Bool) (o : PutOutcome) (c d : Link) → get slab key ≡ Some c → IsPut c slot overflow o d → HasReclaimed (with_value slab key d) places
+  pub put-reclaimed : (slot : ℕ) (overflow : Bool) (o : PutOutcome) (c d : Link) → get slab key ≡ Some c → IsPut c slot overflow o d → HasReclaimed (with_value slab key d) keys
   put-reclaimed slot overflow o c d was_c put = record {
     at = λ k other e at_k at_e. elim (cases_eq other key) [
       | inl same ↦
@@ -141,7 +141,7 @@ module _ {p : ℕ} {slab : Slab Link} {places : List (Option ℕ)} {receivers : 
   -- a put is the machine's, at the end to which the place leads
   pub put-puts : (config : ServiceConfig) (v : Delivery) (o : PutOutcome) (b c d : Link) (result : Reception) → v.publisher ≡ p → get slab key ≡ Some b → is_open_at receivers i b.home.subscriber ≡ true → get slab key ≡ Some c
       → IsPut c v.slot config.enable_safe_overflow o d → result_of result ≡ result_of_put v.strategy o → (number : ℕ → ℕ → ℕ)
-      → PutsMessage config v receivers (number p v.slot) (subscriber_at slab (get_or places i None)) (mailboxes_of number slab p) (result_of result) (mailboxes_of number (with_value slab key d) p)
+      → PutsMessage config v receivers (number p v.slot) (subscriber_of_key slab (get_or keys i None)) (mailboxes_of number slab p) (result_of result) (mailboxes_of number (with_value slab key d) p)
   put-puts config v o b c d result by_p was_b receiving was_c put is number =
       rw (at, was_c, is) (
         mailbox_of (number p) d,
@@ -159,15 +159,15 @@ module _ {p : ℕ} {slab : Slab Link} {places : List (Option ℕ)} {receivers : 
 
   -- a closed receiver is skipped
   pub put-passes : (config : ServiceConfig) (v : Delivery) (c : Link) → get slab key ≡ Some c → is_open_at receivers i c.home.subscriber ≡ false → (number : ℕ → ℕ → ℕ)
-      → PutsMessage config v receivers (number p v.slot) (subscriber_at slab (get_or places i None)) (mailboxes_of number slab p) Skipped (mailboxes_of number slab p)
+      → PutsMessage config v receivers (number p v.slot) (subscriber_of_key slab (get_or keys i None)) (mailboxes_of number slab p) Skipped (mailboxes_of number slab p)
   put-passes config v c was_c shut number =
-      rw (at, was_c) (mailboxes_of number slab p c.home.subscriber, rw (buffers-closed slab receivers key c ready.knows was_c (rw (home-of c was_c).place shut)) (refl, refl), put_at-same (mailboxes_of number slab p) c.home.subscriber)
+      rw (at, was_c) (mailboxes_of number slab p c.home.subscriber, rw (buffers-closed slab receivers key c ready.knows was_c (rw (home-of c was_c).place shut)) (refl, refl), put_at-own (mailboxes_of number slab p) c.home.subscriber)
 
 -- ---- the loop
 
--- places stay linked
-pub IsSenderLinked-same : (p : ℕ) (old new : Slab Link) (places : List (Option ℕ)) → IsSenderLinked p old places → SameHomes old new → IsSenderLinked p new places
-IsSenderLinked-same p old new places linked same = record { at = λ i key e. by i key (there p old places i key linked e) (get new key) refl } where
+-- keys stay linked
+pub IsSenderLinked-same : (p : ℕ) (old new : Slab Link) (keys : List (Option ℕ)) → IsSenderLinked p old keys → SameHomes old new → IsSenderLinked p new keys
+IsSenderLinked-same p old new keys linked same = record { at = λ i key e. by i key (there p old keys i key linked e) (get new key) refl } where
   by : (i key : ℕ) → (c : Link) × (get old key ≡ Some c) × IsSenders p i c → (o : Option Link) → get new key ≡ o → IsSomeAnd o (IsSenders p i)
   by i key c None e = absurd (let h : option_map fixed_of (get new key) ≡ option_map fixed_of (get old key) = same.same key in let h' : option_map fixed_of None ≡ option_map fixed_of (Some c.0) = rw (e, c.1) at h in cc)
   by i key c (Some d) e =
@@ -177,9 +177,9 @@ IsSenderLinked-same p old new places linked same = record { at = λ i key e. by 
       record { publisher = sym (ap (λ (h : Home). h.publisher) home) ∙ c.2.publisher; place = sym (ap (λ (h : Home). h.subscriber_place) home) ∙ c.2.place }
 
 -- what a delivery needs is there after each of its puts
-pub IsReadyToDeliver-same : (p : ℕ) (old new : Slab Link) (places : List (Option ℕ)) (receivers : List (Option ReceiverDetails)) → IsReadyToDeliver p old places receivers → SameHomes old new → HasReclaimed new places → IsReadyToDeliver p new places receivers
-IsReadyToDeliver-same p old new places receivers ready same reclaimed = record {
-  linked = IsSenderLinked-same p old new places ready.linked same;
+pub IsReadyToDeliver-same : (p : ℕ) (old new : Slab Link) (keys : List (Option ℕ)) (receivers : List (Option ReceiverDetails)) → IsReadyToDeliver p old keys receivers → SameHomes old new → HasReclaimed new keys → IsReadyToDeliver p new keys receivers
+IsReadyToDeliver-same p old new keys receivers ready same reclaimed = record {
+  linked = IsSenderLinked-same p old new keys ready.linked same;
   apart = IsApart-same old new ready.apart same;
   knows = record {
     at = λ key i c y at_c at_y e.
@@ -192,17 +192,17 @@ IsReadyToDeliver-same p old new places receivers ready same reclaimed = record {
 }
 
 -- a key leads to the same subscriber
-pub subscriber_at-same : (old new : Slab Link) → SameHomes old new → (x : Option ℕ) → subscriber_at new x ≡ subscriber_at old x
-subscriber_at-same old new same None = refl
-subscriber_at-same old new same (Some key) = by (get old key) (get new key) refl refl (same.same key) where
-  by : (o n : Option Link) → get old key ≡ o → get new key ≡ n → option_map fixed_of (get new key) ≡ option_map fixed_of (get old key) → subscriber_at new (Some key) ≡ subscriber_at old (Some key)
+pub subscriber_of_key-same : (old new : Slab Link) → SameHomes old new → (x : Option ℕ) → subscriber_of_key new x ≡ subscriber_of_key old x
+subscriber_of_key-same old new same None = refl
+subscriber_of_key-same old new same (Some key) = by (get old key) (get new key) refl refl (same.same key) where
+  by : (o n : Option Link) → get old key ≡ o → get new key ≡ n → option_map fixed_of (get new key) ≡ option_map fixed_of (get old key) → subscriber_of_key new (Some key) ≡ subscriber_of_key old (Some key)
   by None None e f h = rw (e, f) refl
   by None (Some d) e f h = absurd (let h' : option_map fixed_of (Some d) ≡ option_map fixed_of None = rw (e, f) at h in cc)
   by (Some c) None e f h = absurd (let h' : option_map fixed_of None ≡ option_map fixed_of (Some c) = rw (e, f) at h in cc)
   by (Some c) (Some d) e f h = rw (e, f) (let h' : Some (fixed_of d) ≡ Some (fixed_of c) = rw (e, f) at h in let g : fixed_of d ≡ fixed_of c = cc in ap (λ (t : Home × ℕ × ℕ). Some t.0.subscriber) g)
 
-pub ends-at : (old now : Slab Link) (places : List (Option ℕ)) (i : ℕ) → SameHomes old now → subscriber_at now (get_or places i None) ≡ get_or (sender_ends old places) i None
-ends-at old now places i same = subscriber_at-same old now same (get_or places i None) ∙ sym (get_or-map (subscriber_at old) places i None)
+pub ends-at : (old now : Slab Link) (keys : List (Option ℕ)) (i : ℕ) → SameHomes old now → subscriber_of_key now (get_or keys i None) ≡ get_or (sender_ends old keys) i None
+ends-at old now keys i same = subscriber_of_key-same old now same (get_or keys i None) ∙ sym (get_or-map (subscriber_of_key old) keys i None)
 
 -- without a handler nothing fails
 never_failed : (result : Reception) → is_failed (result_of result) ≡ false

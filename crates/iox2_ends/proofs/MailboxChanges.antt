@@ -5,7 +5,7 @@ use Rattle.std.proofs.lemmas.List.{get_or-set_same, get_or-set_other, get_or_pas
 use Rattle.std.specs.Option.{option_map}
 use Rattle.slab.specs.Slab.{Slab, get, Updates, with_value}
 use Rattle.iox2_store.specs.Link.{Link}
-use Rattle.iox2_store.specs.Numbers.{put_at}
+use Rattle.iox2_store.specs.machine.Numbers.{put_at}
 use Rattle.iox2_store.specs.declared.connection.Home.{Home}
 use Rattle.iox2_ends.specs.LookUp.{look_up}
 use Rattle.iox2_ends.specs.Mailboxes.{is_between, mailbox_of, mailbox_if_any, mailboxes_of, with_box}
@@ -126,8 +126,8 @@ mailboxes-changed number slab new key c d apart at fixed u = fun_ext (λ r. fun_
   ]
 
 -- a mailbox is written over by itself
-pub put_at-same : {X : Type 0} (f : ℕ → X) (k : ℕ) → f ≡ put_at f k (f k)
-put_at-same f k = fun_ext (λ i. by i (eqb i k) refl) where
+pub put_at-own : {X : Type 0} (f : ℕ → X) (k : ℕ) → f ≡ put_at f k (f k)
+put_at-own f k = fun_ext (λ i. by i (eqb i k) refl) where
   by : (i : ℕ) (b : Bool) → eqb i k ≡ b → f i ≡ cond b (f k) (f i)
   by i true e = ap f (eqb-true i k e)
   by i false e = refl

@@ -6,16 +6,16 @@ use Rattle.std.specs.Prelude.{IsSomeAnd}
 use Rattle.std.specs.Option.{option_map}
 use Rattle.slab.specs.Slab.{Slab, get, Updates, with_value}
 use Rattle.iox2_store.specs.Link.{Link, IsReclaimed}
-use Rattle.iox2_store.specs.Mailbox.{Mailbox}
-use Rattle.iox2_store.specs.Numbers.{put_at}
+use Rattle.iox2_store.specs.machine.Mailbox.{Mailbox}
+use Rattle.iox2_store.specs.machine.Numbers.{put_at}
 use Rattle.iox2_store.specs.declared.connection.Home.{Home}
 use Rattle.iox2_ends.specs.Mailboxes.{mailbox_of, mailboxes_of, with_box}
 use Rattle.iox2_ends.specs.Homes.{IsApart, SameHomes, IsSenderLinked, fixed_of}
-use Rattle.iox2_ends.specs.Counters.{stands_in, IsCovered, held_less}
+use Rattle.iox2_ends.specs.Counters.{stands_in, IsCovered, one_holder_less}
 use Rattle.iox2_ends.specs.Recounts.{returned_count}
 use Rattle.iox2_ends.specs.Reclaims.{Reclaims}
-use Rattle.iox2_ends.proofs.MailboxChanges.{Updates-with_value, SameHomes-updated, KeepsOthers-updated, IsApart-same, mailbox-there, mailboxes-changed, put_at-same}
-use Rattle.iox2_ends.proofs.Counts.{one_if_same, times-cons, counter_if_stands, get_or-held_less, Follows-changed, IsCovered-follows}
+use Rattle.iox2_ends.proofs.MailboxChanges.{Updates-with_value, SameHomes-updated, KeepsOthers-updated, IsApart-same, mailbox-there, mailboxes-changed, put_at-own}
+use Rattle.iox2_ends.proofs.Counts.{one_if_same, times-cons, counter_if_stands, get_or-one_holder_less, CountersFollow-changed, IsCovered-follows}
 use Rattle.iox2_ends.proofs.Recounts.{returned-updated, Recounts-same, Recounts-trans}
 use Rattle.iox2_ends.proofs.DeliverySteps.{there, IsSenderLinked-same}
 
@@ -25,7 +25,7 @@ own-at p slab key c own at = rw at at own
 
 -- a mailbox is written over by itself
 with_box-same : (boxes : ℕ → ℕ → Mailbox) (p q : ℕ) → with_box boxes p q (boxes p q) ≡ boxes
-with_box-same boxes p q = ap (put_at boxes p) (sym (put_at-same (boxes p) q)) ∙ sym (put_at-same boxes p)
+with_box-same boxes p q = ap (put_at boxes p) (sym (put_at-own (boxes p) q)) ∙ sym (put_at-own boxes p)
 
 -- a reclaim leaves what never changes
 reclaimed-fixed : (c d : Link) (o : Option ℕ) → IsReclaimed c o d → fixed_of d ≡ fixed_of c
@@ -47,8 +47,8 @@ reclaimed-count : (slab : Slab Link) (key : ℕ) (c : Link) → get slab key ≡
 reclaimed-count slab key c at = rw at refl
 
 -- where the slot was, it has a holder
-pub reclaimed-held : (p : ℕ) (hs : List ℕ) (slab : Slab Link) (key slot : ℕ) (c d : Link) → IsCovered p hs slab.slots → IsSomeAnd (get slab key) (λ (x : Link). x.home.publisher ≡ p) → get slab key ≡ Some c → IsReclaimed c (Some slot) d → 0 < get_or hs slot 0
-reclaimed-held p hs slab key slot c d covered own at r =
+pub reclaimed-in_use : (p : ℕ) (hs : List ℕ) (slab : Slab Link) (key slot : ℕ) (c d : Link) → IsCovered p hs slab.slots → IsSomeAnd (get slab key) (λ (x : Link). x.home.publisher ≡ p) → get slab key ≡ Some c → IsReclaimed c (Some slot) d → 0 < get_or hs slot 0
+reclaimed-in_use p hs slab key slot c d covered own at r =
     counter_if_stands p hs slab.slots key slot c covered at (own-at p slab key c own at) (rw r.1 (omega (arith, times-cons slot slot r.0, one_if_same slot)))
 
 -- one slot, or none, is reclaimed from a connection, with counters that follow
@@ -62,9 +62,9 @@ reclaims-from p hs hs' slab key c d o apart own at r follows less long = record 
   recounts = record {
     homes = SameHomes-updated slab (with_value slab key d) key c d at fixed u;
     others = KeepsOthers-updated p slab (with_value slab key d) key c (Some d) at mine u;
-    counters = Follows-changed p hs hs' slab.slots key c d at mine (ap (λ (t : Home × ℕ × ℕ). t.0.publisher) fixed ∙ mine) follows;
+    counters = CountersFollow-changed p hs hs' slab.slots key c d at mine (ap (λ (t : Home × ℕ × ℕ). t.0.publisher) fixed ∙ mine) follows;
     slots = long;
-    held = λ n some. omega (arith, less n, some);
+    in_use = λ n some. omega (arith, less n, some);
     fewer = returned-updated slab (with_value slab key d) key c d at (reclaimed-fewer c d o r) u;
   };
   shrinks = less;
@@ -85,13 +85,13 @@ reclaims-none p hs slab key c d apart own at r = reclaims-from p hs hs slab key 
 
 -- one slot was reclaimed
 pub reclaims-some : (p : ℕ) (hs : List ℕ) (slab : Slab Link) (key slot : ℕ) (c d : Link) → IsApart slab → IsCovered p hs slab.slots → IsSomeAnd (get slab key) (λ (x : Link). x.home.publisher ≡ p) → get slab key ≡ Some c → IsReclaimed c (Some slot) d
-    → Reclaims p hs slab (held_less slot hs) (with_value slab key d)
-reclaims-some p hs slab key slot c d apart covered own at r = reclaims-from p hs (held_less slot hs) slab key c d (Some slot) apart own at r
-    (λ n. rw (r.2, r.1) (omega (arith, times-cons n slot r.0, get_or-held_less hs slot n held)))
-    (λ n. omega (arith, get_or-held_less hs slot n held)) (length-set hs slot _)
+    → Reclaims p hs slab (one_holder_less slot hs) (with_value slab key d)
+reclaims-some p hs slab key slot c d apart covered own at r = reclaims-from p hs (one_holder_less slot hs) slab key c d (Some slot) apart own at r
+    (λ n. rw (r.2, r.1) (omega (arith, times-cons n slot r.0, get_or-one_holder_less hs slot n in_use)))
+    (λ n. omega (arith, get_or-one_holder_less hs slot n in_use)) (length-set hs slot _)
   where
-    held : 0 < get_or hs slot 0
-    held = reclaimed-held p hs slab key slot c d covered own at r
+    in_use : 0 < get_or hs slot 0
+    in_use = reclaimed-in_use p hs slab key slot c d covered own at r
 
 -- ---- many reclaims
 
@@ -118,8 +118,8 @@ own-same p old new key same own = by (get old key) (get new key) (same.same key)
   by (Some c) (Some d) e h = let g : fixed_of d ≡ fixed_of c = cc in ap (λ (t : Home × ℕ × ℕ). t.0.publisher) g ∙ h
 
 -- the key at a publisher's place leads to its own connection
-pub own-linked : (p : ℕ) (slab : Slab Link) (places : List (Option ℕ)) (i key : ℕ) → IsSenderLinked p slab places → get_or places i None ≡ Some key → IsSomeAnd (get slab key) (λ (c : Link). c.home.publisher ≡ p)
-own-linked p slab places i key l at = let c = there p slab places i key l at in rw c.1 c.2.publisher
+pub own-linked : (p : ℕ) (slab : Slab Link) (keys : List (Option ℕ)) (i key : ℕ) → IsSenderLinked p slab keys → get_or keys i None ≡ Some key → IsSomeAnd (get slab key) (λ (c : Link). c.home.publisher ≡ p)
+own-linked p slab keys i key l at = let c = there p slab keys i key l at in rw c.1 c.2.publisher
 
 -- a connection from which all was reclaimed has nothing given back
 pub returned-none : (slab : Slab Link) (key : ℕ) (c : Link) → returned_count slab key ≡ 0 → get slab key ≡ Some c → c.returned ≡ []
@@ -131,24 +131,24 @@ returned-none slab key c none at = by c.returned (sym (reclaimed-count slab key 
 -- ---- by rising place
 
 -- what reclaims keep, and all is reclaimed from the connections below a place
-pub record IsReclaimedBelow (p : ℕ) (places : List (Option ℕ)) (hs : List ℕ) (old : Slab Link) (place : ℕ) (hs' : List ℕ) (now : Slab Link) : Type 0 where
-  pub linked : IsSenderLinked p now places
+pub record IsReclaimedBelow (p : ℕ) (keys : List (Option ℕ)) (hs : List ℕ) (old : Slab Link) (place : ℕ) (hs' : List ℕ) (now : Slab Link) : Type 0 where
+  pub linked : IsSenderLinked p now keys
   pub apart : IsApart now
   pub covered : IsCovered p hs' now.slots
   pub reclaims : Reclaims p hs old hs' now
-  pub done : (i key : ℕ) → i < place → get_or places i None ≡ Some key → returned_count now key ≡ 0
+  pub done : (i key : ℕ) → i < place → get_or keys i None ≡ Some key → returned_count now key ≡ 0
 
 -- one place more, whose connection was emptied
-pub below-step : (p : ℕ) (places : List (Option ℕ)) (hs hs' hs'' : List ℕ) (old now new : Slab Link) (place key : ℕ) → IsReclaimedBelow p places hs old place hs' now → get_or places place None ≡ Some key
-    → Reclaims p hs' now hs'' new → returned_count new key ≡ 0 → IsReclaimedBelow p places hs old (place + 1) hs'' new
-below-step p places hs hs' hs'' old now new place key b at r none = record {
-  linked = IsSenderLinked-same p now new places b.linked r.recounts.homes;
+pub below-step : (p : ℕ) (keys : List (Option ℕ)) (hs hs' hs'' : List ℕ) (old now new : Slab Link) (place key : ℕ) → IsReclaimedBelow p keys hs old place hs' now → get_or keys place None ≡ Some key
+    → Reclaims p hs' now hs'' new → returned_count new key ≡ 0 → IsReclaimedBelow p keys hs old (place + 1) hs'' new
+below-step p keys hs hs' hs'' old now new place key b at r none = record {
+  linked = IsSenderLinked-same p now new keys b.linked r.recounts.homes;
   apart = IsApart-same now new b.apart r.recounts.homes;
   covered = IsCovered-follows p hs' hs'' now.slots new.slots b.covered r.recounts.counters;
   reclaims = Reclaims-trans p hs hs' hs'' old now new b.reclaims r;
   done = λ i k below at_i. elim (cases_eq i place) [
     | inl same ↦
-        let here : Some k ≡ Some key = sym at_i ∙ ap (λ (j : ℕ). get_or places j None) same ∙ at in
+        let here : Some k ≡ Some key = sym at_i ∙ ap (λ (j : ℕ). get_or keys j None) same ∙ at in
         let e : k ≡ key = cc in
         ap (returned_count new) e ∙ none
     | inr differs ↦ let before : returned_count now k ≡ 0 = b.done i k (omega (arith, differs)) at_i in omega (arith, r.recounts.fewer k)
@@ -156,14 +156,14 @@ below-step p places hs hs' hs'' old now new place key b at r none = record {
 }
 
 -- one place more, at which nothing stands
-pub below-skip : (p : ℕ) (places : List (Option ℕ)) (hs hs' : List ℕ) (old now : Slab Link) (place : ℕ) → IsReclaimedBelow p places hs old place hs' now → get_or places place None ≡ None → IsReclaimedBelow p places hs old (place + 1) hs' now
-below-skip p places hs hs' old now place b at = record {
+pub below-skip : (p : ℕ) (keys : List (Option ℕ)) (hs hs' : List ℕ) (old now : Slab Link) (place : ℕ) → IsReclaimedBelow p keys hs old place hs' now → get_or keys place None ≡ None → IsReclaimedBelow p keys hs old (place + 1) hs' now
+below-skip p keys hs hs' old now place b at = record {
   linked = b.linked;
   apart = b.apart;
   covered = b.covered;
   reclaims = b.reclaims;
   done = λ i k below at_i. elim (cases_eq i place) [
-    | inl same ↦ absurd (let here : None ≡ Some k = sym at ∙ sym (ap (λ (j : ℕ). get_or places j None) same) ∙ at_i in cc)
+    | inl same ↦ absurd (let here : None ≡ Some k = sym at ∙ sym (ap (λ (j : ℕ). get_or keys j None) same) ∙ at_i in cc)
     | inr differs ↦ b.done i k (omega (arith, differs)) at_i
   ];
 }

@@ -5,12 +5,12 @@ use Rattle.slab.specs.Slab.{Slab, get, Updates, with_value}
 use Rattle.iox2_store.specs.Link.{Link, IsPut}
 use Rattle.iox2_store.specs.declared.connection.PutOutcome.{PutOutcome}
 use Rattle.iox2_store.specs.declared.connection.PutOutcome.TheVariants.{Taken, Overwrote, Full}
-use Rattle.iox2_ends.specs.Counters.{IsCovered, CanLeave, held_more, recounted}
+use Rattle.iox2_ends.specs.Counters.{IsCovered, CanLeave, one_holder_more, recounted}
 use Rattle.iox2_ends.specs.Recounts.{Recounts, returned_count}
 use Rattle.iox2_ends.specs.Receivers.{IsReadyToDeliver}
 use Rattle.iox2_ends.specs.declared.sender.ReceiverDetails.{ReceiverDetails}
 use Rattle.iox2_ends.proofs.MailboxChanges.{Updates-with_value, SameHomes-trans, KeepsOthers-trans}
-use Rattle.iox2_ends.proofs.Counts.{Follows-trans, get_or-held_more, get_or-held_less, length-recounted, put-can_leave, put-follows, one_if_other}
+use Rattle.iox2_ends.proofs.Counts.{CountersFollow-trans, get_or-one_holder_more, get_or-one_holder_less, length-recounted, put-can_leave, put-follows, one_if_other}
 use Rattle.iox2_ends.proofs.DeliverySteps.{home-of, put-homes, put-others, put-returned, put-home}
 
 -- one connection changed, and no more was given back in it
@@ -27,7 +27,7 @@ Recounts-same p hs slab = record {
   others = record { stay = λ key c at differs. at };
   counters = record { at = λ n. refl };
   slots = refl;
-  held = λ n some. some;
+  in_use = λ n some. some;
   fewer = λ key. omega arith;
 }
 
@@ -35,34 +35,34 @@ pub Recounts-trans : (p : ℕ) (hs hs' hs'' : List ℕ) (a b c : Slab Link) → 
 Recounts-trans p hs hs' hs'' a b c x y = record {
   homes = SameHomes-trans a b c x.homes y.homes;
   others = KeepsOthers-trans p a b c x.others y.others;
-  counters = Follows-trans p hs hs' hs'' a.slots b.slots c.slots x.counters y.counters;
+  counters = CountersFollow-trans p hs hs' hs'' a.slots b.slots c.slots x.counters y.counters;
   slots = y.slots ∙ x.slots;
-  held = λ n some. x.held n (y.held n some);
+  in_use = λ n some. x.in_use n (y.in_use n some);
   fewer = λ key. omega (arith, x.fewer key, y.fewer key);
 }
 
--- a slot that is held after a put was held before it
-recounted-held : (o : PutOutcome) (slot n : ℕ) (hs : List ℕ) → slot < length hs → 0 < get_or hs slot 0 → CanLeave o hs → 0 < get_or (recounted o slot hs) n 0 → 0 < get_or hs n 0
-recounted-held o slot n hs below held can some = elim (cases_eq n slot) [
-  | inl same ↦ rw same held
+-- a slot that is in use after a put was in use before it
+recounted-in_use : (o : PutOutcome) (slot n : ℕ) (hs : List ℕ) → slot < length hs → 0 < get_or hs slot 0 → CanLeave o hs → 0 < get_or (recounted o slot hs) n 0 → 0 < get_or hs n 0
+recounted-in_use o slot n hs below in_use can some = elim (cases_eq n slot) [
+  | inl same ↦ rw same in_use
   | inr differs ↦ by o can some differs
 ] where
   by : (o : PutOutcome) → CanLeave o hs → 0 < get_or (recounted o slot hs) n 0 → (n ≡ slot → ⊥) → 0 < get_or hs n 0
-  by Taken can some differs = omega (arith, some, get_or-held_more hs slot n below, one_if_other n slot differs)
+  by Taken can some differs = omega (arith, some, get_or-one_holder_more hs slot n below, one_if_other n slot differs)
   by (Overwrote oldest) can some differs =
-      omega (arith, some, get_or-held_more hs slot n below, one_if_other n slot differs, get_or-held_less (held_more slot hs) oldest n (omega (arith, can, get_or-held_more hs slot oldest below)))
+      omega (arith, some, get_or-one_holder_more hs slot n below, one_if_other n slot differs, get_or-one_holder_less (one_holder_more slot hs) oldest n (omega (arith, can, get_or-one_holder_more hs slot oldest below)))
   by Full can some differs = some
 
-module _ {p : ℕ} {slab : Slab Link} {places : List (Option ℕ)} {receivers : List (Option ReceiverDetails)} (i key : ℕ) (ready : IsReadyToDeliver p slab places receivers) (at : get_or places i None ≡ Some key) where
+module _ {p : ℕ} {slab : Slab Link} {keys : List (Option ℕ)} {receivers : List (Option ReceiverDetails)} (i key : ℕ) (ready : IsReadyToDeliver p slab keys receivers) (at : get_or keys i None ≡ Some key) where
   -- a put into a connection of the publisher
   pub put-recounts : (hs : List ℕ) (slot : ℕ) (overflow : Bool) (o : PutOutcome) (c d : Link) → slot < length hs → 0 < get_or hs slot 0 → IsCovered p hs slab.slots → get slab key ≡ Some c → IsPut c slot overflow o d
       → Recounts p hs slab (recounted o slot hs) (with_value slab key d)
-  put-recounts hs slot overflow o c d below held covered was_c put = record {
+  put-recounts hs slot overflow o c d below in_use covered was_c put = record {
     homes = put-homes i key ready at slot overflow o c d was_c put;
     others = put-others i key ready at slot overflow o c d was_c put;
     counters = put-follows p hs slab.slots key slot overflow c d o below covered was_c mine (put-home c slot overflow o d put) put;
     slots = length-recounted o slot hs;
-    held = λ n some. recounted-held o slot n hs below held (put-can_leave p hs slab.slots key slot overflow c d o covered was_c mine put) some;
+    in_use = λ n some. recounted-in_use o slot n hs below in_use (put-can_leave p hs slab.slots key slot overflow c d o covered was_c mine put) some;
     fewer = returned-updated slab (with_value slab key d) key c d was_c (omega (arith, ap (length {A = ℕ}) (put-returned c slot overflow o d put))) (Updates-with_value slab key c d was_c);
   }
     where

@@ -2,9 +2,9 @@
 use Rattle.std.proofs.Common.{◌≡◌, ℕ, zero, suc, ◌+◌, ◌<◌, Bool, true, false, List, [], ◌∷◌, length, map, get_or, refl, sym, ap, ◌∙◌, arith, eqb, ⊎_elim, Contains}
 use Rattle.std.proofs.lemmas.Bool.{eqb-true, eq-eqb, true≢false, or_cases, or_left, or_right, or_parts, ne_eqb}
 use Rattle.std.specs.List.{position_or_len}
-use Rattle.iox2_store.specs.Numbers.{contains, without, IsOnce}
+use Rattle.iox2_store.specs.machine.Numbers.{contains, without, IsOnce}
 use Rattle.iox2_store.specs.Link.{Link, without_first, with_returned}
-use Rattle.iox2_store.specs.Mailbox.{Mailbox, with_released}
+use Rattle.iox2_store.specs.machine.Mailbox.{Mailbox, with_released}
 use Rattle.iox2_ends.specs.Mailboxes.{mailbox_of}
 use Rattle.iox2_ends.specs.Counters.{times, stands_in}
 use Rattle.iox2_ends.proofs.Counts.{one_if, times-cons, times_push}

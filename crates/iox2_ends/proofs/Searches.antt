@@ -8,11 +8,11 @@ use Rattle.std.specs.Bool.{MatchBool}
 use Rattle.std.specs.List.{list_any}
 use Rattle.slab.specs.Slab.{Slab, get}
 use Rattle.iox2_store.specs.Link.{Link, has_slots, can_borrow}
-use Rattle.iox2_store.specs.Numbers.{is_nil, contains}
-use Rattle.iox2_store.specs.Places.{occupants}
-use Rattle.iox2_store.specs.Mailbox.{Mailbox, has_data, can_receive}
-use Rattle.iox2_store.specs.Records.{Subscriber}
-use Rattle.iox2_store.specs.Receives.{can_receive_of}
+use Rattle.iox2_store.specs.machine.Numbers.{is_nil, contains}
+use Rattle.iox2_store.specs.machine.Places.{occupants}
+use Rattle.iox2_store.specs.machine.Mailbox.{Mailbox, has_data, can_receive}
+use Rattle.iox2_store.specs.machine.Records.{Subscriber}
+use Rattle.iox2_store.specs.machine.Receives.{can_receive_of}
 use Rattle.iox2_ends.specs.Mailboxes.{mailbox_of, mailboxes_of, receiver_ends}
 use Rattle.iox2_ends.specs.Homes.{IsApart}
 use Rattle.iox2_ends.specs.Finds.{offer_of, offer_at, first_found, search, is_ready, CanTake, IsReceivers, IsReceiverLinked, FindsFor, Finds}
@@ -95,8 +95,8 @@ can_take-search : (connections : Slab Link) (keys : List (Option ℕ)) → CanTa
 can_take-search connections [] = tt
 can_take-search connections (key ∷ keys) = can_take-first connections (offer_at connections key) (search connections keys) (can_take-offer connections key) (can_take-search connections keys)
 
-pub can_take-found : (connections : Slab Link) (keys places : List (Option ℕ)) → CanTake connections (first_found (search connections keys) (search connections places))
-can_take-found connections keys places = can_take-first connections (search connections keys) (search connections places) (can_take-search connections keys) (can_take-search connections places)
+pub can_take-found : (connections : Slab Link) (first keys : List (Option ℕ)) → CanTake connections (first_found (search connections first) (search connections keys))
+can_take-found connections first keys = can_take-first connections (search connections first) (search connections keys) (can_take-search connections first) (can_take-search connections keys)
 
 -- ---- one mailbox
 
@@ -158,11 +158,11 @@ module _ (q limit : ℕ) (connections : Slab Link) (boxes : ℕ → Mailbox) whe
   among-nothing p ps Found.AtLimit none full h = (or_right (has_data (boxes p)) (list_any (λ r. has_data (boxes r)) ps) h.0, rw full h.1)
   among-nothing p ps Found.Nothing none full h = rw none h
 
--- the next places belong to the subscriber, too
+-- the next keys belong to the subscriber, too
 linked-later : (q most : ℕ) (connections : Slab Link) (key : Option ℕ) (keys : List (Option ℕ)) → IsReceiverLinked q most connections (key ∷ keys) → IsReceiverLinked q most connections keys
 linked-later q most connections key keys l = record { at = λ i k e. l.at (suc i) k e }
 
--- a search through places is a search among the publishers to which they lead
+-- a search through keys is a search among the publishers to which they lead
 pub among-search : (q limit : ℕ) (connections : Slab Link) (number : ℕ → ℕ → ℕ) → IsApart connections → (keys : List (Option ℕ)) → IsReceiverLinked q limit connections keys
     → FindsAmong q limit connections (λ p. mailboxes_of number connections p q) (occupants (receiver_ends connections keys)) (search connections keys)
 among-search q limit connections number apart [] l = refl
@@ -218,10 +218,10 @@ module _ (q limit : ℕ) (connections : Slab Link) (y : Subscriber) (boxes : ℕ
   finds-both Found.Nothing Found.Nothing f g = list_any-append (λ p. has_data (boxes p)) y.expired (occupants y.ends) ∙ rw f g
 
 -- what the code finds is what the machine does
-pub finds-found : (connections : Slab Link) (expired : List ℕ) (places : List (Option ℕ)) → Finds connections expired places (first_found (search connections (map Some expired)) (search connections places))
-finds-found connections expired places = record {
+pub finds-found : (connections : Slab Link) (expired : List ℕ) (keys : List (Option ℕ)) → Finds connections expired keys (first_found (search connections (map Some expired)) (search connections keys))
+finds-found connections expired keys = record {
   finds = λ q limit y r number.
-      finds-both q limit connections y (λ p. mailboxes_of number connections p q) (search connections (map Some expired)) (search connections places)
+      finds-both q limit connections y (λ p. mailboxes_of number connections p q) (search connections (map Some expired)) (search connections keys)
       (rw r.expired (among-search q limit connections number r.apart (map Some expired) r.kept))
-      (rw r.ends (among-search q limit connections number r.apart places r.linked));
+      (rw r.ends (among-search q limit connections number r.apart keys r.linked));
 }

@@ -4,13 +4,13 @@ use Rattle.std.proofs.lemmas.List.{map-append}
 use Rattle.std.specs.Prelude.{IsSomeAnd}
 use Rattle.slab.specs.Slab.{Slab, get, with_value}
 use Rattle.iox2_store.specs.Link.{Link, IsTaken, with_returned}
-use Rattle.iox2_store.specs.Numbers.{contains, IsOnce}
-use Rattle.iox2_store.specs.Mailbox.{Mailbox, BorrowsFirst, with_released}
+use Rattle.iox2_store.specs.machine.Numbers.{contains, IsOnce}
+use Rattle.iox2_store.specs.machine.Mailbox.{Mailbox, BorrowsFirst, with_released}
 use Rattle.iox2_ends.specs.Mailboxes.{mailbox_of, mailboxes_of, with_box}
 use Rattle.iox2_ends.specs.Homes.{IsApart, fixed_of}
-use Rattle.iox2_ends.specs.Takes.{SameStands, TakesSlot, ReleasesSlot}
+use Rattle.iox2_ends.specs.Takes.{SameStands, BorrowsSlot, ReleasesSlot}
 use Rattle.iox2_ends.proofs.MailboxChanges.{Updates-with_value, mailbox-there, mailboxes-changed}
-use Rattle.iox2_ends.proofs.Counts.{Follows-kept}
+use Rattle.iox2_ends.proofs.Counts.{CountersFollow-kept}
 use Rattle.iox2_ends.proofs.DeliverySteps.{same_link}
 use Rattle.iox2_ends.proofs.Releases.{contains-from, stands_in-with_returned, mailbox-with_returned}
 
@@ -19,7 +19,7 @@ borrows-first : (number : ℕ → ℕ) (c d : Link) (slot : ℕ) → IsTaken c (
 borrows-first number c d slot t = (map number t.0, ap (map number) t.1, rw (t.2, map-append number c.borrowed (slot ∷ [])) refl)
 
 -- a slot that is taken from a connection is taken from the mailbox
-pub takes-taken : (slab : Slab Link) (key slot : ℕ) (c d : Link) → IsApart slab → get slab key ≡ Some c → IsTaken c (Some slot) d → TakesSlot slab key slot (with_value slab key d)
+pub takes-taken : (slab : Slab Link) (key slot : ℕ) (c d : Link) → IsApart slab → get slab key ≡ Some c → IsTaken c (Some slot) d → BorrowsSlot slab key slot (with_value slab key d)
 takes-taken slab key slot c d apart at taken = record { takes = λ b at_b number. by b at_b number (subst (λ (x : Link). IsTaken x (Some slot) d) (same_link slab key c b at at_b) taken) }
   where
     by : (b : Link) → get slab key ≡ Some b → (number : ℕ → ℕ → ℕ) → IsTaken b (Some slot) d
@@ -56,6 +56,6 @@ returned-there slab key slot c d at returned = rw at ((Updates-with_value slab k
 -- a slot that is given back stands as often as before
 pub stands-returned : (slab : Slab Link) (key slot : ℕ) (c d : Link) → IsSomeAnd (get slab key) (λ (x : Link). Contains x.borrowed slot) → get slab key ≡ Some c → d ≡ with_returned slot c → SameStands slab (with_value slab key d)
 stands-returned slab key slot c d borrowed at returned = record {
-  follows = λ p holders. Follows-kept p holders slab.slots key c d at (ap (λ (x : Link). x.home) returned)
+  follows = λ p holders. CountersFollow-kept p holders slab.slots key c d at (ap (λ (x : Link). x.home) returned)
       (λ n. rw returned (stands_in-with_returned n slot c (borrowed-at slab key slot c borrowed at)));
 }

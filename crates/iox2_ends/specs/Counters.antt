@@ -20,26 +20,26 @@ abbrev pub stands : (p slot : ℕ) → Option Link → ℕ
 stands p slot None = 0
 stands p slot (Some c) = cond (c.home.publisher == p) (stands_in slot c) 0
 
--- No slot of the publisher p stands in more places than its counter says.
+-- No slot of the publisher p stands in connections more often than its counter says.
 pub record IsCovered (p : ℕ) (holders : List ℕ) (connections : List (Option Link)) : Type 0 where
   pub at : (slot : ℕ) → sum_by (stands p slot) connections ≤ slice_index holders slot
 
--- The counters of the publisher p changed as the places did in which its slots stand.
-pub record Follows (p : ℕ) (holders : List ℕ) (connections : List (Option Link)) (holders' : List ℕ) (connections' : List (Option Link)) : Type 0 where
+-- The counters of the publisher p changed as the numbers did of how often its slots stand in connections.
+pub record CountersFollow (p : ℕ) (holders : List ℕ) (connections : List (Option Link)) (holders' : List ℕ) (connections' : List (Option Link)) : Type 0 where
   pub at : (slot : ℕ) → slice_index holders' slot + sum_by (stands p slot) connections ≡ slice_index holders slot + sum_by (stands p slot) connections'
 
 -- The counters with one holder more of the slot.
-abbrev pub held_more : (slot : ℕ) → List ℕ → List ℕ
-held_more slot holders = slice_set holders slot (slice_index holders slot + 1)
+abbrev pub one_holder_more : (slot : ℕ) → List ℕ → List ℕ
+one_holder_more slot holders = slice_set holders slot (slice_index holders slot + 1)
 
 -- The counters with one holder less of the slot.
-abbrev pub held_less : (slot : ℕ) → List ℕ → List ℕ
-held_less slot holders = slice_set holders slot (slice_index holders slot - 1)
+abbrev pub one_holder_less : (slot : ℕ) → List ℕ → List ℕ
+one_holder_less slot holders = slice_set holders slot (slice_index holders slot - 1)
 
 -- The counters after a put of the slot.
 abbrev pub recounted : PutOutcome → (slot : ℕ) → List ℕ → List ℕ
-recounted Taken slot holders = held_more slot holders
-recounted (Overwrote oldest) slot holders = held_less oldest (held_more slot holders)
+recounted Taken slot holders = one_holder_more slot holders
+recounted (Overwrote oldest) slot holders = one_holder_less oldest (one_holder_more slot holders)
 recounted Full slot holders = holders
 
 -- A slot that was overwritten has a holder.

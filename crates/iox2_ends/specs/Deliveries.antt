@@ -4,14 +4,14 @@ use Rattle.std.specs.declared.option.Option.{Option}
 use Rattle.std.specs.declared.option.Option.TheVariants.{None}
 use Rattle.slab.specs.Slab.{Slab}
 use Rattle.iox2_store.specs.Link.{Link}
-use Rattle.iox2_store.specs.Mailbox.{Mailbox}
-use Rattle.iox2_store.specs.Environments.{fixed_handlers}
-use Rattle.iox2_store.specs.Delivery.{PutResult, Accepted, Skipped, Would_block, DeliveryEnd, Complete, Suspended, by_strategy, no_time, PutAtEnd, Deliver}
+use Rattle.iox2_store.specs.machine.Mailbox.{Mailbox}
+use Rattle.iox2_store.specs.machine.Environments.{fixed_handlers}
+use Rattle.iox2_store.specs.machine.Delivery.{PutResult, Accepted, Skipped, Would_block, DeliveryEnd, Complete, Suspended, by_strategy, no_time, PutAtEnd, Deliver}
 use Rattle.iox2_store.specs.declared.service_config.ServiceConfig.{ServiceConfig}
 use Rattle.iox2_store.specs.declared.backpressure.BackpressureStrategy.{BackpressureStrategy}
 use Rattle.iox2_store.specs.declared.connection.PutOutcome.{PutOutcome}
 use Rattle.iox2_store.specs.declared.connection.PutOutcome.TheVariants.{Taken, Overwrote, Full}
-use Rattle.iox2_ends.specs.Mailboxes.{mailboxes_of, subscriber_at, sender_ends}
+use Rattle.iox2_ends.specs.Mailboxes.{mailboxes_of, subscriber_of_key, sender_ends}
 use Rattle.iox2_ends.specs.Receivers.{buffers_of}
 use Rattle.iox2_ends.specs.declared.sender.ReceiverDetails.{ReceiverDetails}
 use Rattle.iox2_ends.specs.declared.sender.Delivery.{Delivery}
@@ -49,10 +49,10 @@ module _ (config : ServiceConfig) (d : Delivery) (receivers : List (Option Recei
   -- Whatever numbers the slots have, the slot's message is put at the end to which the key leads.
   abbrev pub PutsSlot : (key : Option ℕ) → Slab Link → Reception → Slab Link → Type 0
   PutsSlot key old result new = (number : ℕ → ℕ → ℕ)
-      → PutsMessage (number d.publisher d.slot) (subscriber_at old key) (mailboxes_of number old d.publisher) (result_of result) (mailboxes_of number new d.publisher)
+      → PutsMessage (number d.publisher d.slot) (subscriber_of_key old key) (mailboxes_of number old d.publisher) (result_of result) (mailboxes_of number new d.publisher)
 
-  -- Whatever numbers the slots have, the slot's message is delivered to the ends at these places.
-  abbrev pub DeliversSlot : (places : List (Option ℕ)) → Slab Link → DeliveryOutcome → Slab Link → Type 0
-  DeliversSlot places old how new = (number : ℕ → ℕ → ℕ)
-      → DeliversMessage (number d.publisher d.slot) 0 (sender_ends old places) 0 (mailboxes_of number old d.publisher)
-      (end_of (number d.publisher d.slot) (sender_ends old places) how) (mailboxes_of number new d.publisher)
+  -- Whatever numbers the slots have, the slot's message is delivered to the ends at these keys.
+  abbrev pub DeliversSlot : (keys : List (Option ℕ)) → Slab Link → DeliveryOutcome → Slab Link → Type 0
+  DeliversSlot keys old how new = (number : ℕ → ℕ → ℕ)
+      → DeliversMessage (number d.publisher d.slot) 0 (sender_ends old keys) 0 (mailboxes_of number old d.publisher)
+      (end_of (number d.publisher d.slot) (sender_ends old keys) how) (mailboxes_of number new d.publisher)

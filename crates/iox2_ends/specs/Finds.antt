@@ -4,11 +4,11 @@ use Rattle.std.specs.declared.option.Option.{Option}
 use Rattle.std.specs.declared.option.Option.TheVariants.{None, Some}
 use Rattle.slab.specs.Slab.{Slab, get, ContainsKey}
 use Rattle.iox2_store.specs.Link.{Link, has_slots, can_borrow}
-use Rattle.iox2_store.specs.Places.{occupants}
-use Rattle.iox2_store.specs.Mailbox.{Mailbox}
-use Rattle.iox2_store.specs.Records.{Subscriber}
-use Rattle.iox2_store.specs.State.{connected_publishers}
-use Rattle.iox2_store.specs.Receives.{has_any_data, can_receive_of, MayReceiveFrom}
+use Rattle.iox2_store.specs.machine.Places.{occupants}
+use Rattle.iox2_store.specs.machine.Mailbox.{Mailbox}
+use Rattle.iox2_store.specs.machine.Records.{Subscriber}
+use Rattle.iox2_store.specs.machine.State.{connected_publishers}
+use Rattle.iox2_store.specs.machine.Receives.{has_any_data, can_receive_of, MayReceiveFrom}
 use Rattle.iox2_ends.specs.Mailboxes.{mailboxes_of, receiver_ends}
 use Rattle.iox2_ends.specs.Homes.{IsApart}
 use Rattle.iox2_ends.specs.declared.receiver.Found.{Found}
@@ -20,7 +20,7 @@ abbrev pub offer_of : (key : ℕ) → Option Link → Found
 offer_of key None = Found.Nothing
 offer_of key (Some c) = cond (can_borrow c) (Found.Ready key) (cond (has_slots c) Found.AtLimit Found.Nothing)
 
--- What the connection at a place offers.
+-- What the connection at a key offers, if there is a key.
 abbrev pub offer_at : Slab Link → Option ℕ → Found
 offer_at connections None = Found.Nothing
 offer_at connections (Some key) = offer_of key (get connections key)
@@ -33,7 +33,7 @@ first_found Found.AtLimit Found.AtLimit = Found.AtLimit
 first_found Found.AtLimit Found.Nothing = Found.AtLimit
 first_found Found.Nothing later = later
 
--- What a search through these places finds.
+-- What a search through the connections at these keys finds.
 abbrev pub search : Slab Link → List (Option ℕ) → Found
 search connections [] = Found.Nothing
 search connections (key ∷ keys) = first_found (offer_at connections key) (search connections keys)
@@ -44,9 +44,9 @@ is_ready (Found.Ready key) = true
 is_ready Found.AtLimit = false
 is_ready Found.Nothing = false
 
--- Each key at these places has a connection.
-pub record HasConnections (connections : Slab Link) (places : List (Option ℕ)) : Type 0 where
-  pub at : (i key : ℕ) → slice_index_or places i None ≡ Some key → ContainsKey connections key
+-- Each of these keys has a connection.
+pub record HasConnections (connections : Slab Link) (keys : List (Option ℕ)) : Type 0 where
+  pub at : (i key : ℕ) → slice_index_or keys i None ≡ Some key → ContainsKey connections key
 
 -- `take` may be called for the connection that was found.
 abbrev pub CanTake : Slab Link → Found → Type 0
@@ -61,17 +61,17 @@ pub record IsReceivers (q most : ℕ) (c : Link) : Type 0 where
   pub subscriber : c.home.subscriber ≡ q
   pub limit : c.limit ≡ most
 
--- Each key at these places names a connection of the subscriber q, with that limit.
-pub record IsReceiverLinked (q most : ℕ) (connections : Slab Link) (places : List (Option ℕ)) : Type 0 where
-  pub at : (i key : ℕ) → slice_index_or places i None ≡ Some key → IsSomeAnd (get connections key) (IsReceivers q most)
+-- Each of these keys names a connection of the subscriber q, with that limit.
+pub record IsReceiverLinked (q most : ℕ) (connections : Slab Link) (keys : List (Option ℕ)) : Type 0 where
+  pub at : (i key : ℕ) → slice_index_or keys i None ≡ Some key → IsSomeAnd (get connections key) (IsReceivers q most)
 
 -- The subscriber q is y to the machine: these are the keys of its expired connections and those at its places.
-pub record IsReceiver (q most : ℕ) (connections : Slab Link) (expired_keys : List ℕ) (places : List (Option ℕ)) (y : Subscriber) : Type 0 where
+pub record IsReceiver (q most : ℕ) (connections : Slab Link) (expired_keys : List ℕ) (keys : List (Option ℕ)) (y : Subscriber) : Type 0 where
   pub apart : IsApart connections
   pub kept : IsReceiverLinked q most connections (map Some expired_keys)
-  pub linked : IsReceiverLinked q most connections places
+  pub linked : IsReceiverLinked q most connections keys
   pub expired : y.expired ≡ occupants (receiver_ends connections (map Some expired_keys))
-  pub ends : y.ends ≡ receiver_ends connections places
+  pub ends : y.ends ≡ receiver_ends connections keys
 
 module _ (q limit : ℕ) (connections : Slab Link) (y : Subscriber) (boxes : ℕ → Mailbox) where
   -- The connection is the subscriber q's, and a message may be received from its publisher; or some wait and all are at
@@ -82,6 +82,6 @@ module _ (q limit : ℕ) (connections : Slab Link) (y : Subscriber) (boxes : ℕ
   FindsFor Found.Nothing = has_any_data limit y boxes ≡ false
 
 -- Whatever numbers the slots have, this is what the subscriber with these keys finds.
-pub record Finds (connections : Slab Link) (expired : List ℕ) (places : List (Option ℕ)) (found : Found) : Type 0 where
-  pub finds : (q limit : ℕ) (y : Subscriber) → IsReceiver q limit connections expired places y → (number : ℕ → ℕ → ℕ)
+pub record Finds (connections : Slab Link) (expired : List ℕ) (keys : List (Option ℕ)) (found : Found) : Type 0 where
+  pub finds : (q limit : ℕ) (y : Subscriber) → IsReceiver q limit connections expired keys y → (number : ℕ → ℕ → ℕ)
       → FindsFor q limit connections y (λ p. mailboxes_of number connections p q) found

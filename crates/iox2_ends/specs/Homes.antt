@@ -30,6 +30,6 @@ pub record IsSenders (p i : ℕ) (c : Link) : Type 0 where
   pub publisher : c.home.publisher ≡ p
   pub place : c.home.subscriber_place ≡ i
 
--- Each key at a publisher's places names a connection that knows its place there.
-pub record IsSenderLinked (p : ℕ) (connections : Slab Link) (places : List (Option ℕ)) : Type 0 where
-  pub at : (i key : ℕ) → slice_index_or places i None ≡ Some key → IsSomeAnd (get connections key) (IsSenders p i)
+-- Each key that a publisher has at a place names a connection that knows that place.
+pub record IsSenderLinked (p : ℕ) (connections : Slab Link) (keys : List (Option ℕ)) : Type 0 where
+  pub at : (i key : ℕ) → slice_index_or keys i None ≡ Some key → IsSomeAnd (get connections key) (IsSenders p i)

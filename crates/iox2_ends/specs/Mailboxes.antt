@@ -5,8 +5,8 @@ use Rattle.std.specs.declared.option.Option.TheVariants.{None, Some}
 use Rattle.std.specs.Option.{option_map, option_and_then}
 use Rattle.slab.specs.Slab.{Slab, get}
 use Rattle.iox2_store.specs.Link.{Link}
-use Rattle.iox2_store.specs.Mailbox.{Mailbox, empty_mailbox}
-use Rattle.iox2_store.specs.Numbers.{put_at}
+use Rattle.iox2_store.specs.machine.Mailbox.{Mailbox, empty_mailbox}
+use Rattle.iox2_store.specs.machine.Numbers.{put_at}
 use Rattle.iox2_ends.specs.LookUp.{look_up}
 
 -- The connection stands between these two ports.
@@ -33,17 +33,17 @@ with_box boxes p q box = put_at boxes p (put_at (boxes p) q box)
 -- ---- ends
 
 -- The subscriber to which a key leads.
-abbrev pub subscriber_at : Slab Link → Option ℕ → Option ℕ
-subscriber_at connections key = option_map (λ (c : Link). c.home.subscriber) (option_and_then (get connections) key)
+abbrev pub subscriber_of_key : Slab Link → Option ℕ → Option ℕ
+subscriber_of_key connections key = option_map (λ (c : Link). c.home.subscriber) (option_and_then (get connections) key)
 
 -- The publisher to which a key leads.
-abbrev pub publisher_at : Slab Link → Option ℕ → Option ℕ
-publisher_at connections key = option_map (λ (c : Link). c.home.publisher) (option_and_then (get connections) key)
+abbrev pub publisher_of_key : Slab Link → Option ℕ → Option ℕ
+publisher_of_key connections key = option_map (λ (c : Link). c.home.publisher) (option_and_then (get connections) key)
 
 -- The ends of a publisher that has these keys at its places.
 abbrev pub sender_ends : Slab Link → List (Option ℕ) → List (Option ℕ)
-sender_ends connections places = map (subscriber_at connections) places
+sender_ends connections keys = map (subscriber_of_key connections) keys
 
 -- The ends of a subscriber that has these keys at its places.
 abbrev pub receiver_ends : Slab Link → List (Option ℕ) → List (Option ℕ)
-receiver_ends connections places = map (publisher_at connections) places
+receiver_ends connections keys = map (publisher_of_key connections) keys

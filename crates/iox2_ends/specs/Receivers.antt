@@ -35,14 +35,14 @@ pub record KnowsReceivers (connections : Slab Link) (receivers : List (Option Re
   pub at : (key i : ℕ) (c : Link) (y : ReceiverDetails) → get connections key ≡ Some c → slice_index_or receivers i None ≡ Some y → y.port_id ≡ c.home.subscriber
       → (i ≡ c.home.subscriber_place) × (c.buffer ≡ y.buffer_size)
 
--- The connections at these places have no slot that was given back and not yet reclaimed.
-pub record HasReclaimed (connections : Slab Link) (places : List (Option ℕ)) : Type 0 where
-  pub at : (i key : ℕ) (c : Link) → slice_index_or places i None ≡ Some key → get connections key ≡ Some c → c.returned ≡ []
+-- The connections at these keys have no slot that was given back and not yet reclaimed.
+pub record HasReclaimed (connections : Slab Link) (keys : List (Option ℕ)) : Type 0 where
+  pub at : (i key : ℕ) (c : Link) → slice_index_or keys i None ≡ Some key → get connections key ≡ Some c → c.returned ≡ []
 
--- What a delivery of the publisher p needs of connections, places and receivers.
-pub record IsReadyToDeliver (p : ℕ) (connections : Slab Link) (places : List (Option ℕ)) (receivers : List (Option ReceiverDetails)) : Type 0 where
-  pub linked : IsSenderLinked p connections places
+-- What a delivery of the publisher p needs of connections, keys and receivers.
+pub record IsReadyToDeliver (p : ℕ) (connections : Slab Link) (keys : List (Option ℕ)) (receivers : List (Option ReceiverDetails)) : Type 0 where
+  pub linked : IsSenderLinked p connections keys
   pub apart : IsApart connections
   pub knows : KnowsReceivers connections receivers
   pub one_id : (q : ℕ) → IsOnly (has_id q) receivers
-  pub reclaimed : HasReclaimed connections places
+  pub reclaimed : HasReclaimed connections keys

@@ -5,7 +5,7 @@ ghost use Rattle.slab.specs.Slab.{get, ContainsKey};
 ghost use Rattle.iox2_store.specs.Link.{can_borrow, with_returned};
 ghost use Rattle.iox2_ends.specs.Homes.{IsApart, SameHomes};
 ghost use Rattle.iox2_ends.specs.Finds.{offer_at, first_found, search, is_ready, HasConnections, CanTake, Finds};
-ghost use Rattle.iox2_ends.specs.Takes.{KeepsOtherKeys, SameStands, TakesSlot, ReleasesSlot};
+ghost use Rattle.iox2_ends.specs.Takes.{KeepsOtherKeys, SameStands, BorrowsSlot, ReleasesSlot};
 
 use iox2_store::Connection;
 use slab::Slab;
@@ -40,12 +40,12 @@ impl Found {
     }
 }
 
-// What the connection at a place offers.
-fn look(connections: &Slab<Connection>, place: Option<usize>) -> Found
-    requires { ForSome place (ContainsKey connections.now) }
-    ensures { result ≡ offer_at connections.now place }
+// What the connection at a key offers, if there is a key.
+fn look(connections: &Slab<Connection>, key: Option<usize>) -> Found
+    requires { ForSome key (ContainsKey connections.now) }
+    ensures { result ≡ offer_at connections.now key }
 {
-    let Some(key) = place else {
+    let Some(key) = key else {
         return Found::Nothing;
     };
     let connection = &connections[key];
@@ -58,13 +58,13 @@ fn look(connections: &Slab<Connection>, place: Option<usize>) -> Found
     }
 }
 
-fn search_places(connections: &Slab<Connection>, places: &[Option<usize>]) -> Found
-    requires { HasConnections connections.now places.now }
-    ensures { result ≡ search connections.now places.now }
+fn search_keys(connections: &Slab<Connection>, keys: &[Option<usize>]) -> Found
+    requires { HasConnections connections.now keys.now }
+    ensures { result ≡ search connections.now keys.now }
 {
     let mut found = Found::Nothing;
-    for place in 0..places.len() {
-        found = found.or(look(connections, places[place]));
+    for place in 0..keys.len() {
+        found = found.or(look(connections, keys[place]));
         if found.is_ready() {
             return found;
         }
@@ -87,25 +87,25 @@ fn search_expired(connections: &Slab<Connection>, expired: &[usize]) -> Found
 }
 
 /// Looks for a connection to take a message from: first among the expired ones, whose publishers
-/// are gone, in their order, and then by rising place. Where there is none, the answer says whether
+/// are gone, in their order, and then by rising place. Where there is none, the result says whether
 /// a message waits all the same.
 ///
 /// iceoryx2's `Receiver::receive` (`src/port/details/receiver.rs`).
-pub fn find(connections: &Slab<Connection>, expired: &[usize], places: &[Option<usize>]) -> Found
+pub fn find(connections: &Slab<Connection>, expired: &[usize], keys: &[Option<usize>]) -> Found
     requires expired { HasConnections connections.now (map Some expired.now) }
-    requires places { HasConnections connections.now places.now }
-    ensures finds { Finds connections.now expired.now places.now result }
-    ensures looks { result ≡ first_found (search connections.now (map Some expired.now)) (search connections.now places.now) }
+    requires keys { HasConnections connections.now keys.now }
+    ensures finds { Finds connections.now expired.now keys.now result }
+    ensures looks { result ≡ first_found (search connections.now (map Some expired.now)) (search connections.now keys.now) }
     ensures can_take { CanTake connections.now result }
 {
     let found = search_expired(connections, expired);
     if found.is_ready() {
         return found;
     }
-    found.or(search_places(connections, places))
+    found.or(search_keys(connections, keys))
 }
 
-/// Borrows the message that has waited longest in the connection at a key, and answers its slot.
+/// Borrows the message that has waited longest in the connection at a key, and returns its slot.
 /// The caller knows that one waits there and that fewer than the limit are borrowed, as
 /// `Connection::can_receive` says.
 ///
@@ -113,7 +113,7 @@ pub fn find(connections: &Slab<Connection>, expired: &[usize], places: &[Option<
 pub fn take(connections: &mut Slab<Connection>, key: usize) -> usize
     requires ready { IsSomeAnd (get connections.old key) (λ c. IsTrue (can_borrow c)) }
     requires apart { IsApart connections.old }
-    ensures takes { TakesSlot connections.old key result connections.new }
+    ensures takes { BorrowsSlot connections.old key result connections.new }
     ensures waited { IsSomeAnd (get connections.old key) (λ c. Contains c.waiting result) }
     ensures homes { SameHomes connections.old connections.new }
     ensures others { KeepsOtherKeys key connections.old connections.new }

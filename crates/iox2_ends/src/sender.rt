@@ -1,8 +1,8 @@
 //! A publisher's end: its messages go to the connections at its places.
 ghost use Rattle.std.specs.Prelude.{◌≡◌, ℕ, ◌+◌, ◌≤◌, ◌<◌, ◌^◌, None, length, slice_index, slice_index_or, IsSomeAnd, map};
 ghost use Rattle.std.specs.Option.{option_map};
-ghost use Rattle.iox2_store.specs.SlotBook.{holders_at, IsHeld};
-ghost use Rattle.iox2_store.specs.Delivery.{is_blocking, accepted_count};
+ghost use Rattle.iox2_store.specs.SlotBook.{holders_at, IsInUse};
+ghost use Rattle.iox2_store.specs.machine.Delivery.{is_blocking, accepted_count};
 ghost use Rattle.slab.specs.Slab.{get};
 ghost use Rattle.iox2_ends.specs.Homes.{IsApart, IsSenderLinked};
 ghost use Rattle.iox2_ends.specs.Receivers.{is_open_at, HasReclaimed, IsReadyToDeliver};
@@ -130,7 +130,7 @@ fn is_open<R: Receiver>(receivers: &[Option<R>], place: usize, id: u128) -> bool
 
 // Counts the holders after a put.
 fn recount(book: &mut SlotBook, outcome: PutOutcome, slot: usize)
-    requires held { IsHeld book.old slot }
+    requires in_use { IsInUse book.old slot }
     requires fits { holders_at book.old slot + 1 < 2 ^ 128 }
     requires overwritten { CanLeave outcome book.old.holders }
     ensures { book.new ≡ with_counters book.old (recounted outcome slot book.old.holders) }
@@ -151,24 +151,24 @@ fn deliver_at<R: Receiver>(
     delivery: &Delivery,
     connections: &mut Slab<Connection>,
     book: &mut SlotBook,
-    places: &[Option<usize>],
+    keys: &[Option<usize>],
     receivers: &[Option<R>],
     place: usize,
 ) -> Reception
-    requires at { place < length places.now }
-    requires ready { IsReadyToDeliver delivery.now.publisher connections.old places.now (map (option_map R.details_of) receivers.now) }
-    requires held { IsHeld book.old delivery.now.slot }
+    requires at { place < length keys.now }
+    requires ready { IsReadyToDeliver delivery.now.publisher connections.old keys.now (map (option_map R.details_of) receivers.now) }
+    requires in_use { IsInUse book.old delivery.now.slot }
     requires fits { holders_at book.old delivery.now.slot + 1 < 2 ^ 128 }
     requires covered { IsCovered delivery.now.publisher book.old.holders connections.old.slots }
-    ensures puts { PutsSlot config.now delivery.now (map (option_map R.details_of) receivers.now) (slice_index_or places.now place None)
+    ensures puts { PutsSlot config.now delivery.now (map (option_map R.details_of) receivers.now) (slice_index_or keys.now place None)
         connections.old result connections.new }
     ensures book { book.new ≡ with_counters book.old book.new.holders }
     ensures recounts { Recounts delivery.now.publisher book.old.holders connections.old book.new.holders connections.new }
-    ensures reclaimed { HasReclaimed connections.new places.now }
+    ensures reclaimed { HasReclaimed connections.new keys.now }
     ensures keeps { holders_at book.old delivery.now.slot ≤ holders_at book.new delivery.now.slot }
     ensures grows { holders_at book.new delivery.now.slot ≤ holders_at book.old delivery.now.slot + 1 }
 {
-    let Some(key) = places[place] else {
+    let Some(key) = keys[place] else {
         return Reception::Skipped;
     };
     let home = connections[key].home();
@@ -184,7 +184,7 @@ fn deliver_at<R: Receiver>(
 /// A receiver that is closed is skipped. One with room takes the message, and with safe overflow
 /// each does; at any other the strategy decides.
 ///
-/// `places` has at each subscriber's place the key of the publisher's connection to it, and
+/// `keys` has at each subscriber's place the key of the publisher's connection to it, and
 /// `receivers` the subscriber that stands there now. The count of holders of each slot in `book` follows:
 /// it grows with each connection that takes the slot, and shrinks for a slot that is overwritten.
 ///
@@ -194,29 +194,21 @@ pub fn deliver<R: Receiver>(
     delivery: &Delivery,
     connections: &mut Slab<Connection>,
     book: &mut SlotBook,
-    places: &[Option<usize>],
+    keys: &[Option<usize>],
     receivers: &[Option<R>],
 ) -> DeliveryOutcome
-    requires ready { IsReadyToDeliver delivery.now.publisher connections.old places.now (map (option_map R.details_of) receivers.now) }
-    requires held { IsHeld book.old delivery.now.slot }
-    requires fits { holders_at book.old delivery.now.slot + length places.now < 2 ^ 128 }
+    requires ready { IsReadyToDeliver delivery.now.publisher connections.old keys.now (map (option_map R.details_of) receivers.now) }
+    requires in_use { IsInUse book.old delivery.now.slot }
+    requires fits { holders_at book.old delivery.now.slot + length keys.now < 2 ^ 128 }
     requires covered { IsCovered delivery.now.publisher book.old.holders connections.old.slots }
-    ensures delivers { DeliversSlot config.now delivery.now (map (option_map R.details_of) receivers.now) places.now
+    ensures delivers { DeliversSlot config.now delivery.now (map (option_map R.details_of) receivers.now) keys.now
         connections.old result connections.new }
     ensures book { book.new ≡ with_counters book.old book.new.holders }
     ensures recounts { Recounts delivery.now.publisher book.old.holders connections.old book.new.holders connections.new }
 {
     let mut count = 0;
-    for place in 0..places.len() {
-        let reception = deliver_at(
-            config,
-            delivery,
-            connections,
-            book,
-            places,
-            receivers,
-            place,
-        );
+    for place in 0..keys.len() {
+        let reception = deliver_at(config, delivery, connections, book, keys, receivers, place);
         if reception.is_blocking() {
             return DeliveryOutcome::Suspended { place, count };
         }
@@ -225,7 +217,7 @@ pub fn deliver<R: Receiver>(
     DeliveryOutcome::Complete { count }
 }
 
-// Reclaims one slot from the connection at a key, and answers whether there was one.
+// Reclaims one slot from the connection at a key, and returns whether there was one.
 fn reclaim_one(
     publisher: u128,
     connections: &mut Slab<Connection>,
@@ -258,7 +250,7 @@ fn reclaim_at(publisher: u128, connections: &mut Slab<Connection>, book: &mut Sl
     while reclaim_one(publisher, connections, book, key) {}
 }
 
-/// Reclaims every slot that was given back in the publisher's connections at these places. Each of
+/// Reclaims every slot that was given back in the publisher's connections at these keys. Each of
 /// them has one holder less for it. A publisher calls this before it delivers.
 ///
 /// iceoryx2's `Sender::retrieve_returned_samples` (`src/port/details/sender.rs`).
@@ -266,17 +258,17 @@ pub fn reclaim_all(
     publisher: u128,
     connections: &mut Slab<Connection>,
     book: &mut SlotBook,
-    places: &[Option<usize>],
+    keys: &[Option<usize>],
 )
-    requires linked { IsSenderLinked publisher connections.old places.now }
+    requires linked { IsSenderLinked publisher connections.old keys.now }
     requires apart { IsApart connections.old }
     requires covered { IsCovered publisher book.old.holders connections.old.slots }
     ensures book { book.new ≡ with_counters book.old book.new.holders }
     ensures reclaims { Reclaims publisher book.old.holders connections.old book.new.holders connections.new }
-    ensures all { HasReclaimed connections.new places.now }
+    ensures all { HasReclaimed connections.new keys.now }
 {
-    for index in 0..places.len() {
-        if let Some(key) = places[index] {
+    for index in 0..keys.len() {
+        if let Some(key) = keys[index] {
             reclaim_at(publisher, connections, book, key);
         }
     }

@@ -4,13 +4,13 @@ use Rattle.std.specs.Option.{MatchOption, option_map}
 use Rattle.std.specs.List.{flat_map}
 use Rattle.std.proofs.lemmas.Bool.{eqb-true, ne_eqb}
 use Rattle.std.proofs.lemmas.Option.{none-some, same_Some}
-use Rattle.iox2_store.specs.Limits.{buffer_limit}
-use Rattle.iox2_store.specs.Numbers.{put_at, contains, size}
-use Rattle.iox2_store.specs.Places.{occupants}
-use Rattle.iox2_store.specs.Mailbox.{Mailbox, numbers_in, has_numbers, has_borrows, has_data, waiting_count, IsWithin}
-use Rattle.iox2_store.specs.Records.{Loan, Publisher}
-use Rattle.iox2_store.specs.State.{State}
-use Rattle.iox2_store.specs.WellFormed.{LeadsTo, publisher_place, BlockedIsWellFormed, PublisherIsWellFormed, SubscriberIsWellFormed, MailboxIsWellFormed, LoanIsWellFormed, IsWellFormed}
+use Rattle.iox2_store.specs.machine.Limits.{buffer_limit}
+use Rattle.iox2_store.specs.machine.Numbers.{put_at, contains, size}
+use Rattle.iox2_store.specs.machine.Places.{occupants}
+use Rattle.iox2_store.specs.machine.Mailbox.{Mailbox, numbers_in, has_numbers, has_borrows, has_data, waiting_count, IsWithin}
+use Rattle.iox2_store.specs.machine.Records.{Loan, Publisher}
+use Rattle.iox2_store.specs.machine.State.{State}
+use Rattle.iox2_store.specs.machine.WellFormed.{LeadsTo, publisher_place, BlockedIsWellFormed, PublisherIsWellFormed, SubscriberIsWellFormed, MailboxIsWellFormed, LoanIsWellFormed, IsWellFormed}
 use Rattle.iox2_laws.proofs.NumberLemmas.{contains_in_append, contains_left, contains_right}
 use Rattle.iox2_laws.proofs.Puts.{put_at-same, put_at-other, at_each, found_put}
 

@@ -4,14 +4,14 @@ use Rattle.std.specs.List.{flat_map}
 use Rattle.std.specs.declared.time.Duration.{Duration}
 use Rattle.std.proofs.lemmas.Bool.{true≢false, eqb-true, eqb-false, ne_eqb}
 use Rattle.std.proofs.lemmas.Option.{none-some, same_Some, cond_some, option_and_then_some}
-use Rattle.iox2_store.specs.Limits.{buffer_limit}
-use Rattle.iox2_store.specs.Numbers.{contains, without, size, IsOnce}
-use Rattle.iox2_store.specs.Places.{occupant, occupants}
-use Rattle.iox2_store.specs.Mailbox.{Mailbox, numbers_in, has_borrows, waiting_count, has_room, with_appended, IsWithin}
-use Rattle.iox2_store.specs.Records.{Loan, Handler, Environment, Publisher, Subscriber, BlockedSend}
-use Rattle.iox2_store.specs.State.{State, held, receiving_buffer}
-use Rattle.iox2_store.specs.Delivery.{PutResult, Accepted, Skipped, Failed, Would_block, accepted_count, is_failed, is_blocking, DeliveryEnd, Complete, Suspended, no_time, Put, PutAtEnd, Deliver}
-use Rattle.iox2_store.specs.WellFormed.{LeadsTo, IsInjective, BlockedIsWellFormed, PublisherIsWellFormed, SubscriberIsWellFormed, MailboxIsWellFormed, LoanIsWellFormed, IsWellFormed}
+use Rattle.iox2_store.specs.machine.Limits.{buffer_limit}
+use Rattle.iox2_store.specs.machine.Numbers.{contains, without, size, IsOnce}
+use Rattle.iox2_store.specs.machine.Places.{occupant, occupants}
+use Rattle.iox2_store.specs.machine.Mailbox.{Mailbox, numbers_in, has_borrows, waiting_count, has_room, with_appended, IsWithin}
+use Rattle.iox2_store.specs.machine.Records.{Loan, Handler, Environment, Publisher, Subscriber, BlockedSend}
+use Rattle.iox2_store.specs.machine.State.{State, held, receiving_buffer}
+use Rattle.iox2_store.specs.machine.Delivery.{PutResult, Accepted, Skipped, Failed, Would_block, accepted_count, is_failed, is_blocking, DeliveryEnd, Complete, Suspended, no_time, Put, PutAtEnd, Deliver}
+use Rattle.iox2_store.specs.machine.WellFormed.{LeadsTo, IsInjective, BlockedIsWellFormed, PublisherIsWellFormed, SubscriberIsWellFormed, MailboxIsWellFormed, LoanIsWellFormed, IsWellFormed}
 use Rattle.iox2_store.specs.declared.service_config.ServiceConfig.{ServiceConfig}
 use Rattle.iox2_store.specs.declared.backpressure.BackpressureStrategy.{BackpressureStrategy}
 use Rattle.iox2_store.specs.declared.backpressure.BackpressureAction.{BackpressureAction}

@@ -4,11 +4,11 @@ use Rattle.std.specs.List.{flat_map}
 use Rattle.std.proofs.lemmas.Bool.{true≢false}
 use Rattle.std.proofs.lemmas.List.{length-append}
 use Rattle.std.proofs.lemmas.Option.{none-some}
-use Rattle.iox2_store.specs.Limits.{buffer_limit}
-use Rattle.iox2_store.specs.Places.{occupants}
-use Rattle.iox2_store.specs.Mailbox.{numbers_in}
-use Rattle.iox2_store.specs.State.{State, fresh, held}
-use Rattle.iox2_store.specs.WellFormed.{PlacesAgree, PublisherIsWellFormed, MailboxIsWellFormed, IsWellFormed, HoldsAtMostWorstCase}
+use Rattle.iox2_store.specs.machine.Limits.{buffer_limit}
+use Rattle.iox2_store.specs.machine.Places.{occupants}
+use Rattle.iox2_store.specs.machine.Mailbox.{numbers_in}
+use Rattle.iox2_store.specs.machine.State.{State, fresh, held}
+use Rattle.iox2_store.specs.machine.WellFormed.{PlacesAgree, PublisherIsWellFormed, MailboxIsWellFormed, IsWellFormed, HoldsAtMostWorstCase}
 use Rattle.iox2_store.specs.declared.service_config.ServiceConfig.{ServiceConfig}
 use Rattle.iox2_laws.proofs.NumberLemmas.{size_le_length, length-flat_map}
 use Rattle.iox2_laws.proofs.PlaceLemmas.{length-occupants_le}

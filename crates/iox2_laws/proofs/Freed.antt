@@ -10,13 +10,13 @@ use Rattle.iox2_laws.proofs.FilterLemmas.{passes_all, some_fails}
 use Rattle.iox2_laws.proofs.PlaceLemmas.{occupant-vacated, vacated_keeps, length-vacated, contains-occupants}
 use Rattle.iox2_laws.proofs.PortChanges.{RestIsWellFormed, IsNearlyWellFormed, with_rest, publishers_due_keeps}
 use Rattle.iox2_laws.specs.Laws.{Advances}
-use Rattle.iox2_store.specs.Numbers.{put_at, contains}
-use Rattle.iox2_store.specs.Places.{occupant, occupants, vacated}
-use Rattle.iox2_store.specs.Mailbox.{has_borrows, has_data, waiting_count}
-use Rattle.iox2_store.specs.Records.{Publisher, Subscriber}
-use Rattle.iox2_store.specs.State.{State, connected_publishers}
-use Rattle.iox2_store.specs.Releases.{is_unused, place_freed, freed_if_unused}
-use Rattle.iox2_store.specs.WellFormed.{LeadsTo, PlacesAgree, BlockedIsWellFormed, PublisherIsWellFormed, SubscriberIsWellFormed, MailboxIsWellFormed, LoanIsWellFormed, IsWellFormed}
+use Rattle.iox2_store.specs.machine.Numbers.{put_at, contains}
+use Rattle.iox2_store.specs.machine.Places.{occupant, occupants, vacated}
+use Rattle.iox2_store.specs.machine.Mailbox.{has_borrows, has_data, waiting_count}
+use Rattle.iox2_store.specs.machine.Records.{Publisher, Subscriber}
+use Rattle.iox2_store.specs.machine.State.{State, connected_publishers}
+use Rattle.iox2_store.specs.machine.Releases.{is_unused, place_freed, freed_if_unused}
+use Rattle.iox2_store.specs.machine.WellFormed.{LeadsTo, PlacesAgree, BlockedIsWellFormed, PublisherIsWellFormed, SubscriberIsWellFormed, MailboxIsWellFormed, LoanIsWellFormed, IsWellFormed}
 
 module _ {T U : Type 0} where
   removed_places : (s : State T U) → RestIsWellFormed s → (q : ℕ)

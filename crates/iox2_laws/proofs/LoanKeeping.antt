@@ -2,21 +2,21 @@
 use Rattle.std.proofs.Common.{◌≡◌, ◌⊎◌, inl, inr, ℕ, ◌+◌, ◌≤◌, Bool, false, List, drop, refl, sym, ap, subst, ◌∙◌, eqb, ltb, le_refl, le_trans, ⊎_elim, Option, None, Some}
 use Rattle.std.specs.declared.time.Duration.{Duration}
 use Rattle.std.proofs.lemmas.Bool.{cond_both}
-use Rattle.iox2_store.specs.Limits.{buffer_limit, last_number}
-use Rattle.iox2_store.specs.Numbers.{put_at, size}
-use Rattle.iox2_store.specs.Places.{free_place}
-use Rattle.iox2_store.specs.Mailbox.{Mailbox}
-use Rattle.iox2_store.specs.Records.{Loan, Publisher, Subscriber, PublisherSettings, SubscriberSettings, Environment, BlockedSend}
-use Rattle.iox2_store.specs.State.{State, held, with_loan}
-use Rattle.iox2_store.specs.Delivery.{DeliveryEnd, Complete, Suspended, no_time}
-use Rattle.iox2_store.specs.PublisherUpdate.{UpdatePublisher}
-use Rattle.iox2_store.specs.SubscriberUpdate.{UpdateSubscriber}
-use Rattle.iox2_store.specs.Loans.{is_static, limit_error, loan_granted, DynamicLoan, GrantLoan, written, loan_discarded}
-use Rattle.iox2_store.specs.SingleCalls.{GrantWrittenLoan}
-use Rattle.iox2_store.specs.Sends.{SendResult, ConcludeSend, with_mailboxes, published, more_retries, DeliverAndConclude, Send, Retry, GiveUp}
-use Rattle.iox2_store.specs.Receives.{ReceiveResult, Got_sample, No_sample, Receive_error, TakeSample, Receive, HasSamples}
-use Rattle.iox2_store.specs.Releases.{is_unused, place_freed, freed_if_unused, subscriber_pruned, unborrowed, released}
-use Rattle.iox2_store.specs.Ports.{buffer_for, first_segment_fits, with_new_publisher, with_new_subscriber, with_failure_warning, MakePublisher, MakeSubscriber, CreatePublisher, CreateSubscriber, subscriber_shut, publisher_closed, subscriber_closed}
+use Rattle.iox2_store.specs.machine.Limits.{buffer_limit, last_number}
+use Rattle.iox2_store.specs.machine.Numbers.{put_at, size}
+use Rattle.iox2_store.specs.machine.Places.{free_place}
+use Rattle.iox2_store.specs.machine.Mailbox.{Mailbox}
+use Rattle.iox2_store.specs.machine.Records.{Loan, Publisher, Subscriber, PublisherSettings, SubscriberSettings, Environment, BlockedSend}
+use Rattle.iox2_store.specs.machine.State.{State, held, with_loan}
+use Rattle.iox2_store.specs.machine.Delivery.{DeliveryEnd, Complete, Suspended, no_time}
+use Rattle.iox2_store.specs.machine.PublisherUpdate.{UpdatePublisher}
+use Rattle.iox2_store.specs.machine.SubscriberUpdate.{UpdateSubscriber}
+use Rattle.iox2_store.specs.machine.Loans.{is_static, limit_error, loan_granted, DynamicLoan, GrantLoan, written, loan_discarded}
+use Rattle.iox2_store.specs.machine.SingleCalls.{GrantWrittenLoan}
+use Rattle.iox2_store.specs.machine.Sends.{SendResult, ConcludeSend, with_mailboxes, published, more_retries, DeliverAndConclude, Send, Retry, GiveUp}
+use Rattle.iox2_store.specs.machine.Receives.{ReceiveResult, Got_sample, No_sample, Receive_error, TakeSample, Receive, HasSamples}
+use Rattle.iox2_store.specs.machine.Releases.{is_unused, place_freed, freed_if_unused, subscriber_pruned, unborrowed, released}
+use Rattle.iox2_store.specs.machine.Ports.{buffer_for, first_segment_fits, with_new_publisher, with_new_subscriber, with_failure_warning, MakePublisher, MakeSubscriber, CreatePublisher, CreateSubscriber, subscriber_shut, publisher_closed, subscriber_closed}
 use Rattle.iox2_store.specs.declared.errors.ConnectionFailure.{ConnectionFailure}
 use Rattle.iox2_store.specs.declared.errors.LoanError.{LoanError}
 use Rattle.iox2_store.specs.declared.errors.LoanError.TheVariants.{OutOfMemory, ExceedsMaxLoans, ExceedsMaxLoanSize, InternalFailure}

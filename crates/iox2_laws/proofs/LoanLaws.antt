@@ -6,15 +6,15 @@ use Rattle.std.specs.List.{flat_map, list_all}
 use Rattle.std.proofs.lemmas.Bool.{true≢false, eqb-true, eqb-false, eq-eqb, ne_eqb, leb-false, and_parts, and_from, or_left}
 use Rattle.std.proofs.lemmas.List.{length-append, length-replicate, length-set, length-map}
 use Rattle.std.proofs.lemmas.Option.{none-some, same_Some}
-use Rattle.iox2_store.specs.Limits.{last_number, segment_limit}
-use Rattle.iox2_store.specs.Numbers.{put_at, contains, without, size}
-use Rattle.iox2_store.specs.Places.{occupants}
-use Rattle.iox2_store.specs.Mailbox.{numbers_in}
-use Rattle.iox2_store.specs.Records.{Loan, Publisher, Environment}
-use Rattle.iox2_store.specs.State.{State, held, with_loan, is_blocked}
-use Rattle.iox2_store.specs.Loans.{is_static, limit_error, loan_granted, DynamicLoan, GrantLoan, written, with_cell, is_initialized, initialized, loan_discarded}
-use Rattle.iox2_store.specs.SingleCalls.{GrantWrittenLoan, WriteAllFrom, ChangeCells, ChangeValues}
-use Rattle.iox2_store.specs.WellFormed.{BlockedIsWellFormed, PublisherIsWellFormed, SubscriberIsWellFormed, LoanIsWellFormed, IsWellFormed}
+use Rattle.iox2_store.specs.machine.Limits.{last_number, segment_limit}
+use Rattle.iox2_store.specs.machine.Numbers.{put_at, contains, without, size}
+use Rattle.iox2_store.specs.machine.Places.{occupants}
+use Rattle.iox2_store.specs.machine.Mailbox.{numbers_in}
+use Rattle.iox2_store.specs.machine.Records.{Loan, Publisher, Environment}
+use Rattle.iox2_store.specs.machine.State.{State, held, with_loan, is_blocked}
+use Rattle.iox2_store.specs.machine.Loans.{is_static, limit_error, loan_granted, DynamicLoan, GrantLoan, written, with_cell, is_initialized, initialized, loan_discarded}
+use Rattle.iox2_store.specs.machine.SingleCalls.{GrantWrittenLoan, WriteAllFrom, ChangeCells, ChangeValues}
+use Rattle.iox2_store.specs.machine.WellFormed.{BlockedIsWellFormed, PublisherIsWellFormed, SubscriberIsWellFormed, LoanIsWellFormed, IsWellFormed}
 use Rattle.iox2_store.specs.declared.header.Header.{Header}
 use Rattle.iox2_store.specs.declared.errors.LoanError.{LoanError}
 use Rattle.iox2_store.specs.declared.errors.LoanError.TheVariants.{OutOfMemory, ExceedsMaxLoans, ExceedsMaxLoanSize, InternalFailure}

@@ -4,8 +4,8 @@ use Rattle.std.proofs.lemmas.Bool.{true≢false, cond_both, ltb-true, and_parts,
 use Rattle.std.proofs.lemmas.List.{length-append, length-drop, append_assoc}
 use Rattle.iox2_laws.proofs.NumberLemmas.{contains_in_append, contains_left, contains_right, absent_left, absent_right, contains_one, contains_first, contains_later, contains_in_drop, contains_in_last_n, contains_in_without, false_from, absent_from}
 use Rattle.iox2_laws.proofs.NumberLemmas.{length-last_n, length-without_le, IsOnce-drop, IsOnce-last_n, IsOnce-push, IsOnce-left, IsOnce-right, IsOnce-apart, IsOnce-append, IsOnce-without}
-use Rattle.iox2_store.specs.Numbers.{contains, without, is_nil, last_n, IsOnce}
-use Rattle.iox2_store.specs.Mailbox.{Mailbox, empty_mailbox, numbers_in, has_numbers, has_borrows, is_borrowed, has_data, can_receive, waiting_count, with_appended, with_waiting, waiting_dropped, BorrowsFirst, with_released, IsWithin}
+use Rattle.iox2_store.specs.machine.Numbers.{contains, without, is_nil, last_n, IsOnce}
+use Rattle.iox2_store.specs.machine.Mailbox.{Mailbox, empty_mailbox, numbers_in, has_numbers, has_borrows, is_borrowed, has_data, can_receive, waiting_count, with_appended, with_waiting, waiting_dropped, BorrowsFirst, with_released, IsWithin}
 
 -- ---- numbers and their presence
 

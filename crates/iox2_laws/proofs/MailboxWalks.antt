@@ -2,14 +2,14 @@
 use Rattle.std.proofs.Common.{◌≡◌, ℕ, ◌+◌, Bool, List, [], ◌∷◌, sym, ap, subst, ◌∙◌, eqb, Option, None, Some, ⊎_elim}
 use Rattle.std.specs.Prelude.{◌||◌}
 use Rattle.std.specs.declared.time.Duration.{Duration}
-use Rattle.iox2_store.specs.Numbers.{put_at, last_n}
-use Rattle.iox2_store.specs.Places.{occupant}
-use Rattle.iox2_store.specs.Mailbox.{Mailbox, has_room, with_appended, with_waiting, waiting_dropped}
-use Rattle.iox2_store.specs.Records.{Handler, Environment, BlockedSend}
-use Rattle.iox2_store.specs.Delivery.{PutResult, DeliveryEnd, Complete, Suspended, Put, PutAtEnd, Deliver, no_time, is_blocking, accepted_count, is_failed}
-use Rattle.iox2_store.specs.Connections.{ForEachPlace}
-use Rattle.iox2_store.specs.PublisherUpdate.{SenderSide, SenderAction, Keep_end, Drop_waiting, Disconnect, Connect, sender_action, disconnected, Performs, UpdateSenderPlace}
-use Rattle.iox2_store.specs.SubscriberUpdate.{ReceiverSide, Retirement, Keep_expired, Evict, Discard_data, Refuse, retirement_of, is_refused, after_retirement, with_end, ConnectReceiver, Retire, ConnectAtPlace, DisconnectAtPlace, UpdateReceiverSide}
+use Rattle.iox2_store.specs.machine.Numbers.{put_at, last_n}
+use Rattle.iox2_store.specs.machine.Places.{occupant}
+use Rattle.iox2_store.specs.machine.Mailbox.{Mailbox, has_room, with_appended, with_waiting, waiting_dropped}
+use Rattle.iox2_store.specs.machine.Records.{Handler, Environment, BlockedSend}
+use Rattle.iox2_store.specs.machine.Delivery.{PutResult, DeliveryEnd, Complete, Suspended, Put, PutAtEnd, Deliver, no_time, is_blocking, accepted_count, is_failed}
+use Rattle.iox2_store.specs.machine.Connections.{ForEachPlace}
+use Rattle.iox2_store.specs.machine.PublisherUpdate.{SenderSide, SenderAction, Keep_end, Drop_waiting, Disconnect, Connect, sender_action, disconnected, Performs, UpdateSenderPlace}
+use Rattle.iox2_store.specs.machine.SubscriberUpdate.{ReceiverSide, Retirement, Keep_expired, Evict, Discard_data, Refuse, retirement_of, is_refused, after_retirement, with_end, ConnectReceiver, Retire, ConnectAtPlace, DisconnectAtPlace, UpdateReceiverSide}
 use Rattle.iox2_store.specs.declared.service_config.ServiceConfig.{ServiceConfig}
 use Rattle.iox2_store.specs.declared.backpressure.BackpressureStrategy.{BackpressureStrategy}
 use Rattle.iox2_store.specs.declared.backpressure.BackpressureAction.{BackpressureAction}

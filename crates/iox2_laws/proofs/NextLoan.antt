@@ -3,11 +3,11 @@ use Rattle.std.proofs.Common.{◌≡◌, ℕ, ◌+◌, ◌<◌, Bool, false, ref
 use Rattle.std.specs.Prelude.{◌==◌}
 use Rattle.std.proofs.lemmas.Bool.{ne_eqb}
 use Rattle.std.proofs.lemmas.Option.{none-some}
-use Rattle.iox2_store.specs.Limits.{last_number}
-use Rattle.iox2_store.specs.Numbers.{size}
-use Rattle.iox2_store.specs.Records.{Loan, Publisher, Environment}
-use Rattle.iox2_store.specs.State.{State, held}
-use Rattle.iox2_store.specs.Loans.{GrantLoan, DynamicLoan, limit_error, is_static, loan_granted}
+use Rattle.iox2_store.specs.machine.Limits.{last_number}
+use Rattle.iox2_store.specs.machine.Numbers.{size}
+use Rattle.iox2_store.specs.machine.Records.{Loan, Publisher, Environment}
+use Rattle.iox2_store.specs.machine.State.{State, held}
+use Rattle.iox2_store.specs.machine.Loans.{GrantLoan, DynamicLoan, limit_error, is_static, loan_granted}
 use Rattle.iox2_store.specs.declared.errors.LoanError.{LoanError}
 use Rattle.iox2_store.specs.declared.errors.LoanError.TheVariants.{OutOfMemory, ExceedsMaxLoans, ExceedsMaxLoanSize, InternalFailure}
 use Rattle.iox2_laws.proofs.Cases.{by_option, by_bool}

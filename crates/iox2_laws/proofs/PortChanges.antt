@@ -4,13 +4,13 @@ use Rattle.std.specs.List.{flat_map}
 use Rattle.std.specs.Option.{MatchOption, option_map}
 use Rattle.std.proofs.lemmas.Bool.{true≢false}
 use Rattle.std.proofs.lemmas.Option.{none-some, same_Some}
-use Rattle.iox2_store.specs.Numbers.{contains, size}
-use Rattle.iox2_store.specs.Places.{occupant, occupants}
-use Rattle.iox2_store.specs.Mailbox.{Mailbox, numbers_in, has_numbers, has_borrows, waiting_count}
-use Rattle.iox2_store.specs.Records.{Loan, Publisher, Subscriber}
-use Rattle.iox2_store.specs.State.{State, publishers_due, subscribers_due}
-use Rattle.iox2_store.specs.WellFormed.{LeadsTo, PlacesAgree, publisher_place, subscriber_place, BlockedIsWellFormed, PublisherIsWellFormed}
-use Rattle.iox2_store.specs.WellFormed.{SubscriberIsWellFormed, MailboxIsWellFormed, LoanIsWellFormed, IsWellFormed}
+use Rattle.iox2_store.specs.machine.Numbers.{contains, size}
+use Rattle.iox2_store.specs.machine.Places.{occupant, occupants}
+use Rattle.iox2_store.specs.machine.Mailbox.{Mailbox, numbers_in, has_numbers, has_borrows, waiting_count}
+use Rattle.iox2_store.specs.machine.Records.{Loan, Publisher, Subscriber}
+use Rattle.iox2_store.specs.machine.State.{State, publishers_due, subscribers_due}
+use Rattle.iox2_store.specs.machine.WellFormed.{LeadsTo, PlacesAgree, publisher_place, subscriber_place, BlockedIsWellFormed, PublisherIsWellFormed}
+use Rattle.iox2_store.specs.machine.WellFormed.{SubscriberIsWellFormed, MailboxIsWellFormed, LoanIsWellFormed, IsWellFormed}
 use Rattle.iox2_store.specs.declared.warning.Warning.{Warning}
 use Rattle.iox2_laws.proofs.Puts.{found_mapped}
 use Rattle.iox2_laws.proofs.NumberLemmas.{contains_in_append, contains_left, contains_right, contains_in_flat_map, contains-flat_map, size_le, absent_from}

@@ -3,16 +3,16 @@ use Rattle.std.proofs.Common.{◌≡◌, ℕ, ◌+◌, ◌≤◌, ◌<◌, true,
 use Rattle.std.proofs.Common.{None, Some, ◌⊎◌, ⊎_elim}
 use Rattle.std.proofs.lemmas.Bool.{eq-eqb, true≢false, ne_eqb, ltb-false, false_from_ne_true}
 use Rattle.std.proofs.lemmas.Option.{none-some, same_Some}
-use Rattle.iox2_store.specs.Limits.{buffer_limit, last_number}
-use Rattle.iox2_store.specs.Numbers.{contains, put_at}
-use Rattle.iox2_store.specs.Places.{occupant, set_place, free_place}
-use Rattle.iox2_store.specs.Mailbox.{Mailbox, has_numbers, waiting_count}
-use Rattle.iox2_store.specs.Records.{Publisher, Subscriber, PublisherSettings, SubscriberSettings, Environment}
-use Rattle.iox2_store.specs.State.{State, is_blocked, with_warning}
-use Rattle.iox2_store.specs.Ports.{buffer_for, first_segment_fits, new_publisher, new_subscriber, with_new_publisher, with_new_subscriber}
-use Rattle.iox2_store.specs.Ports.{with_buffer_warning, with_failure_warning, CreatePublisher, CreateSubscriber, MakePublisher, MakeSubscriber}
-use Rattle.iox2_store.specs.WellFormed.{LeadsTo, PlacesAgree, publisher_place, subscriber_place, PublisherIsWellFormed, SubscriberIsWellFormed}
-use Rattle.iox2_store.specs.WellFormed.{MailboxIsWellFormed, IsWellFormed}
+use Rattle.iox2_store.specs.machine.Limits.{buffer_limit, last_number}
+use Rattle.iox2_store.specs.machine.Numbers.{contains, put_at}
+use Rattle.iox2_store.specs.machine.Places.{occupant, set_place, free_place}
+use Rattle.iox2_store.specs.machine.Mailbox.{Mailbox, has_numbers, waiting_count}
+use Rattle.iox2_store.specs.machine.Records.{Publisher, Subscriber, PublisherSettings, SubscriberSettings, Environment}
+use Rattle.iox2_store.specs.machine.State.{State, is_blocked, with_warning}
+use Rattle.iox2_store.specs.machine.Ports.{buffer_for, first_segment_fits, new_publisher, new_subscriber, with_new_publisher, with_new_subscriber}
+use Rattle.iox2_store.specs.machine.Ports.{with_buffer_warning, with_failure_warning, CreatePublisher, CreateSubscriber, MakePublisher, MakeSubscriber}
+use Rattle.iox2_store.specs.machine.WellFormed.{LeadsTo, PlacesAgree, publisher_place, subscriber_place, PublisherIsWellFormed, SubscriberIsWellFormed}
+use Rattle.iox2_store.specs.machine.WellFormed.{MailboxIsWellFormed, IsWellFormed}
 use Rattle.iox2_store.specs.declared.errors.ConnectionFailure.{ConnectionFailure}
 use Rattle.iox2_store.specs.declared.errors.PublisherCreateError.{PublisherCreateError}
 use Rattle.iox2_store.specs.declared.errors.SubscriberCreateError.{SubscriberCreateError}

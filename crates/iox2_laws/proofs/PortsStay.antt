@@ -3,18 +3,18 @@ use Rattle.std.proofs.Common.{◌≡◌, ℕ, Bool, true, false, List, [], ◌�
 use Rattle.std.specs.Prelude.{max, ◌==◌, nat_lt}
 use Rattle.std.specs.Option.{option_map}
 use Rattle.std.proofs.lemmas.Option.{same_Some}
-use Rattle.iox2_store.specs.Limits.{last_number, buffer_limit, expired_limit}
-use Rattle.iox2_store.specs.Numbers.{put_at, without, size, last_n}
-use Rattle.iox2_store.specs.Places.{free_place}
-use Rattle.iox2_store.specs.Mailbox.{Mailbox}
-use Rattle.iox2_store.specs.Records.{Loan, Publisher, Subscriber, Environment, PublisherSettings, SubscriberSettings}
-use Rattle.iox2_store.specs.State.{State, held, receiving_buffer, has_receiver_end, has_sender_end, with_loan, publisher_changed}
-use Rattle.iox2_store.specs.Delivery.{DeliveryEnd, Complete, Suspended, no_time}
-use Rattle.iox2_store.specs.PublisherUpdate.{sender_side, UpdatePublisher}
-use Rattle.iox2_store.specs.SubscriberUpdate.{receiver_side, UpdateSubscriber}
-use Rattle.iox2_store.specs.Loans.{GrantLoan, StaticLoan, DynamicLoan, limit_error, is_static, loan_granted, loan_discarded}
-use Rattle.iox2_store.specs.Sends.{Send, Publish, DeliverAndConclude, ConcludeSend, SendResult, Blocked_send, with_mailboxes, published}
-use Rattle.iox2_store.specs.Ports.{CreatePublisher, CreateSubscriber, MakePublisher, MakeSubscriber, with_new_publisher, with_new_subscriber, new_publisher, new_subscriber, with_failure_warning, first_segment_fits, buffer_for}
+use Rattle.iox2_store.specs.machine.Limits.{last_number, buffer_limit, expired_limit}
+use Rattle.iox2_store.specs.machine.Numbers.{put_at, without, size, last_n}
+use Rattle.iox2_store.specs.machine.Places.{free_place}
+use Rattle.iox2_store.specs.machine.Mailbox.{Mailbox}
+use Rattle.iox2_store.specs.machine.Records.{Loan, Publisher, Subscriber, Environment, PublisherSettings, SubscriberSettings}
+use Rattle.iox2_store.specs.machine.State.{State, held, receiving_buffer, has_receiver_end, has_sender_end, with_loan, publisher_changed}
+use Rattle.iox2_store.specs.machine.Delivery.{DeliveryEnd, Complete, Suspended, no_time}
+use Rattle.iox2_store.specs.machine.PublisherUpdate.{sender_side, UpdatePublisher}
+use Rattle.iox2_store.specs.machine.SubscriberUpdate.{receiver_side, UpdateSubscriber}
+use Rattle.iox2_store.specs.machine.Loans.{GrantLoan, StaticLoan, DynamicLoan, limit_error, is_static, loan_granted, loan_discarded}
+use Rattle.iox2_store.specs.machine.Sends.{Send, Publish, DeliverAndConclude, ConcludeSend, SendResult, Blocked_send, with_mailboxes, published}
+use Rattle.iox2_store.specs.machine.Ports.{CreatePublisher, CreateSubscriber, MakePublisher, MakeSubscriber, with_new_publisher, with_new_subscriber, new_publisher, new_subscriber, with_failure_warning, first_segment_fits, buffer_for}
 use Rattle.std.specs.declared.time.Duration.{Duration}
 use Rattle.iox2_store.specs.declared.errors.ConnectionFailure.{ConnectionFailure}
 use Rattle.iox2_store.specs.declared.errors.LoanError.{LoanError}

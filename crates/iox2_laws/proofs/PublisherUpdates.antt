@@ -4,13 +4,13 @@ use Rattle.std.specs.List.{flat_map}
 use Rattle.std.specs.Option.{option_map, is_some, MatchOption}
 use Rattle.std.proofs.lemmas.Bool.{true≢false, ne_eqb}
 use Rattle.std.proofs.lemmas.Option.{none-some, same_Some}
-use Rattle.iox2_store.specs.Numbers.{put_at, contains, size}
-use Rattle.iox2_store.specs.Places.{occupants}
-use Rattle.iox2_store.specs.Mailbox.{Mailbox, numbers_in, has_numbers, has_borrows, has_data}
-use Rattle.iox2_store.specs.Records.{Publisher, Subscriber, BlockedSend, Loan, Environment}
-use Rattle.iox2_store.specs.State.{State, held, is_blocked}
-use Rattle.iox2_store.specs.PublisherUpdate.{SenderSide, with_sender_side, UpdatePublisher}
-use Rattle.iox2_store.specs.WellFormed.{LeadsTo, publisher_place, IsWellFormed, BlockedIsWellFormed, PublisherIsWellFormed, SubscriberIsWellFormed, MailboxIsWellFormed, LoanIsWellFormed}
+use Rattle.iox2_store.specs.machine.Numbers.{put_at, contains, size}
+use Rattle.iox2_store.specs.machine.Places.{occupants}
+use Rattle.iox2_store.specs.machine.Mailbox.{Mailbox, numbers_in, has_numbers, has_borrows, has_data}
+use Rattle.iox2_store.specs.machine.Records.{Publisher, Subscriber, BlockedSend, Loan, Environment}
+use Rattle.iox2_store.specs.machine.State.{State, held, is_blocked}
+use Rattle.iox2_store.specs.machine.PublisherUpdate.{SenderSide, with_sender_side, UpdatePublisher}
+use Rattle.iox2_store.specs.machine.WellFormed.{LeadsTo, publisher_place, IsWellFormed, BlockedIsWellFormed, PublisherIsWellFormed, SubscriberIsWellFormed, MailboxIsWellFormed, LoanIsWellFormed}
 use Rattle.iox2_store.specs.declared.errors.ConnectionFailure.{ConnectionFailure}
 use Rattle.iox2_laws.specs.Laws.{Advances}
 use Rattle.iox2_laws.proofs.Cases.{by_option, by_bool}

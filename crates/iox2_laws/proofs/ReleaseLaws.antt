@@ -11,14 +11,14 @@ use Rattle.iox2_laws.proofs.FilterLemmas.{contains_in_filter, contains-filter, I
 use Rattle.iox2_laws.proofs.PlaceLemmas.{occupant-places_kept, places_kept_keeps, length-places_kept, injective_places_kept}
 use Rattle.iox2_laws.proofs.MailboxLemmas.{has_numbers-borrows, has_numbers-data, IsWithin-released, contains_in_released, has_borrows_before_release, has_numbers_before_release}
 use Rattle.iox2_laws.specs.Laws.{Advances}
-use Rattle.iox2_store.specs.Limits.{buffer_limit, expired_limit}
-use Rattle.iox2_store.specs.Numbers.{put_at, contains, size}
-use Rattle.iox2_store.specs.Places.{occupant, occupants}
-use Rattle.iox2_store.specs.Mailbox.{Mailbox, numbers_in, has_numbers, has_borrows, has_data, waiting_count, with_released, IsWithin}
-use Rattle.iox2_store.specs.Records.{Publisher, Subscriber}
-use Rattle.iox2_store.specs.State.{State, held, is_present}
-use Rattle.iox2_store.specs.Releases.{is_connected, pruned, unborrowed, subscriber_pruned, released}
-use Rattle.iox2_store.specs.WellFormed.{LeadsTo, subscriber_place, BlockedIsWellFormed, PublisherIsWellFormed, SubscriberIsWellFormed, MailboxIsWellFormed, LoanIsWellFormed, IsWellFormed}
+use Rattle.iox2_store.specs.machine.Limits.{buffer_limit, expired_limit}
+use Rattle.iox2_store.specs.machine.Numbers.{put_at, contains, size}
+use Rattle.iox2_store.specs.machine.Places.{occupant, occupants}
+use Rattle.iox2_store.specs.machine.Mailbox.{Mailbox, numbers_in, has_numbers, has_borrows, has_data, waiting_count, with_released, IsWithin}
+use Rattle.iox2_store.specs.machine.Records.{Publisher, Subscriber}
+use Rattle.iox2_store.specs.machine.State.{State, held, is_present}
+use Rattle.iox2_store.specs.machine.Releases.{is_connected, pruned, unborrowed, subscriber_pruned, released}
+use Rattle.iox2_store.specs.machine.WellFormed.{LeadsTo, subscriber_place, BlockedIsWellFormed, PublisherIsWellFormed, SubscriberIsWellFormed, MailboxIsWellFormed, LoanIsWellFormed, IsWellFormed}
 use Rattle.iox2_store.specs.declared.warning.Warning.{Warning}
 
 -- ---- less in the mailboxes

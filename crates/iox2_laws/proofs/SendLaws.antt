@@ -4,14 +4,14 @@ use Rattle.std.specs.Option.{option_map, option_map_or}
 use Rattle.std.specs.declared.time.Duration.{Duration}
 use Rattle.std.proofs.lemmas.Bool.{true≢false, eqb-false}
 use Rattle.std.proofs.lemmas.Option.{none-some, same_Some}
-use Rattle.iox2_store.specs.Numbers.{put_at, contains, without, last_n}
-use Rattle.iox2_store.specs.Places.{occupant}
-use Rattle.iox2_store.specs.Mailbox.{Mailbox, numbers_in}
-use Rattle.iox2_store.specs.Records.{Loan, Publisher, BlockedSend, Environment}
-use Rattle.iox2_store.specs.State.{State, is_blocked, receiving_buffer, publisher_changed}
-use Rattle.iox2_store.specs.Delivery.{DeliveryEnd, Complete, Suspended, no_time}
-use Rattle.iox2_store.specs.Sends.{SendResult, more_retries, published, send_ended, send_blocked, ConcludeSend, with_mailboxes, DeliverAndConclude, Publish, Send, Retry, GiveUp}
-use Rattle.iox2_store.specs.WellFormed.{LeadsTo, IsInjective, BlockedIsWellFormed, PublisherIsWellFormed, IsWellFormed}
+use Rattle.iox2_store.specs.machine.Numbers.{put_at, contains, without, last_n}
+use Rattle.iox2_store.specs.machine.Places.{occupant}
+use Rattle.iox2_store.specs.machine.Mailbox.{Mailbox, numbers_in}
+use Rattle.iox2_store.specs.machine.Records.{Loan, Publisher, BlockedSend, Environment}
+use Rattle.iox2_store.specs.machine.State.{State, is_blocked, receiving_buffer, publisher_changed}
+use Rattle.iox2_store.specs.machine.Delivery.{DeliveryEnd, Complete, Suspended, no_time}
+use Rattle.iox2_store.specs.machine.Sends.{SendResult, more_retries, published, send_ended, send_blocked, ConcludeSend, with_mailboxes, DeliverAndConclude, Publish, Send, Retry, GiveUp}
+use Rattle.iox2_store.specs.machine.WellFormed.{LeadsTo, IsInjective, BlockedIsWellFormed, PublisherIsWellFormed, IsWellFormed}
 use Rattle.iox2_laws.specs.Laws.{Advances}
 use Rattle.iox2_laws.proofs.Cases.{by_option}
 use Rattle.iox2_laws.proofs.Puts.{put_at-same, put_at-other, at_each}

@@ -2,15 +2,15 @@
 use Rattle.std.proofs.Common.{◌≡◌, ℕ, ◌≤◌, ◌<◌, Bool, true, false, cond, List, length, refl, sym, ap, subst, ◌∙◌, arith, eqb, Option, None, Some, ◌⊎◌, inl, inr, ⊎_elim}
 use Rattle.std.proofs.lemmas.Bool.{eqb-false, eq-eqb, ne_eqb}
 use Rattle.std.proofs.lemmas.Option.{none-some, same_Some, cond_some, option_and_then_some}
-use Rattle.iox2_store.specs.Limits.{buffer_limit}
-use Rattle.iox2_store.specs.Numbers.{put_at, contains, last_n}
-use Rattle.iox2_store.specs.Places.{occupant, set_place, is_port}
-use Rattle.iox2_store.specs.Mailbox.{Mailbox, numbers_in, has_numbers, has_borrows, waiting_count, waiting_dropped, with_waiting, IsWithin}
-use Rattle.iox2_store.specs.Records.{Publisher, Subscriber, Environment}
-use Rattle.iox2_store.specs.State.{State, receiving_buffer, has_receiver_end}
-use Rattle.iox2_store.specs.Connections.{ForEachPlace}
-use Rattle.iox2_store.specs.PublisherUpdate.{SenderSide, SenderAction, Keep_end, Drop_waiting, Disconnect, Connect, sender_action, dropped, disconnected, connected, Performs, UpdateSenderPlace, sender_side}
-use Rattle.iox2_store.specs.WellFormed.{LeadsTo, IsInjective, subscriber_place, IsWellFormed, PublisherIsWellFormed, SubscriberIsWellFormed}
+use Rattle.iox2_store.specs.machine.Limits.{buffer_limit}
+use Rattle.iox2_store.specs.machine.Numbers.{put_at, contains, last_n}
+use Rattle.iox2_store.specs.machine.Places.{occupant, set_place, is_port}
+use Rattle.iox2_store.specs.machine.Mailbox.{Mailbox, numbers_in, has_numbers, has_borrows, waiting_count, waiting_dropped, with_waiting, IsWithin}
+use Rattle.iox2_store.specs.machine.Records.{Publisher, Subscriber, Environment}
+use Rattle.iox2_store.specs.machine.State.{State, receiving_buffer, has_receiver_end}
+use Rattle.iox2_store.specs.machine.Connections.{ForEachPlace}
+use Rattle.iox2_store.specs.machine.PublisherUpdate.{SenderSide, SenderAction, Keep_end, Drop_waiting, Disconnect, Connect, sender_action, dropped, disconnected, connected, Performs, UpdateSenderPlace, sender_side}
+use Rattle.iox2_store.specs.machine.WellFormed.{LeadsTo, IsInjective, subscriber_place, IsWellFormed, PublisherIsWellFormed, SubscriberIsWellFormed}
 use Rattle.iox2_store.specs.declared.errors.ConnectionFailure.{ConnectionFailure}
 use Rattle.iox2_laws.proofs.Puts.{at_each}
 use Rattle.iox2_laws.proofs.PlaceLemmas.{length-set_place_le, occupant-set_place, is_port-true, is_port-false, injective_removed, injective_set, found_set}

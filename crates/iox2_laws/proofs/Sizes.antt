@@ -1,6 +1,6 @@
 -- How many different numbers a list has.
 use Rattle.std.proofs.Common.{◌≡◌, ℕ, ◌≤◌, List, length, sym, ◌∙◌, arith}
-use Rattle.iox2_store.specs.Numbers.{contains, size, distinct, IsOnce}
+use Rattle.iox2_store.specs.machine.Numbers.{contains, size, distinct, IsOnce}
 use Rattle.iox2_laws.proofs.NumberLemmas.{contains-distinct, IsOnce-distinct, length_le}
 
 -- the number of different numbers is the length of a list that has the same numbers once each

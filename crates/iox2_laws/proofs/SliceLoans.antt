@@ -1,9 +1,9 @@
 -- A loan of default values keeps a state well-formed.
 use Rattle.std.proofs.Common.{ℕ, true, List, sym, subst, Option}
-use Rattle.iox2_store.specs.Records.{Environment}
-use Rattle.iox2_store.specs.State.{State}
-use Rattle.iox2_store.specs.WellFormed.{IsWellFormed}
-use Rattle.iox2_store.specs.SingleCalls.{GrantDefaultSlice}
+use Rattle.iox2_store.specs.machine.Records.{Environment}
+use Rattle.iox2_store.specs.machine.State.{State}
+use Rattle.iox2_store.specs.machine.WellFormed.{IsWellFormed}
+use Rattle.iox2_store.specs.machine.SingleCalls.{GrantDefaultSlice}
 use Rattle.iox2_store.specs.declared.errors.LoanError.{LoanError}
 use Rattle.iox2_laws.proofs.Cases.{by_option}
 use Rattle.iox2_laws.proofs.LoanLaws.{grant_loan_keeps, write_all_keeps}

@@ -1,7 +1,7 @@
 ghost use Rattle.std.specs.Prelude.{◌≡◌, ℕ, List, length};
-ghost use Rattle.iox2_store.specs.Numbers.{contains, size, IsOnce};
-ghost use Rattle.iox2_store.specs.State.{State, fresh};
-ghost use Rattle.iox2_store.specs.WellFormed.{IsWellFormed, HoldsAtMostWorstCase};
+ghost use Rattle.iox2_store.specs.machine.Numbers.{contains, size, IsOnce};
+ghost use Rattle.iox2_store.specs.machine.State.{State, fresh};
+ghost use Rattle.iox2_store.specs.machine.WellFormed.{IsWellFormed, HoldsAtMostWorstCase};
 ghost use Rattle.iox2_store.specs.declared.service_config.ServiceConfig.{ServiceConfig};
 ghost use Rattle.iox2_laws.specs.Laws.{FreshIsWellFormed, WorstCaseIsEnough, SizeIsLength};
 

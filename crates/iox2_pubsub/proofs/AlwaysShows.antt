@@ -4,12 +4,12 @@ use Rattle.std.proofs.lemmas.Option.{none-some}
 use Rattle.std.specs.declared.option.Option.{Option}
 use Rattle.std.specs.declared.option.Option.TheVariants.{None, Some}
 use Rattle.std.specs.Option.{option_and_then}
-use Rattle.iox2_store.specs.Records.{Loan}
+use Rattle.iox2_store.specs.machine.Records.{Loan}
 use Rattle.iox2_domain.specs.Kept.{KeptMessage, Lent_message, Sent_message, loan_in, entry_in, message_numbered, state_of, entries_of}
 use Rattle.iox2_domain.specs.Fields.{Fields, kept_of}
 use Rattle.iox2_domain.specs.Invariant.{IsDomain}
 use Rattle.iox2_domain.specs.Shows.{Shows}
-use Rattle.iox2_domain.proofs.Messages.{message_numbered-there, has_number}
+use Rattle.iox2_domain.proofs.lemmas.slots.Messages.{message_numbered-there, has_number}
 
 module _ {T U : Type 0} (f : Fields T U) (sound : IsDomain f) where
   -- what is kept has a number that was given out

@@ -2,17 +2,17 @@
 use Rattle.std.proofs.Common.{◌≡◌, ℕ, ◌<◌, List, true, false, sym, ap, subst, ◌∙◌, Option, None, Some, Result, Ok, Err, inl, inr, arith}
 use Rattle.std.specs.Prelude.{◌≢◌}
 use Rattle.std.proofs.lemmas.Bool.{cases_eq, ne_eqb, true≢false}
-use Rattle.iox2_store.specs.Environments.{fixed_handlers, ample_memory}
-use Rattle.iox2_store.specs.Loans.{written}
-use Rattle.iox2_store.specs.Mailbox.{is_borrowed}
-use Rattle.iox2_store.specs.Numbers.{put_at, contains}
-use Rattle.iox2_store.specs.Ports.{CreatePublisher, CreateSubscriber}
-use Rattle.iox2_store.specs.Receives.{ReceiveResult, Got_sample, No_sample, Receive_error, Receive}
-use Rattle.iox2_store.specs.Records.{Entry, Loan, PublisherSettings, SubscriberSettings}
-use Rattle.iox2_store.specs.Releases.{released}
-use Rattle.iox2_store.specs.Sends.{SendResult, Blocked_send, Send}
-use Rattle.iox2_store.specs.Shows.{In_mailbox}
-use Rattle.iox2_store.specs.State.{State, Messages, with_loan}
+use Rattle.iox2_store.specs.machine.Environments.{fixed_handlers, ample_memory}
+use Rattle.iox2_store.specs.machine.Loans.{written}
+use Rattle.iox2_store.specs.machine.Mailbox.{is_borrowed}
+use Rattle.iox2_store.specs.machine.Numbers.{put_at, contains}
+use Rattle.iox2_store.specs.machine.Ports.{CreatePublisher, CreateSubscriber}
+use Rattle.iox2_store.specs.machine.Receives.{ReceiveResult, Got_sample, No_sample, Receive_error, Receive}
+use Rattle.iox2_store.specs.machine.Records.{Entry, Loan, PublisherSettings, SubscriberSettings}
+use Rattle.iox2_store.specs.machine.Releases.{released}
+use Rattle.iox2_store.specs.machine.Sends.{SendResult, Blocked_send, Send}
+use Rattle.iox2_store.specs.Stored.{In_mailbox}
+use Rattle.iox2_store.specs.machine.State.{State, Messages, with_loan}
 use Rattle.iox2_store.specs.declared.errors.LoanError.{LoanError}
 use Rattle.iox2_store.specs.declared.errors.PublisherCreateError.{PublisherCreateError}
 use Rattle.iox2_store.specs.declared.errors.SubscriberCreateError.{SubscriberCreateError}

@@ -4,17 +4,17 @@ use Rattle.std.specs.declared.option.Option.{Option}
 use Rattle.std.specs.declared.option.Option.TheVariants.{None, Some}
 use Rattle.slab.specs.Slab.{Slab}
 use Rattle.circular_buffer.specs.Buffer.{buffer}
-use Rattle.iox2_store.specs.Limits.{warning_limit}
+use Rattle.iox2_store.specs.machine.Limits.{warning_limit}
 use Rattle.iox2_store.specs.Link.{Link}
 use Rattle.iox2_store.specs.SlotBook.{Book}
-use Rattle.iox2_store.specs.State.{fresh, no_messages}
+use Rattle.iox2_store.specs.machine.State.{fresh, no_messages}
 use Rattle.iox2_store.specs.declared.service_config.ServiceConfig.{ServiceConfig}
 use Rattle.iox2_ends.specs.LookUp.{IsOnly}
 use Rattle.iox2_laws.proofs.Enough.{fresh_is_well_formed}
 use Rattle.iox2_domain.specs.Fields.{Fields, kept_of}
-use Rattle.iox2_domain.specs.Invariant.{IsDomain, IsLinked, HasBooks, IsNumbered, IsSupported, HasOnlyOpenPorts}
+use Rattle.iox2_domain.specs.Invariant.{IsDomain, IsLinked, HasBooks, IsNumbered, IsSupportedConfig, HasOnlyOpenPorts}
 use Rattle.iox2_domain.specs.FreshFields.{IsFresh}
-use Rattle.iox2_store.specs.Shows.{In_history, In_mailbox, In_blocked_send}
+use Rattle.iox2_store.specs.Stored.{In_history, In_mailbox, In_blocked_send}
 use Rattle.iox2_domain.specs.Shows.{Shows, KeepsEntries}
 
 -- at no place of an empty list stands anything
@@ -92,7 +92,7 @@ module _ {T U : Type 0} (config : ServiceConfig) (v c v' c' : ℕ) where
     books = λ key b at. absurd (nothing_at key b at);
   }
 
-  is_domain : IsSupported config → IsDomain empty_fields
+  is_domain : IsSupportedConfig config → IsDomain empty_fields
   is_domain supported = record {
     publisher_ids = λ p. none_only _;
     subscriber_ids = λ q. none_only _;
@@ -130,7 +130,7 @@ module _ {A B : Type 0} (P : Slab A → Slab B → Type 0) where
       subst with_second (sym f) (subst with_first (sym e) h)
 
 module _ {T U : Type 0} (config : ServiceConfig) (connections : Slab Link) (books : Slab Book) (e : connections.slots ≡ []) (f : books.slots ≡ []) where
-  fresh_is_domain : IsSupported config → IsDomain {T = T} {U = U} (fresh_fields config connections books)
+  fresh_is_domain : IsSupportedConfig config → IsDomain {T = T} {U = U} (fresh_fields config connections books)
   fresh_is_domain supported =
       at_empty (λ s t. IsDomain {T = T} {U = U} (fresh_fields config s t)) connections books e f
       (is_domain config connections.vacant_key connections.capacity books.vacant_key books.capacity supported)
@@ -155,7 +155,7 @@ module _ {T U : Type 0} (config : ServiceConfig) (f : Fields T U) (is : IsFresh 
   }
 
   -- a new domain's fields agree
-  pub new_is_domain : IsSupported config → IsDomain f
+  pub new_is_domain : IsSupportedConfig config → IsDomain f
   new_is_domain supported = subst IsDomain (sym fields-are) (fresh_is_domain config f.connections f.books is.connections is.books supported)
 
   -- and they show the fresh state

@@ -1,8 +1,8 @@
 -- What it takes for a handle to be live, part by part.
 use Rattle.std.proofs.Common.{◌≡◌, ℕ, Bool, true, ap, sym, ◌∙◌, Some}
-use Rattle.iox2_store.specs.Mailbox.{is_borrowed}
-use Rattle.iox2_store.specs.Records.{Loan}
-use Rattle.iox2_store.specs.SingleCalls.{HoldsPublisher, HoldsSubscriber, HoldsLoan, HoldsSample}
+use Rattle.iox2_store.specs.machine.Mailbox.{is_borrowed}
+use Rattle.iox2_store.specs.machine.Records.{Loan}
+use Rattle.iox2_store.specs.machine.SingleCalls.{HoldsPublisher, HoldsSubscriber, HoldsLoan, HoldsSample}
 use Rattle.iox2_store.specs.declared.key.Key.{Key}
 use Rattle.iox2_store.specs.declared.service_config.TypeVariant.TheVariants.{FixedSize}
 use Rattle.iox2_domain.specs.Kept.{Kept, state_of}

@@ -2,10 +2,10 @@
 use Rattle.std.proofs.Common.{◌≡◌, ℕ, cond, refl, ap, sym, subst, ◌∙◌, le_refl}
 use Rattle.std.proofs.lemmas.Bool.{eq-eqb}
 use Rattle.std.specs.declared.option.Option.TheVariants.{None, Some}
-use Rattle.iox2_store.specs.Records.{Loan}
-use Rattle.iox2_store.specs.State.{State, Messages, with_loan}
-use Rattle.iox2_store.specs.Loans.{written}
-use Rattle.iox2_store.specs.SingleCalls.{HoldsLoan}
+use Rattle.iox2_store.specs.machine.Records.{Loan}
+use Rattle.iox2_store.specs.machine.State.{State, Messages, with_loan}
+use Rattle.iox2_store.specs.machine.Loans.{written}
+use Rattle.iox2_store.specs.machine.SingleCalls.{HoldsLoan}
 use Rattle.iox2_laws.proofs.Puts.{found_put}
 use Rattle.iox2_domain.specs.Kept.{Kept, state_of}
 use Rattle.iox2_domain.specs.Fields.{Fields, kept_of}
@@ -19,7 +19,7 @@ use Rattle.iox2_domain.specs.Invariant.{IsDomain}
 use Rattle.iox2_domain.specs.LoanCalls.{HoldsUnwritten, HoldsWritten, HasLoanHeader, WritesLoan}
 use Rattle.iox2_domain.specs.Reaches.{Reaches}
 use Rattle.iox2_domain.specs.Shows.{Shows}
-use Rattle.iox2_domain.proofs.ReachesShows.{reaches-shows}
+use Rattle.iox2_domain.proofs.lemmas.fields.ReachesShows.{reaches-shows}
 
 module _ {T U : Type 0} (inside kept : Kept T U) (view : inside ≡ kept) where
   -- what holds of the state that is kept holds of each that is shown
@@ -76,9 +76,9 @@ module _ {T U : Type 0} (f g : Fields T U) (kept : Kept T U) (view : kept_of f �
 module _ {T U : Type 0} (f : Fields T U) (sound : IsDomain f) (number publisher : ℕ) (header : Header) where
   -- it names the publisher
   pub header-origin : HoldsLoan (state_of (kept_of f)) publisher number → HasLoanHeader (state_of (kept_of f)) number header → header.publisher_id ≡ publisher
-  header-origin held has =
-      let both : Some held.0 ≡ Some has.0 = sym held.1 ∙ has.1 in
-      let loan : held.0 ≡ has.0 = cc in
+  header-origin live has =
+      let both : Some live.0 ≡ Some has.0 = sym live.1 ∙ has.1 in
+      let loan : live.0 ≡ has.0 = cc in
       ap (λ (h : Header). h.publisher_id) (sym has.2)
       ∙ (sound.well_formed.loans number has.0 has.1).origin
-      ∙ ap (λ (l : Loan T U). l.publisher) (sym loan) ∙ held.2
+      ∙ ap (λ (l : Loan T U). l.publisher) (sym loan) ∙ live.2

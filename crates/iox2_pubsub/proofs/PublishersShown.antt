@@ -2,10 +2,10 @@
 use Rattle.std.proofs.Common.{◌≡◌, ℕ, refl, ap, sym, subst, ◌∙◌}
 use Rattle.std.specs.declared.option.Option.{Option}
 use Rattle.std.specs.declared.option.Option.TheVariants.{None}
-use Rattle.iox2_store.specs.Ports.{CreatePublisher}
-use Rattle.iox2_store.specs.Records.{Environment}
-use Rattle.iox2_store.specs.SingleCalls.{HoldsPublisher}
-use Rattle.iox2_store.specs.State.{State, Messages}
+use Rattle.iox2_store.specs.machine.Ports.{CreatePublisher}
+use Rattle.iox2_store.specs.machine.Records.{Environment}
+use Rattle.iox2_store.specs.machine.SingleCalls.{HoldsPublisher}
+use Rattle.iox2_store.specs.machine.State.{State, Messages}
 use Rattle.iox2_store.specs.declared.errors.PublisherCreateError.{PublisherCreateError}
 use Rattle.iox2_store.specs.declared.service_config.ServiceConfig.{ServiceConfig}
 use Rattle.iox2_domain.specs.Kept.{state_of}
@@ -16,8 +16,8 @@ use Rattle.iox2_pubsub.specs.declared.publisher.Publisher.{Publisher}
 use Rattle.iox2_pubsub.proofs.LiveParts.{publisher-live}
 use Rattle.iox2_domain.specs.Reaches.{Reaches}
 use Rattle.iox2_domain.specs.Shows.{Shows}
-use Rattle.iox2_domain.proofs.ReachesShows.{reaches-shows-same}
-use Rattle.iox2_domain.proofs.PublisherCreations.{create-keeps, create-holds}
+use Rattle.iox2_domain.proofs.lemmas.fields.ReachesShows.{reaches-shows-same}
+use Rattle.iox2_domain.proofs.lemmas.creations.PublisherCreations.{create-keeps, create-holds}
 
 module _ {T U : Type 0} (f g : Fields T U) (loans : ℕ) (environment : Environment) where
   -- a domain that shows a state shows the one that a creation comes to

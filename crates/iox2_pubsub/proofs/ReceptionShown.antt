@@ -1,17 +1,17 @@
 -- A receive, seen from outside.
 use Rattle.std.proofs.Common.{◌≡◌, ℕ, true, get_or, ap, sym, subst, ◌∙◌, Option, Some, None, Result, Ok, Err}
 use Rattle.std.specs.Prelude.{IsErrAnd}
-use Rattle.iox2_store.specs.Environments.{fixed_handlers}
-use Rattle.iox2_store.specs.Mailbox.{is_borrowed}
-use Rattle.iox2_store.specs.Receives.{ReceiveResult, Got_sample, Receive_error, Receive}
-use Rattle.iox2_store.specs.State.{State, Messages}
+use Rattle.iox2_store.specs.machine.Environments.{fixed_handlers}
+use Rattle.iox2_store.specs.machine.Mailbox.{is_borrowed}
+use Rattle.iox2_store.specs.machine.Receives.{ReceiveResult, Got_sample, Receive_error, Receive}
+use Rattle.iox2_store.specs.machine.State.{State, Messages}
 use Rattle.iox2_store.specs.declared.errors.ReceiveError.{ReceiveError}
 use Rattle.iox2_store.specs.declared.service_config.ServiceConfig.{ServiceConfig}
 use Rattle.iox2_laws.proofs.LoanKeeping.{receive_loans}
 use Rattle.iox2_laws.proofs.ReceiveLaws.{receive_advances}
 use Rattle.iox2_domain.specs.Ports.{SubscriberFields}
 use Rattle.iox2_pubsub.specs.Live.{IsLiveSubscriber, IsLiveSample, IsFromOrigin}
-use Rattle.iox2_pubsub.specs.ReceivedSamples.{received}
+use Rattle.iox2_pubsub.specs.ReceivedSamples.{received_result}
 use Rattle.iox2_pubsub.specs.declared.subscriber.Subscriber.{Subscriber}
 use Rattle.iox2_pubsub.proofs.LiveParts.{subscriber-parts, sample-live, origin-live}
 use Rattle.iox2_pubsub.specs.declared.sample.Sample.{Sample}
@@ -19,15 +19,15 @@ use Rattle.iox2_domain.specs.Shows.{Shows}
 use Rattle.iox2_domain.specs.Kept.{Kept, Named, state_of, is_named}
 use Rattle.iox2_domain.specs.Fields.{Fields, kept_of, subscriber_of}
 use Rattle.iox2_domain.specs.Invariant.{is_subscriber}
-use Rattle.iox2_domain.proofs.Containers.{look_up-map}
+use Rattle.iox2_domain.proofs.lemmas.containers.LookUps.{look_up-map}
 use Rattle.iox2_ends.specs.LookUp.{look_up}
-use Rattle.iox2_store.specs.Records.{Subscriber as MachineSubscriber}
+use Rattle.iox2_store.specs.machine.Records.{Subscriber as MachineSubscriber}
 use Rattle.std.specs.Option.{option_map}
 use Rattle.iox2_domain.specs.Receipts.{receive_result, ReceivesAs}
 use Rattle.iox2_domain.specs.declared.receipts.Receipt.{Receipt}
 use Rattle.iox2_domain.specs.declared.sample_slots.SampleAt.{SampleAt}
-use Rattle.iox2_domain.proofs.ReachesShows.{reaches-shows}
-use Rattle.iox2_domain.proofs.Reception.{received-borrowed}
+use Rattle.iox2_domain.proofs.lemmas.fields.ReachesShows.{reaches-shows}
+use Rattle.iox2_domain.proofs.lemmas.receives.Reception.{received-borrowed}
 
 module _ {T U : Type 0} where
   -- the domain shows what the receive comes to, with the same messages
@@ -35,12 +35,12 @@ module _ {T U : Type 0} where
       → (m : Messages T U) (s : State T U) → Shows kept m s → (s' : State T U) × Shows (kept_of g) m s' × Receive fixed_handlers s q s' (receive_result result)
   reception-shows kept f g same q result receives m s shown =
       let here : Shows (kept_of f) m s = subst (λ (k : Kept T U). Shows k m s) (sym same) shown in
-      let received : Receive fixed_handlers s q receives.0 (receive_result result) =
+      let received_result : Receive fixed_handlers s q receives.0 (receive_result result) =
       subst (λ (t : State T U). Receive fixed_handlers t q receives.0 (receive_result result)) (sym here.state) receives.2 in (
         receives.0,
-        reaches-shows f g m s receives.0 here receives.1 (receive_advances fixed_handlers s q receives.0 (receive_result result) received).next_message
-            (λ n l at. here.unsent n l (ap (λ all. all n) (sym (receive_loans fixed_handlers s q receives.0 (receive_result result) received)) ∙ at)),
-        received,
+        reaches-shows f g m s receives.0 here receives.1 (receive_advances fixed_handlers s q receives.0 (receive_result result) received_result).next_message
+            (λ n l at. here.unsent n l (ap (λ all. all n) (sym (receive_loans fixed_handlers s q receives.0 (receive_result result) received_result)) ∙ at)),
+        received_result,
       )
 
   -- the sample that was received
@@ -80,13 +80,13 @@ module _ {T U : Type 0} where
 -- ---- a receive that failed
 
 -- what is answered is that error
-error-answered : (r : Result (Option Sample) ReceiveError) (e : ReceiveError) → IsErrAnd r (λ e'. e' ≡ e) → received r ≡ Receive_error e
+error-answered : (r : Result (Option Sample) ReceiveError) (e : ReceiveError) → IsErrAnd r (λ e'. e' ≡ e) → received_result r ≡ Receive_error e
 error-answered (Ok sample) e same = absurd same
 error-answered (Err e') e same = ap Receive_error same
 
 module _ {T U : Type 0} (kept : Kept T U) (f g : Fields T U) (view : kept_of f ≡ kept) (q : ℕ) (e : ReceiveError) (receives : ReceivesAs f q (Err e) g)
     (r : Result (Option Sample) ReceiveError) (same : IsErrAnd r (λ e'. e' ≡ e)) where
-  pub error-shows : (m : Messages T U) (s : State T U) → Shows kept m s → (s' : State T U) × Shows (kept_of g) m s' × Receive fixed_handlers s q s' (received r)
+  pub error-shows : (m : Messages T U) (s : State T U) → Shows kept m s → (s' : State T U) × Shows (kept_of g) m s' × Receive fixed_handlers s q s' (received_result r)
   error-shows m s shown =
       subst (λ (answer : ReceiveResult). (s' : State T U) × Shows (kept_of g) m s' × Receive fixed_handlers s q s' answer) (sym (error-answered r e same))
       (reception-shows kept f g view q (Err e) receives m s shown)

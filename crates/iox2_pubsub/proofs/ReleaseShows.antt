@@ -1,13 +1,13 @@
 -- A release, seen from outside.
 use Rattle.std.proofs.Common.{◌≡◌, ℕ, Bool, true, false, cond, refl, sym, subst}
-use Rattle.iox2_store.specs.Mailbox.{is_borrowed}
-use Rattle.iox2_store.specs.Releases.{is_unused, place_freed, unborrowed, subscriber_pruned, released}
-use Rattle.iox2_store.specs.State.{State, Messages}
+use Rattle.iox2_store.specs.machine.Mailbox.{is_borrowed}
+use Rattle.iox2_store.specs.machine.Releases.{is_unused, place_freed, unborrowed, subscriber_pruned, released}
+use Rattle.iox2_store.specs.machine.State.{State, Messages}
 use Rattle.iox2_domain.specs.Kept.{Kept, state_of}
 use Rattle.iox2_domain.specs.Fields.{Fields, kept_of}
 use Rattle.iox2_domain.specs.Reaches.{Reaches}
 use Rattle.iox2_domain.specs.Shows.{Shows}
-use Rattle.iox2_domain.proofs.ReachesShows.{reaches-shows-same}
+use Rattle.iox2_domain.proofs.lemmas.fields.ReachesShows.{reaches-shows-same}
 
 module _ {T U : Type 0} where
   -- a release touches neither loans nor the counter of messages

@@ -1,12 +1,12 @@
 -- Whom a borrowed message is from.
 use Rattle.std.proofs.Common.{◌≡◌, ℕ, true, Some, ap, sym, ◌∙◌}
-use Rattle.iox2_store.specs.Mailbox.{is_borrowed}
-use Rattle.iox2_store.specs.Records.{Entry}
+use Rattle.iox2_store.specs.machine.Mailbox.{is_borrowed}
+use Rattle.iox2_store.specs.machine.Records.{Entry}
 use Rattle.iox2_store.specs.declared.header.Header.{Header}
 use Rattle.iox2_domain.specs.Kept.{state_of, entries_of}
 use Rattle.iox2_domain.specs.Fields.{Fields, kept_of}
 use Rattle.iox2_domain.specs.Invariant.{IsDomain}
-use Rattle.iox2_domain.proofs.SampleEntries.{borrowed-entry}
+use Rattle.iox2_domain.proofs.lemmas.samples.SampleEntries.{borrowed-entry}
 
 -- its header names the publisher from which it is borrowed
 pub entry-origin : {T U : Type 0} (f : Fields T U) → IsDomain f → (q p n : ℕ) (header : Header) → is_borrowed n ((state_of (kept_of f)).mailboxes p q) ≡ true

@@ -3,12 +3,12 @@ use Rattle.std.proofs.Common.{◌≡◌, ℕ, ◌<◌, eqb, refl, ap, sym, subst
 use Rattle.std.proofs.lemmas.Bool.{eqb-true, cases_eq}
 use Rattle.std.specs.declared.option.Option.{Option}
 use Rattle.std.specs.declared.option.Option.TheVariants.{None, Some}
-use Rattle.iox2_store.specs.Environments.{fixed_handlers}
-use Rattle.iox2_store.specs.Loans.{entry_of}
-use Rattle.iox2_store.specs.Numbers.{put_at}
-use Rattle.iox2_store.specs.Records.{Entry, Loan}
-use Rattle.iox2_store.specs.Sends.{Send, Delivered_to}
-use Rattle.iox2_store.specs.State.{State, Messages}
+use Rattle.iox2_store.specs.machine.Environments.{fixed_handlers}
+use Rattle.iox2_store.specs.machine.Loans.{entry_of}
+use Rattle.iox2_store.specs.machine.Numbers.{put_at}
+use Rattle.iox2_store.specs.machine.Records.{Entry, Loan}
+use Rattle.iox2_store.specs.machine.Sends.{Send, Delivered_to}
+use Rattle.iox2_store.specs.machine.State.{State, Messages}
 use Rattle.iox2_laws.proofs.Puts.{put_at-same, put_at-other}
 use Rattle.iox2_laws.proofs.SendLaws.{send_advances}
 use Rattle.iox2_domain.specs.Fields.{Fields, kept_of}

@@ -1,10 +1,10 @@
 -- The creation of a subscriber, seen from outside.
 use Rattle.std.proofs.Common.{◌≡◌, ℕ, refl, ap, sym, subst, ◌∙◌}
 use Rattle.std.specs.declared.option.Option.TheVariants.{None, Some}
-use Rattle.iox2_store.specs.Environments.{fixed_handlers}
-use Rattle.iox2_store.specs.Ports.{buffer_for, CreateSubscriber}
-use Rattle.iox2_store.specs.Records.{SubscriberSettings}
-use Rattle.iox2_store.specs.State.{State, Messages}
+use Rattle.iox2_store.specs.machine.Environments.{fixed_handlers}
+use Rattle.iox2_store.specs.machine.Ports.{buffer_for, CreateSubscriber}
+use Rattle.iox2_store.specs.machine.Records.{SubscriberSettings}
+use Rattle.iox2_store.specs.machine.State.{State, Messages}
 use Rattle.iox2_store.specs.declared.errors.SubscriberCreateError.{SubscriberCreateError}
 use Rattle.iox2_domain.specs.Kept.{Kept, state_of}
 use Rattle.iox2_domain.specs.Fields.{Fields, kept_of}
@@ -13,8 +13,8 @@ use Rattle.iox2_pubsub.specs.declared.subscriber.Subscriber.{Subscriber}
 use Rattle.iox2_pubsub.proofs.LiveParts.{subscriber-live}
 use Rattle.iox2_domain.specs.Reaches.{Reaches}
 use Rattle.iox2_domain.specs.Shows.{Shows}
-use Rattle.iox2_domain.proofs.ReachesShows.{reaches-shows-same}
-use Rattle.iox2_domain.proofs.SubscriberCreations.{create-keeps, create-open}
+use Rattle.iox2_domain.proofs.lemmas.fields.ReachesShows.{reaches-shows-same}
+use Rattle.iox2_domain.proofs.lemmas.creations.SubscriberCreations.{create-keeps, create-open}
 
 module _ {T U : Type 0} (old new : Fields T U) (before : Kept T U) (is_before : kept_of old ≡ before) where
   was : (m : Messages T U) (s : State T U) → Shows before m s → Shows (kept_of old) m s

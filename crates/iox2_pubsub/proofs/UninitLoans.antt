@@ -5,10 +5,10 @@ use Rattle.std.specs.declared.option.Option.{Option}
 use Rattle.std.specs.declared.option.Option.TheVariants.{None, Some}
 use Rattle.std.specs.Option.{option_map}
 use Rattle.std.specs.Prelude.{IsSomeAnd, IsErrAnd}
-use Rattle.iox2_store.specs.Loans.{loan_granted}
-use Rattle.iox2_store.specs.Numbers.{put_at}
-use Rattle.iox2_store.specs.Records.{Loan, Publisher}
-use Rattle.iox2_store.specs.State.{State, Messages}
+use Rattle.iox2_store.specs.machine.Loans.{loan_granted}
+use Rattle.iox2_store.specs.machine.Numbers.{put_at}
+use Rattle.iox2_store.specs.machine.Records.{Loan, Publisher}
+use Rattle.iox2_store.specs.machine.State.{State, Messages}
 use Rattle.iox2_store.specs.declared.errors.LoanError.{LoanError}
 use Rattle.iox2_ends.specs.LookUp.{look_up}
 use Rattle.iox2_pubsub.specs.Live.{IsLivePublisher, IsUnwrittenLoan}
@@ -22,8 +22,8 @@ use Rattle.iox2_domain.specs.Invariant.{is_publisher}
 use Rattle.iox2_domain.specs.Lending.{IsNamed, LoanReaches, LoanCall}
 use Rattle.iox2_domain.specs.declared.loan_slots.LoanAt.{LoanAt}
 use Rattle.iox2_domain.specs.Shows.{Shows}
-use Rattle.iox2_domain.proofs.Containers.{look_up-map}
-use Rattle.iox2_domain.proofs.ReachesShows.{reaches-shows, reaches-shows-same}
+use Rattle.iox2_domain.proofs.lemmas.containers.LookUps.{look_up-map}
+use Rattle.iox2_domain.proofs.lemmas.fields.ReachesShows.{reaches-shows, reaches-shows-same}
 
 module _ {T U : Type 0} (f : Fields T U) where
   abbrev state : State T U

@@ -1,10 +1,10 @@
 -- A send, by its outcome.
 use Rattle.std.specs.Prelude.{ℕ, IsOkAnd}
 use Rattle.std.specs.declared.result.Result.{Result}
-use Rattle.iox2_store.specs.Environments.{fixed_handlers}
-use Rattle.iox2_store.specs.Records.{Loan}
-use Rattle.iox2_store.specs.Sends.{SendResult, Delivered_to, Send}
-use Rattle.iox2_store.specs.State.{State}
+use Rattle.iox2_store.specs.machine.Environments.{fixed_handlers}
+use Rattle.iox2_store.specs.machine.Records.{Loan}
+use Rattle.iox2_store.specs.machine.Sends.{SendResult, Delivered_to, Send}
+use Rattle.iox2_store.specs.machine.State.{State}
 use Rattle.iox2_store.specs.declared.errors.SendError.{SendError}
 use Rattle.iox2_pubsub.specs.declared.send_outcome.SendOutcome.{SendOutcome}
 use Rattle.iox2_pubsub.specs.declared.send_outcome.SendOutcome.TheVariants.{Delivered}

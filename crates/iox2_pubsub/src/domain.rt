@@ -1,8 +1,8 @@
 //! A domain: all ports of a service, and what lies between them.
 ghost use Rattle.std.specs.Prelude.{◌≡◌, false, IfOk};
-ghost use Rattle.iox2_store.specs.State.{Messages, fresh, no_messages};
+ghost use Rattle.iox2_store.specs.machine.State.{Messages, fresh, no_messages};
 ghost use Rattle.iox2_domain.specs.Kept.{state_of};
-ghost use Rattle.iox2_domain.specs.Invariant.{IsSupported};
+ghost use Rattle.iox2_domain.specs.Invariant.{IsSupportedConfig};
 ghost use Rattle.iox2_store.specs.declared.service_config.TypeVariant.TheVariants.{FixedSize};
 ghost use Rattle.iox2_domain.specs.Shows.{Shows};
 ghost use Rattle.iox2_pubsub.specs.Live.{IsSingleValued};
@@ -66,7 +66,7 @@ impl<T: Drop, U: Default + Drop, F: BackpressureFn, G: DegradationFn> Domain<T, 
     /// The domain's settings. A domain always shows some state, with some messages.
     pub fn config(&self) -> &ServiceConfig
         ensures value { result.now ≡ self.now.config }
-        ensures supported { IsSupported self.now.config }
+        ensures supported { IsSupportedConfig self.now.config }
         ensures single_valued { (result.now).units_per_element ≡ 1 → IsSingleValued self.now }
         ensures shown { (messages : Messages T U) × Shows self.now messages (state_of self.now) }
     {

@@ -8,11 +8,11 @@ use iox2_domain::Receipt;
 use iox2_store::{BackpressureFn, DegradationFn, ReceiveError};
 
 impl Subscriber {
-    ghost use Rattle.iox2_store.specs.Environments.{fixed_handlers};
-    ghost use Rattle.iox2_store.specs.Receives.{Receive};
-    ghost use Rattle.iox2_store.specs.State.{State, Messages};
+    ghost use Rattle.iox2_store.specs.machine.Environments.{fixed_handlers};
+    ghost use Rattle.iox2_store.specs.machine.Receives.{Receive};
+    ghost use Rattle.iox2_store.specs.machine.State.{State, Messages};
     ghost use Rattle.iox2_pubsub.specs.Live.{IsFromOrigin, IsLiveSample, IsLiveSubscriber, IsNewIn, Stays, received_sample};
-    ghost use Rattle.iox2_pubsub.specs.ReceivedSamples.{received};
+    ghost use Rattle.iox2_pubsub.specs.ReceivedSamples.{received_result};
     ghost use Rattle.iox2_domain.specs.Shows.{Shows};
 
     /// Updates the subscriber's connections and receives a message: from a publisher of which it
@@ -21,7 +21,7 @@ impl Subscriber {
     /// Fails with `ReceiveError::ExceedsMaxBorrows` where messages wait, but of each publisher that
     /// they come from as many are borrowed as may be. The update stands then, and no message moves.
     /// Where memory for a connection is refused, that is a warning of the domain. The other errors
-    /// aren't answered yet.
+    /// aren't returned yet.
     ///
     /// iceoryx2's `Subscriber::receive` (`src/port/subscriber.rs`).
     pub fn receive<T: Drop, U: Default + Drop, F: BackpressureFn, G: DegradationFn>(
@@ -30,7 +30,7 @@ impl Subscriber {
     ) -> Result<Option<Sample>, ReceiveError>
         requires { IsLiveSubscriber domain.old self.now }
         ensures receives { (m : Messages T U) (s : State T U) → Shows domain.old m s
-            → (s' : State T U) × Shows domain.new m s' × Receive fixed_handlers s self.now.id s' (received result) }
+            → (s' : State T U) × Shows domain.new m s' × Receive fixed_handlers s self.now.id s' (received_result result) }
         ensures live { IfOk result (λ sample. IfSome sample (IsLiveSample domain.new)) }
         ensures new { IfOk result (λ sample. IfSome sample (λ it. IsNewIn domain.old (received_sample it))) }
         ensures origin { IfOk result (λ sample. IfSome sample (IsFromOrigin domain.new)) }

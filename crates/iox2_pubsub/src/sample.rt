@@ -20,10 +20,10 @@ pub struct Sample {
 
 impl Sample {
     ghost use Rattle.std.specs.Prelude.{ℕ, [], ◌∷◌, Some, IsTrue};
-    ghost use Rattle.iox2_store.specs.Mailbox.{is_borrowed};
-    ghost use Rattle.iox2_store.specs.Records.{Entry};
-    ghost use Rattle.iox2_store.specs.Releases.{released};
-    ghost use Rattle.iox2_store.specs.State.{State, Messages};
+    ghost use Rattle.iox2_store.specs.machine.Mailbox.{is_borrowed};
+    ghost use Rattle.iox2_store.specs.machine.Records.{Entry};
+    ghost use Rattle.iox2_store.specs.machine.Releases.{released};
+    ghost use Rattle.iox2_store.specs.machine.State.{State, Messages};
     ghost use Rattle.iox2_pubsub.specs.Live.{IsFromOrigin, IsLiveSample, IsSingleValued, StaysBut, received_sample, sample_key};
     ghost use Rattle.iox2_domain.specs.Shows.{Shows};
 
@@ -123,7 +123,7 @@ impl<T: Drop, U: Default + Drop, F: BackpressureFn, G: DegradationFn> Domain<T, 
     /// library's own.
     #[tactic(auto, unfolding(crate::specs::Live::IsSampleKey))]
     pub fn holds_sample(&self, key: Key) -> bool
-        ensures held { IsTrue result ↔ IsSampleKey self.now key }
+        ensures live { IsTrue result ↔ IsSampleKey self.now key }
         ensures entries { KeepsEntries self.now }
     {
         if key.service_id != self.state.config().service_id {

@@ -16,7 +16,7 @@ pub struct SampleMut {
 
 impl SampleMut {
     ghost use Rattle.std.specs.Prelude.{Some};
-    ghost use Rattle.iox2_store.specs.State.{State, Messages};
+    ghost use Rattle.iox2_store.specs.machine.State.{State, Messages};
     ghost use Rattle.iox2_pubsub.specs.Live.{IsLoanKey, IsSingleValued, IsWrittenLoan, written_key};
     ghost use Rattle.iox2_domain.specs.LoanCalls.{HasCell, HasLoanHeader};
     ghost use Rattle.iox2_domain.specs.Shows.{Shows};

@@ -17,9 +17,9 @@ pub struct SampleMutUninit {
 
 impl SampleMutUninit {
     ghost use Rattle.std.specs.Prelude.{Some};
-    ghost use Rattle.iox2_store.specs.Records.{Loan};
-    ghost use Rattle.iox2_store.specs.State.{State, Messages, with_loan};
-    ghost use Rattle.iox2_store.specs.Loans.{written};
+    ghost use Rattle.iox2_store.specs.machine.Records.{Loan};
+    ghost use Rattle.iox2_store.specs.machine.State.{State, Messages, with_loan};
+    ghost use Rattle.iox2_store.specs.machine.Loans.{written};
     ghost use Rattle.iox2_pubsub.specs.Live.{IsLoanKey, IsSingleValued, IsUnwrittenLoan, IsWrittenLoan, StaysBut, unwritten_key, unwritten_loan, written_key};
     ghost use Rattle.iox2_domain.specs.LoanCalls.{HasCell, HasLoanHeader};
     ghost use Rattle.iox2_domain.specs.Shows.{Shows};

@@ -8,18 +8,18 @@ use iox2_store::{BackpressureFn, DegradationFn, SendError};
 
 impl SampleMut {
     ghost use Rattle.std.specs.Prelude.{Some, IsOk};
-    ghost use Rattle.iox2_store.specs.Loans.{entry_of};
-    ghost use Rattle.iox2_store.specs.Numbers.{put_at};
-    ghost use Rattle.iox2_store.specs.Records.{Loan};
-    ghost use Rattle.iox2_store.specs.State.{State, Messages};
+    ghost use Rattle.iox2_store.specs.machine.Loans.{entry_of};
+    ghost use Rattle.iox2_store.specs.machine.Numbers.{put_at};
+    ghost use Rattle.iox2_store.specs.machine.Records.{Loan};
+    ghost use Rattle.iox2_store.specs.machine.State.{State, Messages};
     ghost use Rattle.iox2_pubsub.specs.Live.{IsLoanKey, IsWrittenLoan, StaysBut, written_key, written_loan};
     ghost use Rattle.iox2_pubsub.specs.SendCalls.{Sends};
     ghost use Rattle.iox2_domain.specs.Shows.{Shows};
 
     /// Sends the message to every subscriber that is open. One whose buffer is full doesn't get it.
-    /// Answers how many subscribers took it.
+    /// Returns how many subscribers took it.
     ///
-    /// No error is answered by a publisher without handlers that wasn't closed. The loan is out no
+    /// No error is returned by a publisher without handlers that wasn't closed. The loan is out no
     /// more; its slot is free again when every subscriber that took the message has released it.
     /// Memory is asked for only where the publisher gets a connection with a new subscriber: where
     /// it is refused, that subscriber doesn't get the message, and the domain keeps a warning.

@@ -1,12 +1,12 @@
 -- Commands on loans, with what a run holds.
 use Rattle.std.proofs.Common.{◌≡◌, ℕ, false, List, [], ◌∷◌, ◌++◌, map, refl, sym, ap, subst, ◌∙◌, None, Some}
 use Rattle.std.specs.Prelude.{slice_set, slice_index_or}
-use Rattle.iox2_store.specs.Records.{Loan}
-use Rattle.iox2_store.specs.State.{State, Messages, with_loan}
-use Rattle.iox2_store.specs.Numbers.{put_at}
-use Rattle.iox2_store.specs.Environments.{fixed_handlers, ample_memory}
-use Rattle.iox2_store.specs.Loans.{GrantLoan, written, entry_of}
-use Rattle.iox2_store.specs.Sends.{Send, Delivered_to}
+use Rattle.iox2_store.specs.machine.Records.{Loan}
+use Rattle.iox2_store.specs.machine.State.{State, Messages, with_loan}
+use Rattle.iox2_store.specs.machine.Numbers.{put_at}
+use Rattle.iox2_store.specs.machine.Environments.{fixed_handlers, ample_memory}
+use Rattle.iox2_store.specs.machine.Loans.{GrantLoan, written, entry_of}
+use Rattle.iox2_store.specs.machine.Sends.{Send, Delivered_to}
 use Rattle.iox2_store.specs.declared.errors.LoanError.{LoanError}
 use Rattle.iox2_store.specs.declared.service_config.TypeVariant.TheVariants.{FixedSize}
 use Rattle.iox2_laws.proofs.SendLaws.{send_advances}
@@ -16,19 +16,19 @@ use Rattle.iox2_pubsub.specs.declared.publisher.Publisher.{Publisher as Publishe
 use Rattle.iox2_pubsub.specs.declared.sample_mut_uninit.SampleMutUninit.{SampleMutUninit}
 use Rattle.iox2_pubsub.specs.declared.sample_mut.SampleMut.{SampleMut}
 use Rattle.iox2_commands.specs.Runs.{Defaults}
-use Rattle.iox2_runs.specs.Tables.{Kept, Nothing_kept, Kept_unwritten, Kept_written}
+use Rattle.iox2_runs.specs.Tables.{TableEntry, No_entry, Unwritten_entry, Written_entry}
 use Rattle.iox2_runs.specs.RunSteps.{Comes}
-use Rattle.iox2_runs.specs.Holdings.{kept_of, Carries}
+use Rattle.iox2_runs.specs.Carries.{entry_for, Carries}
 use Rattle.iox2_commands.specs.declared.command.Command.TheVariants.{LoanUninit, WriteAll, Send as SendLoan}
 use Rattle.iox2_commands.specs.declared.reply.Reply.TheVariants.{Done, Skipped, Loaned, LoanRefused, Delivered}
-use Rattle.iox2_runs.specs.declared.runs.held.Held.{Held}
-use Rattle.iox2_runs.specs.declared.runs.held.Held.TheVariants.{Nothing, Publisher as HeldPublisher, Unwritten, Written}
-use Rattle.iox2_runs.proofs.TableLooks.{is_publisher, is_unwritten, is_written, has_written}
+use Rattle.iox2_runs.specs.declared.runs.made.Made.{Made}
+use Rattle.iox2_runs.specs.declared.runs.made.Made.TheVariants.{Nothing, Publisher as MadePublisher, Unwritten, Written}
+use Rattle.iox2_runs.proofs.TableLooks.{is_publisher_entry, is_unwritten_entry, is_written_entry, has_written}
 use Rattle.iox2_runs.proofs.TableCalls.{write_comes, write_skipped, send_comes, send_skipped}
 use Rattle.iox2_runs.proofs.TableMakes.{loan_skipped, loan_elsewhere, loan_comes, loan_refused_comes, loan_any}
-use Rattle.iox2_runs.proofs.Holdings.{kept-set, stands, lacks}
+use Rattle.iox2_runs.proofs.TableEntries.{entries-set, entry-stands, lacks}
 
-module _ {T U : Type 0} (defaults : Defaults T U) (old new : Domain T U) (table table' : List Held) (of : ℕ) where
+module _ {T U : Type 0} (defaults : Defaults T U) (old new : Domain T U) (table table' : List Made) (of : ℕ) where
   -- a written loan
   pub write_carried : (value : T) (h : SampleMutUninit) (h' : SampleMut) → slice_index_or table of Nothing ≡ Unwritten h
       → ((m : Messages T U) (s : State T U) → Shows old m s → (l : Loan T U) × (s.loans h.loan.number ≡ Some l) × Shows new m (with_loan s h.loan.number (Some (written l value))))
@@ -37,39 +37,39 @@ module _ {T U : Type 0} (defaults : Defaults T U) (old new : Domain T U) (table 
       → Carries defaults old new table (WriteAll of value) Done table' Nothing
   write_carried value h h' at writes service publisher number is = λ m s handles events shown w default_value default_header is_value is_header.
       let wrote = writes m s shown in
-      let same : kept_of (Written h') ≡ Kept_written h.service_id h.loan.publisher h.loan.number = λ i. Kept_written (service i) (publisher i) (number i) in
-      let after : map kept_of table' ≡ slice_set (map kept_of table) of (Kept_written h.service_id h.loan.publisher h.loan.number) =
-      ap (λ (t : List Held). map kept_of t) is ∙ kept-set table of (Written h') ∙ ap (λ (k : Kept). slice_set (map kept_of table) of k) same in
-      subst (λ (ks : List Kept). Comes defaults (Shows new) m s handles events (WriteAll of value) Done (ks ++ Nothing_kept ∷ [])) (sym after)
-      (write_comes defaults (Shows new) m s handles events (map kept_of table) w default_value default_header is_value is_header of h.service_id h.loan.publisher h.loan.number value
-      (stands table of (Unwritten h) at (λ e. let clash : Unwritten h ≡ Nothing = e in cc))
+      let same : entry_for (Written h') ≡ Written_entry h.service_id h.loan.publisher h.loan.number = λ i. Written_entry (service i) (publisher i) (number i) in
+      let after : map entry_for table' ≡ slice_set (map entry_for table) of (Written_entry h.service_id h.loan.publisher h.loan.number) =
+      ap (λ (t : List Made). map entry_for t) is ∙ entries-set table of (Written h') ∙ ap (λ (k : TableEntry). slice_set (map entry_for table) of k) same in
+      subst (λ (ks : List TableEntry). Comes defaults (Shows new) m s handles events (WriteAll of value) Done (ks ++ No_entry ∷ [])) (sym after)
+      (write_comes defaults (Shows new) m s handles events (map entry_for table) w default_value default_header is_value is_header of h.service_id h.loan.publisher h.loan.number value
+      (entry-stands table of (Unwritten h) at (λ e. let clash : Unwritten h ≡ Nothing = e in cc))
       (λ l there. subst (λ (k : Loan T U). Shows new m (with_loan s h.loan.number (Some (written k value)))) (same_loan wrote.0 l (sym wrote.1 ∙ there)) wrote.2))
     where
       same_loan : (k l : Loan T U) → Some k ≡ Some l → k ≡ l
       same_loan k l e = cc
 
   -- there is no such loan
-  pub write_passed : (value : T) → is_unwritten (kept_of (slice_index_or table of Nothing)) ≡ false → old ≡ new → table' ≡ table
+  pub write_passed : (value : T) → is_unwritten_entry (entry_for (slice_index_or table of Nothing)) ≡ false → old ≡ new → table' ≡ table
       → Carries defaults old new table (WriteAll of value) Skipped table' Nothing
   write_passed value other same is = λ m s handles events shown w default_value default_header is_value is_header.
-      subst (λ (t : List Held). Comes defaults (Shows new) m s handles events (WriteAll of value) Skipped (map kept_of t ++ Nothing_kept ∷ [])) (sym is)
-      (write_skipped defaults (Shows new) m s handles events (map kept_of table) w default_value default_header is_value is_header of value
-      (lacks is_unwritten refl table of other) (subst (λ (d : Domain T U). Shows d m s) same shown))
+      subst (λ (t : List Made). Comes defaults (Shows new) m s handles events (WriteAll of value) Skipped (map entry_for t ++ No_entry ∷ [])) (sym is)
+      (write_skipped defaults (Shows new) m s handles events (map entry_for table) w default_value default_header is_value is_header of value
+      (lacks is_unwritten_entry refl table of other) (subst (λ (d : Domain T U). Shows d m s) same shown))
 
   -- ---- a loan
 
-  pub loan_passed : table' ≡ table → is_publisher (kept_of (slice_index_or table of Nothing)) ≡ false → old ≡ new → Carries defaults old new table (LoanUninit of) Skipped table' Nothing
+  pub loan_passed : table' ≡ table → is_publisher_entry (entry_for (slice_index_or table of Nothing)) ≡ false → old ≡ new → Carries defaults old new table (LoanUninit of) Skipped table' Nothing
   loan_passed is other same = λ m s handles events shown w default_value default_header is_value is_header.
-      subst (λ (t : List Held). Comes defaults (Shows new) m s handles events (LoanUninit of) Skipped (map kept_of t ++ Nothing_kept ∷ [])) (sym is)
-      (loan_skipped defaults (Shows new) m s handles events (map kept_of table) w default_value default_header is_value is_header of
-      (lacks is_publisher refl table of other) (subst (λ (d : Domain T U). Shows d m s) same shown))
+      subst (λ (t : List Made). Comes defaults (Shows new) m s handles events (LoanUninit of) Skipped (map entry_for t ++ No_entry ∷ [])) (sym is)
+      (loan_skipped defaults (Shows new) m s handles events (map entry_for table) w default_value default_header is_value is_header of
+      (lacks is_publisher_entry refl table of other) (subst (λ (d : Domain T U). Shows d m s) same shown))
 
   pub loan_of_other : ((old.config).units_per_element ≡ 1 → ⊥) → old ≡ new → Carries defaults old new table (LoanUninit of) Skipped table Nothing
   loan_of_other other same = λ m s handles events shown w default_value default_header is_value is_header.
-      loan_elsewhere defaults (Shows new) m s handles events (map kept_of table) w default_value default_header is_value is_header of
+      loan_elsewhere defaults (Shows new) m s handles events (map entry_for table) w default_value default_header is_value is_header of
       (λ single. other (sym (ap (λ (t : State T U). (t.config).units_per_element) shown.state) ∙ single.1)) (subst (λ (d : Domain T U). Shows d m s) same shown)
 
-  pub loan_carried : table' ≡ table → (h : PublisherHandle) (h' : SampleMutUninit) → slice_index_or table of Nothing ≡ HeldPublisher h
+  pub loan_carried : table' ≡ table → (h : PublisherHandle) (h' : SampleMutUninit) → slice_index_or table of Nothing ≡ MadePublisher h
       → (old.config).variant ≡ FixedSize → (old.config).units_per_element ≡ 1
       → ((m : Messages T U) (s : State T U) → Shows old m s → (s' : State T U) × Shows new m s'
       × ((header : U) × defaults.IsDefaultHeader header × GrantLoan ample_memory header false 1 s h.id s' None))
@@ -78,36 +78,36 @@ module _ {T U : Type 0} (defaults : Defaults T U) (old new : Domain T U) (table 
   loan_carried is h h' at variant units lends service publisher number = λ m s handles events shown w default_value default_header is_value is_header.
       let lent = lends m s shown in
       let loan = lent.2 in
-      let made : Kept_unwritten h'.service_id h.id s.next_message ≡ kept_of (Unwritten h') =
-      λ i. Kept_unwritten h'.service_id (sym publisher i) ((ap (λ (t : State T U). t.next_message) shown.state ∙ sym number) i) in
-      subst (λ (t : List Held). Comes defaults (Shows new) m s handles events (LoanUninit of) Loaned (map kept_of t ++ kept_of (Unwritten h') ∷ [])) (sym is)
-      (subst (λ (k : Kept). Comes defaults (Shows new) m s handles events (LoanUninit of) Loaned (map kept_of table ++ k ∷ [])) made
-      (loan_comes defaults (Shows new) m s handles events (map kept_of table) w default_value default_header is_value is_header of h.service_id h.id
-      (stands table of (HeldPublisher h) at (λ e. let clash : HeldPublisher h ≡ Nothing = e in cc))
+      let made : Unwritten_entry h'.service_id h.id s.next_message ≡ entry_for (Unwritten h') =
+      λ i. Unwritten_entry h'.service_id (sym publisher i) ((ap (λ (t : State T U). t.next_message) shown.state ∙ sym number) i) in
+      subst (λ (t : List Made). Comes defaults (Shows new) m s handles events (LoanUninit of) Loaned (map entry_for t ++ entry_for (Unwritten h') ∷ [])) (sym is)
+      (subst (λ (k : TableEntry). Comes defaults (Shows new) m s handles events (LoanUninit of) Loaned (map entry_for table ++ k ∷ [])) made
+      (loan_comes defaults (Shows new) m s handles events (map entry_for table) w default_value default_header is_value is_header of h.service_id h.id
+      (entry-stands table of (MadePublisher h) at (λ e. let clash : MadePublisher h ≡ Nothing = e in cc))
       (ap (λ (t : State T U). (t.config).variant) shown.state ∙ variant, ap (λ (t : State T U). (t.config).units_per_element) shown.state ∙ units)
       loan.0 loan.1 lent.0 (loan_any loan.0 false 1 s h.id lent.0 None loan.2) lent.1
       h'.service_id (service ∙ sym (ap (λ (t : State T U). (t.config).service_id) (lent.1).state))))
 
-  pub loan_denied : table' ≡ table → (h : PublisherHandle) (e : LoanError) → slice_index_or table of Nothing ≡ HeldPublisher h
+  pub loan_denied : table' ≡ table → (h : PublisherHandle) (e : LoanError) → slice_index_or table of Nothing ≡ MadePublisher h
       → (old.config).variant ≡ FixedSize → (old.config).units_per_element ≡ 1
       → ((m : Messages T U) (s : State T U) → Shows old m s → (s' : State T U) × Shows new m s' × ((s' ≡ s) × ((header : U) → GrantLoan ample_memory header false 1 s h.id s' (Some e))))
       → Carries defaults old new table (LoanUninit of) (LoanRefused e) table' Nothing
   loan_denied is h e at variant units refuses = λ m s handles events shown w default_value default_header is_value is_header.
       let refused = refuses m s shown in
-      subst (λ (t : List Held). Comes defaults (Shows new) m s handles events (LoanUninit of) (LoanRefused e) (map kept_of t ++ Nothing_kept ∷ [])) (sym is)
-      (loan_refused_comes defaults (Shows new) m s handles events (map kept_of table) w default_value default_header is_value is_header of h.service_id h.id
-      (stands table of (HeldPublisher h) at (λ e. let clash : HeldPublisher h ≡ Nothing = e in cc))
+      subst (λ (t : List Made). Comes defaults (Shows new) m s handles events (LoanUninit of) (LoanRefused e) (map entry_for t ++ No_entry ∷ [])) (sym is)
+      (loan_refused_comes defaults (Shows new) m s handles events (map entry_for table) w default_value default_header is_value is_header of h.service_id h.id
+      (entry-stands table of (MadePublisher h) at (λ e. let clash : MadePublisher h ≡ Nothing = e in cc))
       (ap (λ (t : State T U). (t.config).variant) shown.state ∙ variant, ap (λ (t : State T U). (t.config).units_per_element) shown.state ∙ units)
       default_header is_header refused.0 e (loan_any default_header false 1 s h.id refused.0 (Some e) ((refused.2).1 default_header)) refused.1)
 
   -- ---- a send
 
-  pub send_passed : is_written (kept_of (slice_index_or table of Nothing)) ≡ false → old ≡ new → table' ≡ table
+  pub send_passed : is_written_entry (entry_for (slice_index_or table of Nothing)) ≡ false → old ≡ new → table' ≡ table
       → Carries defaults old new table (SendLoan of) Skipped table' Nothing
   send_passed other same is = λ m s handles events shown w default_value default_header is_value is_header.
-      subst (λ (t : List Held). Comes defaults (Shows new) m s handles events (SendLoan of) Skipped (map kept_of t ++ Nothing_kept ∷ [])) (sym is)
-      (send_skipped defaults (Shows new) m s handles events (map kept_of table) w default_value default_header is_value is_header of
-      (lacks is_written refl table of other) (subst (λ (d : Domain T U). Shows d m s) same shown))
+      subst (λ (t : List Made). Comes defaults (Shows new) m s handles events (SendLoan of) Skipped (map entry_for t ++ No_entry ∷ [])) (sym is)
+      (send_skipped defaults (Shows new) m s handles events (map entry_for table) w default_value default_header is_value is_header of
+      (lacks is_written_entry refl table of other) (subst (λ (d : Domain T U). Shows d m s) same shown))
 
   pub send_carried : (h : SampleMut) (count : ℕ) → slice_index_or table of Nothing ≡ Written h
       → ((m : Messages T U) (s : State T U) (l : Loan T U) → Shows old m s → s.loans h.loan.number ≡ Some l
@@ -115,10 +115,10 @@ module _ {T U : Type 0} (defaults : Defaults T U) (old new : Domain T U) (table 
       → table' ≡ slice_set table of Nothing
       → Carries defaults old new table (SendLoan of) (Delivered count) table' Nothing
   send_carried h count at sends is = λ m s handles events shown w default_value default_header is_value is_header.
-      let stand = stands table of (Written h) at (λ e. let clash : Written h ≡ Nothing = e in cc) in
-      let named = has_written s handles events (map kept_of table) w of h.service_id h.loan.publisher h.loan.number stand in
+      let stand = entry-stands table of (Written h) at (λ e. let clash : Written h ≡ Nothing = e in cc) in
+      let named = has_written s handles events (map entry_for table) w of h.service_id h.loan.publisher h.loan.number stand in
       let sent = sends m s named.0 shown named.3 in
-      let after : map kept_of table' ≡ slice_set (map kept_of table) of Nothing_kept = ap (λ (t : List Held). map kept_of t) is ∙ kept-set table of Nothing in
-      subst (λ (ks : List Kept). Comes defaults (Shows new) m s handles events (SendLoan of) (Delivered count) (ks ++ Nothing_kept ∷ [])) (sym after)
-      (send_comes defaults (Shows new) m s handles events (map kept_of table) w default_value default_header is_value is_header of h.service_id h.loan.publisher h.loan.number count
+      let after : map entry_for table' ≡ slice_set (map entry_for table) of No_entry = ap (λ (t : List Made). map entry_for t) is ∙ entries-set table of Nothing in
+      subst (λ (ks : List TableEntry). Comes defaults (Shows new) m s handles events (SendLoan of) (Delivered count) (ks ++ No_entry ∷ [])) (sym after)
+      (send_comes defaults (Shows new) m s handles events (map entry_for table) w default_value default_header is_value is_header of h.service_id h.loan.publisher h.loan.number count
       stand named.0 named.3 sent.0 sent.2 (send_advances fixed_handlers s h.loan.number named.0 sent.0 (Delivered_to count) sent.2).next_message sent.1)

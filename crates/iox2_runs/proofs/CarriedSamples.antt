@@ -3,12 +3,12 @@ use Rattle.std.proofs.Common.{◌≡◌, ℕ, zero, suc, Bool, true, false, cond
 use Rattle.std.specs.Prelude.{slice_get, slice_set, slice_index_or}
 use Rattle.std.proofs.lemmas.Bool.{ne_eqb}
 use Rattle.std.proofs.lemmas.Option.{same_Some}
-use Rattle.iox2_store.specs.Environments.{fixed_handlers}
-use Rattle.iox2_store.specs.Records.{Entry, Loan}
-use Rattle.iox2_store.specs.State.{State, Messages}
-use Rattle.iox2_store.specs.Receives.{Receive, Got_sample, No_sample, Receive_error}
-use Rattle.iox2_store.specs.Mailbox.{is_borrowed}
-use Rattle.iox2_store.specs.Releases.{released}
+use Rattle.iox2_store.specs.machine.Environments.{fixed_handlers}
+use Rattle.iox2_store.specs.machine.Records.{Entry, Loan}
+use Rattle.iox2_store.specs.machine.State.{State, Messages}
+use Rattle.iox2_store.specs.machine.Receives.{Receive, Got_sample, No_sample, Receive_error}
+use Rattle.iox2_store.specs.machine.Mailbox.{is_borrowed}
+use Rattle.iox2_store.specs.machine.Releases.{released}
 use Rattle.iox2_store.specs.declared.errors.ReceiveError.{ReceiveError}
 use Rattle.iox2_store.specs.declared.service_config.TypeVariant.TheVariants.{FixedSize}
 use Rattle.iox2_laws.proofs.ReceiveLaws.{receive_advances}
@@ -23,96 +23,96 @@ use Rattle.iox2_pubsub.specs.declared.sample.Sample.{Sample as SampleHandle}
 use Rattle.iox2_commands.specs.Outcomes.{Handle, Event, replied, skipped}
 use Rattle.iox2_commands.specs.Runs.{Defaults}
 use Rattle.iox2_commands.specs.Step.{Step, sample_at, loan_at, with_cell_at}
-use Rattle.iox2_runs.specs.Tables.{Kept, Nothing_kept, Kept_sample, IsTable}
+use Rattle.iox2_runs.specs.Tables.{TableEntry, No_entry, Sample_entry, IsTable}
 use Rattle.iox2_runs.specs.RunSteps.{Comes}
-use Rattle.iox2_runs.specs.Holdings.{kept_of, Carries}
+use Rattle.iox2_runs.specs.Carries.{entry_for, Carries}
 use Rattle.iox2_commands.specs.declared.command.Command.TheVariants.{Receive as ReceiveCommand, Release as ReleaseCommand, Read as ReadCommand}
 use Rattle.iox2_commands.specs.declared.reply.Reply.{Reply}
 use Rattle.iox2_commands.specs.declared.reply.Reply.TheVariants.{Done, Skipped, Sample as SampleReply, NoSample, ReceiveRefused, Cell}
-use Rattle.iox2_runs.specs.declared.runs.held.Held.{Held}
-use Rattle.iox2_runs.specs.declared.runs.held.Held.TheVariants.{Nothing, Subscriber as HeldSubscriber, Unwritten, Written, Sample as HeldSample}
-use Rattle.iox2_runs.proofs.TableLooks.{is_subscriber, is_sample, is_loan, lacks_sample, lacks_loan, has_unwritten, has_written, has_sample}
+use Rattle.iox2_runs.specs.declared.runs.made.Made.{Made}
+use Rattle.iox2_runs.specs.declared.runs.made.Made.TheVariants.{Nothing, Subscriber as MadeSubscriber, Unwritten, Written, Sample as MadeSample}
+use Rattle.iox2_runs.proofs.TableLooks.{is_subscriber_entry, is_sample_entry, is_loan_entry, lacks_sample, lacks_loan, has_unwritten, has_written, has_sample}
 use Rattle.iox2_runs.proofs.TableCalls.{at_none, at_some}
 use Rattle.iox2_runs.proofs.TableSamples.{receive_skipped, receive_elsewhere, receive_quiet_comes, receive_comes, release_skipped, release_comes, read_comes}
-use Rattle.iox2_runs.proofs.Holdings.{kept-set, stands, lacks}
+use Rattle.iox2_runs.proofs.TableEntries.{entries-set, entry-stands, lacks}
 
 past_one : (k : ℕ) → nat_lt (suc k) 1 ≡ false
 past_one k = grind arith
 
-module _ {T U : Type 0} (defaults : Defaults T U) (old new : Domain T U) (table table' : List Held) (of : ℕ) where
+module _ {T U : Type 0} (defaults : Defaults T U) (old new : Domain T U) (table table' : List Made) (of : ℕ) where
   -- ---- release
 
-  pub release_passed : is_sample (kept_of (slice_index_or table of Nothing)) ≡ false → old ≡ new → table' ≡ table
+  pub release_passed : is_sample_entry (entry_for (slice_index_or table of Nothing)) ≡ false → old ≡ new → table' ≡ table
       → Carries defaults old new table (ReleaseCommand of) Skipped table' Nothing
   release_passed other same is = λ m s handles events shown w default_value default_header is_value is_header.
-      subst (λ (t : List Held). Comes defaults (Shows new) m s handles events (ReleaseCommand of) Skipped (map kept_of t ++ Nothing_kept ∷ [])) (sym is)
-      (release_skipped defaults (Shows new) m s handles events (map kept_of table) w default_value default_header is_value is_header of
-      (lacks is_sample refl table of other) (subst (λ (d : Domain T U). Shows d m s) same shown))
+      subst (λ (t : List Made). Comes defaults (Shows new) m s handles events (ReleaseCommand of) Skipped (map entry_for t ++ No_entry ∷ [])) (sym is)
+      (release_skipped defaults (Shows new) m s handles events (map entry_for table) w default_value default_header is_value is_header of
+      (lacks is_sample_entry refl table of other) (subst (λ (d : Domain T U). Shows d m s) same shown))
 
-  pub release_carried : (h : SampleHandle) → slice_index_or table of Nothing ≡ HeldSample h
+  pub release_carried : (h : SampleHandle) → slice_index_or table of Nothing ≡ MadeSample h
       → is_borrowed h.sample.number ((state_of old).mailboxes h.origin h.sample.subscriber) ≡ true
       → ((m : Messages T U) (s : State T U) → Shows old m s → (p : ℕ) → is_borrowed h.sample.number (s.mailboxes p h.sample.subscriber) ≡ true
       → (s' : State T U) × Shows new m s' × (s' ≡ released s p h.sample.subscriber h.sample.number))
       → table' ≡ slice_set table of Nothing
       → Carries defaults old new table (ReleaseCommand of) Done table' Nothing
-  release_carried h at held releases is = λ m s handles events shown w default_value default_header is_value is_header.
+  release_carried h at live releases is = λ m s handles events shown w default_value default_header is_value is_header.
       let freed =
-      releases m s shown h.origin (subst (λ (t : State T U). is_borrowed h.sample.number (t.mailboxes h.origin h.sample.subscriber) ≡ true) (sym shown.state) held) in
-      let after : map kept_of table' ≡ slice_set (map kept_of table) of Nothing_kept = ap (λ (t : List Held). map kept_of t) is ∙ kept-set table of Nothing in
-      subst (λ (ks : List Kept). Comes defaults (Shows new) m s handles events (ReleaseCommand of) Done (ks ++ Nothing_kept ∷ [])) (sym after)
-      (release_comes defaults (Shows new) m s handles events (map kept_of table) w default_value default_header is_value is_header of h.service_id h.origin h.sample.subscriber h.sample.number
-      (stands table of (HeldSample h) at (λ e. let clash : HeldSample h ≡ Nothing = e in cc))
+      releases m s shown h.origin (subst (λ (t : State T U). is_borrowed h.sample.number (t.mailboxes h.origin h.sample.subscriber) ≡ true) (sym shown.state) live) in
+      let after : map entry_for table' ≡ slice_set (map entry_for table) of No_entry = ap (λ (t : List Made). map entry_for t) is ∙ entries-set table of Nothing in
+      subst (λ (ks : List TableEntry). Comes defaults (Shows new) m s handles events (ReleaseCommand of) Done (ks ++ No_entry ∷ [])) (sym after)
+      (release_comes defaults (Shows new) m s handles events (map entry_for table) w default_value default_header is_value is_header of h.service_id h.origin h.sample.subscriber h.sample.number
+      (entry-stands table of (MadeSample h) at (λ e. let clash : MadeSample h ≡ Nothing = e in cc))
       (released_advances s h.origin h.sample.subscriber h.sample.number).next_message (subst (Shows new m) freed.2 freed.1))
 
   -- ---- receive
 
-  pub receive_passed : table' ≡ table → is_subscriber (kept_of (slice_index_or table of Nothing)) ≡ false → old ≡ new → Carries defaults old new table (ReceiveCommand of) Skipped table' Nothing
+  pub receive_passed : table' ≡ table → is_subscriber_entry (entry_for (slice_index_or table of Nothing)) ≡ false → old ≡ new → Carries defaults old new table (ReceiveCommand of) Skipped table' Nothing
   receive_passed is other same = λ m s handles events shown w default_value default_header is_value is_header.
-      subst (λ (t : List Held). Comes defaults (Shows new) m s handles events (ReceiveCommand of) Skipped (map kept_of t ++ Nothing_kept ∷ [])) (sym is)
-      (receive_skipped defaults (Shows new) m s handles events (map kept_of table) w default_value default_header is_value is_header of
-      (lacks is_subscriber refl table of other) (subst (λ (d : Domain T U). Shows d m s) same shown))
+      subst (λ (t : List Made). Comes defaults (Shows new) m s handles events (ReceiveCommand of) Skipped (map entry_for t ++ No_entry ∷ [])) (sym is)
+      (receive_skipped defaults (Shows new) m s handles events (map entry_for table) w default_value default_header is_value is_header of
+      (lacks is_subscriber_entry refl table of other) (subst (λ (d : Domain T U). Shows d m s) same shown))
 
   pub receive_of_other : ((old.config).units_per_element ≡ 1 → ⊥) → old ≡ new → Carries defaults old new table (ReceiveCommand of) Skipped table Nothing
   receive_of_other other same = λ m s handles events shown w default_value default_header is_value is_header.
-      receive_elsewhere defaults (Shows new) m s handles events (map kept_of table) w default_value default_header is_value is_header of
+      receive_elsewhere defaults (Shows new) m s handles events (map entry_for table) w default_value default_header is_value is_header of
       (λ units. other (sym (ap (λ (t : State T U). (t.config).units_per_element) shown.state) ∙ units)) (subst (λ (d : Domain T U). Shows d m s) same shown)
 
-  pub receive_carried : table' ≡ table → (h : SubscriberHandle) (h' : SampleHandle) (origin : ℕ) → slice_index_or table of Nothing ≡ HeldSubscriber h
+  pub receive_carried : table' ≡ table → (h : SubscriberHandle) (h' : SampleHandle) (origin : ℕ) → slice_index_or table of Nothing ≡ MadeSubscriber h
       → (old.config).variant ≡ FixedSize → (old.config).units_per_element ≡ 1
       → ((m : Messages T U) (s : State T U) → Shows old m s → (s' : State T U) × Shows new m s' × Receive fixed_handlers s h.id s' (Got_sample h'.origin h'.sample.number))
       → h'.service_id ≡ (new.config).service_id → h'.sample.subscriber ≡ h.id → origin ≡ h'.origin
-      → Carries defaults old new table (ReceiveCommand of) (SampleReply origin) table' (HeldSample h')
+      → Carries defaults old new table (ReceiveCommand of) (SampleReply origin) table' (MadeSample h')
   receive_carried is h h' origin at variant units receives service subscriber same = λ m s handles events shown w default_value default_header is_value is_header.
       let got = receives m s shown in
-      let made : Kept_sample h'.service_id h'.origin h.id h'.sample.number ≡ kept_of (HeldSample h') = λ i. Kept_sample h'.service_id h'.origin (sym subscriber i) h'.sample.number in
-      subst (λ (t : List Held). Comes defaults (Shows new) m s handles events (ReceiveCommand of) (SampleReply origin) (map kept_of t ++ kept_of (HeldSample h') ∷ [])) (sym is)
-      (subst (λ (p : ℕ). Comes defaults (Shows new) m s handles events (ReceiveCommand of) (SampleReply p) (map kept_of table ++ kept_of (HeldSample h') ∷ [])) (sym same)
-      (subst (λ (k : Kept). Comes defaults (Shows new) m s handles events (ReceiveCommand of) (SampleReply h'.origin) (map kept_of table ++ k ∷ [])) made
-      (receive_comes defaults (Shows new) m s handles events (map kept_of table) w default_value default_header is_value is_header of h.service_id h.id
-      (stands table of (HeldSubscriber h) at (λ e. let clash : HeldSubscriber h ≡ Nothing = e in cc))
+      let made : Sample_entry h'.service_id h'.origin h.id h'.sample.number ≡ entry_for (MadeSample h') = λ i. Sample_entry h'.service_id h'.origin (sym subscriber i) h'.sample.number in
+      subst (λ (t : List Made). Comes defaults (Shows new) m s handles events (ReceiveCommand of) (SampleReply origin) (map entry_for t ++ entry_for (MadeSample h') ∷ [])) (sym is)
+      (subst (λ (p : ℕ). Comes defaults (Shows new) m s handles events (ReceiveCommand of) (SampleReply p) (map entry_for table ++ entry_for (MadeSample h') ∷ [])) (sym same)
+      (subst (λ (k : TableEntry). Comes defaults (Shows new) m s handles events (ReceiveCommand of) (SampleReply h'.origin) (map entry_for table ++ k ∷ [])) made
+      (receive_comes defaults (Shows new) m s handles events (map entry_for table) w default_value default_header is_value is_header of h.service_id h.id
+      (entry-stands table of (MadeSubscriber h) at (λ e. let clash : MadeSubscriber h ≡ Nothing = e in cc))
       (ap (λ (t : State T U). (t.config).variant) shown.state ∙ variant, ap (λ (t : State T U). (t.config).units_per_element) shown.state ∙ units)
       got.0 h'.origin h'.sample.number got.2 (receive_advances fixed_handlers s h.id got.0 (Got_sample h'.origin h'.sample.number) got.2).next_message got.1
       h'.service_id (service ∙ sym (ap (λ (t : State T U). (t.config).service_id) (got.1).state)))))
 
-  pub receive_none : table' ≡ table → (h : SubscriberHandle) → slice_index_or table of Nothing ≡ HeldSubscriber h → (old.config).units_per_element ≡ 1
+  pub receive_none : table' ≡ table → (h : SubscriberHandle) → slice_index_or table of Nothing ≡ MadeSubscriber h → (old.config).units_per_element ≡ 1
       → ((m : Messages T U) (s : State T U) → Shows old m s → (s' : State T U) × Shows new m s' × Receive fixed_handlers s h.id s' No_sample)
       → Carries defaults old new table (ReceiveCommand of) NoSample table' Nothing
   receive_none is h at units receives = λ m s handles events shown w default_value default_header is_value is_header.
       let got = receives m s shown in
-      subst (λ (t : List Held). Comes defaults (Shows new) m s handles events (ReceiveCommand of) NoSample (map kept_of t ++ Nothing_kept ∷ [])) (sym is)
-      (receive_quiet_comes defaults (Shows new) m s handles events (map kept_of table) w default_value default_header is_value is_header of h.service_id h.id
-      (stands table of (HeldSubscriber h) at (λ e. let clash : HeldSubscriber h ≡ Nothing = e in cc)) (ap (λ (t : State T U). (t.config).units_per_element) shown.state ∙ units)
+      subst (λ (t : List Made). Comes defaults (Shows new) m s handles events (ReceiveCommand of) NoSample (map entry_for t ++ No_entry ∷ [])) (sym is)
+      (receive_quiet_comes defaults (Shows new) m s handles events (map entry_for table) w default_value default_header is_value is_header of h.service_id h.id
+      (entry-stands table of (MadeSubscriber h) at (λ e. let clash : MadeSubscriber h ≡ Nothing = e in cc)) (ap (λ (t : State T U). (t.config).units_per_element) shown.state ∙ units)
       got.0 No_sample NoSample (λ p n e. let clash : No_sample ≡ Got_sample p n = e in absurd cc) refl got.2
       (receive_advances fixed_handlers s h.id got.0 No_sample got.2).next_message got.1)
 
-  pub receive_denied : table' ≡ table → (h : SubscriberHandle) (e : ReceiveError) → slice_index_or table of Nothing ≡ HeldSubscriber h → (old.config).units_per_element ≡ 1
+  pub receive_denied : table' ≡ table → (h : SubscriberHandle) (e : ReceiveError) → slice_index_or table of Nothing ≡ MadeSubscriber h → (old.config).units_per_element ≡ 1
       → ((m : Messages T U) (s : State T U) → Shows old m s → (s' : State T U) × Shows new m s' × Receive fixed_handlers s h.id s' (Receive_error e))
       → Carries defaults old new table (ReceiveCommand of) (ReceiveRefused e) table' Nothing
   receive_denied is h e at units receives = λ m s handles events shown w default_value default_header is_value is_header.
       let got = receives m s shown in
-      subst (λ (t : List Held). Comes defaults (Shows new) m s handles events (ReceiveCommand of) (ReceiveRefused e) (map kept_of t ++ Nothing_kept ∷ [])) (sym is)
-      (receive_quiet_comes defaults (Shows new) m s handles events (map kept_of table) w default_value default_header is_value is_header of h.service_id h.id
-      (stands table of (HeldSubscriber h) at (λ e. let clash : HeldSubscriber h ≡ Nothing = e in cc)) (ap (λ (t : State T U). (t.config).units_per_element) shown.state ∙ units)
+      subst (λ (t : List Made). Comes defaults (Shows new) m s handles events (ReceiveCommand of) (ReceiveRefused e) (map entry_for t ++ No_entry ∷ [])) (sym is)
+      (receive_quiet_comes defaults (Shows new) m s handles events (map entry_for table) w default_value default_header is_value is_header of h.service_id h.id
+      (entry-stands table of (MadeSubscriber h) at (λ e. let clash : MadeSubscriber h ≡ Nothing = e in cc)) (ap (λ (t : State T U). (t.config).units_per_element) shown.state ∙ units)
       got.0 (Receive_error e) (ReceiveRefused e) (λ p n e2. let clash : Receive_error e ≡ Got_sample p n = e2 in absurd cc) refl got.2
       (receive_advances fixed_handlers s h.id got.0 (Receive_error e) got.2).next_message got.1)
 
@@ -151,12 +151,12 @@ module _ {T U : Type 0} (defaults : Defaults T U) (old new : Domain T U) (table 
 
   -- a read at which this step replies so, with the table as it was
   reads : table' ≡ table → (at : ℕ) (reply : Reply T U)
-      → ((m : Messages T U) (s : State T U) (handles : List Handle) (events : List (Event T U)) → Shows old m s → IsTable s handles events (map kept_of table)
+      → ((m : Messages T U) (s : State T U) (handles : List Handle) (events : List (Event T U)) → Shows old m s → IsTable s handles events (map entry_for table)
       → (default_value : T) (default_header : U) → Step fixed_handlers default_value default_header m s handles (ReadCommand of at) (replied reply s))
       → Carries defaults old old table (ReadCommand of at) reply table' Nothing
   reads is at reply step = λ m s handles events shown w default_value default_header is_value is_header.
-      subst (λ (t : List Held). Comes defaults (Shows old) m s handles events (ReadCommand of at) reply (map kept_of t ++ Nothing_kept ∷ [])) (sym is)
-      (read_comes defaults (Shows old) m s handles events (map kept_of table) w default_value default_header is_value is_header of at reply
+      subst (λ (t : List Made). Comes defaults (Shows old) m s handles events (ReadCommand of at) reply (map entry_for t ++ No_entry ∷ [])) (sym is)
+      (read_comes defaults (Shows old) m s handles events (map entry_for table) w default_value default_header is_value is_header of at reply
       (step m s handles events shown w default_value default_header) shown)
 
   pub read_unwritten : table' ≡ table → (at : ℕ) (h : SampleMutUninit) (cell : Option T) (reply : Reply T U) → slice_index_or table of Nothing ≡ Unwritten h
@@ -164,11 +164,11 @@ module _ {T U : Type 0} (defaults : Defaults T U) (old new : Domain T U) (table 
       → Carries defaults old old table (ReadCommand of at) reply table' Nothing
   read_unwritten is at h cell reply stood has so = subst (λ (r : Reply T U). Carries defaults old old table (ReadCommand of at) r table' Nothing) (sym so)
       (reads is at (cond (eqb at 0) (Cell cell) Skipped) (λ m s handles events shown w default_value default_header.
-      let stand = stands table of (Unwritten h) stood (λ e. let clash : Unwritten h ≡ Nothing = e in cc) in
-      let named = has_unwritten s handles events (map kept_of table) w of h.service_id h.loan.publisher h.loan.number stand in
+      let stand = entry-stands table of (Unwritten h) stood (λ e. let clash : Unwritten h ≡ Nothing = e in cc) in
+      let named = has_unwritten s handles events (map entry_for table) w of h.service_id h.loan.publisher h.loan.number stand in
       let read = has m s shown in
       read_loan m s handles default_value default_header at h.loan.number named.0 cell
-      (lacks_sample s handles events (map kept_of table) w of (lacks is_sample refl table of (ap (λ (v : Held). is_sample (kept_of v)) stood))) named.2
+      (lacks_sample s handles events (map entry_for table) w of (lacks is_sample_entry refl table of (ap (λ (v : Made). is_sample_entry (entry_for v)) stood))) named.2
       (ap (λ (l : Loan T U). l.cells) (same_Some named.0 read.0 (sym named.3 ∙ read.1)) ∙ read.2)))
 
   pub read_written : table' ≡ table → (at : ℕ) (h : SampleMut) (value : T) (reply : Reply T U) → slice_index_or table of Nothing ≡ Written h
@@ -176,26 +176,26 @@ module _ {T U : Type 0} (defaults : Defaults T U) (old new : Domain T U) (table 
       → Carries defaults old old table (ReadCommand of at) reply table' Nothing
   read_written is at h value reply stood has so = subst (λ (r : Reply T U). Carries defaults old old table (ReadCommand of at) r table' Nothing) (sym so)
       (reads is at (cond (eqb at 0) (Cell (Some value)) Skipped) (λ m s handles events shown w default_value default_header.
-      let stand = stands table of (Written h) stood (λ e. let clash : Written h ≡ Nothing = e in cc) in
-      let named = has_written s handles events (map kept_of table) w of h.service_id h.loan.publisher h.loan.number stand in
+      let stand = entry-stands table of (Written h) stood (λ e. let clash : Written h ≡ Nothing = e in cc) in
+      let named = has_written s handles events (map entry_for table) w of h.service_id h.loan.publisher h.loan.number stand in
       let read = has m s shown in
       read_loan m s handles default_value default_header at h.loan.number named.0 (Some value)
-      (lacks_sample s handles events (map kept_of table) w of (lacks is_sample refl table of (ap (λ (v : Held). is_sample (kept_of v)) stood))) named.2
+      (lacks_sample s handles events (map entry_for table) w of (lacks is_sample_entry refl table of (ap (λ (v : Made). is_sample_entry (entry_for v)) stood))) named.2
       (ap (λ (l : Loan T U). l.cells) (same_Some named.0 read.0 (sym named.3 ∙ read.1)) ∙ read.2)))
 
-  pub read_sampled : table' ≡ table → (at : ℕ) (h : SampleHandle) (value : T) (reply : Reply T U) → slice_index_or table of Nothing ≡ HeldSample h
+  pub read_sampled : table' ≡ table → (at : ℕ) (h : SampleHandle) (value : T) (reply : Reply T U) → slice_index_or table of Nothing ≡ MadeSample h
       → ((m : Messages T U) (s : State T U) → Shows old m s → (entry : Entry T U) × (m h.sample.number ≡ Some entry) × (entry.values ≡ value ∷ [])) → reply ≡ cond (eqb at 0) (Cell (Some value)) Skipped
       → Carries defaults old old table (ReadCommand of at) reply table' Nothing
   read_sampled is at h value reply stood has so = subst (λ (r : Reply T U). Carries defaults old old table (ReadCommand of at) r table' Nothing) (sym so)
       (reads is at (cond (eqb at 0) (Cell (Some value)) Skipped) (λ m s handles events shown w default_value default_header.
-      let stand = stands table of (HeldSample h) stood (λ e. let clash : HeldSample h ≡ Nothing = e in cc) in
+      let stand = entry-stands table of (MadeSample h) stood (λ e. let clash : MadeSample h ≡ Nothing = e in cc) in
       let read = has m s shown in
       read_sample m s handles default_value default_header at h.origin h.sample.subscriber h.sample.number read.0 value
-      (has_sample s handles events (map kept_of table) w of h.service_id h.origin h.sample.subscriber h.sample.number stand) read.1 read.2))
+      (has_sample s handles events (map entry_for table) w of h.service_id h.origin h.sample.subscriber h.sample.number stand) read.1 read.2))
 
-  pub read_passed : table' ≡ table → (at : ℕ) → is_sample (kept_of (slice_index_or table of Nothing)) ≡ false → is_loan (kept_of (slice_index_or table of Nothing)) ≡ false
+  pub read_passed : table' ≡ table → (at : ℕ) → is_sample_entry (entry_for (slice_index_or table of Nothing)) ≡ false → is_loan_entry (entry_for (slice_index_or table of Nothing)) ≡ false
       → Carries defaults old old table (ReadCommand of at) Skipped table' Nothing
   read_passed is at no_sample no_loan =
       reads is at Skipped (λ m s handles events shown w default_value default_header.
-      at_none _ _ _ (lacks_sample s handles events (map kept_of table) w of (lacks is_sample refl table of no_sample))
-      (at_none _ _ _ (ap (with_cell_at at) (lacks_loan s handles events (map kept_of table) w of (lacks is_loan refl table of no_loan))) refl))
+      at_none _ _ _ (lacks_sample s handles events (map entry_for table) w of (lacks is_sample_entry refl table of no_sample))
+      (at_none _ _ _ (ap (with_cell_at at) (lacks_loan s handles events (map entry_for table) w of (lacks is_loan_entry refl table of no_loan))) refl))

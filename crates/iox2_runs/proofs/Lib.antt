@@ -4,8 +4,8 @@ pub mod TableCalls
 pub mod TableMakes
 pub mod TableSamples
 pub mod RunsOn
-pub mod Holdings
-pub mod LiveHeld
+pub mod TableEntries
+pub mod LiveEntries
 pub mod RunLoop
 pub mod CarriedLoans
 pub mod CarriedPorts

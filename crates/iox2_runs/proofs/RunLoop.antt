@@ -3,8 +3,8 @@ use Rattle.std.proofs.Common.{◌≡◌, ℕ, List, [], ◌∷◌, ◌++◌, map
 use Rattle.std.specs.Prelude.{slice_get}
 use Rattle.std.proofs.lemmas.List.{map-append}
 use Rattle.std.proofs.lemmas.Option.{none-some}
-use Rattle.iox2_store.specs.Environments.{fixed_handlers}
-use Rattle.iox2_store.specs.State.{State, Messages}
+use Rattle.iox2_store.specs.machine.Environments.{fixed_handlers}
+use Rattle.iox2_store.specs.machine.State.{State, Messages}
 use Rattle.iox2_domain.specs.Kept.{Kept as Domain}
 use Rattle.iox2_domain.specs.Shows.{Shows}
 use Rattle.iox2_commands.specs.Outcomes.{Handle, Event, messages_after}
@@ -12,23 +12,23 @@ use Rattle.iox2_commands.specs.Runs.{Defaults, RunTo, Run, only_defaults}
 use Rattle.iox2_commands.specs.RunLaws.{IsFaithful}
 use Rattle.iox2_commands.specs.OneDefault.{HasOneDefault}
 use Rattle.iox2_runs.specs.Tables.{IsTable}
-use Rattle.iox2_runs.specs.Holdings.{kept_of, Keeps, Carries}
+use Rattle.iox2_runs.specs.Carries.{entry_for, IsLiveTable, Carries}
 use Rattle.iox2_runs.specs.DomainRuns.{RunsOnDomain}
 use Rattle.iox2_commands.specs.declared.command.Command.{Command}
 use Rattle.iox2_commands.specs.declared.reply.Reply.{Reply}
-use Rattle.iox2_runs.specs.declared.runs.held.Held.{Held}
+use Rattle.iox2_runs.specs.declared.runs.made.Made.{Made}
 use Rattle.iox2_commands.proofs.Faithful.{is_faithful}
 use Rattle.iox2_commands.proofs.OneDefault.{uses_one_default}
 use Rattle.iox2_runs.proofs.RunsOn.{run_of, run_more, received_once}
 
 module _ {T U : Type 0} (defaults : Defaults T U) where
   -- From each state that the domain showed, the commands ran to one that it shows now, with what the table keeps.
-  abbrev pub HasRun : (old new : Domain T U) → List (Command T U) → List (Reply T U) → List Held → Type 0
+  abbrev pub HasRun : (old new : Domain T U) → List (Command T U) → List (Reply T U) → List Made → Type 0
   HasRun old new commands replies table =
       (m : Messages T U) (s : State T U) → Shows old m s
       → (events : List (Event T U)) × (handles : List Handle) × (m' : Messages T U) × (s' : State T U) × Shows new m' s'
       × RunTo fixed_handlers defaults m s [] commands replies events m' s' handles
-      × IsTable s' handles events (map kept_of table)
+      × IsTable s' handles events (map entry_for table)
 
   -- at the start nothing ran
   pub has_run_none : (domain : Domain T U) → HasRun domain domain [] [] []
@@ -41,7 +41,7 @@ module _ {T U : Type 0} (defaults : Defaults T U) where
     (refl, refl, refl),
     record {
       count = refl;
-      kept = λ i handle entry at. absurd (no_element i handle at);
+      entries = λ i handle entry at. absurd (no_element i handle at);
       loans_below = λ i n at. absurd (no_element i _ at);
       loans_apart = λ i j n at. absurd (no_element i _ at);
       samples_received = λ i p q n at. absurd (no_element i _ at);
@@ -52,7 +52,7 @@ module _ {T U : Type 0} (defaults : Defaults T U) where
     no_element i handle at = none-some handle at
 
   -- one command more
-  pub has_run_more : (old mid new : Domain T U) (commands : List (Command T U)) (replies : List (Reply T U)) (table table' : List Held) (command : Command T U) (reply : Reply T U) (made : Held)
+  pub has_run_more : (old mid new : Domain T U) (commands : List (Command T U)) (replies : List (Reply T U)) (table table' : List Made) (command : Command T U) (reply : Reply T U) (made : Made)
       → HasRun old mid commands replies table → Carries defaults mid new table command reply table' made
       → (default_value : T) (default_header : U) → defaults.IsDefaultValue default_value → defaults.IsDefaultHeader default_header
       → HasRun old new (commands ++ command ∷ []) (replies ++ reply ∷ []) (table' ++ made ∷ [])
@@ -69,17 +69,17 @@ module _ {T U : Type 0} (defaults : Defaults T U) where
         comes.outcome.state,
         comes.shown,
         more,
-        subst (IsTable comes.outcome.state (before.1 ++ comes.outcome.handle ∷ []) (before.0 ++ comes.outcome.event ∷ [])) (sym (map-append kept_of table' (made ∷ []))) (comes.follows once),
+        subst (IsTable comes.outcome.state (before.1 ++ comes.outcome.handle ∷ []) (before.0 ++ comes.outcome.event ∷ [])) (sym (map-append entry_for table' (made ∷ []))) (comes.follows once),
       )
 
   -- what ran so far is kept, where the domain showed some state at the start
-  pub still_keeps : (old new : Domain T U) (commands : List (Command T U)) (replies : List (Reply T U)) (table : List Held)
-      → (m : Messages T U) (s : State T U) → Shows old m s → HasRun old new commands replies table → Keeps new table
+  pub still_keeps : (old new : Domain T U) (commands : List (Command T U)) (replies : List (Reply T U)) (table : List Made)
+      → (m : Messages T U) (s : State T U) → Shows old m s → HasRun old new commands replies table → IsLiveTable new table
   still_keeps old new commands replies table m s shown ran =
       let now = ran m s shown in (now.2, now.3, now.1, now.0, now.4, now.6)
 
   -- it is a run, and a faithful one
-  pub is_run : (old new : Domain T U) (commands : List (Command T U)) (replies : List (Reply T U)) (table : List Held) → HasRun old new commands replies table
+  pub is_run : (old new : Domain T U) (commands : List (Command T U)) (replies : List (Reply T U)) (table : List Made) → HasRun old new commands replies table
       → (m : Messages T U) (s : State T U) → Shows old m s
       → (events : List (Event T U)) × (m' : Messages T U) × (s' : State T U) × Shows new m' s' × Run fixed_handlers defaults m s commands replies events m' s'
       × IsFaithful commands replies events
@@ -89,7 +89,7 @@ module _ {T U : Type 0} (defaults : Defaults T U) where
       (now.0, now.2, now.3, now.4, run, is_faithful fixed_handlers defaults m now.2 s now.3 commands replies now.0 shown.well_formed run)
 
   -- it has one default value and one default header throughout, where there are no others
-  pub runs_on_domain : (old new : Domain T U) (commands : List (Command T U)) (replies : List (Reply T U)) (table : List Held) → HasRun old new commands replies table
+  pub runs_on_domain : (old new : Domain T U) (commands : List (Command T U)) (replies : List (Reply T U)) (table : List Made) → HasRun old new commands replies table
       → HasOneDefault defaults → (default_value : T) (default_header : U) → defaults.IsDefaultValue default_value → defaults.IsDefaultHeader default_header
       → (m : Messages T U) (s : State T U) → Shows old m s → RunsOnDomain (only_defaults default_value default_header) new m s commands replies
   runs_on_domain old new commands replies table ran one default_value default_header is_value is_header m s shown =

@@ -4,41 +4,41 @@ use Rattle.std.specs.Prelude.{slice_get}
 use Rattle.std.specs.Option.{option_and_then, option_map, option_map_or}
 use Rattle.std.proofs.lemmas.Bool.{true≢false}
 use Rattle.std.proofs.lemmas.Option.{none-some}
-use Rattle.iox2_store.specs.Mailbox.{is_borrowed}
-use Rattle.iox2_store.specs.Records.{Loan, Publisher, Subscriber, BlockedSend}
-use Rattle.iox2_store.specs.State.{State, is_blocked}
+use Rattle.iox2_store.specs.machine.Mailbox.{is_borrowed}
+use Rattle.iox2_store.specs.machine.Records.{Loan, Publisher, Subscriber, BlockedSend}
+use Rattle.iox2_store.specs.machine.State.{State, is_blocked}
 use Rattle.iox2_commands.specs.Outcomes.{Handle, No_handle, Publisher_handle, Subscriber_handle, Loan_handle, Blocked_handle, Sample_handle, Event}
 use Rattle.iox2_commands.specs.Step.{unblocked_at, subscriber_at, loan_at, unwritten_at, written_at, sendable_at, sample_at}
-use Rattle.iox2_runs.specs.Tables.{Kept, Nothing_kept, Kept_publisher, Kept_subscriber, Kept_unwritten, Kept_written, Kept_sample, IsFree, HasLoan, IsKept, IsTable}
+use Rattle.iox2_runs.specs.Tables.{TableEntry, No_entry, Publisher_entry, Subscriber_entry, Unwritten_entry, Written_entry, Sample_entry, IsFree, HasLoan, IsEntryOf, IsTable}
 
--- What kind of thing is kept.
-abbrev pub is_publisher : Kept → Bool
-is_publisher (Kept_publisher service p) = true
-is_publisher _ = false
+-- What kind of thing the entry names.
+abbrev pub is_publisher_entry : TableEntry → Bool
+is_publisher_entry (Publisher_entry service p) = true
+is_publisher_entry _ = false
 
-abbrev pub is_subscriber : Kept → Bool
-is_subscriber (Kept_subscriber service q) = true
-is_subscriber _ = false
+abbrev pub is_subscriber_entry : TableEntry → Bool
+is_subscriber_entry (Subscriber_entry service q) = true
+is_subscriber_entry _ = false
 
-abbrev pub is_unwritten : Kept → Bool
-is_unwritten (Kept_unwritten service p n) = true
-is_unwritten _ = false
+abbrev pub is_unwritten_entry : TableEntry → Bool
+is_unwritten_entry (Unwritten_entry service p n) = true
+is_unwritten_entry _ = false
 
-abbrev pub is_written : Kept → Bool
-is_written (Kept_written service p n) = true
-is_written _ = false
+abbrev pub is_written_entry : TableEntry → Bool
+is_written_entry (Written_entry service p n) = true
+is_written_entry _ = false
 
-abbrev pub is_sample : Kept → Bool
-is_sample (Kept_sample service p q n) = true
-is_sample _ = false
+abbrev pub is_sample_entry : TableEntry → Bool
+is_sample_entry (Sample_entry service p q n) = true
+is_sample_entry _ = false
 
-abbrev pub is_loan : Kept → Bool
-is_loan (Kept_unwritten service p n) = true
-is_loan (Kept_written service p n) = true
-is_loan _ = false
+abbrev pub is_loan_entry : TableEntry → Bool
+is_loan_entry (Unwritten_entry service p n) = true
+is_loan_entry (Written_entry service p n) = true
+is_loan_entry _ = false
 
--- the position is past the end, or something of another kind is kept there
-abbrev pub Lacks : (kind : Kept → Bool) → List Kept → (of : ℕ) → Type 0
+-- the position is past the end, or the entry there is of another kind
+abbrev pub Lacks : (kind : TableEntry → Bool) → List TableEntry → (of : ℕ) → Type 0
 Lacks kind table of = option_map_or kind (slice_get table of) false ≡ false
 
 -- of two lists of one length, one has an element where the other has one
@@ -68,28 +68,28 @@ module _ {T U : Type 0} (s : State T U) where
   SubscriberOf h =
       elim (Some h) [ Some (Subscriber_handle q) ↦ option_and_then {U = ℕ × Subscriber} (λ y. cond y.is_open (Some (q, y)) None) (s.subscribers q) | _ ↦ None ]
 
-  no_publisher : (h : Handle) (e : Kept) → IsKept s h e → is_publisher e ≡ false
+  no_publisher : (h : Handle) (e : TableEntry) → IsEntryOf s h e → is_publisher_entry e ≡ false
       → PublisherOf h ≡ None
-  no_publisher (Publisher_handle p) Nothing_kept k other = absurd k
-  no_publisher (Publisher_handle p) (Kept_publisher service p') k other = absurd (true≢false other)
-  no_publisher (Publisher_handle p) (Kept_subscriber service q) k other = let clash : Publisher_handle p ≡ Subscriber_handle q = k.1 in absurd (cc)
-  no_publisher (Publisher_handle p) (Kept_unwritten service p' n) k other = let clash : Publisher_handle p ≡ Loan_handle n = k.1 in absurd (cc)
-  no_publisher (Publisher_handle p) (Kept_written service p' n) k other = let clash : Publisher_handle p ≡ Loan_handle n = k.1 in absurd (cc)
-  no_publisher (Publisher_handle p) (Kept_sample service p' q n) k other = let clash : Publisher_handle p ≡ Sample_handle p' q n = k.1 in absurd (cc)
+  no_publisher (Publisher_handle p) No_entry k other = absurd k
+  no_publisher (Publisher_handle p) (Publisher_entry service p') k other = absurd (true≢false other)
+  no_publisher (Publisher_handle p) (Subscriber_entry service q) k other = let clash : Publisher_handle p ≡ Subscriber_handle q = k.1 in absurd (cc)
+  no_publisher (Publisher_handle p) (Unwritten_entry service p' n) k other = let clash : Publisher_handle p ≡ Loan_handle n = k.1 in absurd (cc)
+  no_publisher (Publisher_handle p) (Written_entry service p' n) k other = let clash : Publisher_handle p ≡ Loan_handle n = k.1 in absurd (cc)
+  no_publisher (Publisher_handle p) (Sample_entry service p' q n) k other = let clash : Publisher_handle p ≡ Sample_handle p' q n = k.1 in absurd (cc)
   no_publisher No_handle e k other = refl
   no_publisher (Subscriber_handle q) e k other = refl
   no_publisher (Loan_handle n) e k other = refl
   no_publisher (Blocked_handle p n) e k other = refl
   no_publisher (Sample_handle p q n) e k other = refl
 
-  no_subscriber : (h : Handle) (e : Kept) → IsKept s h e → is_subscriber e ≡ false
+  no_subscriber : (h : Handle) (e : TableEntry) → IsEntryOf s h e → is_subscriber_entry e ≡ false
       → SubscriberOf h ≡ None
-  no_subscriber (Subscriber_handle q) Nothing_kept k other = absurd k
-  no_subscriber (Subscriber_handle q) (Kept_publisher service p) k other = let clash : Subscriber_handle q ≡ Publisher_handle p = k.1 in absurd (cc)
-  no_subscriber (Subscriber_handle q) (Kept_subscriber service q') k other = absurd (true≢false other)
-  no_subscriber (Subscriber_handle q) (Kept_unwritten service p n) k other = let clash : Subscriber_handle q ≡ Loan_handle n = k.1 in absurd (cc)
-  no_subscriber (Subscriber_handle q) (Kept_written service p n) k other = let clash : Subscriber_handle q ≡ Loan_handle n = k.1 in absurd (cc)
-  no_subscriber (Subscriber_handle q) (Kept_sample service p q' n) k other = let clash : Subscriber_handle q ≡ Sample_handle p q' n = k.1 in absurd (cc)
+  no_subscriber (Subscriber_handle q) No_entry k other = absurd k
+  no_subscriber (Subscriber_handle q) (Publisher_entry service p) k other = let clash : Subscriber_handle q ≡ Publisher_handle p = k.1 in absurd (cc)
+  no_subscriber (Subscriber_handle q) (Subscriber_entry service q') k other = absurd (true≢false other)
+  no_subscriber (Subscriber_handle q) (Unwritten_entry service p n) k other = let clash : Subscriber_handle q ≡ Loan_handle n = k.1 in absurd (cc)
+  no_subscriber (Subscriber_handle q) (Written_entry service p n) k other = let clash : Subscriber_handle q ≡ Loan_handle n = k.1 in absurd (cc)
+  no_subscriber (Subscriber_handle q) (Sample_entry service p q' n) k other = let clash : Subscriber_handle q ≡ Sample_handle p q' n = k.1 in absurd (cc)
   no_subscriber No_handle e k other = refl
   no_subscriber (Publisher_handle p) e k other = refl
   no_subscriber (Loan_handle n) e k other = refl
@@ -109,48 +109,48 @@ module _ {T U : Type 0} (s : State T U) where
   abbrev if_unblocked : Option (ℕ × Loan T U) → Option (ℕ × Loan T U)
   if_unblocked o = option_and_then (λ named. cond (is_blocked s named.1.publisher) None (Some named)) o
 
-  -- the loan under that number is as it is kept
+  -- the loan under that number is as its entry says
   loan_of : (n n' p : ℕ) (written : Bool) → Loan_handle n ≡ Loan_handle n' → HasLoan s p n' written
       → (l : Loan T U) × (LoanOf (Loan_handle n) ≡ Some (n', l)) × (s.loans n' ≡ Some l) × (l.publisher ≡ p) × (l.is_written ≡ written)
   loan_of n n' p written e h =
       let same : n ≡ n' = cc in
       ((h.0).0, rw same (ap (option_map {U = ℕ × Loan T U} (λ l. (n', l))) (h.0).1), (h.0).1, (h.0).2, (h.0).3)
 
-  no_unwritten : (h : Handle) (e : Kept) → IsKept s h e → is_unwritten e ≡ false → IfUnwritten (LoanOf h) ≡ None
-  no_unwritten (Loan_handle n) Nothing_kept k other = ap (λ o. IfUnwritten (option_map {U = ℕ × Loan T U} (λ l. (n, l)) o)) k
-  no_unwritten (Loan_handle n) (Kept_publisher service p) k other = let clash : Loan_handle n ≡ Publisher_handle p = k.1 in absurd (cc)
-  no_unwritten (Loan_handle n) (Kept_subscriber service q) k other = let clash : Loan_handle n ≡ Subscriber_handle q = k.1 in absurd (cc)
-  no_unwritten (Loan_handle n) (Kept_unwritten service p n') k other = absurd (true≢false other)
-  no_unwritten (Loan_handle n) (Kept_written service p n') k other =
+  no_unwritten : (h : Handle) (e : TableEntry) → IsEntryOf s h e → is_unwritten_entry e ≡ false → IfUnwritten (LoanOf h) ≡ None
+  no_unwritten (Loan_handle n) No_entry k other = ap (λ o. IfUnwritten (option_map {U = ℕ × Loan T U} (λ l. (n, l)) o)) k
+  no_unwritten (Loan_handle n) (Publisher_entry service p) k other = let clash : Loan_handle n ≡ Publisher_handle p = k.1 in absurd (cc)
+  no_unwritten (Loan_handle n) (Subscriber_entry service q) k other = let clash : Loan_handle n ≡ Subscriber_handle q = k.1 in absurd (cc)
+  no_unwritten (Loan_handle n) (Unwritten_entry service p n') k other = absurd (true≢false other)
+  no_unwritten (Loan_handle n) (Written_entry service p n') k other =
       let v = loan_of n n' p true k.1 k.2 in ap IfUnwritten v.1 ∙ ap (λ (b : Bool). cond b None (Some (n', v.0))) v.4
-  no_unwritten (Loan_handle n) (Kept_sample service p q n') k other = let clash : Loan_handle n ≡ Sample_handle p q n' = k.1 in absurd (cc)
+  no_unwritten (Loan_handle n) (Sample_entry service p q n') k other = let clash : Loan_handle n ≡ Sample_handle p q n' = k.1 in absurd (cc)
   no_unwritten No_handle e k other = refl
   no_unwritten (Publisher_handle p) e k other = refl
   no_unwritten (Subscriber_handle q) e k other = refl
   no_unwritten (Blocked_handle p n) e k other = refl
   no_unwritten (Sample_handle p q n) e k other = refl
 
-  no_written : (h : Handle) (e : Kept) → IsKept s h e → is_written e ≡ false → IfWritten (LoanOf h) ≡ None
-  no_written (Loan_handle n) Nothing_kept k other = ap (λ o. IfWritten (option_map {U = ℕ × Loan T U} (λ l. (n, l)) o)) k
-  no_written (Loan_handle n) (Kept_publisher service p) k other = let clash : Loan_handle n ≡ Publisher_handle p = k.1 in absurd (cc)
-  no_written (Loan_handle n) (Kept_subscriber service q) k other = let clash : Loan_handle n ≡ Subscriber_handle q = k.1 in absurd (cc)
-  no_written (Loan_handle n) (Kept_unwritten service p n') k other =
+  no_written : (h : Handle) (e : TableEntry) → IsEntryOf s h e → is_written_entry e ≡ false → IfWritten (LoanOf h) ≡ None
+  no_written (Loan_handle n) No_entry k other = ap (λ o. IfWritten (option_map {U = ℕ × Loan T U} (λ l. (n, l)) o)) k
+  no_written (Loan_handle n) (Publisher_entry service p) k other = let clash : Loan_handle n ≡ Publisher_handle p = k.1 in absurd (cc)
+  no_written (Loan_handle n) (Subscriber_entry service q) k other = let clash : Loan_handle n ≡ Subscriber_handle q = k.1 in absurd (cc)
+  no_written (Loan_handle n) (Unwritten_entry service p n') k other =
       let v = loan_of n n' p false k.1 k.2 in ap IfWritten v.1 ∙ ap (λ (b : Bool). cond b (Some (n', v.0)) None) v.4
-  no_written (Loan_handle n) (Kept_written service p n') k other = absurd (true≢false other)
-  no_written (Loan_handle n) (Kept_sample service p q n') k other = let clash : Loan_handle n ≡ Sample_handle p q n' = k.1 in absurd (cc)
+  no_written (Loan_handle n) (Written_entry service p n') k other = absurd (true≢false other)
+  no_written (Loan_handle n) (Sample_entry service p q n') k other = let clash : Loan_handle n ≡ Sample_handle p q n' = k.1 in absurd (cc)
   no_written No_handle e k other = refl
   no_written (Publisher_handle p) e k other = refl
   no_written (Subscriber_handle q) e k other = refl
   no_written (Blocked_handle p n) e k other = refl
   no_written (Sample_handle p q n) e k other = refl
 
-  no_loan : (h : Handle) (e : Kept) → IsKept s h e → is_loan e ≡ false → LoanOf h ≡ None
-  no_loan (Loan_handle n) Nothing_kept k other = ap (option_map {U = ℕ × Loan T U} (λ l. (n, l))) k
-  no_loan (Loan_handle n) (Kept_publisher service p) k other = let clash : Loan_handle n ≡ Publisher_handle p = k.1 in absurd (cc)
-  no_loan (Loan_handle n) (Kept_subscriber service q) k other = let clash : Loan_handle n ≡ Subscriber_handle q = k.1 in absurd (cc)
-  no_loan (Loan_handle n) (Kept_unwritten service p n') k other = absurd (true≢false other)
-  no_loan (Loan_handle n) (Kept_written service p n') k other = absurd (true≢false other)
-  no_loan (Loan_handle n) (Kept_sample service p q n') k other = let clash : Loan_handle n ≡ Sample_handle p q n' = k.1 in absurd (cc)
+  no_loan : (h : Handle) (e : TableEntry) → IsEntryOf s h e → is_loan_entry e ≡ false → LoanOf h ≡ None
+  no_loan (Loan_handle n) No_entry k other = ap (option_map {U = ℕ × Loan T U} (λ l. (n, l))) k
+  no_loan (Loan_handle n) (Publisher_entry service p) k other = let clash : Loan_handle n ≡ Publisher_handle p = k.1 in absurd (cc)
+  no_loan (Loan_handle n) (Subscriber_entry service q) k other = let clash : Loan_handle n ≡ Subscriber_handle q = k.1 in absurd (cc)
+  no_loan (Loan_handle n) (Unwritten_entry service p n') k other = absurd (true≢false other)
+  no_loan (Loan_handle n) (Written_entry service p n') k other = absurd (true≢false other)
+  no_loan (Loan_handle n) (Sample_entry service p q n') k other = let clash : Loan_handle n ≡ Sample_handle p q n' = k.1 in absurd (cc)
   no_loan No_handle e k other = refl
   no_loan (Publisher_handle p) e k other = refl
   no_loan (Subscriber_handle q) e k other = refl
@@ -161,13 +161,13 @@ module _ {T U : Type 0} (s : State T U) where
   abbrev SampleOf : Handle → Option (ℕ × ℕ × ℕ)
   SampleOf h = elim (Some h) [ Some (Sample_handle p q n) ↦ cond (is_borrowed n (s.mailboxes p q)) (Some (p, q, n)) None | _ ↦ None ]
 
-  no_sample : (h : Handle) (e : Kept) → IsKept s h e → is_sample e ≡ false → SampleOf h ≡ None
-  no_sample (Sample_handle p q n) Nothing_kept k other = ap (λ (b : Bool). cond b (Some (p, q, n)) None) k
-  no_sample (Sample_handle p q n) (Kept_publisher service p') k other = let clash : Sample_handle p q n ≡ Publisher_handle p' = k.1 in absurd (cc)
-  no_sample (Sample_handle p q n) (Kept_subscriber service q') k other = let clash : Sample_handle p q n ≡ Subscriber_handle q' = k.1 in absurd (cc)
-  no_sample (Sample_handle p q n) (Kept_unwritten service p' n') k other = let clash : Sample_handle p q n ≡ Loan_handle n' = k.1 in absurd (cc)
-  no_sample (Sample_handle p q n) (Kept_written service p' n') k other = let clash : Sample_handle p q n ≡ Loan_handle n' = k.1 in absurd (cc)
-  no_sample (Sample_handle p q n) (Kept_sample service p' q' n') k other = absurd (true≢false other)
+  no_sample : (h : Handle) (e : TableEntry) → IsEntryOf s h e → is_sample_entry e ≡ false → SampleOf h ≡ None
+  no_sample (Sample_handle p q n) No_entry k other = ap (λ (b : Bool). cond b (Some (p, q, n)) None) k
+  no_sample (Sample_handle p q n) (Publisher_entry service p') k other = let clash : Sample_handle p q n ≡ Publisher_handle p' = k.1 in absurd (cc)
+  no_sample (Sample_handle p q n) (Subscriber_entry service q') k other = let clash : Sample_handle p q n ≡ Subscriber_handle q' = k.1 in absurd (cc)
+  no_sample (Sample_handle p q n) (Unwritten_entry service p' n') k other = let clash : Sample_handle p q n ≡ Loan_handle n' = k.1 in absurd (cc)
+  no_sample (Sample_handle p q n) (Written_entry service p' n') k other = let clash : Sample_handle p q n ≡ Loan_handle n' = k.1 in absurd (cc)
+  no_sample (Sample_handle p q n) (Sample_entry service p' q' n') k other = absurd (true≢false other)
   no_sample No_handle e k other = refl
   no_sample (Publisher_handle p) e k other = refl
   no_sample (Subscriber_handle q) e k other = refl
@@ -176,47 +176,47 @@ module _ {T U : Type 0} (s : State T U) where
 
   -- ---- at a position
 
-  module _ (handles : List Handle) (events : List (Event T U)) (table : List Kept) (w : IsTable s handles events table) (of : ℕ) where
-    -- what is kept there is of the handle there
-    pub handle_of : (e : Kept) → slice_get table of ≡ Some e → (h : Handle) × (slice_get handles of ≡ Some h) × IsKept s h e
-    handle_of e at = let v = matched table handles of e w.count at in (v.0, v.1, w.kept of v.0 e v.1 at)
+  module _ (handles : List Handle) (events : List (Event T U)) (table : List TableEntry) (w : IsTable s handles events table) (of : ℕ) where
+    -- the entry there is that of the handle there
+    pub handle_of : (e : TableEntry) → slice_get table of ≡ Some e → (h : Handle) × (slice_get handles of ≡ Some h) × IsEntryOf s h e
+    handle_of e at = let v = matched table handles of e w.count at in (v.0, v.1, w.entries of v.0 e v.1 at)
 
-    -- a look-up that finds nothing at any handle with something else kept finds nothing here
-    lacks : {A : Type 0} (look : Option Handle → Option A) → look None ≡ None → (kind : Kept → Bool)
-        → ((h : Handle) (e : Kept) → IsKept s h e → kind e ≡ false → look (Some h) ≡ None)
+    -- a look-up that finds nothing at any handle with another entry finds nothing here
+    lacks : {A : Type 0} (look : Option Handle → Option A) → look None ≡ None → (kind : TableEntry → Bool)
+        → ((h : Handle) (e : TableEntry) → IsEntryOf s h e → kind e ≡ false → look (Some h) ≡ None)
         → Lacks kind table of → look (slice_get handles of) ≡ None
     lacks {A} look none kind each absent = by (slice_get table of) refl where
-      by : (o : Option Kept) → slice_get table of ≡ o → look (slice_get handles of) ≡ None
+      by : (o : Option TableEntry) → slice_get table of ≡ o → look (slice_get handles of) ≡ None
       by None past = ap look (unmatched table handles of w.count past) ∙ none
       by (Some e) at = let v = handle_of e at in
           ap look v.1 ∙ each v.0 e v.2 (sym (ap (λ o. option_map_or kind o false) at) ∙ absent)
 
-    pub lacks_publisher : Lacks is_publisher table of → unblocked_at s handles of ≡ None
+    pub lacks_publisher : Lacks is_publisher_entry table of → unblocked_at s handles of ≡ None
     lacks_publisher absent =
         ap (λ (o : Option (ℕ × Publisher)). option_and_then (λ named. cond (is_none named.1.blocked) (Some named) None) o)
-        (lacks (λ (o : Option Handle). elim o [ Some (Publisher_handle p) ↦ option_map {U = ℕ × Publisher} (λ x. (p, x)) (s.publishers p) | _ ↦ None ]) refl is_publisher no_publisher absent)
+        (lacks (λ (o : Option Handle). elim o [ Some (Publisher_handle p) ↦ option_map {U = ℕ × Publisher} (λ x. (p, x)) (s.publishers p) | _ ↦ None ]) refl is_publisher_entry no_publisher absent)
 
-    pub lacks_subscriber : Lacks is_subscriber table of → subscriber_at s handles of ≡ None
+    pub lacks_subscriber : Lacks is_subscriber_entry table of → subscriber_at s handles of ≡ None
     lacks_subscriber absent =
         lacks (λ (o : Option Handle). elim o [ Some (Subscriber_handle q) ↦ option_and_then {U = ℕ × Subscriber} (λ y. cond y.is_open (Some (q, y)) None) (s.subscribers q) | _ ↦ None ])
-        refl is_subscriber no_subscriber absent
+        refl is_subscriber_entry no_subscriber absent
 
     -- what a loan's position names
     abbrev loan_named : Option Handle → Option (ℕ × Loan T U)
     loan_named o = elim o [ Some (Loan_handle n) ↦ option_map {U = ℕ × Loan T U} (λ l. (n, l)) (s.loans n) | _ ↦ None ]
 
-    pub lacks_unwritten : Lacks is_unwritten table of → unwritten_at s handles of ≡ None
-    lacks_unwritten absent = lacks (λ (o : Option Handle). IfUnwritten (loan_named o)) refl is_unwritten no_unwritten absent
+    pub lacks_unwritten : Lacks is_unwritten_entry table of → unwritten_at s handles of ≡ None
+    lacks_unwritten absent = lacks (λ (o : Option Handle). IfUnwritten (loan_named o)) refl is_unwritten_entry no_unwritten absent
 
-    pub lacks_written : Lacks is_written table of → written_at s handles of ≡ None
-    lacks_written absent = lacks (λ (o : Option Handle). IfWritten (loan_named o)) refl is_written no_written absent
+    pub lacks_written : Lacks is_written_entry table of → written_at s handles of ≡ None
+    lacks_written absent = lacks (λ (o : Option Handle). IfWritten (loan_named o)) refl is_written_entry no_written absent
 
-    pub lacks_sample : Lacks is_sample table of → sample_at s handles of ≡ None
+    pub lacks_sample : Lacks is_sample_entry table of → sample_at s handles of ≡ None
     lacks_sample absent =
-        lacks (λ (o : Option Handle). elim o [ Some (Sample_handle p q n) ↦ cond (is_borrowed n (s.mailboxes p q)) (Some (p, q, n)) None | _ ↦ None ]) refl is_sample no_sample absent
+        lacks (λ (o : Option Handle). elim o [ Some (Sample_handle p q n) ↦ cond (is_borrowed n (s.mailboxes p q)) (Some (p, q, n)) None | _ ↦ None ]) refl is_sample_entry no_sample absent
 
-    pub lacks_loan : Lacks is_loan table of → loan_at s handles of ≡ None
-    lacks_loan absent = lacks loan_named refl is_loan no_loan absent
+    pub lacks_loan : Lacks is_loan_entry table of → loan_at s handles of ≡ None
+    lacks_loan absent = lacks loan_named refl is_loan_entry no_loan absent
 
     -- ---- what is there
 
@@ -226,10 +226,10 @@ module _ {T U : Type 0} (s : State T U) where
     abbrev if_free : Option (ℕ × Publisher) → Option (ℕ × Publisher)
     if_free o = option_and_then (λ named. cond (is_none named.1.blocked) (Some named) None) o
 
-    pub has_publisher : (service p : ℕ) → slice_get table of ≡ Some (Kept_publisher service p)
+    pub has_publisher : (service p : ℕ) → slice_get table of ≡ Some (Publisher_entry service p)
         → (x : Publisher) × (unblocked_at s handles of ≡ Some (p, x)) × (s.publishers p ≡ Some x)
     has_publisher service p at =
-        let v = handle_of (Kept_publisher service p) at in
+        let v = handle_of (Publisher_entry service p) at in
         let free : IsFree s p = (v.2).2 in (
           free.0,
           ap (λ (o : Option Handle). if_free (publisher_named o)) (v.1 ∙ ap Some (v.2).1)
@@ -241,10 +241,10 @@ module _ {T U : Type 0} (s : State T U) where
     abbrev subscriber_named : Option Handle → Option (ℕ × Subscriber)
     subscriber_named o = elim o [ Some (Subscriber_handle q) ↦ option_and_then {U = ℕ × Subscriber} (λ y. cond y.is_open (Some (q, y)) None) (s.subscribers q) | _ ↦ None ]
 
-    pub has_subscriber : (service q : ℕ) → slice_get table of ≡ Some (Kept_subscriber service q)
+    pub has_subscriber : (service q : ℕ) → slice_get table of ≡ Some (Subscriber_entry service q)
         → (y : Subscriber) × (subscriber_at s handles of ≡ Some (q, y)) × (s.subscribers q ≡ Some y) × (y.is_open ≡ true)
     has_subscriber service q at =
-        let v = handle_of (Kept_subscriber service q) at in (
+        let v = handle_of (Subscriber_entry service q) at in (
           (v.2).2,
           ap subscriber_named (v.1 ∙ ap Some (v.2).1)
               ∙ ap (λ (o : Option Subscriber). option_and_then {U = ℕ × Subscriber} (λ y. cond y.is_open (Some (q, y)) None) o) (v.2).3
@@ -257,18 +257,18 @@ module _ {T U : Type 0} (s : State T U) where
         → loan_at s handles of ≡ Some (n, (k.0).0)
     loan_there n p written h at is k = ap loan_named (at ∙ ap Some is) ∙ ap (option_map {U = ℕ × Loan T U} (λ l. (n, l))) (k.0).1
 
-    pub has_unwritten : (service p n : ℕ) → slice_get table of ≡ Some (Kept_unwritten service p n)
+    pub has_unwritten : (service p n : ℕ) → slice_get table of ≡ Some (Unwritten_entry service p n)
         → (l : Loan T U) × (unwritten_at s handles of ≡ Some (n, l)) × (loan_at s handles of ≡ Some (n, l)) × (s.loans n ≡ Some l) × (l.publisher ≡ p)
     has_unwritten service p n at =
-        let v = handle_of (Kept_unwritten service p n) at in
+        let v = handle_of (Unwritten_entry service p n) at in
         let k : HasLoan s p n false = (v.2).2 in
         let there = loan_there n p false v.0 v.1 (v.2).1 k in
         ((k.0).0, ap IfUnwritten there ∙ ap (λ (b : Bool). cond {A = Option (ℕ × Loan T U)} b None (Some (n, (k.0).0))) (k.0).3, there, (k.0).1, (k.0).2)
 
-    pub has_written : (service p n : ℕ) → slice_get table of ≡ Some (Kept_written service p n)
+    pub has_written : (service p n : ℕ) → slice_get table of ≡ Some (Written_entry service p n)
         → (l : Loan T U) × (sendable_at s handles of ≡ Some (n, l)) × (loan_at s handles of ≡ Some (n, l)) × (s.loans n ≡ Some l) × (l.publisher ≡ p)
     has_written service p n at =
-        let v = handle_of (Kept_written service p n) at in
+        let v = handle_of (Written_entry service p n) at in
         let k : HasLoan s p n true = (v.2).2 in
         let there = loan_there n p true v.0 v.1 (v.2).1 k in
         let free : is_blocked s ((k.0).0).publisher ≡ false =
@@ -283,8 +283,8 @@ module _ {T U : Type 0} (s : State T U) where
           (k.0).2,
         )
 
-    pub has_sample : (service p q n : ℕ) → slice_get table of ≡ Some (Kept_sample service p q n) → sample_at s handles of ≡ Some (p, q, n)
+    pub has_sample : (service p q n : ℕ) → slice_get table of ≡ Some (Sample_entry service p q n) → sample_at s handles of ≡ Some (p, q, n)
     has_sample service p q n at =
-        let v = handle_of (Kept_sample service p q n) at in
+        let v = handle_of (Sample_entry service p q n) at in
         ap (λ (o : Option Handle). elim o [ Some (Sample_handle p q n) ↦ cond {A = Option (ℕ × ℕ × ℕ)} (is_borrowed n (s.mailboxes p q)) (Some (p, q, n)) None | _ ↦ None ]) (v.1 ∙ ap Some (v.2).1)
         ∙ ap (λ (b : Bool). cond {A = Option (ℕ × ℕ × ℕ)} b (Some (p, q, n)) None) (v.2).2

@@ -4,13 +4,13 @@ use Rattle.std.specs.Bool.{MatchBool}
 use Rattle.std.specs.Prelude.{MatchOption, ◌==◌, nat_lt, slice_get}
 use Rattle.std.proofs.lemmas.Option.{none-some}
 use Rattle.std.proofs.lemmas.Bool.{eqb-true, eq-eqb}
-use Rattle.iox2_store.specs.Limits.{last_number, buffer_limit}
-use Rattle.iox2_store.specs.Places.{free_place}
-use Rattle.iox2_store.specs.Records.{Loan, Publisher, Subscriber, Environment, PublisherSettings, SubscriberSettings, Fixed}
-use Rattle.iox2_store.specs.State.{State, Messages}
-use Rattle.iox2_store.specs.Environments.{fixed_handlers, ample_memory}
-use Rattle.iox2_store.specs.Loans.{GrantLoan, StaticLoan, DynamicLoan, limit_error, is_static}
-use Rattle.iox2_store.specs.Ports.{CreatePublisher, CreateSubscriber, MakePublisher, MakeSubscriber, with_new_publisher, with_new_subscriber, new_publisher, new_subscriber, first_segment_fits, buffer_for}
+use Rattle.iox2_store.specs.machine.Limits.{last_number, buffer_limit}
+use Rattle.iox2_store.specs.machine.Places.{free_place}
+use Rattle.iox2_store.specs.machine.Records.{Loan, Publisher, Subscriber, Environment, PublisherSettings, SubscriberSettings, Fixed}
+use Rattle.iox2_store.specs.machine.State.{State, Messages}
+use Rattle.iox2_store.specs.machine.Environments.{fixed_handlers, ample_memory}
+use Rattle.iox2_store.specs.machine.Loans.{GrantLoan, StaticLoan, DynamicLoan, limit_error, is_static}
+use Rattle.iox2_store.specs.machine.Ports.{CreatePublisher, CreateSubscriber, MakePublisher, MakeSubscriber, with_new_publisher, with_new_subscriber, new_publisher, new_subscriber, first_segment_fits, buffer_for}
 use Rattle.iox2_store.specs.declared.service_config.ServiceConfig.{ServiceConfig}
 use Rattle.iox2_store.specs.declared.service_config.TypeVariant.{TypeVariant}
 use Rattle.iox2_store.specs.declared.service_config.TypeVariant.TheVariants.{FixedSize, Dynamic}
@@ -29,7 +29,7 @@ use Rattle.iox2_laws.proofs.LoanKeeping.{create_publisher_loans, create_subscrib
 use Rattle.iox2_commands.specs.Outcomes.{Handle, Publisher_handle, Subscriber_handle, Loan_handle, Sample_handle, Event, No_event, outcome}
 use Rattle.iox2_commands.specs.Runs.{Defaults}
 use Rattle.iox2_commands.specs.Step.{Step, publisher_settings, if_single_units, if_fixed_size, unblocked_at}
-use Rattle.iox2_runs.specs.Tables.{Kept, Nothing_kept, Kept_publisher, Kept_subscriber, Kept_unwritten, IsFree, IsSingle, IsKept, IsTable}
+use Rattle.iox2_runs.specs.Tables.{TableEntry, No_entry, Publisher_entry, Subscriber_entry, Unwritten_entry, IsFree, IsSingle, IsEntryOf, IsTable}
 use Rattle.iox2_runs.specs.RunSteps.{Comes}
 use Rattle.iox2_commands.specs.declared.command.Command.{Command}
 use Rattle.iox2_commands.specs.declared.command.Command.TheVariants.{CreatePublisher as PublisherCommand, CreateSubscriber as SubscriberCommand, LoanUninit}
@@ -37,7 +37,7 @@ use Rattle.iox2_commands.specs.declared.reply.Reply.{Reply}
 use Rattle.iox2_commands.specs.declared.reply.Reply.TheVariants.{Skipped, PublisherMade, PublisherRefused, SubscriberMade, SubscriberRefused, Loaned, LoanRefused}
 use Rattle.iox2_laws.proofs.PortsStay.{PortsStay, update_publisher_stays, update_subscriber_stays, warning_stays, create_publisher_stays, create_subscriber_stays, grant_loan_stays, ports_stay_trans}
 use Rattle.iox2_runs.proofs.TableSteps.{table_next, all_still}
-use Rattle.iox2_runs.proofs.TableLooks.{Lacks, is_publisher, lacks_publisher, has_publisher, handle_of}
+use Rattle.iox2_runs.proofs.TableLooks.{Lacks, is_publisher_entry, lacks_publisher, has_publisher, handle_of}
 use Rattle.iox2_laws.proofs.SamplesStay.{same_borrowed}
 use Rattle.iox2_laws.proofs.NextLoan.{IsNextLoan, loan_next, loan_refused}
 use Rattle.iox2_runs.proofs.TableCalls.{quiet_comes, skip_comes, at_none, at_some}
@@ -77,12 +77,12 @@ module _ {T U : Type 0} (environment : Environment) (s : State T U) where
           (stay.remain).subscribers s.next_port (new_subscriber given place) (put_at-same s.subscribers s.next_port (Some (new_subscriber given place))) refl
 
 module _ {T U : Type 0} (defaults : Defaults T U) (Shown : Messages T U → State T U → Type 0) (m : Messages T U) (s : State T U) (handles : List Handle)
-    (events : List (Event T U)) (table : List Kept) (w : IsTable s handles events table) (default_value : T) (default_header : U)
+    (events : List (Event T U)) (table : List TableEntry) (w : IsTable s handles events table) (default_value : T) (default_header : U)
     (is_default_value : defaults.IsDefaultValue default_value) (is_default_header : defaults.IsDefaultHeader default_header) where
   -- a command that makes a port
-  port_comes : (command : Command T U) (reply : Reply T U) (handle : Handle) (entry : Kept) (s' : State T U)
+  port_comes : (command : Command T U) (reply : Reply T U) (handle : Handle) (entry : TableEntry) (s' : State T U)
       → Step fixed_handlers default_value default_header m s handles command (outcome reply handle s') → Shown m s' → PortsStay s s' → s'.loans ≡ s.loans → s.next_message ≤ s'.next_message
-      → IsKept s' handle entry → ((n : ℕ) → handle ≡ Loan_handle n → ⊥) → ((p q n : ℕ) → handle ≡ Sample_handle p q n → ⊥)
+      → IsEntryOf s' handle entry → ((n : ℕ) → handle ≡ Loan_handle n → ⊥) → ((p q n : ℕ) → handle ≡ Sample_handle p q n → ⊥)
       → Comes defaults Shown m s handles events command reply (table ++ entry ∷ [])
   port_comes command reply handle entry s' step shown stay loans rises new no_loan no_sample = record {
     default_value = default_value;
@@ -103,12 +103,12 @@ module _ {T U : Type 0} (defaults : Defaults T U) (Shown : Messages T U → Stat
       → CreatePublisher fixed_handlers s (publisher_settings (s.config).variant loans strategy allocation len override_slots degradation backpressure) s' None
       → s.next_message ≤ s'.next_message → Shown m s' → (service : ℕ) → service ≡ (s'.config).service_id
       → Comes defaults Shown m s handles events (PublisherCommand loans strategy allocation len override_slots degradation backpressure) (PublisherMade s.next_port)
-      (table ++ Kept_publisher service s.next_port ∷ [])
+      (table ++ Publisher_entry service s.next_port ∷ [])
   publisher_comes loans strategy allocation len override_slots degradation backpressure s' h rises shown service ours =
       let given = publisher_settings (s.config).variant loans strategy allocation len override_slots degradation backpressure in
       let stay : PortsStay s s' = create_publisher_stays fixed_handlers s given s' None h in
       port_comes (PublisherCommand loans strategy allocation len override_slots degradation backpressure) (PublisherMade s.next_port) (Publisher_handle s.next_port)
-      (Kept_publisher service s.next_port) s' (s', None, h, refl) shown stay (create_publisher_loans fixed_handlers s given s' None h) rises
+      (Publisher_entry service s.next_port) s' (s', None, h, refl) shown stay (create_publisher_loans fixed_handlers s given s' None h) rises
       (ours, refl, publisher_made fixed_handlers s given s' h)
       (λ n e. let clash : Publisher_handle s.next_port ≡ Loan_handle n = e in absurd (cc)) (λ p q n e. let clash : Publisher_handle s.next_port ≡ Sample_handle p q n = e in absurd (cc))
 
@@ -116,7 +116,7 @@ module _ {T U : Type 0} (defaults : Defaults T U) (Shown : Messages T U → Stat
       (backpressure : Option BackpressureAction) (s' : State T U) (e : PublisherCreateError)
       → CreatePublisher fixed_handlers s (publisher_settings (s.config).variant loans strategy allocation len override_slots degradation backpressure) s' (Some e)
       → s.next_message ≤ s'.next_message → Shown m s'
-      → Comes defaults Shown m s handles events (PublisherCommand loans strategy allocation len override_slots degradation backpressure) (PublisherRefused e) (table ++ Nothing_kept ∷ [])
+      → Comes defaults Shown m s handles events (PublisherCommand loans strategy allocation len override_slots degradation backpressure) (PublisherRefused e) (table ++ No_entry ∷ [])
   publisher_refused_comes loans strategy allocation len override_slots degradation backpressure s' e h rises shown =
       let given = publisher_settings (s.config).variant loans strategy allocation len override_slots degradation backpressure in
       quiet_comes defaults Shown m s handles events table w default_value default_header is_default_value is_default_header
@@ -130,11 +130,11 @@ module _ {T U : Type 0} (defaults : Defaults T U) (Shown : Messages T U → Stat
   pub subscriber_comes : (buffer : Option ℕ) (degradation : DegradationAction) (s' : State T U)
       → CreateSubscriber fixed_handlers s (record { buffer_size = elim buffer [ None ↦ buffer_limit s.config | Some asked ↦ asked ]; degradation_handler = Fixed degradation }) s' None
       → s.next_message ≤ s'.next_message → Shown m s' → (service : ℕ) → service ≡ (s'.config).service_id
-      → Comes defaults Shown m s handles events (SubscriberCommand buffer degradation) (SubscriberMade s.next_port) (table ++ Kept_subscriber service s.next_port ∷ [])
+      → Comes defaults Shown m s handles events (SubscriberCommand buffer degradation) (SubscriberMade s.next_port) (table ++ Subscriber_entry service s.next_port ∷ [])
   subscriber_comes buffer degradation s' h rises shown service ours =
       let stay : PortsStay s s' = create_subscriber_stays fixed_handlers s (subscriber_settings buffer degradation) s' None h in
       let made = subscriber_made fixed_handlers s (subscriber_settings buffer degradation) s' h in
-      port_comes (SubscriberCommand buffer degradation) (SubscriberMade s.next_port) (Subscriber_handle s.next_port) (Kept_subscriber service s.next_port) s' (s', None, h, refl) shown stay
+      port_comes (SubscriberCommand buffer degradation) (SubscriberMade s.next_port) (Subscriber_handle s.next_port) (Subscriber_entry service s.next_port) s' (s', None, h, refl) shown stay
       (create_subscriber_loans fixed_handlers s (subscriber_settings buffer degradation) s' None h) rises
       (ours, refl, made.0, made.1, made.2)
       (λ n e. let clash : Subscriber_handle s.next_port ≡ Loan_handle n = e in absurd (cc)) (λ p q n e. let clash : Subscriber_handle s.next_port ≡ Sample_handle p q n = e in absurd (cc))
@@ -142,7 +142,7 @@ module _ {T U : Type 0} (defaults : Defaults T U) (Shown : Messages T U → Stat
   pub subscriber_refused_comes : (buffer : Option ℕ) (degradation : DegradationAction) (s' : State T U) (e : SubscriberCreateError)
       → CreateSubscriber fixed_handlers s (record { buffer_size = elim buffer [ None ↦ buffer_limit s.config | Some asked ↦ asked ]; degradation_handler = Fixed degradation }) s' (Some e)
       → s.next_message ≤ s'.next_message → Shown m s'
-      → Comes defaults Shown m s handles events (SubscriberCommand buffer degradation) (SubscriberRefused e) (table ++ Nothing_kept ∷ [])
+      → Comes defaults Shown m s handles events (SubscriberCommand buffer degradation) (SubscriberRefused e) (table ++ No_entry ∷ [])
   subscriber_refused_comes buffer degradation s' e h rises shown =
       quiet_comes defaults Shown m s handles events table w default_value default_header is_default_value is_default_header
       (SubscriberCommand buffer degradation) (SubscriberRefused e) s' (s', Some e, h, refl) shown
@@ -181,23 +181,23 @@ module _ {T U : Type 0} (defaults : Defaults T U) (Shown : Messages T U → Stat
     by true FixedSize = e
     by true Dynamic = refl
 
-  pub loan_skipped : (of : ℕ) → Lacks is_publisher table of → Shown m s → Comes defaults Shown m s handles events (LoanUninit of) Skipped (table ++ Nothing_kept ∷ [])
+  pub loan_skipped : (of : ℕ) → Lacks is_publisher_entry table of → Shown m s → Comes defaults Shown m s handles events (LoanUninit of) Skipped (table ++ No_entry ∷ [])
   loan_skipped of absent shown =
       skip_comes defaults Shown m s handles events table w default_value default_header is_default_value is_default_header (LoanUninit of)
       (at_none _ _ _ (none_named (unblocked_at s handles of) (lacks_publisher s handles events table w of absent)) refl) shown
 
-  pub loan_elsewhere : (of : ℕ) → (IsSingle s → ⊥) → Shown m s → Comes defaults Shown m s handles events (LoanUninit of) Skipped (table ++ Nothing_kept ∷ [])
+  pub loan_elsewhere : (of : ℕ) → (IsSingle s → ⊥) → Shown m s → Comes defaults Shown m s handles events (LoanUninit of) Skipped (table ++ No_entry ∷ [])
   loan_elsewhere of other shown =
       skip_comes defaults Shown m s handles events table w default_value default_header is_default_value is_default_header (LoanUninit of)
       (at_none _ _ _ (other_service (unblocked_at s handles of) other) refl) shown
 
-  pub loan_comes : (of service p : ℕ) → slice_get table of ≡ Some (Kept_publisher service p) → IsSingle s
+  pub loan_comes : (of service p : ℕ) → slice_get table of ≡ Some (Publisher_entry service p) → IsSingle s
       → (header : U) → defaults.IsDefaultHeader header → (s' : State T U) → GrantLoan fixed_handlers header false 1 s p s' None → Shown m s'
       → (new_service : ℕ) → new_service ≡ (s'.config).service_id
-      → Comes defaults Shown m s handles events (LoanUninit of) Loaned (table ++ Kept_unwritten new_service p s.next_message ∷ [])
+      → Comes defaults Shown m s handles events (LoanUninit of) Loaned (table ++ Unwritten_entry new_service p s.next_message ∷ [])
   loan_comes of service p at single header is_default s' h shown new_service ours =
       let found = has_publisher s handles events table w of service p at in
-      let named = handle_of s handles events table w of (Kept_publisher service p) at in
+      let named = handle_of s handles events table w of (Publisher_entry service p) at in
       let stay : PortsStay s s' = grant_loan_stays fixed_handlers header false 1 s p s' None h in
       let next : IsNextLoan fixed_handlers s p s' = loan_next fixed_handlers s header false 1 p s' h in
       let free = (stay.remain).publishers p ((named.2).2).0 ((named.2).2).1 in record {
@@ -209,7 +209,7 @@ module _ {T U : Type 0} (defaults : Defaults T U) (Shown : Messages T U → Stat
         step = at_some _ _ _ (p, found.0) (this_service (unblocked_at s handles of) single ∙ found.1) (s', None, h, refl);
         replied = refl;
         shown = shown;
-        follows = λ once. table_next s s' handles events table w (Loan_handle s.next_message) No_event (Kept_unwritten new_service p s.next_message) table (omega (arith, next.next)) refl
+        follows = λ once. table_next s s' handles events table w (Loan_handle s.next_message) No_event (Unwritten_entry new_service p s.next_message) table (omega (arith, next.next)) refl
             (all_still s s' handles events table w stay.remain next.others (λ i p q n _. same_borrowed s s' stay p q n)) (
               ours,
               refl,
@@ -220,9 +220,9 @@ module _ {T U : Type 0} (defaults : Defaults T U) (Shown : Messages T U → Stat
             (λ p q n e. let clash : Loan_handle s.next_message ≡ Sample_handle p q n = e in absurd (cc)) once;
       }
 
-  pub loan_refused_comes : (of service p : ℕ) → slice_get table of ≡ Some (Kept_publisher service p) → IsSingle s
+  pub loan_refused_comes : (of service p : ℕ) → slice_get table of ≡ Some (Publisher_entry service p) → IsSingle s
       → (header : U) → defaults.IsDefaultHeader header → (s' : State T U) (e : LoanError) → GrantLoan fixed_handlers header false 1 s p s' (Some e) → Shown m s'
-      → Comes defaults Shown m s handles events (LoanUninit of) (LoanRefused e) (table ++ Nothing_kept ∷ [])
+      → Comes defaults Shown m s handles events (LoanUninit of) (LoanRefused e) (table ++ No_entry ∷ [])
   loan_refused_comes of service p at single header is_default s' e h shown =
       let found = has_publisher s handles events table w of service p at in
       let same : s' ≡ s = loan_refused fixed_handlers s header false 1 p s' e h in

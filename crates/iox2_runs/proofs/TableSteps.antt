@@ -3,13 +3,13 @@ use Rattle.std.proofs.Common.{◌≡◌, ℕ, Bool, zero, suc, ◌≤◌, ◌<�
 use Rattle.std.specs.Prelude.{◌≢◌, slice_get, slice_set}
 use Rattle.std.proofs.lemmas.Bool.{true≢false, eq-eqb, cases_eq}
 use Rattle.std.proofs.lemmas.Option.{same_Some, slice_get_within}
-use Rattle.iox2_store.specs.Numbers.{contains, IsOnce}
-use Rattle.iox2_store.specs.Mailbox.{is_borrowed}
-use Rattle.iox2_store.specs.State.{State}
+use Rattle.iox2_store.specs.machine.Numbers.{contains, IsOnce}
+use Rattle.iox2_store.specs.machine.Mailbox.{is_borrowed}
+use Rattle.iox2_store.specs.machine.State.{State}
 use Rattle.iox2_store.specs.declared.service_config.ServiceConfig.{ServiceConfig}
 use Rattle.iox2_commands.specs.Outcomes.{Handle, No_handle, Publisher_handle, Subscriber_handle, Loan_handle, Blocked_handle, Sample_handle, Event, Message_received}
 use Rattle.iox2_commands.specs.Runs.{received}
-use Rattle.iox2_runs.specs.Tables.{Kept, Nothing_kept, Kept_publisher, Kept_subscriber, Kept_unwritten, Kept_written, Kept_sample, IsFree, HasLoan, IsSingle, IsKept, IsTable}
+use Rattle.iox2_runs.specs.Tables.{TableEntry, No_entry, Publisher_entry, Subscriber_entry, Unwritten_entry, Written_entry, Sample_entry, IsFree, HasLoan, IsSingle, IsEntryOf, IsTable}
 use Rattle.iox2_laws.proofs.NumberLemmas.{IsOnce-apart, contains_left, contains_right, contains_first}
 use Rattle.iox2_commands.proofs.GrowingLists.{old_or_last, longer}
 use Rattle.iox2_laws.proofs.PortsStay.{Remain}
@@ -28,24 +28,24 @@ module _ {T U : Type 0} (s s' : State T U) (remain : Remain s s') where
   loan : {p n : ℕ} {is_written : Bool} → s'.loans n ≡ s.loans n → HasLoan s p n is_written → HasLoan s' p n is_written
   loan e h = (((h.0).0, e ∙ (h.0).1, (h.0).2, (h.0).3), free h.1)
 
-  -- what was kept of a handle is still, where the ports remain and what it names does
-  pub still_kept : (handle : Handle) (entry : Kept)
+  -- an entry of a handle is one still, where the ports remain and what it names does
+  pub still_entry : (handle : Handle) (entry : TableEntry)
       → ((n : ℕ) → handle ≡ Loan_handle n → s'.loans n ≡ s.loans n)
       → ((p q n : ℕ) → handle ≡ Sample_handle p q n → is_borrowed n (s'.mailboxes p q) ≡ is_borrowed n (s.mailboxes p q))
-      → IsKept s handle entry → IsKept s' handle entry
-  still_kept No_handle Nothing_kept loans samples h = h
-  still_kept (Publisher_handle p) Nothing_kept loans samples h = h
-  still_kept (Subscriber_handle q) Nothing_kept loans samples h = h
-  still_kept (Loan_handle n) Nothing_kept loans samples h = loans n refl ∙ h
-  still_kept (Blocked_handle p n) Nothing_kept loans samples h = h
-  still_kept (Sample_handle p q n) Nothing_kept loans samples h = samples p q n refl ∙ h
-  still_kept named (Kept_publisher service p) loans samples h =
+      → IsEntryOf s handle entry → IsEntryOf s' handle entry
+  still_entry No_handle No_entry loans samples h = h
+  still_entry (Publisher_handle p) No_entry loans samples h = h
+  still_entry (Subscriber_handle q) No_entry loans samples h = h
+  still_entry (Loan_handle n) No_entry loans samples h = loans n refl ∙ h
+  still_entry (Blocked_handle p n) No_entry loans samples h = h
+  still_entry (Sample_handle p q n) No_entry loans samples h = samples p q n refl ∙ h
+  still_entry named (Publisher_entry service p) loans samples h =
       (same h.0, h.1, free h.2)
-  still_kept named (Kept_subscriber service q) loans samples h =
+  still_entry named (Subscriber_entry service q) loans samples h =
       let v = remain.subscribers q h.2 h.3 h.4 in (same h.0, h.1, v.0, v.1, v.2)
-  still_kept named (Kept_unwritten service p n) loans samples h = (same h.0, h.1, loan (loans n h.1) h.2, single h.3)
-  still_kept named (Kept_written service p n) loans samples h = (same h.0, h.1, loan (loans n h.1) h.2, single h.3)
-  still_kept named (Kept_sample service p q n) loans samples h = (same h.0, h.1, samples p q n h.1 ∙ h.2, single h.3)
+  still_entry named (Unwritten_entry service p n) loans samples h = (same h.0, h.1, loan (loans n h.1) h.2, single h.3)
+  still_entry named (Written_entry service p n) loans samples h = (same h.0, h.1, loan (loans n h.1) h.2, single h.3)
+  still_entry named (Sample_entry service p q n) loans samples h = (same h.0, h.1, samples p q n h.1 ∙ h.2, single h.3)
 
 set_here : {A : Type 0} (xs : List A) (i : ℕ) (x : A) → i < length xs → slice_get (slice_set xs i x) i ≡ Some x
 set_here [] i x low = absurd (omega arith)
@@ -60,7 +60,7 @@ set_away (y ∷ xs) (suc i) x zero away = refl
 set_away (y ∷ xs) (suc i) x (suc k) away = set_away xs i x k (λ e. away (ap suc e))
 
 -- what was received before isn't received now
-pub not_again : {T U : Type 0} (s : State T U) (handles : List Handle) (events : List (Event T U)) (table : List Kept) → IsTable s handles events table
+pub not_again : {T U : Type 0} (s : State T U) (handles : List Handle) (events : List (Event T U)) (table : List TableEntry) → IsTable s handles events table
     → (p q n : ℕ) → IsOnce (received p q (events ++ Message_received p q n ∷ [])) → (i : ℕ) → slice_get handles i ≡ Some (Sample_handle p q n) → ⊥
 not_again {T} {U} s handles events table w p q n once i before =
     let new : List (Event T U) = Message_received p q n ∷ [] in
@@ -69,26 +69,26 @@ not_again {T} {U} s handles events table w p q n once i before =
     IsOnce-apart (received p q events) (received p q new) (subst IsOnce (received-append p q events new) once) n (w.samples_received i p q n before) in
     true≢false (sym now ∙ apart)
 
-module _ {T U : Type 0} (s s' : State T U) (handles : List Handle) (events : List (Event T U)) (table : List Kept) (w : IsTable s handles events table)
-    (handle : Handle) (event : Event T U) (entry : Kept) (table' : List Kept) where
+module _ {T U : Type 0} (s s' : State T U) (handles : List Handle) (events : List (Event T U)) (table : List TableEntry) (w : IsTable s handles events table)
+    (handle : Handle) (event : Event T U) (entry : TableEntry) (table' : List TableEntry) where
   -- the table has one entry more, and its old entries are kept still
   pub table_next : s.next_message ≤ s'.next_message → length table' ≡ length table
-      → ((i : ℕ) (h : Handle) (e : Kept) → slice_get handles i ≡ Some h → slice_get table' i ≡ Some e → IsKept s' h e)
-      → IsKept s' handle entry
+      → ((i : ℕ) (h : Handle) (e : TableEntry) → slice_get handles i ≡ Some h → slice_get table' i ≡ Some e → IsEntryOf s' h e)
+      → IsEntryOf s' handle entry
       → ((n : ℕ) → handle ≡ Loan_handle n → (s.next_message ≤ n) × (n < s'.next_message))
       → ((p q n : ℕ) → handle ≡ Sample_handle p q n → event ≡ Message_received p q n)
       → ((p q : ℕ) → IsOnce (received p q (events ++ event ∷ [])))
       → IsTable s' (handles ++ handle ∷ []) (events ++ event ∷ []) (table' ++ entry ∷ [])
   table_next rises same_length old new new_loan new_sample once = record {
     count = longer table' entry ∙ ap suc (same_length ∙ w.count) ∙ sym (longer handles handle);
-    kept = λ i h e at_h at_e. ⊎_elim
+    entries = λ i h e at_h at_e. ⊎_elim
         (λ in_handles. ⊎_elim (λ in_table. old i h e in_handles in_table)
         (λ last. let low : i < length handles = slice_get_within handles i h in_handles in
         let high : i ≡ length table' = last.0 in absurd (omega (arith, same_length, w.count)))
         (old_or_last table' entry i e at_e))
         (λ last. ⊎_elim
         (λ in_table. let low : i < length table' = slice_get_within table' i e in_table in let high : i ≡ length handles = last.0 in absurd (omega (arith, same_length, w.count)))
-        (λ last_entry. subst (λ (v : Handle). IsKept s' v e) last.1 (subst (IsKept s' handle) last_entry.1 new))
+        (λ last_entry. subst (λ (v : Handle). IsEntryOf s' v e) last.1 (subst (IsEntryOf s' handle) last_entry.1 new))
         (old_or_last table' entry i e at_e))
         (old_or_last handles handle i h at_h);
     loans_below = λ i n at. ⊎_elim (λ before. let low : n < s.next_message = w.loans_below i n before in omega (arith, rises)) (λ last. (new_loan n last.1).1) (old_or_last handles handle i (Loan_handle n) at);
@@ -126,32 +126,32 @@ module _ {T U : Type 0} (s s' : State T U) (handles : List Handle) (events : Lis
     apart_samples i j p q n (inr a) (inl b) = absurd (twice j p q n b a.1)
     apart_samples i j p q n (inr a) (inr b) = a.0 ∙ sym b.0
 
-module _ {T U : Type 0} (s s' : State T U) (handles : List Handle) (events : List (Event T U)) (table : List Kept) (w : IsTable s handles events table) (remain : Remain s s') where
-  -- what is kept of every handle is still
+module _ {T U : Type 0} (s s' : State T U) (handles : List Handle) (events : List (Event T U)) (table : List TableEntry) (w : IsTable s handles events table) (remain : Remain s s') where
+  -- every entry is one still
   pub all_still : ((n : ℕ) → n < s.next_message → s'.loans n ≡ s.loans n)
       → ((i p q n : ℕ) → slice_get handles i ≡ Some (Sample_handle p q n) → is_borrowed n (s'.mailboxes p q) ≡ is_borrowed n (s.mailboxes p q))
-      → (i : ℕ) (h : Handle) (e : Kept) → slice_get handles i ≡ Some h → slice_get table i ≡ Some e → IsKept s' h e
+      → (i : ℕ) (h : Handle) (e : TableEntry) → slice_get handles i ≡ Some h → slice_get table i ≡ Some e → IsEntryOf s' h e
   all_still loans samples i h e at_h at_e =
-      still_kept s s' remain h e
+      still_entry s s' remain h e
       (λ n is. loans n (w.loans_below i n (at_h ∙ ap Some is)))
       (λ p q n is. samples i p q n (at_h ∙ ap Some is))
-      (w.kept i h e at_h at_e)
+      (w.entries i h e at_h at_e)
 
-  -- what is kept of every handle but one is still, and of that one it is this now
-  pub others_still : (of : ℕ) (named : Handle) (entry : Kept) → slice_get handles of ≡ Some named → IsKept s' named entry
+  -- every entry but one is one still, and in the place of that one is this now
+  pub others_still : (of : ℕ) (named : Handle) (entry : TableEntry) → slice_get handles of ≡ Some named → IsEntryOf s' named entry
       → ((n : ℕ) → n < s.next_message → (named ≡ Loan_handle n → ⊥) → s'.loans n ≡ s.loans n)
       → ((i p q n : ℕ) → slice_get handles i ≡ Some (Sample_handle p q n) → (named ≡ Sample_handle p q n → ⊥) → is_borrowed n (s'.mailboxes p q) ≡ is_borrowed n (s.mailboxes p q))
-      → (i : ℕ) (h : Handle) (e : Kept) → slice_get handles i ≡ Some h → slice_get (slice_set table of entry) i ≡ Some e → IsKept s' h e
+      → (i : ℕ) (h : Handle) (e : TableEntry) → slice_get handles i ≡ Some h → slice_get (slice_set table of entry) i ≡ Some e → IsEntryOf s' h e
   others_still of named entry at_of now loans samples i h e at_h at_e = elim (cases_eq i of) [
     | inl here ↦
         let same_handle : named ≡ h = same_Some named h (sym at_of ∙ sym (ap (λ (k : ℕ). slice_get handles k) here) ∙ at_h) in
         let same_entry : entry ≡ e = same_Some entry e (sym (set_here table of entry (in_table here at_h)) ∙ sym (ap (λ (k : ℕ). slice_get (slice_set table of entry) k) here) ∙ at_e) in
-        subst (λ (v : Handle). IsKept s' v e) same_handle (subst (IsKept s' named) same_entry now)
+        subst (λ (v : Handle). IsEntryOf s' v e) same_handle (subst (IsEntryOf s' named) same_entry now)
     | inr away ↦
-        still_kept s s' remain h e
+        still_entry s s' remain h e
         (λ n is. loans n (w.loans_below i n (at_h ∙ ap Some is)) (λ again. away (w.loans_apart i of n (at_h ∙ ap Some is) (at_of ∙ ap Some again))))
         (λ p q n is. samples i p q n (at_h ∙ ap Some is) (λ again. away (w.samples_apart i of p q n (at_h ∙ ap Some is) (at_of ∙ ap Some again))))
-        (w.kept i h e at_h (sym (set_away table of entry i away) ∙ at_e))
+        (w.entries i h e at_h (sym (set_away table of entry i away) ∙ at_e))
   ] where
     in_table : i ≡ of → slice_get handles i ≡ Some h → of < length table
     in_table here at = let low : i < length handles = slice_get_within handles i h at in omega (arith, here, w.count)

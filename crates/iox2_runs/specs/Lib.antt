@@ -2,5 +2,5 @@ pub mod Tables
 pub mod Supported
 pub mod RunSteps
 pub mod Rooms
-pub mod Holdings
+pub mod Carries
 pub mod DomainRuns

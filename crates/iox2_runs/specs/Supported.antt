@@ -9,15 +9,15 @@ use Rattle.iox2_commands.specs.declared.command.Command.TheVariants.{Nothing, Cr
 
 -- The command is one of those that make ports and take a message from a loan to its release, with nothing set that a
 -- factory can't be told yet.
-abbrev pub IsSupported : {T U : Type 0} → Command T U → Type 0
-IsSupported Nothing = Unit {0}
-IsSupported (CreatePublisher loans strategy allocation len override_slots degradation backpressure) =
+abbrev pub IsSupportedCommand : {T U : Type 0} → Command T U → Type 0
+IsSupportedCommand Nothing = Unit {0}
+IsSupportedCommand (CreatePublisher loans strategy allocation len override_slots degradation backpressure) =
     (strategy ≡ DiscardData) × (allocation ≡ Static) × (override_slots ≡ None) × (degradation ≡ Warn) × (backpressure ≡ None)
-IsSupported (CreateSubscriber buffer degradation) = degradation ≡ Warn
-IsSupported (LoanUninit of) = Unit {0}
-IsSupported (WriteAll of value) = Unit {0}
-IsSupported (Send of) = Unit {0}
-IsSupported (Receive of) = Unit {0}
-IsSupported (Read of at) = Unit {0}
-IsSupported (Release of) = Unit {0}
-IsSupported _ = ⊥
+IsSupportedCommand (CreateSubscriber buffer degradation) = degradation ≡ Warn
+IsSupportedCommand (LoanUninit of) = Unit {0}
+IsSupportedCommand (WriteAll of value) = Unit {0}
+IsSupportedCommand (Send of) = Unit {0}
+IsSupportedCommand (Receive of) = Unit {0}
+IsSupportedCommand (Read of at) = Unit {0}
+IsSupportedCommand (Release of) = Unit {0}
+IsSupportedCommand _ = ⊥

@@ -1,22 +1,22 @@
--- What a run keeps of what its commands made.
+-- The table of a run: an entry for what each command made.
 use Rattle.std.specs.Prelude.{ℕ, Bool, true, false, List, length, ◌≡◌, ◌<◌, slice_get}
 use Rattle.std.specs.declared.option.Option.TheVariants.{None, Some}
-use Rattle.iox2_store.specs.Numbers.{contains}
-use Rattle.iox2_store.specs.Mailbox.{is_borrowed}
-use Rattle.iox2_store.specs.Records.{Loan, Publisher, Subscriber}
-use Rattle.iox2_store.specs.State.{State}
+use Rattle.iox2_store.specs.machine.Numbers.{contains}
+use Rattle.iox2_store.specs.machine.Mailbox.{is_borrowed}
+use Rattle.iox2_store.specs.machine.Records.{Loan, Publisher, Subscriber}
+use Rattle.iox2_store.specs.machine.State.{State}
 use Rattle.iox2_store.specs.declared.service_config.TypeVariant.TheVariants.{FixedSize}
 use Rattle.iox2_commands.specs.Outcomes.{Handle, No_handle, Publisher_handle, Subscriber_handle, Loan_handle, Blocked_handle, Sample_handle, Event}
 use Rattle.iox2_commands.specs.Runs.{received}
 
--- What a command made that is still in the run's hands, with the service's number.
-pub data Kept : Type 0 where
-  Nothing_kept : Kept
-  Kept_publisher : (service id : ℕ) → Kept
-  Kept_subscriber : (service id : ℕ) → Kept
-  Kept_unwritten : (service publisher message : ℕ) → Kept
-  Kept_written : (service publisher message : ℕ) → Kept
-  Kept_sample : (service publisher subscriber message : ℕ) → Kept
+-- What the handle names that a command made, with the service's number; no entry where it made none or it is spent.
+pub data TableEntry : Type 0 where
+  No_entry : TableEntry
+  Publisher_entry : (service id : ℕ) → TableEntry
+  Subscriber_entry : (service id : ℕ) → TableEntry
+  Unwritten_entry : (service publisher message : ℕ) → TableEntry
+  Written_entry : (service publisher message : ℕ) → TableEntry
+  Sample_entry : (service publisher subscriber message : ℕ) → TableEntry
 
 module _ {T U : Type 0} (s : State T U) where
   -- The handle names nothing live. No command that `run` carries out so far closes a port or blocks a send: a port's handle is
@@ -41,22 +41,22 @@ module _ {T U : Type 0} (s : State T U) where
   abbrev pub IsSingle : Type 0
   IsSingle = ((s.config).variant ≡ FixedSize) × ((s.config).units_per_element ≡ 1)
 
-  -- What is kept is what the handle names in this service, and it is live.
-  abbrev pub IsKept : Handle → Kept → Type 0
-  IsKept handle Nothing_kept = IsSpent handle
-  IsKept handle (Kept_publisher service p) =
+  -- The entry names what the handle names in this service, and that is live.
+  abbrev pub IsEntryOf : Handle → TableEntry → Type 0
+  IsEntryOf handle No_entry = IsSpent handle
+  IsEntryOf handle (Publisher_entry service p) =
       (service ≡ (s.config).service_id) × (handle ≡ Publisher_handle p) × IsFree p
-  IsKept handle (Kept_subscriber service q) =
+  IsEntryOf handle (Subscriber_entry service q) =
       (service ≡ (s.config).service_id) × (handle ≡ Subscriber_handle q) × (y : Subscriber) × (s.subscribers q ≡ Some y) × (y.is_open ≡ true)
-  IsKept handle (Kept_unwritten service p n) = (service ≡ (s.config).service_id) × (handle ≡ Loan_handle n) × HasLoan p n false × IsSingle
-  IsKept handle (Kept_written service p n) = (service ≡ (s.config).service_id) × (handle ≡ Loan_handle n) × HasLoan p n true × IsSingle
-  IsKept handle (Kept_sample service p q n) =
+  IsEntryOf handle (Unwritten_entry service p n) = (service ≡ (s.config).service_id) × (handle ≡ Loan_handle n) × HasLoan p n false × IsSingle
+  IsEntryOf handle (Written_entry service p n) = (service ≡ (s.config).service_id) × (handle ≡ Loan_handle n) × HasLoan p n true × IsSingle
+  IsEntryOf handle (Sample_entry service p q n) =
       (service ≡ (s.config).service_id) × (handle ≡ Sample_handle p q n) × (is_borrowed n (s.mailboxes p q) ≡ true) × IsSingle
 
--- A run has kept of each command what its handle names while that is live. No loan and no sample has two handles.
-pub record IsTable {T U : Type 0} (s : State T U) (handles : List Handle) (events : List (Event T U)) (table : List Kept) : Type 0 where
+-- A run's table has the entry of each command's handle, while what this names is live. No loan and no sample has two handles.
+pub record IsTable {T U : Type 0} (s : State T U) (handles : List Handle) (events : List (Event T U)) (table : List TableEntry) : Type 0 where
   pub count : length table ≡ length handles
-  pub kept : (i : ℕ) (handle : Handle) (entry : Kept) → slice_get handles i ≡ Some handle → slice_get table i ≡ Some entry → IsKept s handle entry
+  pub entries : (i : ℕ) (handle : Handle) (entry : TableEntry) → slice_get handles i ≡ Some handle → slice_get table i ≡ Some entry → IsEntryOf s handle entry
   pub loans_below : (i n : ℕ) → slice_get handles i ≡ Some (Loan_handle n) → n < s.next_message
   pub loans_apart : (i j n : ℕ) → slice_get handles i ≡ Some (Loan_handle n) → slice_get handles j ≡ Some (Loan_handle n) → i ≡ j
   pub samples_received : (i p q n : ℕ) → slice_get handles i ≡ Some (Sample_handle p q n) → contains (received p q events) n ≡ true

@@ -1,28 +1,28 @@
 //! Runs of commands on a domain.
 ghost use Rattle.std.specs.Prelude.{◌≡◌, List, IfOk, IfErr};
 ghost use Rattle.std.specs.List.{All};
-ghost use Rattle.iox2_store.specs.Environments.{fixed_handlers};
-ghost use Rattle.iox2_store.specs.State.{State, Messages};
+ghost use Rattle.iox2_store.specs.machine.Environments.{fixed_handlers};
+ghost use Rattle.iox2_store.specs.machine.State.{State, Messages};
 ghost use Rattle.iox2_domain.specs.Shows.{Shows};
 ghost use Rattle.iox2_runs.specs.Rooms.{SameRoom};
-ghost use Rattle.iox2_runs.specs.Holdings.{Keeps, Carries, defaults_of};
+ghost use Rattle.iox2_runs.specs.Carries.{IsLiveTable, Carries, defaults_of};
 ghost use Rattle.iox2_commands.specs.Outcomes.{Event};
 ghost use Rattle.iox2_commands.specs.OneDefault.{HasOneDefault};
 ghost use Rattle.iox2_commands.specs.RunLaws.{IsFaithful};
 ghost use Rattle.iox2_commands.specs.Runs.{Run, only_defaults};
 ghost use Rattle.iox2_runs.specs.DomainRuns.{RunsOnDomain};
-ghost use Rattle.iox2_runs.specs.Supported.{IsSupported};
-ghost use Rattle.iox2_runs.specs.declared.runs.held.Held.TheVariants.{Nothing};
+ghost use Rattle.iox2_runs.specs.Supported.{IsSupportedCommand};
+ghost use Rattle.iox2_runs.specs.declared.runs.made.Made.TheVariants.{Nothing};
 
-mod held;
 mod loans;
+mod made;
 mod ports;
 mod samples;
 
-use held::{Held, disown_all};
 use iox2_commands::{Command, Reply};
 use iox2_pubsub::Domain;
 use iox2_store::{BackpressureFn, DegradationFn};
+use made::{Made, disown_all};
 use std::alloc::Global;
 
 // There is a default value of the type.
@@ -41,7 +41,7 @@ fn shows_a_state<T: Drop, U: Default + Drop, F: BackpressureFn, G: DegradationFn
     domain.config();
 }
 
-// Carries out one command, and answers what it made too.
+// Carries out one command, and returns what it made too.
 fn carry_out<
     T: Copy + Default + Drop,
     U: Copy + Default + Drop,
@@ -49,11 +49,11 @@ fn carry_out<
     G: DegradationFn,
 >(
     domain: &mut Domain<T, U, F, G>,
-    table: &mut Vec<Held>,
+    table: &mut Vec<Made>,
     command: Command<T, U>,
-) -> (Reply<T, U>, Held)
-    requires supported { IsSupported command }
-    requires keeps { Keeps domain.old table.old.items }
+) -> (Reply<T, U>, Made)
+    requires supported { IsSupportedCommand command }
+    requires keeps { IsLiveTable domain.old table.old.items }
     ensures carries { Carries (defaults_of T.is_default U.is_default) domain.old domain.new table.old.items command result.0 table.new.items result.1 }
     ensures room { SameRoom table.old table.new }
 {
@@ -64,18 +64,18 @@ fn carry_out<
         }
         Command::LoanUninit { of } => loans::loan_uninit(domain, table, of),
         Command::WriteAll { of, value } => {
-            (loans::write_all(domain, table, of, value), Held::Nothing)
+            (loans::write_all(domain, table, of, value), Made::Nothing)
         }
-        Command::Send { of } => (loans::send(domain, table, of), Held::Nothing),
+        Command::Send { of } => (loans::send(domain, table, of), Made::Nothing),
         Command::Receive { of } => samples::receive(domain, table, of),
-        Command::Read { of, at } => (samples::read(domain, table, of, at), Held::Nothing),
-        Command::Release { of } => (samples::release(domain, table, of), Held::Nothing),
-        Command::Nothing => (Reply::Done, Held::Nothing),
+        Command::Read { of, at } => (samples::read(domain, table, of, at), Made::Nothing),
+        Command::Release { of } => (samples::release(domain, table, of), Made::Nothing),
+        Command::Nothing => (Reply::Done, Made::Nothing),
         _ => unreachable!(),
     }
 }
 
-/// Carries out the commands on the domain, one after the other, and answers a reply for each.
+/// Carries out the commands on the domain, one after the other, and returns a reply for each.
 ///
 /// Each subscriber receives a part of what each publisher sent in the run, in order and each message
 /// once; each sample names its publisher, and each read gives what was sent. Of types of which one
@@ -92,7 +92,7 @@ pub fn run<T: Copy + Default + Drop, U: Copy + Default + Drop, F: BackpressureFn
     domain: &mut Domain<T, U, F, G>,
     commands: Vec<Command<T, U>>,
 ) -> Result<Vec<Reply<T, U>>, Vec<Command<T, U>>>
-    requires { All IsSupported commands.items }
+    requires { All IsSupportedCommand commands.items }
     ensures ran { IfOk result (λ replies. (m : Messages T U) (s : State T U) → Shows domain.old m s
         → (events : List (Event T U)) × (m' : Messages T U) × (s' : State T U) × Shows domain.new m' s'
         × Run fixed_handlers (defaults_of T.is_default U.is_default) m s commands.items replies.items events m' s'
@@ -110,7 +110,7 @@ pub fn run<T: Copy + Default + Drop, U: Copy + Default + Drop, F: BackpressureFn
         return Err(commands);
     };
     // The proof of the loop rests on these facts: a step names default values, and what the table
-    // holds is live in a state that the domain shows.
+    // has is live in a state that the domain shows.
     has_default::<T>();
     has_default::<U>();
     shows_a_state(domain);

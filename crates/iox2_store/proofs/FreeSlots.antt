@@ -67,7 +67,7 @@ none_free holders free e has k d h =
 no_count : (holders : List ℕ) → All (λ n. 0 < n) holders → count_by (λ b. b) (map (λ n. eqb n 0) holders) ≡ 0
 no_count [] all = refl
 no_count (n ∷ holders) all =
-    let held = busy n (all 0 0 (omega arith)) in
+    let in_use = busy n (all 0 0 (omega arith)) in
     let rest = no_count holders (λ k d h. all (suc k) d (omega arith)) in
     grind (arith, common_steps, sum_by-cons (λ b. cond b 1 0) (eqb n 0) (map (λ n. eqb n 0) holders))
 

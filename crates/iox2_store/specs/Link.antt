@@ -3,7 +3,7 @@ use Rattle.std.specs.Prelude.{◌≡◌, ℕ, ◌+◌, ◌<◌, ◌≤◌, ◌^�
 use Rattle.std.specs.List.{position_or_len}
 use Rattle.std.specs.declared.option.Option.{Option}
 use Rattle.std.specs.declared.option.Option.TheVariants.{None, Some}
-use Rattle.iox2_store.specs.Numbers.{is_nil}
+use Rattle.iox2_store.specs.machine.Numbers.{is_nil}
 use Rattle.iox2_store.specs.declared.connection.Home.{Home}
 use Rattle.iox2_store.specs.declared.connection.PutOutcome.{PutOutcome}
 use Rattle.iox2_store.specs.declared.connection.PutOutcome.TheVariants.{Taken, Overwrote, Full}
@@ -52,7 +52,7 @@ IsTaken old None new = (old.waiting ≡ []) × (new ≡ old)
 IsTaken old (Some slot) new =
     (rest : List ℕ) × (old.waiting ≡ slot ∷ rest) × (new ≡ record old { waiting = rest; borrowed = old.borrowed ++ slot ∷ [] })
 
--- The list without the first place at which the slot stands.
+-- The list without the first position at which the slot stands.
 abbrev pub without_first : (slot : ℕ) → List ℕ → List ℕ
 without_first slot slots = remove slots (position_or_len (λ other. other == slot) slots)
 

@@ -4,8 +4,8 @@ use Rattle.iox2_store.specs.declared.header.Header.{Header}
 use Rattle.iox2_store.specs.declared.slots.mark.SlotMark.{SlotMark}
 use Rattle.iox2_store.specs.declared.slots.mark.SlotMark.TheVariants.{Unwritten}
 
--- A publisher, and for each of its slots the number, the header and the mark of the message in it, and how many hold
--- the slot.
+-- A publisher, and for each of its slots the number, the header and the mark of the message in it, and how many holders
+-- the slot has.
 pub record Book : Type 0 where
   pub publisher : ℕ
   pub numbers : List ℕ
@@ -19,7 +19,7 @@ pub record IsAligned (book : Book) : Type 0 where
   pub headers : length book.headers ≡ length book.holders
   pub marks : length book.marks ≡ length book.holders
 
--- How many hold the slot.
+-- How many holders the slot has.
 abbrev pub holders_at : Book → (slot : ℕ) → ℕ
 holders_at book slot = slice_index book.holders slot
 
@@ -27,13 +27,13 @@ holders_at book slot = slice_index book.holders slot
 abbrev pub with_holders : Book → (slot count : ℕ) → Book
 with_holders book slot count = record book { holders = slice_set book.holders slot count }
 
--- Something holds the slot.
-pub record IsHeld (book : Book) (slot : ℕ) : Type 0 where
+-- The slot is in use: it has a holder.
+pub record IsInUse (book : Book) (slot : ℕ) : Type 0 where
   pub in_bounds : slot < length book.holders
-  pub held : 0 < holders_at book slot
+  pub in_use : 0 < holders_at book slot
 
--- A slot that nothing held has this number and header, isn't written, and has one holder. Nothing else changes.
-pub record TakesSlot (old new : Book) (slot number : ℕ) (header : Header) : Type 0 where
+-- A slot that wasn't in use has this number and header, isn't written, and has one holder. Nothing else changes.
+pub record TakesFreeSlot (old new : Book) (slot number : ℕ) (header : Header) : Type 0 where
   pub in_bounds : slot < length old.holders
   pub was_unused : holders_at old slot ≡ 0
   pub taken : new ≡ record old {

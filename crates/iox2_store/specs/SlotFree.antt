@@ -7,6 +7,6 @@ pub record HasEachOnce (tests : List Bool) (indices : List ℕ) : Type 0 where
   pub times : (i : ℕ) → count_by (λ j. j == i) indices ≡ cond (slice_index_or tests i false) 1 0
   pub count : length indices ≡ count_by (λ b. b) tests
 
--- The list has each slot that nothing holds once, and no other.
+-- The list has each slot that isn't in use once, and no other.
 pub record HasFree (holders free : List ℕ) : Type 0 where
   pub each : HasEachOnce (map (λ n. n == 0) holders) free

@@ -29,7 +29,7 @@ pub enum BackpressureAction {
     Retry,
     /// Skip this receiver and go on to the others.
     DiscardData,
-    /// Skip this receiver and go on to the others; at its end the send then answers
+    /// Skip this receiver and go on to the others; at its end the send then returns
     /// `SendError::UnableToDeliver`.
     DiscardDataAndFail,
 }

@@ -31,8 +31,8 @@ pub enum PutOutcome {
     Full,
 }
 
-/// The first place at which a slot stands.
-fn place_of(slots: &[usize], slot: usize) -> Option<usize>
+/// The first position at which a slot stands.
+fn position_of(slots: &[usize], slot: usize) -> Option<usize>
     ensures { result ≡ position (λ other. other == slot) slots.now }
 {
     slots.iter().position(|other| *other == slot)
@@ -71,7 +71,7 @@ impl Connection {
     /// A connection in which no slot stands. At most `buffer` slots wait there and at most `limit`
     /// are borrowed.
     ///
-    /// Answers `AllocError` where memory is refused, and where `buffer + limit + 1`, the room for
+    /// Returns `AllocError` where memory is refused, and where `buffer + limit + 1`, the room for
     /// slots that are given back, isn't a `usize`.
     pub fn new(
         alloc: Global,
@@ -141,8 +141,8 @@ impl Connection {
         ensures releases { self.new ≡ with_returned slot self.old }
         ensures bounded { IsBounded self.new }
     {
-        if let Some(place) = place_of(&self.borrowed, slot) {
-            self.borrowed.remove(place);
+        if let Some(position) = position_of(&self.borrowed, slot) {
+            self.borrowed.remove(position);
             self.returned.push_back(slot);
         }
     }

@@ -26,7 +26,7 @@ pub enum LoanError {
 pub enum SendError {
     /// The publisher that lent the message is closed.
     ConnectionBrokenSinceSenderNoLongerExists,
-    /// Never answered: the connections lie in memory that nobody else writes.
+    /// Never returned: the connections lie in memory that nobody else writes.
     ConnectionCorrupted,
     /// A call that lends and sends in one got no loan, for this reason.
     LoanError(LoanError),
@@ -36,7 +36,7 @@ pub enum SendError {
     /// A handler answered `BackpressureAction::DiscardDataAndFail` for some receiver. The others
     /// may have got the message.
     UnableToDeliver,
-    /// Never answered.
+    /// Never returned.
     InternalError,
 }
 
@@ -92,7 +92,7 @@ impl From<ConnectionFailure> for ReceiveError {
 pub enum ConnectionFailure {
     /// A connection could not be made, or that of a departed publisher could not be put aside.
     FailedToEstablishConnection(ZeroCopyCreationError),
-    /// Never answered: there is no shared memory to map.
+    /// Never returned: there is no shared memory to map.
     UnableToMapSendersDataSegment(SharedMemoryOpenError),
 }
 
@@ -124,7 +124,7 @@ impl From<SharedMemoryOpenError> for ConnectionFailure {
 /// `IncompatibleBufferSize`; the other variants are this library's own.
 #[derive(Debug, Clone, Copy, PartialEq, Eq, Hash)]
 pub enum ZeroCopyCreationError {
-    /// Never answered.
+    /// Never returned.
     IncompatibleBufferSize,
     /// Memory for the connection was refused, or its size doesn't fit `usize`, and the handler
     /// answered `DegradationAction::DegradeAndFail`.
@@ -140,7 +140,7 @@ pub enum ZeroCopyCreationError {
 /// library's own.
 #[derive(Debug, Clone, Copy, PartialEq, Eq, Hash)]
 pub enum SharedMemoryOpenError {
-    /// Never answered: there is no shared memory to open.
+    /// Never returned: there is no shared memory to open.
     InternalError,
 }
 

@@ -27,7 +27,7 @@ fn a_message_goes_there_and_back(rt: HostRuntime) -> Result<(), Fail> {
     let mut connections = Slab::new(rt.alloc());
     connections.reserve(1)?;
     let key = connections.insert_reserved(connection);
-    let places = [Some(key)];
+    let keys = [Some(key)];
     let header = Header {
         node_id: UniqueNodeId::new(1),
         publisher_id: UniquePublisherId::new(1),
@@ -50,10 +50,10 @@ fn a_message_goes_there_and_back(rt: HostRuntime) -> Result<(), Fail> {
         &delivery,
         &mut connections,
         &mut book,
-        &places,
+        &keys,
         &[Some(receiver)],
     );
-    let found = find(&connections, &[], &places);
+    let found = find(&connections, &[], &keys);
     assert!(rt; found == Found::Ready(key));
     let received = take(&mut connections, key);
     assert!(rt; connections[key].is_borrowed(received));
@@ -61,7 +61,7 @@ fn a_message_goes_there_and_back(rt: HostRuntime) -> Result<(), Fail> {
     assert!(rt; slot < book.len());
     let delivered = book.holders(slot);
 
-    reclaim_all(1, &mut connections, &mut book, &places);
+    reclaim_all(1, &mut connections, &mut book, &keys);
     assert!(rt; slot < book.len());
     let reclaimed = book.holders(slot);
     drop(connections);

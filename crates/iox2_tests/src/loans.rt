@@ -32,7 +32,7 @@ fn a_domain_holds_its_loan_alone(rt: HostRuntime) {
         service_id: 8,
         ..FIRST
     };
-    let held = [
+    let live = [
         domain.holds_loan(FIRST),
         domain.holds_loan(elsewhere),
         domain.holds_loan(Key { port: 2, ..FIRST }),
@@ -43,7 +43,7 @@ fn a_domain_holds_its_loan_alone(rt: HostRuntime) {
     ];
     drop(domain);
     assert!(rt; key == FIRST);
-    assert!(rt; held == [true, false, false, false]);
+    assert!(rt; live == [true, false, false, false]);
 }
 
 #[test]
@@ -54,9 +54,9 @@ fn a_publisher_lends_as_much_as_it_may(rt: HostRuntime) {
     let first = lent(&mut domain, &publisher);
     let second = lent(&mut domain, &publisher);
     publisher.disown();
-    let is_held = domain.holds_loan(FIRST);
+    let is_live = domain.holds_loan(FIRST);
     drop(domain);
     assert!(rt; first == Ok(FIRST));
     assert!(rt; second == Err(LoanError::ExceedsMaxLoans));
-    assert!(rt; is_held);
+    assert!(rt; is_live);
 }

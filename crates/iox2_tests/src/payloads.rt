@@ -23,10 +23,10 @@ fn a_written_loan_has_its_payload(rt: HostRuntime) {
     let origin = message.header(&domain).publisher_id.value();
     let written = message.key();
     message.disown();
-    let is_held = domain.holds_loan(key);
+    let is_live = domain.holds_loan(key);
     drop(domain);
     assert!(rt; celsius == 21);
     assert!(rt; origin == 1);
     assert!(rt; written == key);
-    assert!(rt; is_held);
+    assert!(rt; is_live);
 }

@@ -23,7 +23,7 @@ fn a_publisher_is_made_and_a_second_is_refused(rt: HostRuntime) {
     let key = publisher.key();
     publisher.disown();
     let refusal = refusal(&mut domain, 1);
-    let is_held = domain.holds_publisher(key);
+    let is_live = domain.holds_publisher(key);
     drop(domain);
     let expected = Key {
         service_id: 7,
@@ -32,7 +32,7 @@ fn a_publisher_is_made_and_a_second_is_refused(rt: HostRuntime) {
     };
     assert!(rt; id == 1);
     assert!(rt; key == expected);
-    assert!(rt; is_held);
+    assert!(rt; is_live);
     assert!(rt; refusal == Some(PublisherCreateError::ExceedsMaxSupportedPublishers));
 }
 

@@ -51,8 +51,8 @@ fn a_sent_message_is_received_and_read(rt: HostRuntime) {
     assert!(rt; header.number_of_elements() == 1);
 }
 
-// Releases a sample of which nothing is known, where the domain holds it.
-fn release_if_held(domain: &mut Domain<Reading, Station>, sample: Sample) -> bool {
+// Releases a sample of which nothing is known, where it is live in the domain.
+fn release_if_live(domain: &mut Domain<Reading, Station>, sample: Sample) -> bool {
     if !domain.holds_sample(sample.key()) {
         sample.disown();
         return false;
@@ -72,11 +72,11 @@ fn a_test_of_its_handle_lets_a_sample_be_released(rt: HostRuntime) {
         ..settings()
     };
     let other = Domain::<Reading, Station>::new(rt.alloc(), elsewhere).expect(&rt, "a domain");
-    let is_held_by_another = other.holds_sample(sample.key());
-    let was_released = release_if_held(&mut domain, sample);
+    let is_live_in_another = other.holds_sample(sample.key());
+    let was_released = release_if_live(&mut domain, sample);
     drop(other);
     drop(domain);
-    assert!(rt; !is_held_by_another);
+    assert!(rt; !is_live_in_another);
     assert!(rt; was_released);
 }
 

@@ -7,10 +7,10 @@ fn a_message_without_subscribers_goes_to_nobody(rt: HostRuntime) {
     let key = loan.key();
     let message = loan.write_payload(&mut domain, Reading { celsius: 20 });
     let count = message.send(&mut domain).ok().map(receiver_count);
-    let is_held = domain.holds_loan(key);
+    let is_live = domain.holds_loan(key);
     drop(domain);
     assert!(rt; count == Some(0));
-    assert!(rt; !is_held);
+    assert!(rt; !is_live);
 }
 
 #[test]

@@ -53,7 +53,7 @@ fn a_domain_holds_its_subscriber_alone(rt: HostRuntime) {
         message: 1,
         ..FIRST
     };
-    let held = [
+    let live = [
         domain.holds_subscriber(FIRST),
         domain.holds_subscriber(elsewhere),
         domain.holds_subscriber(Key { port: 2, ..FIRST }),
@@ -61,7 +61,7 @@ fn a_domain_holds_its_subscriber_alone(rt: HostRuntime) {
     ];
     drop(domain);
     assert!(rt; !before);
-    assert!(rt; held == [true, false, false, false]);
+    assert!(rt; live == [true, false, false, false]);
 }
 
 #[test]

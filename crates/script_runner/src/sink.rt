@@ -26,7 +26,7 @@ pub fn write_all<W: Write>(stream: &mut W, bytes: &[u8]) -> io::Result<()>
     }
 }
 
-/// Writes some first ones of the bytes, and answers how many. A write that was interrupted wrote
+/// Writes some first ones of the bytes, and returns how many. A write that was interrupted wrote
 /// none.
 fn write_more<W: Write>(stream: &mut W, bytes: &[u8]) -> io::Result<usize>
     ensures bound { WritesAtMost result bytes.now }

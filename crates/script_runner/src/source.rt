@@ -23,7 +23,7 @@ pub fn read_to_end<R: Read>(alloc: Global, input: &mut R) -> Result<Vec<u8>, Scr
     Err(ScriptError::InputFailed)
 }
 
-/// Adds what one read gives to the text, and answers whether the input is at its end. A read that
+/// Adds what one read gives to the text, and returns whether the input is at its end. A read that
 /// was interrupted adds nothing.
 fn read_more<R: Read>(input: &mut R, text: &mut Vec<u8>) -> Result<bool, ScriptError>
     ensures ok { IfOk result (MovesBytes (R.remaining input.old) (R.remaining input.new) text.old.items text.new.items) }

@@ -34,11 +34,11 @@ script_config buffer borrowed expired = record {
 abbrev pub HasForm : Words → List ℕ → ℕ → Type 0
 HasForm words name count = (words.count ≡ count) × (words.word 0 ≡ name)
 
--- The word at this place is the number.
+-- The word at this position is the number.
 abbrev pub IsNumberAt : Words → ℕ → ℕ → Type 0
 IsNumberAt words i number = IsNumber (words.word i) × (number ≡ value_of (words.word i))
 
--- The word at this place is the number of a command, counted from 1, whose position is counted from 0.
+-- The word at this position is the number of a command, counted from 1, whose position is counted from 0.
 abbrev pub IsNameAt : Words → ℕ → ℕ → Type 0
 IsNameAt words i of = IsNumber (words.word i) × (of ≡ position_of (value_of (words.word i)))
 

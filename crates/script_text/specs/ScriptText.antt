@@ -7,7 +7,7 @@ use Rattle.script_text.specs.Commands.{NamesCommand, NamesDomain}
 use Rattle.script_text.specs.declared.failure.ScriptError.{ScriptError}
 use Rattle.script_text.specs.declared.failure.ScriptError.TheVariants.{BadCommand, OutOfMemory, InputFailed, OutputFailed}
 
--- Each line names the command at its place.
+-- Each line names the command at its position.
 abbrev pub NamesCommands : List (List ℕ) → List (Command ℕ ℕ) → Type 0
 NamesCommands [] [] = Unit {0}
 NamesCommands (line ∷ others) (c ∷ commands) = NamesCommand line c × NamesCommands others commands
@@ -38,7 +38,7 @@ pub record HasBadCommand (text : List ℕ) (number : ℕ) : Type 0 where
   pub domain : NamesDomain first config
   pub names : NamesCommands before commands
   pub bad : (c : Command ℕ ℕ) → ¬ NamesCommand line c
-  pub place : number ≡ length before + 2
+  pub position : number ≡ length before + 2
 
 -- The line with this number, counted from 1, is the first that isn't one of a script. A text without any line has it at 1.
 abbrev pub IsMalformedAt : List ℕ → ℕ → Type 0

@@ -3,7 +3,7 @@ use Rattle.std.specs.Prelude.{ℕ, Bool, true, false, List, [], ◌∷◌, lengt
 use Rattle.std.specs.Borrow.{Bor}
 use Rattle.std.specs.List.{filter, slice_split}
 
--- How many words there are, and the word at each place; past the last one it is empty.
+-- How many words there are, and the word at each position; past the last one it is empty.
 pub record Words : Type 0 where
   pub count : ℕ
   pub word : ℕ → List ℕ

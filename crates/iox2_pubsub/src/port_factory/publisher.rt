@@ -1,8 +1,8 @@
 //! The factory of publishers.
 ghost use Rattle.std.specs.Prelude.{◌≡◌, ℕ, None, Some, IfOk, MatchResult};
-ghost use Rattle.iox2_store.specs.Environments.{fixed_handlers};
-ghost use Rattle.iox2_store.specs.Ports.{CreatePublisher};
-ghost use Rattle.iox2_store.specs.State.{State, Messages};
+ghost use Rattle.iox2_store.specs.machine.Environments.{fixed_handlers};
+ghost use Rattle.iox2_store.specs.machine.Ports.{CreatePublisher};
+ghost use Rattle.iox2_store.specs.machine.State.{State, Messages};
 ghost use Rattle.iox2_pubsub.specs.Live.{IsLivePublisher, Stays};
 ghost use Rattle.iox2_domain.specs.NewPublisher.{plain_publisher};
 ghost use Rattle.iox2_domain.specs.Shows.{Shows};
@@ -23,7 +23,7 @@ pub struct PortFactoryPublisher {
 }
 
 impl Model for PortFactoryPublisher {
-    ghost use Rattle.iox2_store.specs.Records.{PublisherSettings};
+    ghost use Rattle.iox2_store.specs.machine.Records.{PublisherSettings};
     ghost use Rattle.iox2_domain.specs.NewPublisher.{plain_publisher};
 
     ghost Value = { PublisherSettings };

@@ -1,8 +1,8 @@
 //! The factory of subscribers.
 ghost use Rattle.std.specs.Prelude.{◌≡◌, None, Some, IfOk, MatchResult};
-ghost use Rattle.iox2_store.specs.Environments.{fixed_handlers};
-ghost use Rattle.iox2_store.specs.Ports.{default_subscriber_settings, buffer_for, CreateSubscriber};
-ghost use Rattle.iox2_store.specs.State.{State, Messages};
+ghost use Rattle.iox2_store.specs.machine.Environments.{fixed_handlers};
+ghost use Rattle.iox2_store.specs.machine.Ports.{default_subscriber_settings, buffer_for, CreateSubscriber};
+ghost use Rattle.iox2_store.specs.machine.State.{State, Messages};
 ghost use Rattle.iox2_pubsub.specs.Live.{IsLiveSubscriber, Stays};
 ghost use Rattle.iox2_domain.specs.Shows.{Shows};
 
@@ -20,7 +20,7 @@ pub struct PortFactorySubscriber {
 }
 
 impl Model for PortFactorySubscriber {
-    ghost use Rattle.iox2_store.specs.Records.{SubscriberSettings};
+    ghost use Rattle.iox2_store.specs.machine.Records.{SubscriberSettings};
     ghost use Rattle.iox2_domain.specs.SubscriberEntry.{asked_for};
 
     ghost Value = { SubscriberSettings };

@@ -7,7 +7,7 @@ use crate::sample_mut_uninit::SampleMutUninit;
 use iox2_store::{BackpressureFn, DegradationFn, Key, LoanError, UniquePublisherId};
 
 impl Publisher {
-    ghost use Rattle.iox2_store.specs.State.{State, Messages};
+    ghost use Rattle.iox2_store.specs.machine.State.{State, Messages};
     ghost use Rattle.iox2_pubsub.specs.Live.{IsLivePublisher, IsSingleValued, IsUnwrittenLoan, IsNewIn, Stays, unwritten_loan};
     ghost use Rattle.iox2_domain.specs.Lending.{LoanCall};
     ghost use Rattle.iox2_domain.specs.Shows.{Shows};

@@ -1,57 +1,57 @@
 //! Commands on loans.
 ghost use Rattle.std.specs.Prelude.{◌≡◌};
-ghost use Rattle.iox2_store.specs.Sends.{Delivered_to};
+ghost use Rattle.iox2_store.specs.machine.Sends.{Delivered_to};
 ghost use Rattle.iox2_pubsub.specs.SendCalls.{sent_result};
 ghost use Rattle.iox2_runs.specs.Rooms.{SameRoom};
-ghost use Rattle.iox2_runs.specs.Holdings.{Keeps, Carries, defaults_of};
+ghost use Rattle.iox2_runs.specs.Carries.{IsLiveTable, Carries, defaults_of};
 ghost use Rattle.iox2_commands.specs.declared.command.Command.TheVariants.{LoanUninit, WriteAll, Send};
-ghost use Rattle.iox2_runs.specs.declared.runs.held.Held.TheVariants.{Nothing};
+ghost use Rattle.iox2_runs.specs.declared.runs.made.Made.TheVariants.{Nothing};
 
-use super::held::{Held, put, take};
+use super::made::{Made, put, take};
 use iox2_commands::Reply;
 use iox2_pubsub::{Domain, SendOutcome};
 use iox2_store::{BackpressureFn, DegradationFn};
 
-/// Asks the publisher that the command at the position made for a loan, and answers the loan too.
+/// Asks the publisher that the command at the position made for a loan, and returns the loan too.
 pub(crate) fn loan_uninit<
     T: Default + Drop,
     U: Default + Drop,
     F: BackpressureFn,
     G: DegradationFn,
->(domain: &mut Domain<T, U, F, G>, table: &[Held], of: usize) -> (Reply<T, U>, Held)
-    requires { Keeps domain.old table.now }
+>(domain: &mut Domain<T, U, F, G>, table: &[Made], of: usize) -> (Reply<T, U>, Made)
+    requires { IsLiveTable domain.old table.now }
     ensures { Carries (defaults_of T.is_default U.is_default) domain.old domain.new table.now (LoanUninit of) result.0 table.now result.1 }
 {
     if domain.config().units_per_element != 1 {
-        return (Reply::Skipped, Held::Nothing);
+        return (Reply::Skipped, Made::Nothing);
     }
-    let Some(held) = table.get(of) else {
-        return (Reply::Skipped, Held::Nothing);
+    let Some(made) = table.get(of) else {
+        return (Reply::Skipped, Made::Nothing);
     };
-    match held {
-        Held::Publisher(publisher) => match publisher.loan_uninit(domain) {
-            Ok(sample) => (Reply::Loaned, Held::Unwritten(sample)),
-            Err(error) => (Reply::LoanRefused(error), Held::Nothing),
+    match made {
+        Made::Publisher(publisher) => match publisher.loan_uninit(domain) {
+            Ok(sample) => (Reply::Loaned, Made::Unwritten(sample)),
+            Err(error) => (Reply::LoanRefused(error), Made::Nothing),
         },
-        _ => (Reply::Skipped, Held::Nothing),
+        _ => (Reply::Skipped, Made::Nothing),
     }
 }
 
 /// Writes the loan that the command at the position made.
 pub(crate) fn write_all<T: Default + Drop, U: Default + Drop, F: BackpressureFn, G: DegradationFn>(
     domain: &mut Domain<T, U, F, G>,
-    table: &mut Vec<Held>,
+    table: &mut Vec<Made>,
     of: usize,
     value: T,
 ) -> Reply<T, U>
-    requires { Keeps domain.old table.old.items }
+    requires { IsLiveTable domain.old table.old.items }
     ensures carries { Carries (defaults_of T.is_default U.is_default) domain.old domain.new table.old.items (WriteAll of value) result table.new.items Nothing }
     ensures room { SameRoom table.old table.new }
 {
     match take(table, of) {
-        Held::Unwritten(sample) => {
+        Made::Unwritten(sample) => {
             let sample = sample.write_payload(domain, value);
-            put(table, of, Held::Written(sample));
+            put(table, of, Made::Written(sample));
             Reply::Done
         }
         other => {
@@ -64,15 +64,15 @@ pub(crate) fn write_all<T: Default + Drop, U: Default + Drop, F: BackpressureFn,
 /// Sends the loan that the command at the position made.
 pub(crate) fn send<T: Default + Drop, U: Default + Drop, F: BackpressureFn, G: DegradationFn>(
     domain: &mut Domain<T, U, F, G>,
-    table: &mut Vec<Held>,
+    table: &mut Vec<Made>,
     of: usize,
 ) -> Reply<T, U>
-    requires { Keeps domain.old table.old.items }
+    requires { IsLiveTable domain.old table.old.items }
     ensures carries { Carries (defaults_of T.is_default U.is_default) domain.old domain.new table.old.items (Send of) result table.new.items Nothing }
     ensures room { SameRoom table.old table.new }
 {
     match take(table, of) {
-        Held::Written(sample) => match sample.send(domain) {
+        Made::Written(sample) => match sample.send(domain) {
             Ok(outcome) => Reply::Delivered(delivered_count(outcome)),
             Err(error) => Reply::SendRefused(error),
         },

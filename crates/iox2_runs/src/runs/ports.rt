@@ -4,22 +4,22 @@ ghost use Rattle.std.specs.declared.option.Option.TheVariants.{None};
 ghost use Rattle.iox2_store.specs.declared.allocation.AllocationStrategy.TheVariants.{Static};
 ghost use Rattle.iox2_store.specs.declared.backpressure.BackpressureStrategy.TheVariants.{DiscardData};
 ghost use Rattle.iox2_store.specs.declared.degradation.DegradationAction.TheVariants.{Warn};
-ghost use Rattle.iox2_runs.specs.Holdings.{Keeps, Carries, defaults_of};
+ghost use Rattle.iox2_runs.specs.Carries.{IsLiveTable, Carries, defaults_of};
 ghost use Rattle.iox2_commands.specs.declared.command.Command.TheVariants.{CreatePublisher, CreateSubscriber};
 
-use super::held::Held;
+use super::made::Made;
 use iox2_commands::Reply;
 use iox2_pubsub::Domain;
 use iox2_store::{BackpressureFn, DegradationFn, TypeVariant};
 
-/// Makes a publisher with so many loans, and answers it too.
+/// Makes a publisher with so many loans, and returns it too.
 pub(crate) fn create_publisher<
     T: Default + Drop,
     U: Default + Drop,
     F: BackpressureFn,
     G: DegradationFn,
->(domain: &mut Domain<T, U, F, G>, table: &[Held], loans: usize) -> (Reply<T, U>, Held)
-    requires { Keeps domain.old table.now }
+>(domain: &mut Domain<T, U, F, G>, table: &[Made], loans: usize) -> (Reply<T, U>, Made)
+    requires { IsLiveTable domain.old table.now }
     ensures { (len : ℕ) → Carries (defaults_of T.is_default U.is_default) domain.old domain.new table.now
         (CreatePublisher loans DiscardData Static len None Warn None) result.0 table.now result.1 }
 {
@@ -34,20 +34,20 @@ pub(crate) fn create_publisher<
     {
         Ok(publisher) => (
             Reply::PublisherMade(publisher.id()),
-            Held::Publisher(publisher),
+            Made::Publisher(publisher),
         ),
-        Err(error) => (Reply::PublisherRefused(error), Held::Nothing),
+        Err(error) => (Reply::PublisherRefused(error), Made::Nothing),
     }
 }
 
-/// Makes a subscriber with that buffer, or with the largest, and answers it too.
+/// Makes a subscriber with that buffer, or with the largest, and returns it too.
 pub(crate) fn create_subscriber<
     T: Default + Drop,
     U: Default + Drop,
     F: BackpressureFn,
     G: DegradationFn,
->(domain: &mut Domain<T, U, F, G>, table: &[Held], buffer: Option<usize>) -> (Reply<T, U>, Held)
-    requires { Keeps domain.old table.now }
+>(domain: &mut Domain<T, U, F, G>, table: &[Made], buffer: Option<usize>) -> (Reply<T, U>, Made)
+    requires { IsLiveTable domain.old table.now }
     ensures { Carries (defaults_of T.is_default U.is_default) domain.old domain.new table.now
         (CreateSubscriber buffer Warn) result.0 table.now result.1 }
 {
@@ -59,8 +59,8 @@ pub(crate) fn create_subscriber<
     match factory.create(domain) {
         Ok(subscriber) => (
             Reply::SubscriberMade(subscriber.id()),
-            Held::Subscriber(subscriber),
+            Made::Subscriber(subscriber),
         ),
-        Err(error) => (Reply::SubscriberRefused(error), Held::Nothing),
+        Err(error) => (Reply::SubscriberRefused(error), Made::Nothing),
     }
 }

@@ -10,7 +10,7 @@ use std::alloc::{AllocError, Global};
 use std::marker::Model;
 
 /// What is known of a publisher's slots beside their contents: who lent them, which message lies in
-/// each, how far it has come, and how many hold it.
+/// each, how far it has come, and how many holders it has.
 ///
 /// A slot's holders are the user who has it as a loan, the publisher's history, and each connection
 /// in which it waits, is borrowed, or was given back and isn't reclaimed yet. A slot without holders
@@ -54,7 +54,7 @@ impl Model for SlotBook {
 }
 
 impl SlotBook {
-    ghost use Rattle.iox2_store.specs.SlotBook.{IsAligned, IsHeld, TakesSlot, holders_at, with_holders};
+    ghost use Rattle.iox2_store.specs.SlotBook.{IsAligned, IsInUse, TakesFreeSlot, holders_at, with_holders};
 
     /// The book of a new publisher, with so many slots, all of them free. Fails where memory runs
     /// out; no other call on a book takes memory.
@@ -93,7 +93,7 @@ impl SlotBook {
     pub fn take(&mut self, number: u128, header: Header) -> Option<usize>
         ensures none { IsNone result ↔ All (λ n. 0 < n) self.old.holders }
         ensures refused { IfNone result (self.new ≡ self.old) }
-        ensures taken { IfSome result (λ slot. TakesSlot self.old self.new slot number header) }
+        ensures taken { IfSome result (λ slot. TakesFreeSlot self.old self.new slot number header) }
         ensures aligned { IsAligned self.new }
     {
         let slot = self.free.pop()?;
@@ -106,18 +106,18 @@ impl SlotBook {
 
     /// Counts one holder more of a slot that has one.
     pub fn hold(&mut self, slot: usize)
-        requires held { IsHeld self.old slot }
+        requires in_use { IsInUse self.old slot }
         requires fits { holders_at self.old slot + 1 < 2 ^ 128 }
         ensures { self.new ≡ with_holders self.old slot (holders_at self.old slot + 1) }
     {
         self.holders[slot] += 1;
     }
 
-    /// Counts one holder less of a slot that has one, and answers whether it was the last. The slot
+    /// Counts one holder less of a slot that has one, and returns whether it was the last. The slot
     /// is then free.
     #[tactic(auto, using(crate::proofs::FreeSlots::free_room))]
     pub fn release(&mut self, slot: usize) -> bool
-        requires { IsHeld self.old slot }
+        requires { IsInUse self.old slot }
         ensures released { self.new ≡ with_holders self.old slot (holders_at self.old slot - 1) }
         ensures last { IsTrue result ↔ (holders_at self.old slot ≡ 1) }
     {
@@ -169,7 +169,7 @@ impl SlotBook {
         self.marks[slot]
     }
 
-    /// How many hold the slot.
+    /// How many holders the slot has.
     pub fn holders(&self, slot: usize) -> u128
         requires { slot < length self.now.holders }
         ensures { result ≡ holders_at self.now slot }
@@ -200,7 +200,7 @@ impl SlotBook {
     }
 }
 
-// The free slots where nothing holds one of so many.
+// The free slots where none of so many is in use.
 #[tactic(auto, using(crate::proofs::FreeSlots::free_next))]
 fn all_slots(alloc: Global, slots: usize) -> Result<Vec<usize>, AllocError>
     ensures exact { IfOk result (λ free. HasFree (replicate slots 0) free.items) }

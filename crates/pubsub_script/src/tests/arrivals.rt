@@ -48,7 +48,7 @@ impl Plan {
         self.end(reply)
     }
 
-    /// Ends a command, which must have that reply, and answers its number.
+    /// Ends a command, which must have that reply, and returns its number.
     fn end(&mut self, reply: &str) -> Result<usize, Fail> {
         writeln!(self.text, "")?;
         writeln!(self.replies, "{reply}")?;

@@ -1,6 +1,6 @@
 use Rattle.std.proofs.Common.{below_more, arith, sym, ◌∙◌}
 use Rattle.std.proofs.lemmas.Bool.{true≢false}
-use Rattle.iox2_domain.proofs.FreePlaces.{look_up-nowhere}
+use Rattle.iox2_domain.proofs.lemmas.containers.FreePlaces.{look_up-nowhere}
 use Rattle.iox2_domain.proofs.places.find_place.Goals as goal
 
 pub loop-place-preserved : goal.loop-place-preserved

@@ -1,7 +1,7 @@
 use Rattle.std.proofs.Common.{◌≡◌, not, ap, arith, ◌∙◌, drop}
 use Rattle.std.proofs.lemmas.List.{drop_all}
 use Rattle.iox2_domain.specs.Placed.{lowest_empty}
-use Rattle.iox2_domain.proofs.FreePlaces.{lowest_empty-taken, lowest_empty-here}
+use Rattle.iox2_domain.proofs.lemmas.containers.FreePlaces.{lowest_empty-taken, lowest_empty-here}
 use Rattle.iox2_domain.proofs.places.lowest_place.Goals as goal
 
 pub returns-then-is_none : goal.returns-then-is_none

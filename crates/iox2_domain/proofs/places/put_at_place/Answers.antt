@@ -1,6 +1,6 @@
 use Rattle.std.proofs.Common.{rules, ◌≡◌, ◌<◌, ◌≤◌, ◌∙◌, ap, arith, length, vec_len}
 use Rattle.iox2_domain.specs.Placed.{placed}
-use Rattle.iox2_domain.proofs.FreePlaces.{placed-grown, placed-within}
+use Rattle.iox2_domain.proofs.lemmas.containers.FreePlaces.{placed-grown, placed-within}
 use Rattle.iox2_domain.proofs.places.put_at_place.Goals as goal
 
 pub loop-places-preserved : goal.loop-places-preserved

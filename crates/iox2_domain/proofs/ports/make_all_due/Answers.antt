@@ -1,6 +1,6 @@
 use Rattle.std.proofs.Common.{true}
 use Rattle.std.specs.Option.{option_map}
-use Rattle.iox2_domain.proofs.MapSteps.{front_changed-next}
+use Rattle.iox2_domain.proofs.lemmas.containers.MapSteps.{front_changed-next}
 use Rattle.iox2_domain.proofs.ports.make_all_due.Goals as goal
 
 pub loop-place-preserved : goal.loop-place-preserved

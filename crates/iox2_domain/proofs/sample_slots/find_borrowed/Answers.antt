@@ -1,7 +1,7 @@
 use Rattle.std.proofs.Common.{ap, sym, subst, ◌∙◌, get_or, slice_index, List, ℕ, Contains, below_more, arith, length, ◌<◌}
 use Rattle.std.proofs.lemmas.List.{get_or_read}
 use Rattle.std.proofs.lemmas.List.Elements.{Contains-get_or}
-use Rattle.iox2_domain.proofs.ConnectionSlots.{index-got}
+use Rattle.iox2_domain.proofs.lemmas.slots.ConnectionSlots.{index-got}
 use Rattle.iox2_domain.proofs.sample_slots.find_borrowed.Goals as goal
 
 pub number-requires : goal.number-requires

@@ -1,6 +1,6 @@
 use Rattle.std.proofs.Common.{arith, refl, sym, ◌∙◌}
 use Rattle.std.proofs.lemmas.List.{length-map}
-use Rattle.iox2_ends.specs.Mailboxes.{subscriber_at, sender_ends}
+use Rattle.iox2_ends.specs.Mailboxes.{subscriber_of_key, sender_ends}
 use Rattle.iox2_ends.proofs.DeliverySteps.{ends-at, deliver-more, deliver-stops, IsReadyToDeliver-same}
 use Rattle.iox2_ends.proofs.Recounts.{Recounts-same, Recounts-trans}
 use Rattle.std.proofs.Common.{ap}
@@ -17,16 +17,16 @@ loop-place-init g c = record {
   walk = λ number how boxes' rest. rest;
   few = omega arith;
   book = refl;
-  held = omega arith;
+  in_use = omega arith;
   grows = omega arith;
 }
 
 pub returns-then-is_blocking-clause-delivers : goal.returns-then-is_blocking-clause-delivers
 returns-then-is_blocking-clause-delivers g c = λ number.
     c.loop-place.invariant.walk number _ _
-    (deliver-stops c.args.config.now c.args.delivery.now (map (option_map g.R.Receiver.details_of) c.args.receivers.now) (number c.args.delivery.now.publisher c.args.delivery.now.slot) (sender_ends c.args.connections.now c.args.places.now) c.loop-place.place c.loop-place.count _ _ c.deliver_at-reception.result
-    (omega (arith, length-map c.args.places.now (subscriber_at c.args.connections.now)))
-    (rw (ends-at _ _ c.args.places.now c.loop-place.place c.loop-place.invariant.recounts.homes) at (c.deliver_at-reception.ensures.puts number))
+    (deliver-stops c.args.config.now c.args.delivery.now (map (option_map g.R.Receiver.details_of) c.args.receivers.now) (number c.args.delivery.now.publisher c.args.delivery.now.slot) (sender_ends c.args.connections.now c.args.keys.now) c.loop-place.place c.loop-place.count _ _ c.deliver_at-reception.result
+    (omega (arith, length-map c.args.keys.now (subscriber_of_key c.args.connections.now)))
+    (rw (ends-at _ _ c.args.keys.now c.loop-place.place c.loop-place.invariant.recounts.homes) at (c.deliver_at-reception.ensures.puts number))
     (sym c.is_blocking.ensures ∙ c.if-is_blocking.true))
 
 pub returns-then-is_blocking-clause-recounts : goal.returns-then-is_blocking-clause-recounts
@@ -34,16 +34,16 @@ returns-then-is_blocking-clause-recounts g c = Recounts-trans c.args.delivery.no
 
 pub loop-place-preserved : goal.loop-place-preserved
 loop-place-preserved g c = record {
-  ready = IsReadyToDeliver-same c.args.delivery.now.publisher _ _ c.args.places.now (map (option_map g.R.Receiver.details_of) c.args.receivers.now) c.loop-place.invariant.ready c.deliver_at-reception.ensures.recounts.homes c.deliver_at-reception.ensures.reclaimed;
+  ready = IsReadyToDeliver-same c.args.delivery.now.publisher _ _ c.args.keys.now (map (option_map g.R.Receiver.details_of) c.args.receivers.now) c.loop-place.invariant.ready c.deliver_at-reception.ensures.recounts.homes c.deliver_at-reception.ensures.reclaimed;
   recounts = Recounts-trans c.args.delivery.now.publisher _ _ _ _ _ _ c.loop-place.invariant.recounts c.deliver_at-reception.ensures.recounts;
   walk = λ number how boxes' rest. c.loop-place.invariant.walk number how boxes'
-      (deliver-more c.args.config.now c.args.delivery.now (map (option_map g.R.Receiver.details_of) c.args.receivers.now) (number c.args.delivery.now.publisher c.args.delivery.now.slot) (sender_ends c.args.connections.now c.args.places.now) c.loop-place.place c.loop-place.count _ _ boxes' c.deliver_at-reception.result how
-      (omega (arith, length-map c.args.places.now (subscriber_at c.args.connections.now)))
-      (rw (ends-at _ _ c.args.places.now c.loop-place.place c.loop-place.invariant.recounts.homes) at (c.deliver_at-reception.ensures.puts number))
+      (deliver-more c.args.config.now c.args.delivery.now (map (option_map g.R.Receiver.details_of) c.args.receivers.now) (number c.args.delivery.now.publisher c.args.delivery.now.slot) (sender_ends c.args.connections.now c.args.keys.now) c.loop-place.place c.loop-place.count _ _ boxes' c.deliver_at-reception.result how
+      (omega (arith, length-map c.args.keys.now (subscriber_of_key c.args.connections.now)))
+      (rw (ends-at _ _ c.args.keys.now c.loop-place.place c.loop-place.invariant.recounts.homes) at (c.deliver_at-reception.ensures.puts number))
       (sym c.is_blocking.ensures ∙ c.if-is_blocking.false)
       (rw c.accepted_count-count.ensures.value at rest));
   few = omega (arith, c.accepted_count-count.ensures.few);
   book = c.deliver_at-reception.ensures.book ∙ ap (λ (b : Book). with_counters b c.deliver_at-reception.new.book.holders) c.loop-place.invariant.book;
-  held = omega (arith, c.deliver_at-reception.ensures.keeps, c.loop-place.invariant.held);
+  in_use = omega (arith, c.deliver_at-reception.ensures.keeps, c.loop-place.invariant.in_use);
   grows = omega (arith, c.deliver_at-reception.ensures.grows, c.loop-place.invariant.grows);
 }

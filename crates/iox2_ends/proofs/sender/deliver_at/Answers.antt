@@ -5,7 +5,7 @@ use Rattle.iox2_ends.proofs.Recounts.{put-recounts}
 use Rattle.iox2_ends.proofs.sender.deliver_at.Goals as goal
 
 pub index-requires : goal.index-requires
-index-requires g c = contains-at c.args.delivery.now.publisher _ c.args.places.now c.args.place _ c.requires.ready.linked c.in-Some.is
+index-requires g c = contains-at c.args.delivery.now.publisher _ c.args.keys.now c.args.place _ c.requires.ready.linked c.in-Some.is
 
 pub returns-then-not-is_open-clause-puts : goal.returns-then-not-is_open-clause-puts
 returns-then-not-is_open-clause-puts g c =
@@ -32,15 +32,15 @@ pub returns-clause-recounts : goal.returns-clause-recounts
 returns-clause-recounts g c =
     rw c.recount.ensures
     (put-recounts c.args.place _ c.requires.ready c.in-Some.is _ c.args.delivery.now.slot c.args.config.now.enable_safe_overflow c.put-outcome.result c.index_mut.result.now c.put-outcome.new.self
-    c.requires.held.in_bounds c.requires.held.held c.requires.covered c.index_mut.ensures.value c.put-outcome.ensures.put)
+    c.requires.in_use.in_bounds c.requires.in_use.in_use c.requires.covered c.index_mut.ensures.value c.put-outcome.ensures.put)
 
 pub returns-clause-grows : goal.returns-clause-grows
-returns-clause-grows g c = rw c.recount.ensures (recounted-grows c.put-outcome.result c.args.delivery.now.slot _ c.requires.held.in_bounds
+returns-clause-grows g c = rw c.recount.ensures (recounted-grows c.put-outcome.result c.args.delivery.now.slot _ c.requires.in_use.in_bounds
     (put-can_leave c.args.delivery.now.publisher _ _ _ c.args.delivery.now.slot c.args.config.now.enable_safe_overflow _ _ c.put-outcome.result c.requires.covered c.index_mut.ensures.value
     (home-of c.args.place _ c.requires.ready c.in-Some.is c.index_mut.result.now c.index_mut.ensures.value).publisher c.put-outcome.ensures.put))
 
 pub returns-clause-keeps : goal.returns-clause-keeps
 returns-clause-keeps g c = rw c.recount.ensures
-    (recounted-keeps c.put-outcome.result c.args.delivery.now.slot _ c.requires.held.in_bounds
+    (recounted-keeps c.put-outcome.result c.args.delivery.now.slot _ c.requires.in_use.in_bounds
     (put-can_leave c.args.delivery.now.publisher _ _ _ c.args.delivery.now.slot c.args.config.now.enable_safe_overflow _ _ c.put-outcome.result c.requires.covered c.index_mut.ensures.value
     (home-of c.args.place _ c.requires.ready c.in-Some.is c.index_mut.result.now c.index_mut.ensures.value).publisher c.put-outcome.ensures.put))

@@ -6,5 +6,5 @@ use Rattle.iox2_ends.proofs.sender.reclaim_all.Given as goal
 abbrev pub invariant-loop-index : goal.invariant-loop-index
 invariant-loop-index l = record {
   book : l.book ≡ with_counters l.fn.book l.book.holders;
-  below : IsReclaimedBelow l.publisher l.places l.fn.book.holders l.fn.connections l.index l.book.holders l.connections;
+  below : IsReclaimedBelow l.publisher l.keys l.fn.book.holders l.fn.connections l.index l.book.holders l.connections;
 }

@@ -1,4 +1,4 @@
-use Rattle.iox2_ends.proofs.ReclaimSteps.{reclaims-some, reclaimed-held}
+use Rattle.iox2_ends.proofs.ReclaimSteps.{reclaims-some, reclaimed-in_use}
 use Rattle.iox2_ends.proofs.Counts.{in_range}
 use Rattle.iox2_ends.proofs.sender.reclaim_one.Goals as goal
 
@@ -10,5 +10,5 @@ returns-clause-reclaims c =
 
 pub release-requires : goal.release-requires
 release-requires c =
-    let held = reclaimed-held c.args.publisher _ c.args.connections.now c.args.key c.in-Some.slot c.index_mut.result.now c.reclaim.new.self c.requires.covered c.requires.own c.index_mut.ensures.value c.in-Some.ensures.reclaims in
-    record { in_bounds = in_range _ _ held; held = held }
+    let in_use = reclaimed-in_use c.args.publisher _ c.args.connections.now c.args.key c.in-Some.slot c.index_mut.result.now c.reclaim.new.self c.requires.covered c.requires.own c.index_mut.ensures.value c.in-Some.ensures.reclaims in
+    record { in_bounds = in_range _ _ in_use; in_use = in_use }

@@ -1,8 +1,8 @@
 use Rattle.std.proofs.Common.{◌≡◌, ◌<◌, ◌+◌, arith, length, List, [], ◌∷◌, ◌++◌, take, get_or, refl, sym, ap, subst, ◌∙◌}
 use Rattle.std.proofs.lemmas.List.{take_more, take_all}
 use Rattle.std.proofs.lemmas.List.Elements.{All-get_or}
-use Rattle.iox2_runs.specs.Holdings.{defaults_of}
-use Rattle.iox2_runs.specs.Supported.{IsSupported}
+use Rattle.iox2_runs.specs.Carries.{defaults_of}
+use Rattle.iox2_runs.specs.Supported.{IsSupportedCommand}
 use Rattle.iox2_commands.specs.declared.command.Command.{Command}
 use Rattle.iox2_runs.proofs.RunLoop.{has_run_none, has_run_more, still_keeps, is_run, runs_on_domain}
 use Rattle.iox2_runs.proofs.runs.run.Goals as goal
@@ -22,7 +22,7 @@ carry_out-reply-requires-clause-supported g c =
     let x = c.command-item.result in
     let inside : i < length c.args.commands.items = omega (arith, ap length c.deref-command-items.ensures.value, c.loop-command-test.true) in
     let here : x ≡ get_or c.args.commands.items i x = c.command-item.is ∙ ap (λ (ys : List (Command g.row.T.Denot g.row.U.Denot)). get_or ys i x) c.deref-command-items.ensures.value in
-    subst IsSupported (sym here) (All-get_or IsSupported c.args.commands.items i x inside c.requires)
+    subst IsSupportedCommand (sym here) (All-get_or IsSupportedCommand c.args.commands.items i x inside c.requires)
 
 pub carry_out-reply-requires-clause-keeps : goal.carry_out-reply-requires-clause-keeps
 carry_out-reply-requires-clause-keeps g c =

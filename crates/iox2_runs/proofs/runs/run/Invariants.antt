@@ -1,6 +1,6 @@
 use Rattle.std.proofs.Common.{◌≡◌, ◌≤◌, take, vec_len}
 use Rattle.std.specs.Prelude.{vec_capacity}
-use Rattle.iox2_runs.specs.Holdings.{defaults_of}
+use Rattle.iox2_runs.specs.Carries.{defaults_of}
 use Rattle.iox2_runs.proofs.RunLoop.{HasRun}
 use Rattle.iox2_runs.proofs.runs.run.Given as goal
 

@@ -1,4 +1,4 @@
-use Rattle.iox2_store.specs.State.{fresh, no_messages}
+use Rattle.iox2_store.specs.machine.State.{fresh, no_messages}
 use Rattle.script_runner.proofs.SupportedCommands.{All-supported}
 use Rattle.script_runner.proofs.replies.replies_of.Goals as goal
 

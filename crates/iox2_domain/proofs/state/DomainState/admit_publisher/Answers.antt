@@ -3,14 +3,14 @@ use Rattle.std.proofs.lemmas.List.{with_items_is}
 use Rattle.std.specs.Option.{option_map}
 use Rattle.std.specs.declared.option.Option.TheVariants.{None}
 use Rattle.circular_buffer.specs.Buffer.{buffer}
-use Rattle.iox2_store.specs.Limits.{last_number}
+use Rattle.iox2_store.specs.machine.Limits.{last_number}
 use Rattle.iox2_domain.specs.NewPublisher.{entering_publisher, subscriber_due}
 use Rattle.iox2_domain.specs.Ports.{PublisherFields}
 use Rattle.iox2_domain.specs.Fields.{Fields}
 use Rattle.iox2_domain.specs.Placed.{placed}
-use Rattle.iox2_domain.proofs.Placed.{placed-here}
-use Rattle.iox2_domain.proofs.ReachesShows.{reaches-same}
-use Rattle.iox2_domain.proofs.PublisherEntries.{entered-reaches-as, room-reaches, numbered-low}
+use Rattle.iox2_domain.proofs.lemmas.containers.Placed.{placed-here}
+use Rattle.iox2_domain.proofs.lemmas.fields.ReachesShows.{reaches-same}
+use Rattle.iox2_domain.proofs.lemmas.creations.PublisherEntries.{entered-reaches-as, room-reaches, numbered-low}
 use Rattle.iox2_domain.proofs.state.DomainState.admit_publisher.Goals as goal
 
 pub returns-in_default-entering-clause-step : goal.returns-in_default-entering-clause-step

@@ -4,7 +4,7 @@ use Rattle.std.specs.Option.{option_map}
 use Rattle.iox2_domain.specs.Fields.{Fields}
 use Rattle.iox2_domain.specs.Ports.{due, entering}
 use Rattle.iox2_domain.specs.Placed.{placed}
-use Rattle.iox2_domain.proofs.SubscriberEntries.{has-entered}
+use Rattle.iox2_domain.proofs.lemmas.creations.SubscriberEntries.{has-entered}
 use Rattle.iox2_domain.proofs.state.DomainState.admit_subscriber.Goals as goal
 
 pub returns-in_default-clause-step : goal.returns-in_default-clause-step

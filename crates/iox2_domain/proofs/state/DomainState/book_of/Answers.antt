@@ -3,7 +3,7 @@ use Rattle.slab.specs.Slab.{get}
 use Rattle.iox2_domain.specs.Fields.{Fields}
 use Rattle.iox2_domain.specs.Ports.{PublisherFields}
 use Rattle.iox2_domain.specs.SampleSlots.{IsBookOf}
-use Rattle.iox2_domain.proofs.SampleSlots.{book-at}
+use Rattle.iox2_domain.proofs.lemmas.samples.SampleSlots.{book-at}
 use Rattle.iox2_domain.proofs.state.DomainState.book_of.Goals as goal
 
 pub returns : goal.returns

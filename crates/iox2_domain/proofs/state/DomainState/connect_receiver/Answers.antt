@@ -2,13 +2,13 @@ use Rattle.std.proofs.Common.{◌≡◌, ◌∙◌, true, false, ap, sym, is_som
 use Rattle.std.proofs.lemmas.List.{with_items_is}
 use Rattle.std.specs.declared.option.Option.TheVariants.{None, Some}
 use Rattle.circular_buffer.specs.Buffer.{buffer}
-use Rattle.iox2_store.specs.Limits.{warning_limit}
-use Rattle.iox2_store.specs.State.{warned}
+use Rattle.iox2_store.specs.machine.Limits.{warning_limit}
+use Rattle.iox2_store.specs.machine.State.{warned}
 use Rattle.iox2_store.specs.declared.warning.Warning.TheVariants.{ConnectionNotMade}
 use Rattle.iox2_domain.specs.Fields.{Fields}
 use Rattle.iox2_domain.specs.Updates.{receiver_key, sender_key, changed_at, with_receiver_key}
-use Rattle.iox2_domain.proofs.Standing.{some-buffer}
-use Rattle.iox2_domain.proofs.ReceiverAnswers.{joins-room, keeps-as, joins-as, makes-as, misses-as}
+use Rattle.iox2_domain.proofs.lemmas.fields.Standing.{some-buffer}
+use Rattle.iox2_domain.proofs.lemmas.updates.ReceiverOutcomes.{joins-room, keeps-as, joins-as, makes-as, misses-as}
 use Rattle.iox2_domain.proofs.state.DomainState.connect_receiver.Goals as goal
 
 pub returns-then-is_some : goal.returns-then-is_some

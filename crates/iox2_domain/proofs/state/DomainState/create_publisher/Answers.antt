@@ -3,16 +3,16 @@ use Rattle.std.proofs.lemmas.Result.{err_from_is_err_and}
 use Rattle.std.proofs.lemmas.List.{get_or-set_same}
 use Rattle.std.specs.Prelude.{IsTrue}
 use Rattle.std.specs.declared.option.Option.TheVariants.{None, Some}
-use Rattle.iox2_store.specs.Environments.{fixed_handlers}
-use Rattle.iox2_store.specs.Limits.{worst_case}
-use Rattle.iox2_store.specs.Ports.{first_segment_fits}
-use Rattle.iox2_store.specs.PublisherUpdate.{UpdatePublisher}
+use Rattle.iox2_store.specs.machine.Environments.{fixed_handlers}
+use Rattle.iox2_store.specs.machine.Limits.{worst_case}
+use Rattle.iox2_store.specs.machine.Ports.{first_segment_fits}
+use Rattle.iox2_store.specs.machine.PublisherUpdate.{UpdatePublisher}
 use Rattle.iox2_ends.proofs.MailboxChanges.{within_if_some}
 use Rattle.iox2_domain.specs.Kept.{state_of}
 use Rattle.iox2_domain.specs.Fields.{Fields, kept_of}
 use Rattle.iox2_domain.specs.NewPublisher.{plain_publisher}
-use Rattle.iox2_domain.proofs.PublisherCreations.{created-refused, created-unfit, created-made, created-updated}
-use Rattle.iox2_domain.proofs.ReachesShows.{reaches-same}
+use Rattle.iox2_domain.proofs.lemmas.creations.PublisherCreations.{created-refused, created-unfit, created-made, created-updated}
+use Rattle.iox2_domain.proofs.lemmas.fields.ReachesShows.{reaches-same}
 use Rattle.iox2_domain.proofs.state.DomainState.create_publisher.Goals as goal
 
 pub returns-in_err-place-clause-step : goal.returns-in_err-place-clause-step

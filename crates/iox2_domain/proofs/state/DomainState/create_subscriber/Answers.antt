@@ -2,11 +2,11 @@ use Rattle.std.proofs.Common.{ap, get_or, refl, sym, ◌∙◌, None, Some}
 use Rattle.std.proofs.lemmas.List.{get_or-set_same}
 use Rattle.std.proofs.lemmas.Result.{err_from_is_err_and}
 use Rattle.std.specs.Prelude.{false}
-use Rattle.iox2_store.specs.Environments.{fixed_handlers}
+use Rattle.iox2_store.specs.machine.Environments.{fixed_handlers}
 use Rattle.iox2_ends.proofs.MailboxChanges.{within_if_some}
 use Rattle.iox2_domain.specs.Kept.{state_of}
 use Rattle.iox2_domain.specs.Fields.{Fields, kept_of}
-use Rattle.iox2_domain.proofs.SubscriberEntries.{created-reaches, created-refused, created-made}
+use Rattle.iox2_domain.proofs.lemmas.creations.SubscriberEntries.{created-reaches, created-refused, created-made}
 use Rattle.iox2_domain.proofs.state.DomainState.create_subscriber.Goals as goal
 
 pub returns-in_err-place-clause-step : goal.returns-in_err-place-clause-step

@@ -1,15 +1,15 @@
 use Rattle.iox2_ends.proofs.MailboxChanges.{within_if_some}
 use Rattle.std.proofs.Common.{◌≡◌, None, Some, slice_index_or, sym, ◌∙◌, ap, subst, arith, rules, length, vec_len}
 use Rattle.slab.specs.Slab.{get}
-use Rattle.iox2_store.specs.Environments.{fixed_handlers}
+use Rattle.iox2_store.specs.machine.Environments.{fixed_handlers}
 use Rattle.iox2_ends.specs.Receivers.{HasReclaimed}
 use Rattle.iox2_store.specs.declared.backpressure.BackpressureStrategy.TheVariants.{DiscardData}
 use Rattle.iox2_domain.specs.Ports.{PublisherFields}
 use Rattle.iox2_domain.specs.Fields.{Fields}
 use Rattle.iox2_domain.specs.Invariant.{IsDomain}
-use Rattle.iox2_domain.proofs.Parts.{parts_of}
-use Rattle.iox2_domain.proofs.PublisherBooks.{read-there, book-there, book-covers}
-use Rattle.iox2_domain.proofs.DeliverySteps.{never-waits, ready-to-deliver, delivers-to}
+use Rattle.iox2_domain.proofs.lemmas.fields.Parts.{parts_of}
+use Rattle.iox2_domain.proofs.lemmas.slots.PublisherBooks.{read-there, book-there, book-covers}
+use Rattle.iox2_domain.proofs.lemmas.sends.DeliverySteps.{never-waits, ready-to-deliver, delivers-to}
 use Rattle.iox2_domain.proofs.state.DomainState.deliver_slot.Goals as goal
 
 pub index_mut-requires : goal.index_mut-requires
@@ -27,16 +27,16 @@ deliver-outcome-requires-clause-ready g c =
     (subst (λ (y : PublisherFields). HasReclaimed c.args.self.now.connections y.keys) (sym c.publisher.view_is)
     (c.requires.reclaimed c.in-Some.publisher (sym (ap (λ (f : Fields g.row.T.Denot g.row.U.Denot). slice_index_or f.publishers c.args.place None) c.self.view_is) ∙ stands)))))
 
-pub deliver-outcome-requires-clause-held : goal.deliver-outcome-requires-clause-held
-deliver-outcome-requires-clause-held g c =
+pub deliver-outcome-requires-clause-in_use : goal.deliver-outcome-requires-clause-in_use
+deliver-outcome-requires-clause-in_use g c =
     let stands = read-there _ c.args.place _ _ (ap (λ (f : Fields g.row.T.Denot g.row.U.Denot). slice_index_or f.publishers c.args.place None) c.self.view_is ∙ c.requires.stands.1) c.index.ensures ∙ c.in-Some.is in
-    (c.requires.held c.in-Some.publisher c.index_mut.result.now (sym (ap (λ (f : Fields g.row.T.Denot g.row.U.Denot). slice_index_or f.publishers c.args.place None) c.self.view_is) ∙ stands)
+    (c.requires.in_use c.in-Some.publisher c.index_mut.result.now (sym (ap (λ (f : Fields g.row.T.Denot g.row.U.Denot). slice_index_or f.publishers c.args.place None) c.self.view_is) ∙ stands)
     (sym (ap (λ (f : Fields g.row.T.Denot g.row.U.Denot). get f.books c.in-Some.publisher.book) c.self.view_is) ∙ ap (λ (y : PublisherFields). get c.self.inside.books y.book) (sym c.publisher.view_is) ∙ c.index_mut.ensures.value)).0
 
 pub deliver-outcome-requires-clause-fits : goal.deliver-outcome-requires-clause-fits
 deliver-outcome-requires-clause-fits g c =
     let stands = read-there _ c.args.place _ _ (ap (λ (f : Fields g.row.T.Denot g.row.U.Denot). slice_index_or f.publishers c.args.place None) c.self.view_is ∙ c.requires.stands.1) c.index.ensures ∙ c.in-Some.is in
-    let one = (c.requires.held c.in-Some.publisher c.index_mut.result.now (sym (ap (λ (f : Fields g.row.T.Denot g.row.U.Denot). slice_index_or f.publishers c.args.place None) c.self.view_is) ∙ stands)
+    let one = (c.requires.in_use c.in-Some.publisher c.index_mut.result.now (sym (ap (λ (f : Fields g.row.T.Denot g.row.U.Denot). slice_index_or f.publishers c.args.place None) c.self.view_is) ∙ stands)
     (sym (ap (λ (f : Fields g.row.T.Denot g.row.U.Denot). get f.books c.in-Some.publisher.book) c.self.view_is) ∙ ap (λ (y : PublisherFields). get c.self.inside.books y.book) (sym c.publisher.view_is) ∙ c.index_mut.ensures.value)).1 in
     omega (arith, one, c.deref.type_inv.0)
 

@@ -6,7 +6,7 @@ use Rattle.iox2_store.specs.SlotBook.{Book, with_holders, holders_at}
 use Rattle.iox2_domain.specs.Deliveries.{with_loan_out, with_sent, with_send_ended}
 use Rattle.iox2_domain.specs.Fields.{Fields}
 use Rattle.iox2_domain.specs.Ports.{PublisherFields}
-use Rattle.iox2_domain.proofs.PublisherBooks.{read-there}
+use Rattle.iox2_domain.proofs.lemmas.slots.PublisherBooks.{read-there}
 use Rattle.iox2_domain.proofs.state.DomainState.end_send.Goals as goal
 
 pub returns : goal.returns

@@ -1,5 +1,5 @@
 use Rattle.std.proofs.Common.{sym}
-use Rattle.iox2_domain.proofs.LoanSlots.{no-publisher-no-loan, book-read, nothing-read, slot-read}
+use Rattle.iox2_domain.proofs.lemmas.loans.LoanSlots.{no-publisher-no-loan, book-read, nothing-read, slot-read}
 use Rattle.iox2_domain.proofs.state.DomainState.find_loan.Goals as goal
 
 pub returns-in_err-place : goal.returns-in_err-place

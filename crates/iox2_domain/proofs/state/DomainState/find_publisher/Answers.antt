@@ -6,7 +6,7 @@ use Rattle.iox2_ends.specs.LookUp.{look_up}
 use Rattle.iox2_domain.specs.Ports.{PublisherFields}
 use Rattle.iox2_domain.specs.Fields.{Fields}
 use Rattle.iox2_domain.specs.Invariant.{is_publisher}
-use Rattle.iox2_domain.proofs.OpenPorts.{found-at}
+use Rattle.iox2_domain.proofs.lemmas.fields.OpenPorts.{found-at}
 use Rattle.iox2_domain.proofs.state.DomainState.find_publisher.Goals as goal
 
 pub returns : goal.returns

@@ -1,6 +1,6 @@
 use Rattle.std.proofs.Common.{◌≡◌, below_more, length, ap, arith}
 use Rattle.iox2_domain.specs.Fields.{Fields}
-use Rattle.iox2_domain.proofs.BorrowedNumbers.{held-nowhere, not-there}
+use Rattle.iox2_domain.proofs.lemmas.samples.BorrowedNumbers.{live-nowhere, not-there}
 use Rattle.iox2_domain.proofs.state.DomainState.find_sample.Goals as goal
 
 pub loop-key-preserved : goal.loop-key-preserved
@@ -10,7 +10,7 @@ loop-key-preserved g c =
 
 pub returns : goal.returns
 returns g c =
-    held-nowhere c.args.self.now c.requires c.args.sample.now.subscriber c.args.sample.now.number (λ k below.
+    live-nowhere c.args.self.now c.requires c.args.sample.now.subscriber c.args.sample.now.number (λ k below.
     let long : length c.self.inside.connections.slots ≡ length c.args.self.now.connections.slots =
     ap (λ (f : Fields g.row.T.Denot g.row.U.Denot). length f.connections.slots) c.self.view_is in
     c.loop-key.invariant k (omega (arith, below, c.capacity-key-end.ensures.slots, c.loop-key-test.false)))

@@ -1,7 +1,7 @@
 use Rattle.std.proofs.Common.{ap, sym, ◌∙◌}
 use Rattle.iox2_store.specs.declared.connection.Home.{Home}
-use Rattle.iox2_domain.proofs.BorrowedNumbers.{its-slots-within, none-borrows, lies-there}
-use Rattle.iox2_domain.proofs.ReceiptSteps.{has-its-book}
+use Rattle.iox2_domain.proofs.lemmas.samples.BorrowedNumbers.{its-slots-within, none-borrows, lies-there}
+use Rattle.iox2_domain.proofs.lemmas.receives.ReceiptSteps.{has-its-book}
 use Rattle.iox2_domain.proofs.state.DomainState.find_sample_at.Goals as goal
 
 pub find_borrowed-requires : goal.find_borrowed-requires

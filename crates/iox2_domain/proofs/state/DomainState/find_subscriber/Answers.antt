@@ -6,7 +6,7 @@ use Rattle.iox2_ends.specs.LookUp.{look_up}
 use Rattle.iox2_domain.specs.Ports.{SubscriberFields}
 use Rattle.iox2_domain.specs.Fields.{Fields}
 use Rattle.iox2_domain.specs.Invariant.{is_subscriber}
-use Rattle.iox2_domain.proofs.OpenPorts.{found-at}
+use Rattle.iox2_domain.proofs.lemmas.fields.OpenPorts.{found-at}
 use Rattle.iox2_domain.proofs.state.DomainState.find_subscriber.Goals as goal
 
 pub returns : goal.returns

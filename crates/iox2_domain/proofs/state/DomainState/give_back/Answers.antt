@@ -1,4 +1,4 @@
-use Rattle.iox2_domain.proofs.GivenBack.{gives-back, gives-back-agrees}
+use Rattle.iox2_domain.proofs.lemmas.releases.GivenBack.{gives-back, gives-back-agrees}
 use Rattle.iox2_domain.proofs.state.DomainState.give_back.Goals as goal
 
 pub returns-clause-stays : goal.returns-clause-stays

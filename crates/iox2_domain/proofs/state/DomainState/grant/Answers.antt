@@ -1,15 +1,15 @@
 use Rattle.std.proofs.Common.{rules, arith, ◌≡◌, ◌<◌, vec_len, length, slice_index_or, None, Some, refl, sym, subst, ap, ◌∙◌}
 use Rattle.std.specs.Prelude.{IsSomeAnd}
 use Rattle.std.specs.declared.option.Option.{Option}
-use Rattle.iox2_store.specs.Limits.{last_number}
+use Rattle.iox2_store.specs.machine.Limits.{last_number}
 use Rattle.iox2_ends.proofs.MailboxChanges.{within_if_some}
 use Rattle.iox2_domain.specs.Fields.{Fields}
 use Rattle.iox2_domain.specs.Ports.{PublisherFields}
 use Rattle.iox2_domain.specs.Invariant.{IsDomain}
 use Rattle.iox2_domain.specs.Lending.{CanLend}
-use Rattle.iox2_domain.proofs.Parts.{parts_of}
-use Rattle.iox2_domain.proofs.PublisherBooks.{read-there, book-there}
-use Rattle.iox2_domain.proofs.LendingSteps.{contents-within, single-fits, never-full, lends-from, lends-seen, named-seen}
+use Rattle.iox2_domain.proofs.lemmas.fields.Parts.{parts_of}
+use Rattle.iox2_domain.proofs.lemmas.slots.PublisherBooks.{read-there, book-there}
+use Rattle.iox2_domain.proofs.lemmas.loans.LendingSteps.{contents-within, single-fits, never-full, lends-from, lends-seen, named-seen}
 use Rattle.iox2_domain.proofs.state.DomainState.grant.Goals as goal
 
 pub index_mut-requires : goal.index_mut-requires

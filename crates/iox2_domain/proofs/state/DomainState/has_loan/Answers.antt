@@ -1,4 +1,4 @@
-use Rattle.iox2_domain.proofs.LoansOut.{found-out}
+use Rattle.iox2_domain.proofs.lemmas.loans.LoansOut.{found-out}
 use Rattle.iox2_domain.proofs.state.DomainState.has_loan.Goals as goal
 
 pub returns : goal.returns

@@ -1,7 +1,7 @@
 use Rattle.std.proofs.Common.{◌∙◌, ap, sym}
 use Rattle.slab.specs.Slab.{get}
 use Rattle.iox2_domain.specs.Fields.{Fields}
-use Rattle.iox2_domain.proofs.LoanCalls.{header-read}
+use Rattle.iox2_domain.proofs.lemmas.loans.LoanCalls.{header-read}
 use Rattle.iox2_domain.proofs.state.DomainState.loan_header.Goals as goal
 
 pub returns : goal.returns

@@ -5,9 +5,9 @@ use Rattle.iox2_domain.specs.Ports.{PublisherFields}
 use Rattle.iox2_domain.specs.Fields.{Fields}
 use Rattle.iox2_domain.specs.Invariant.{IsDomain}
 use Rattle.iox2_domain.specs.Lending.{LoanDecided}
-use Rattle.iox2_domain.proofs.Parts.{parts_of}
-use Rattle.iox2_domain.proofs.PublisherBooks.{read-there, book-there}
-use Rattle.iox2_domain.proofs.Lent.{decided-full, decided-failed, decided-free}
+use Rattle.iox2_domain.proofs.lemmas.fields.Parts.{parts_of}
+use Rattle.iox2_domain.proofs.lemmas.slots.PublisherBooks.{read-there, book-there}
+use Rattle.iox2_domain.proofs.lemmas.loans.Lent.{decided-full, decided-failed, decided-free}
 use Rattle.iox2_domain.proofs.state.DomainState.loan_refusal.Goals as goal
 
 pub index-requires-2 : goal.index-requires-2

@@ -1,4 +1,4 @@
-use Rattle.iox2_domain.proofs.Reception.{updated-stands, receives-at}
+use Rattle.iox2_domain.proofs.lemmas.receives.Reception.{updated-stands, receives-at}
 use Rattle.iox2_domain.proofs.state.DomainState.receive_at.Goals as goal
 
 pub take_at-requires-clause-agrees : goal.take_at-requires-clause-agrees

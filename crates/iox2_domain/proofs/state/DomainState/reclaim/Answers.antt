@@ -4,9 +4,9 @@ use Rattle.iox2_ends.specs.Receivers.{HasReclaimed}
 use Rattle.iox2_domain.specs.Ports.{PublisherFields}
 use Rattle.iox2_domain.specs.Fields.{Fields}
 use Rattle.iox2_domain.specs.Invariant.{IsDomain}
-use Rattle.iox2_domain.proofs.Parts.{parts_of}
-use Rattle.iox2_domain.proofs.PublisherBooks.{read-there, book-there, sender-linked, book-covers}
-use Rattle.iox2_domain.proofs.ReclaimSteps.{publisher-reclaims}
+use Rattle.iox2_domain.proofs.lemmas.fields.Parts.{parts_of}
+use Rattle.iox2_domain.proofs.lemmas.slots.PublisherBooks.{read-there, book-there, sender-linked, book-covers}
+use Rattle.iox2_domain.proofs.lemmas.slots.ReclaimSteps.{publisher-reclaims}
 use Rattle.iox2_domain.proofs.state.DomainState.reclaim.Goals as goal
 
 pub index_mut-requires : goal.index_mut-requires

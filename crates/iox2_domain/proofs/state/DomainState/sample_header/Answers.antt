@@ -1,4 +1,4 @@
-use Rattle.iox2_domain.proofs.SampleReads.{slot-within, header-read}
+use Rattle.iox2_domain.proofs.lemmas.samples.SampleReads.{slot-within, header-read}
 use Rattle.iox2_domain.proofs.state.DomainState.sample_header.Goals as goal
 
 pub header-requires : goal.header-requires

@@ -1,5 +1,5 @@
 use Rattle.std.proofs.Common.{◌≡◌, ◌<◌, rules, arith, length, vec_len}
-use Rattle.iox2_domain.proofs.SampleReads.{book-within, no-contents, value-there, value-read}
+use Rattle.iox2_domain.proofs.lemmas.samples.SampleReads.{book-within, no-contents, value-there, value-read}
 use Rattle.iox2_domain.proofs.state.DomainState.sample_payload.Goals as goal
 
 pub index-requires : goal.index-requires

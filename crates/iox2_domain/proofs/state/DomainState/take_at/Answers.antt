@@ -1,12 +1,12 @@
-use Rattle.iox2_domain.proofs.PublisherBooks.{read-there}
+use Rattle.iox2_domain.proofs.lemmas.slots.PublisherBooks.{read-there}
 use Rattle.iox2_domain.specs.Fields.{Fields}
 use Rattle.iox2_ends.proofs.MailboxChanges.{within_if_some}
 use Rattle.std.proofs.Common.{◌≡◌, ◌∙◌, ap, sym, None, Some, slice_index_or, rules, length, vec_len}
-use Rattle.iox2_domain.proofs.ReceiptSteps.{has-keys, connected-places, at-ready, at-nothing, at-at_limit}
+use Rattle.iox2_domain.proofs.lemmas.receives.ReceiptSteps.{has-keys, connected-places, at-ready, at-nothing, at-at_limit}
 use Rattle.iox2_domain.proofs.state.DomainState.take_at.Goals as goal
 
-pub find-requires-clause-places : goal.find-requires-clause-places
-find-requires-clause-places g c =
+pub find-requires-clause-keys : goal.find-requires-clause-keys
+find-requires-clause-keys g c =
     connected-places _ c.args.self.now c.args.place c.in-Some.subscriber c.deref.result.now c.deref-2.result.now
     (has-keys _ c.args.self.now c.args.place c.index.result.now c.in-Some.subscriber _ c.deref.result.now c.deref-2.result.now c.requires.agrees c.self.view_is c.requires.stands
     c.index.ensures c.in-Some.is c.subscriber.view_is c.deref.ensures.value c.deref-2.ensures.value)

@@ -1,4 +1,4 @@
-use Rattle.iox2_domain.proofs.ReceiptSteps.{has-its-book, waiting-within, takes-from}
+use Rattle.iox2_domain.proofs.lemmas.receives.ReceiptSteps.{has-its-book, waiting-within, takes-from}
 use Rattle.std.proofs.Common.{ap, refl, ◌∙◌}
 use Rattle.iox2_store.specs.declared.connection.Home.{Home}
 use Rattle.iox2_domain.proofs.state.DomainState.take_from.Goals as goal

@@ -3,7 +3,7 @@ use Rattle.std.proofs.lemmas.List.{with_items_is}
 use Rattle.std.specs.Option.{option_map}
 use Rattle.iox2_domain.specs.Fields.{Fields}
 use Rattle.iox2_domain.specs.Updates.{is_publisher_due, changed_at, updated_publisher}
-use Rattle.iox2_domain.proofs.SenderUpdates.{WalksSender, walk-begins, walk-more, walk-updates, walking-stands, walking-publishers, walking-subscribers, idle-updates, due-at}
+use Rattle.iox2_domain.proofs.lemmas.updates.SenderUpdates.{WalksSender, walk-begins, walk-more, walk-updates, walking-stands, walking-publishers, walking-subscribers, idle-updates, due-at}
 use Rattle.iox2_domain.proofs.state.DomainState.update_publisher.Goals as goal
 
 pub returns-then-not-is_due_at : goal.returns-then-not-is_due_at

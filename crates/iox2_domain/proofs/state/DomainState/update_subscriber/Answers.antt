@@ -3,7 +3,7 @@ use Rattle.std.proofs.lemmas.List.{with_items_is}
 use Rattle.std.specs.Option.{option_map}
 use Rattle.iox2_domain.specs.Fields.{Fields}
 use Rattle.iox2_domain.specs.Updates.{is_subscriber_due, changed_at, updated_subscriber}
-use Rattle.iox2_domain.proofs.ReceiverUpdates.{WalksReceiver, walk-begins, walk-more, walk-updates, walking-stands, walking-subscribers, walking-publishers, idle-updates, due-at}
+use Rattle.iox2_domain.proofs.lemmas.updates.ReceiverUpdates.{WalksReceiver, walk-begins, walk-more, walk-updates, walking-stands, walking-subscribers, walking-publishers, idle-updates, due-at}
 use Rattle.iox2_domain.proofs.state.DomainState.update_subscriber.Goals as goal
 
 pub returns-then-not-is_due_at : goal.returns-then-not-is_due_at

@@ -1,7 +1,7 @@
 use Rattle.std.proofs.Common.{◌≡◌, slice_index_or}
 use Rattle.std.specs.declared.option.Option.TheVariants.{None, Some}
 use Rattle.iox2_domain.specs.Ports.{SubscriberFields}
-use Rattle.iox2_domain.proofs.ReceiverUpdates.{WalksReceiver}
+use Rattle.iox2_domain.proofs.lemmas.updates.ReceiverUpdates.{WalksReceiver}
 use Rattle.iox2_domain.proofs.state.DomainState.update_subscriber.Given as goal
 
 abbrev pub invariant-loop-other : goal.invariant-loop-other

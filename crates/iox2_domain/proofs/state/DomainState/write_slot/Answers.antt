@@ -7,7 +7,7 @@ use Rattle.iox2_store.specs.SlotBook.{Book}
 use Rattle.iox2_store.specs.SlotContents.{ContentState, SomeAt, with_changed, written_content}
 use Rattle.iox2_store.specs.declared.slots.mark.SlotMark.TheVariants.{Written}
 use Rattle.iox2_domain.specs.Fields.{Fields}
-use Rattle.iox2_domain.proofs.PublisherBooks.{read-there}
+use Rattle.iox2_domain.proofs.lemmas.slots.PublisherBooks.{read-there}
 use Rattle.iox2_domain.proofs.state.DomainState.write_slot.Goals as goal
 
 pub write_content-requires : goal.write_content-requires

@@ -1,5 +1,5 @@
 use Rattle.std.proofs.Common.{refl}
-use Rattle.iox2_domain.proofs.ConnectionKeys.{placed-sets}
+use Rattle.iox2_domain.proofs.lemmas.containers.ConnectionKeys.{placed-sets}
 use Rattle.iox2_domain.proofs.subscriber_state.SubscriberStatePort.set_key.Goals as goal
 
 pub returns : goal.returns

@@ -1,5 +1,5 @@
 use Rattle.std.proofs.Common.{◌≡◌, ◌⊎◌, inl, inr}
-use Rattle.iox2_store.specs.Delivery.{accepted_count}
+use Rattle.iox2_store.specs.machine.Delivery.{accepted_count}
 use Rattle.iox2_ends.specs.Deliveries.{result_of}
 use Rattle.iox2_ends.specs.declared.sender.Reception.{Reception}
 use Rattle.iox2_ends.proofs.sender.Reception.accepted_count.Goals as goal

@@ -1,5 +1,5 @@
 use Rattle.std.proofs.Common.{◌≡◌, ap, sym, subst}
-use Rattle.iox2_store.specs.SingleCalls.{HoldsPublisher}
+use Rattle.iox2_store.specs.machine.SingleCalls.{HoldsPublisher}
 use Rattle.iox2_domain.specs.Kept.{Kept, state_of}
 use Rattle.iox2_pubsub.specs.Live.{IsPublisherKey}
 use Rattle.iox2_pubsub.proofs.domain.Domain.holds_publisher.Goals as goal

@@ -1,5 +1,5 @@
 use Rattle.std.proofs.Common.{◌≡◌, ap, sym, subst}
-use Rattle.iox2_store.specs.SingleCalls.{HoldsSample}
+use Rattle.iox2_store.specs.machine.SingleCalls.{HoldsSample}
 use Rattle.iox2_domain.specs.Kept.{Kept, state_of}
 use Rattle.iox2_domain.specs.Shows.{KeepsEntries}
 use Rattle.iox2_pubsub.specs.Live.{IsSampleKey}
@@ -11,9 +11,9 @@ returns-then-key-config-clause-entries g c = subst (λ (k : Kept g.row.T.Denot g
 pub returns-clause-entries : goal.returns-clause-entries
 returns-clause-entries g c = subst (λ (k : Kept g.row.T.Denot g.row.U.Denot). KeepsEntries k) c.self.view_is c.self.invariant.entries
 
-pub returns-clause-held : goal.returns-clause-held
+pub returns-clause-live : goal.returns-clause-live
 unfolding IsSampleKey
-returns-clause-held g c =
+returns-clause-live g c =
     let has = rw c.new.ensures at c.has_sample.ensures in
     let its : c.args.key.service_id ≡ (c.args.self.now.config).service_id = cc (ap (λ (k : Kept g.row.T.Denot g.row.U.Denot). (k.config).service_id) c.self.view_is) in (
       λ yes. (its, subst (λ (k : Kept g.row.T.Denot g.row.U.Denot). HoldsSample (state_of k) c.args.key.port c.args.key.message) c.self.view_is (has.0 yes)),

@@ -1,5 +1,5 @@
 use Rattle.std.proofs.Common.{◌≡◌, ap, sym, subst}
-use Rattle.iox2_store.specs.SingleCalls.{HoldsSubscriber}
+use Rattle.iox2_store.specs.machine.SingleCalls.{HoldsSubscriber}
 use Rattle.iox2_domain.specs.Kept.{Kept, state_of}
 use Rattle.iox2_pubsub.specs.Live.{IsSubscriberKey}
 use Rattle.iox2_pubsub.proofs.domain.Domain.holds_subscriber.Goals as goal

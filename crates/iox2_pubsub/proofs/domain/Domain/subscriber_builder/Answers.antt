@@ -1,6 +1,6 @@
 use Rattle.std.proofs.Common.{ap, ◌∙◌}
 use Rattle.std.proofs.Math.Nat.{max_comm}
-use Rattle.iox2_store.specs.Limits.{buffer_limit}
+use Rattle.iox2_store.specs.machine.Limits.{buffer_limit}
 use Rattle.iox2_domain.specs.Kept.{Kept}
 use Rattle.iox2_domain.specs.SubscriberEntry.{asked_for}
 use Rattle.iox2_pubsub.proofs.domain.Domain.subscriber_builder.Goals as goal

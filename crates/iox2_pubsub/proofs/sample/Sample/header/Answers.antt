@@ -1,14 +1,14 @@
 use Rattle.std.specs.Prelude.{IsTrue}
 use Rattle.std.proofs.Common.{ap, sym, subst, ◌∙◌}
-use Rattle.iox2_store.specs.Mailbox.{is_borrowed}
-use Rattle.iox2_store.specs.SingleCalls.{HoldsSample}
+use Rattle.iox2_store.specs.machine.Mailbox.{is_borrowed}
+use Rattle.iox2_store.specs.machine.SingleCalls.{HoldsSample}
 use Rattle.iox2_domain.specs.Kept.{Kept, entries_of, state_of}
 use Rattle.iox2_pubsub.proofs.SampleOrigins.{entry-origin}
 use Rattle.iox2_pubsub.proofs.LiveParts.{sample-parts, origin-parts}
 use Rattle.iox2_pubsub.proofs.sample.Sample.header.Goals as goal
 
-pub sample_header-requires-clause-held : goal.sample_header-requires-clause-held
-sample_header-requires-clause-held g c =
+pub sample_header-requires-clause-live : goal.sample_header-requires-clause-live
+sample_header-requires-clause-live g c =
     subst (λ (k : Kept g.row.T.Denot g.row.U.Denot). HoldsSample (state_of k) c.args.self.now.sample.subscriber c.args.self.now.sample.number) (sym c.domain.view_is) (sample-parts c.args.domain.now _ c.requires).1
 
 pub returns-clause-header : goal.returns-clause-header

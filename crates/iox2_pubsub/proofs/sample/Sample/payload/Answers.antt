@@ -1,11 +1,11 @@
 use Rattle.std.proofs.Common.{ap, sym, subst, ◌∙◌}
-use Rattle.iox2_store.specs.SingleCalls.{HoldsSample}
+use Rattle.iox2_store.specs.machine.SingleCalls.{HoldsSample}
 use Rattle.iox2_domain.specs.Kept.{Kept, entries_of, state_of}
 use Rattle.iox2_pubsub.proofs.LiveParts.{single-parts, sample-parts}
 use Rattle.iox2_pubsub.proofs.sample.Sample.payload.Goals as goal
 
-pub sample_payload-requires-clause-held : goal.sample_payload-requires-clause-held
-sample_payload-requires-clause-held g c =
+pub sample_payload-requires-clause-live : goal.sample_payload-requires-clause-live
+sample_payload-requires-clause-live g c =
     subst (λ (k : Kept g.row.T.Denot g.row.U.Denot). HoldsSample (state_of k) c.args.self.now.sample.subscriber c.args.self.now.sample.number) (sym c.domain.view_is) (sample-parts c.args.domain.now _ c.requires.live).1
 
 pub returns : goal.returns

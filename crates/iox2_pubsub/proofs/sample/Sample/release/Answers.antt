@@ -1,15 +1,15 @@
 use Rattle.std.proofs.Common.{refl, ap, sym, subst, ◌∙◌}
-use Rattle.iox2_store.specs.Mailbox.{is_borrowed}
-use Rattle.iox2_store.specs.State.{State}
-use Rattle.iox2_store.specs.SingleCalls.{HoldsSample}
+use Rattle.iox2_store.specs.machine.Mailbox.{is_borrowed}
+use Rattle.iox2_store.specs.machine.State.{State}
+use Rattle.iox2_store.specs.machine.SingleCalls.{HoldsSample}
 use Rattle.iox2_domain.specs.Kept.{Kept, state_of}
 use Rattle.iox2_pubsub.proofs.ReleaseShows.{release-shows}
 use Rattle.iox2_pubsub.proofs.CallsStay.{always-shown, release-stays, release-spends}
 use Rattle.iox2_pubsub.proofs.LiveParts.{sample-parts}
 use Rattle.iox2_pubsub.proofs.sample.Sample.release.Goals as goal
 
-pub give_back-requires-clause-held : goal.give_back-requires-clause-held
-give_back-requires-clause-held g c =
+pub give_back-requires-clause-live : goal.give_back-requires-clause-live
+give_back-requires-clause-live g c =
     subst (λ (k : Kept g.row.T.Denot g.row.U.Denot). HoldsSample (state_of k) c.args.self.sample.subscriber c.args.self.sample.number) (sym c.domain.view_is) (sample-parts c.args.domain.now _ c.requires).1
 
 pub returns-clause-released : goal.returns-clause-released

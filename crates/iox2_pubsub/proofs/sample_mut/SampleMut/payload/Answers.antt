@@ -1,13 +1,13 @@
 use Rattle.std.proofs.Common.{Some, ap, ◌∙◌}
-use Rattle.iox2_store.specs.State.{State}
+use Rattle.iox2_store.specs.machine.State.{State}
 use Rattle.iox2_domain.specs.LoanCalls.{HasCell}
 use Rattle.iox2_domain.specs.Kept.{Kept}
 use Rattle.iox2_pubsub.proofs.LiveParts.{single-parts}
 use Rattle.iox2_pubsub.proofs.LoanHandles.{of-shown, written-out}
 use Rattle.iox2_pubsub.proofs.sample_mut.SampleMut.payload.Goals as goal
 
-pub loan_value-requires-clause-held : goal.loan_value-requires-clause-held
-loan_value-requires-clause-held g c =
+pub loan_value-requires-clause-live : goal.loan_value-requires-clause-live
+loan_value-requires-clause-live g c =
     written-out {T = g.row.T.Denot} {U = g.row.U.Denot} _ c.args.domain.now c.domain.view_is
     c.args.self.now c.requires.live
 

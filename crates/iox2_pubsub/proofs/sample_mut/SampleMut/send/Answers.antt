@@ -1,6 +1,6 @@
 use Rattle.std.proofs.Common.{◌≡◌, ap, sym, subst, ◌∙◌}
-use Rattle.iox2_store.specs.Sends.{Delivered_to, Blocked_send}
-use Rattle.iox2_store.specs.State.{State}
+use Rattle.iox2_store.specs.machine.Sends.{Delivered_to, Blocked_send}
+use Rattle.iox2_store.specs.machine.State.{State}
 use Rattle.iox2_domain.specs.Fields.{kept_of}
 use Rattle.iox2_domain.specs.Kept.{Kept, state_of}
 use Rattle.iox2_domain.specs.LoanCalls.{HoldsWritten}
@@ -11,8 +11,8 @@ use Rattle.iox2_pubsub.proofs.CallsStay.{always-shown, send-stays, send-spends}
 use Rattle.iox2_pubsub.proofs.LiveParts.{written-parts}
 use Rattle.iox2_pubsub.proofs.sample_mut.SampleMut.send.Goals as goal
 
-pub send_loan-count-requires-clause-held : goal.send_loan-count-requires-clause-held
-send_loan-count-requires-clause-held g c =
+pub send_loan-count-requires-clause-live : goal.send_loan-count-requires-clause-live
+send_loan-count-requires-clause-live g c =
     subst (λ (k : Kept g.row.T.Denot g.row.U.Denot). HoldsWritten (state_of k) c.args.self.loan.publisher c.args.self.loan.number) (sym c.domain.view_is) (written-parts c.args.domain.now c.args.self c.requires).1
 
 pub returns-clause-sent : goal.returns-clause-sent

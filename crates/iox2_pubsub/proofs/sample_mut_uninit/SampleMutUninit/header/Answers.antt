@@ -1,11 +1,11 @@
-use Rattle.iox2_store.specs.State.{State}
+use Rattle.iox2_store.specs.machine.State.{State}
 use Rattle.iox2_domain.specs.LoanCalls.{HasLoanHeader}
 use Rattle.iox2_pubsub.specs.Live.{unwritten_key}
 use Rattle.iox2_pubsub.proofs.LoanHandles.{of-shown, loan-out, header-origin}
 use Rattle.iox2_pubsub.proofs.sample_mut_uninit.SampleMutUninit.header.Goals as goal
 
-pub loan_header-requires-clause-held : goal.loan_header-requires-clause-held
-loan_header-requires-clause-held g c =
+pub loan_header-requires-clause-live : goal.loan_header-requires-clause-live
+loan_header-requires-clause-live g c =
     loan-out {T = g.row.T.Denot} {U = g.row.U.Denot} _ c.args.domain.now c.domain.view_is
     (unwritten_key c.args.self.now) c.requires
 

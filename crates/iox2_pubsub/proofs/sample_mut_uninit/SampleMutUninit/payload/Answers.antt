@@ -1,13 +1,13 @@
 use Rattle.std.proofs.Common.{ap, ◌∙◌}
-use Rattle.iox2_store.specs.State.{State}
+use Rattle.iox2_store.specs.machine.State.{State}
 use Rattle.iox2_domain.specs.LoanCalls.{HasCell}
 use Rattle.iox2_domain.specs.Kept.{Kept}
 use Rattle.iox2_pubsub.proofs.LiveParts.{single-parts}
 use Rattle.iox2_pubsub.proofs.LoanHandles.{of-shown, unwritten-out}
 use Rattle.iox2_pubsub.proofs.sample_mut_uninit.SampleMutUninit.payload.Goals as goal
 
-pub loan_cell-requires-clause-held : goal.loan_cell-requires-clause-held
-loan_cell-requires-clause-held g c =
+pub loan_cell-requires-clause-live : goal.loan_cell-requires-clause-live
+loan_cell-requires-clause-live g c =
     unwritten-out {T = g.row.T.Denot} {U = g.row.U.Denot} _ c.args.domain.now c.domain.view_is
     c.args.self.now c.requires.live
 

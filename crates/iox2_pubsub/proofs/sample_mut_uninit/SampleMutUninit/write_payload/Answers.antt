@@ -6,8 +6,8 @@ use Rattle.iox2_pubsub.proofs.LoanHandles.{unwritten-out, write-shown, write-liv
 use Rattle.iox2_pubsub.proofs.CallsStay.{always-shown, write-stays}
 use Rattle.iox2_pubsub.proofs.sample_mut_uninit.SampleMutUninit.write_payload.Goals as goal
 
-pub write_loan-requires-clause-held : goal.write_loan-requires-clause-held
-write_loan-requires-clause-held g c =
+pub write_loan-requires-clause-live : goal.write_loan-requires-clause-live
+write_loan-requires-clause-live g c =
     unwritten-out {T = g.row.T.Denot} {U = g.row.U.Denot} _ c.args.domain.now c.domain.view_is
     c.args.self c.requires.live
 

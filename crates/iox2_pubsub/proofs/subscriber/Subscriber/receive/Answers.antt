@@ -1,8 +1,8 @@
 use Rattle.std.proofs.Common.{ℕ, ap, sym, subst, ◌∙◌, Ok, Err, Some, None, refl, Option}
-use Rattle.iox2_store.specs.Receives.{Got_sample, No_sample}
+use Rattle.iox2_store.specs.machine.Receives.{Got_sample, No_sample}
 use Rattle.iox2_domain.specs.Fields.{kept_of}
 use Rattle.iox2_pubsub.specs.Live.{IsNewIn, A_sample}
-use Rattle.iox2_pubsub.specs.ReceivedSamples.{received}
+use Rattle.iox2_pubsub.specs.ReceivedSamples.{received_result}
 use Rattle.iox2_domain.specs.declared.receipts.Receipt.{Receipt}
 use Rattle.iox2_pubsub.proofs.ReceptionShown.{reception-at, reception-shows, reception-live, reception-origin, subscriber-missing, error-shows}
 use Rattle.iox2_pubsub.proofs.CallsStay.{always-shown, receive-stays, received-is-new}
@@ -62,7 +62,7 @@ pub returns-in_err-receipt-clause-stays : goal.returns-in_err-receipt-clause-sta
 returns-in_err-receipt-clause-stays g c =
     let it = always-shown {T = g.row.T.Denot} {U = g.row.U.Denot} c.domain.inside.state c.args.domain.now c.domain.invariant c.domain.view_is in
     let step = returns-in_err-receipt-clause-receives g c it.0 it.1 it.2 in
-    receive-stays {T = g.row.T.Denot} {U = g.row.U.Denot} c.args.domain.now _ it.0 it.1 it.2 c.args.self.now.id (received c.from_residual.result) step.0 step.1 step.2
+    receive-stays {T = g.row.T.Denot} {U = g.row.U.Denot} c.args.domain.now _ it.0 it.1 it.2 c.args.self.now.id (received_result c.from_residual.result) step.0 step.1 step.2
 
 pub returns-in_default-receipt-clause-stays : goal.returns-in_default-receipt-clause-stays
 returns-in_default-receipt-clause-stays g c =

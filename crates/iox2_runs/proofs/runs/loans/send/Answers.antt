@@ -1,27 +1,27 @@
 use Rattle.std.proofs.Common.{refl, sym, ap, subst, ◌∙◌}
-use Rattle.iox2_store.specs.Environments.{fixed_handlers}
-use Rattle.iox2_store.specs.Sends.{Send}
-use Rattle.iox2_runs.specs.Holdings.{kept_of}
-use Rattle.iox2_runs.specs.declared.runs.held.Held.{Held}
-use Rattle.iox2_runs.proofs.TableLooks.{is_written}
-use Rattle.iox2_runs.proofs.Holdings.{back, not_written}
-use Rattle.iox2_runs.proofs.LiveHeld.{live_written}
+use Rattle.iox2_store.specs.machine.Environments.{fixed_handlers}
+use Rattle.iox2_store.specs.machine.Sends.{Send}
+use Rattle.iox2_runs.specs.Carries.{entry_for}
+use Rattle.iox2_runs.specs.declared.runs.made.Made.{Made}
+use Rattle.iox2_runs.proofs.TableLooks.{is_written_entry}
+use Rattle.iox2_runs.proofs.TableEntries.{back, not_written}
+use Rattle.iox2_runs.proofs.LiveEntries.{live_written}
 use Rattle.iox2_runs.proofs.CarriedLoans.{send_passed, send_carried}
 use Rattle.iox2_runs.proofs.runs.loans.send.Goals as goal
 
 pub send-requires : goal.send-requires
 send-requires g c =
-    (live_written {T = g.row.T.Denot} {U = g.row.U.Denot} c.args.domain.now c.args.table.now.items c.requires c.args.of c.in-Written.sample (sym c.take.ensures.held ∙ c.in-Written.is)).0
+    (live_written {T = g.row.T.Denot} {U = g.row.U.Denot} c.args.domain.now c.args.table.now.items c.requires c.args.of c.in-Written.sample (sym c.take.ensures.made ∙ c.in-Written.is)).0
 
 pub returns-in-Ok-clause-carries : goal.returns-in-Ok-clause-carries
 returns-in-Ok-clause-carries g c =
     send_carried {T = g.row.T.Denot} {U = g.row.U.Denot} _ c.args.domain.now c.send.new.domain c.args.table.now.items c.take.new.table.items c.args.of
-    c.in-Written.sample c.delivered_count.result (sym c.take.ensures.held ∙ c.in-Written.is)
+    c.in-Written.sample c.delivered_count.result (sym c.take.ensures.made ∙ c.in-Written.is)
     (λ m s l shown there. let sent = c.in-Ok.ensures.sent m s l shown there in
     (sent.0, sent.1, subst (λ r. Send fixed_handlers s c.in-Written.sample.loan.number l sent.0 r) c.delivered_count.ensures sent.2)) c.take.ensures.items
 
 pub returns-in_default-clause-carries : goal.returns-in_default-clause-carries
 returns-in_default-clause-carries g c =
     send_passed {T = g.row.T.Denot} {U = g.row.U.Denot} _ c.args.domain.now c.args.domain.now c.args.table.now.items c.put.new.table.items c.args.of
-    (ap (λ (h : Held). is_written (kept_of h)) (sym c.take.ensures.held) ∙ not_written c.take.result c.in_default.not-Written) refl
-    (back c.args.table.now.items c.take.new.table.items c.put.new.table.items c.args.of c.take.result c.take.ensures.items (sym c.take.ensures.held) c.put.ensures.items)
+    (ap (λ (h : Made). is_written_entry (entry_for h)) (sym c.take.ensures.made) ∙ not_written c.take.result c.in_default.not-Written) refl
+    (back c.args.table.now.items c.take.new.table.items c.put.new.table.items c.args.of c.take.result c.take.ensures.items (sym c.take.ensures.made) c.put.ensures.items)

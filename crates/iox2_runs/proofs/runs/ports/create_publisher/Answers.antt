@@ -1,7 +1,7 @@
 use Rattle.std.proofs.Common.{◌≡◌, ap, subst, ◌∙◌, None, Some}
-use Rattle.iox2_store.specs.Environments.{fixed_handlers}
-use Rattle.iox2_store.specs.Records.{PublisherSettings}
-use Rattle.iox2_store.specs.Ports.{CreatePublisher}
+use Rattle.iox2_store.specs.machine.Environments.{fixed_handlers}
+use Rattle.iox2_store.specs.machine.Records.{PublisherSettings}
+use Rattle.iox2_store.specs.machine.Ports.{CreatePublisher}
 use Rattle.iox2_domain.specs.NewPublisher.{plain_publisher}
 use Rattle.iox2_pubsub.proofs.LiveParts.{publisher-parts}
 use Rattle.iox2_runs.proofs.CarriedPorts.{publisher_carried, publisher_denied}

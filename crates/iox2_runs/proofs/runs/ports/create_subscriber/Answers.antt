@@ -1,6 +1,6 @@
 use Rattle.std.proofs.Common.{◌≡◌, sym, ap, ◌∙◌}
-use Rattle.iox2_store.specs.Limits.{buffer_limit}
-use Rattle.iox2_store.specs.Records.{SubscriberSettings}
+use Rattle.iox2_store.specs.machine.Limits.{buffer_limit}
+use Rattle.iox2_store.specs.machine.Records.{SubscriberSettings}
 use Rattle.iox2_pubsub.proofs.LiveParts.{subscriber-parts}
 use Rattle.iox2_runs.proofs.CarriedPorts.{given_for, subscriber_carried, subscriber_denied}
 use Rattle.iox2_runs.proofs.runs.ports.create_subscriber.Goals as goal

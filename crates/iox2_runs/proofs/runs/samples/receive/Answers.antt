@@ -1,19 +1,19 @@
 use Rattle.std.proofs.Common.{◌≡◌, refl, sym, ap, subst, ◌∙◌, Option, None, Some}
 use Rattle.std.specs.Prelude.{Result, IfOk, IfSome}
 use Rattle.std.specs.declared.result.Result.TheVariants.{Ok}
-use Rattle.iox2_store.specs.Environments.{fixed_handlers}
-use Rattle.iox2_store.specs.Receives.{Receive}
+use Rattle.iox2_store.specs.machine.Environments.{fixed_handlers}
+use Rattle.iox2_store.specs.machine.Receives.{Receive}
 use Rattle.iox2_store.specs.declared.service_config.ServiceConfig.{ServiceConfig}
-use Rattle.iox2_pubsub.specs.ReceivedSamples.{received}
+use Rattle.iox2_pubsub.specs.ReceivedSamples.{received_result}
 use Rattle.iox2_pubsub.specs.Live.{IsLiveSample}
 use Rattle.iox2_pubsub.proofs.LiveParts.{sample-parts}
 use Rattle.iox2_store.specs.declared.errors.ReceiveError.{ReceiveError}
 use Rattle.iox2_pubsub.specs.declared.sample.Sample.{Sample}
-use Rattle.iox2_runs.specs.Holdings.{kept_of}
-use Rattle.iox2_runs.specs.declared.runs.held.Held.{Held}
-use Rattle.iox2_runs.proofs.TableLooks.{is_subscriber}
-use Rattle.iox2_runs.proofs.Holdings.{looked, looked_past, not_subscriber}
-use Rattle.iox2_runs.proofs.LiveHeld.{live_subscriber}
+use Rattle.iox2_runs.specs.Carries.{entry_for}
+use Rattle.iox2_runs.specs.declared.runs.made.Made.{Made}
+use Rattle.iox2_runs.proofs.TableLooks.{is_subscriber_entry}
+use Rattle.iox2_runs.proofs.TableEntries.{looked, looked_past, not_subscriber}
+use Rattle.iox2_runs.proofs.LiveEntries.{live_subscriber}
 use Rattle.iox2_runs.proofs.CarriedSamples.{receive_passed, receive_of_other, receive_carried, receive_none, receive_denied}
 use Rattle.iox2_runs.proofs.runs.samples.receive.Goals as goal
 
@@ -24,7 +24,7 @@ returns-then-config-ne1 g c =
 
 pub receive-requires : goal.receive-requires
 receive-requires g c =
-    live_subscriber {T = g.row.T.Denot} {U = g.row.U.Denot} c.args.domain.now c.args.table.now c.requires c.args.of c.in-Subscriber.subscriber (looked c.args.table.now c.args.of c.get.result c.in-Some.held _ c.get.ensures.lookup c.in-Some.is c.in-Subscriber.is)
+    live_subscriber {T = g.row.T.Denot} {U = g.row.U.Denot} c.args.domain.now c.args.table.now c.requires c.args.of c.in-Subscriber.subscriber (looked c.args.table.now c.args.of c.get.result c.in-Some.made _ c.get.ensures.lookup c.in-Some.is c.in-Subscriber.is)
 
 pub returns-in-Ok-Some : goal.returns-in-Ok-Some
 returns-in-Ok-Some g c =
@@ -35,9 +35,9 @@ returns-in-Ok-Some g c =
     subst (λ (r : Result (Option Sample) ReceiveError). IfOk r (λ o. IfSome o (λ (it : Sample). it.sample.subscriber ≡ c.in-Subscriber.subscriber.id))) result c.receive.ensures.subscriber in
     receive_carried {T = g.row.T.Denot} {U = g.row.U.Denot} _ c.args.domain.now c.receive.new.domain c.args.table.now c.args.table.now c.args.of
     refl
-    c.in-Subscriber.subscriber c.in-Ok-Some.sample c.origin.result (looked c.args.table.now c.args.of c.get.result c.in-Some.held _ c.get.ensures.lookup c.in-Some.is c.in-Subscriber.is) c.config.ensures.supported.single_values
+    c.in-Subscriber.subscriber c.in-Ok-Some.sample c.origin.result (looked c.args.table.now c.args.of c.get.result c.in-Some.made _ c.get.ensures.lookup c.in-Some.is c.in-Subscriber.is) c.config.ensures.supported.single_values
     (ap (λ (k : ServiceConfig). k.units_per_element) (sym c.config.ensures.value) ∙ c.if-config-ne1.false)
-    (λ m s shown. let got = c.receive.ensures.receives m s shown in (got.0, got.1, subst (λ r. Receive fixed_handlers s c.in-Subscriber.subscriber.id got.0 (received r)) result got.2))
+    (λ m s shown. let got = c.receive.ensures.receives m s shown in (got.0, got.1, subst (λ r. Receive fixed_handlers s c.in-Subscriber.subscriber.id got.0 (received_result r)) result got.2))
     (sample-parts {T = g.row.T.Denot} {U = g.row.U.Denot} c.receive.new.domain _ live).0 whose c.origin.ensures
 
 pub returns-in-Ok-None : goal.returns-in-Ok-None
@@ -45,24 +45,24 @@ returns-in-Ok-None g c =
     let result : c.receive.result ≡ Ok None = c.in-Ok-None.is ∙ ap (λ (o : Option Sample). Ok o) c.in-Ok-None.field-0-is in
     receive_none {T = g.row.T.Denot} {U = g.row.U.Denot} _ c.args.domain.now c.receive.new.domain c.args.table.now c.args.table.now c.args.of
     refl
-    c.in-Subscriber.subscriber (looked c.args.table.now c.args.of c.get.result c.in-Some.held _ c.get.ensures.lookup c.in-Some.is c.in-Subscriber.is)
+    c.in-Subscriber.subscriber (looked c.args.table.now c.args.of c.get.result c.in-Some.made _ c.get.ensures.lookup c.in-Some.is c.in-Subscriber.is)
     (ap (λ (k : ServiceConfig). k.units_per_element) (sym c.config.ensures.value) ∙ c.if-config-ne1.false)
-    (λ m s shown. let got = c.receive.ensures.receives m s shown in (got.0, got.1, subst (λ r. Receive fixed_handlers s c.in-Subscriber.subscriber.id got.0 (received r)) result got.2))
+    (λ m s shown. let got = c.receive.ensures.receives m s shown in (got.0, got.1, subst (λ r. Receive fixed_handlers s c.in-Subscriber.subscriber.id got.0 (received_result r)) result got.2))
 
 pub returns-in-Err : goal.returns-in-Err
 returns-in-Err g c =
     receive_denied {T = g.row.T.Denot} {U = g.row.U.Denot} _ c.args.domain.now c.receive.new.domain c.args.table.now c.args.table.now c.args.of
     refl
-    c.in-Subscriber.subscriber c.in-Err.error (looked c.args.table.now c.args.of c.get.result c.in-Some.held _ c.get.ensures.lookup c.in-Some.is c.in-Subscriber.is)
+    c.in-Subscriber.subscriber c.in-Err.error (looked c.args.table.now c.args.of c.get.result c.in-Some.made _ c.get.ensures.lookup c.in-Some.is c.in-Subscriber.is)
     (ap (λ (k : ServiceConfig). k.units_per_element) (sym c.config.ensures.value) ∙ c.if-config-ne1.false)
-    (λ m s shown. let got = c.receive.ensures.receives m s shown in (got.0, got.1, subst (λ r. Receive fixed_handlers s c.in-Subscriber.subscriber.id got.0 (received r)) c.in-Err.is got.2))
+    (λ m s shown. let got = c.receive.ensures.receives m s shown in (got.0, got.1, subst (λ r. Receive fixed_handlers s c.in-Subscriber.subscriber.id got.0 (received_result r)) c.in-Err.is got.2))
 
-pub returns-in_default-held : goal.returns-in_default-held
-returns-in_default-held g c =
+pub returns-in_default-made : goal.returns-in_default-made
+returns-in_default-made g c =
     receive_passed {T = g.row.T.Denot} {U = g.row.U.Denot} _ c.args.domain.now c.args.domain.now c.args.table.now c.args.table.now c.args.of refl
-    (ap (λ (h : Held). is_subscriber (kept_of h)) (looked c.args.table.now c.args.of c.get.result c.in-Some.held _ c.get.ensures.lookup c.in-Some.is refl) ∙ not_subscriber c.in-Some.held.now c.in_default-held.not-Subscriber) refl
+    (ap (λ (h : Made). is_subscriber_entry (entry_for h)) (looked c.args.table.now c.args.of c.get.result c.in-Some.made _ c.get.ensures.lookup c.in-Some.is refl) ∙ not_subscriber c.in-Some.made.now c.in_default-made.not-Subscriber) refl
 
 pub returns-in_default : goal.returns-in_default
 returns-in_default g c =
     receive_passed {T = g.row.T.Denot} {U = g.row.U.Denot} _ c.args.domain.now c.args.domain.now c.args.table.now c.args.table.now c.args.of refl
-    (ap (λ (h : Held). is_subscriber (kept_of h)) (looked_past c.args.table.now c.args.of c.get.result c.get.ensures.lookup c.in_default.is)) refl
+    (ap (λ (h : Made). is_subscriber_entry (entry_for h)) (looked_past c.args.table.now c.args.of c.get.result c.get.ensures.lookup c.in_default.is)) refl

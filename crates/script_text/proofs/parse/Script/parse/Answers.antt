@@ -48,7 +48,7 @@ returns-in_default-command_of-clause-err c =
       domain = domain;
       names = names;
       bad = c.in_default-command_of.ensures.refuses;
-      place = omega (arith, c.len.ensures, NamesCommands-length before c.loop-line.commands.items names);
+      position = omega (arith, c.len.ensures, NamesCommands-length before c.loop-line.commands.items names);
     })
 
 pub returns-clause-ok : goal.returns-clause-ok

@@ -10,7 +10,7 @@ invariant_of-self c =
       numbers = simp length-set c.self.invariant.numbers;
       headers = simp length-set c.self.invariant.headers;
       marks = simp length-set c.self.invariant.marks;
-      exact = rw (c.if-left-eq0.true, c.push_reserved.ensures.items) (free_pushed _ _ _ before.in_bounds before.held c.self.invariant.exact);
+      exact = rw (c.if-left-eq0.true, c.push_reserved.ensures.items) (free_pushed _ _ _ before.in_bounds before.in_use c.self.invariant.exact);
       room = simp length-set (omega arith);
     }
 
@@ -21,7 +21,7 @@ invariant_of-self-else-left-eq0 c =
       numbers = simp length-set c.self.invariant.numbers;
       headers = simp length-set c.self.invariant.headers;
       marks = simp length-set c.self.invariant.marks;
-      exact = free_kept _ _ _ _ before.in_bounds before.held (omega arith) c.self.invariant.exact;
+      exact = free_kept _ _ _ _ before.in_bounds before.in_use (omega arith) c.self.invariant.exact;
       room = simp length-set c.self.invariant.room;
     }
 
@@ -29,7 +29,7 @@ pub returns-then-left-eq0-clause-last : goal.returns-then-left-eq0-clause-last
 returns-then-left-eq0-clause-last c =
     let before = rw (← c.self.view_is) at c.requires in
     let read = get_or_read c.self.inside.holders.items _ _ before.in_bounds c.index.ensures 0 in
-    (λ _. rw (← c.self.view_is) (omega (arith, read, before.held)), λ _. refl)
+    (λ _. rw (← c.self.view_is) (omega (arith, read, before.in_use)), λ _. refl)
 
 pub returns-then-left-eq0-clause-released : goal.returns-then-left-eq0-clause-released
 returns-then-left-eq0-clause-released c =

@@ -1,0 +1,8 @@
+-- Lists, places and slabs, whatever is in them.
+pub mod LookUps
+pub mod ChangedRecords
+pub mod SetRecords
+pub mod MapSteps
+pub mod Placed
+pub mod FreePlaces
+pub mod ConnectionKeys

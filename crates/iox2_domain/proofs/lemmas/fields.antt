@@ -1,0 +1,8 @@
+-- What the fields of a domain show of the machine, and where its ports stand.
+pub mod Views
+pub mod Parts
+pub mod ReachesShows
+pub mod ConnectionEnds
+pub mod SameEnds
+pub mod Standing
+pub mod OpenPorts

@@ -1,0 +1,67 @@
+-- What always holds of a domain's fields, apart from what they keep.
+use Rattle.std.specs.Prelude.{◌≡◌, ℕ, slice_index_or}
+use Rattle.std.specs.declared.option.Option.TheVariants.{None, Some}
+use Rattle.iox2_store.specs.machine.Limits.{warning_limit}
+use Rattle.iox2_store.specs.machine.WellFormed.{IsWellFormed}
+use Rattle.iox2_ends.specs.LookUp.{IsOnly}
+use Rattle.iox2_ends.specs.Homes.{IsApart}
+use Rattle.iox2_domain.specs.Ports.{PublisherFields}
+use Rattle.iox2_domain.specs.Kept.{state_of}
+use Rattle.iox2_domain.specs.Fields.{Fields, kept_of}
+use Rattle.iox2_domain.specs.Shows.{KeepsEntries}
+use Rattle.iox2_domain.specs.Invariant.{IsDomain, IsLinked, HasBooks, IsCounted, IsNumbered, HasPublisherRoom, HasShapes, IsSupportedConfig, IsPlain, HasOnlyOpenPorts, is_publisher, is_subscriber}
+
+-- the fields agree with one another, in the midst of a step
+pub record HasParts {T U : Type 0} (f : Fields T U) : Type 0 where
+  pub publisher_ids : (p : ℕ) → IsOnly (is_publisher p) f.publishers
+  pub subscriber_ids : (q : ℕ) → IsOnly (is_subscriber q) f.subscribers
+  pub apart : IsApart f.connections
+  pub linked : IsLinked f
+  pub books : HasBooks f
+  pub counted : IsCounted f
+  pub numbered : IsNumbered f.next_message f.books
+  pub publisher_room : (i : ℕ) (x : PublisherFields) → slice_index_or f.publishers i None ≡ Some x → HasPublisherRoom f.config x
+  pub warning_room : (f.warnings).capacity ≡ warning_limit
+  pub shapes : HasShapes f
+  pub supported : IsSupportedConfig f.config
+  pub plain : (i : ℕ) (x : PublisherFields) → slice_index_or f.publishers i None ≡ Some x → IsPlain x
+  pub open_ports : HasOnlyOpenPorts f
+
+module _ {T U : Type 0} (f : Fields T U) where
+  -- a domain's fields agree
+  pub parts_of : IsDomain f → HasParts f
+  parts_of sound = record {
+    publisher_ids = sound.publisher_ids;
+    subscriber_ids = sound.subscriber_ids;
+    apart = sound.apart;
+    linked = sound.linked;
+    books = sound.books;
+    counted = sound.counted;
+    numbered = sound.numbered;
+    publisher_room = sound.publisher_room;
+    warning_room = sound.warning_room;
+    shapes = sound.shapes;
+    supported = sound.supported;
+    plain = sound.plain;
+    open_ports = sound.open_ports;
+  }
+
+  -- fields that agree are a domain's where what they keep is well-formed and has its entries
+  pub whole_of : HasParts f → IsWellFormed (state_of (kept_of f)) → KeepsEntries (kept_of f) → IsDomain f
+  whole_of parts well entries = record {
+    publisher_ids = parts.publisher_ids;
+    subscriber_ids = parts.subscriber_ids;
+    apart = parts.apart;
+    linked = parts.linked;
+    books = parts.books;
+    counted = parts.counted;
+    numbered = parts.numbered;
+    publisher_room = parts.publisher_room;
+    warning_room = parts.warning_room;
+    shapes = parts.shapes;
+    supported = parts.supported;
+    plain = parts.plain;
+    open_ports = parts.open_ports;
+    well_formed = well;
+    entries = entries;
+  }

@@ -1,0 +1,71 @@
+-- What a domain's fields show of the machine.
+use Rattle.std.proofs.Common.{◌≡◌, ℕ, ◌≤◌, Bool, true, false, ◌&&◌, refl, ap, sym, ◌∙◌, arith}
+use Rattle.std.proofs.lemmas.Bool.{eqb-true}
+use Rattle.std.specs.declared.option.Option.{Option}
+use Rattle.std.specs.declared.option.Option.TheVariants.{None, Some}
+use Rattle.std.specs.Option.{option_map}
+use Rattle.iox2_store.specs.Link.{Link}
+use Rattle.iox2_store.specs.machine.Numbers.{contains}
+use Rattle.iox2_store.specs.machine.Mailbox.{numbers_in}
+use Rattle.iox2_store.specs.machine.Records.{Entry, Loan, Publisher}
+use Rattle.iox2_store.specs.machine.State.{State, Messages}
+use Rattle.iox2_store.specs.machine.WellFormed.{IsWellFormed}
+use Rattle.iox2_ends.specs.LookUp.{look_up}
+use Rattle.iox2_ends.specs.Mailboxes.{is_between, mailboxes_of, mailbox_if_any}
+use Rattle.iox2_ends.proofs.LookUps.{look_up-there}
+use Rattle.iox2_domain.specs.Kept.{Kept, state_of, entries_of, stands_between, box_if_any}
+use Rattle.iox2_domain.specs.Fields.{Fields, kept_of, numbers_of, between_of}
+use Rattle.iox2_store.specs.Stored.{IsHeldMessage, In_history, In_mailbox, In_blocked_send}
+use Rattle.iox2_domain.specs.Shows.{Shows, KeepsEntries}
+use Rattle.iox2_domain.proofs.lemmas.containers.LookUps.{look_up-map}
+
+module _ {T U : Type 0} (f : Fields T U) where
+  -- the mailboxes are those of the connections, at the numbers in the books
+  pub mailboxes-are : (p q : ℕ) → (state_of (kept_of f)).mailboxes p q ≡ mailboxes_of (numbers_of f.books) f.connections p q
+  mailboxes-are p q =
+      ap box_if_any (look_up-map (stands_between p q) (between_of f.books f.connections) f.connections.slots)
+      ∙ by (look_up (is_between p q) f.connections.slots) refl
+    where
+      both : (a b : Bool) → (a && b) ≡ true → a ≡ true
+      both true b e = refl
+      both false b e = absurd cc
+
+      by : (o : Option Link) → look_up (is_between p q) f.connections.slots ≡ o
+          → box_if_any (option_map (between_of f.books f.connections) o) ≡ mailbox_if_any (numbers_of f.books p) o
+      by None e = refl
+      by (Some c) e =
+          let there = look_up-there (is_between p q) f.connections.slots c e in
+          let here : c.home.publisher ≡ p = eqb-true c.home.publisher p (both _ _ there.2) in
+          ap (λ r. mailbox_if_any (numbers_of f.books r) (Some c)) here
+
+-- a publisher keeps its history and its blocked send
+pub record KeepsHeld (x y : Publisher) : Type 0 where
+  pub history : x.history ≡ y.history
+  pub blocked : x.blocked ≡ y.blocked
+
+module _ {T U : Type 0} where
+  -- who holds a message afterwards held it before
+  pub held-before : (s t : State T U) (p n : ℕ) → ((q : ℕ) → t.mailboxes p q ≡ s.mailboxes p q)
+      → ((y : Publisher) → t.publishers p ≡ Some y → (x : Publisher) × (s.publishers p ≡ Some x) × KeepsHeld x y)
+      → IsHeldMessage t p n → IsHeldMessage s p n
+  held-before s t p n boxes kept (In_history y at is) =
+      let was = kept y at in In_history was.0 was.1 (ap (λ ns. contains ns n) was.2.history ∙ is)
+  held-before s t p n boxes kept (In_mailbox q is) = In_mailbox q (ap (λ box. contains (numbers_in box) n) (sym (boxes q)) ∙ is)
+  held-before s t p n boxes kept (In_blocked_send y b at blocked is) =
+      let was = kept y at in In_blocked_send was.0 b was.1 (was.2.blocked ∙ blocked) is
+
+  -- a domain that shows a state and keeps no new message shows its new state afterwards, with the same messages
+  pub shows-next : (old new : Kept T U) (m : Messages T U) (s : State T U) → Shows old m s
+      → IsWellFormed (state_of new) → KeepsEntries new
+      → ((n : ℕ) (entry : Entry T U) → entries_of new n ≡ Some entry → entries_of old n ≡ Some entry)
+      → s.next_message ≤ (state_of new).next_message
+      → ((n : ℕ) (l : Loan T U) → (state_of new).loans n ≡ Some l → m n ≡ None)
+      → Shows new m (state_of new)
+  shows-next old new m s shown well complete kept rises unsent = record {
+    state = refl;
+    well_formed = well;
+    entries = λ n entry at. shown.entries n entry (kept n entry at);
+    complete = complete;
+    below = λ n le. shown.below n (omega arith);
+    unsent = unsent;
+  }

@@ -1,0 +1,12 @@
+-- A loan is granted, found, read and written.
+pub mod Taken
+pub mod PublisherChanges
+pub mod Granted
+pub mod GrantedAgrees
+pub mod LendingSteps
+pub mod Lent
+pub mod Loaned
+pub mod LoanSlots
+pub mod LoansOut
+pub mod LoanCalls
+pub mod WrittenLoan

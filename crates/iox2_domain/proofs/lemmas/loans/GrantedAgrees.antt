@@ -1,0 +1,313 @@
+-- A domain's fields agree with one loan more.
+use Rattle.std.proofs.Common.{◌≡◌, ℕ, ◌+◌, ◌*◌, ◌<◌, ◌≤◌, le_refl, List, [], ◌∷◌, ◌++◌, length, Bool, true, false, cond, eqb, get_or, refl, ap, sym, subst, ◌∙◌, inl, inr, arith}
+use Rattle.std.proofs.lemmas.Bool.{cases_eq, eqb-true}
+use Rattle.std.proofs.lemmas.List.{length-map, length-set, length-replicate}
+use Rattle.std.specs.declared.option.Option.{Option}
+use Rattle.std.specs.declared.option.Option.TheVariants.{None, Some}
+use Rattle.std.specs.Option.{option_map_or}
+use Rattle.std.specs.Prelude.{IsSomeAnd}
+use Rattle.std.specs.List.{All, sum_by}
+use Rattle.slab.specs.Slab.{get}
+use Rattle.iox2_store.specs.machine.Limits.{last_number}
+use Rattle.iox2_store.specs.machine.Records.{Publisher}
+use Rattle.iox2_store.specs.machine.Numbers.{put_at, size}
+use Rattle.iox2_store.specs.machine.State.{State, held}
+use Rattle.iox2_store.specs.SlotBook.{Book, holders_at}
+use Rattle.iox2_store.specs.SlotContents.{ContentState, unwritten_content}
+use Rattle.iox2_store.specs.machine.Loans.{loan_granted}
+use Rattle.iox2_store.specs.machine.WellFormed.{IsWellFormed}
+use Rattle.iox2_store.specs.Stored.{IsHeldMessage}
+use Rattle.iox2_ends.specs.LookUp.{look_up}
+use Rattle.iox2_ends.specs.Counters.{times, stands}
+use Rattle.iox2_ends.specs.Receivers.{HasReclaimed}
+use Rattle.iox2_ends.proofs.Counts.{times_push, one_if, one_if_same, one_if_other}
+use Rattle.iox2_laws.proofs.LoanLaws.{grant_loan_keeps}
+use Rattle.iox2_domain.specs.Ports.{PublisherFields}
+use Rattle.iox2_domain.specs.Kept.{KeptMessage, Lent_message, state_of}
+use Rattle.iox2_store.specs.machine.Environments.{ample_memory}
+use Rattle.iox2_domain.specs.Fields.{Fields, kept_of, publisher_of, numbers_of, is_book_of}
+use Rattle.iox2_domain.specs.Invariant.{IsDomain, IsLinked, IsBook, HasBook, HasBooks, IsCounted, HasShape, HasShapes, HasOnlyOpenPorts, is_publisher, own_holders, holders_of, is_loan_in}
+use Rattle.iox2_domain.specs.Reaches.{Reaches}
+use Rattle.iox2_domain.specs.Shows.{KeepsEntries}
+use Rattle.iox2_domain.proofs.lemmas.fields.ConnectionEnds.{publisher-stands}
+use Rattle.iox2_domain.proofs.lemmas.slots.SlotsInUse.{its_book, slot-counted, size-free}
+use Rattle.iox2_domain.proofs.lemmas.slots.Messages.{lies_at, message_at-book, message_at-slot}
+use Rattle.iox2_domain.proofs.lemmas.loans.PublisherChanges.{KeepsSettings, changed-ids_apart, look_up-publisher, changed-linked_same, changed-books, changed-room, changed-plain, changed-open_ports, changed-entries}
+use Rattle.iox2_domain.proofs.lemmas.loans.Taken.{CanTakeSlot, with_taken, taken_book, taken_books, begun, begun_contents, lent, next_header, taken-stands, others-stand, begun-has, others-have, taken-one_each, taken-found, taken-holders, taken-numbered, taken-entries, lent-lies, others-lie, length-with_changed, room-with_changed}
+use Rattle.iox2_domain.proofs.lemmas.loans.Granted.{lender, with_granted, granted-is, taken-is, lends-granted}
+use Rattle.iox2_domain.proofs.lemmas.fields.Views.{held-before}
+
+module _ {T U : Type 0} (f : Fields T U) (sound : IsDomain f) (i : ℕ) (x : PublisherFields) (at : get_or f.publishers i None ≡ Some x)
+    (slot : ℕ) (can : CanTakeSlot f x slot) (user_header : U) where
+  abbrev state : State T U
+  state = state_of (kept_of f)
+
+  abbrev machine : Publisher
+  machine = (publisher_of f.books f.connections x).port
+
+  -- the fields with the slot taken
+  abbrev mid : Fields T U
+  mid = with_taken f sound x slot can user_header
+
+  abbrev new_book : Book
+  new_book = taken_book f sound x slot can user_header
+
+  abbrev new_contents : List (ContentState T U)
+  new_contents = begun f sound x slot can user_header
+
+  abbrev new_lender : PublisherFields
+  new_lender = lender f sound i x at slot can user_header
+
+  abbrev pub granted : Fields T U
+  granted = with_granted f sound i x at slot can user_header
+
+  keeps : KeepsSettings x new_lender
+  keeps = record {
+    id = refl;
+    book = refl;
+    max_loaned_samples = refl;
+    slots = refl;
+    strategy = refl;
+    allocation = refl;
+    initial_max_slice_len = refl;
+    loan_room = le_refl x.loan_room;
+    history_room = refl;
+    key_room = le_refl x.key_room;
+  }
+
+  -- ---- books
+
+  its_book-is : (z : PublisherFields) (b : Book) → z.book ≡ x.book → get f.books z.book ≡ Some b → b ≡ can.book
+  its_book-is z b same there = let found : Some b ≡ Some can.book = sym there ∙ ap (get f.books) same ∙ can.stands in cc
+
+  -- where something stood, something like it stands
+  book-still : (z : PublisherFields) → HasBook f z → HasBook mid z
+  book-still z has = elim (cases_eq z.book x.book) [
+    | inr away ↦ record {
+      book = has.book;
+      stands = others-stand f sound x slot can user_header z.book away ∙ has.stands;
+      is_its = has.is_its;
+      slots = has.slots;
+      no_more = has.no_more;
+      room = subst (λ (o : Option (List (ContentState T U))). IsSomeAnd o (All (λ content. z.initial_max_slice_len * (f.config).units_per_element ≤ content.room)))
+          (sym (others-have f sound x slot can user_header z.book away)) has.room;
+    }
+    | inl here ↦
+        let same : has.book ≡ can.book = its_book-is z has.book here has.stands in
+        let long : length new_book.holders ≡ length (has.book).holders =
+        length-set (can.book).holders slot 1 ∙ sym (ap (λ (b : Book). length b.holders) same) in
+        record {
+          book = new_book;
+          stands = ap (get (taken_books f sound x slot can user_header)) here ∙ taken-stands f sound x slot can user_header;
+          is_its = sym (ap (λ (b : Book). b.publisher) same) ∙ has.is_its;
+          slots = rw long has.slots;
+          no_more = rw long has.no_more;
+          room = subst (λ (o : Option (List (ContentState T U))). IsSomeAnd o (All (λ content. z.initial_max_slice_len * (f.config).units_per_element ≤ content.room)))
+              (sym (ap (λ (k : ℕ). get_or (begun_contents f sound x slot can user_header) k None) here ∙ begun-has f sound x slot can user_header))
+              (room-with_changed can.contents slot user_header (1 * (f.config).units_per_element) (z.initial_max_slice_len * (f.config).units_per_element)
+              (subst (λ (o : Option (List (ContentState T U))). IsSomeAnd o (All (λ content. z.initial_max_slice_len * (f.config).units_per_element ≤ content.room)))
+              (ap (λ (k : ℕ). get_or f.contents k None) here ∙ can.has) has.room));
+        }
+  ]
+
+  taken-books : HasBooks mid
+  taken-books = record {
+    one_each = taken-one_each f sound x slot can user_header;
+    books = λ key b there. elim (cases_eq key x.book) [
+      | inr away ↦ subst (λ (o : Option (List (ContentState T U))). IsBook b o) (sym (others-have f sound x slot can user_header key away))
+          (sound.books.books key b (sym (others-stand f sound x slot can user_header key away) ∙ there))
+      | inl here ↦
+          let found : Some new_book ≡ Some b = sym (taken-stands f sound x slot can user_header) ∙ sym (ap (get (taken_books f sound x slot can user_header)) here) ∙ there in
+          let is : new_book ≡ b = cc in
+          let has : get_or (begun_contents f sound x slot can user_header) key None ≡ Some new_contents =
+          ap (λ (k : ℕ). get_or (begun_contents f sound x slot can user_header) k None) here ∙ begun-has f sound x slot can user_header in
+          subst (λ (z : Book). IsBook z (get_or (begun_contents f sound x slot can user_header) key None)) is
+          (subst (λ (o : Option (List (ContentState T U))). IsBook new_book o) (sym has) new_is_book)
+    ];
+    publishers = λ k z there. book-still z (sound.books.publishers k z there);
+    no_others = λ key none. elim (cases_eq key x.book) [
+      | inr away ↦ others-have f sound x slot can user_header key away ∙ sound.books.no_others key (sym (others-stand f sound x slot can user_header key away) ∙ none)
+      | inl here ↦
+          let clash : Some new_book ≡ None = sym (taken-stands f sound x slot can user_header) ∙ sym (ap (get (taken_books f sound x slot can user_header)) here) ∙ none in
+          absurd cc
+    ];
+  } where
+    new_is_book : IsBook new_book (Some new_contents)
+    new_is_book = record {
+      aligned = record {
+        numbers = length-set (can.book).numbers slot f.next_message ∙ can.aligned.numbers ∙ sym (length-set (can.book).holders slot 1);
+        headers = length-set (can.book).headers slot (next_header f sound x slot can user_header) ∙ can.aligned.headers ∙ sym (length-set (can.book).holders slot 1);
+        marks = length-set (can.book).marks slot _ ∙ can.aligned.marks ∙ sym (length-set (can.book).holders slot 1);
+      };
+      shaped =
+          length-with_changed can.contents slot (unwritten_content user_header (1 * (f.config).units_per_element))
+          ∙ can.shaped ∙ sym (length-set (can.book).holders slot 1);
+    }
+
+  -- ---- counters
+
+  -- what the publisher itself has of the slot, or what is out of one that is gone, in these books
+  abbrev own : Option Book → (k : ℕ) → Option PublisherFields → ℕ
+  own o k holder =
+      option_map_or (λ (z : PublisherFields). times k z.loans + times k (z.history).items) holder
+      (option_map_or (λ b. cond (is_loan_in b k) 1 0) o 0)
+
+  granted-counted : IsCounted granted
+  granted-counted = record { at = λ p k. by p k (eqb x.id p) refl } where
+    holders_in : (k : ℕ) → Option Book → ℕ
+    holders_in k o = option_map_or (λ b. holders_at b k) o 0
+
+    found-book : (p : ℕ) (t : Bool) → eqb x.id p ≡ t
+        → look_up (is_book_of p) (taken_books f sound x slot can user_header).slots ≡ cond t (Some new_book) (look_up (is_book_of p) f.books.slots)
+    found-book p t e =
+        taken-found f sound x slot can user_header p
+        ∙ ap (λ (q : ℕ). cond (eqb q p) (Some new_book) (look_up (is_book_of p) f.books.slots)) can.its
+        ∙ ap (λ b. cond b (Some new_book) (look_up (is_book_of p) f.books.slots)) e
+
+    found-lender : (p : ℕ) (t : Bool) → eqb x.id p ≡ t
+        → look_up (is_publisher p) granted.publishers ≡ cond t (Some new_lender) (look_up (is_publisher p) f.publishers)
+    found-lender p t e =
+        look_up-publisher mid i x new_lender at refl sound.publisher_ids p
+        ∙ ap (λ b. cond b (Some new_lender) (look_up (is_publisher p) f.publishers)) e
+
+    counted-here : (k : ℕ) → holders_at new_book k ≡ times k (x.loans ++ slot ∷ []) + times k (x.history).items + sum_by (stands x.id k) f.connections.slots
+    counted-here k =
+        let same : (its_book f sound i x at).book ≡ can.book = its_book-is x (its_book f sound i x at).book refl (its_book f sound i x at).stands in
+        let before : holders_at can.book k ≡ times k x.loans + times k (x.history).items + sum_by (stands x.id k) f.connections.slots =
+        sym (ap (λ (b : Book). holders_at b k) same) ∙ slot-counted f sound i x at k in
+        elim (taken-holders f sound x slot can user_header k) [
+          | inl here ↦
+              let none : holders_at can.book k ≡ 0 = ap (λ (j : ℕ). holders_at can.book j) here.0 ∙ can.free in
+              let one : one_if k slot ≡ 1 = ap (λ (j : ℕ). one_if j slot) here.0 ∙ one_if_same slot in
+              omega (arith, here.1, none, before, one, times_push k x.loans slot)
+          | inr away ↦ omega (arith, away.1, before, one_if_other k slot away.0, times_push k x.loans slot)
+        ]
+
+    by : (p k : ℕ) (t : Bool) → eqb x.id p ≡ t
+        → holders_of (taken_books f sound x slot can user_header) p k ≡ own_holders granted p k + sum_by (stands p k) f.connections.slots
+    by p k true e =
+        let here : x.id ≡ p = eqb-true x.id p e in
+        ap (holders_in k) (found-book p true e)
+        ∙ counted-here k
+        ∙ ap (λ (q : ℕ). times k (x.loans ++ slot ∷ []) + times k (x.history).items + sum_by (stands q k) f.connections.slots) here
+        ∙ ap (λ n. n + sum_by (stands p k) f.connections.slots)
+        (sym (ap (own (look_up (is_book_of p) (taken_books f sound x slot can user_header).slots) k) (found-lender p true e)))
+    by p k false e =
+        ap (holders_in k) (found-book p false e)
+        ∙ sound.counted.at p k
+        ∙ ap (λ n. n + sum_by (stands p k) f.connections.slots)
+        (sym (ap (own (look_up (is_book_of p) (taken_books f sound x slot can user_header).slots) k) (found-lender p false e)
+        ∙ ap (λ o. own o k (look_up (is_publisher p) f.publishers)) (found-book p false e)))
+
+  -- ---- messages
+
+  granted-shapes : HasShapes granted
+  granted-shapes = record {
+    at = λ key k b m there lies.
+        let found : lies_at mid key k ≡ Some m = message_at-slot (begun_contents f sound x slot can user_header) (taken_books f sound x slot can user_header) key k b there ∙ lies in
+        elim (cases_eq key x.book) [
+          | inr away ↦ before key k m (λ here. away here.0) found
+          | inl here ↦ elim (cases_eq k slot) [
+            | inr away ↦ before key k m (λ same. away same.1) found
+            | inl same ↦
+                let new : Some (Lent_message f.next_message (lent f sound x slot can user_header)) ≡ Some m =
+                sym (lent-lies f sound x slot can user_header)
+                ∙ sym (ap (λ (j : ℕ). lies_at mid j slot) here)
+                ∙ sym (ap (λ (j : ℕ). lies_at mid key j) same) ∙ found in
+                let is : Lent_message f.next_message (lent f sound x slot can user_header) ≡ m = cc in
+                subst (HasShape f.config) is (record { length = length-replicate (1 * (f.config).units_per_element) None; single = λ e. refl })
+          ]
+        ];
+  } where
+    before : (key k : ℕ) (m : KeptMessage T U) → ((key ≡ x.book) × (k ≡ slot) → ⊥) → lies_at mid key k ≡ Some m → HasShape f.config m
+    before key k m away found =
+        let was = message_at-book f.contents f.books key k m (sym (others-lie f sound x slot can user_header key k away) ∙ found) in
+        sound.shapes.at key k was.0 m was.1 was.2
+
+  taken-keeps_entries : KeepsEntries (kept_of mid)
+  taken-keeps_entries p n there =
+      let held_then : IsHeldMessage state p n =
+      held-before state (record state { next_message = f.next_message + 1; loans = put_at state.loans f.next_message (Some (lent f sound x slot can user_header)) }) p n
+      (λ q. refl) (λ y here. (y, here, record { history = refl; blocked = refl }))
+      (subst (λ (s : State T U). IsHeldMessage s p n) (taken-is f sound i x at slot can user_header) there) in
+      let kept = sound.entries p n held_then in
+      (kept.0, taken-entries f sound x slot can user_header n ∙ kept.1, kept.2)
+
+  -- ---- the whole
+
+  module _ (reclaimed : HasReclaimed f.connections x.keys) (few : length x.loans < x.max_loaned_samples) (more : f.next_message < last_number) where
+    few_numbers : length machine.loans < machine.max_loaned_samples
+    few_numbers = let e = length-map x.loans (numbers_of f.books x.id) in omega arith
+
+    some_free : size (held state x.id machine) < x.slots
+    some_free =
+        let has = its_book f sound i x at in
+        let same : has.book ≡ can.book = its_book-is x has.book refl has.stands in
+        let low : slot < length (has.book).holders = rw same can.within in
+        let free : holders_at has.book slot ≡ 0 = rw same can.free in
+        let fewer = size-free f sound i x at reclaimed slot low free in
+        let long : length (has.book).holders ≡ x.slots = has.no_more (rw (sound.plain i x at).allocation refl) in
+        omega arith
+
+    granted-well_formed : IsWellFormed (loan_granted user_header state x.id machine 1 machine.segments)
+    granted-well_formed =
+        grant_loan_keeps ample_memory user_header false 1 state x.id (loan_granted user_header state x.id machine 1 machine.segments) None sound.well_formed
+        (lends-granted ample_memory user_header state x.id machine (publisher-stands f sound i x at) few_numbers (sound.plain i x at).allocation some_free more)
+
+    -- the invariant is kept
+    pub granted-agrees : IsDomain granted
+    granted-agrees = record {
+      publisher_ids = changed-ids_apart mid i x new_lender at refl sound.publisher_ids;
+      subscriber_ids = sound.subscriber_ids;
+      apart = sound.apart;
+      linked = changed-linked_same mid i x new_lender at refl linked keeps.key_room refl;
+      books = changed-books mid i x new_lender at refl taken-books keeps;
+      counted = granted-counted;
+      numbered = taken-numbered f sound x slot can user_header;
+      publisher_room = changed-room mid i x new_lender at refl sound.publisher_room keeps;
+      warning_room = sound.warning_room;
+      shapes = granted-shapes;
+      supported = sound.supported;
+      plain = changed-plain mid i x new_lender at refl sound.plain keeps;
+      open_ports = changed-open_ports mid i x new_lender at refl open_ports refl;
+      well_formed = rw (granted-is f sound i x at slot can user_header) granted-well_formed;
+      entries = changed-entries mid i x new_lender at refl sound.publisher_ids taken-keeps_entries refl;
+    } where
+      linked : IsLinked mid
+      linked = record {
+        senders = sound.linked.senders;
+        receivers = sound.linked.receivers;
+        expired = sound.linked.expired;
+        ends = sound.linked.ends;
+        receiver_places = sound.linked.receiver_places;
+        knows = sound.linked.knows;
+        knows_publishers = sound.linked.knows_publishers;
+        sender_rooms = sound.linked.sender_rooms;
+        receiver_rooms = sound.linked.receiver_rooms;
+        limits = sound.linked.limits;
+        returned = sound.linked.returned;
+      }
+
+      open_ports : HasOnlyOpenPorts mid
+      open_ports = record {
+        publishers = sound.open_ports.publishers;
+        subscribers = sound.open_ports.subscribers;
+        are_open = sound.open_ports.are_open;
+        senders = sound.open_ports.senders;
+        receivers = sound.open_ports.receivers;
+        books = λ key b there. elim (cases_eq key x.book) [
+          | inr away ↦ sound.open_ports.books key b (sym (others-stand f sound x slot can user_header key away) ∙ there)
+          | inl here ↦
+              let found : Some new_book ≡ Some b = sym (taken-stands f sound x slot can user_header) ∙ sym (ap (get (taken_books f sound x slot can user_header)) here) ∙ there in
+              let is : new_book ≡ b = cc in
+              (i, x, at, sym can.its ∙ ap (λ (z : Book). z.publisher) is, sym here)
+        ];
+      }
+
+    -- the loan's step
+    pub granted-reaches : Reaches f granted (loan_granted user_header state x.id machine 1 machine.segments)
+    granted-reaches = record {
+      agrees = granted-agrees;
+      state = granted-is f sound i x at slot can user_header;
+      entries = λ n entry kept. sym (taken-entries f sound x slot can user_header n) ∙ kept;
+    }

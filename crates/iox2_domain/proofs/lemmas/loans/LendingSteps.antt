@@ -1,0 +1,122 @@
+-- What the steps of a loan need and come to.
+use Rattle.std.proofs.Common.{◌≡◌, ℕ, ◌+◌, ◌*◌, ◌<◌, ◌≤◌, List, length, get_or, slice_set, refl, ap, sym, subst, ◌∙◌, arith}
+use Rattle.std.specs.declared.option.Option.{Option}
+use Rattle.std.specs.declared.option.Option.TheVariants.{None, Some}
+use Rattle.std.specs.Option.{option_map}
+use Rattle.std.specs.Prelude.{IsSomeAnd}
+use Rattle.std.specs.List.{All}
+use Rattle.circular_buffer.proofs.Places.{slice_get-some}
+use Rattle.std.proofs.lemmas.Option.{get_or_from_slice_get}
+use Rattle.slab.specs.Slab.{get, with_value}
+use Rattle.iox2_store.specs.SlotBook.{Book, TakesFreeSlot}
+use Rattle.iox2_store.specs.SlotContents.{ContentState, SomeAt}
+use Rattle.iox2_store.specs.declared.header.Header.{Header}
+use Rattle.iox2_ends.proofs.MailboxChanges.{within_if_some}
+use Rattle.iox2_domain.specs.Ports.{PublisherFields}
+use Rattle.iox2_domain.specs.Fields.{Fields}
+use Rattle.iox2_domain.specs.Invariant.{IsDomain, IsBook, HasBook}
+use Rattle.iox2_domain.specs.Lending.{header_for, with_taken_slot, lending, Starts, CanLend, IsNamed, Lends}
+use Rattle.iox2_domain.specs.declared.loan_slots.LoanAt.{LoanAt}
+use Rattle.iox2_domain.proofs.lemmas.slots.PublisherBooks.{read-there}
+
+module _ {T U : Type 0} (f : Fields T U) (sound : IsDomain f) (i : ℕ) (x : PublisherFields) (at : get_or f.publishers i None ≡ Some x) where
+  -- its book has contents
+  pub contents-of : (b : Book) → get f.books x.book ≡ Some b → (cs : List (ContentState T U)) × (get_or f.contents x.book None ≡ Some cs) × (length cs ≡ length b.holders)
+  contents-of b stands = by (get_or f.contents x.book None) refl (sound.books.books x.book b stands) where
+    by : (o : Option (List (ContentState T U))) → get_or f.contents x.book None ≡ o → IsBook b o
+        → (cs : List (ContentState T U)) × (get_or f.contents x.book None ≡ Some cs) × (length cs ≡ length b.holders)
+    by None e is = absurd is.shaped
+    by (Some cs) e is = (cs, e, is.shaped)
+
+  pub contents-within : x.book < length f.contents
+  contents-within =
+      let has : HasBook f x = sound.books.publishers i x at in
+      let found = contents-of has.book has.stands in
+      within_if_some f.contents x.book found.0 found.1
+
+  -- a single value fits each slot
+  pub single-fits : (b : Book) → get f.books x.book ≡ Some b → (slot : ℕ) → slot < length b.holders
+      → (o : Option (List (ContentState T U))) → o ≡ get_or f.contents x.book o
+      → IsSomeAnd o (λ cs. SomeAt cs slot (λ content. (f.config).units_per_element ≤ content.room))
+  single-fits b stands slot low o read =
+      let found = contents-of b stands in
+      let is : get_or f.contents x.book None ≡ o = read-there f.contents x.book found.0 o found.1 read in
+      let has : HasBook f x = sound.books.publishers i x at in
+      let some = slice_get-some found.0 slot (let e = found.2 in omega arith) in
+      let room : All (λ content. x.initial_max_slice_len * (f.config).units_per_element ≤ content.room) found.0 =
+      subst (λ (o : Option (List (ContentState T U))). IsSomeAnd o (All (λ content. x.initial_max_slice_len * (f.config).units_per_element ≤ content.room))) found.1 has.room in
+      let here : x.initial_max_slice_len * (f.config).units_per_element ≤ (get_or found.0 slot some.0).room = room slot some.0 (let e = found.2 in omega arith) in
+      let same : get_or found.0 slot some.0 ≡ some.0 = get_or_from_slice_get found.0 slot some.0 some.0 some.1 in
+      let enough : x.initial_max_slice_len * (f.config).units_per_element ≤ (some.0).room = subst (λ (c : ContentState T U). x.initial_max_slice_len * (f.config).units_per_element ≤ c.room) same here in
+      let single : 1 * (f.config).units_per_element ≤ (some.0).room = subst (λ (n : ℕ). n * (f.config).units_per_element ≤ (some.0).room) (sound.plain i x at).length enough in
+      let fits : (f.config).units_per_element ≤ (some.0).room = omega arith in
+      subst (λ (o : Option (List (ContentState T U))). IsSomeAnd o (λ cs. SomeAt cs slot (λ content. (f.config).units_per_element ≤ content.room))) (sym found.1 ∙ is)
+      (subst (λ (o : Option (ContentState T U)). IsSomeAnd o (λ content. (f.config).units_per_element ≤ content.room)) (sym some.1) fits)
+
+  -- some slot of its book is free
+  pub never-full : CanLend f i → (b : Book) → get f.books x.book ≡ Some b → All (λ n. 0 < n) b.holders → ⊥
+  never-full can b stands =
+      let found : Some can.publisher ≡ Some x = sym can.stands ∙ at in
+      let same : can.publisher ≡ x = cc in
+      let its : get f.books x.book ≡ Some can.book = ap (λ (z : PublisherFields). get f.books z.book) (sym same) ∙ can.its in
+      let book : Some can.book ≡ Some b = sym its ∙ stands in
+      let is : can.book ≡ b = cc in
+      subst (λ (c : Book). All (λ n. 0 < n) c.holders → ⊥) is can.some_free
+
+  -- it has room for a loan more
+  pub loan-fits : CanLend f i → length x.loans < x.loan_room
+  loan-fits can =
+      let found : Some can.publisher ≡ Some x = sym can.stands ∙ at in
+      let same : can.publisher ≡ x = cc in
+      let few : length x.loans < x.max_loaned_samples = subst (λ (z : PublisherFields). length z.loans < z.max_loaned_samples) same can.few in
+      let room = (sound.publisher_room i x at).loans in
+      omega arith
+
+  -- the steps together are a loan
+  pub lends-from : (is_default : U → Type 0) (b b' : Book) (slot : ℕ) (header : Header) → get f.books x.book ≡ Some b
+      → header ≡ header_for f.config x.id → TakesFreeSlot b b' slot f.next_message header
+      → (o started : Option (List (ContentState T U))) → o ≡ get_or f.contents x.book o → Starts is_default o started slot (f.config).units_per_element
+      → (y y' : Option PublisherFields) → y ≡ get_or f.publishers i y → y' ≡ option_map (lending slot) y
+      → Lends is_default f i x slot (record f {
+        next_message = f.next_message + 1;
+        books = with_value f.books x.book b';
+        contents = slice_set f.contents x.book started;
+        publishers = slice_set f.publishers i y';
+      })
+  lends-from is_default b b' slot header stands its takes o started read starts y y' read_y lent =
+      let found = contents-of b stands in
+      record {
+        book = b;
+        stood = stands;
+        within = takes.in_bounds;
+        free = takes.was_unused;
+        started = started;
+        starts = subst (λ (p : Option (List (ContentState T U))). Starts is_default p started slot (f.config).units_per_element)
+            (sym (read-there f.contents x.book found.0 o found.1 read)) starts;
+        lent = λ t. record f {
+          next_message = f.next_message + 1;
+          books = with_value f.books x.book (book t);
+          contents = slice_set f.contents x.book started;
+          publishers = slice_set f.publishers i (lender t);
+        };
+      }
+    where
+      book : b' ≡ with_taken_slot b slot f.next_message (header_for f.config x.id)
+      book = takes.taken ∙ ap (with_taken_slot b slot f.next_message) its
+
+      lender : y' ≡ Some (lending slot x)
+      lender = lent ∙ ap (option_map (lending slot)) (sym (read-there f.publishers i x y at read_y) ∙ at)
+
+-- the loan is the publisher's, seen from the fields before
+pub named-seen : {T U : Type 0} (f old : Fields T U) (i : ℕ) (x : PublisherFields) (loan : LoanAt) → f ≡ old → get_or f.publishers i None ≡ Some x
+    → IsNamed f x loan → IsSomeAnd (get_or old.publishers i None) (λ z. IsNamed old z loan)
+named-seen {T} {U} f old i x loan view at named =
+    subst (λ (g : Fields T U). IsSomeAnd (get_or g.publishers i None) (λ z. IsNamed g z loan)) view
+    (subst (λ (o : Option PublisherFields). IsSomeAnd o (λ z. IsNamed f z loan)) (sym at) named)
+
+-- seen from the fields before
+pub lends-seen : {T U : Type 0} (is_default : U → Type 0) (f old new : Fields T U) (i slot : ℕ) (x : PublisherFields) → f ≡ old → get_or f.publishers i None ≡ Some x
+    → Lends is_default f i x slot new → IsSomeAnd (get_or old.publishers i None) (λ z. Lends is_default old i z slot new)
+lends-seen {T} {U} is_default f old new i slot x view at lends =
+    subst (λ (g : Fields T U). IsSomeAnd (get_or g.publishers i None) (λ z. Lends is_default g i z slot new)) view
+    (subst (λ (o : Option PublisherFields). IsSomeAnd o (λ z. Lends is_default f i z slot new)) (sym at) lends)

@@ -1,0 +1,187 @@
+-- A loan of a single value, as the machine says it.
+use Rattle.std.proofs.Common.{◌≡◌, ℕ, ◌+◌, ◌*◌, ◌<◌, ◌≤◌, zero, suc, false, List, [], ◌∷◌, length, get_or, slice_set, refl, ap, sym, subst, ◌∙◌, arith}
+use Rattle.std.specs.declared.option.Option.{Option}
+use Rattle.std.specs.declared.option.Option.TheVariants.{None, Some}
+use Rattle.std.specs.Option.{MatchOption}
+use Rattle.std.specs.Prelude.{IsSomeAnd}
+use Rattle.std.specs.List.{All}
+use Rattle.std.proofs.lemmas.List.{length-map, get_or-set_same}
+use Rattle.slab.specs.Slab.{get, with_value}
+use Rattle.iox2_store.specs.machine.Limits.{last_number}
+use Rattle.iox2_store.specs.machine.Loans.{is_static, loan_granted, GrantLoan}
+use Rattle.iox2_store.specs.machine.Numbers.{size}
+use Rattle.iox2_store.specs.machine.Records.{Publisher}
+use Rattle.iox2_store.specs.SlotBook.{Book}
+use Rattle.iox2_store.specs.SlotContents.{ContentState, with_changed, unwritten_content}
+use Rattle.iox2_store.specs.machine.State.{State, held}
+use Rattle.iox2_store.specs.declared.errors.LoanError.{LoanError}
+use Rattle.iox2_store.specs.declared.errors.LoanError.TheVariants.{OutOfMemory, ExceedsMaxLoans, InternalFailure}
+use Rattle.iox2_ends.specs.Receivers.{HasReclaimed}
+use Rattle.iox2_ends.proofs.MailboxChanges.{within_if_some}
+use Rattle.iox2_store.specs.machine.Environments.{ample_memory}
+use Rattle.iox2_domain.specs.Ports.{PublisherFields}
+use Rattle.iox2_domain.specs.Kept.{Lent_message, state_of}
+use Rattle.iox2_domain.specs.Fields.{Fields, kept_of, publisher_of, numbers_of, contents_at}
+use Rattle.iox2_domain.specs.Invariant.{IsDomain}
+use Rattle.iox2_domain.specs.Lending.{with_taken_slot, header_for, lending, CanLend, LoanDecided, Lends}
+use Rattle.iox2_domain.specs.LoanSlots.{IsLoanSlot, LiesInSlot}
+use Rattle.iox2_domain.specs.Reaches.{Reaches}
+use Rattle.iox2_domain.proofs.lemmas.fields.ConnectionEnds.{publisher-stands}
+use Rattle.iox2_domain.proofs.lemmas.loans.LoanSlots.{lies-in-slot, loan-lent as lent-slot}
+use Rattle.iox2_domain.proofs.lemmas.slots.Messages.{message_in-parts, message_at-slot}
+use Rattle.iox2_domain.proofs.lemmas.slots.SlotsInUse.{its_book, size-full, size-free}
+use Rattle.iox2_domain.proofs.lemmas.loans.LendingSteps.{contents-of}
+use Rattle.iox2_domain.proofs.lemmas.slots.PublisherBooks.{book-own}
+use Rattle.iox2_domain.proofs.lemmas.fields.Parts.{parts_of}
+use Rattle.iox2_domain.proofs.lemmas.loans.Taken.{CanTakeSlot, taken_book, taken_books, begun_contents, lent, taken-stands, lent-lies}
+use Rattle.iox2_domain.proofs.lemmas.loans.Granted.{lender, with_granted, lends-limited, lends-full, lends-failed, lends-granted}
+use Rattle.iox2_domain.proofs.lemmas.loans.GrantedAgrees.{granted-reaches}
+
+-- where not each slot has a holder some slot is free
+some_slot : (hs : List ℕ) → (All (λ n. 0 < n) hs → ⊥) → (slot : ℕ) × (slot < length hs) × (get_or hs slot 0 ≡ 0)
+some_slot [] not_all = absurd (not_all (λ k d lt. absurd (omega arith)))
+some_slot (h ∷ hs) not_all = by h refl (λ held. some_slot hs (λ all. not_all (more held all))) where
+  more : 0 < h → All (λ n. 0 < n) hs → All (λ n. 0 < n) (h ∷ hs)
+  more held all zero d lt = held
+  more held all (suc k) d lt = all k d (omega arith)
+
+  by : (n : ℕ) → h ≡ n → (0 < h → (slot : ℕ) × (slot < length hs) × (get_or hs slot 0 ≡ 0)) → (slot : ℕ) × (slot < length (h ∷ hs)) × (get_or (h ∷ hs) slot 0 ≡ 0)
+  by zero e later = (zero, omega arith, e)
+  by (suc n) e later = let rest = later (omega arith) in (suc rest.0, omega (arith, rest.1), rest.2)
+
+module _ {T U : Type 0} (f : Fields T U) (sound : IsDomain f) (i : ℕ) (x : PublisherFields) (at : get_or f.publishers i None ≡ Some x) where
+  abbrev state : State T U
+  state = state_of (kept_of f)
+
+  abbrev machine : Publisher
+  machine = (publisher_of f.books f.connections x).port
+
+  here : state.publishers x.id ≡ Some machine
+  here = publisher-stands f sound i x at
+
+  as_many : length machine.loans ≡ length x.loans
+  as_many = length-map x.loans (numbers_of f.books x.id)
+
+  -- too many loans are out
+  pub limited : (user_header : U) → x.max_loaned_samples ≤ length x.loans → GrantLoan ample_memory user_header false 1 state x.id state (Some ExceedsMaxLoans)
+  limited user_header many = lends-limited ample_memory user_header state x.id machine here (let e = as_many in omega arith)
+
+  its-book : (b : Book) → get f.books x.book ≡ Some b → (its_book f sound i x at).book ≡ b
+  its-book b stands = let same : Some (its_book f sound i x at).book ≡ Some b = sym (its_book f sound i x at).stands ∙ stands in cc
+
+  -- the book has as many slots as the publisher
+  slots-are : (b : Book) → get f.books x.book ≡ Some b → length b.holders ≡ x.slots
+  slots-are b stands =
+      ap (λ (c : Book). length c.holders) (sym (its-book b stands))
+      ∙ (its_book f sound i x at).no_more (ap is_static (sound.plain i x at).allocation)
+
+  module _ (reclaimed : HasReclaimed f.connections x.keys) (few : length x.loans < x.max_loaned_samples) (b : Book) (stands : get f.books x.book ≡ Some b) where
+    few_numbers : length machine.loans < machine.max_loaned_samples
+    few_numbers = let e = as_many in omega arith
+
+    -- each slot has a holder
+    pub full : (user_header : U) → All (λ n. 0 < n) b.holders → GrantLoan ample_memory user_header false 1 state x.id state (Some OutOfMemory)
+    full user_header all =
+        lends-full ample_memory user_header state x.id machine here few_numbers (sound.plain i x at).allocation
+        (size-full f sound i x at reclaimed (subst (λ (c : Book). All (λ n. 0 < n) c.holders) (sym (its-book b stands)) all)
+        ∙ ap (λ (c : Book). length c.holders) (its-book b stands) ∙ slots-are b stands)
+
+    -- a slot that is free leaves room
+    some_room : (slot : ℕ) → slot < length b.holders → get_or b.holders slot 0 ≡ 0 → size (held state x.id machine) < x.slots
+    some_room slot low free =
+        let its = its-book b stands in
+        let fewer = size-free f sound i x at reclaimed slot (subst (λ (c : Book). slot < length c.holders) (sym its) low) (ap (λ (c : Book). get_or c.holders slot 0) its ∙ free) in
+        let same : length (its_book f sound i x at).book.holders ≡ length b.holders = ap (λ (c : Book). length c.holders) its in
+        let long = slots-are b stands in
+        omega arith
+
+    -- no number is left
+    pub failed : (user_header : U) → (All (λ n. 0 < n) b.holders → ⊥) → f.next_message ≡ last_number
+        → GrantLoan ample_memory user_header false 1 state x.id state (Some InternalFailure)
+    failed user_header not_all last =
+        let free = some_slot b.holders not_all in
+        lends-failed ample_memory user_header state x.id machine here few_numbers (sound.plain i x at).allocation (some_room free.0 free.1 free.2) last
+
+  -- ---- what is decided
+
+  -- what is decided of this publisher
+  abbrev Decided : Option LoanError → PublisherFields → Type 0
+  Decided decision y = MatchOption decision (CanLend f i) (λ e. (user_header : U) → GrantLoan ample_memory user_header false 1 state y.id state (Some e))
+
+  decided : (decision : Option LoanError) → Decided decision x → LoanDecided f i decision
+  decided decision h = subst (λ (o : Option PublisherFields). IsSomeAnd o (Decided decision)) (sym at) h
+
+  pub decided-limited : x.max_loaned_samples ≤ length x.loans → LoanDecided f i (Some ExceedsMaxLoans)
+  decided-limited many = decided (Some ExceedsMaxLoans) (λ user_header. limited user_header many)
+
+  module _ (reclaimed : HasReclaimed f.connections x.keys) (few : length x.loans < x.max_loaned_samples) (b : Book) (stands : get f.books x.book ≡ Some b) where
+    pub decided-full : All (λ n. 0 < n) b.holders → LoanDecided f i (Some OutOfMemory)
+    decided-full all = decided (Some OutOfMemory) (λ user_header. full reclaimed few b stands user_header all)
+
+    pub decided-failed : (All (λ n. 0 < n) b.holders → ⊥) → f.next_message ≡ last_number → LoanDecided f i (Some InternalFailure)
+    decided-failed not_all last = decided (Some InternalFailure) (λ user_header. failed reclaimed few b stands user_header not_all last)
+
+    pub decided-free : (All (λ n. 0 < n) b.holders → ⊥) → f.next_message < last_number → LoanDecided f i None
+    decided-free not_all more = decided None (record { publisher = x; book = b; stands = at; its = stands; few = few; some_free = not_all; more = more })
+
+  -- a slot is lent
+  module _ (reclaimed : HasReclaimed f.connections x.keys) (few : length x.loans < x.max_loaned_samples) (more : f.next_message < last_number)
+      (is_default : U → Type 0) (slot : ℕ) (new : Fields T U) (lends : Lends is_default f i x slot new) where
+    abbrev user_header : U
+    user_header = lends.starts.user_header
+
+    abbrev can : CanTakeSlot f x slot
+    can = let found = contents-of f sound i x at lends.book lends.stood in record {
+      book = lends.book;
+      contents = lends.starts.contents;
+      stands = lends.stood;
+      its = book-own f (parts_of f sound) i x at lends.book lends.stood;
+      has = lends.starts.had;
+      aligned = (sound.books.books x.book lends.book lends.stood).aligned;
+      shaped = let same : Some found.0 ≡ Some lends.starts.contents = sym found.1 ∙ lends.starts.had in
+          let is : found.0 ≡ lends.starts.contents = cc in
+          ap (length {A = ContentState T U}) (sym is) ∙ found.2;
+      within = lends.within;
+      free = lends.free;
+    }
+
+    new-is : new ≡ with_granted f sound i x at slot can user_header
+    new-is = lends.lent ∙ (λ t. record f {
+      next_message = f.next_message + 1;
+      books = with_value f.books x.book (with_taken_slot lends.book slot f.next_message (header_for f.config x.id));
+      contents = slice_set f.contents x.book (started t);
+      publishers = slice_set f.publishers i (Some (lending slot x));
+    })
+      where
+        one : (f.config).units_per_element ≡ 1 * (f.config).units_per_element
+        one = omega arith
+
+        started : lends.started ≡ Some (with_changed lends.starts.contents slot (unwritten_content user_header (1 * (f.config).units_per_element)))
+        started = lends.starts.started ∙ ap (λ n. Some (with_changed lends.starts.contents slot (unwritten_content user_header n))) one
+
+    pub lent-reaches : Reaches f new (loan_granted user_header state x.id machine 1 machine.segments)
+    lent-reaches = subst (λ (g : Fields T U). Reaches f g (loan_granted user_header state x.id machine 1 machine.segments)) (sym new-is)
+        (granted-reaches f sound i x at slot can user_header reclaimed few more)
+
+    pub lent-grants : GrantLoan ample_memory user_header false 1 state x.id (loan_granted user_header state x.id machine 1 machine.segments) None
+    lent-grants =
+        lends-granted ample_memory user_header state x.id machine here (few_numbers reclaimed few lends.book lends.stood) (sound.plain i x at).allocation
+        (some_room reclaimed few lends.book lends.stood slot lends.within lends.free) more
+
+    -- the loan lies in the slot
+    pub lent-in_slot : LiesInSlot new x.id f.next_message x.book slot
+    lent-in_slot = subst (λ (g : Fields T U). LiesInSlot g x.id f.next_message x.book slot) (sym new-is)
+        (lies-in-slot (with_granted f sound i x at slot can user_header) (granted-reaches f sound i x at slot can user_header reclaimed few more).agrees
+        i (lender f sound i x at slot can user_header) (taken_book f sound x slot can user_header) slot f.next_message
+        (get_or-set_same f.publishers i (Some (lender f sound i x at slot can user_header)) None (within_if_some f.publishers i x at))
+        (taken-stands f sound x slot can user_header) is-loan)
+      where
+        lies : List (ContentState T U)
+        lies = contents_at (begun_contents f sound x slot can user_header) x.book
+
+        is-loan : IsLoanSlot (taken_book f sound x slot can user_header) slot f.next_message
+        is-loan =
+            (lent-slot (taken_book f sound x slot can user_header) lies slot f.next_message (lent f sound x slot can user_header)
+            (message_in-parts (taken_book f sound x slot can user_header) lies slot (Lent_message f.next_message (lent f sound x slot can user_header))
+            (sym (message_at-slot (begun_contents f sound x slot can user_header) (taken_books f sound x slot can user_header) x.book slot
+            (taken_book f sound x slot can user_header) (taken-stands f sound x slot can user_header)) ∙ lent-lies f sound x slot can user_header))).0

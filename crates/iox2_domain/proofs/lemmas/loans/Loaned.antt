@@ -1,0 +1,112 @@
+-- A loan after the returned slots were reclaimed is a loan.
+use Rattle.std.proofs.Common.{◌≡◌, ◌<◌, ℕ, false, length, get_or, ap, sym, subst, ◌∙◌, Ok, Err}
+use Rattle.std.specs.declared.option.Option.{Option}
+use Rattle.std.specs.declared.option.Option.TheVariants.{None, Some}
+use Rattle.std.specs.Prelude.{IsSomeAnd}
+use Rattle.iox2_store.specs.machine.Loans.{loan_granted, GrantLoan}
+use Rattle.iox2_store.specs.machine.Records.{Publisher}
+use Rattle.iox2_store.specs.machine.State.{State}
+use Rattle.iox2_store.specs.declared.errors.LoanError.{LoanError}
+use Rattle.iox2_ends.specs.Receivers.{HasReclaimed}
+use Rattle.iox2_store.specs.machine.Environments.{ample_memory}
+use Rattle.iox2_domain.specs.Ports.{PublisherFields}
+use Rattle.iox2_domain.specs.Kept.{state_of}
+use Rattle.iox2_domain.specs.Fields.{Fields, kept_of, publisher_of}
+use Rattle.iox2_domain.specs.Invariant.{IsDomain}
+use Rattle.iox2_domain.specs.Lending.{CanLend, LoanDecided, IsNamed, Lends, LoanReaches}
+use Rattle.iox2_domain.specs.LoanSlots.{LiesInSlot}
+use Rattle.iox2_domain.specs.Reaches.{Reaches}
+use Rattle.iox2_domain.specs.declared.loan_slots.LoanAt.{LoanAt}
+use Rattle.iox2_domain.proofs.lemmas.fields.ConnectionEnds.{publisher-stands}
+use Rattle.iox2_domain.proofs.lemmas.fields.ReachesShows.{reaches-then}
+use Rattle.iox2_domain.proofs.lemmas.loans.Lent.{lent-reaches, lent-grants, lent-in_slot}
+
+module _ {T U : Type 0} (is_default : U → Type 0) (f mid : Fields T U) (sound : IsDomain f) (i : ℕ) (stands : (x : PublisherFields) × (get_or f.publishers i None ≡ Some x))
+    (reached : Reaches f mid (state_of (kept_of f))) (same : mid.publishers ≡ f.publishers) where
+  abbrev x : PublisherFields
+  x = stands.0
+
+  at_mid : get_or mid.publishers i None ≡ Some x
+  at_mid = ap (λ xs. get_or xs i None) same ∙ stands.1
+
+  -- the loan is refused
+  pub loan-refused : (e : LoanError) → LoanDecided mid i (Some e) → IsSomeAnd (get_or f.publishers i None) (λ z. LoanReaches {A = LoanAt} is_default f z (Err e) mid)
+  loan-refused e refused =
+      subst (λ (o : Option PublisherFields). IsSomeAnd o (λ z. LoanReaches {A = LoanAt} is_default f z (Err e) mid)) (sym stands.1)
+      (subst (λ (s : State T U). (user_header : U) → GrantLoan ample_memory user_header false 1 s x.id s (Some e)) reached.state here, reached)
+    where
+      here : (user_header : U) → GrantLoan ample_memory user_header false 1 (state_of (kept_of mid)) x.id (state_of (kept_of mid)) (Some e)
+      here = subst (λ (o : Option PublisherFields). IsSomeAnd o (λ z. (user_header : U) → GrantLoan ample_memory user_header false 1 (state_of (kept_of mid)) z.id (state_of (kept_of mid)) (Some e))) at_mid refused
+
+  -- a slot may be lent
+  pub may-lend : LoanDecided mid i None → CanLend mid i
+  may-lend free = subst (λ (o : Option PublisherFields). IsSomeAnd o (λ z. CanLend mid i)) at_mid free
+
+  -- a slot is lent
+  pub loan-lent : (reclaimed : (z : PublisherFields) → get_or f.publishers i None ≡ Some z → HasReclaimed mid.connections z.keys) → LoanDecided mid i None → (loan : LoanAt) (new : Fields T U)
+      → IsSomeAnd (get_or mid.publishers i None) (λ z. Lends is_default mid i z loan.slot new)
+      → IsSomeAnd (get_or f.publishers i None) (λ z. LoanReaches is_default f z (Ok loan) new)
+  loan-lent reclaimed free loan new lends =
+      subst (λ (o : Option PublisherFields). IsSomeAnd o (λ z. LoanReaches is_default f z (Ok loan) new)) (sym stands.1)
+      (its.starts.user_header, its.starts.default, both.0, reaches-then f mid new _ _ reached both.1)
+    where
+      its : Lends is_default mid i x loan.slot new
+      its = subst (λ (o : Option PublisherFields). IsSomeAnd o (λ z. Lends is_default mid i z loan.slot new)) at_mid lends
+
+      can : CanLend mid i
+      can = may-lend free
+
+      few : length x.loans < x.max_loaned_samples
+      few =
+          let found : Some can.publisher ≡ Some x = sym can.stands ∙ at_mid in
+          let is : can.publisher ≡ x = cc in
+          subst (λ (z : PublisherFields). length z.loans < z.max_loaned_samples) is can.few
+
+      machine-same : (publisher_of mid.books mid.connections x).port ≡ (publisher_of f.books f.connections x).port
+      machine-same =
+          let one : Some ((publisher_of mid.books mid.connections x).port) ≡ Some ((publisher_of f.books f.connections x).port) =
+          sym (publisher-stands mid reached.agrees i x at_mid) ∙ ap (λ (s : State T U). s.publishers x.id) reached.state ∙ publisher-stands f sound i x stands.1 in
+          cc
+
+      -- the machine's step, from a state and the publisher in it
+      Step : State T U → Publisher → Type 0
+      Step s y = GrantLoan ample_memory its.starts.user_header false 1 s x.id (loan_granted its.starts.user_header s x.id y 1 x.segments) None
+          × Reaches mid new (loan_granted its.starts.user_header s x.id y 1 x.segments)
+
+      both : Step (state_of (kept_of f)) ((publisher_of f.books f.connections x).port)
+      both = subst (λ (s : State T U). Step s ((publisher_of f.books f.connections x).port)) reached.state
+          (subst (Step (state_of (kept_of mid))) machine-same (
+            lent-grants mid reached.agrees i x at_mid (reclaimed x stands.1) few can.more is_default loan.slot new its,
+            lent-reaches mid reached.agrees i x at_mid (reclaimed x stands.1) few can.more is_default loan.slot new its,
+          ))
+
+  -- it is the publisher's loan, of the next message
+  pub loan-named : (loan : LoanAt) → IsSomeAnd (get_or mid.publishers i None) (λ z. IsNamed mid z loan) → IsSomeAnd (get_or f.publishers i None) (λ z. IsNamed f z loan)
+  loan-named loan named =
+      let its = subst (λ (o : Option PublisherFields). IsSomeAnd o (λ z. IsNamed mid z loan)) at_mid named in
+      subst (λ (o : Option PublisherFields). IsSomeAnd o (λ z. IsNamed f z loan)) (sym stands.1)
+      (record { publisher = its.publisher; number = its.number ∙ ap (λ (s : State T U). s.next_message) reached.state })
+
+  -- the loan lies in the slot that is lent
+  pub loan-lies : (reclaimed : (z : PublisherFields) → get_or f.publishers i None ≡ Some z → HasReclaimed mid.connections z.keys) → LoanDecided mid i None → (loan : LoanAt) (new : Fields T U)
+      → IsSomeAnd (get_or mid.publishers i None) (λ z. IsNamed mid z loan)
+      → IsSomeAnd (get_or mid.publishers i None) (λ z. Lends is_default mid i z loan.slot new)
+      → (key : ℕ) × LiesInSlot new loan.publisher loan.number key loan.slot
+  loan-lies reclaimed free loan new named lends =
+      let names = subst (λ (o : Option PublisherFields). IsSomeAnd o (λ z. IsNamed mid z loan)) at_mid named in (
+        x.book,
+        rw (names.publisher, names.number)
+            (lent-in_slot mid reached.agrees i x at_mid (reclaimed x stands.1) few can.more is_default loan.slot new its),
+      )
+    where
+      its : Lends is_default mid i x loan.slot new
+      its = subst (λ (o : Option PublisherFields). IsSomeAnd o (λ z. Lends is_default mid i z loan.slot new)) at_mid lends
+
+      can : CanLend mid i
+      can = may-lend free
+
+      few : length x.loans < x.max_loaned_samples
+      few =
+          let found : Some can.publisher ≡ Some x = sym can.stands ∙ at_mid in
+          let is : can.publisher ≡ x = cc in
+          subst (λ (z : PublisherFields). length z.loans < z.max_loaned_samples) is can.few

@@ -1,0 +1,5 @@
+-- Borrowed messages are found and read.
+pub mod SampleSlots
+pub mod BorrowedNumbers
+pub mod SampleEntries
+pub mod SampleReads

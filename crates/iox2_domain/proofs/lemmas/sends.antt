@@ -1,0 +1,7 @@
+-- A loan is sent, and its message is delivered.
+pub mod LoanAlone
+pub mod DeliverySteps
+pub mod SentSlots
+pub mod SendEnded
+pub mod Published
+pub mod SendSteps

@@ -1,0 +1,96 @@
+-- A publisher that discards what a full receiver doesn't take delivers a message.
+use Rattle.std.proofs.Common.{◌≡◌, ℕ, ◌+◌, ◌||◌, Bool, true, false, List, [], ◌∷◌, map, get_or, refl, ap, sym, subst, ◌∙◌}
+use Rattle.std.specs.declared.option.Option.{Option}
+use Rattle.std.specs.declared.option.Option.TheVariants.{None, Some}
+use Rattle.std.specs.declared.time.Duration.{Duration}
+use Rattle.std.specs.Option.{option_map}
+use Rattle.slab.specs.Slab.{Slab, get, with_value}
+use Rattle.iox2_store.specs.machine.Delivery.{PutResult, DeliveryEnd, Complete, Suspended, Put, PutAtEnd, Deliver, is_blocking, is_failed, accepted_count, no_time}
+use Rattle.iox2_store.specs.machine.Environments.{fixed_handlers}
+use Rattle.iox2_store.specs.Link.{Link}
+use Rattle.iox2_store.specs.machine.Mailbox.{Mailbox, has_room}
+use Rattle.iox2_store.specs.machine.Records.{Environment, BlockedSend}
+use Rattle.iox2_store.specs.SlotBook.{Book}
+use Rattle.iox2_store.specs.declared.backpressure.BackpressureStrategy.{BackpressureStrategy}
+use Rattle.iox2_store.specs.declared.backpressure.BackpressureStrategy.TheVariants.{DiscardData}
+use Rattle.iox2_store.specs.declared.service_config.ServiceConfig.{ServiceConfig}
+use Rattle.iox2_ends.specs.Counters.{with_counters}
+use Rattle.iox2_ends.specs.Mailboxes.{mailboxes_of, sender_ends}
+use Rattle.iox2_ends.specs.Receivers.{HasReclaimed, IsReadyToDeliver, buffers_of, has_id}
+use Rattle.iox2_ends.specs.Recounts.{Recounts}
+use Rattle.iox2_laws.proofs.Cases.{by_bool}
+use Rattle.iox2_domain.specs.Ports.{PublisherFields}
+use Rattle.iox2_domain.specs.Fields.{Fields}
+use Rattle.iox2_domain.specs.Invariant.{details_of, is_subscriber}
+use Rattle.iox2_domain.specs.Deliveries.{DeliversTo}
+use Rattle.iox2_domain.proofs.lemmas.containers.LookUps.{IsOnly-map}
+use Rattle.iox2_domain.proofs.lemmas.fields.Parts.{HasParts}
+use Rattle.iox2_domain.proofs.lemmas.slots.PublisherBooks.{sender-linked}
+
+module _ (e : Environment) (c : ServiceConfig) (p : ℕ) (buffers : ℕ → Option ℕ) (n : ℕ) where
+  put-goes : (q retries : ℕ) (elapsed : Duration) (buffer : Option ℕ) (box : Mailbox) (result : PutResult) (box' : Mailbox)
+      → Put e c p DiscardData None buffers n q retries elapsed buffer box result box' → is_blocking result ≡ false
+  put-goes q retries elapsed None box result box' h = ap is_blocking h.0
+  put-goes q retries elapsed (Some buffer) box result box' h =
+      by_bool (is_blocking result ≡ false) (has_room buffer box || c.enable_safe_overflow) _ _ h (λ _ k. ap is_blocking k.0) (λ _ k. ap is_blocking k.0)
+
+  put_at_end-goes : (retries : ℕ) (elapsed : Duration) (end : Option ℕ) (boxes : ℕ → Mailbox) (result : PutResult) (boxes' : ℕ → Mailbox)
+      → PutAtEnd e c p DiscardData None buffers n retries elapsed end boxes result boxes' → is_blocking result ≡ false
+  put_at_end-goes retries elapsed None boxes result boxes' h = ap is_blocking h.0
+  put_at_end-goes retries elapsed (Some q) boxes result boxes' h = put-goes q retries elapsed (buffers q) (boxes q) result h.0 h.1
+
+  -- the delivery reaches all receivers
+  pub delivery-completes : (retries : ℕ) (elapsed : Duration) (place : ℕ) (ends : List (Option ℕ)) (count : ℕ) (has_failed : Bool) (boxes : ℕ → Mailbox) (how : DeliveryEnd) (boxes' : ℕ → Mailbox)
+      → Deliver e c p DiscardData None buffers n retries elapsed place ends count has_failed boxes how boxes' → (took : ℕ) × (failed : Bool) × (how ≡ Complete took failed)
+  delivery-completes retries elapsed place [] count has_failed boxes how boxes' h = (count, has_failed, h.0)
+  delivery-completes retries elapsed place (end ∷ rest) count has_failed boxes how boxes' h =
+      let goes : is_blocking h.0 ≡ false = put_at_end-goes retries elapsed end boxes h.0 h.1 h.2 in
+      by_bool ((took : ℕ) × (failed : Bool) × (how ≡ Complete took failed)) (is_blocking h.0) _ _ h.3
+      (λ blocks _. absurd (let no : true ≡ false = sym blocks ∙ goes in cc))
+      (λ _ k. delivery-completes 0 no_time (place + 1) rest (count + accepted_count h.0) (has_failed || is_failed h.0) h.1 how boxes' k)
+
+-- such a delivery waits for nobody
+pub never-waits : (e : Environment) (c : ServiceConfig) (p : ℕ) (strategy : BackpressureStrategy) (buffers : ℕ → Option ℕ) (n : ℕ) (ends : List (Option ℕ)) (boxes : ℕ → Mailbox) (b : BlockedSend) (boxes' : ℕ → Mailbox)
+    → strategy ≡ DiscardData → Deliver e c p strategy None buffers n 0 no_time 0 ends 0 false boxes (Suspended b) boxes' → ⊥
+never-waits e c p strategy buffers n ends boxes b boxes' discards h =
+    let ended = delivery-completes e c p buffers n 0 no_time 0 ends 0 false boxes (Suspended b) boxes'
+    (subst (λ (s : BackpressureStrategy). Deliver e c p s None buffers n 0 no_time 0 ends 0 false boxes (Suspended b) boxes') discards h) in
+    differ ended.0 ended.1 ended.2
+  where
+    differ : (took : ℕ) (failed : Bool) → Suspended b ≡ Complete took failed → ⊥
+    differ took failed same = absurd cc
+
+module _ {T U : Type 0} (f : Fields T U) (parts : HasParts f) (i : ℕ) (x : PublisherFields) (stands : get_or f.publishers i None ≡ Some x) where
+  -- a publisher that reclaimed its slots may deliver
+  pub ready-to-deliver : HasReclaimed f.connections x.keys → IsReadyToDeliver x.id f.connections x.keys (map (option_map details_of) f.subscribers)
+  ready-to-deliver reclaimed = record {
+    linked = sender-linked f parts i x stands;
+    apart = parts.apart;
+    knows = parts.linked.knows;
+    one_id = λ q. IsOnly-map details_of (is_subscriber q) (has_id q) (λ y. refl) f.subscribers (parts.subscriber_ids q);
+    reclaimed = reclaimed;
+  }
+
+module _ {T U : Type 0} (before f : Fields T U) (same : f ≡ before) (i : ℕ) (y : PublisherFields) (stands : get_or f.publishers i None ≡ Some y) where
+  -- the delivery of the publisher that stands at the place
+  pub delivers-to : (b book : Book) → get f.books y.book ≡ Some b → (new : Slab Link) → book ≡ with_counters b book.holders → Recounts y.id b.holders f.connections book.holders new
+      → (slot count : ℕ)
+      → ((number : ℕ → ℕ → ℕ)
+      → Deliver fixed_handlers f.config y.id y.strategy None (buffers_of (map (option_map details_of) f.subscribers)) (number y.id slot)
+      0 no_time 0 (sender_ends f.connections y.keys) 0 false (mailboxes_of number f.connections y.id) (Complete count false) (mailboxes_of number new y.id))
+      → (x : PublisherFields) → get_or before.publishers i None ≡ Some x
+      → DeliversTo before x slot count (record f { connections = new; books = with_value f.books y.book book })
+  delivers-to b book at new is r slot count delivers x there =
+      subst (λ (h : Fields T U). DeliversTo h x slot count (record f { connections = new; books = with_value f.books y.book book })) same
+      (subst (λ (z : PublisherFields). DeliversTo f z slot count (record f { connections = new; books = with_value f.books y.book book })) it (record {
+        book = b;
+        stands = at;
+        holders = book.holders;
+        connections = new;
+        delivered = ap (λ (c : Book). record f { connections = new; books = with_value f.books y.book c }) is;
+        recounts = r;
+        delivers = delivers;
+      }))
+    where
+      it : y ≡ x
+      it = let both : Some y ≡ Some x = sym stands ∙ ap (λ (h : Fields T U). get_or h.publishers i None) same ∙ there in cc

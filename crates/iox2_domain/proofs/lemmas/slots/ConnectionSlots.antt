@@ -1,0 +1,82 @@
+-- The slots of a connection, in its publisher's book.
+use Rattle.std.proofs.Common.{◌≡◌, ℕ, ◌<◌, ap, ◌∙◌, arith, refl, Some, None, true, false, ◌||◌, eqb, List, [], ◌∷◌, ◌≢◌, zero, suc, map, get_or, Contains, length}
+use Rattle.std.proofs.lemmas.Bool.{eq-eqb, ne_eqb, false_from_ne_true, or_left, or_right}
+use Rattle.std.specs.Prelude.{slice_get, slice_index, IsSomeAnd}
+use Rattle.std.specs.Option.{option_map_or}
+use Rattle.slab.specs.Slab.{Slab, get}
+use Rattle.iox2_store.specs.Link.{Link}
+use Rattle.iox2_store.specs.machine.Numbers.{contains}
+use Rattle.iox2_store.specs.SlotBook.{Book, holders_at}
+use Rattle.iox2_ends.specs.Counters.{times, IsCovered}
+use Rattle.iox2_ends.specs.LookUp.{look_up}
+use Rattle.iox2_ends.proofs.Counts.{one_if_same, counter_if_stands}
+use Rattle.iox2_ends.proofs.LookUps.{look_up-found, look_up-nothing}
+use Rattle.iox2_ends.proofs.MailboxChanges.{within_if_some}
+use Rattle.iox2_ends.specs.Mailboxes.{is_between}
+use Rattle.iox2_ends.proofs.Releases.{contains-from, times-without_first}
+use Rattle.iox2_domain.specs.Fields.{Fields, is_book_of, numbers_of}
+use Rattle.iox2_domain.specs.Invariant.{IsDomain, holders_of}
+
+-- an element of a list stands there at least once
+pub times-some : (slot : ℕ) (slots : List ℕ) → Contains slots slot → 0 < times slot slots
+times-some slot slots has =
+    let less = times-without_first slot slot slots (contains-from slots slot has) in
+    omega (arith, less, one_if_same slot)
+
+module _ {T U : Type 0} (f : Fields T U) (sound : IsDomain f) (key book : ℕ) (c : Link) (b : Book) (at : get f.connections key ≡ Some c) (at_b : get f.books book ≡ Some b)
+    (its : b.publisher ≡ c.home.publisher) where
+  found-book : look_up (is_book_of c.home.publisher) f.books.slots ≡ Some b
+  found-book = look_up-found (is_book_of c.home.publisher) f.books.slots book b (sound.books.one_each c.home.publisher) at_b (eq-eqb b.publisher c.home.publisher its)
+
+  -- the book has the numbers of the connection's slots
+  pub book-numbers : (slot : ℕ) → numbers_of f.books c.home.publisher slot ≡ slice_index b.numbers slot
+  book-numbers slot = ap (λ o. option_map_or (λ (d : Book). slice_index d.numbers slot) o 0) found-book
+
+  book-covers : IsCovered c.home.publisher b.holders f.connections.slots
+  book-covers = record {
+    at = λ slot.
+        let counted = sound.counted.at c.home.publisher slot in
+        let here : holders_of f.books c.home.publisher slot ≡ holders_at b slot = ap (λ o. option_map_or (λ (d : Book). holders_at d slot) o 0) found-book in
+        omega (arith, counted, here);
+  }
+
+  -- a slot that waits is in use
+  pub waiting-in_use : (slot : ℕ) → Contains c.waiting slot → 0 < holders_at b slot
+  waiting-in_use slot has =
+      let some = times-some slot c.waiting has in
+      counter_if_stands c.home.publisher b.holders f.connections.slots key slot c book-covers at refl (omega (arith, some))
+
+  -- a slot that is borrowed is in use
+  pub borrowed-in_use : (slot : ℕ) → Contains c.borrowed slot → 0 < holders_at b slot
+  borrowed-in_use slot has =
+      let some = times-some slot c.borrowed has in
+      counter_if_stands c.home.publisher b.holders f.connections.slots key slot c book-covers at refl (omega (arith, some))
+
+-- where no key has a connection between the two, none is found
+pub between-nowhere : (p q : ℕ) (connections : Slab Link) → ((k : ℕ) → k < length connections.slots → IsSomeAnd (get connections k) (λ c. is_between p q c ≡ true) → ⊥)
+    → look_up (is_between p q) connections.slots ≡ None
+between-nowhere p q connections none =
+    look_up-nothing (is_between p q) connections.slots (λ i c at. false_from_ne_true (is_between p q c) (λ is.
+    none i (within_if_some connections.slots i c at) (rw at is)))
+
+-- what is got at an index
+pub index-got : (xs : List ℕ) (i x : ℕ) → slice_get xs i ≡ Some x → slice_index xs i ≡ x
+index-got [] i x e = absurd cc
+index-got (y ∷ xs) zero x e = cc
+index-got (y ∷ xs) (suc i) x e = index-got xs i x e
+
+-- a number is not among those of slots that all have others
+pub contains-none : (number : ℕ → ℕ) (slots : List ℕ) (n : ℕ) → ((slot : ℕ) → Contains slots slot → number slot ≢ n) → contains (map number slots) n ≡ false
+contains-none number [] n others = refl
+contains-none number (slot ∷ slots) n others =
+    ap (λ b. b || contains (map number slots) n) (ne_eqb (number slot) n (others slot (zero, omega arith, refl)))
+    ∙ contains-none number slots n (λ other has. others other (suc has.0, omega (arith, has.1), has.2))
+
+-- a number is among those of slots of which one has it
+pub contains-one : (number : ℕ → ℕ) (slots : List ℕ) (slot : ℕ) → Contains slots slot → contains (map number slots) (number slot) ≡ true
+contains-one number [] slot has = absurd (omega (arith, has.1))
+contains-one number (x ∷ xs) slot has = by has.0 has.1 has.2 (λ k lt at. contains-one number xs slot (k, lt, at)) where
+  by : (k : ℕ) → k < length (x ∷ xs) → get_or (x ∷ xs) k slot ≡ slot → ((i : ℕ) → i < length xs → get_or xs i slot ≡ slot → contains (map number xs) (number slot) ≡ true)
+      → contains (map number (x ∷ xs)) (number slot) ≡ true
+  by zero lt at later = or_left (eqb (number x) (number slot)) (contains (map number xs) (number slot)) (eq-eqb (number x) (number slot) (ap number at))
+  by (suc k) lt at later = or_right (eqb (number x) (number slot)) (contains (map number xs) (number slot)) (later k (omega arith) at)

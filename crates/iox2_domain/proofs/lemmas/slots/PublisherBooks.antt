@@ -1,0 +1,50 @@
+-- A publisher that stands somewhere, with its book and its connections.
+use Rattle.std.proofs.Common.{◌≡◌, ℕ, zero, suc, ◌<◌, List, [], ◌∷◌, length, get_or, refl, ap, sym, ◌∙◌, arith}
+use Rattle.std.proofs.lemmas.Bool.{eq-eqb}
+use Rattle.std.specs.declared.option.Option.{Option}
+use Rattle.std.specs.declared.option.Option.TheVariants.{None, Some}
+use Rattle.std.specs.Option.{option_map_or}
+use Rattle.slab.specs.Slab.{get, ContainsKey}
+use Rattle.iox2_store.specs.SlotBook.{Book, holders_at}
+use Rattle.iox2_ends.specs.Counters.{IsCovered}
+use Rattle.iox2_ends.specs.Homes.{IsSenderLinked}
+use Rattle.iox2_ends.proofs.LookUps.{look_up-found}
+use Rattle.iox2_ends.proofs.MailboxChanges.{within_if_some}
+use Rattle.iox2_domain.specs.Ports.{PublisherFields}
+use Rattle.iox2_domain.specs.Fields.{Fields, is_book_of}
+use Rattle.iox2_domain.specs.Invariant.{HasBook, holders_of}
+use Rattle.iox2_domain.proofs.lemmas.fields.Parts.{HasParts}
+
+module _ {T U : Type 0} (f : Fields T U) (parts : HasParts f) (i : ℕ) (x : PublisherFields) (stands : get_or f.publishers i None ≡ Some x) where
+  its_book : HasBook f x
+  its_book = parts.books.publishers i x stands
+
+  -- its book is there
+  pub book-there : ContainsKey f.books x.book
+  book-there = rw its_book.stands refl
+
+  -- what stands at its book's key is its own
+  pub book-own : (b : Book) → get f.books x.book ≡ Some b → b.publisher ≡ x.id
+  book-own b at = let same : Some b ≡ Some its_book.book = sym at ∙ its_book.stands in let is : b ≡ its_book.book = cc in ap (λ (c : Book). c.publisher) is ∙ its_book.is_its
+
+  -- its places lead to its connections
+  pub sender-linked : IsSenderLinked x.id f.connections x.keys
+  sender-linked = parts.linked.senders i x stands
+
+  -- its book counts each place where a slot of it stands
+  pub book-covers : (b : Book) → get f.books x.book ≡ Some b → IsCovered x.id b.holders f.connections.slots
+  book-covers b at = record {
+    at = λ slot.
+        let found : holders_of f.books x.id slot ≡ holders_at b slot =
+        ap (λ o. option_map_or (λ (c : Book). holders_at c slot) o 0)
+        (look_up-found (is_book_of x.id) f.books.slots x.book b (parts.books.one_each x.id) at (eq-eqb b.publisher x.id (book-own b at))) in
+        omega (arith, found, parts.counted.at x.id slot);
+  }
+
+-- what was read at a place is what stands there
+pub read-there : {A : Type 0} (xs : List (Option A)) (i : ℕ) (x : A) (o : Option A) → get_or xs i None ≡ Some x → o ≡ get_or xs i o → get_or xs i None ≡ o
+read-there {A} xs i x o at read = any xs i (within_if_some xs i x at) ∙ sym read where
+  any : (ys : List (Option A)) (k : ℕ) → k < length ys → get_or ys k None ≡ get_or ys k o
+  any [] k lt = absurd (omega arith)
+  any (y ∷ ys) zero lt = refl
+  any (y ∷ ys) (suc k) lt = any ys k (omega arith)

@@ -1,0 +1,77 @@
+-- The numbers of slots change where a slot isn't in use: publishers and mailboxes stay.
+use Rattle.std.proofs.Common.{◌≡◌, ℕ, zero, suc, ◌<◌, List, [], ◌∷◌, map, true, get_or, refl, ap, arith}
+use Rattle.std.specs.declared.option.Option.{Option}
+use Rattle.std.specs.declared.option.Option.TheVariants.{None, Some}
+use Rattle.std.specs.Option.{option_map}
+use Rattle.slab.specs.Slab.{Slab, get}
+use Rattle.iox2_store.specs.Link.{Link}
+use Rattle.iox2_store.specs.machine.Numbers.{contains}
+use Rattle.iox2_store.specs.SlotBook.{Book}
+use Rattle.iox2_store.specs.SlotContents.{ContentState}
+use Rattle.iox2_ends.specs.LookUp.{look_up}
+use Rattle.iox2_laws.proofs.NumberLemmas.{contains_first, contains_later}
+use Rattle.iox2_domain.specs.Ports.{PublisherFields}
+use Rattle.iox2_domain.specs.Kept.{state_of, port_named, ids, box_if_any, stands_between}
+use Rattle.iox2_domain.specs.Fields.{Fields, kept_of, publisher_of, between_of, numbers_of}
+use Rattle.iox2_domain.specs.Invariant.{IsDomain, holders_of}
+use Rattle.iox2_domain.proofs.lemmas.slots.SlotsInUse.{connected-in_use, loan-in_use, history-in_use, holders-are}
+use Rattle.iox2_domain.proofs.lemmas.slots.NumbersInUse.{times-there}
+
+-- two views that agree on each record give the same list
+pub map-alike : {A B : Type 0} (g h : A → B) (xs : List (Option A)) → ((i : ℕ) (x : A) → get_or xs i None ≡ Some x → g x ≡ h x) → map (option_map g) xs ≡ map (option_map h) xs
+map-alike g h [] alike = refl
+map-alike g h (None ∷ xs) alike = ap (λ ys. None ∷ ys) (map-alike g h xs (λ i x at. alike (suc i) x at))
+map-alike g h (Some x ∷ xs) alike = λ t. Some (alike zero x refl t) ∷ map-alike g h xs (λ i y at. alike (suc i) y at) t
+
+module _ {T U : Type 0} (f : Fields T U) (sound : IsDomain f) (new : Slab Book)
+    (keeps : (p slot : ℕ) → 0 < holders_of f.books p slot → numbers_of new p slot ≡ numbers_of f.books p slot) where
+  -- slots in use have their numbers
+  pub map-numbers : (p : ℕ) (xs : List ℕ) → ((slot : ℕ) → contains xs slot ≡ true → 0 < holders_of f.books p slot)
+      → map (numbers_of new p) xs ≡ map (numbers_of f.books p) xs
+  map-numbers p [] in_use = refl
+  map-numbers p (x ∷ xs) in_use = λ t. keeps p x (in_use x (contains_first x xs)) t ∷ map-numbers p xs (λ slot e. in_use slot (contains_later x slot xs e)) t
+
+  -- a publisher has the loans and the history that it had
+  publisher-same : (i : ℕ) (x : PublisherFields) → get_or f.publishers i None ≡ Some x → publisher_of new f.connections x ≡ publisher_of f.books f.connections x
+  publisher-same i x at = λ t. record (publisher_of f.books f.connections x) {
+    port = record ((publisher_of f.books f.connections x).port) { loans = loans t; history = history t };
+  }
+    where
+      loans : map (numbers_of new x.id) x.loans ≡ map (numbers_of f.books x.id) x.loans
+      loans = map-numbers x.id x.loans (λ slot e. rw (holders-are f sound i x at slot) (loan-in_use f sound i x at slot e))
+
+      history : map (numbers_of new x.id) (x.history).items ≡ map (numbers_of f.books x.id) (x.history).items
+      history = map-numbers x.id (x.history).items (λ slot e. rw (holders-are f sound i x at slot) (history-in_use f sound i x at slot e))
+
+  -- in a connection lies what lay there
+  between-same : (key : ℕ) (c : Link) → get f.connections key ≡ Some c → between_of new f.connections c ≡ between_of f.books f.connections c
+  between-same key c at = λ t. record (between_of f.books f.connections c) { box = record { waiting = waiting t; borrowed = borrowed t } } where
+    waiting : map (numbers_of new c.home.publisher) c.waiting ≡ map (numbers_of f.books c.home.publisher) c.waiting
+    waiting = map-numbers c.home.publisher c.waiting (λ slot e. connected-in_use f sound key slot c at (omega (arith, times-there slot c.waiting e)))
+
+    borrowed : map (numbers_of new c.home.publisher) c.borrowed ≡ map (numbers_of f.books c.home.publisher) c.borrowed
+    borrowed = map-numbers c.home.publisher c.borrowed (λ slot e. connected-in_use f sound key slot c at (omega (arith, times-there slot c.borrowed e)))
+
+  module _ (contents : List (Option (List (ContentState T U)))) (next : ℕ) where
+    -- the fields with these books
+    abbrev pub with_books : Fields T U
+    with_books = record f { next_message = next; books = new; contents = contents }
+
+    -- only the loans and the counter may be others
+    pub with_books-is : state_of (kept_of with_books) ≡ record (state_of (kept_of f)) {
+      next_message = next;
+      loans = (state_of (kept_of with_books)).loans;
+    }
+    with_books-is = λ t. record (state_of (kept_of f)) {
+      next_message = next;
+      loans = (state_of (kept_of with_books)).loans;
+      publishers = λ p. port_named p (publishers t);
+      mailboxes = λ p q. box_if_any (look_up (stands_between p q) (connections t));
+      publisher_places = ids (publishers t);
+    }
+      where
+        publishers : map (option_map (publisher_of new f.connections)) f.publishers ≡ map (option_map (publisher_of f.books f.connections)) f.publishers
+        publishers = map-alike (publisher_of new f.connections) (publisher_of f.books f.connections) f.publishers publisher-same
+
+        connections : map (option_map (between_of new f.connections)) f.connections.slots ≡ map (option_map (between_of f.books f.connections)) f.connections.slots
+        connections = map-alike (between_of new f.connections) (between_of f.books f.connections) f.connections.slots between-same

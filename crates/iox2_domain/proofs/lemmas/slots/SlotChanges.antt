@@ -1,0 +1,238 @@
+-- What lies in one slot changes: its mark and its content.
+use Rattle.std.proofs.Common.{◌≡◌, ◌≢◌, ℕ, ◌+◌, ◌*◌, ◌<◌, ◌≤◌, List, [], length, Bool, true, false, cond, eqb, get_or, slice_set, refl, ap, sym, subst, ◌∙◌, inl, inr}
+use Rattle.std.proofs.lemmas.Bool.{cases_eq, eq-eqb, eqb-true}
+use Rattle.std.proofs.lemmas.List.{get_or-set_same, get_or-set_other, length-set}
+use Rattle.std.proofs.lemmas.Option.{slice_get_within, get_or_from_slice_get}
+use Rattle.std.specs.Prelude.{nat_lt, slice_get, slice_index, IsSomeAnd}
+use Rattle.std.specs.declared.option.Option.{Option}
+use Rattle.std.specs.declared.option.Option.TheVariants.{None, Some}
+use Rattle.std.specs.Option.{option_map, option_map_or, option_and_then}
+use Rattle.std.specs.List.{All, sum_by}
+use Rattle.circular_buffer.proofs.Places.{slice_get-set_same, slice_get-set_other}
+use Rattle.slab.specs.Slab.{Slab, get, with_value}
+use Rattle.iox2_store.specs.SlotBook.{Book, holders_at}
+use Rattle.iox2_store.specs.SlotContents.{ContentState, with_changed}
+use Rattle.iox2_store.specs.declared.slots.mark.SlotMark.{SlotMark}
+use Rattle.iox2_ends.specs.LookUp.{look_up}
+use Rattle.iox2_ends.specs.Counters.{times, stands}
+use Rattle.iox2_ends.proofs.LookUps.{look_up-found}
+use Rattle.iox2_domain.specs.Ports.{PublisherFields}
+use Rattle.iox2_domain.specs.Kept.{KeptMessage, state_of, message_numbered}
+use Rattle.iox2_domain.specs.Fields.{Fields, kept_of, is_book_of, message_of, message_in, contents_at}
+use Rattle.iox2_domain.specs.Invariant.{IsDomain, IsBook, HasBooks, HasNumber, IsNumbered, IsCounted, is_publisher, holders_of, own_holders, is_loan_in}
+use Rattle.iox2_domain.proofs.lemmas.containers.SetRecords.{set-here, set-others}
+use Rattle.iox2_domain.proofs.lemmas.loans.Taken.{with_changed-here, with_changed-others, length-with_changed}
+use Rattle.iox2_domain.proofs.lemmas.slots.BookChanges.{KeepsSlots, with_book, book-here, book-others, book-was, other-book, book-state, books-changed, holders-here}
+use Rattle.iox2_domain.proofs.lemmas.slots.Messages.{LiesIn, ChangesSlot, lies_at, message_at-slot, message_in-parts, message_in-from, is_numbered-slot, message_numbered-others, message_numbered-found}
+
+-- what holds of each element holds still
+pub all-changed : {A : Type 0} (P : A → Type 0) (g : A → A) → ((x : A) → P x → P (g x)) → (xs : List A) (slot : ℕ) → All P xs → All P (with_changed xs slot g)
+all-changed {A} P g keeps xs slot all = by (slice_get xs slot) refl where
+  write : (x : A) → slice_get xs slot ≡ Some x → All P (slice_set xs slot (g x))
+  write x at k d lt = elim (cases_eq k slot) [
+    | inl here ↦
+        let low : slot < length xs = slice_get_within xs slot x at in
+        let is : get_or (slice_set xs slot (g x)) k d ≡ g x = ap (λ (j : ℕ). get_or (slice_set xs slot (g x)) j d) here ∙ get_or-set_same xs slot (g x) d low in
+        subst P (sym is) (keeps x (subst P (get_or_from_slice_get xs slot x d at) (all slot d low)))
+    | inr away ↦ subst P (sym (get_or-set_other xs slot k (g x) d away)) (all k d (subst (λ (n : ℕ). k < n) (length-set xs slot (g x)) lt))
+  ]
+
+  by : (o : Option A) → slice_get xs slot ≡ o → All P (option_map_or (λ x. slice_set xs slot (g x)) o xs)
+  by None at = all
+  by (Some x) at = write x at
+
+module _ {T U : Type 0} (f : Fields T U) (sound : IsDomain f) (key slot : ℕ) (b : Book) (at_b : get f.books key ≡ Some b)
+    (cs : List (ContentState T U)) (at_c : get_or f.contents key None ≡ Some cs) (mark : SlotMark) (g : ContentState T U → ContentState T U) where
+  -- the book with this mark at the slot
+  abbrev pub marked : Book
+  marked = record b { marks = slice_set b.marks slot mark }
+
+  -- its contents with the slot's changed
+  abbrev pub rewritten_contents : List (ContentState T U)
+  rewritten_contents = with_changed cs slot g
+
+  -- the fields with both
+  abbrev pub with_slot : Fields T U
+  with_slot = record f { books = with_value f.books key marked; contents = slice_set f.contents key (Some rewritten_contents) }
+
+  pub marked-keeps : KeepsSlots b marked
+  marked-keeps = record { publisher = refl; numbers = refl; slots = refl }
+
+  -- ---- books and contents
+
+  rewritten-here : get_or (slice_set f.contents key (Some rewritten_contents)) key None ≡ Some rewritten_contents
+  rewritten-here = set-here f.contents key cs rewritten_contents at_c
+
+  rewritten-others : (k : ℕ) → k ≢ key → get_or (slice_set f.contents key (Some rewritten_contents)) k None ≡ get_or f.contents k None
+  rewritten-others k away = set-others f.contents key cs rewritten_contents at_c k away
+
+  -- what holds of the contents holds still
+  still : (P : List (ContentState T U) → Type 0) → (P cs → P rewritten_contents) → (k : ℕ) → IsSomeAnd (get_or f.contents k None) P
+      → IsSomeAnd (get_or (slice_set f.contents key (Some rewritten_contents)) k None) P
+  still P keeps k has = elim (cases_eq k key) [
+    | inl here ↦
+        let old : P cs = subst (λ o. IsSomeAnd o P) (ap (λ (j : ℕ). get_or f.contents j None) here ∙ at_c) has in
+        subst (λ o. IsSomeAnd o P) (sym (ap (λ (j : ℕ). get_or (slice_set f.contents key (Some rewritten_contents)) j None) here ∙ rewritten-here)) (keeps old)
+    | inr away ↦ subst (λ o. IsSomeAnd o P) (sym (rewritten-others k away)) has
+  ]
+
+  -- each publisher has its book, where no slot loses room
+  pub slot-books : ((c : ContentState T U) → (g c).room ≡ c.room) → HasBooks with_slot
+  slot-books roomy = record {
+    one_each = base.one_each;
+    books = λ k e there. let is = base.books k e there in record {
+      aligned = is.aligned;
+      shaped = still (λ zs. length zs ≡ length e.holders) (λ long. length-with_changed cs slot g ∙ long) k is.shaped;
+    };
+    publishers = λ i x here. let has = base.publishers i x here in record {
+      book = has.book;
+      stands = has.stands;
+      is_its = has.is_its;
+      slots = has.slots;
+      no_more = has.no_more;
+      room = still (All (λ content. x.initial_max_slice_len * (f.config).units_per_element ≤ content.room))
+          (all-changed (λ content. x.initial_max_slice_len * (f.config).units_per_element ≤ content.room) g
+          (λ c enough. rw (roomy c) enough) cs slot) x.book has.room;
+    };
+    no_others = λ k none. elim (cases_eq k key) [
+      | inl here ↦ absurd (let no : None ≡ Some marked = sym none ∙ ap (get (with_value f.books key marked)) here ∙ book-here f key b marked at_b marked-keeps in cc)
+      | inr away ↦ rewritten-others k away ∙ base.no_others k none
+    ];
+  } where
+    old : IsBook b (get_or f.contents key None)
+    old = sound.books.books key b at_b
+
+    base : HasBooks (with_book f key marked)
+    base = books-changed f key b marked at_b marked-keeps sound.books (record {
+      numbers = old.aligned.numbers;
+      headers = old.aligned.headers;
+      marks = length-set b.marks slot mark ∙ old.aligned.marks;
+    })
+
+  -- ---- numbers and counters
+
+  number-was : (k s n : ℕ) → HasNumber (with_value f.books key marked) k s n → HasNumber f.books k s n
+  number-was k s n has = elim (book-was f key b marked at_b marked-keeps k has.book has.stands) [
+    | inl is ↦ record {
+      book = b;
+      stands = ap (get f.books) is.0 ∙ at_b;
+      in_use = subst (λ (e : Book). 0 < holders_at e s) is.1 has.in_use;
+      number = ap (λ (e : Book). slice_index e.numbers s) (sym is.1) ∙ has.number;
+    }
+    | inr away ↦ record { book = has.book; stands = away.1; in_use = has.in_use; number = has.number }
+  ]
+
+  -- numbers stay apart
+  pub slot-numbered : IsNumbered f.next_message (with_value f.books key marked)
+  slot-numbered = record {
+    one = λ k k' s s' n here there. sound.numbered.one k k' s s' n (number-was k s n here) (number-was k' s' n there);
+    below = λ k s n here. sound.numbered.below k s n (number-was k s n here);
+  }
+
+  -- the counters stay
+  pub slot-counted : IsCounted with_slot
+  slot-counted = record { at = λ p s. by p s (eqb b.publisher p) refl } where
+    books : Slab Book
+    books = with_value f.books key marked
+
+    holders_in : (s : ℕ) → Option Book → ℕ
+    holders_in s o = option_map_or (λ (e : Book). holders_at e s) o 0
+
+    own : (s : ℕ) → Option Book → Option PublisherFields → ℕ
+    own s o holder = option_map_or (λ (x : PublisherFields). times s x.loans + times s (x.history).items) holder (option_map_or (λ e. cond (is_loan_in e s) 1 0) o 0)
+
+    by : (p s : ℕ) (t : Bool) → eqb b.publisher p ≡ t → holders_of books p s ≡ own_holders with_slot p s + sum_by (stands p s) f.connections.slots
+    by p s true e =
+        let has = sound.open_ports.books key b at_b in
+        let owner : look_up (is_publisher p) f.publishers ≡ Some has.1 =
+        look_up-found (is_publisher p) f.publishers has.0 has.1 (sound.publisher_ids p) has.2 (ap (λ (q : ℕ). eqb q p) has.3 ∙ e) in
+        holders-here f key b marked at_b marked-keeps sound.books.one_each p s (eqb-true b.publisher p e)
+        ∙ sym (ap (holders_in s) (look_up-found (is_book_of p) f.books.slots key b (sound.books.one_each p) at_b e))
+        ∙ sound.counted.at p s
+        ∙ ap (λ n. n + sum_by (stands p s) f.connections.slots)
+        (ap (own s (look_up (is_book_of p) f.books.slots)) owner ∙ sym (ap (own s (look_up (is_book_of p) books.slots)) owner))
+    by p s false e =
+        let same : look_up (is_book_of p) books.slots ≡ look_up (is_book_of p) f.books.slots = other-book f key b marked at_b marked-keeps sound.books.one_each p e in
+        ap (holders_in s) same
+        ∙ sound.counted.at p s
+        ∙ ap (λ n. n + sum_by (stands p s) f.connections.slots) (sym (ap (λ o. own s o (look_up (is_publisher p) f.publishers)) same))
+
+  -- the machine knows of the slot by its loans alone
+  pub slot-state : state_of (kept_of with_slot) ≡ record (state_of (kept_of f)) { loans = (state_of (kept_of with_slot)).loans }
+  slot-state = λ i. record (book-state f key b marked at_b marked-keeps sound.books.one_each i) { loans = (state_of (kept_of with_slot)).loans }
+
+  -- ---- messages
+
+  abbrev contents_of : Option (List (ContentState T U)) → List (ContentState T U)
+  contents_of o = elim o [ None ↦ [] | Some zs ↦ zs ]
+
+  -- in the other slots lies what lay there
+  pub others-lie : (k s : ℕ) → ((k ≡ key) × (s ≡ slot) → ⊥) → lies_at with_slot k s ≡ lies_at f k s
+  others-lie k s away = elim (cases_eq k key) [
+    | inl here ↦ elim (cases_eq s slot) [
+      | inl same ↦ absurd (away (here, same))
+      | inr other ↦ ap (λ (j : ℕ). lies_at with_slot j s) here ∙ in_book other ∙ sym (ap (λ (j : ℕ). lies_at f j s) here)
+    ]
+    | inr other ↦ λ t. option_and_then (λ e. message_in e (contents_of (rewritten-others k other t)) s) (book-others f key b marked at_b marked-keeps k other t)
+  ]
+    where
+      in_slot : s ≢ slot → message_in marked rewritten_contents s ≡ message_in b cs s
+      in_slot other = λ t. cond (nat_lt 0 (holders_at b s)) (option_and_then (λ header. option_and_then (λ content.
+          option_map (message_of b.publisher (slice_index b.numbers s) header content) (slice_get-set_other b.marks slot s mark other t))
+          (with_changed-others cs slot g s other t)) (slice_get b.headers s)) None
+
+      in_book : s ≢ slot → lies_at with_slot key s ≡ lies_at f key s
+      in_book other =
+          ap (λ o. option_and_then (λ e. message_in e (contents_at (slice_set f.contents key (Some rewritten_contents)) key) s) o) (book-here f key b marked at_b marked-keeps)
+          ∙ ap (λ o. message_in marked (contents_of o) s) rewritten-here
+          ∙ in_slot other
+          ∙ sym (ap (λ o. message_in b (contents_of o) s) at_c)
+          ∙ sym (ap (λ o. option_and_then (λ e. message_in e (contents_at f.contents key) s) o) at_b)
+
+  -- what lay in the slot, part by part
+  slot-lay : (m : KeptMessage T U) → lies_at f key slot ≡ Some m → LiesIn b cs slot m
+  slot-lay m lies = message_in-parts b cs slot m (sym (ap (λ o. message_in b (contents_of o) slot) at_c) ∙ sym (message_at-slot f.contents f.books key slot b at_b) ∙ lies)
+
+  -- what lies in it now, part by part
+  slot-parts : (m : KeptMessage T U) → lies_at with_slot key slot ≡ Some m → LiesIn marked rewritten_contents slot m
+  slot-parts m lies = message_in-parts marked rewritten_contents slot m (sym (ap (λ o. message_in marked (contents_of o) slot) rewritten-here)
+      ∙ sym (message_at-slot (slice_set f.contents key (Some rewritten_contents)) (with_value f.books key marked) key slot marked (book-here f key b marked at_b marked-keeps)) ∙ lies)
+
+  -- the message with the new mark and content
+  abbrev pub renewed : (m : KeptMessage T U) → LiesIn b cs slot m → KeptMessage T U
+  renewed m lies = message_of b.publisher (slice_index b.numbers slot) lies.header (g lies.content) mark
+
+  -- it lies in the slot
+  pub slot-lies : (m : KeptMessage T U) (lies : LiesIn b cs slot m) → lies_at with_slot key slot ≡ Some (renewed m lies)
+  slot-lies m lies =
+      message_at-slot (slice_set f.contents key (Some rewritten_contents)) (with_value f.books key marked) key slot marked (book-here f key b marked at_b marked-keeps)
+      ∙ ap (λ o. message_in marked (contents_of o) slot) rewritten-here
+      ∙ message_in-from marked rewritten_contents slot (renewed m lies) (record {
+        header = lies.header;
+        content = g lies.content;
+        mark = mark;
+        in_use = lies.in_use;
+        headers = lies.headers;
+        contains = with_changed-here cs slot g lies.content lies.contains (slice_get_within cs slot lies.content lies.contains);
+        marks = slice_get-set_same b.marks slot mark (slice_get_within b.marks slot lies.mark lies.marks);
+        is = refl;
+      })
+
+  -- only the slot changes, and only its number lies in it
+  changes : ChangesSlot f with_slot key slot (slice_index b.numbers slot)
+  changes = record {
+    others = others-lie;
+    before = λ m lies. is_numbered-slot b cs slot m (slice_index b.numbers slot) (slot-lay m lies) ∙ eq-eqb (slice_index b.numbers slot) (slice_index b.numbers slot) refl;
+    after = λ m lies. is_numbered-slot marked rewritten_contents slot m (slice_index b.numbers slot) (slot-parts m lies) ∙ eq-eqb (slice_index b.numbers slot) (slice_index b.numbers slot) refl;
+  }
+
+  -- all else is found as before
+  pub others-found : (n : ℕ) → n ≢ slice_index b.numbers slot → message_numbered n (kept_of with_slot).books ≡ message_numbered n (kept_of f).books
+  others-found n away = message_numbered-others f with_slot key slot (slice_index b.numbers slot) slot-numbered changes n away
+
+  -- under the slot's number the new message is found
+  pub slot-found : (m : KeptMessage T U) (lies : LiesIn b cs slot m) → message_numbered (slice_index b.numbers slot) (kept_of with_slot).books ≡ Some (renewed m lies)
+  slot-found m lies =
+      message_numbered-found with_slot.contents with_slot.books f.next_message slot-numbered (slice_index b.numbers slot) key slot (renewed m lies) (slot-lies m lies)
+      (is_numbered-slot marked rewritten_contents slot (renewed m lies) (slice_index b.numbers slot) (slot-parts (renewed m lies) (slot-lies m lies))
+      ∙ eq-eqb (slice_index b.numbers slot) (slice_index b.numbers slot) refl)

@@ -1,0 +1,232 @@
+-- The slots of a publisher that have a holder lie in its loans, its history and its mailboxes, and nowhere else.
+use Rattle.std.proofs.Common.{◌≡◌, ℕ, zero, suc, ◌+◌, ◌<◌, ◌≤◌, List, [], map, Bool, true, false, ◌&&◌, cond, length, get_or, refl, ap, sym, subst, ◌∙◌, inl, inr, ◌⊎◌, arith, eqb}
+use Rattle.std.proofs.lemmas.Bool.{eqb-true, eq-eqb, and_from}
+use Rattle.std.specs.declared.option.Option.{Option}
+use Rattle.std.specs.declared.option.Option.TheVariants.{None, Some}
+use Rattle.std.specs.Option.{option_map_or}
+use Rattle.std.specs.Prelude.{slice_index}
+use Rattle.std.specs.List.{All, sum_by, flat_map}
+use Rattle.std.proofs.lemmas.List.Sums.{get_or-le-sum_by}
+use Rattle.slab.specs.Slab.{get}
+use Rattle.iox2_store.specs.Link.{Link}
+use Rattle.iox2_store.specs.machine.Mailbox.{numbers_in, Mailbox}
+use Rattle.iox2_store.specs.machine.Numbers.{contains, size}
+use Rattle.iox2_store.specs.machine.Places.{occupants}
+use Rattle.iox2_store.specs.machine.Records.{Publisher}
+use Rattle.iox2_store.specs.machine.State.{State, held}
+use Rattle.iox2_store.specs.SlotBook.{Book, holders_at}
+use Rattle.iox2_ends.specs.Counters.{times, stands, stands_in}
+use Rattle.iox2_ends.specs.LookUp.{look_up}
+use Rattle.iox2_ends.specs.Mailboxes.{is_between, mailbox_of, mailbox_if_any}
+use Rattle.iox2_ends.specs.Receivers.{HasReclaimed}
+use Rattle.iox2_ends.proofs.Counts.{stands-own}
+use Rattle.iox2_ends.proofs.LookUps.{look_up-found, look_up-there}
+use Rattle.iox2_ends.proofs.MailboxChanges.{within_if_some}
+use Rattle.iox2_laws.proofs.Altered.{in_three, in_first, in_second, in_third}
+use Rattle.iox2_laws.proofs.MailboxLemmas.{has_numbers-contains}
+use Rattle.iox2_laws.proofs.NumberLemmas.{contains_in_append, contains_left, contains_right, contains_in_flat_map, contains-flat_map}
+use Rattle.iox2_laws.proofs.PlaceLemmas.{contains-occupants}
+use Rattle.iox2_laws.proofs.Sizes.{size_is}
+use Rattle.iox2_domain.specs.Ports.{PublisherFields}
+use Rattle.iox2_domain.specs.Kept.{state_of}
+use Rattle.iox2_domain.specs.Fields.{Fields, kept_of, publisher_of, is_book_of, numbers_of}
+use Rattle.iox2_domain.specs.Invariant.{IsDomain, HasBook, is_publisher, own_holders, holders_of, is_loan_in}
+use Rattle.iox2_domain.proofs.lemmas.fields.ConnectionEnds.{publisher-stands}
+use Rattle.iox2_domain.proofs.lemmas.fields.Views.{mailboxes-are}
+use Rattle.iox2_domain.proofs.lemmas.slots.NumbersInUse.{used, used-there, used-has, used-once, HasApart, length-used_free, length-used_all, times-there, times-stands, contains-map, contains-map_there, sum_by-positive}
+
+module _ {T U : Type 0} (f : Fields T U) (sound : IsDomain f) where
+  -- a slot that stands in a connection has a holder
+  pub connected-in_use : (key slot : ℕ) (c : Link) → get f.connections key ≡ Some c → 0 < stands_in slot c → 0 < holders_of f.books c.home.publisher slot
+  connected-in_use key slot c at some =
+      let part : stands c.home.publisher slot (Some c) ≤ sum_by (stands c.home.publisher slot) f.connections.slots =
+      rw at at (get_or-le-sum_by (stands c.home.publisher slot) f.connections.slots key None (within_if_some f.connections.slots key c at)) in
+      omega (arith, part, sound.counted.at c.home.publisher slot, stands-own c.home.publisher slot c refl)
+
+  module _ (i : ℕ) (x : PublisherFields) (at : get_or f.publishers i None ≡ Some x) where
+    -- the publisher's book
+    pub its_book : HasBook f x
+    its_book = sound.books.publishers i x at
+
+    -- it is found by the publisher's id
+    pub book-found : look_up (is_book_of x.id) f.books.slots ≡ Some its_book.book
+    book-found =
+        look_up-found (is_book_of x.id) f.books.slots x.book its_book.book (sound.books.one_each x.id) its_book.stands
+        (eq-eqb (its_book.book).publisher x.id its_book.is_its)
+
+    -- the number of a slot is the one in the book
+    pub numbers-are : (slot : ℕ) → numbers_of f.books x.id slot ≡ slice_index (its_book.book).numbers slot
+    numbers-are slot = ap (λ o. option_map_or (λ (b : Book). slice_index b.numbers slot) o 0) book-found
+
+    -- the holders of a slot are those in the book
+    pub holders-are : (slot : ℕ) → holders_of f.books x.id slot ≡ holders_at its_book.book slot
+    holders-are slot = ap (λ o. option_map_or (λ b. holders_at b slot) o 0) book-found
+
+    -- what the publisher itself has
+    pub own-are : (slot : ℕ) → own_holders f x.id slot ≡ times slot x.loans + times slot (x.history).items
+    own-are slot =
+        ap (λ o. option_map_or (λ (z : PublisherFields). times slot z.loans + times slot (z.history).items) o
+        (option_map_or (λ b. cond (is_loan_in b slot) 1 0) (look_up (is_book_of x.id) f.books.slots) 0))
+        (look_up-found (is_publisher x.id) f.publishers i x (sound.publisher_ids x.id) at (eq-eqb x.id x.id refl))
+
+    -- each slot has as many holders as there are places where it stands
+    pub slot-counted : (slot : ℕ) → holders_at its_book.book slot ≡ times slot x.loans + times slot (x.history).items + sum_by (stands x.id slot) f.connections.slots
+    slot-counted slot = sym (holders-are slot) ∙ sound.counted.at x.id slot ∙ ap (λ n. n + sum_by (stands x.id slot) f.connections.slots) (own-are slot)
+
+    -- a slot among the loans has a holder
+    pub loan-in_use : (slot : ℕ) → contains x.loans slot ≡ true → 0 < holders_at its_book.book slot
+    loan-in_use slot e = omega (arith, times-there slot x.loans e, slot-counted slot)
+
+    -- a slot in the history has a holder
+    pub history-in_use : (slot : ℕ) → contains (x.history).items slot ≡ true → 0 < holders_at its_book.book slot
+    history-in_use slot e = omega (arith, times-there slot (x.history).items e, slot-counted slot)
+
+    -- the publisher, as the machine sees it
+    abbrev pub machine : Publisher
+    machine = (publisher_of f.books f.connections x).port
+
+    abbrev state : State T U
+    state = state_of (kept_of f)
+
+    -- the number of each slot
+    abbrev number : ℕ → ℕ
+    number slot = numbers_of f.books x.id slot
+
+    -- it has a slot with that number and a holder
+    abbrev HasSlot : ℕ → Type 0
+    HasSlot n = (slot : ℕ) × (0 < holders_at its_book.book slot) × (number slot ≡ n)
+
+    -- a number in a mailbox is that of a slot with a holder
+    in_mailbox : (q n : ℕ) → contains (numbers_in (state.mailboxes x.id q)) n ≡ true → HasSlot n
+    in_mailbox q n e = by (look_up (is_between x.id q) f.connections.slots) refl (ap (λ (box : Mailbox). contains (numbers_in box) n) (sym (mailboxes-are f x.id q)) ∙ e) where
+      both : (a b : Bool) → (a && b) ≡ true → a ≡ true
+      both true b e = refl
+      both false b e = absurd cc
+
+      found : (c : Link) (slot : ℕ) → look_up (is_between x.id q) f.connections.slots ≡ Some c → 0 < stands_in slot c → number slot ≡ n → HasSlot n
+      found c slot here some same =
+          let there = look_up-there (is_between x.id q) f.connections.slots c here in
+          let its : c.home.publisher ≡ x.id = eqb-true c.home.publisher x.id (both (eqb c.home.publisher x.id) (eqb c.home.subscriber q) there.2) in
+          let held : 0 < holders_of f.books c.home.publisher slot = connected-in_use there.0 slot c there.1 some in
+          let held_its : 0 < holders_of f.books x.id slot = subst (λ (p : ℕ). 0 < holders_of f.books p slot) its held in
+          (slot, subst (λ (n : ℕ). 0 < n) (holders-are slot) held_its, same)
+
+      by : (o : Option Link) → look_up (is_between x.id q) f.connections.slots ≡ o → contains (numbers_in (mailbox_if_any number o)) n ≡ true → HasSlot n
+      by None here e = absurd cc
+      by (Some c) here e = elim (contains_in_append (map number c.waiting) (map number c.borrowed) n e) [
+        | inl waits ↦
+            let slot = contains-map_there number c.waiting n waits in
+            found c slot.0 here (omega (arith, times-there slot.0 c.waiting slot.1)) slot.2
+        | inr borrowed ↦
+            let slot = contains-map_there number c.borrowed n borrowed in
+            found c slot.0 here (omega (arith, times-there slot.0 c.borrowed slot.1)) slot.2
+      ]
+
+    -- what the publisher holds is the number of a slot with a holder
+    held-there : (n : ℕ) → contains (held state x.id machine) n ≡ true → HasSlot n
+    held-there n e = in_three (map number x.loans) (map number (x.history).items) (flat_map (λ q. numbers_in (state.mailboxes x.id q)) (occupants machine.ends)) n (HasSlot n) e
+        (λ in_loans. let slot = contains-map_there number x.loans n in_loans in (slot.0, loan-in_use slot.0 slot.1, slot.2))
+        (λ in_history. let slot = contains-map_there number (x.history).items n in_history in (slot.0, history-in_use slot.0 slot.1, slot.2))
+        (λ in_boxes.
+        let box = contains_in_flat_map (λ q. numbers_in (state.mailboxes x.id q)) (occupants machine.ends) n in_boxes in
+        in_mailbox box.0 n box.2)
+
+    -- the slots of the book have different numbers
+    numbers-apart : HasApart (its_book.book).holders number
+    numbers-apart j k held_j held_k same = (sound.numbered.one x.book x.book j k (number k)
+        (record { book = its_book.book; stands = its_book.stands; in_use = held_j; number = sym (numbers-are j) ∙ same })
+        (record { book = its_book.book; stands = its_book.stands; in_use = held_k; number = sym (numbers-are k) })).1
+
+    module _ (reclaimed : HasReclaimed f.connections x.keys) where
+      -- no slot of it that was given back isn't reclaimed
+      none_returned : (key : ℕ) (c : Link) → get f.connections key ≡ Some c → c.home.publisher ≡ x.id → c.returned ≡ []
+      none_returned key c at_c its = elim (sound.linked.returned key c at_c) [
+        | inl has ↦
+            let same_id : is_publisher x.id has.publisher ≡ true = eq-eqb (has.publisher).id x.id (has.is_its ∙ its) in
+            let here : c.home.publisher_place ≡ i =
+            (sound.publisher_ids x.id).one c.home.publisher_place i has.publisher x has.stands at same_id (eq-eqb x.id x.id refl) in
+            let stood : get_or f.publishers i None ≡ Some has.publisher = subst (λ (k : ℕ). get_or f.publishers k None ≡ Some has.publisher) here has.stands in
+            let same : Some has.publisher ≡ Some x = sym stood ∙ at in
+            let is : has.publisher ≡ x = cc in
+            reclaimed.at c.home.subscriber_place key c (ap (λ (z : PublisherFields). get_or z.keys c.home.subscriber_place None) (sym is) ∙ has.has) at_c
+        | inr none ↦ none
+      ]
+
+      -- a slot in one of its connections has its number in the mailbox to which an end of it leads
+      connection-in_use : (key slot : ℕ) (c : Link) → get f.connections key ≡ Some c → c.home.publisher ≡ x.id → 0 < stands_in slot c
+          → contains (flat_map (λ q. numbers_in (state.mailboxes x.id q)) (occupants machine.ends)) (number slot) ≡ true
+      connection-in_use key slot c at_c its some =
+          let none : times slot c.returned ≡ 0 = ap (times slot) (none_returned key c at_c its) in
+          let waits_or_not : (0 < times slot c.waiting) ⊎ (0 < times slot c.borrowed) = either (times slot c.waiting) (times slot c.borrowed) (omega (arith, some, none)) in
+          let here : look_up (is_between x.id c.home.subscriber) f.connections.slots ≡ Some c =
+          look_up-found (is_between x.id c.home.subscriber) f.connections.slots key c (sound.apart.one x.id c.home.subscriber) at_c
+          (and_from (eqb c.home.publisher x.id) (eqb c.home.subscriber c.home.subscriber) (eq-eqb c.home.publisher x.id its) (eq-eqb c.home.subscriber c.home.subscriber refl)) in
+          let box_is : state.mailboxes x.id c.home.subscriber ≡ mailbox_of number c = mailboxes-are f x.id c.home.subscriber ∙ ap (mailbox_if_any number) here in
+          let in_box : contains (numbers_in (mailbox_of number c)) (number slot) ≡ true = elim waits_or_not [
+            | inl waits ↦ contains_left (map number c.waiting) (map number c.borrowed) (number slot) (contains-map number c.waiting slot (times-stands slot c.waiting waits))
+            | inr borrowed ↦ contains_right (map number c.waiting) (map number c.borrowed) (number slot) (contains-map number c.borrowed slot (times-stands slot c.borrowed borrowed))
+          ] in
+          let in_its : contains (numbers_in (state.mailboxes x.id c.home.subscriber)) (number slot) ≡ true = ap (λ (box : Mailbox). contains (numbers_in box) (number slot)) box_is ∙ in_box in
+          let leads = (sound.well_formed.mailboxes x.id c.home.subscriber).sender_end machine (publisher-stands f sound i x at)
+          (has_numbers-contains (state.mailboxes x.id c.home.subscriber) (number slot) in_its) in
+          contains-flat_map (λ q. numbers_in (state.mailboxes x.id q)) (occupants machine.ends) c.home.subscriber (number slot)
+          (contains-occupants machine.ends c.home.subscriber leads) in_its
+        where
+          either : (a b : ℕ) → 0 < a + b → (0 < a) ⊎ (0 < b)
+          either zero b some = inr (omega arith)
+          either (suc a) b some = inl (omega arith)
+
+      -- a slot with a holder has its number in what the publisher holds
+      held-has : (slot : ℕ) → 0 < holders_at its_book.book slot → contains (held state x.id machine) (number slot) ≡ true
+      held-has slot some = by (times slot x.loans) refl (times slot (x.history).items) refl where
+        boxes : List ℕ
+        boxes = flat_map (λ q. numbers_in (state.mailboxes x.id q)) (occupants machine.ends)
+
+        by : (a : ℕ) → times slot x.loans ≡ a → (b : ℕ) → times slot (x.history).items ≡ b → contains (held state x.id machine) (number slot) ≡ true
+        by (suc a) is_a b is_b = in_first (map number x.loans) (map number (x.history).items) _ (number slot)
+            (contains-map number x.loans slot (times-stands slot x.loans (omega (arith, is_a))))
+        by zero is_a (suc b) is_b = in_second (map number x.loans) (map number (x.history).items) _ (number slot)
+            (contains-map number (x.history).items slot (times-stands slot (x.history).items (omega (arith, is_b))))
+        by zero is_a zero is_b =
+            let sum : 0 < sum_by (stands x.id slot) f.connections.slots = omega (arith, slot-counted slot, is_a, is_b, some) in
+            let found = sum_by-positive (stands x.id slot) f.connections.slots None sum in
+            in_third (map number x.loans) (map number (x.history).items) _ (number slot) (of_link found.0 (get_or f.connections.slots found.0 None) refl found.2)
+          where
+            own_link : (key : ℕ) (c : Link) → get f.connections key ≡ Some c → (b : Bool) → eqb c.home.publisher x.id ≡ b → 0 < cond b (stands_in slot c) 0
+                → contains (flat_map (λ q. numbers_in (state.mailboxes x.id q)) (occupants machine.ends)) (number slot) ≡ true
+            own_link key c at_c true its some_here = connection-in_use key slot c at_c (eqb-true c.home.publisher x.id its) some_here
+            own_link key c at_c false its some_here = absurd (omega arith)
+
+            of_link : (key : ℕ) (o : Option Link) → get f.connections key ≡ o → 0 < stands x.id slot o
+                → contains (flat_map (λ q. numbers_in (state.mailboxes x.id q)) (occupants machine.ends)) (number slot) ≡ true
+            of_link key None at_c some_here = absurd (omega arith)
+            of_link key (Some c) at_c some_here = own_link key c at_c (eqb c.home.publisher x.id) refl some_here
+
+      same-numbers : (n : ℕ) → contains (held state x.id machine) n ≡ contains (used (its_book.book).holders number) n
+      same-numbers n = both (contains (held state x.id machine) n) (contains (used (its_book.book).holders number) n) forth back where
+        both : (a b : Bool) → (a ≡ true → b ≡ true) → (b ≡ true → a ≡ true) → a ≡ b
+        both true b forth back = sym (forth refl)
+        both false true forth back = back refl
+        both false false forth back = refl
+
+        forth : contains (held state x.id machine) n ≡ true → contains (used (its_book.book).holders number) n ≡ true
+        forth e =
+            let slot = held-there n e in
+            ap (contains (used (its_book.book).holders number)) (sym slot.2) ∙ used-has (its_book.book).holders number slot.0 slot.1
+
+        back : contains (used (its_book.book).holders number) n ≡ true → contains (held state x.id machine) n ≡ true
+        back e =
+            let slot = used-there (its_book.book).holders number n e in
+            ap (contains (held state x.id machine)) (sym slot.2) ∙ held-has slot.0 slot.1
+
+      -- the publisher holds as many different messages and loans as slots have a holder
+      size-held : size (held state x.id machine) ≡ length (used (its_book.book).holders number)
+      size-held = size_is (held state x.id machine) (used (its_book.book).holders number) (used-once (its_book.book).holders number numbers-apart) same-numbers
+
+      -- where each slot of the book has a holder it holds as many as the book has slots
+      pub size-full : All (λ n. 0 < n) (its_book.book).holders → size (held state x.id machine) ≡ length (its_book.book).holders
+      size-full all = size-held ∙ length-used_all (its_book.book).holders number all
+
+      -- where some slot is free it holds fewer
+      pub size-free : (slot : ℕ) → slot < length (its_book.book).holders → holders_at its_book.book slot ≡ 0 → size (held state x.id machine) < length (its_book.book).holders
+      size-free slot lt free = let fewer = length-used_free (its_book.book).holders number slot lt free in omega (arith, size-held)

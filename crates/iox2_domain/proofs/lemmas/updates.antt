@@ -1,0 +1,21 @@
+-- A port goes over the places of the other side.
+pub mod Extensions
+pub mod MadeConnections
+pub mod MadeRoom
+pub mod Grown
+pub mod SenderChanges
+pub mod SenderAgrees
+pub mod SenderActions
+pub mod SenderSteps
+pub mod SenderCases
+pub mod SenderOutcomes
+pub mod SenderWalk
+pub mod SenderUpdates
+pub mod ReceiverChanges
+pub mod ReceiverAgrees
+pub mod ReceiverActions
+pub mod ReceiverSteps
+pub mod ReceiverCases
+pub mod ReceiverOutcomes
+pub mod ReceiverWalk
+pub mod ReceiverUpdates

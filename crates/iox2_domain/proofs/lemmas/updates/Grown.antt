@@ -1,0 +1,109 @@
+-- Two ports get more room for the keys of their connections, which no state shows.
+use Rattle.std.proofs.Common.{◌≡◌, ◌≤◌, ℕ, List, map, get_or, slice_set, refl, ap, sym, subst, ◌∙◌}
+use Rattle.std.proofs.lemmas.List.{map-set, set-set, set-get_or}
+use Rattle.std.specs.declared.option.Option.{Option}
+use Rattle.std.specs.declared.option.Option.TheVariants.{None, Some}
+use Rattle.std.specs.Option.{option_map}
+use Rattle.iox2_store.specs.machine.Environments.{fixed_handlers}
+use Rattle.iox2_store.specs.machine.Limits.{expired_limit}
+use Rattle.iox2_store.specs.machine.Places.{occupant}
+use Rattle.iox2_store.specs.machine.PublisherUpdate.{UpdateSenderPlace, sender_side, with_sender_side}
+use Rattle.iox2_store.specs.machine.SubscriberUpdate.{ConnectAtPlace, receiver_side, with_receiver_side}
+use Rattle.iox2_store.specs.machine.Records.{Publisher, Subscriber}
+use Rattle.iox2_store.specs.machine.State.{State, receiving_buffer, has_receiver_end, has_sender_end}
+use Rattle.iox2_store.specs.machine.WellFormed.{IsWellFormed}
+use Rattle.iox2_domain.specs.Ports.{PublisherFields, SubscriberFields}
+use Rattle.iox2_domain.specs.Kept.{state_of}
+use Rattle.iox2_domain.specs.Fields.{Fields, kept_of, publisher_of, subscriber_of}
+use Rattle.iox2_domain.specs.Invariant.{IsDomain}
+use Rattle.iox2_domain.specs.Updates.{with_sender_room, with_receiver_room, publisher_but_room, subscriber_but_room}
+use Rattle.iox2_domain.specs.Connects.{ConnectsSender, ConnectsReceiver}
+use Rattle.iox2_domain.proofs.lemmas.containers.LookUps.{map-at}
+use Rattle.iox2_domain.proofs.lemmas.updates.SenderChanges.{fits-grown}
+use Rattle.iox2_domain.proofs.lemmas.updates.SenderAgrees.{sender-agrees}
+use Rattle.iox2_domain.proofs.lemmas.updates.ReceiverChanges.{receiver_fits-grown}
+use Rattle.iox2_domain.proofs.lemmas.updates.ReceiverAgrees.{receiver-agrees}
+
+-- a record that changes in what a view doesn't show
+same-shown : {A B : Type 0} (g : A → B) (xs : List (Option A)) (i : ℕ) (x z : A) → get_or xs i None ≡ Some x → g z ≡ g x
+    → map (option_map g) (slice_set xs i (Some z)) ≡ map (option_map g) xs
+same-shown g xs i x z at same =
+    map-set (option_map g) xs i (Some z)
+    ∙ ap (slice_set (map (option_map g) xs) i) (ap Some same ∙ sym (map-at g xs i ∙ ap (option_map g) at))
+    ∙ set-get_or (map (option_map g) xs) i None
+
+module _ {T U : Type 0} (f : Fields T U) (i j : ℕ) (x : PublisherFields) (y : SubscriberFields) (n m : ℕ) where
+  -- the fields with that room
+  abbrev pub grown : Fields T U
+  grown = record f {
+    publishers = slice_set f.publishers i (Some (with_sender_room n x));
+    subscribers = slice_set f.subscribers j (Some (with_receiver_room m y));
+  }
+
+  module _ (sound : IsDomain f) (at_x : get_or f.publishers i None ≡ Some x) (at_y : get_or f.subscribers j None ≡ Some y) (more_x : x.key_room ≤ n) (more_y : y.key_room ≤ m) where
+    -- the publisher's room alone
+    abbrev sender : Fields T U
+    sender = record f { publishers = slice_set f.publishers i (Some (with_sender_room n x)) }
+
+    shown_publishers : map (option_map (publisher_of f.books f.connections)) (slice_set f.publishers i (Some (with_sender_room n x))) ≡ map (option_map (publisher_of f.books f.connections)) f.publishers
+    shown_publishers = same-shown (publisher_of f.books f.connections) f.publishers i x (with_sender_room n x) at_x refl
+
+    shown_subscribers : map (option_map (subscriber_of f.books f.connections)) (slice_set f.subscribers j (Some (with_receiver_room m y))) ≡ map (option_map (subscriber_of f.books f.connections)) f.subscribers
+    shown_subscribers = same-shown (subscriber_of f.books f.connections) f.subscribers j y (with_receiver_room m y) at_y refl
+
+    sender-state : state_of (kept_of sender) ≡ state_of (kept_of f)
+    sender-state = λ k. state_of (record (kept_of f) { publishers = shown_publishers k })
+
+    -- the state is the same
+    pub grown-state : state_of (kept_of grown) ≡ state_of (kept_of f)
+    grown-state = λ k. state_of (record (kept_of f) { publishers = shown_publishers k; subscribers = shown_subscribers k })
+
+    sender-sound : IsDomain sender
+    sender-sound =
+        sender-agrees f sound i x at_x x.keys n x.is_due f.connections f.warnings (fits-grown f sound i x at_x f.connections.capacity n more_x) sound.warning_room
+        (subst IsWellFormed (sym sender-state) sound.well_formed)
+
+    -- the fields agree
+    pub grown-sound : IsDomain grown
+    grown-sound =
+        receiver-agrees sender sender-sound j y at_y y.keys m y.is_due f.connections f.warnings (receiver_fits-grown sender sender-sound j y at_y f.connections.capacity m more_y) sound.warning_room
+        (subst IsWellFormed (sym grown-state) sound.well_formed)
+
+    abbrev P : Publisher
+    P = (publisher_of f.books f.connections x).port
+
+    abbrev Q : Subscriber
+    Q = (subscriber_of f.books f.connections y).port
+
+    -- what a publisher does from there it does from here
+    pub sender-from : (f' : Fields T U) → ConnectsSender grown i j (with_sender_room n x) f' → ConnectsSender f i j x f'
+    sender-from f' step = record {
+      agrees = step.agrees;
+      keys = step.keys;
+      key_room = step.key_room;
+      fields = step.fields
+          ∙ ap (λ (xs : List (Option PublisherFields)). record f { publishers = xs; subscribers = f'.subscribers; connections = f'.connections; warnings = f'.warnings })
+          (set-set f.publishers i (Some (with_sender_room n x)) (Some (record x { keys = step.keys; key_room = step.key_room })));
+      others = step.others ∙ same-shown subscriber_but_room f.subscribers j y (with_receiver_room m y) at_y refl;
+      side = step.side;
+      steps = subst (λ (s : State T U). UpdateSenderPlace fixed_handlers (f.config).service_id x.id P.degradation_handler P.history (receiving_buffer s) (has_receiver_end s x.id)
+          j (occupant s.subscriber_places j) (sender_side s x.id P) step.side None) grown-state step.steps;
+      state = step.state ∙ ap (λ (s : State T U). with_sender_side s x.id P step.side) grown-state;
+    }
+
+    -- and a subscriber
+    pub receiver-from : (f' : Fields T U) → ConnectsReceiver grown j i (with_receiver_room m y) f' → ConnectsReceiver f j i y f'
+    receiver-from f' step = record {
+      agrees = step.agrees;
+      keys = step.keys;
+      key_room = step.key_room;
+      fields = step.fields
+          ∙ ap (λ (ys : List (Option SubscriberFields)). record f { subscribers = ys; publishers = f'.publishers; connections = f'.connections; warnings = f'.warnings })
+          (set-set f.subscribers j (Some (with_receiver_room m y)) (Some (record y { keys = step.keys; key_room = step.key_room })));
+      others = step.others ∙ same-shown publisher_but_room f.publishers i x (with_sender_room n x) at_x refl;
+      side = step.side;
+      settled = step.settled;
+      steps = subst (λ (s : State T U). ConnectAtPlace fixed_handlers (f.config).service_id y.id Q.degradation_handler (expired_limit f.config) (λ p. has_sender_end s p y.id)
+          i (occupant s.publisher_places i) (receiver_side s y.id Q) step.side None) grown-state step.steps;
+      state = step.state ∙ ap (λ (s : State T U). with_receiver_side s y.id Q step.side) grown-state;
+    }

@@ -1,0 +1,134 @@
+-- What a subscriber's connection at a place comes to, by what its update found there.
+use Rattle.std.proofs.Common.{◌≡◌, ◌<◌, ◌≤◌, ℕ, true, false, length, get_or, is_some, ap, sym, subst, ◌∙◌, slice_set}
+use Rattle.std.specs.declared.option.Option.TheVariants.{None, Some}
+use Rattle.std.specs.Option.{option_map, option_map_or, option_and_then}
+use Rattle.circular_buffer.specs.Buffer.{Buffer, buffer}
+use Rattle.iox2_store.specs.machine.Limits.{warning_limit}
+use Rattle.iox2_store.specs.machine.State.{warned}
+use Rattle.iox2_store.specs.declared.connection.Home.{Home}
+use Rattle.iox2_store.specs.declared.warning.Warning.{Warning}
+use Rattle.iox2_store.specs.declared.warning.Warning.TheVariants.{ConnectionNotMade}
+use Rattle.iox2_domain.specs.Ports.{PublisherFields, SubscriberFields}
+use Rattle.iox2_domain.specs.Fields.{Fields}
+use Rattle.iox2_domain.specs.Invariant.{IsDomain}
+use Rattle.iox2_domain.specs.Updates.{changed_at, with_receiver_key, with_sender_room, with_receiver_room, sender_key, receiver_key, sender_room, receiver_room, home_of, MakesConnection, StandApart}
+use Rattle.iox2_domain.specs.Connects.{ConnectsReceiver, MakesRoom}
+use Rattle.iox2_domain.proofs.lemmas.containers.ChangedRecords.{changed-here}
+use Rattle.iox2_domain.proofs.lemmas.updates.Grown.{grown, grown-sound, receiver-from}
+use Rattle.iox2_domain.proofs.lemmas.fields.Standing.{receiver-room as joined-room}
+use Rattle.iox2_domain.proofs.lemmas.updates.ReceiverCases.{keeps-connection, joins-connection, makes-connection, misses-connection}
+use Rattle.iox2_domain.proofs.lemmas.updates.SenderOutcomes.{none_or_some, some_key}
+
+-- there is room for the key of a connection that the publisher has
+pub joins-room : {T U : Type 0} (f : Fields T U) → IsDomain f → (i j : ℕ) (y : SubscriberFields) → get_or f.subscribers j None ≡ Some y → i < length f.publishers
+    → (key : ℕ) → sender_key f.publishers i j ≡ Some key → i < y.key_room
+joins-room f sound i j y at_y low key at =
+    let there = sound.open_ports.publishers i low in
+    joined-room f sound i j there.0 y there.1 at_y key (sym (ap (option_and_then (λ (z : PublisherFields). get_or z.keys j None)) there.1) ∙ at)
+
+module _ {T U : Type 0} (f : Fields T U) (sound : IsDomain f) (i j : ℕ) (y : SubscriberFields) (at_y : get_or f.subscribers j None ≡ Some y) (due : y.is_due ≡ false) where
+  own-key : receiver_key f.subscribers j i ≡ get_or y.keys i None
+  own-key = ap (option_and_then (λ (z : SubscriberFields). get_or z.keys i None)) at_y
+
+  other-key : (x : PublisherFields) → get_or f.publishers i None ≡ Some x → sender_key f.publishers i j ≡ get_or x.keys j None
+  other-key x at_x = ap (option_and_then (λ (z : PublisherFields). get_or z.keys j None)) at_x
+
+  -- it has one
+  pub keeps-as : i < length f.publishers → is_some (receiver_key f.subscribers j i) ≡ true → ConnectsReceiver f j i y f
+  keeps-as low some =
+      let there = sound.open_ports.publishers i low in
+      let key = some_key (receiver_key f.subscribers j i) some in
+      keeps-connection f sound i j there.0 y there.1 at_y due key.0 (sym own-key ∙ key.1)
+
+  module _ (none : is_some (receiver_key f.subscribers j i) ≡ false) where
+    no_key : get_or y.keys i None ≡ None
+    no_key = sym own-key ∙ none_or_some (receiver_key f.subscribers j i) none
+
+    -- it joins the publisher's
+    pub joins-as : i < length f.publishers → (key : ℕ) → sender_key f.publishers i j ≡ Some key
+        → (f' : Fields T U) → f' ≡ record f { subscribers = changed_at (with_receiver_key i key) f.subscribers j } → ConnectsReceiver f j i y f'
+    joins-as low key at f' is =
+        let there = sound.open_ports.publishers i low in
+        subst (ConnectsReceiver f j i y) (sym (is ∙ ap (λ o. record f { subscribers = slice_set f.subscribers j (option_map (with_receiver_key i key) o) }) at_y))
+        (joins-connection f sound i j there.0 y there.1 at_y due no_key key (sym (other-key there.0 there.1) ∙ at))
+
+    -- no connection is there, and both ports get room for one
+    module _ (nobody : sender_key f.publishers i j ≡ None) (home : Home) (size : ℕ) (apart : StandApart f.publishers f.subscribers i j home size)
+        (mid : Fields T U) (rooms : MakesRoom f i j mid) where
+      abbrev x : PublisherFields
+      x = apart.publisher
+
+      abbrev n : ℕ
+      n = sender_room mid.publishers i
+
+      abbrev m : ℕ
+      m = receiver_room mid.subscribers j
+
+      abbrev g : Fields T U
+      g = grown f i j x y n m
+
+      more_x : x.key_room ≤ n
+      more_x = subst (λ (k : ℕ). k ≤ n) (ap (λ o. option_map_or (λ (z : PublisherFields). z.key_room) o 0) apart.publisher_stands) rooms.sender
+
+      more_y : y.key_room ≤ m
+      more_y = subst (λ (k : ℕ). k ≤ m) (ap (λ o. option_map_or (λ (z : SubscriberFields). z.key_room) o 0) at_y) rooms.receiver
+
+      sound-grown : IsDomain g
+      sound-grown = grown-sound f i j x y n m sound apart.publisher_stands at_y more_x more_y
+
+      here_x : get_or g.publishers i None ≡ Some (with_sender_room n x)
+      here_x = changed-here f.publishers i x (with_sender_room n x) apart.publisher_stands
+
+      here_y : get_or g.subscribers j None ≡ Some (with_receiver_room m y)
+      here_y = changed-here f.subscribers j y (with_receiver_room m y) at_y
+
+      mid-is : mid ≡ record g { connections = mid.connections }
+      mid-is = rooms.fields ∙ (λ k. record f {
+        publishers = slice_set f.publishers i (option_map (with_sender_room n) (apart.publisher_stands k));
+        subscribers = slice_set f.subscribers j (option_map (with_receiver_room m) (at_y k));
+        connections = mid.connections;
+      })
+
+      same_y : apart.subscriber ≡ y
+      same_y = let e : Some apart.subscriber ≡ Some y = sym apart.subscriber_stands ∙ at_y in cc
+
+      home-is : home ≡ home_of i j x y
+      home-is = apart.home_is ∙ ap (λ z. home_of i j x z) same_y
+
+      size-is : size ≡ y.buffer
+      size-is = apart.buffer_is ∙ ap (λ (z : SubscriberFields). z.buffer) same_y
+
+      no_key_x : get_or x.keys j None ≡ None
+      no_key_x = sym (other-key x apart.publisher_stands) ∙ nobody
+
+      -- a new one is made
+      pub makes-as : ((z : PublisherFields) → get_or mid.publishers i None ≡ Some z → j < z.key_room)
+          → ((z : SubscriberFields) → get_or mid.subscribers j None ≡ Some z → i < z.key_room)
+          → (key : ℕ) → MakesConnection f.connections home size (f.config).subscriber_max_borrowed_samples key mid.connections
+          → (f' : Fields T U) → f' ≡ record mid { subscribers = changed_at (with_receiver_key i key) mid.subscribers j } → ConnectsReceiver f j i y f'
+      makes-as room_x room_y key made f' is =
+          receiver-from f i j x y n m sound apart.publisher_stands at_y more_x more_y f'
+          (subst (ConnectsReceiver g j i (with_receiver_room m y)) (sym after)
+          (makes-connection g sound-grown i j (with_sender_room n x) (with_receiver_room m y) here_x here_y due no_key no_key_x
+          (room_x (with_sender_room n x) (ap (λ (h : Fields T U). get_or h.publishers i None) mid-is ∙ here_x))
+          (room_y (with_receiver_room m y) (ap (λ (h : Fields T U). get_or h.subscribers j None) mid-is ∙ here_y)) key mid.connections
+          (subst (λ (h : Home). MakesConnection f.connections h y.buffer (f.config).subscriber_max_borrowed_samples key mid.connections) home-is
+          (subst (λ k. MakesConnection f.connections home k (f.config).subscriber_max_borrowed_samples key mid.connections) size-is made))))
+        where
+          after : f' ≡ record g { subscribers = slice_set g.subscribers j (Some (with_receiver_key i key (with_receiver_room m y))); connections = mid.connections }
+          after = is
+              ∙ (λ k. record (mid-is k) { subscribers = changed_at (with_receiver_key i key) ((mid-is k).subscribers) j })
+              ∙ ap (λ o. record g { subscribers = slice_set g.subscribers j (option_map (with_receiver_key i key) o); connections = mid.connections }) here_y
+
+      -- memory for a new one is refused
+      pub misses-as : (warnings : Buffer Warning) → mid.connections ≡ record f.connections { capacity = mid.connections.capacity }
+          → warnings ≡ buffer (warned f.warnings.items (ConnectionNotMade home.publisher home.subscriber)) warning_limit
+          → (f' : Fields T U) → f' ≡ record mid { warnings = warnings } → ConnectsReceiver f j i y f'
+      misses-as warnings same warned_is f' is =
+          receiver-from f i j x y n m sound apart.publisher_stands at_y more_x more_y f'
+          (subst (ConnectsReceiver g j i (with_receiver_room m y))
+          (sym (is ∙ (λ k. record (mid-is k) { warnings = told k }) ∙ (λ k. record g { connections = same k; warnings = buffer (warned f.warnings.items (ConnectionNotMade x.id y.id)) warning_limit })))
+          (misses-connection g sound-grown i j (with_sender_room n x) (with_receiver_room m y) here_x here_y due no_key no_key_x mid.connections.capacity))
+        where
+          told : warnings ≡ buffer (warned f.warnings.items (ConnectionNotMade x.id y.id)) warning_limit
+          told = warned_is ∙ ap (λ (h : Home). buffer (warned f.warnings.items (ConnectionNotMade h.publisher h.subscriber)) warning_limit) home-is

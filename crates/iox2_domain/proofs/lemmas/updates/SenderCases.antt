@@ -1,0 +1,161 @@
+-- What a publisher's update comes to at one subscriber's place.
+use Rattle.std.proofs.Common.{◌≡◌, ◌<◌, ℕ, le_refl, false, List, get_or, slice_set, refl, ap, sym, subst, ◌∙◌, inl, inr}
+use Rattle.std.proofs.lemmas.List.{set-get_or}
+use Rattle.std.specs.declared.option.Option.{Option}
+use Rattle.std.specs.declared.option.Option.TheVariants.{None, Some}
+use Rattle.std.specs.Option.{option_map, option_map_or}
+use Rattle.slab.specs.Slab.{Slab, get}
+use Rattle.circular_buffer.specs.Buffer.{buffer}
+use Rattle.iox2_store.specs.machine.Limits.{warning_limit}
+use Rattle.iox2_store.specs.Link.{Link, empty_link}
+use Rattle.iox2_store.specs.machine.Places.{occupant, set_place, is_port}
+use Rattle.iox2_store.specs.machine.Records.{Publisher, Subscriber}
+use Rattle.iox2_store.specs.machine.State.{State, warned, has_receiver_end}
+use Rattle.iox2_store.specs.declared.degradation.DegradationAction.TheVariants.{Warn}
+use Rattle.iox2_store.specs.declared.warning.Warning.TheVariants.{ConnectionNotMade}
+use Rattle.iox2_ends.specs.LookUp.{look_up}
+use Rattle.iox2_ends.specs.Homes.{IsSenderLinked}
+use Rattle.iox2_ends.specs.Mailboxes.{is_between, sender_ends, subscriber_of_key, publisher_of_key}
+use Rattle.iox2_domain.specs.Ports.{PublisherFields, SubscriberFields}
+use Rattle.iox2_domain.specs.Kept.{state_of}
+use Rattle.iox2_domain.specs.Fields.{Fields, kept_of, publisher_of, subscriber_of}
+use Rattle.iox2_domain.specs.Invariant.{IsDomain}
+use Rattle.iox2_domain.specs.Updates.{MakesConnection, home_of}
+use Rattle.iox2_domain.specs.Connects.{ConnectsSender}
+use Rattle.iox2_domain.proofs.lemmas.fields.ConnectionEnds.{publisher-stands, subscriber-stands, occupant-sender_ends}
+use Rattle.iox2_domain.proofs.lemmas.updates.Extensions.{Extends, sender_linked, sender_ends-same}
+use Rattle.iox2_domain.proofs.lemmas.containers.ConnectionKeys.{map-set_place, set_place-here, set_place-keeps, set_place-stood}
+use Rattle.iox2_domain.proofs.lemmas.updates.MadeConnections.{made-extends, made-news}
+use Rattle.iox2_domain.proofs.lemmas.updates.SenderChanges.{fits-same}
+use Rattle.iox2_domain.proofs.lemmas.updates.SenderSteps.{connected_sender, steps-connect, keeps-end, makes-end, no_end, connects}
+use Rattle.iox2_domain.proofs.lemmas.fields.Standing.{publisher-place, occupant-receiver_ends, sender-joins, receiver-joins, no-connection}
+
+module _ {T U : Type 0} (f : Fields T U) (sound : IsDomain f) (i j : ℕ) (x : PublisherFields) (y : SubscriberFields)
+    (at_x : get_or f.publishers i None ≡ Some x) (at_y : get_or f.subscribers j None ≡ Some y) (due : x.is_due ≡ false) where
+  abbrev s : State T U
+  s = state_of (kept_of f)
+
+  abbrev P : Publisher
+  P = (publisher_of f.books f.connections x).port
+
+  abbrev with_capacity : (n : ℕ) → Slab Link
+  with_capacity n = record f.connections { capacity = n }
+
+  -- ---- nothing is connected
+
+  pub same_publishers : slice_set f.publishers i (Some x) ≡ f.publishers
+  same_publishers = ap (slice_set f.publishers i) (sym at_x) ∙ set-get_or f.publishers i None
+
+  -- an end that is there stays
+  pub keeps-connection : (key : ℕ) → get_or x.keys j None ≡ Some key → ConnectsSender f i j x f
+  keeps-connection key at =
+      let joined = sender-joins f sound i j x y at_x at_y key at in
+      let there : occupant P.ends j ≡ Some y.id =
+      occupant-sender_ends f.connections x.keys j ∙ ap (subscriber_of_key f.connections) at
+      ∙ ap (option_map (λ (c : Link). c.home.subscriber)) joined.1.stands ∙ ap Some joined.1.subscriber in
+      subst (ConnectsSender f i j x) (λ k. record f { publishers = same_publishers k })
+      (steps-connect f sound i j x y at_x at_y due x.keys f.connections f.warnings (fits-same f sound i x at_x f.connections.capacity) sound.warning_room
+      (keeps-end f sound i j x y at_x at_y due there))
+
+  -- ---- the subscriber has its end
+
+  module _ (none : get_or x.keys j None ≡ None) where
+    abbrev keys_with : (key : ℕ) → List (Option ℕ)
+    keys_with key = set_place x.keys j (Some key)
+
+    -- where the new key leads to the subscriber, the new ends are the machine's
+    leads : (connections : Slab Link) (key : ℕ) (c : Link) → sender_ends connections x.keys ≡ P.ends → get connections key ≡ Some c → c.home.subscriber ≡ y.id
+        → sender_ends connections (keys_with key) ≡ set_place P.ends j (Some y.id)
+    leads connections key c same at to =
+        map-set_place (subscriber_of_key connections) refl x.keys j (Some key)
+        ∙ (λ k. set_place (same k) j ((ap (option_map (λ (d : Link). d.home.subscriber)) at ∙ ap Some to) k))
+
+    -- a key that leads to the subscriber may be set
+    linked-with : (connections : Slab Link) (key : ℕ) (c : Link) → IsSenderLinked x.id connections x.keys → get connections key ≡ Some c
+        → c.home.publisher ≡ x.id → c.home.subscriber_place ≡ j → IsSenderLinked x.id connections (keys_with key)
+    linked-with connections key c old at own place = record {
+      at = λ k other there. elim (set_place-stood x.keys j key k other there) [
+        | inl here ↦ rw (here.1, at) (record { publisher = own; place = place ∙ sym here.0 })
+        | inr before ↦ old.at k other before
+      ];
+    }
+
+    -- the publisher joins the subscriber's connection
+    pub joins-connection : (key : ℕ) → get_or y.keys i None ≡ Some key → ConnectsSender f i j x (connected_sender f i x (set_place x.keys j (Some key)) f.connections f.warnings)
+    joins-connection key at =
+        let joined = receiver-joins f sound i j x y at_x at_y key at in
+        let own = joined.1 in
+        steps-connect f sound i j x y at_x at_y due (keys_with key) f.connections f.warnings (record {
+          extends = (fits-same f sound i x at_x f.connections.capacity).extends;
+          grows = le_refl x.key_room;
+          linked = linked-with f.connections key joined.0 (sound.linked.senders i x at_x) own.stands own.publisher own.subscriber_place;
+          keeps = set_place-keeps x.keys j key none;
+          news = λ k c there. inl there;
+        }) sound.warning_room
+        (connects f sound i j x y at_x at_y due none (keys_with key) f.connections (leads f.connections key joined.0 refl own.stands own.subscriber))
+
+    -- ---- nobody has an end
+
+    module _ (none_y : get_or y.keys i None ≡ None) where
+      abbrev most : ℕ
+      most = (f.config).subscriber_max_borrowed_samples
+
+      abbrev link : Link
+      link = empty_link (home_of i j x y) y.buffer most
+
+      nobody : look_up (is_between x.id y.id) f.connections.slots ≡ None
+      nobody = no-connection f sound i j x y at_x at_y none none_y
+
+      extends : (key : ℕ) (new : Slab Link) → MakesConnection f.connections (home_of i j x y) y.buffer most key new → Extends f.connections new
+      extends key new made = made-extends f.connections new (home_of i j x y) y.buffer most key sound.apart nobody made
+
+      -- a connection is made
+      pub makes-connection : j < x.key_room → i < y.key_room → (key : ℕ) (new : Slab Link) → MakesConnection f.connections (home_of i j x y) y.buffer (f.config).subscriber_max_borrowed_samples key new
+          → ConnectsSender f i j x (connected_sender f i x (set_place x.keys j (Some key)) new f.warnings)
+      makes-connection room room_y key new made =
+          steps-connect f sound i j x y at_x at_y due (keys_with key) new f.warnings (record {
+            extends = extends key new made;
+            grows = le_refl x.key_room;
+            linked = linked-with new key link (sender_linked f.connections new (extends key new made) x.id x.keys (sound.linked.senders i x at_x)) made.made.changed refl refl;
+            keeps = set_place-keeps x.keys j key none;
+            news = λ k c at. elim (made-news f.connections new (home_of i j x y) y.buffer most key sound.apart nobody made k c at) [
+              | inl old ↦ inl old
+              | inr is ↦ inr (rw (is.0, is.1) (record {
+                publisher = refl;
+                publisher_place = refl;
+                has = set_place-here x.keys j (Some key);
+                room = room;
+                limit = refl;
+                subscriber = y;
+                stands = at_y;
+                is_its = refl;
+                subscriber_room = room_y;
+                buffer = refl;
+              }))
+            ];
+          }) sound.warning_room
+          (connects f sound i j x y at_x at_y due none (keys_with key) new
+          (leads new key link (sender_ends-same f.connections new (extends key new made) x.id x.keys (sound.linked.senders i x at_x)) made.made.changed refl))
+
+      no_receiver : has_receiver_end s x.id y.id ≡ false
+      no_receiver =
+          ap (λ o. option_map_or (λ (z : Subscriber). option_map_or (λ (w : Publisher). is_port (occupant z.ends w.place) x.id) (s.publishers x.id) false) o false) (subscriber-stands f sound j y at_y)
+          ∙ ap (λ o. option_map_or (λ (w : Publisher). is_port (occupant ((subscriber_of f.books f.connections y).port).ends w.place) x.id) o false) (publisher-stands f sound i x at_x)
+          ∙ ap (λ o. is_port o x.id)
+          (ap (occupant ((subscriber_of f.books f.connections y).port).ends) (publisher-place f sound i x at_x)
+          ∙ occupant-receiver_ends f.connections y.keys i ∙ ap (publisher_of_key f.connections) none_y)
+
+      -- memory for it is refused
+      pub misses-connection : (n : ℕ) → ConnectsSender f i j x (record f {
+        connections = record f.connections { capacity = n };
+        warnings = buffer (warned f.warnings.items (ConnectionNotMade x.id y.id)) warning_limit;
+      })
+      misses-connection n =
+          subst (ConnectsSender f i j x) (λ k. record f {
+            publishers = same_publishers k;
+            connections = with_capacity n;
+            warnings = buffer (warned f.warnings.items (ConnectionNotMade x.id y.id)) warning_limit;
+          })
+          (steps-connect f sound i j x y at_x at_y due x.keys (with_capacity n) (buffer (warned f.warnings.items (ConnectionNotMade x.id y.id)) warning_limit) (fits-same f sound i x at_x n) refl
+          (makes-end f sound i j x y at_x at_y due (no_end f sound i j x y at_x at_y due none) _
+          (inr (no_receiver, warned f.warnings.items (ConnectionNotMade x.id y.id), (Warn, tt, refl, refl, refl), refl))))

@@ -1,0 +1,139 @@
+-- What a publisher's connection at a place comes to, by what its update found there.
+use Rattle.std.proofs.Common.{◌≡◌, ◌<◌, ◌≤◌, ℕ, true, false, length, get_or, is_some, refl, ap, sym, subst, ◌∙◌, slice_set}
+use Rattle.std.specs.declared.option.Option.{Option}
+use Rattle.std.specs.declared.option.Option.TheVariants.{None, Some}
+use Rattle.std.specs.Option.{option_map, option_map_or, option_and_then}
+use Rattle.circular_buffer.specs.Buffer.{Buffer, buffer}
+use Rattle.iox2_store.specs.machine.Limits.{warning_limit}
+use Rattle.iox2_store.specs.machine.State.{warned}
+use Rattle.iox2_store.specs.declared.connection.Home.{Home}
+use Rattle.iox2_store.specs.declared.warning.Warning.{Warning}
+use Rattle.iox2_store.specs.declared.warning.Warning.TheVariants.{ConnectionNotMade}
+use Rattle.iox2_domain.specs.Ports.{PublisherFields, SubscriberFields}
+use Rattle.iox2_domain.specs.Fields.{Fields}
+use Rattle.iox2_domain.specs.Invariant.{IsDomain}
+use Rattle.iox2_domain.specs.Updates.{changed_at, with_sender_key, with_sender_room, with_receiver_room, sender_key, receiver_key, sender_room, receiver_room, home_of, MakesConnection, StandApart}
+use Rattle.iox2_domain.specs.Connects.{ConnectsSender, MakesRoom}
+use Rattle.iox2_domain.proofs.lemmas.containers.ChangedRecords.{changed-here}
+use Rattle.iox2_domain.proofs.lemmas.updates.Grown.{grown, grown-sound, sender-from}
+use Rattle.iox2_domain.proofs.lemmas.fields.Standing.{sender-room as joined-room}
+use Rattle.iox2_domain.proofs.lemmas.updates.SenderCases.{keeps-connection, joins-connection, makes-connection, misses-connection}
+
+pub none_or_some : (o : Option ℕ) → is_some o ≡ false → o ≡ None
+none_or_some None e = refl
+none_or_some (Some key) e = absurd cc
+
+pub some_key : (o : Option ℕ) → is_some o ≡ true → (key : ℕ) × (o ≡ Some key)
+some_key None e = absurd cc
+some_key (Some key) e = (key, refl)
+
+-- there is room for the key of a connection that the subscriber has
+pub joins-room : {T U : Type 0} (f : Fields T U) → IsDomain f → (i j : ℕ) (x : PublisherFields) → get_or f.publishers i None ≡ Some x → j < length f.subscribers
+    → (key : ℕ) → receiver_key f.subscribers j i ≡ Some key → j < x.key_room
+joins-room f sound i j x at_x low key at =
+    let there = sound.open_ports.subscribers j low in
+    joined-room f sound i j x there.0 at_x there.1 key (sym (ap (option_and_then (λ (z : SubscriberFields). get_or z.keys i None)) there.1) ∙ at)
+
+module _ {T U : Type 0} (f : Fields T U) (sound : IsDomain f) (i j : ℕ) (x : PublisherFields) (at_x : get_or f.publishers i None ≡ Some x) (due : x.is_due ≡ false) where
+  own-key : sender_key f.publishers i j ≡ get_or x.keys j None
+  own-key = ap (option_and_then (λ (z : PublisherFields). get_or z.keys j None)) at_x
+
+  other-key : (y : SubscriberFields) → get_or f.subscribers j None ≡ Some y → receiver_key f.subscribers j i ≡ get_or y.keys i None
+  other-key y at_y = ap (option_and_then (λ (z : SubscriberFields). get_or z.keys i None)) at_y
+
+  -- it has one
+  pub keeps-as : j < length f.subscribers → is_some (sender_key f.publishers i j) ≡ true → ConnectsSender f i j x f
+  keeps-as low some =
+      let there = sound.open_ports.subscribers j low in
+      let key = some_key (sender_key f.publishers i j) some in
+      keeps-connection f sound i j x there.0 at_x there.1 due key.0 (sym own-key ∙ key.1)
+
+  module _ (none : is_some (sender_key f.publishers i j) ≡ false) where
+    no_key : get_or x.keys j None ≡ None
+    no_key = sym own-key ∙ none_or_some (sender_key f.publishers i j) none
+
+    -- it joins the subscriber's
+    pub joins-as : j < length f.subscribers → (key : ℕ) → receiver_key f.subscribers j i ≡ Some key
+        → (f' : Fields T U) → f' ≡ record f { publishers = changed_at (with_sender_key j key) f.publishers i } → ConnectsSender f i j x f'
+    joins-as low key at f' is =
+        let there = sound.open_ports.subscribers j low in
+        subst (ConnectsSender f i j x) (sym (is ∙ ap (λ o. record f { publishers = slice_set f.publishers i (option_map (with_sender_key j key) o) }) at_x))
+        (joins-connection f sound i j x there.0 at_x there.1 due no_key key (sym (other-key there.0 there.1) ∙ at))
+
+    -- no connection is there, and both ports get room for one
+    module _ (nobody : receiver_key f.subscribers j i ≡ None) (home : Home) (size : ℕ) (apart : StandApart f.publishers f.subscribers i j home size)
+        (mid : Fields T U) (rooms : MakesRoom f i j mid) where
+      abbrev y : SubscriberFields
+      y = apart.subscriber
+
+      abbrev n : ℕ
+      n = sender_room mid.publishers i
+
+      abbrev m : ℕ
+      m = receiver_room mid.subscribers j
+
+      abbrev g : Fields T U
+      g = grown f i j x y n m
+
+      more_x : x.key_room ≤ n
+      more_x = subst (λ (k : ℕ). k ≤ n) (ap (λ o. option_map_or (λ (z : PublisherFields). z.key_room) o 0) at_x) rooms.sender
+
+      more_y : y.key_room ≤ m
+      more_y = subst (λ (k : ℕ). k ≤ m) (ap (λ o. option_map_or (λ (z : SubscriberFields). z.key_room) o 0) apart.subscriber_stands) rooms.receiver
+
+      sound-grown : IsDomain g
+      sound-grown = grown-sound f i j x y n m sound at_x apart.subscriber_stands more_x more_y
+
+      here_x : get_or g.publishers i None ≡ Some (with_sender_room n x)
+      here_x = changed-here f.publishers i x (with_sender_room n x) at_x
+
+      here_y : get_or g.subscribers j None ≡ Some (with_receiver_room m y)
+      here_y = changed-here f.subscribers j y (with_receiver_room m y) apart.subscriber_stands
+
+      mid-is : mid ≡ record g { connections = mid.connections }
+      mid-is = rooms.fields ∙ (λ k. record f {
+        publishers = slice_set f.publishers i (option_map (with_sender_room n) (at_x k));
+        subscribers = slice_set f.subscribers j (option_map (with_receiver_room m) (apart.subscriber_stands k));
+        connections = mid.connections;
+      })
+
+      same_x : apart.publisher ≡ x
+      same_x = let e : Some apart.publisher ≡ Some x = sym apart.publisher_stands ∙ at_x in cc
+
+      home-is : home ≡ home_of i j x y
+      home-is = apart.home_is ∙ ap (λ z. home_of i j z y) same_x
+
+      no_key_y : get_or y.keys i None ≡ None
+      no_key_y = sym (other-key y apart.subscriber_stands) ∙ nobody
+
+      -- a new one is made
+      pub makes-as : ((z : PublisherFields) → get_or mid.publishers i None ≡ Some z → j < z.key_room)
+          → ((z : SubscriberFields) → get_or mid.subscribers j None ≡ Some z → i < z.key_room)
+          → (key : ℕ) → MakesConnection f.connections home size (f.config).subscriber_max_borrowed_samples key mid.connections
+          → (f' : Fields T U) → f' ≡ record mid { publishers = changed_at (with_sender_key j key) mid.publishers i } → ConnectsSender f i j x f'
+      makes-as room_x room_y key made f' is =
+          sender-from f i j x y n m sound at_x apart.subscriber_stands more_x more_y f'
+          (subst (ConnectsSender g i j (with_sender_room n x)) (sym after)
+          (makes-connection g sound-grown i j (with_sender_room n x) (with_receiver_room m y) here_x here_y due no_key no_key_y
+          (room_x (with_sender_room n x) (ap (λ (h : Fields T U). get_or h.publishers i None) mid-is ∙ here_x))
+          (room_y (with_receiver_room m y) (ap (λ (h : Fields T U). get_or h.subscribers j None) mid-is ∙ here_y)) key mid.connections
+          (subst (λ (h : Home). MakesConnection f.connections h y.buffer (f.config).subscriber_max_borrowed_samples key mid.connections) home-is
+          (subst (λ k. MakesConnection f.connections home k (f.config).subscriber_max_borrowed_samples key mid.connections) apart.buffer_is made))))
+        where
+          after : f' ≡ record g { publishers = slice_set g.publishers i (Some (with_sender_key j key (with_sender_room n x))); connections = mid.connections }
+          after = is
+              ∙ (λ k. record (mid-is k) { publishers = changed_at (with_sender_key j key) ((mid-is k).publishers) i })
+              ∙ ap (λ o. record g { publishers = slice_set g.publishers i (option_map (with_sender_key j key) o); connections = mid.connections }) here_x
+
+      -- memory for a new one is refused
+      pub misses-as : (warnings : Buffer Warning) → mid.connections ≡ record f.connections { capacity = mid.connections.capacity }
+          → warnings ≡ buffer (warned f.warnings.items (ConnectionNotMade home.publisher home.subscriber)) warning_limit
+          → (f' : Fields T U) → f' ≡ record mid { warnings = warnings } → ConnectsSender f i j x f'
+      misses-as warnings same warned_is f' is =
+          sender-from f i j x y n m sound at_x apart.subscriber_stands more_x more_y f'
+          (subst (ConnectsSender g i j (with_sender_room n x))
+          (sym (is ∙ (λ k. record (mid-is k) { warnings = told k }) ∙ (λ k. record g { connections = same k; warnings = buffer (warned f.warnings.items (ConnectionNotMade x.id y.id)) warning_limit })))
+          (misses-connection g sound-grown i j (with_sender_room n x) (with_receiver_room m y) here_x here_y due no_key no_key_y mid.connections.capacity))
+        where
+          told : warnings ≡ buffer (warned f.warnings.items (ConnectionNotMade x.id y.id)) warning_limit
+          told = warned_is ∙ ap (λ (h : Home). buffer (warned f.warnings.items (ConnectionNotMade h.publisher h.subscriber)) warning_limit) home-is

@@ -1,0 +1,95 @@
+-- A publisher's update, over the subscribers' places.
+use Rattle.std.proofs.Common.{◌≡◌, ℕ, zero, suc, ◌+◌, ◌<◌, ◌≤◌, ◌==◌, true, false, Bool, cond, List, [], ◌∷◌, length, drop, get_or, refl, ap, sym, subst, ◌∙◌}
+use Rattle.std.proofs.lemmas.List.{drop_more, drop_all}
+use Rattle.std.specs.declared.option.Option.{Option}
+use Rattle.std.specs.declared.option.Option.TheVariants.{None, Some}
+use Rattle.std.specs.Option.{option_map_or}
+use Rattle.iox2_store.specs.machine.Connections.{ForEachPlace}
+use Rattle.iox2_store.specs.machine.Environments.{fixed_handlers}
+use Rattle.iox2_store.specs.machine.Numbers.{put_at}
+use Rattle.iox2_store.specs.machine.Places.{occupant, is_port}
+use Rattle.iox2_store.specs.machine.PublisherUpdate.{SenderSide, UpdateSenderPlace, sender_side, with_sender_side, UpdatePublisher}
+use Rattle.iox2_store.specs.machine.Records.{Publisher, Subscriber}
+use Rattle.iox2_store.specs.machine.State.{State, receiving_buffer, has_receiver_end}
+use Rattle.iox2_store.specs.declared.errors.ConnectionFailure.{ConnectionFailure}
+use Rattle.iox2_laws.proofs.Puts.{put_at-same}
+use mathlib.Core.Path.{fun_ext}
+
+-- a function that is written twice
+pub put_at-twice : {X : Type 0} (f : ℕ → X) (k : ℕ) (x y : X) → put_at (put_at f k x) k y ≡ put_at f k y
+put_at-twice f k x y = fun_ext (λ i. by (i == k) (f i)) where
+  by : (b : Bool) (z : _) → cond b y (cond b x z) ≡ cond b y z
+  by true z = refl
+  by false z = refl
+
+-- both ways to ask who stands at a place
+pub occupant-get_or : (xs : List (Option ℕ)) (i : ℕ) → get_or xs i None ≡ occupant xs i
+occupant-get_or [] zero = refl
+occupant-get_or [] (suc i) = refl
+occupant-get_or (x ∷ xs) zero = refl
+occupant-get_or (x ∷ xs) (suc i) = occupant-get_or xs i
+
+-- ---- in the machine
+
+module _ {T U : Type 0} (s : State T U) (p : ℕ) (x : Publisher) (present : s.publishers p ≡ Some x) where
+  -- what the publisher does at a place
+  abbrev pub AtPlace : (place : ℕ) → Option ℕ → SenderSide → SenderSide → Option ConnectionFailure → Type 0
+  AtPlace place at side side' failure =
+      UpdateSenderPlace fixed_handlers (s.config).service_id p x.degradation_handler x.history (receiving_buffer s) (has_receiver_end s p) place at side side' failure
+
+  module _ (side : SenderSide) where
+    abbrev mid : State T U
+    mid = with_sender_side s p x side
+
+    abbrev pub publisher_mid : Publisher
+    publisher_mid = record x { ends = side.ends; is_due = false }
+
+    -- the publisher's other side of the state is its side now
+    pub side-again : sender_side mid p publisher_mid ≡ side
+    side-again = λ k. record side { mailboxes = put_at-same s.mailboxes p side.mailboxes k }
+
+    pub state-again : (side' : SenderSide) → with_sender_side mid p publisher_mid side' ≡ with_sender_side s p x side'
+    state-again side' = λ k. record s {
+      publishers = put_at-twice s.publishers p (Some publisher_mid) (Some (record x { ends = side'.ends; is_due = false })) k;
+      mailboxes = put_at-twice s.mailboxes p side.mailboxes side'.mailboxes k;
+      warnings = side'.warnings;
+    }
+
+    -- whom it may join doesn't change
+    same_receivers : has_receiver_end mid p ≡ has_receiver_end s p
+    same_receivers = fun_ext (λ q. ap (joined q) (put_at-same s.publishers p (Some publisher_mid)) ∙ sym (ap (joined q) present)) where
+      joined : ℕ → Option Publisher → Bool
+      joined q o = option_map_or (λ (y : Subscriber). option_map_or (λ (z : Publisher). is_port (occupant y.ends z.place) p) o false) (s.subscribers q) false
+
+    -- a step from there is a step of the walk
+    pub step-again : (place : ℕ) (side' : SenderSide)
+        → UpdateSenderPlace fixed_handlers (mid.config).service_id p publisher_mid.degradation_handler publisher_mid.history (receiving_buffer mid) (has_receiver_end mid p)
+        place (occupant mid.subscriber_places place) (sender_side mid p publisher_mid) side' None
+        → AtPlace place (occupant s.subscriber_places place) side side' None
+    step-again place side' step =
+        subst (λ (now : SenderSide). AtPlace place (occupant s.subscriber_places place) now side' None) side-again
+        (subst (λ (has : ℕ → Bool). UpdateSenderPlace fixed_handlers (s.config).service_id p x.degradation_handler x.history (receiving_buffer s) has
+        place (occupant s.subscriber_places place) (sender_side mid p publisher_mid) side' None) same_receivers step)
+
+  -- one place more
+  pub walk-goes-on : (place : ℕ) (side side' end : SenderSide) → place < length s.subscriber_places
+      → AtPlace place (occupant s.subscriber_places place) side side' None
+      → ForEachPlace AtPlace (place + 1) (drop (place + 1) s.subscriber_places) side' end None
+      → ForEachPlace AtPlace place (drop place s.subscriber_places) side end None
+  walk-goes-on place side side' end low step rest =
+      subst (λ (places : List (Option ℕ)). ForEachPlace AtPlace place places side end None)
+      (sym (drop_more s.subscriber_places place None low ∙ ap (λ o. o ∷ drop (place + 1) s.subscriber_places) (occupant-get_or s.subscriber_places place)))
+      (side', None, None, step, rest, refl)
+
+  pub walk-ends : (place : ℕ) (side : SenderSide) → length s.subscriber_places ≤ place → ForEachPlace AtPlace place (drop place s.subscriber_places) side side None
+  walk-ends place side past =
+      subst (λ (places : List (Option ℕ)). ForEachPlace AtPlace place places side side None) (sym (drop_all place s.subscriber_places past)) (refl, refl)
+
+  -- the update of a publisher that is due is such a walk
+  pub due-updates : x.is_due ≡ true → (side : SenderSide) → ForEachPlace AtPlace 0 s.subscriber_places (sender_side s p x) side None
+      → UpdatePublisher fixed_handlers s p (with_sender_side s p x side) None
+  due-updates due side walk = rw present (rw due (side, walk, refl))
+
+  -- that of another does nothing
+  pub idle-updates : x.is_due ≡ false → UpdatePublisher fixed_handlers s p s None
+  idle-updates due = rw present (rw due (refl, refl))

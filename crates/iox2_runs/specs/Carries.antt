@@ -1,0 +1,43 @@
+-- The entries of a run's table, and what the function of one command ensures.
+use Rattle.std.specs.Prelude.{List, [], ◌∷◌, ◌++◌, map}
+use Rattle.iox2_store.specs.machine.State.{State, Messages}
+use Rattle.iox2_domain.specs.Kept.{Kept as Domain}
+use Rattle.iox2_domain.specs.Shows.{Shows}
+use Rattle.iox2_commands.specs.Outcomes.{Handle, Event}
+use Rattle.iox2_commands.specs.Runs.{Defaults}
+use Rattle.iox2_runs.specs.Tables.{TableEntry, No_entry, Publisher_entry, Subscriber_entry, Unwritten_entry, Written_entry, Sample_entry, IsTable}
+use Rattle.iox2_runs.specs.RunSteps.{Comes}
+use Rattle.iox2_commands.specs.declared.command.Command.{Command}
+use Rattle.iox2_commands.specs.declared.reply.Reply.{Reply}
+use Rattle.iox2_runs.specs.declared.runs.made.Made.{Made}
+use Rattle.iox2_runs.specs.declared.runs.made.Made.TheVariants.{Nothing, Publisher, Subscriber, Unwritten, Written, Sample}
+
+-- The entry for what a command made.
+abbrev pub entry_for : Made → TableEntry
+entry_for Nothing = No_entry
+entry_for (Publisher publisher) = Publisher_entry publisher.service_id publisher.id
+entry_for (Subscriber subscriber) = Subscriber_entry subscriber.service_id subscriber.id
+entry_for (Unwritten sample) = Unwritten_entry sample.service_id sample.loan.publisher sample.loan.number
+entry_for (Written sample) = Written_entry sample.service_id sample.loan.publisher sample.loan.number
+entry_for (Sample sample) = Sample_entry sample.service_id sample.origin sample.sample.subscriber sample.sample.number
+
+-- The entries of a table, with what one command more made.
+abbrev pub entries_with : List Made → Made → List TableEntry
+entries_with table made = map entry_for table ++ entry_for made ∷ []
+
+-- The default values of a payload type and a user header type.
+abbrev pub defaults_of : {T U : Type 0} → (T → Type 0) → (U → Type 0) → Defaults T U
+defaults_of is_default_value is_default_header = record { IsDefaultValue = is_default_value; IsDefaultHeader = is_default_header }
+
+-- The domain shows a state in which the table has the entries of handles.
+abbrev pub IsLiveTable : {T U : Type 0} → Domain T U → List Made → Type 0
+IsLiveTable {T} {U} domain table =
+    (m : Messages T U) × (s : State T U) × (handles : List Handle) × (events : List (Event T U)) × Shows domain m s × IsTable s handles events (map entry_for table)
+
+-- Whatever state the domain shows and whatever handles the table has entries of, the command steps to what the domain shows
+-- afterwards, with this reply, and the table follows.
+abbrev pub Carries : {T U : Type 0} → Defaults T U → (old new : Domain T U) → (table : List Made) → Command T U → Reply T U → (table' : List Made) → (made : Made) → Type 0
+Carries {T} {U} defaults old new table command reply table' made =
+    (m : Messages T U) (s : State T U) (handles : List Handle) (events : List (Event T U)) → Shows old m s → IsTable s handles events (map entry_for table)
+    → (default_value : T) (default_header : U) → defaults.IsDefaultValue default_value → defaults.IsDefaultHeader default_header
+    → Comes defaults (Shows new) m s handles events command reply (entries_with table' made)

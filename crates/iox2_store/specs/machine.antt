@@ -1,0 +1,19 @@
+-- The machine: its state, and what each operation does to it. It knows no single slot.
+pub mod Limits
+pub mod Numbers
+pub mod Places
+pub mod Mailbox
+pub mod Records
+pub mod State
+pub mod Delivery
+pub mod Connections
+pub mod PublisherUpdate
+pub mod SubscriberUpdate
+pub mod Loans
+pub mod Sends
+pub mod Receives
+pub mod Releases
+pub mod Ports
+pub mod SingleCalls
+pub mod WellFormed
+pub mod Environments
