@@ -4,11 +4,9 @@
 mod domain;
 mod port_factory;
 mod publisher;
-mod receives;
 mod sample;
 mod sample_mut;
 mod sample_mut_uninit;
-mod sample_send;
 mod send_outcome;
 mod subscriber;
 

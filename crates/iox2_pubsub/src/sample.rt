@@ -1,6 +1,8 @@
 //! A received message.
 ghost use Rattle.std.specs.Prelude.{◌≡◌};
 
+mod release;
+
 use crate::domain::Domain;
 use iox2_domain::SampleAt;
 use iox2_store::{
@@ -19,12 +21,10 @@ pub struct Sample {
 }
 
 impl Sample {
-    ghost use Rattle.std.specs.Prelude.{ℕ, [], ◌∷◌, Some, IsTrue};
-    ghost use Rattle.iox2_store.specs.machine.Mailbox.{is_borrowed};
+    ghost use Rattle.std.specs.Prelude.{[], ◌∷◌, Some};
     ghost use Rattle.iox2_store.specs.machine.Records.{Entry};
-    ghost use Rattle.iox2_store.specs.machine.Releases.{released};
     ghost use Rattle.iox2_store.specs.machine.State.{State, Messages};
-    ghost use Rattle.iox2_pubsub.specs.Live.{IsFromOrigin, IsLiveSample, IsSingleValued, StaysBut, received_sample, sample_key};
+    ghost use Rattle.iox2_pubsub.specs.Live.{IsFromOrigin, IsLiveSample, IsSingleValued, sample_key};
     ghost use Rattle.iox2_domain.specs.Shows.{Shows};
 
     /// Names the sample among all that its domain has: by its subscriber and its number.
@@ -77,29 +77,6 @@ impl Sample {
         ensures origin { IsFromOrigin domain.now self.now → (result.now).publisher_id ≡ self.now.origin }
     {
         domain.state.sample_header(&self.sample)
-    }
-
-    /// Gives the message back to its publisher, which may use its slot again once nobody else has
-    /// it. Takes no memory.
-    ///
-    /// iceoryx2's `Sample`, when it is dropped (`src/sample.rs`).
-    pub fn release<T: Drop, U: Default + Drop, F: BackpressureFn, G: DegradationFn>(
-        self,
-        domain: &mut Domain<T, U, F, G>,
-    )
-        requires { IsLiveSample domain.old self }
-        ensures released { (m : Messages T U) (s : State T U) → Shows domain.old m s
-            → (publisher : ℕ) → IsTrue (is_borrowed self.sample.number (s.mailboxes publisher self.sample.subscriber))
-            → (s' : State T U) × Shows domain.new m s' × (s' ≡ released s publisher self.sample.subscriber self.sample.number) }
-        ensures spent { IsLiveSample domain.new self → ⊥ }
-        ensures stays { StaysBut (received_sample self) domain.old domain.new }
-    {
-        let Sample {
-            service_id: _,
-            origin: _,
-            sample,
-        } = self;
-        domain.state.give_back(sample);
     }
 
     /// Spends the handle of a sample whose domain is gone. A domain that is still there isn't told,

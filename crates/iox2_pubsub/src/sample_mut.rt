@@ -1,6 +1,8 @@
 //! A loan that is written.
 ghost use Rattle.std.specs.Prelude.{◌≡◌};
 
+mod send;
+
 use crate::domain::Domain;
 use iox2_domain::LoanAt;
 use iox2_store::{BackpressureFn, DegradationFn, Header, Key};

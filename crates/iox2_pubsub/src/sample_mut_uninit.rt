@@ -1,8 +1,9 @@
 //! A loan that isn't written.
 ghost use Rattle.std.specs.Prelude.{◌≡◌};
 
+mod write_payload;
+
 use crate::domain::Domain;
-use crate::sample_mut::SampleMut;
 use iox2_domain::LoanAt;
 use iox2_store::{BackpressureFn, DegradationFn, Header, Key};
 
@@ -17,35 +18,10 @@ pub struct SampleMutUninit {
 
 impl SampleMutUninit {
     ghost use Rattle.std.specs.Prelude.{Some};
-    ghost use Rattle.iox2_store.specs.machine.Records.{Loan};
-    ghost use Rattle.iox2_store.specs.machine.State.{State, Messages, with_loan};
-    ghost use Rattle.iox2_store.specs.machine.Loans.{written};
-    ghost use Rattle.iox2_pubsub.specs.Live.{IsLoanKey, IsSingleValued, IsUnwrittenLoan, IsWrittenLoan, StaysBut, unwritten_key, unwritten_loan, written_key};
+    ghost use Rattle.iox2_store.specs.machine.State.{State, Messages};
+    ghost use Rattle.iox2_pubsub.specs.Live.{IsLoanKey, IsSingleValued, IsUnwrittenLoan, unwritten_key};
     ghost use Rattle.iox2_domain.specs.LoanCalls.{HasCell, HasLoanHeader};
     ghost use Rattle.iox2_domain.specs.Shows.{Shows};
-
-    /// Writes the payload, in a domain of single values, and makes the loan one that
-    /// may be sent.
-    ///
-    /// iceoryx2's `SampleMutUninit::write_payload` (`src/sample_mut_uninit.rs`).
-    pub fn write_payload<T: Drop, U: Default + Drop, F: BackpressureFn, G: DegradationFn>(
-        self,
-        domain: &mut Domain<T, U, F, G>,
-        value: T,
-    ) -> SampleMut
-        requires live { IsUnwrittenLoan domain.old self }
-        requires single_valued { IsSingleValued domain.old }
-        ensures written { (m : Messages T U) (s : State T U) → Shows domain.old m s → (l : Loan T U) × (s.loans self.loan.number ≡ Some l) × Shows domain.new m (with_loan s self.loan.number (Some (written l value))) }
-        ensures live { IsWrittenLoan domain.new result }
-        ensures key { written_key result ≡ unwritten_key self }
-        ensures stays { StaysBut (unwritten_loan self) domain.old domain.new }
-    {
-        let SampleMutUninit { service_id, loan } = self;
-        SampleMut {
-            service_id,
-            loan: domain.state.write_loan(loan, value),
-        }
-    }
 
     /// The payload, in a domain of single values, and `None` where it isn't written.
     ///

@@ -2,6 +2,8 @@
 ghost use Rattle.std.specs.Prelude.{◌≡◌};
 ghost use Rattle.iox2_pubsub.specs.Live.{subscriber_key};
 
+mod receive;
+
 use crate::domain::Domain;
 use iox2_store::{BackpressureFn, DegradationFn, Key, UniqueSubscriberId};
 

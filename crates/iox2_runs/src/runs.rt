@@ -25,14 +25,14 @@ use iox2_store::{BackpressureFn, DegradationFn};
 use made::{Made, disown_all};
 use std::alloc::Global;
 
-// There is a default value of the type.
+// There is a default value of the type. For proofs alone.
 fn has_default<T: Default + Drop>()
     ensures { (value : T) × T.is_default value }
 {
     T::default();
 }
 
-// There is a state that the domain shows.
+// There is a state that the domain shows. For proofs alone.
 fn shows_a_state<T: Drop, U: Default + Drop, F: BackpressureFn, G: DegradationFn>(
     domain: &Domain<T, U, F, G>,
 )

@@ -10,7 +10,7 @@ ghost use Rattle.iox2_commands.specs.declared.command.Command.TheVariants.{Creat
 use super::made::Made;
 use iox2_commands::Reply;
 use iox2_pubsub::Domain;
-use iox2_store::{BackpressureFn, DegradationFn, TypeVariant};
+use iox2_store::{BackpressureFn, DegradationFn};
 
 /// Makes a publisher with so many loans, and returns it too.
 pub(crate) fn create_publisher<
@@ -23,10 +23,8 @@ pub(crate) fn create_publisher<
     ensures { (len : ℕ) → Carries (defaults_of T.is_default U.is_default) domain.old domain.new table.now
         (CreatePublisher loans DiscardData Static len None Warn None) result.0 table.now result.1 }
 {
-    match domain.variant() {
-        TypeVariant::FixedSize => {}
-        TypeVariant::Dynamic => unreachable!(),
-    }
+    // For the proof alone: the machine reads the command by the variant.
+    domain.variant();
     match domain
         .publisher_builder()
         .max_loaned_samples(loans)

@@ -1,0 +1,38 @@
+//! A message is given back.
+ghost use Rattle.std.specs.Prelude.{◌≡◌};
+
+use crate::domain::Domain;
+use crate::sample::Sample;
+use iox2_store::{BackpressureFn, DegradationFn};
+
+impl Sample {
+    ghost use Rattle.std.specs.Prelude.{ℕ, IsTrue};
+    ghost use Rattle.iox2_store.specs.machine.Mailbox.{is_borrowed};
+    ghost use Rattle.iox2_store.specs.machine.Releases.{released};
+    ghost use Rattle.iox2_store.specs.machine.State.{State, Messages};
+    ghost use Rattle.iox2_pubsub.specs.Live.{IsLiveSample, StaysBut, received_sample};
+    ghost use Rattle.iox2_domain.specs.Shows.{Shows};
+
+    /// Gives the message back to its publisher, which may use its slot again once nobody else has
+    /// it. Takes no memory.
+    ///
+    /// iceoryx2's `Sample`, when it is dropped (`src/sample.rs`).
+    pub fn release<T: Drop, U: Default + Drop, F: BackpressureFn, G: DegradationFn>(
+        self,
+        domain: &mut Domain<T, U, F, G>,
+    )
+        requires { IsLiveSample domain.old self }
+        ensures released { (m : Messages T U) (s : State T U) → Shows domain.old m s
+            → (publisher : ℕ) → IsTrue (is_borrowed self.sample.number (s.mailboxes publisher self.sample.subscriber))
+            → (s' : State T U) × Shows domain.new m s' × (s' ≡ released s publisher self.sample.subscriber self.sample.number) }
+        ensures spent { IsLiveSample domain.new self → ⊥ }
+        ensures stays { StaysBut (received_sample self) domain.old domain.new }
+    {
+        let Sample {
+            service_id: _,
+            origin: _,
+            sample,
+        } = self;
+        domain.state.give_back(sample);
+    }
+}
