@@ -30,9 +30,10 @@ use Rattle.iox2_domain.specs.Invariant.{IsDomain}
 use Rattle.iox2_domain.specs.Kept.{Kept, state_of, entries_of}
 use Rattle.iox2_domain.specs.Lending.{LoanCall}
 use Rattle.iox2_domain.specs.Shows.{Shows}
-use Rattle.iox2_pubsub.specs.Live.{IsLoanKey, IsSampleKey, No_item, A_loan, A_sample, IsOtherSample, StaysBut, Stays, IsNewIn, unwritten_key, written_key, sample_key}
+use Rattle.iox2_pubsub.specs.Live.{IsLoanKey, IsSampleKey, LoanReads, No_item, A_loan, A_sample, IsOtherSample, StaysBut, Stays, IsNewIn, unwritten_key, written_key, sample_key}
+use Rattle.iox2_pubsub.specs.declared.sample_mut.SampleMut.{SampleMut}
 use Rattle.iox2_pubsub.proofs.AlwaysShows.{shows_itself}
-use Rattle.iox2_pubsub.proofs.LiveParts.{loan-parts, sample-parts, origin-parts}
+use Rattle.iox2_pubsub.proofs.LiveParts.{loan-parts, loan-cell, sample-parts, origin-parts}
 use Rattle.iox2_pubsub.proofs.StaysBut.{stays-between}
 
 -- a domain shows some state
@@ -54,32 +55,32 @@ one-origin {T} {U} kept m s shown p p' q q' n here there =
 
 module _ {T U : Type 0} (old new : Kept T U) (m : Messages T U) (s : State T U) (shown : Shows old m s) where
   -- ports, loans and samples stay
-  quiet : (m' : Messages T U) (s' : State T U) → Shows new m' s' → PortsStay s s' → s'.loans ≡ s.loans → Stays old new
-  quiet m' s' shown' stay loans =
-      stays-between No_item old new m m' s s' shown shown' stay.remain (λ n l at _. ap (λ (f : ℕ → Option (Loan T U)). f n) loans ∙ at)
+  quiet : (s' : State T U) → Shows new m s' → PortsStay s s' → s'.loans ≡ s.loans → Stays old new
+  quiet s' shown' stay loans =
+      stays-between No_item old new m m s s' shown shown' (λ n entry at. at) stay.remain (λ n l at _. ap (λ (f : ℕ → Option (Loan T U)). f n) loans ∙ at)
       (λ p q n at _. same_borrowed s s' stay p q n ∙ at)
 
   -- a publisher is made, or refused
   pub publisher-creation-stays : (given : PublisherSettings) (refusal : Option PublisherCreateError) (s' : State T U) → Shows new m s'
       → CreatePublisher fixed_handlers s given s' refusal → Stays old new
   publisher-creation-stays given refusal s' shown' h =
-      quiet m s' shown' (create_publisher_stays fixed_handlers s given s' refusal h) (create_publisher_loans fixed_handlers s given s' refusal h)
+      quiet s' shown' (create_publisher_stays fixed_handlers s given s' refusal h) (create_publisher_loans fixed_handlers s given s' refusal h)
 
   -- a subscriber is made, or refused
   pub subscriber-creation-stays : (given : SubscriberSettings) (refusal : Option SubscriberCreateError) (s' : State T U) → Shows new m s'
       → CreateSubscriber fixed_handlers s given s' refusal → Stays old new
   subscriber-creation-stays given refusal s' shown' h =
-      quiet m s' shown' (create_subscriber_stays fixed_handlers s given s' refusal h) (create_subscriber_loans fixed_handlers s given s' refusal h)
+      quiet s' shown' (create_subscriber_stays fixed_handlers s given s' refusal h) (create_subscriber_loans fixed_handlers s given s' refusal h)
 
   -- a loan is granted, or refused
   pub loan-stays : {A : Type 0} (is_default : U → Type 0) (p : ℕ) (answer : Result A LoanError) (s' : State T U) → Shows new m s' → LoanCall is_default s p answer s' → Stays old new
   loan-stays is_default p (Ok a) s' shown' h =
       let stay : PortsStay s s' = grant_loan_stays ample_memory h.0 false 1 s p s' None h.2 in
       let next = loan_next ample_memory s h.0 false 1 p s' h.2 in
-      stays-between No_item old new m m s s' shown shown' stay.remain (λ n l at _. next.others n (shown.well_formed.loans n l at).below ∙ at)
+      stays-between No_item old new m m s s' shown shown' (λ n entry at. at) stay.remain (λ n l at _. next.others n (shown.well_formed.loans n l at).below ∙ at)
       (λ i j n at _. same_borrowed s s' stay i j n ∙ at)
   loan-stays is_default p (Err e) s' shown' h =
-      quiet m s' shown' (subst (PortsStay s) (sym h.0) (ports_stay_themselves s)) (ap (λ (t : State T U). t.loans) h.0)
+      quiet s' shown' (subst (PortsStay s) (sym h.0) (ports_stay_themselves s)) (ap (λ (t : State T U). t.loans) h.0)
 
   -- the new loan is none that was there
   pub loan-is-new : (number : ℕ) → number ≡ old.next_message → IsNewIn old (A_loan number)
@@ -89,6 +90,7 @@ module _ {T U : Type 0} (old new : Kept T U) (m : Messages T U) (s : State T U) 
     written_loans = λ it live. apart (written_key it) live.live;
     samples = λ it live. tt;
     origins = λ it from. tt;
+    payloads = read;
   }
     where
       apart : (key : Key) → IsLoanKey old key → key.message ≢ number
@@ -99,24 +101,37 @@ module _ {T U : Type 0} (old new : Kept T U) (m : Messages T U) (s : State T U) 
           let next : s.next_message ≡ old.next_message = ap (λ (t : State T U). t.next_message) shown.state in
           omega arith
 
+      read : (it : SampleMut) (value : T) → LoanReads old it value → it.loan.number ≢ number
+      read it value reads same =
+          let has = loan-cell old it value reads in
+          let at : s.loans it.loan.number ≡ Some has.0 = ap (λ (t : State T U). t.loans it.loan.number) shown.state ∙ has.1 in
+          let low : it.loan.number < s.next_message = (shown.well_formed.loans it.loan.number has.0 at).below in
+          let next : s.next_message ≡ old.next_message = ap (λ (t : State T U). t.next_message) shown.state in
+          omega arith
+
   -- a loan is written
   pub write-stays : (n : ℕ) (l : Loan T U) (value : T) → Shows new m (with_loan s n (Some (written l value))) → StaysBut (A_loan n) old new
   write-stays n l value shown' =
       let s' : State T U = with_loan s n (Some (written l value)) in
       let stay : PortsStay s s' = loan_set_stays s n (Some (written l value)) in
-      stays-between (A_loan n) old new m m s s' shown shown' stay.remain
+      stays-between (A_loan n) old new m m s s' shown shown' (λ n entry at. at) stay.remain
       (λ k loan at other. put_at-other s.loans n (Some (written l value)) k (ne_eqb k n other) ∙ at)
       (λ i j k at _. same_borrowed s s' stay i j k ∙ at)
 
   -- a loan is sent
-  pub send-stays : (n : ℕ) (l : Loan T U) (result : SendResult) (m' : Messages T U) (s' : State T U) → Shows new m' s' → Send fixed_handlers s n l s' result
-      → (result ≡ Blocked_send → ⊥) → StaysBut (A_loan n) old new
-  send-stays n l result m' s' shown' h free =
+  pub send-stays : (n : ℕ) (l : Loan T U) → s.loans n ≡ Some l → (result : SendResult) (entry : Entry T U) (s' : State T U) → Shows new (put_at m n (Some entry)) s'
+      → Send fixed_handlers s n l s' result → (result ≡ Blocked_send → ⊥) → StaysBut (A_loan n) old new
+  send-stays n l out result entry s' shown' h free =
       let stay : PortsStay s s' = send_stays fixed_handlers s n l s' result h free in
       let loans : s'.loans ≡ put_at s.loans n None = send_loans fixed_handlers s n l s' result h in
-      stays-between (A_loan n) old new m m' s s' shown shown' stay.remain
+      stays-between (A_loan n) old new m (put_at m n (Some entry)) s s' shown shown' sent stay.remain
       (λ k loan at other. ap (λ (f : ℕ → Option (Loan T U)). f k) loans ∙ put_at-other s.loans n None k (ne_eqb k n other) ∙ at)
       (λ i j k at _. same_borrowed s s' stay i j k ∙ at)
+    where
+      -- a message that was sent before has another number
+      sent : (k : ℕ) (other : Entry T U) → m k ≡ Some other → put_at m n (Some entry) k ≡ Some other
+      sent k other at = put_at-other m n (Some entry) k (ne_eqb k n (λ e.
+          let clash : None ≡ Some other = sym (shown.unsent n l out) ∙ ap m (sym e) ∙ at in absurd cc)) ∙ at
 
   -- it is out no more
   pub send-spends : (key : Key) (l : Loan T U) (result : SendResult) (m' : Messages T U) (s' : State T U) → Shows new m' s'
@@ -133,7 +148,7 @@ module _ {T U : Type 0} (old new : Kept T U) (m : Messages T U) (s : State T U) 
   pub receive-stays : (q : ℕ) (result : ReceiveResult) (s' : State T U) → Shows new m s' → Receive fixed_handlers s q s' result → Stays old new
   receive-stays q (Got_sample p n) s' shown' h =
       let got : IsReceived fixed_handlers s q p n s' = received_one fixed_handlers s q p n s' h in
-      stays-between No_item old new m m s s' shown shown' got.remain (λ k l at _. ap (λ (f : ℕ → Option (Loan T U)). f k) got.loans ∙ at)
+      stays-between No_item old new m m s s' shown shown' (λ n entry at. at) got.remain (λ k l at _. ap (λ (f : ℕ → Option (Loan T U)). f k) got.loans ∙ at)
       (λ i j k at _. elim (cases_eq i p) [
         | inr away ↦ got.others i j k (λ e _ _. away e) ∙ at
         | inl e_p ↦ elim (cases_eq j q) [
@@ -147,9 +162,9 @@ module _ {T U : Type 0} (old new : Kept T U) (m : Messages T U) (s : State T U) 
         ]
       ])
   receive-stays q No_sample s' shown' h =
-      quiet m s' shown' (nothing_received fixed_handlers s q s' No_sample (λ p n e. let clash : No_sample ≡ Got_sample p n = e in absurd cc) h) (receive_loans fixed_handlers s q s' No_sample h)
+      quiet s' shown' (nothing_received fixed_handlers s q s' No_sample (λ p n e. let clash : No_sample ≡ Got_sample p n = e in absurd cc) h) (receive_loans fixed_handlers s q s' No_sample h)
   receive-stays q (Receive_error e) s' shown' h =
-      quiet m s' shown' (nothing_received fixed_handlers s q s' (Receive_error e) (λ p n f. let clash : Receive_error e ≡ Got_sample p n = f in absurd cc) h)
+      quiet s' shown' (nothing_received fixed_handlers s q s' (Receive_error e) (λ p n f. let clash : Receive_error e ≡ Got_sample p n = f in absurd cc) h)
       (receive_loans fixed_handlers s q s' (Receive_error e) h)
 
   -- what is received wasn't borrowed
@@ -165,7 +180,7 @@ module _ {T U : Type 0} (old new : Kept T U) (m : Messages T U) (s : State T U) 
       (λ e _ k. let clash : Got_sample p n ≡ Receive_error _ = k.1 in absurd cc)
 
   pub received-is-new : (p q n : ℕ) (s' : State T U) → Shows new m s' → Receive fixed_handlers s q s' (Got_sample p n) → IsNewIn old (A_sample q n)
-  received-is-new p q n s' shown' h = record { loans = λ key live. tt; unwritten_loans = λ it live. tt; written_loans = λ it live. tt; samples = λ it live. apart (sample_key it) live; origins = λ it from. away it.origin it.sample.subscriber it.sample.number (origin-parts old it from) } where
+  received-is-new p q n s' shown' h = record { loans = λ key live. tt; unwritten_loans = λ it live. tt; written_loans = λ it live. tt; samples = λ it live. apart (sample_key it) live; origins = λ it from. away it.origin it.sample.subscriber it.sample.number (origin-parts old it from); payloads = λ it value reads. tt } where
     got : IsReceived fixed_handlers s q p n s'
     got = received_one fixed_handlers s q p n s' h
 
@@ -192,7 +207,7 @@ module _ {T U : Type 0} (old new : Kept T U) (m : Messages T U) (s : State T U) 
   -- a sample is released
   pub release-stays : (p q n : ℕ) (s' : State T U) → Shows new m s' → s' ≡ released s p q n → StaysBut (A_sample q n) old new
   release-stays p q n s' shown' is =
-      stays-between (A_sample q n) old new m m s s' shown shown' (subst (Remain s) (sym is) (released_remain s p q n))
+      stays-between (A_sample q n) old new m m s s' shown shown' (λ n entry at. at) (subst (Remain s) (sym is) (released_remain s p q n))
       (λ k l at _. ap (λ (t : State T U). t.loans k) is ∙ ap (λ (f : ℕ → Option (Loan T U)). f k) (released_loans s p q n) ∙ at)
       (λ i j k at other. ap (λ (t : State T U). is_borrowed k (t.mailboxes i j)) is ∙ released_others s p q n i j k (λ _ e_q e_n. apart other e_q e_n) ∙ at)
     where

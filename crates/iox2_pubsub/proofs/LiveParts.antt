@@ -1,13 +1,13 @@
 -- What it takes for a handle to be live, part by part.
-use Rattle.std.proofs.Common.{◌≡◌, ℕ, Bool, true, ap, sym, ◌∙◌, Some}
+use Rattle.std.proofs.Common.{List, [], ◌∷◌, Option, ◌≡◌, ℕ, Bool, true, ap, sym, ◌∙◌, Some}
 use Rattle.iox2_store.specs.machine.Mailbox.{is_borrowed}
-use Rattle.iox2_store.specs.machine.Records.{Loan}
+use Rattle.iox2_store.specs.machine.Records.{Entry, Loan}
 use Rattle.iox2_store.specs.machine.SingleCalls.{HoldsPublisher, HoldsSubscriber, HoldsLoan, HoldsSample}
 use Rattle.iox2_store.specs.declared.key.Key.{Key}
 use Rattle.iox2_store.specs.declared.service_config.TypeVariant.TheVariants.{FixedSize}
-use Rattle.iox2_domain.specs.Kept.{Kept, state_of}
-use Rattle.iox2_domain.specs.LoanCalls.{HoldsUnwritten, HoldsWritten}
-use Rattle.iox2_pubsub.specs.Live.{IsSingleValued, IsPublisherKey, IsSubscriberKey, IsLoanKey, IsSampleKey, HasMark, IsFromOrigin, IsUnwrittenLoan, IsWrittenLoan}
+use Rattle.iox2_domain.specs.Kept.{Kept, state_of, entries_of}
+use Rattle.iox2_domain.specs.LoanCalls.{HasCell, HoldsUnwritten, HoldsWritten}
+use Rattle.iox2_pubsub.specs.Live.{IsSingleValued, IsPublisherKey, IsSubscriberKey, IsLoanKey, IsSampleKey, HasMark, IsFromOrigin, LoanReads, SampleReads, IsUnwrittenLoan, IsWrittenLoan}
 use Rattle.iox2_pubsub.specs.declared.sample.Sample.{Sample}
 use Rattle.iox2_pubsub.specs.declared.sample_mut.SampleMut.{SampleMut}
 use Rattle.iox2_pubsub.specs.declared.sample_mut_uninit.SampleMutUninit.{SampleMutUninit}
@@ -90,6 +90,39 @@ module _ {T U : Type 0} (kept : Kept T U) where
   pub written-live : (loan : SampleMut) → loan.service_id ≡ (kept.config).service_id → HoldsWritten (state_of kept) loan.loan.publisher loan.loan.number → IsWrittenLoan kept loan
   written-live loan service has =
       record { live = loan-live _ (service, (has.0, has.1, has.2)); written = has-mark loan.loan.number _ has.0 has.1 has.3 }
+
+  -- ---- what is read
+
+  pub loan-reads : (loan : SampleMut) (value : T) → HasCell (state_of kept) loan.loan.number (Some value) → LoanReads kept loan value
+  unfolding LoanReads
+  loan-reads loan value has = has
+
+  pub loan-cell : (loan : SampleMut) (value : T) → LoanReads kept loan value → HasCell (state_of kept) loan.loan.number (Some value)
+  unfolding LoanReads
+  loan-cell loan value reads = reads
+
+  -- a loan reads as one value
+  pub loan-reads-one : (loan : SampleMut) (value value' : T) → LoanReads kept loan value → LoanReads kept loan value' → value ≡ value'
+  unfolding LoanReads
+  loan-reads-one loan value value' a b =
+      let both : Some a.0 ≡ Some b.0 = sym a.1 ∙ b.1 in
+      let same : a.0 ≡ b.0 = cc in
+      let cells : ◌≡◌ {A = List (Option T)} (Some value ∷ []) (Some value' ∷ []) = sym a.2 ∙ ap (λ (l : Loan T U). l.cells) same ∙ b.2 in
+      cc
+
+  pub sample-reads : (sample : Sample) (value : T) (entry : Entry T U) → entries_of kept sample.sample.number ≡ Some entry → entry.values ≡ value ∷ []
+      → SampleReads kept sample value
+  unfolding SampleReads
+  sample-reads sample value entry at values = (entry, at, values)
+
+  -- a sample reads as one value
+  pub sample-reads-one : (sample : Sample) (value value' : T) → SampleReads kept sample value → SampleReads kept sample value' → value ≡ value'
+  unfolding SampleReads
+  sample-reads-one sample value value' a b =
+      let both : Some a.0 ≡ Some b.0 = sym a.1 ∙ b.1 in
+      let same : a.0 ≡ b.0 = cc in
+      let values : value ∷ [] ≡ value' ∷ [] = sym a.2 ∙ ap (λ (e : Entry T U). e.values) same ∙ b.2 in
+      cc
 
   -- ---- origins
 

@@ -1,5 +1,5 @@
 -- The handles of loans: what a domain that holds one shows.
-use Rattle.std.proofs.Common.{◌≡◌, ℕ, cond, refl, ap, sym, subst, ◌∙◌, le_refl}
+use Rattle.std.proofs.Common.{length, replicate, ◌≡◌, ℕ, cond, refl, ap, sym, subst, ◌∙◌, le_refl}
 use Rattle.std.proofs.lemmas.Bool.{eq-eqb}
 use Rattle.std.specs.declared.option.Option.TheVariants.{None, Some}
 use Rattle.iox2_store.specs.machine.Records.{Loan}
@@ -10,10 +10,10 @@ use Rattle.iox2_laws.proofs.Puts.{found_put}
 use Rattle.iox2_domain.specs.Kept.{Kept, state_of}
 use Rattle.iox2_domain.specs.Fields.{Fields, kept_of}
 use Rattle.iox2_store.specs.declared.key.Key.{Key}
-use Rattle.iox2_pubsub.specs.Live.{IsLoanKey, IsUnwrittenLoan, IsWrittenLoan}
+use Rattle.iox2_pubsub.specs.Live.{IsLoanKey, IsUnwrittenLoan, IsWrittenLoan, LoanReads}
 use Rattle.iox2_pubsub.specs.declared.sample_mut.SampleMut.{SampleMut}
 use Rattle.iox2_pubsub.specs.declared.sample_mut_uninit.SampleMutUninit.{SampleMutUninit}
-use Rattle.iox2_pubsub.proofs.LiveParts.{loan-parts, unwritten-parts, written-parts, written-live}
+use Rattle.iox2_pubsub.proofs.LiveParts.{loan-parts, loan-reads, unwritten-parts, written-parts, written-live}
 use Rattle.iox2_store.specs.declared.header.Header.{Header}
 use Rattle.iox2_domain.specs.Invariant.{IsDomain}
 use Rattle.iox2_domain.specs.LoanCalls.{HoldsUnwritten, HoldsWritten, HasLoanHeader, WritesLoan}
@@ -70,6 +70,20 @@ module _ {T U : Type 0} (f g : Fields T U) (kept : Kept T U) (view : kept_of f �
         ap (λ (l : Loan T U). l.publisher) same ∙ (parts.1).2 ∙ sym publisher,
         refl,
       )
+
+-- the written loan reads as the value
+pub write-reads : {T U : Type 0} (f g : Fields T U) (n : ℕ) (value : T) (writes : WritesLoan f g n value) (loan : SampleMut) → loan.loan.number ≡ n
+    → (l : Loan T U) → (state_of (kept_of f)).loans n ≡ Some l → length l.cells ≡ 1 → LoanReads (kept_of g) loan value
+write-reads {T} {U} f g n value writes loan number l at one =
+    let both : Some writes.0 ≡ Some l = sym writes.1 ∙ at in
+    let same : writes.0 ≡ l = cc in
+    loan-reads (kept_of g) loan value (
+      written writes.0 value,
+      ap (state_of (kept_of g)).loans number
+          ∙ ap (λ (t : State T U). t.loans n) writes.2.state
+          ∙ ap (λ b. cond b (Some (written writes.0 value)) ((state_of (kept_of f)).loans n)) (eq-eqb n n refl),
+      ap (λ (k : Loan T U). replicate (length k.cells) (Some value)) same ∙ ap (λ (k : ℕ). replicate k (Some value)) one,
+    )
 
 -- ---- the header of a loan
 

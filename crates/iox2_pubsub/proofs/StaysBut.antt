@@ -1,15 +1,18 @@
 -- What of a domain stays from one state to the next.
-use Rattle.std.proofs.Common.{◌≡◌, ℕ, Bool, true, sym, ap, subst, ◌∙◌, Some}
+use Rattle.std.proofs.Common.{◌≡◌, refl, ℕ, Bool, true, sym, ap, subst, ◌∙◌, Some}
 use Rattle.iox2_store.specs.machine.Mailbox.{is_borrowed}
-use Rattle.iox2_store.specs.machine.Records.{Loan}
+use Rattle.iox2_store.specs.machine.Records.{Entry, Loan}
 use Rattle.iox2_store.specs.machine.State.{State, Messages}
 use Rattle.iox2_store.specs.declared.key.Key.{Key}
 use Rattle.iox2_store.specs.declared.service_config.ServiceConfig.{ServiceConfig}
 use Rattle.iox2_laws.proofs.PortsStay.{Remain}
-use Rattle.iox2_domain.specs.Kept.{Kept, state_of}
+use Rattle.iox2_store.specs.Stored.{In_mailbox}
+use Rattle.iox2_laws.proofs.NumberLemmas.{contains_right}
+use Rattle.iox2_domain.specs.Kept.{Kept, state_of, entries_of}
 use Rattle.iox2_domain.specs.Shows.{Shows}
-use Rattle.iox2_pubsub.specs.Live.{IsSingleValued, IsPublisherKey, IsSubscriberKey, IsLoanKey, IsSampleKey, HasMark, IsFromOrigin, Item, IsOtherLoan, IsOtherSample, StaysBut, publisher_key, subscriber_key, unwritten_key, written_key, sample_key}
+use Rattle.iox2_pubsub.specs.Live.{IsSingleValued, IsPublisherKey, IsSubscriberKey, IsLoanKey, IsSampleKey, IsLiveSample, HasMark, IsFromOrigin, LoanReads, SampleReads, Item, No_item, IsOtherLoan, IsOtherSample, StaysBut, Stays, IsNewIn, publisher_key, subscriber_key, unwritten_key, written_key, sample_key}
 use Rattle.iox2_pubsub.specs.declared.sample.Sample.{Sample}
+use Rattle.iox2_pubsub.specs.declared.sample_mut.SampleMut.{SampleMut}
 
 module _ {T U : Type 0} where
   -- the loans stay, but for the item
@@ -21,7 +24,8 @@ module _ {T U : Type 0} where
   SamplesStayBut spent s s' = (p q n : ℕ) → is_borrowed n (s.mailboxes p q) ≡ true → IsOtherSample spent q n → is_borrowed n (s'.mailboxes p q) ≡ true
 
 module _ {T U : Type 0} (spent : Item) (old new : Kept T U) (remain : Remain (state_of old) (state_of new)) (loans : LoansStayBut spent (state_of old) (state_of new))
-    (samples : SamplesStayBut spent (state_of old) (state_of new)) where
+    (samples : SamplesStayBut spent (state_of old) (state_of new))
+    (entries : (n p q : ℕ) (entry : Entry T U) → entries_of old n ≡ Some entry → is_borrowed n ((state_of new).mailboxes p q) ≡ true → entries_of new n ≡ Some entry) where
   service : (id : ℕ) → id ≡ (old.config).service_id → id ≡ (new.config).service_id
   service id ours = ours ∙ sym (ap (λ (c : ServiceConfig). c.service_id) remain.config)
 
@@ -53,6 +57,17 @@ module _ {T U : Type 0} (spent : Item) (old new : Kept T U) (remain : Remain (st
   unfolding IsFromOrigin
   origin it from other = samples it.origin it.sample.subscriber it.sample.number from other
 
+  loan-payload : (it : SampleMut) (value : T) → LoanReads old it value → IsOtherLoan spent it.loan.number → LoanReads new it value
+  unfolding LoanReads
+  loan-payload it value reads other = (reads.0, loans it.loan.number reads.0 reads.1 other, reads.2)
+
+  sample-payload : (it : Sample) (value : T) → IsLiveSample old it → SampleReads old it value → IsOtherSample spent it.sample.subscriber it.sample.number
+      → SampleReads new it value
+  unfolding SampleReads IsSampleKey
+  sample-payload it value live reads other =
+      let has = sample (sample_key it) live other in
+      (reads.0, entries it.sample.number (has.1).0 it.sample.subscriber reads.0 reads.1 (has.1).1, reads.2)
+
   stays-but : StaysBut spent old new
   stays-but = record {
     settings = remain.config;
@@ -64,13 +79,79 @@ module _ {T U : Type 0} (spent : Item) (old new : Kept T U) (remain : Remain (st
     written_loans = λ it live other. record { live = loan (written_key it) live.live other; written = mark it.loan.number _ live.written other };
     samples = λ it. sample (sample_key it);
     origins = origin;
+    loan_payloads = loan-payload;
+    sample_payloads = sample-payload;
   }
 
 -- seen from a state that is shown
 pub stays-between : {T U : Type 0} (spent : Item) (old new : Kept T U) (m m' : Messages T U) (s s' : State T U) → Shows old m s → Shows new m' s'
-    → Remain s s' → LoansStayBut spent s s' → SamplesStayBut spent s s' → StaysBut spent old new
-stays-between {T} {U} spent old new m m' s s' shown shown' remain loans samples =
-    stays-but spent old new (between (λ a b. Remain a b) remain) (between (LoansStayBut spent) loans) (between (SamplesStayBut spent) samples)
+    → ((n : ℕ) (entry : Entry T U) → m n ≡ Some entry → m' n ≡ Some entry) → Remain s s' → LoansStayBut spent s s' → SamplesStayBut spent s s' → StaysBut spent old new
+stays-between {T} {U} spent old new m m' s s' shown shown' sent remain loans samples =
+    stays-but spent old new (between (λ a b. Remain a b) remain) (between (LoansStayBut spent) loans) (between (SamplesStayBut spent) samples) entries
   where
+    entries : (n p q : ℕ) (entry : Entry T U) → entries_of old n ≡ Some entry → is_borrowed n ((state_of new).mailboxes p q) ≡ true → entries_of new n ≡ Some entry
+    entries n p q entry at borrowed =
+        let kept = shown'.complete p n (In_mailbox q (contains_right ((state_of new).mailboxes p q).waiting ((state_of new).mailboxes p q).borrowed n borrowed)) in
+        let both : Some kept.0 ≡ Some entry = sym (shown'.entries n kept.0 kept.1) ∙ sent n entry (shown.entries n entry at) in
+        kept.1 ∙ both
+
     between : (P : State T U → State T U → Type 0) → P s s' → P (state_of old) (state_of new)
     between P h = subst (λ (t : State T U). P t (state_of new)) shown.state (subst (P s) shown'.state h)
+
+-- ---- one step after another
+
+module _ {T U : Type 0} (start old : Kept T U) (before : Stays start old) (item : Item) where
+  -- what is new later was new before
+  pub new-since : IsNewIn old item → IsNewIn start item
+  new-since new = record {
+    loans = λ key live. new.loans key (before.loans key live tt);
+    unwritten_loans = λ it live. new.unwritten_loans it (before.unwritten_loans it live tt);
+    written_loans = λ it live. new.written_loans it (before.written_loans it live tt);
+    samples = λ it live. new.samples it (before.samples it live tt);
+    origins = λ it from. new.origins it (before.origins it from tt);
+    payloads = λ it value reads. new.payloads it value (before.loan_payloads it value reads tt);
+  }
+
+  -- where an item that was new is spent, all that was there before stays
+  pub stays-on : (new : Kept T U) → IsNewIn start item → StaysBut item old new → Stays start new
+  stays-on new apart next = record {
+    settings = next.settings ∙ before.settings;
+    single_valued = λ was. next.single_valued (before.single_valued was);
+    publishers = λ it live. next.publishers it (before.publishers it live);
+    subscribers = λ it live. next.subscribers it (before.subscribers it live);
+    loans = λ key live other. next.loans key (before.loans key live other) (apart.loans key live);
+    unwritten_loans = λ it live other. next.unwritten_loans it (before.unwritten_loans it live other) (apart.unwritten_loans it live);
+    written_loans = λ it live other. next.written_loans it (before.written_loans it live other) (apart.written_loans it live);
+    samples = λ it live other. next.samples it (before.samples it live other) (apart.samples it live);
+    origins = λ it from other. next.origins it (before.origins it from other) (apart.origins it from);
+    loan_payloads = λ it value reads other. next.loan_payloads it value (before.loan_payloads it value reads other) (apart.payloads it value reads);
+    sample_payloads = λ it value live reads other.
+        next.sample_payloads it value (before.samples it live other) (before.sample_payloads it value live reads other) (apart.samples it live);
+  }
+
+-- nothing is always new
+pub nothing-is-new : {T U : Type 0} (start : Kept T U) → IsNewIn start No_item
+nothing-is-new start = record {
+  loans = λ key live. tt;
+  unwritten_loans = λ it live. tt;
+  written_loans = λ it live. tt;
+  samples = λ it live. tt;
+  origins = λ it from. tt;
+  payloads = λ it value reads. tt;
+}
+
+-- nothing changed
+pub stays-itself : {T U : Type 0} (kept : Kept T U) → Stays kept kept
+stays-itself kept = record {
+  settings = refl;
+  single_valued = λ was. was;
+  publishers = λ it live. live;
+  subscribers = λ it live. live;
+  loans = λ key live other. live;
+  unwritten_loans = λ it live other. live;
+  written_loans = λ it live other. live;
+  samples = λ it live other. live;
+  origins = λ it from other. from;
+  loan_payloads = λ it value reads other. reads;
+  sample_payloads = λ it value live reads other. reads;
+}

@@ -1,12 +1,13 @@
 -- What handles name in a domain, and what of it a call leaves.
-use Rattle.std.specs.Prelude.{ℕ, Bool, ◌≡◌, ◌≢◌, ◌⊎◌, true, false, IsTrue}
+use Rattle.std.specs.Prelude.{ℕ, Bool, [], ◌∷◌, ◌≡◌, ◌≢◌, ◌⊎◌, true, false, IsTrue}
 use Rattle.std.specs.declared.option.Option.TheVariants.{Some}
 use Rattle.iox2_store.specs.machine.Mailbox.{is_borrowed}
-use Rattle.iox2_store.specs.machine.Records.{Loan}
+use Rattle.iox2_store.specs.machine.Records.{Entry, Loan}
 use Rattle.iox2_store.specs.machine.SingleCalls.{HoldsPublisher, HoldsSubscriber, HoldsLoan, HoldsSample}
 use Rattle.iox2_store.specs.declared.key.Key.{Key}
 use Rattle.iox2_store.specs.declared.service_config.TypeVariant.TheVariants.{FixedSize}
-use Rattle.iox2_domain.specs.Kept.{Kept, state_of}
+use Rattle.iox2_domain.specs.Kept.{Kept, state_of, entries_of}
+use Rattle.iox2_domain.specs.LoanCalls.{HasCell}
 use Rattle.iox2_pubsub.specs.declared.publisher.Publisher.{Publisher}
 use Rattle.iox2_pubsub.specs.declared.subscriber.Subscriber.{Subscriber}
 use Rattle.iox2_pubsub.specs.declared.sample_mut_uninit.SampleMutUninit.{SampleMutUninit}
@@ -89,6 +90,16 @@ module _ {T U : Type 0} (domain : Kept T U) where
   unfoldable pub IsFromOrigin : Sample → Type 0
   IsFromOrigin sample = IsTrue (is_borrowed sample.sample.number ((state_of domain).mailboxes sample.origin sample.sample.subscriber))
 
+  -- ---- what is read
+
+  -- The written loan's payload is this value.
+  unfoldable pub LoanReads : SampleMut → T → Type 0
+  LoanReads loan value = HasCell (state_of domain) loan.loan.number (Some value)
+
+  -- The sample's payload is this value.
+  unfoldable pub SampleReads : Sample → T → Type 0
+  SampleReads sample value = (entry : Entry T U) × (entries_of domain sample.sample.number ≡ Some entry) × (entry.values ≡ value ∷ [])
+
 -- ---- what a call spends, and what stays
 
 -- What a call spends or makes: nothing, a loan or a sample.
@@ -122,7 +133,8 @@ IsOtherSample (A_loan spent) subscriber number = Unit {0}
 IsOtherSample (A_sample whose spent) subscriber number = (subscriber ≢ whose) ⊎ (number ≢ spent)
 
 module _ {T U : Type 0} where
-  -- The settings stay, and each port, loan and sample that was live is live, but for the item that was spent.
+  -- The settings stay, and each port, loan and sample that was live is live and reads as it did, but for the item that was
+  -- spent.
   pub record StaysBut (spent : Item) (old new : Kept T U) : Type 0 where
     pub settings : new.config ≡ old.config
     pub single_valued : IsSingleValued old → IsSingleValued new
@@ -133,8 +145,11 @@ module _ {T U : Type 0} where
     pub written_loans : (loan : SampleMut) → IsWrittenLoan old loan → IsOtherLoan spent loan.loan.number → IsWrittenLoan new loan
     pub samples : (sample : Sample) → IsLiveSample old sample → IsOtherSample spent sample.sample.subscriber sample.sample.number → IsLiveSample new sample
     pub origins : (sample : Sample) → IsFromOrigin old sample → IsOtherSample spent sample.sample.subscriber sample.sample.number → IsFromOrigin new sample
+    pub loan_payloads : (loan : SampleMut) (value : T) → LoanReads old loan value → IsOtherLoan spent loan.loan.number → LoanReads new loan value
+    pub sample_payloads : (sample : Sample) (value : T) → IsLiveSample old sample → SampleReads old sample value
+        → IsOtherSample spent sample.sample.subscriber sample.sample.number → SampleReads new sample value
 
-  -- The settings stay, and each port, loan and sample that was live is live.
+  -- The settings stay, and each port, loan and sample that was live is live and reads as it did.
   abbrev pub Stays : (old new : Kept T U) → Type 0
   Stays old new = StaysBut No_item old new
 
@@ -145,3 +160,4 @@ module _ {T U : Type 0} where
     pub written_loans : (loan : SampleMut) → IsWrittenLoan old loan → IsOtherLoan made loan.loan.number
     pub samples : (sample : Sample) → IsLiveSample old sample → IsOtherSample made sample.sample.subscriber sample.sample.number
     pub origins : (sample : Sample) → IsFromOrigin old sample → IsOtherSample made sample.sample.subscriber sample.sample.number
+    pub payloads : (loan : SampleMut) (value : T) → LoanReads old loan value → IsOtherLoan made loan.loan.number

@@ -24,7 +24,7 @@ impl Sample {
     ghost use Rattle.std.specs.Prelude.{[], ◌∷◌, Some};
     ghost use Rattle.iox2_store.specs.machine.Records.{Entry};
     ghost use Rattle.iox2_store.specs.machine.State.{State, Messages};
-    ghost use Rattle.iox2_pubsub.specs.Live.{IsFromOrigin, IsLiveSample, IsSingleValued, sample_key};
+    ghost use Rattle.iox2_pubsub.specs.Live.{IsFromOrigin, IsLiveSample, IsSingleValued, SampleReads, sample_key};
     ghost use Rattle.iox2_domain.specs.Shows.{Shows};
 
     /// Names the sample among all that its domain has: by its subscriber and its number.
@@ -58,8 +58,10 @@ impl Sample {
     ) -> &'a T
         requires live { IsLiveSample domain.now self.now }
         requires single_valued { IsSingleValued domain.now }
-        ensures { (m : Messages T U) (s : State T U) → Shows domain.now m s
+        ensures entry { (m : Messages T U) (s : State T U) → Shows domain.now m s
             → (entry : Entry T U) × (m self.now.sample.number ≡ Some entry) × (entry.values ≡ result.now ∷ []) }
+        ensures reads { SampleReads domain.now self.now result.now }
+        ensures same { (value : T) → SampleReads domain.now self.now value → result.now ≡ value }
     {
         domain.state.sample_payload(&self.sample)
     }

@@ -19,7 +19,7 @@ pub struct SampleMut {
 impl SampleMut {
     ghost use Rattle.std.specs.Prelude.{Some};
     ghost use Rattle.iox2_store.specs.machine.State.{State, Messages};
-    ghost use Rattle.iox2_pubsub.specs.Live.{IsLoanKey, IsSingleValued, IsWrittenLoan, written_key};
+    ghost use Rattle.iox2_pubsub.specs.Live.{IsLoanKey, IsSingleValued, IsWrittenLoan, LoanReads, written_key};
     ghost use Rattle.iox2_domain.specs.LoanCalls.{HasCell, HasLoanHeader};
     ghost use Rattle.iox2_domain.specs.Shows.{Shows};
 
@@ -32,7 +32,9 @@ impl SampleMut {
     ) -> &'a T
         requires live { IsWrittenLoan domain.now self.now }
         requires single_valued { IsSingleValued domain.now }
-        ensures { (m : Messages T U) (s : State T U) → Shows domain.now m s → HasCell s self.now.loan.number (Some result.now) }
+        ensures cell { (m : Messages T U) (s : State T U) → Shows domain.now m s → HasCell s self.now.loan.number (Some result.now) }
+        ensures reads { LoanReads domain.now self.now result.now }
+        ensures same { (value : T) → LoanReads domain.now self.now value → result.now ≡ value }
     {
         domain.state.loan_value(&self.loan)
     }

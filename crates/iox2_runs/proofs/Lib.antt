@@ -10,3 +10,4 @@ pub mod RunLoop
 pub mod CarriedLoans
 pub mod CarriedPorts
 pub mod CarriedSamples
+pub mod LeavingSteps

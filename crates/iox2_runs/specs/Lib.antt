@@ -4,3 +4,4 @@ pub mod RunSteps
 pub mod Rooms
 pub mod Carries
 pub mod DomainRuns
+pub mod Leaves

@@ -4,6 +4,8 @@ ghost use Rattle.std.specs.List.{All};
 ghost use Rattle.iox2_store.specs.machine.Environments.{fixed_handlers};
 ghost use Rattle.iox2_store.specs.machine.State.{State, Messages};
 ghost use Rattle.iox2_domain.specs.Shows.{Shows};
+ghost use Rattle.iox2_pubsub.specs.Live.{Stays};
+ghost use Rattle.iox2_runs.specs.Leaves.{Leaves};
 ghost use Rattle.iox2_runs.specs.Rooms.{SameRoom};
 ghost use Rattle.iox2_runs.specs.Carries.{IsLiveTable, Carries, defaults_of};
 ghost use Rattle.iox2_commands.specs.Outcomes.{Event};
@@ -55,6 +57,7 @@ fn carry_out<
     requires supported { IsSupportedCommand command }
     requires keeps { IsLiveTable domain.old table.old.items }
     ensures carries { Carries (defaults_of T.is_default U.is_default) domain.old domain.new table.old.items command result.0 table.new.items result.1 }
+    ensures leaves { Leaves domain.old domain.new table.old.items table.new.items result.1 }
     ensures room { SameRoom table.old table.new }
 {
     match command {
@@ -101,6 +104,7 @@ pub fn run<T: Copy + Default + Drop, U: Copy + Default + Drop, F: BackpressureFn
         → (default_value : T) (default_header : U) → T.is_default default_value → U.is_default default_header
         → (m : Messages T U) (s : State T U) → Shows domain.old m s
         → RunsOnDomain (only_defaults default_value default_header) domain.new m s commands.items replies.items) }
+    ensures stays { Stays domain.old domain.new }
     ensures refused { IfErr result (λ given. (given.items ≡ commands.items) × (domain.new ≡ domain.old)) }
 {
     let Ok(mut replies) = Vec::with_capacity(alloc, commands.len()) else {

@@ -11,7 +11,7 @@ impl SampleMutUninit {
     ghost use Rattle.iox2_store.specs.machine.Records.{Loan};
     ghost use Rattle.iox2_store.specs.machine.State.{State, Messages, with_loan};
     ghost use Rattle.iox2_store.specs.machine.Loans.{written};
-    ghost use Rattle.iox2_pubsub.specs.Live.{IsSingleValued, IsUnwrittenLoan, IsWrittenLoan, StaysBut, unwritten_key, unwritten_loan, written_key};
+    ghost use Rattle.iox2_pubsub.specs.Live.{IsSingleValued, IsUnwrittenLoan, IsWrittenLoan, LoanReads, StaysBut, unwritten_key, unwritten_loan, written_key};
     ghost use Rattle.iox2_domain.specs.Shows.{Shows};
 
     /// Writes the payload, in a domain of single values, and makes the loan one that may be sent.
@@ -26,6 +26,7 @@ impl SampleMutUninit {
         requires single_valued { IsSingleValued domain.old }
         ensures written { (m : Messages T U) (s : State T U) → Shows domain.old m s → (l : Loan T U) × (s.loans self.loan.number ≡ Some l) × Shows domain.new m (with_loan s self.loan.number (Some (written l value))) }
         ensures live { IsWrittenLoan domain.new result }
+        ensures reads { LoanReads domain.new result value }
         ensures key { written_key result ≡ unwritten_key self }
         ensures stays { StaysBut (unwritten_loan self) domain.old domain.new }
     {

@@ -4,6 +4,7 @@ ghost use Rattle.std.specs.declared.option.Option.TheVariants.{None};
 ghost use Rattle.iox2_store.specs.declared.allocation.AllocationStrategy.TheVariants.{Static};
 ghost use Rattle.iox2_store.specs.declared.backpressure.BackpressureStrategy.TheVariants.{DiscardData};
 ghost use Rattle.iox2_store.specs.declared.degradation.DegradationAction.TheVariants.{Warn};
+ghost use Rattle.iox2_runs.specs.Leaves.{Leaves};
 ghost use Rattle.iox2_runs.specs.Carries.{IsLiveTable, Carries, defaults_of};
 ghost use Rattle.iox2_commands.specs.declared.command.Command.TheVariants.{CreatePublisher, CreateSubscriber};
 
@@ -20,8 +21,9 @@ pub(crate) fn create_publisher<
     G: DegradationFn,
 >(domain: &mut Domain<T, U, F, G>, table: &[Made], loans: usize) -> (Reply<T, U>, Made)
     requires { IsLiveTable domain.old table.now }
-    ensures { (len : ℕ) → Carries (defaults_of T.is_default U.is_default) domain.old domain.new table.now
+    ensures carries { (len : ℕ) → Carries (defaults_of T.is_default U.is_default) domain.old domain.new table.now
         (CreatePublisher loans DiscardData Static len None Warn None) result.0 table.now result.1 }
+    ensures leaves { Leaves domain.old domain.new table.now table.now result.1 }
 {
     // For the proof alone: the machine reads the command by the variant.
     domain.variant();
@@ -46,8 +48,9 @@ pub(crate) fn create_subscriber<
     G: DegradationFn,
 >(domain: &mut Domain<T, U, F, G>, table: &[Made], buffer: Option<usize>) -> (Reply<T, U>, Made)
     requires { IsLiveTable domain.old table.now }
-    ensures { Carries (defaults_of T.is_default U.is_default) domain.old domain.new table.now
+    ensures carries { Carries (defaults_of T.is_default U.is_default) domain.old domain.new table.now
         (CreateSubscriber buffer Warn) result.0 table.now result.1 }
+    ensures leaves { Leaves domain.old domain.new table.now table.now result.1 }
 {
     let factory = domain.subscriber_builder();
     let factory = match buffer {

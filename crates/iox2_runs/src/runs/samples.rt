@@ -2,6 +2,7 @@
 ghost use Rattle.std.specs.Prelude.{◌≡◌, ◌==◌, cond};
 ghost use Rattle.iox2_commands.specs.declared.reply.Reply.TheVariants.{Cell, Skipped};
 ghost use Rattle.iox2_runs.specs.Rooms.{SameRoom};
+ghost use Rattle.iox2_runs.specs.Leaves.{Leaves};
 ghost use Rattle.iox2_runs.specs.Carries.{IsLiveTable, Carries, defaults_of};
 ghost use Rattle.iox2_commands.specs.declared.command.Command.TheVariants.{Read, Receive, Release};
 ghost use Rattle.iox2_runs.specs.declared.runs.made.Made.TheVariants.{Nothing};
@@ -19,6 +20,7 @@ pub(crate) fn release<T: Default + Drop, U: Default + Drop, F: BackpressureFn, G
 ) -> Reply<T, U>
     requires { IsLiveTable domain.old table.old.items }
     ensures carries { Carries (defaults_of T.is_default U.is_default) domain.old domain.new table.old.items (Release of) result table.new.items Nothing }
+    ensures leaves { Leaves domain.old domain.new table.old.items table.new.items Nothing }
     ensures room { SameRoom table.old table.new }
 {
     match take(table, of) {
@@ -72,7 +74,8 @@ pub(crate) fn receive<T: Default + Drop, U: Default + Drop, F: BackpressureFn, G
     of: usize,
 ) -> (Reply<T, U>, Made)
     requires { IsLiveTable domain.old table.now }
-    ensures { Carries (defaults_of T.is_default U.is_default) domain.old domain.new table.now (Receive of) result.0 table.now result.1 }
+    ensures carries { Carries (defaults_of T.is_default U.is_default) domain.old domain.new table.now (Receive of) result.0 table.now result.1 }
+    ensures leaves { Leaves domain.old domain.new table.now table.now result.1 }
 {
     if domain.config().units_per_element != 1 {
         return (Reply::Skipped, Made::Nothing);

@@ -2,6 +2,7 @@ use Rattle.iox2_domain.specs.Shows.{Shows}
 use Rattle.iox2_runs.specs.Carries.{entry_for}
 use Rattle.std.proofs.Common.{map, sym, refl}
 use Rattle.iox2_runs.proofs.TableCalls.{nothing_comes}
+use Rattle.iox2_runs.proofs.LeavingSteps.{leaves-all}
 use Rattle.iox2_runs.proofs.runs.carry_out.Goals as goal
 
 pub returns-in-WriteAll-clause-carries : goal.returns-in-WriteAll-clause-carries
@@ -11,7 +12,7 @@ pub returns-in-Send-clause-carries : goal.returns-in-Send-clause-carries
 returns-in-Send-clause-carries g c = rw c.in-Send.is c.send.ensures.carries
 
 pub returns-in-Receive-clause-carries : goal.returns-in-Receive-clause-carries
-returns-in-Receive-clause-carries g c = rw (c.in-Receive.is, sym c.deref-in-Receive.ensures.value) c.receive.ensures
+returns-in-Receive-clause-carries g c = rw (c.in-Receive.is, sym c.deref-in-Receive.ensures.value) c.receive.ensures.carries
 
 pub returns-in-Read-clause-carries : goal.returns-in-Read-clause-carries
 returns-in-Read-clause-carries g c = rw (c.in-Read.is, sym c.deref-in-Read.ensures.value) c.read.ensures
@@ -24,7 +25,7 @@ returns-in-Nothing-clause-carries g c = rw c.in-Nothing.is (λ m s handles event
     nothing_comes {T = g.row.T.Denot} {U = g.row.U.Denot} _ (Shows c.args.domain.now) m s handles events (map entry_for c.args.table.now.items) w default_value default_header is_value is_header shown)
 
 pub returns-in-LoanUninit-clause-carries : goal.returns-in-LoanUninit-clause-carries
-returns-in-LoanUninit-clause-carries g c = rw (c.in-LoanUninit.is, sym c.deref-in-LoanUninit.ensures.value) c.loan_uninit.ensures
+returns-in-LoanUninit-clause-carries g c = rw (c.in-LoanUninit.is, sym c.deref-in-LoanUninit.ensures.value) c.loan_uninit.ensures.carries
 
 pub create_publisher-requires : goal.create_publisher-requires
 create_publisher-requires g c = rw c.deref.ensures.value c.requires.keeps
@@ -80,9 +81,45 @@ returns-in-Nothing-clause-room g c = record { len = refl; capacity = refl }
 pub returns-in-CreatePublisher-clause-carries : goal.returns-in-CreatePublisher-clause-carries
 returns-in-CreatePublisher-clause-carries g c =
     let told = rw c.in-CreatePublisher.is at c.requires.supported in
-    rw (c.in-CreatePublisher.is, told.0, told.1, told.2, told.3, told.4, sym c.deref.ensures.value) (c.create_publisher.ensures c.in-CreatePublisher.initial_max_slice_len)
+    rw (c.in-CreatePublisher.is, told.0, told.1, told.2, told.3, told.4, sym c.deref.ensures.value) (c.create_publisher.ensures.carries c.in-CreatePublisher.initial_max_slice_len)
 
 pub returns-in-CreateSubscriber-clause-carries : goal.returns-in-CreateSubscriber-clause-carries
 returns-in-CreateSubscriber-clause-carries g c =
     let told = rw c.in-CreateSubscriber.is at c.requires.supported in
-    rw (c.in-CreateSubscriber.is, told, sym c.deref-in-CreateSubscriber.ensures.value) c.create_subscriber.ensures
+    rw (c.in-CreateSubscriber.is, told, sym c.deref-in-CreateSubscriber.ensures.value) c.create_subscriber.ensures.carries
+
+pub returns-in-CreatePublisher-clause-leaves : goal.returns-in-CreatePublisher-clause-leaves
+returns-in-CreatePublisher-clause-leaves g c =
+    rw (sym c.deref.ensures.value) c.create_publisher.ensures.leaves
+
+pub returns-in-CreateSubscriber-clause-leaves : goal.returns-in-CreateSubscriber-clause-leaves
+returns-in-CreateSubscriber-clause-leaves g c =
+    rw (sym c.deref-in-CreateSubscriber.ensures.value) c.create_subscriber.ensures.leaves
+
+pub returns-in-LoanUninit-clause-leaves : goal.returns-in-LoanUninit-clause-leaves
+returns-in-LoanUninit-clause-leaves g c =
+    rw (sym c.deref-in-LoanUninit.ensures.value) c.loan_uninit.ensures.leaves
+
+pub returns-in-WriteAll-clause-leaves : goal.returns-in-WriteAll-clause-leaves
+returns-in-WriteAll-clause-leaves g c =
+    c.write_all.ensures.leaves
+
+pub returns-in-Send-clause-leaves : goal.returns-in-Send-clause-leaves
+returns-in-Send-clause-leaves g c =
+    c.send.ensures.leaves
+
+pub returns-in-Receive-clause-leaves : goal.returns-in-Receive-clause-leaves
+returns-in-Receive-clause-leaves g c =
+    rw (sym c.deref-in-Receive.ensures.value) c.receive.ensures.leaves
+
+pub returns-in-Release-clause-leaves : goal.returns-in-Release-clause-leaves
+returns-in-Release-clause-leaves g c =
+    c.release.ensures.leaves
+
+pub returns-in-Read-clause-leaves : goal.returns-in-Read-clause-leaves
+returns-in-Read-clause-leaves g c =
+    leaves-all {T = g.row.T.Denot} {U = g.row.U.Denot} c.args.domain.now c.args.domain.now c.args.table.now.items c.args.table.now.items refl refl
+
+pub returns-in-Nothing-clause-leaves : goal.returns-in-Nothing-clause-leaves
+returns-in-Nothing-clause-leaves g c =
+    leaves-all {T = g.row.T.Denot} {U = g.row.U.Denot} c.args.domain.now c.args.domain.now c.args.table.now.items c.args.table.now.items refl refl

@@ -5,11 +5,15 @@ use Rattle.iox2_runs.specs.Carries.{defaults_of}
 use Rattle.iox2_runs.specs.Supported.{IsSupportedCommand}
 use Rattle.iox2_commands.specs.declared.command.Command.{Command}
 use Rattle.iox2_runs.proofs.RunLoop.{has_run_none, has_run_more, still_keeps, is_run, runs_on_domain}
+use Rattle.iox2_pubsub.proofs.StaysBut.{stays-itself}
+use Rattle.iox2_runs.proofs.LeavingSteps.{none-new, push-new}
 use Rattle.iox2_runs.proofs.runs.run.Goals as goal
 
 pub loop-command-init : goal.loop-command-init
 loop-command-init g c = record {
   ran = rw (c.in-Ok.ensures.items, c.in-Ok-with_capacity.ensures.items) (has_run_none {T = g.row.T.Denot} {U = g.row.U.Denot} (defaults_of g.T.Default.is_default g.U.Default.is_default) c.args.domain.now);
+  stays = stays-itself {T = g.row.T.Denot} {U = g.row.U.Denot} c.args.domain.now;
+  new = rw c.in-Ok-with_capacity.ensures.items (none-new {T = g.row.T.Denot} {U = g.row.U.Denot} c.args.domain.now);
   made = omega (arith, c.in-Ok-with_capacity.ensures.len);
   replied = omega (arith, c.in-Ok.ensures.len);
   room = omega (arith, c.in-Ok-with_capacity.ensures.capacity, c.len-2.ensures);
@@ -41,11 +45,14 @@ loop-command-preserved g c =
     let inside : i < length xs = omega (arith, ap length c.deref-command-items.ensures.value, c.loop-command-test.true) in
     let here : x ≡ get_or xs i x = c.command-item.is ∙ ap (λ (ys : List (Command g.row.T.Denot g.row.U.Denot)). get_or ys i x) c.deref-command-items.ensures.value in
     let more : take (i + 1) xs ≡ take i xs ++ x ∷ [] = take_more xs i x inside ∙ ap (λ (y : Command g.row.T.Denot g.row.U.Denot). take i xs ++ y ∷ []) (sym here) in
+    let left = c.carry_out-reply.ensures.leaves c.args.domain.now c.loop-command.invariant.stays c.loop-command.invariant.new in
     record {
       ran = rw (more, c.push_reserved.ensures.items, c.push_reserved-in-loop-command.ensures.items)
           (has_run_more {T = g.row.T.Denot} {U = g.row.U.Denot} (defaults_of g.T.Default.is_default g.U.Default.is_default) c.args.domain.now c.loop-command.domain c.carry_out-reply.new.domain
           (take i xs) c.loop-command.replies.items c.loop-command.table.items c.carry_out-reply.new.table.items x c.carry_out-reply.result.0 c.carry_out-reply.result.1
           c.loop-command.invariant.ran c.carry_out-reply.ensures.carries c.has_default.ensures.0 c.has_default-2.ensures.0 c.has_default.ensures.1 c.has_default-2.ensures.1);
+      stays = left.0;
+      new = rw c.push_reserved-in-loop-command.ensures.items (push-new {T = g.row.T.Denot} {U = g.row.U.Denot} c.args.domain.now c.carry_out-reply.new.table.items c.carry_out-reply.result.1 left.1 left.2);
       made = omega (arith, c.push_reserved-in-loop-command.ensures.len, c.carry_out-reply.ensures.room.len, c.loop-command.invariant.made);
       replied = omega (arith, c.push_reserved.ensures.len, c.loop-command.invariant.replied);
       room = omega (arith, c.push_reserved-in-loop-command.ensures.capacity, c.carry_out-reply.ensures.room.capacity, c.loop-command.invariant.room);
@@ -70,3 +77,12 @@ returns-clause-one_default g c =
 
 pub returns-in_default-with_capacity-clause-refused : goal.returns-in_default-with_capacity-clause-refused
 returns-in_default-with_capacity-clause-refused g c = (refl, refl)
+
+pub returns-clause-stays : goal.returns-clause-stays
+returns-clause-stays g c = c.loop-command.invariant.stays
+
+pub returns-in_default-clause-stays : goal.returns-in_default-clause-stays
+returns-in_default-clause-stays g c = stays-itself {T = g.row.T.Denot} {U = g.row.U.Denot} c.args.domain.now
+
+pub returns-in_default-with_capacity-clause-stays : goal.returns-in_default-with_capacity-clause-stays
+returns-in_default-with_capacity-clause-stays g c = stays-itself {T = g.row.T.Denot} {U = g.row.U.Denot} c.args.domain.now

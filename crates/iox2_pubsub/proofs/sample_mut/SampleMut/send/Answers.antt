@@ -34,6 +34,7 @@ pub returns-clause-stays : goal.returns-clause-stays
 returns-clause-stays g c =
     let it = always-shown {T = g.row.T.Denot} {U = g.row.U.Denot} c.domain.inside.state c.args.domain.now c.domain.invariant c.domain.view_is in
     let has = (written-parts c.args.domain.now c.args.self c.requires).1 in
-    let step = returns-clause-sent g c it.0 it.1 has.0 it.2 (ap (λ (t : State g.row.T.Denot g.row.U.Denot). t.loans c.args.self.loan.number) (it.2).state ∙ has.1) in
-    send-stays {T = g.row.T.Denot} {U = g.row.U.Denot} c.args.domain.now _ it.0 it.1 it.2 c.args.self.loan.number has.0 (Delivered_to c.send_loan-count.result) _ step.0 step.1 step.2
+    let out = ap (λ (t : State g.row.T.Denot g.row.U.Denot). t.loans c.args.self.loan.number) (it.2).state ∙ has.1 in
+    let step = returns-clause-sent g c it.0 it.1 has.0 it.2 out in
+    send-stays {T = g.row.T.Denot} {U = g.row.U.Denot} c.args.domain.now _ it.0 it.1 it.2 c.args.self.loan.number has.0 out (Delivered_to c.send_loan-count.result) _ step.0 step.1 step.2
     (λ e. let clash : Delivered_to c.send_loan-count.result ≡ Blocked_send = e in absurd cc)

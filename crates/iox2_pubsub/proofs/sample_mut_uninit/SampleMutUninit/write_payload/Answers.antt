@@ -2,7 +2,9 @@ use Rattle.std.proofs.Common.{refl, ap, ◌∙◌}
 use Rattle.iox2_domain.specs.Kept.{Kept}
 use Rattle.iox2_pubsub.proofs.LiveParts.{single-parts}
 use Rattle.iox2_domain.specs.declared.loan_slots.LoanAt.{LoanAt}
-use Rattle.iox2_pubsub.proofs.LoanHandles.{unwritten-out, write-shown, write-live}
+use Rattle.iox2_domain.specs.LoanSlots.{LiesInSlot}
+use Rattle.iox2_domain.proofs.lemmas.loans.WrittenLoan.{one-cell}
+use Rattle.iox2_pubsub.proofs.LoanHandles.{unwritten-out, write-shown, write-live, write-reads}
 use Rattle.iox2_pubsub.proofs.CallsStay.{always-shown, write-stays}
 use Rattle.iox2_pubsub.proofs.sample_mut_uninit.SampleMutUninit.write_payload.Goals as goal
 
@@ -31,3 +33,13 @@ returns-clause-stays g c =
 pub write_loan-requires-clause-single : goal.write_loan-requires-clause-single
 write_loan-requires-clause-single g c =
     ap (λ (k : Kept g.row.T.Denot g.row.U.Denot). (k.config).units_per_element) c.domain.view_is ∙ (single-parts c.args.domain.now c.requires.single_valued).1
+
+pub returns-clause-reads : goal.returns-clause-reads
+returns-clause-reads g c =
+    let lies = c.write_loan.ensures.lies in
+    let at : LiesInSlot c.domain.inside.state c.args.self.loan.publisher c.args.self.loan.number lies.0 c.write_loan.result.slot = lies.1 in
+    let single = ap (λ (k : Kept g.row.T.Denot g.row.U.Denot). (k.config).units_per_element) c.domain.view_is ∙ (single-parts c.args.domain.now c.requires.single_valued).1 in
+    write-reads {T = g.row.T.Denot} {U = g.row.U.Denot} c.domain.inside.state c.write_loan.new.self c.args.self.loan.number c.args.value c.write_loan.ensures.writes
+    (record { service_id = c.args.self.service_id; loan = c.write_loan.result }) (ap (λ (at : LoanAt). at.number) c.write_loan.ensures.same)
+    at.loan at.is_out
+    (one-cell {T = g.row.T.Denot} {U = g.row.U.Denot} c.domain.inside.state c.domain.invariant single c.args.self.loan.publisher c.args.self.loan.number lies.0 c.write_loan.result.slot at)

@@ -7,6 +7,9 @@ use Rattle.iox2_runs.proofs.TableLooks.{is_written_entry}
 use Rattle.iox2_runs.proofs.TableEntries.{back, not_written}
 use Rattle.iox2_runs.proofs.LiveEntries.{live_written}
 use Rattle.iox2_runs.proofs.CarriedLoans.{send_passed, send_carried}
+use Rattle.iox2_runs.proofs.LeavingSteps.{leaves-all, leaves-spending}
+use Rattle.iox2_pubsub.proofs.StaysBut.{nothing-is-new}
+use Rattle.iox2_runs.specs.declared.runs.made.Made.TheVariants.{Nothing, Written}
 use Rattle.iox2_runs.proofs.runs.loans.send.Goals as goal
 
 pub send-requires : goal.send-requires
@@ -24,4 +27,19 @@ pub returns-in_default-clause-carries : goal.returns-in_default-clause-carries
 returns-in_default-clause-carries g c =
     send_passed {T = g.row.T.Denot} {U = g.row.U.Denot} _ c.args.domain.now c.args.domain.now c.args.table.now.items c.put.new.table.items c.args.of
     (ap (λ (h : Made). is_written_entry (entry_for h)) (sym c.take.ensures.made) ∙ not_written c.take.result c.in_default.not-Written) refl
+    (back c.args.table.now.items c.take.new.table.items c.put.new.table.items c.args.of c.take.result c.take.ensures.items (sym c.take.ensures.made) c.put.ensures.items)
+
+pub returns-in-Ok-clause-leaves : goal.returns-in-Ok-clause-leaves
+returns-in-Ok-clause-leaves g c =
+    leaves-spending {T = g.row.T.Denot} {U = g.row.U.Denot} c.args.domain.now c.send.new.domain c.args.table.now.items c.take.new.table.items c.args.of
+    (Written c.in-Written.sample) Nothing (sym c.take.ensures.made ∙ c.in-Written.is) c.send.ensures.stays (λ start new. nothing-is-new start) c.take.ensures.items
+
+pub returns-in-Err-clause-leaves : goal.returns-in-Err-clause-leaves
+returns-in-Err-clause-leaves g c =
+    leaves-spending {T = g.row.T.Denot} {U = g.row.U.Denot} c.args.domain.now c.send.new.domain c.args.table.now.items c.take.new.table.items c.args.of
+    (Written c.in-Written.sample) Nothing (sym c.take.ensures.made ∙ c.in-Written.is) c.send.ensures.stays (λ start new. nothing-is-new start) c.take.ensures.items
+
+pub returns-in_default-clause-leaves : goal.returns-in_default-clause-leaves
+returns-in_default-clause-leaves g c =
+    leaves-all {T = g.row.T.Denot} {U = g.row.U.Denot} c.args.domain.now c.args.domain.now c.args.table.now.items c.put.new.table.items refl
     (back c.args.table.now.items c.take.new.table.items c.put.new.table.items c.args.of c.take.result c.take.ensures.items (sym c.take.ensures.made) c.put.ensures.items)

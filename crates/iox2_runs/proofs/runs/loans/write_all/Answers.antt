@@ -1,4 +1,4 @@
-use Rattle.std.proofs.Common.{refl, sym, ap, ◌∙◌, List}
+use Rattle.std.proofs.Common.{refl, sym, ap, subst, ◌∙◌, List}
 use Rattle.std.specs.Prelude.{slice_set}
 use Rattle.iox2_runs.specs.Carries.{entry_for}
 use Rattle.iox2_runs.specs.declared.runs.made.Made.{Made}
@@ -8,6 +8,9 @@ use Rattle.iox2_runs.proofs.TableLooks.{is_unwritten_entry}
 use Rattle.iox2_runs.proofs.TableEntries.{put_back, set_again, not_unwritten}
 use Rattle.iox2_runs.proofs.LiveEntries.{live_unwritten}
 use Rattle.iox2_runs.proofs.CarriedLoans.{write_carried, write_passed}
+use Rattle.iox2_runs.proofs.LeavingSteps.{leaves-all, leaves-spending}
+use Rattle.iox2_pubsub.specs.Live.{A_loan, IsNewIn}
+use Rattle.iox2_runs.specs.declared.runs.made.Made.TheVariants.{Unwritten}
 use Rattle.iox2_runs.proofs.runs.loans.write_all.Goals as goal
 
 pub write_payload-sample-requires-clause-live : goal.write_payload-sample-requires-clause-live
@@ -30,4 +33,17 @@ returns-in_default-clause-carries g c =
     write_passed {T = g.row.T.Denot} {U = g.row.U.Denot} _ c.args.domain.now c.args.domain.now c.args.table.now.items c.put-in_default.new.table.items c.args.of c.args.value
     (ap (λ (h : Made). is_unwritten_entry (entry_for h)) (sym c.take.ensures.made) ∙ not_unwritten c.take.result c.in_default.not-Unwritten)
     refl (c.put-in_default.ensures.items ∙ ap (λ (t : List Made). slice_set t c.args.of c.take.result) c.take.ensures.items
+    ∙ ap (λ (h : Made). slice_set (slice_set c.args.table.now.items c.args.of Nothing) c.args.of h) c.take.ensures.made ∙ put_back c.args.table.now.items c.args.of)
+
+pub returns-in-Unwritten-clause-leaves : goal.returns-in-Unwritten-clause-leaves
+returns-in-Unwritten-clause-leaves g c =
+    leaves-spending {T = g.row.T.Denot} {U = g.row.U.Denot} c.args.domain.now c.write_payload-sample.new.domain c.args.table.now.items c.put.new.table.items c.args.of
+    (Unwritten c.in-Unwritten.sample) (Written c.write_payload-sample.result) (sym c.take.ensures.made ∙ c.in-Unwritten.is) c.write_payload-sample.ensures.stays
+    (λ start new. subst (λ (k : Key). IsNewIn start (A_loan k.message)) (sym c.write_payload-sample.ensures.key) new)
+    (c.put.ensures.items ∙ ap (λ (t : List Made). slice_set t c.args.of (Written c.write_payload-sample.result)) c.take.ensures.items ∙ set_again c.args.table.now.items c.args.of Nothing (Written c.write_payload-sample.result))
+
+pub returns-in_default-clause-leaves : goal.returns-in_default-clause-leaves
+returns-in_default-clause-leaves g c =
+    leaves-all {T = g.row.T.Denot} {U = g.row.U.Denot} c.args.domain.now c.args.domain.now c.args.table.now.items c.put-in_default.new.table.items refl
+    (c.put-in_default.ensures.items ∙ ap (λ (t : List Made). slice_set t c.args.of c.take.result) c.take.ensures.items
     ∙ ap (λ (h : Made). slice_set (slice_set c.args.table.now.items c.args.of Nothing) c.args.of h) c.take.ensures.made ∙ put_back c.args.table.now.items c.args.of)

@@ -3,11 +3,14 @@ use Rattle.iox2_store.specs.machine.Limits.{buffer_limit}
 use Rattle.iox2_store.specs.machine.Records.{SubscriberSettings}
 use Rattle.iox2_pubsub.proofs.LiveParts.{subscriber-parts}
 use Rattle.iox2_runs.proofs.CarriedPorts.{given_for, subscriber_carried, subscriber_denied}
+use Rattle.iox2_runs.proofs.LeavingSteps.{leaves-making}
+use Rattle.iox2_pubsub.proofs.StaysBut.{nothing-is-new}
+use Rattle.iox2_runs.specs.declared.runs.made.Made.TheVariants.{Nothing, Subscriber as MadeSubscriber}
 use Rattle.iox2_runs.proofs.runs.ports.create_subscriber.Goals as goal
 use Rattle.iox2_runs.proofs.runs.ports.create_subscriber.Goals.{in-Some, in-None}
 
-pub returns-in-Ok : goal.returns-in-Ok
-returns-in-Ok g c =
+pub returns-in-Ok-clause-carries : goal.returns-in-Ok-clause-carries
+returns-in-Ok-clause-carries g c =
     let told : c.match-buffer.factory ≡ given_for (buffer_limit c.args.domain.now.config) c.args.buffer = elim c.match-buffer.branch [
       | in-Some w ↦ w.factory-is ∙ w.buffer_size-factory.ensures ∙ ap (λ (given : SubscriberSettings). record given { buffer_size = w.in-Some.size }) c.subscriber_builder-factory.ensures
           ∙ ap (given_for (buffer_limit c.args.domain.now.config)) (sym w.in-Some.is)
@@ -16,8 +19,8 @@ returns-in-Ok g c =
     subscriber_carried {T = g.row.T.Denot} {U = g.row.U.Denot} _ c.args.domain.now c.create.new.domain c.args.table.now c.args.buffer c.match-buffer.factory told c.in-Ok.subscriber c.id.result
     (λ m s shown. let made = c.in-Ok.ensures.creates m s shown in (made.0, made.1, ((made.2).0, (made.2).1))) (subscriber-parts {T = g.row.T.Denot} {U = g.row.U.Denot} c.create.new.domain _ c.in-Ok.ensures.live).1 c.id.ensures
 
-pub returns-in-Err : goal.returns-in-Err
-returns-in-Err g c =
+pub returns-in-Err-clause-carries : goal.returns-in-Err-clause-carries
+returns-in-Err-clause-carries g c =
     let told : c.match-buffer.factory ≡ given_for (buffer_limit c.args.domain.now.config) c.args.buffer = elim c.match-buffer.branch [
       | in-Some w ↦ w.factory-is ∙ w.buffer_size-factory.ensures ∙ ap (λ (given : SubscriberSettings). record given { buffer_size = w.in-Some.size }) c.subscriber_builder-factory.ensures
           ∙ ap (given_for (buffer_limit c.args.domain.now.config)) (sym w.in-Some.is)
@@ -25,3 +28,11 @@ returns-in-Err g c =
     ] in
     subscriber_denied {T = g.row.T.Denot} {U = g.row.U.Denot} _ c.args.domain.now c.create.new.domain c.args.table.now c.args.buffer c.match-buffer.factory told c.in-Err.error
     c.in-Err.ensures.creates
+
+pub returns-in-Ok-clause-leaves : goal.returns-in-Ok-clause-leaves
+returns-in-Ok-clause-leaves g c =
+    leaves-making {T = g.row.T.Denot} {U = g.row.U.Denot} c.args.domain.now c.create.new.domain c.args.table.now c.create.ensures.stays (MadeSubscriber c.in-Ok.subscriber) (nothing-is-new {T = g.row.T.Denot} {U = g.row.U.Denot} c.args.domain.now)
+
+pub returns-in-Err-clause-leaves : goal.returns-in-Err-clause-leaves
+returns-in-Err-clause-leaves g c =
+    leaves-making {T = g.row.T.Denot} {U = g.row.U.Denot} c.args.domain.now c.create.new.domain c.args.table.now c.create.ensures.stays Nothing (nothing-is-new {T = g.row.T.Denot} {U = g.row.U.Denot} c.args.domain.now)

@@ -41,13 +41,13 @@ pub returns-in-Written : goal.returns-in-Written
 returns-in-Written g c =
     read_written {T = g.row.T.Denot} {U = g.row.U.Denot} _ c.args.domain.now c.args.domain.now c.args.table.now c.args.table.now c.args.of refl
     c.args.at c.in-Written.sample c.payload-in-Written.result.now c.cell_at-in-Written.result (looked c.args.table.now c.args.of c.get.result c.in-Some.made _ c.get.ensures.lookup c.in-Some.is c.in-Written.is)
-    c.payload-in-Written.ensures c.cell_at-in-Written.ensures
+    c.payload-in-Written.ensures.cell c.cell_at-in-Written.ensures
 
 pub returns-in-Sample : goal.returns-in-Sample
 returns-in-Sample g c =
     read_sampled {T = g.row.T.Denot} {U = g.row.U.Denot} _ c.args.domain.now c.args.domain.now c.args.table.now c.args.table.now c.args.of refl
     c.args.at c.in-Sample.sample c.payload-in-Sample.result.now c.cell_at-in-Sample.result (looked c.args.table.now c.args.of c.get.result c.in-Some.made _ c.get.ensures.lookup c.in-Some.is c.in-Sample.is)
-    c.payload-in-Sample.ensures c.cell_at-in-Sample.ensures
+    c.payload-in-Sample.ensures.entry c.cell_at-in-Sample.ensures
 
 pub returns-in_default-made : goal.returns-in_default-made
 returns-in_default-made g c =
