@@ -5,8 +5,8 @@ use Rattle.iox2_store.specs.declared.service_config.TypeVariant.TheVariants.{Fix
 use Rattle.iox2_store.specs.declared.allocation.AllocationStrategy.TheVariants.{Static}
 use Rattle.iox2_store.specs.declared.backpressure.BackpressureStrategy.TheVariants.{RetryUntilDelivered}
 
--- Single values, of node 0, in memory that doesn't grow, with the limits and the choices that iceoryx2 has where its
--- configuration says nothing else.
+-- Single values, of node 0, in memory that doesn't grow, for 2 publishers with 2 loans each and 8 subscribers, with buffers
+-- of 2, 2 borrowed samples, room for 128 departed publishers, no history and overflow. A publisher retries.
 abbrev pub default_config : (service_id : ℕ) → ServiceConfig
 default_config service_id = record {
   service_id = service_id;

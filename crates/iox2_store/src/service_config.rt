@@ -68,7 +68,8 @@ impl ServiceConfig {
     /// departed publishers; no history; overflow. Where there is none a publisher retries until its
     /// message is delivered. Its memory is static.
     ///
-    /// The limits and choices are those of iceoryx2's configuration where nothing else is set.
+    /// They follow iceoryx2's configuration where nothing else is set; `docs/DECISIONS.md` says which
+    /// of them were read there.
     pub fn new(service_id: u128) -> ServiceConfig
         ensures { result ≡ default_config service_id }
     {
