@@ -168,10 +168,7 @@ pub record HasShapes {T U : Type 0} (f : Fields T U) : Type 0 where
 -- The settings that a domain may have.
 pub record IsSupportedConfig (c : ServiceConfig) : Type 0 where
   pub single_values : c.variant ≡ FixedSize
-  pub one_publisher : c.max_publishers ≡ 1
-  pub one_subscriber : c.max_subscribers ≡ 1
   pub no_history : c.history_size ≡ 0
-  pub no_overflow : c.enable_safe_overflow ≡ false
 
 -- The publisher discards what a full receiver doesn't take, and has one segment, of single values.
 pub record IsPlain (x : PublisherFields) : Type 0 where

@@ -15,7 +15,7 @@ use Rattle.iox2_ends.specs.Takes.{KeepsOtherKeys, SameStands, BorrowsSlot}
 use Rattle.iox2_domain.specs.Kept.{state_of}
 use Rattle.iox2_domain.specs.Fields.{Fields, kept_of, numbers_of}
 use Rattle.iox2_domain.specs.Reaches.{Reaches}
-use Rattle.iox2_domain.specs.declared.receipts.Receipt.{Receipt}
+use Rattle.iox2_domain.specs.declared.sample_slots.Receipt.{Receipt}
 
 -- The machine's result where a call returns this.
 abbrev pub receive_result : Result (Option Receipt) ReceiveError → ReceiveResult

@@ -1,32 +1,25 @@
-//! What a domain has, and the steps on it.
+//! What a domain has, what always holds of it, and where in it things lie.
 //!
-//! `iox2_pubsub` keeps it in its `Domain`, behind the handles of ports and messages.
+//! Its words (`specs`) say what each step comes to, and its lemmas (`proofs/lemmas`) that the step
+//! does. The steps are functions of the crates above: of `iox2_ports` and `iox2_messages`.
+//! `iox2_pubsub` keeps the state in its `Domain`, behind the handles of ports and messages.
 #![tactic(auto)]
 
-mod connects;
-mod deliveries;
-mod loan_calls;
 mod loan_slots;
-mod loans;
 mod open_ports;
 mod places;
 mod ports;
-mod publisher_entry;
 mod publisher_state;
-mod receipts;
-mod reclaims;
-mod sample_reads;
 mod sample_slots;
-mod segments;
-mod sends;
 mod state;
-mod subscriber_entry;
 mod subscriber_state;
-mod updates;
-mod warnings;
 
-pub use loan_slots::LoanAt;
-pub use ports::PortAt;
-pub use receipts::Receipt;
-pub use sample_slots::SampleAt;
+pub use loan_slots::{LoanAt, LoanSlot};
+pub use places::{free_place, key_in, put_at_place, reserve_place};
+pub use ports::{
+    Port, PortAt, is_due_at, key_at, make_all_due, reserve_key_at, set_key_at, settle,
+};
+pub use publisher_state::PublisherState;
+pub use sample_slots::{Receipt, SampleAt, SampleSlot};
 pub use state::DomainState;
+pub use subscriber_state::SubscriberState;

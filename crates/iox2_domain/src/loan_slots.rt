@@ -19,9 +19,9 @@ pub struct LoanAt {
 
 /// Where a loan lies: the key of its publisher's book, and its slot.
 #[derive(Clone, Copy)]
-pub(crate) struct LoanSlot {
-    pub(crate) book: usize,
-    pub(crate) slot: usize,
+pub struct LoanSlot {
+    pub book: usize,
+    pub slot: usize,
 }
 
 impl<T: Drop, U: Default + Drop> DomainState<T, U> {
@@ -32,7 +32,7 @@ impl<T: Drop, U: Default + Drop> DomainState<T, U> {
     ghost use Rattle.iox2_domain.specs.LoanSlots.{LiesInSlot};
 
     /// Where a publisher's loan lies, and `None` where it isn't out. Its slot is tested first.
-    pub(crate) fn find_loan(&self, loan: &LoanAt) -> Option<LoanSlot>
+    pub fn find_loan(&self, loan: &LoanAt) -> Option<LoanSlot>
         requires { IsDomain self.now }
         ensures { MatchOption result (HoldsLoan (state_of (kept_of self.now)) loan.now.publisher loan.now.number → ⊥) (λ at. LiesInSlot self.now loan.now.publisher loan.now.number at.book at.slot) }
     {

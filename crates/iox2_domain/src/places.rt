@@ -9,7 +9,7 @@ use iox2_store::{UniquePublisherId, UniqueSubscriberId};
 use std::alloc::AllocError;
 
 /// The lowest place at which nothing stands, where it is below the limit.
-pub(crate) fn free_place<P>(places: &[Option<P>], limit: usize) -> Option<usize>
+pub fn free_place<P>(places: &[Option<P>], limit: usize) -> Option<usize>
     ensures { result ≡ cond (nat_lt (lowest_empty places.now) limit) (Some (lowest_empty places.now)) None }
 {
     let place = lowest_place(places);
@@ -28,7 +28,7 @@ fn lowest_place<P>(places: &[Option<P>]) -> usize
 }
 
 /// Puts something at a place, for which there is room. The list grows where it is too short.
-pub(crate) fn put_at_place<P: Drop>(places: &mut Vec<Option<P>>, place: usize, value: P)
+pub fn put_at_place<P: Drop>(places: &mut Vec<Option<P>>, place: usize, value: P)
     requires { place < vec_capacity places.old }
     ensures items { places.new.items ≡ placed places.old.items place value }
     ensures capacity { vec_capacity places.new ≡ vec_capacity places.old }
@@ -88,7 +88,7 @@ impl<T: Drop, U: Default + Drop> DomainState<T, U> {
 }
 
 /// Makes room for a place, past the end of the list too.
-pub(crate) fn reserve_place<A>(places: &mut Vec<Option<A>>, place: usize) -> Result<(), AllocError>
+pub fn reserve_place<A>(places: &mut Vec<Option<A>>, place: usize) -> Result<(), AllocError>
     ensures items { places.new.items ≡ places.old.items }
     ensures grows { vec_capacity places.old ≤ vec_capacity places.new }
     ensures room { OnOk result (place < vec_capacity places.new) }
@@ -104,7 +104,7 @@ pub(crate) fn reserve_place<A>(places: &mut Vec<Option<A>>, place: usize) -> Res
 }
 
 /// The key at a place, past the end of the list too.
-pub(crate) fn key_in(keys: &[Option<usize>], place: usize) -> Option<usize>
+pub fn key_in(keys: &[Option<usize>], place: usize) -> Option<usize>
     ensures { result ≡ slice_index_or keys.now place None }
 {
     match keys.get(place) {

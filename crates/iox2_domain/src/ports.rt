@@ -16,7 +16,7 @@ pub struct PortAt<I> {
 
 /// A port has an id, which no other port of its side has, and the keys of its connections by the
 /// places of the other side's ports. It may be due for an update.
-pub(crate) trait Port {
+pub trait Port {
     ghost use Rattle.std.specs.declared.option.Option.{Option};
 
     ghost number: { Self → ℕ };
@@ -62,7 +62,7 @@ pub(crate) trait Port {
 }
 
 /// The key that the port at a place has for its connection with the other side's port at another.
-pub(crate) fn key_at<P: Port>(ports: &[Option<P>], place: usize, other: usize) -> Option<usize>
+pub fn key_at<P: Port>(ports: &[Option<P>], place: usize, other: usize) -> Option<usize>
     ensures { result ≡ key_at P.keys ports.now place other }
 {
     match ports.get(place) {
@@ -73,7 +73,7 @@ pub(crate) fn key_at<P: Port>(ports: &[Option<P>], place: usize, other: usize) -
 
 /// Makes room in the port at a place for the key of its connection with the other side's port at
 /// another.
-pub(crate) fn reserve_key_at<P: Port>(
+pub fn reserve_key_at<P: Port>(
     ports: &mut [Option<P>],
     place: usize,
     other: usize,
@@ -90,7 +90,7 @@ pub(crate) fn reserve_key_at<P: Port>(
 }
 
 /// Gives the port at a place the key of its connection with the other side's port at another.
-pub(crate) fn set_key_at<P: Port>(ports: &mut [Option<P>], place: usize, other: usize, key: usize)
+pub fn set_key_at<P: Port>(ports: &mut [Option<P>], place: usize, other: usize, key: usize)
     requires stands { place < length ports.old }
     requires room { (x : _) → slice_index_or ports.old place None ≡ Some x → other < P.key_room x }
     ensures { ports.new ≡ changed_at (P.with_key other key) ports.old place }
@@ -101,7 +101,7 @@ pub(crate) fn set_key_at<P: Port>(ports: &mut [Option<P>], place: usize, other: 
 }
 
 /// Whether a port at the place is due for an update.
-pub(crate) fn is_due_at<P: Port>(ports: &[Option<P>], place: usize) -> bool
+pub fn is_due_at<P: Port>(ports: &[Option<P>], place: usize) -> bool
     ensures { result ≡ is_due_at P.is_due ports.now place }
 {
     match ports.get(place) {
@@ -111,7 +111,7 @@ pub(crate) fn is_due_at<P: Port>(ports: &[Option<P>], place: usize) -> bool
 }
 
 /// The port at the place is due no more.
-pub(crate) fn settle<P: Port>(ports: &mut [Option<P>], place: usize)
+pub fn settle<P: Port>(ports: &mut [Option<P>], place: usize)
     requires { place < length ports.old }
     ensures { ports.new ≡ changed_at (P.with_due false) ports.old place }
 {
@@ -119,7 +119,7 @@ pub(crate) fn settle<P: Port>(ports: &mut [Option<P>], place: usize)
 }
 
 /// Each port is due for an update.
-pub(crate) fn make_all_due<P: Port>(ports: &mut [Option<P>])
+pub fn make_all_due<P: Port>(ports: &mut [Option<P>])
     ensures { ports.new ≡ map (option_map (P.with_due true)) ports.old }
 {
     for place in 0..ports.len() {

@@ -1,5 +1,6 @@
 //! What a domain has of a publisher.
-ghost use Rattle.std.specs.Prelude.{◌≡◌, [], IfOk};
+ghost use Rattle.std.specs.Prelude.{◌≡◌, ◌<◌, [], length, vec_capacity, IfOk};
+ghost use Rattle.iox2_store.specs.machine.Numbers.{without};
 
 use crate::places::{key_in, put_at_place, reserve_place};
 use crate::ports::Port;
@@ -14,24 +15,24 @@ use std::marker::Model;
 /// iceoryx2's `PublisherSharedState` (`src/port/publisher.rs`) and `Sender`
 /// (`src/port/details/sender.rs`).
 #[derive(Drop)]
-pub(crate) struct PublisherState {
-    pub(crate) id: UniquePublisherId,
-    pub(crate) place: usize,
-    pub(crate) book: usize,
-    pub(crate) max_loaned_samples: usize,
-    pub(crate) slots: usize,
-    pub(crate) strategy: BackpressureStrategy,
-    pub(crate) allocation: AllocationStrategy,
-    pub(crate) initial_max_slice_len: usize,
-    pub(crate) longest_granted: usize,
-    pub(crate) segments: usize,
+pub struct PublisherState {
+    pub id: UniquePublisherId,
+    pub place: usize,
+    pub book: usize,
+    pub max_loaned_samples: usize,
+    pub slots: usize,
+    pub strategy: BackpressureStrategy,
+    pub allocation: AllocationStrategy,
+    pub initial_max_slice_len: usize,
+    pub longest_granted: usize,
+    pub segments: usize,
     // The slots of the loans that are out, by rising number of the message.
-    pub(crate) loans: Vec<usize>,
+    pub loans: Vec<usize>,
     // The slots of the last messages sent.
-    pub(crate) history: HeapCircularBuffer<usize>,
+    pub history: HeapCircularBuffer<usize>,
     // At each subscriber's place the key of the connection with it.
-    pub(crate) keys: Vec<Option<usize>>,
-    pub(crate) is_due: bool,
+    pub keys: Vec<Option<usize>>,
+    pub is_due: bool,
 }
 
 impl Model for PublisherState {
@@ -68,7 +69,7 @@ impl PublisherState {
     /// A publisher of single values that enters at a place, with a book of so many slots at a key,
     /// and with room for all the loans and the history that it may get. It discards what a full
     /// receiver doesn't take, and makes no further segment.
-    pub(crate) fn new(
+    pub fn new(
         alloc: Global,
         config: &ServiceConfig,
         id: UniquePublisherId,
@@ -99,6 +100,35 @@ impl PublisherState {
             is_due: true,
         })
     }
+}
+
+impl PublisherState {
+    ghost use Rattle.iox2_domain.specs.Lending.{lending};
+    ghost use Rattle.iox2_domain.specs.Deliveries.{with_loan_out};
+
+    /// The slot is a loan that is out, of one element.
+    pub fn lend(&mut self, slot: usize)
+        requires { length self.old.loans < self.old.loan_room }
+        ensures { self.new ≡ lending slot self.old }
+    {
+        self.loans.push_reserved(slot);
+        self.longest_granted = self.longest_granted.max(1);
+    }
+
+    /// The loan in a slot is out no more.
+    pub fn remove_loan(&mut self, slot: usize)
+        ensures { self.new ≡ with_loan_out slot self.old }
+    {
+        remove_slot(&mut self.loans, slot);
+    }
+}
+
+// Takes a slot out; the others keep their order.
+fn remove_slot(slots: &mut Vec<usize>, slot: usize)
+    ensures items { slots.new.items ≡ without slot slots.old.items }
+    ensures capacity { vec_capacity slots.new ≡ vec_capacity slots.old }
+{
+    slots.retain(|other| *other != slot);
 }
 
 impl Port for PublisherState {

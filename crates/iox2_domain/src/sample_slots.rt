@@ -1,10 +1,10 @@
 //! The slots of the messages that subscribers have borrowed.
-ghost use Rattle.std.specs.Prelude.{◌<◌, ℕ, length, Contains, IsSomeAnd, MatchOption};
+ghost use Rattle.std.specs.Prelude.{◌<◌, ◌↔◌, ℕ, length, Contains, IsSomeAnd, IsTrue, MatchOption};
 ghost use Rattle.slab.specs.Slab.{get, ContainsKey};
 ghost use Rattle.iox2_domain.specs.SampleSlots.{HasNoneNumbered, IsNumberedSlot};
 
 use crate::state::DomainState;
-use iox2_store::{Connection, SlotBook, UniqueSubscriberId};
+use iox2_store::{Connection, SlotBook, UniquePublisherId, UniqueSubscriberId};
 
 /// Names a message that a subscriber has borrowed, and says where it is looked for first.
 #[derive(Drop)]
@@ -19,13 +19,22 @@ pub struct SampleAt {
     pub slot: usize,
 }
 
+/// A message that was received.
+#[derive(Drop)]
+pub struct Receipt {
+    /// The publisher that sent it.
+    pub publisher: UniquePublisherId,
+    /// Its name as a sample, and where it lies.
+    pub sample: SampleAt,
+}
+
 /// Where a borrowed message lies: the keys of its connection and of its publisher's book, and its
 /// slot.
 #[derive(Clone, Copy)]
-pub(crate) struct SampleSlot {
-    pub(crate) connection: usize,
-    pub(crate) book: usize,
-    pub(crate) slot: usize,
+pub struct SampleSlot {
+    pub connection: usize,
+    pub book: usize,
+    pub slot: usize,
 }
 
 // The borrowed slot with a number. The hint is tested first.
@@ -59,7 +68,7 @@ impl<T: Drop, U: Default + Drop> DomainState<T, U> {
     ghost use Rattle.iox2_domain.specs.SampleSlots.{IsBookOf, BorrowsAt, LiesBorrowed};
 
     /// The key of the book of a connection's publisher.
-    pub(crate) fn book_of(&self, connection: usize) -> usize
+    pub fn book_of(&self, connection: usize) -> usize
         requires domain { IsDomain self.now }
         requires stands { ContainsKey self.now.connections connection }
         ensures { IsSomeAnd (get self.now.connections connection) (λ c. IsBookOf self.now.books c.home.publisher result) }
@@ -92,7 +101,7 @@ impl<T: Drop, U: Default + Drop> DomainState<T, U> {
 
     /// Where a sample lies, and `None` where its subscriber hasn't borrowed it. Its connection and
     /// its slot are tested first.
-    pub(crate) fn find_sample(&self, sample: &SampleAt) -> Option<SampleSlot>
+    pub fn find_sample(&self, sample: &SampleAt) -> Option<SampleSlot>
         requires { IsDomain self.now }
         ensures { MatchOption result (HoldsSample (state_of (kept_of self.now)) sample.now.subscriber sample.now.number → ⊥) (LiesBorrowed self.now sample.now.subscriber sample.now.number) }
     {
@@ -107,5 +116,19 @@ impl<T: Drop, U: Default + Drop> DomainState<T, U> {
             }
         }
         None
+    }
+
+    /// Whether the subscriber has borrowed a message with this number.
+    pub fn has_sample(&self, subscriber: UniqueSubscriberId, number: u128) -> bool
+        requires { IsDomain self.now }
+        ensures { IsTrue result ↔ HoldsSample (state_of (kept_of self.now)) subscriber number }
+    {
+        let sample = SampleAt {
+            subscriber,
+            number,
+            connection: 0,
+            slot: 0,
+        };
+        self.find_sample(&sample).is_some()
     }
 }

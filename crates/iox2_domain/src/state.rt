@@ -17,19 +17,19 @@ const WARNING_LIMIT: usize = 32;
 /// leaves them so.
 #[derive(Drop)]
 pub struct DomainState<T, U> {
-    pub(crate) alloc: Global,
-    pub(crate) config: ServiceConfig,
-    pub(crate) next_port: u128,
-    pub(crate) next_message: u128,
-    pub(crate) warnings: HeapCircularBuffer<Warning>,
+    pub alloc: Global,
+    pub config: ServiceConfig,
+    pub next_port: u128,
+    pub next_message: u128,
+    pub warnings: HeapCircularBuffer<Warning>,
     // At each place the publisher that stands there.
-    pub(crate) publishers: Vec<Option<PublisherState>>,
+    pub publishers: Vec<Option<PublisherState>>,
     // At each place the subscriber that stands there.
-    pub(crate) subscribers: Vec<Option<SubscriberState>>,
-    pub(crate) connections: Slab<Connection>,
-    pub(crate) books: Slab<SlotBook>,
+    pub subscribers: Vec<Option<SubscriberState>>,
+    pub connections: Slab<Connection>,
+    pub books: Slab<SlotBook>,
     // At the key of each book what lies in its slots.
-    pub(crate) contents: Vec<Option<Contents<T, U>>>,
+    pub contents: Vec<Option<Contents<T, U>>>,
 }
 
 impl<T, U> Model for DomainState<T, U> {

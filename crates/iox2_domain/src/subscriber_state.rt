@@ -14,16 +14,16 @@ use std::marker::Model;
 /// iceoryx2's `SubscriberSharedState` (`src/port/subscriber.rs`) and `Receiver`
 /// (`src/port/details/receiver.rs`).
 #[derive(Drop)]
-pub(crate) struct SubscriberState {
-    pub(crate) id: UniqueSubscriberId,
-    pub(crate) place: usize,
-    pub(crate) is_open: bool,
-    pub(crate) buffer: usize,
+pub struct SubscriberState {
+    pub id: UniqueSubscriberId,
+    pub place: usize,
+    pub is_open: bool,
+    pub buffer: usize,
     // At each publisher's place the key of the connection with it.
-    pub(crate) keys: Vec<Option<usize>>,
+    pub keys: Vec<Option<usize>>,
     // The keys of the connections with departed publishers, in order of entry.
-    pub(crate) expired: Vec<usize>,
-    pub(crate) is_due: bool,
+    pub expired: Vec<usize>,
+    pub is_due: bool,
 }
 
 impl Model for SubscriberState {
@@ -62,7 +62,7 @@ impl SubscriberState {
     ghost use Rattle.iox2_domain.specs.Ports.{entering};
 
     /// A subscriber that enters at a place.
-    pub(crate) fn new(alloc: Global, id: UniqueSubscriberId, place: usize, buffer: usize) -> Self
+    pub fn new(alloc: Global, id: UniqueSubscriberId, place: usize, buffer: usize) -> Self
         ensures { result ≡ entering id place buffer result.key_room }
     {
         SubscriberState {

@@ -24,7 +24,7 @@ use Rattle.iox2_ends.specs.LookUp.{look_up}
 use Rattle.iox2_store.specs.machine.Records.{Subscriber as MachineSubscriber}
 use Rattle.std.specs.Option.{option_map}
 use Rattle.iox2_domain.specs.Receipts.{receive_result, ReceivesAs}
-use Rattle.iox2_domain.specs.declared.receipts.Receipt.{Receipt}
+use Rattle.iox2_domain.specs.declared.sample_slots.Receipt.{Receipt}
 use Rattle.iox2_domain.specs.declared.sample_slots.SampleAt.{SampleAt}
 use Rattle.iox2_domain.proofs.lemmas.fields.ReachesShows.{reaches-shows}
 use Rattle.iox2_domain.proofs.lemmas.receives.Reception.{received-borrowed}

@@ -1,5 +1,5 @@
 //! A domain: all ports of a service, and what lies between them.
-ghost use Rattle.std.specs.Prelude.{◌≡◌, false, IfOk};
+ghost use Rattle.std.specs.Prelude.{◌≡◌, IfOk};
 ghost use Rattle.iox2_store.specs.machine.State.{Messages, fresh, no_messages};
 ghost use Rattle.iox2_domain.specs.Kept.{state_of};
 ghost use Rattle.iox2_domain.specs.Invariant.{IsSupportedConfig};
@@ -36,17 +36,13 @@ impl<T, U, F, G> Model for Domain<T, U, F, G> {
 }
 
 impl<T: Drop, U: Default + Drop> Domain<T, U> {
-    /// A domain with these settings and no port. So far it takes single values, one publisher, one
-    /// subscriber, no history and no overflow, as in `ServiceConfig { max_publishers: 1,
-    /// max_subscribers: 1, enable_safe_overflow: false, ..ServiceConfig::new(7) }`.
+    /// A domain with these settings and no port, as in `Domain::new(alloc, ServiceConfig::new(7))`.
+    /// So far it takes single values and no history.
     ///
     /// Fails with `DomainCreateError::OutOfMemory` where memory is refused.
     pub fn new(alloc: Global, config: ServiceConfig) -> Result<Self, DomainCreateError>
         requires fixed_size { config.variant ≡ FixedSize }
-        requires one_publisher { config.max_publishers ≡ 1 }
-        requires one_subscriber { config.max_subscribers ≡ 1 }
         requires no_history { config.history_size ≡ 0 }
-        requires no_overflow { config.enable_safe_overflow ≡ false }
         ensures fresh { IfOk result (λ d. Shows d no_messages (fresh config)) }
         ensures settings { IfOk result (λ d. d.config ≡ config) }
         ensures single_valued { IfOk result (λ d. config.units_per_element ≡ 1 → IsSingleValued d) }

@@ -5,6 +5,7 @@ mod release;
 
 use crate::domain::Domain;
 use iox2_domain::SampleAt;
+use iox2_messages::{sample_header, sample_payload};
 use iox2_store::{
     BackpressureFn, DegradationFn, Header, Key, UniquePublisherId, UniqueSubscriberId,
 };
@@ -63,7 +64,7 @@ impl Sample {
         ensures reads { SampleReads domain.now self.now result.now }
         ensures same { (value : T) → SampleReads domain.now self.now value → result.now ≡ value }
     {
-        domain.state.sample_payload(&self.sample)
+        sample_payload(&domain.state, &self.sample)
     }
 
     /// The message's header.
@@ -78,7 +79,7 @@ impl Sample {
             → (entry : Entry T U) × (m self.now.sample.number ≡ Some entry) × (entry.header ≡ result.now) }
         ensures origin { IsFromOrigin domain.now self.now → (result.now).publisher_id ≡ self.now.origin }
     {
-        domain.state.sample_header(&self.sample)
+        sample_header(&domain.state, &self.sample)
     }
 
     /// Spends the handle of a sample whose domain is gone. A domain that is still there isn't told,

@@ -5,6 +5,7 @@ mod send;
 
 use crate::domain::Domain;
 use iox2_domain::LoanAt;
+use iox2_messages::{loan_header, loan_value};
 use iox2_store::{BackpressureFn, DegradationFn, Header, Key};
 
 /// A loan whose payload is written. It is a value to be spent: the domain keeps the loan until its
@@ -36,7 +37,7 @@ impl SampleMut {
         ensures reads { LoanReads domain.now self.now result.now }
         ensures same { (value : T) → LoanReads domain.now self.now value → result.now ≡ value }
     {
-        domain.state.loan_value(&self.loan)
+        loan_value(&domain.state, &self.loan)
     }
 
     /// Where the message comes from, and of how many elements it is.
@@ -50,7 +51,7 @@ impl SampleMut {
         ensures header { (m : Messages T U) (s : State T U) → Shows domain.now m s → HasLoanHeader s self.now.loan.number result.now }
         ensures origin { (result.now).publisher_id ≡ self.now.loan.publisher }
     {
-        domain.state.loan_header(&self.loan)
+        loan_header(&domain.state, &self.loan)
     }
 
     /// Names the loan without being its handle. This library's own.

@@ -5,6 +5,7 @@ mod write_payload;
 
 use crate::domain::Domain;
 use iox2_domain::LoanAt;
+use iox2_messages::{loan_cell, loan_header};
 use iox2_store::{BackpressureFn, DegradationFn, Header, Key};
 
 /// A loan whose payload isn't written. It is a value to be spent: the domain keeps the loan until
@@ -34,7 +35,7 @@ impl SampleMutUninit {
         requires single_valued { IsSingleValued domain.now }
         ensures { (m : Messages T U) (s : State T U) → Shows domain.now m s → HasCell s self.now.loan.number result.now }
     {
-        domain.state.loan_cell(&self.loan)
+        loan_cell(&domain.state, &self.loan)
     }
 
     /// Where the message comes from, and of how many elements it is.
@@ -48,7 +49,7 @@ impl SampleMutUninit {
         ensures header { (m : Messages T U) (s : State T U) → Shows domain.now m s → HasLoanHeader s self.now.loan.number result.now }
         ensures origin { (result.now).publisher_id ≡ self.now.loan.publisher }
     {
-        domain.state.loan_header(&self.loan)
+        loan_header(&domain.state, &self.loan)
     }
 
     /// Names the loan without being its handle. This library's own.

@@ -1,5 +1,5 @@
 -- What the lines of a script ask for.
-use Rattle.std.specs.Prelude.{ℕ, List, codes, Some, None, ◌≡◌, false}
+use Rattle.std.specs.Prelude.{ℕ, List, Bool, codes, Some, None, ◌≡◌, true, false}
 use Rattle.std.specs.Str.{IsUtf8}
 use Rattle.script_text.specs.Numbers.{IsNumber, value_of, position_of}
 use Rattle.script_text.specs.Words.{Words, line_words, words_of}
@@ -11,19 +11,19 @@ use Rattle.iox2_store.specs.declared.degradation.DegradationAction.TheVariants.{
 use Rattle.iox2_commands.specs.declared.command.Command.{Command}
 use Rattle.iox2_commands.specs.declared.command.Command.TheVariants as command
 
--- The settings that a domain line names: one publisher and one subscriber, single values, no history, no overflow.
-abbrev pub script_config : (buffer borrowed expired : ℕ) → ServiceConfig
-script_config buffer borrowed expired = record {
+-- The settings that a domain line names: single values and no history.
+abbrev pub script_config : (publishers subscribers buffer borrowed expired : ℕ) (overflow : Bool) → ServiceConfig
+script_config publishers subscribers buffer borrowed expired overflow = record {
   service_id = 1;
   node_id = 1;
   variant = FixedSize;
   units_per_element = 1;
-  max_publishers = 1;
-  max_subscribers = 1;
+  max_publishers = publishers;
+  max_subscribers = subscribers;
   subscriber_max_buffer_size = buffer;
   subscriber_max_borrowed_samples = borrowed;
   history_size = 0;
-  enable_safe_overflow = false;
+  enable_safe_overflow = overflow;
   subscriber_expired_connection_buffer = expired;
   publisher_max_loaned_samples = 1;
   backpressure_strategy = DiscardData;
@@ -42,17 +42,23 @@ IsNumberAt words i number = IsNumber (words.word i) × (number ≡ value_of (wor
 abbrev pub IsNameAt : Words → ℕ → ℕ → Type 0
 IsNameAt words i of = IsNumber (words.word i) × (of ≡ position_of (value_of (words.word i)))
 
--- `domain P S B R H E keep`, where P and S are 1 and H is 0, names the settings with B, R and E.
+-- `overflow`: a full buffer overwrites what it has. `keep`: it keeps it.
+abbrev pub IsMode : List ℕ → (overflow : Bool) → Type 0
+IsMode word true = word ≡ codes "overflow"
+IsMode word false = word ≡ codes "keep"
+
+-- `domain P S B R H E overflow` or `.. keep`, where H is 0, names the settings with P, S, B, R and E.
 pub record IsDomainLine (words : Words) (config : ServiceConfig) : Type 0 where
   pub form : HasForm words (codes "domain") 8
-  pub publishers : IsNumberAt words 1 1
-  pub subscribers : IsNumberAt words 2 1
+  pub publishers : IsNumber (words.word 1)
+  pub subscribers : IsNumber (words.word 2)
   pub buffer : IsNumber (words.word 3)
   pub borrowed : IsNumber (words.word 4)
   pub history : IsNumberAt words 5 0
   pub expired : IsNumber (words.word 6)
-  pub keep : words.word 7 ≡ codes "keep"
-  pub settings : config ≡ script_config (value_of (words.word 3)) (value_of (words.word 4)) (value_of (words.word 6))
+  pub overflow : Bool
+  pub mode : IsMode (words.word 7) overflow
+  pub settings : config ≡ script_config (value_of (words.word 1)) (value_of (words.word 2)) (value_of (words.word 3)) (value_of (words.word 4)) (value_of (words.word 6)) overflow
 
 -- What the words of a line after the first ask for.
 abbrev pub IsCommandLine : Words → Command ℕ ℕ → Type 0

@@ -1,8 +1,8 @@
 //! What the lines of a script ask for.
-ghost use Rattle.std.specs.Prelude.{◌≡◌, ◌↔◌, ◌<◌, ℕ, IfErr, IfNone, IfOk, IfSome, IsSome, length};
+ghost use Rattle.std.specs.Prelude.{◌≡◌, ◌↔◌, ◌<◌, ℕ, Bool, IfErr, IfNone, IfOk, IfSome, IsSome, length};
 ghost use Rattle.iox2_store.specs.declared.service_config.ServiceConfig.{ServiceConfig};
 ghost use Rattle.iox2_commands.specs.declared.command.Command.{Command};
-ghost use Rattle.script_text.specs.Commands.{IsCommandLine, IsDomainLine, NamesCommand, NamesDomain};
+ghost use Rattle.script_text.specs.Commands.{IsCommandLine, IsDomainLine, IsMode, NamesCommand, NamesDomain};
 ghost use Rattle.script_text.specs.Numbers.{IsNumber, position_of, value_of};
 ghost use Rattle.script_text.specs.ScriptText.{IsRefused, IsScript};
 ghost use Rattle.script_text.specs.Words.{line_words, texts, words_in};
@@ -71,11 +71,11 @@ fn command_of(line: &[u8]) -> Option<Command<u64, u64>>
     parse_command(&words)
 }
 
-/// The settings that a domain line names: `domain P S B R H E keep`.
+/// The settings that a domain line names: `domain P S B R H E overflow` or `.. keep`.
 ///
-/// Here `P` and `S`, the greatest numbers of publishers and subscribers, are 1, and `H`, the
-/// history size, is 0. `B` is the greatest buffer, `R` the greatest number of borrowed samples, and
-/// `E` the room for departed publishers. `keep` says that a full buffer keeps what it has.
+/// `P` and `S` are the greatest numbers of publishers and subscribers, `B` is the greatest buffer,
+/// `R` the greatest number of borrowed samples, and `E` the room for departed publishers. `H`, the
+/// history size, is 0.
 fn parse_domain(words: &[&str]) -> Option<ServiceConfig>
     ensures reads { IfSome result (IsDomainLine (words_in words.now)) }
     ensures refuses { IfNone result ((config : ServiceConfig) → ¬ IsDomainLine (words_in words.now) config) }
@@ -88,26 +88,38 @@ fn parse_domain(words: &[&str]) -> Option<ServiceConfig>
         borrowed,
         history,
         expired,
-        "keep",
+        mode,
     ] = *words
     else {
         return None;
     };
-    if parse_size(publishers)? != 1 || parse_size(subscribers)? != 1 || parse_size(history)? != 0 {
+    if parse_size(history)? != 0 {
         return None;
     }
     Some(ServiceConfig {
         node_id: 1,
-        max_publishers: 1,
-        max_subscribers: 1,
+        max_publishers: parse_size(publishers)?,
+        max_subscribers: parse_size(subscribers)?,
         subscriber_max_buffer_size: parse_size(buffer)?,
         subscriber_max_borrowed_samples: parse_size(borrowed)?,
-        enable_safe_overflow: false,
+        enable_safe_overflow: parse_mode(mode)?,
         subscriber_expired_connection_buffer: parse_size(expired)?,
         publisher_max_loaned_samples: 1,
         backpressure_strategy: BackpressureStrategy::DiscardData,
         ..ServiceConfig::new(1)
     })
+}
+
+/// Whether a full buffer overwrites what it has, as `overflow` says, or keeps it, as `keep` says.
+fn parse_mode(word: &str) -> Option<bool>
+    ensures reads { IfSome result (IsMode word.now) }
+    ensures refuses { IfNone result ((overflow : Bool) → ¬ IsMode word.now overflow) }
+{
+    match word {
+        "overflow" => Some(true),
+        "keep" => Some(false),
+        _ => None,
+    }
 }
 
 /// The command that a line after the first names.

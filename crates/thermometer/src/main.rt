@@ -17,13 +17,7 @@ use reading::Reading;
 use report::report_day;
 
 fn main(rt: HostRuntime) -> Result<(), Failure> {
-    let config = ServiceConfig {
-        max_publishers: 1,
-        max_subscribers: 1,
-        enable_safe_overflow: false,
-        ..ServiceConfig::new(1)
-    };
-    let mut domain = Domain::<Reading, ()>::new(rt.alloc(), config)?;
+    let mut domain = Domain::<Reading, ()>::new(rt.alloc(), ServiceConfig::new(1))?;
     let subscriber = domain.subscriber_builder().create(&mut domain)?;
     let outcome = run(&rt, &mut domain, &subscriber);
     subscriber.disown();

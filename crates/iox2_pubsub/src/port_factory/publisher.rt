@@ -9,6 +9,7 @@ ghost use Rattle.iox2_domain.specs.Shows.{Shows};
 
 use crate::domain::Domain;
 use crate::publisher::Publisher;
+use iox2_ports::create_publisher;
 use iox2_store::{BackpressureFn, DegradationFn, PublisherCreateError};
 use std::marker::Model;
 
@@ -82,7 +83,7 @@ impl PortFactoryPublisher {
         ensures stays { Stays domain.old domain.new }
     {
         let service_id = domain.state.config().service_id;
-        let port = domain.state.create_publisher(self.max_loaned_samples)?;
+        let port = create_publisher(&mut domain.state, self.max_loaned_samples)?;
         Ok(Publisher {
             service_id,
             id: port.id,

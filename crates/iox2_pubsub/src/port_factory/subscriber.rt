@@ -8,6 +8,7 @@ ghost use Rattle.iox2_domain.specs.Shows.{Shows};
 
 use crate::domain::Domain;
 use crate::subscriber::Subscriber;
+use iox2_ports::create_subscriber;
 use iox2_store::{BackpressureFn, DegradationFn, SubscriberCreateError};
 use std::marker::Model;
 
@@ -62,7 +63,7 @@ impl PortFactorySubscriber {
         ensures stays { Stays domain.old domain.new }
     {
         let service_id = domain.state.config().service_id;
-        let port = domain.state.create_subscriber(self.buffer_size)?;
+        let port = create_subscriber(&mut domain.state, self.buffer_size)?;
         Ok(Subscriber {
             service_id,
             id: port.id,

@@ -4,6 +4,7 @@ ghost use Rattle.std.specs.Prelude.{◌≡◌, IfOk};
 use crate::domain::Domain;
 use crate::publisher::Publisher;
 use crate::sample_mut_uninit::SampleMutUninit;
+use iox2_messages::loan;
 use iox2_store::{BackpressureFn, DegradationFn, Key, LoanError, UniquePublisherId};
 
 impl Publisher {
@@ -39,7 +40,7 @@ impl Publisher {
         let Some(place) = domain.state.find_publisher(self.id, self.place) else {
             unreachable!();
         };
-        let loan = domain.state.loan(place)?;
+        let loan = loan(&mut domain.state, place)?;
         Ok(SampleMutUninit {
             service_id: self.service_id,
             loan,

@@ -3,6 +3,7 @@ ghost use Rattle.std.specs.Prelude.{◌≡◌};
 
 use crate::domain::Domain;
 use crate::sample::Sample;
+use iox2_messages::give_back;
 use iox2_store::{BackpressureFn, DegradationFn};
 
 impl Sample {
@@ -33,6 +34,6 @@ impl Sample {
             origin: _,
             sample,
         } = self;
-        domain.state.give_back(sample);
+        give_back(&mut domain.state, sample);
     }
 }

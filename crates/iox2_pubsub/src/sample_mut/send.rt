@@ -4,6 +4,7 @@ ghost use Rattle.std.specs.Prelude.{◌≡◌};
 use crate::domain::Domain;
 use crate::sample_mut::SampleMut;
 use crate::send_outcome::SendOutcome;
+use iox2_messages::send_loan;
 use iox2_store::{BackpressureFn, DegradationFn, SendError};
 
 impl SampleMut {
@@ -40,7 +41,7 @@ impl SampleMut {
             service_id: _,
             loan,
         } = self;
-        let count = domain.state.send_loan(loan);
+        let count = send_loan(&mut domain.state, loan);
         Ok(SendOutcome::Delivered(count))
     }
 }

@@ -4,6 +4,7 @@ ghost use Rattle.std.specs.Prelude.{◌≡◌};
 use crate::domain::Domain;
 use crate::sample_mut::SampleMut;
 use crate::sample_mut_uninit::SampleMutUninit;
+use iox2_messages::write_loan;
 use iox2_store::{BackpressureFn, DegradationFn};
 
 impl SampleMutUninit {
@@ -33,7 +34,7 @@ impl SampleMutUninit {
         let SampleMutUninit { service_id, loan } = self;
         SampleMut {
             service_id,
-            loan: domain.state.write_loan(loan, value),
+            loan: write_loan(&mut domain.state, loan, value),
         }
     }
 }

@@ -5,6 +5,7 @@ use crate::domain::Domain;
 use crate::sample::Sample;
 use crate::subscriber::Subscriber;
 use iox2_domain::Receipt;
+use iox2_messages::receive_at;
 use iox2_store::{BackpressureFn, DegradationFn, ReceiveError};
 
 impl Subscriber {
@@ -40,7 +41,7 @@ impl Subscriber {
         let Some(place) = domain.state.find_subscriber(self.id, self.place) else {
             unreachable!()
         };
-        let receipt = domain.state.receive_at(place)?;
+        let receipt = receive_at(&mut domain.state, place)?;
         let Some(receipt) = receipt else {
             return Ok(None);
         };

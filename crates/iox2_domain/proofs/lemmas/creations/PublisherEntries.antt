@@ -182,3 +182,9 @@ module _ {T U : Type 0} (f : Fields T U) where
       let no : (before.next_port == last_number) ≡ false = ap (λ (g : Fields T U). g.next_port == last_number) e ∙ (has_place place h).numbered in
       let yes : (before.next_port == last_number) ≡ true = eq-eqb before.next_port last_number last in
       absurd cc
+
+  -- no place before it is free
+  pub place-low : (before : Fields T U) (place : ℕ) → before ≡ f → place_for_publisher f ≡ Ok place → place ≤ length before.publishers
+  place-low before place e h =
+      subst (λ (g : Fields T U). place ≤ length g.publishers) (sym e)
+      (subst (λ (p : ℕ). p ≤ length f.publishers) (has_place place h).lowest (lowest_empty-low f.publishers))

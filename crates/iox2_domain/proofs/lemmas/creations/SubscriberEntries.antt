@@ -154,3 +154,9 @@ module _ {T U : Type 0} (f : Fields T U) (asked : ℕ) where
         created-made fixed_handlers place updated.after None h (updated.after, None, first, refl),
         reaches-then f mid new (with_new_subscriber shown (asked_for asked) place) updated.after entered.0 updated.reaches,
       )
+
+  -- no place before it is free
+  pub place-low : (before : Fields T U) (place : ℕ) → before ≡ f → place_for_subscriber f asked ≡ Ok place → place ≤ length before.subscribers
+  place-low before place e h =
+      subst (λ (g : Fields T U). place ≤ length g.subscribers) (sym e)
+      (subst (λ (p : ℕ). p ≤ length f.subscribers) (has_place place h).lowest (lowest_empty-low f.subscribers))

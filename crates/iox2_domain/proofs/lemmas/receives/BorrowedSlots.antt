@@ -13,7 +13,7 @@ use Rattle.iox2_ends.specs.Takes.{BorrowsSlot}
 use Rattle.iox2_ends.proofs.MailboxChanges.{mailbox-there}
 use Rattle.iox2_domain.specs.Fields.{Fields}
 use Rattle.iox2_domain.specs.Receipts.{LiesAt}
-use Rattle.iox2_domain.specs.declared.receipts.Receipt.{Receipt}
+use Rattle.iox2_domain.specs.declared.sample_slots.Receipt.{Receipt}
 use mathlib.Core.List.{map-id}
 
 module _ (old new : Slab Link) (key slot : ℕ) (c : Link) (at_c : get old key ≡ Some c) (same : SameHomes old new) (apart : IsApart new) (takes : BorrowsSlot old key slot new) where

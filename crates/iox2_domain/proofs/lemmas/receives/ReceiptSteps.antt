@@ -22,7 +22,7 @@ use Rattle.iox2_domain.specs.Invariant.{IsDomain}
 use Rattle.iox2_domain.specs.Reaches.{Reaches}
 use Rattle.iox2_domain.specs.Receipts.{receive_result, TakesFrom, TakesAs}
 use Rattle.iox2_domain.specs.SampleSlots.{IsBookOf}
-use Rattle.iox2_domain.specs.declared.receipts.Receipt.{Receipt}
+use Rattle.iox2_domain.specs.declared.sample_slots.Receipt.{Receipt}
 use Rattle.iox2_domain.proofs.lemmas.receives.BorrowedSlots.{lies-there}
 use Rattle.iox2_domain.proofs.lemmas.fields.ConnectionEnds.{subscriber-stands}
 use Rattle.iox2_domain.proofs.lemmas.slots.ConnectionSlots.{book-numbers, waiting-in_use, index-got}

@@ -20,7 +20,7 @@ use Rattle.iox2_domain.specs.Kept.{state_of}
 use Rattle.iox2_domain.specs.Fields.{Fields, kept_of}
 use Rattle.iox2_domain.specs.Reaches.{Reaches}
 use Rattle.iox2_domain.specs.Receipts.{receive_result, TakesAs, ReceivesAs}
-use Rattle.iox2_domain.specs.declared.receipts.Receipt.{Receipt}
+use Rattle.iox2_domain.specs.declared.sample_slots.Receipt.{Receipt}
 use Rattle.iox2_domain.proofs.lemmas.fields.ReachesShows.{reaches-then}
 
 module _ {T U : Type 0} where

@@ -2,7 +2,7 @@ use Rattle.std.proofs.Common.{◌≡◌, ◌∙◌, ap, sym, get_or}
 use Rattle.std.specs.declared.option.Option.TheVariants.{None, Some}
 use Rattle.iox2_domain.specs.Ports.{SubscriberFields}
 use Rattle.iox2_domain.specs.Fields.{Fields}
-use Rattle.iox2_domain.proofs.lemmas.fields.OpenPorts.{open-subscriber, subscriber-open, read-at}
+use Rattle.iox2_domain.proofs.lemmas.fields.OpenPorts.{open-subscriber, subscriber-open, absent-subscriber, read-at}
 use Rattle.iox2_domain.proofs.state.DomainState.has_open_subscriber.Goals as goal
 
 pub returns-in-Some-index : goal.returns-in-Some-index
@@ -15,3 +15,6 @@ returns-in-Some-index g c =
       λ is_true. open-subscriber c.args.self.now c.args.id c.requires c.in-Some.place found.0 found.1 found.2 (sym is_open ∙ is_true),
       λ live. is_open ∙ subscriber-open c.args.self.now c.args.id c.requires c.in-Some.place found.0 found.1 found.2 live,
     )
+
+pub returns-in_default : goal.returns-in_default
+returns-in_default g c = (λ no. absurd cc, λ held. absurd (absent-subscriber c.args.self.now c.args.id c.in_default.ensures held))

@@ -20,8 +20,5 @@ pub invariant_of-result : goal.invariant_of-result
 invariant_of-result g c =
     new_is_domain {T = g.row.T.Denot} {U = g.row.U.Denot} c.args.config c.in-Ok.state c.in-Ok.ensures (record {
       single_values = c.requires.fixed_size;
-      one_publisher = c.requires.one_publisher;
-      one_subscriber = c.requires.one_subscriber;
       no_history = c.requires.no_history;
-      no_overflow = c.requires.no_overflow;
     })

@@ -14,7 +14,7 @@ give_back-requires-clause-live g c =
 
 pub returns-clause-released : goal.returns-clause-released
 returns-clause-released g c =
-    release-shows {T = g.row.T.Denot} {U = g.row.U.Denot} c.args.domain.now c.domain.inside.state c.give_back.new.self c.domain.view_is
+    release-shows {T = g.row.T.Denot} {U = g.row.U.Denot} c.args.domain.now c.domain.inside.state c.give_back.new.state c.domain.view_is
     c.args.self.sample.subscriber c.args.self.sample.number c.give_back.ensures.released
 
 pub returns-clause-spent : goal.returns-clause-spent

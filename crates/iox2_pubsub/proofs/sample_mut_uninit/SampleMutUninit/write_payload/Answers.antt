@@ -15,12 +15,12 @@ write_loan-requires-clause-live g c =
 
 pub returns-clause-written : goal.returns-clause-written
 returns-clause-written g c =
-    write-shown {T = g.row.T.Denot} {U = g.row.U.Denot} c.domain.inside.state c.write_loan.new.self c.args.domain.now c.domain.view_is
+    write-shown {T = g.row.T.Denot} {U = g.row.U.Denot} c.domain.inside.state c.write_loan.new.state c.args.domain.now c.domain.view_is
     c.args.self.loan.number c.args.value c.write_loan.ensures.writes
 
 pub returns-clause-live : goal.returns-clause-live
 returns-clause-live g c =
-    write-live {T = g.row.T.Denot} {U = g.row.U.Denot} c.domain.inside.state c.write_loan.new.self c.args.domain.now c.domain.view_is
+    write-live {T = g.row.T.Denot} {U = g.row.U.Denot} c.domain.inside.state c.write_loan.new.state c.args.domain.now c.domain.view_is
     c.args.self.loan.number c.args.value c.write_loan.ensures.writes c.args.self (record { service_id = c.args.self.service_id; loan = c.write_loan.result }) refl refl
     (ap (λ (at : LoanAt). at.publisher) c.write_loan.ensures.same) (ap (λ (at : LoanAt). at.number) c.write_loan.ensures.same) c.requires.live
 
@@ -39,7 +39,7 @@ returns-clause-reads g c =
     let lies = c.write_loan.ensures.lies in
     let at : LiesInSlot c.domain.inside.state c.args.self.loan.publisher c.args.self.loan.number lies.0 c.write_loan.result.slot = lies.1 in
     let single = ap (λ (k : Kept g.row.T.Denot g.row.U.Denot). (k.config).units_per_element) c.domain.view_is ∙ (single-parts c.args.domain.now c.requires.single_valued).1 in
-    write-reads {T = g.row.T.Denot} {U = g.row.U.Denot} c.domain.inside.state c.write_loan.new.self c.args.self.loan.number c.args.value c.write_loan.ensures.writes
+    write-reads {T = g.row.T.Denot} {U = g.row.U.Denot} c.domain.inside.state c.write_loan.new.state c.args.self.loan.number c.args.value c.write_loan.ensures.writes
     (record { service_id = c.args.self.service_id; loan = c.write_loan.result }) (ap (λ (at : LoanAt). at.number) c.write_loan.ensures.same)
     at.loan at.is_out
     (one-cell {T = g.row.T.Denot} {U = g.row.U.Denot} c.domain.inside.state c.domain.invariant single c.args.self.loan.publisher c.args.self.loan.number lies.0 c.write_loan.result.slot at)

@@ -1,0 +1,29 @@
+use Rattle.std.proofs.Common.{◌≡◌, ◌<◌, rules, arith, length, vec_len}
+use Rattle.iox2_domain.proofs.lemmas.samples.SampleReads.{book-within, no-contents, value-there, value-read}
+use Rattle.iox2_messages.proofs.sample_reads.sample_payload.Goals as goal
+
+pub index-requires : goal.index-requires
+index-requires g c =
+    let long : vec_len c.state.inside.contents ≡ length c.state.inside.contents.items = search rules in
+    let within : c.in-Some.at.book < length c.state.inside.contents.items =
+    book-within _ c.args.state.now c.args.sample.now.subscriber c.args.sample.now.number c.in-Some.at
+    (record { same = c.state.view_is; sound = c.requires.agrees; lies = c.in-Some.ensures }) in
+    omega arith
+
+pub unreachable-requires-in_default-index : goal.unreachable-requires-in_default-index
+unreachable-requires-in_default-index g c =
+    no-contents _ c.args.state.now c.args.sample.now.subscriber c.args.sample.now.number c.in-Some.at
+    (record { same = c.state.view_is; sound = c.requires.agrees; lies = c.in-Some.ensures })
+    c.index.result.now c.index.ensures c.in_default-index.is
+
+pub value-requires : goal.value-requires
+value-requires g c =
+    value-there _ c.args.state.now c.args.sample.now.subscriber c.args.sample.now.number c.in-Some.at
+    (record { same = c.state.view_is; sound = c.requires.agrees; lies = c.in-Some.ensures })
+    c.index.result.now c.index.ensures c.in-Some-index.contents c.in-Some-index.is c.requires.single
+
+pub returns : goal.returns
+returns g c =
+    value-read _ c.args.state.now c.args.sample.now.subscriber c.args.sample.now.number c.in-Some.at
+    (record { same = c.state.view_is; sound = c.requires.agrees; lies = c.in-Some.ensures })
+    c.index.result.now c.index.ensures c.in-Some-index.contents c.in-Some-index.is c.requires.single c.value.result.now c.value.ensures

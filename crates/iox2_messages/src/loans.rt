@@ -1,0 +1,118 @@
+//! A publisher lends the slots of its book.
+ghost use Rattle.std.specs.Prelude.{◌≡◌, ◌<◌, ◌≤◌, ℕ, length, slice_index_or, None, Some, IfOk, IsSomeAnd};
+ghost use Rattle.std.specs.Option.{option_map};
+ghost use Rattle.iox2_store.specs.SlotContents.{SomeAt};
+ghost use Rattle.iox2_ends.specs.Receivers.{HasReclaimed};
+ghost use Rattle.iox2_domain.specs.Lending.{lending, Starts, CanLend, LoanDecided, IsNamed, Lends, LoanReaches};
+ghost use Rattle.iox2_domain.specs.LoanSlots.{LiesInSlot};
+ghost use Rattle.iox2_domain.specs.Ports.{PublisherFields};
+ghost use Rattle.iox2_domain.specs.Invariant.{IsDomain};
+
+use crate::reclaims::reclaim;
+use iox2_domain::{DomainState, LoanAt, PublisherState};
+use iox2_store::{Contents, Header, LoanError, UniqueNodeId};
+
+// The slot is a loan of the publisher.
+fn lend(publisher: &mut Option<PublisherState>, slot: usize)
+    requires { IsSomeAnd publisher.old (λ x. length x.loans < x.loan_room) }
+    ensures { publisher.new ≡ option_map (lending slot) publisher.old }
+{
+    if let Some(publisher) = publisher {
+        publisher.lend(slot);
+    }
+}
+
+// In the slot starts a loan of that length.
+fn start<T: Drop, U: Default + Drop>(contents: &mut Option<Contents<T, U>>, slot: usize, len: usize)
+    requires { IsSomeAnd contents.old (λ cs. SomeAt cs slot (λ content. len ≤ content.room)) }
+    ensures { Starts U.is_default contents.old contents.new slot len }
+{
+    let Some(contents) = contents else {
+        unreachable!();
+    };
+    contents.start(slot, len);
+}
+
+/// The publisher at a place lends a slot for a single value, with a default user header. It
+/// takes no memory. Returns the loan, which has the number that was the next and lies in its
+/// slot.
+///
+/// `ExceedsMaxLoans` where as many loans are out as the publisher may have, then `OutOfMemory`
+/// where each of its slots is in use, then `InternalFailure` where no message number is left.
+/// Nothing changes then that can be seen.
+pub fn loan<T: Drop, U: Default + Drop>(
+    state: &mut DomainState<T, U>,
+    place: usize,
+) -> Result<LoanAt, LoanError>
+    requires agrees { IsDomain state.old }
+    requires stands { (x : PublisherFields) × (slice_index_or state.old.publishers place None ≡ Some x) }
+    ensures reaches { IsSomeAnd (slice_index_or state.old.publishers place None) (λ x. LoanReaches U.is_default state.old x result state.new) }
+    ensures named { IfOk result (λ loan. IsSomeAnd (slice_index_or state.old.publishers place None) (λ x. IsNamed state.old x loan)) }
+    ensures lies { IfOk result (λ loan. (key : ℕ) × LiesInSlot state.new loan.publisher loan.number key loan.slot) }
+{
+    reclaim(state, place);
+    if let Some(refusal) = loan_refusal(state, place) {
+        return Err(refusal);
+    }
+    Ok(grant(state, place))
+}
+
+// Why the publisher at a place may lend no slot, if it may not.
+fn loan_refusal<T: Drop, U: Default + Drop>(
+    state: &DomainState<T, U>,
+    place: usize,
+) -> Option<LoanError>
+    requires agrees { IsDomain state.now }
+    requires stands { (x : PublisherFields) × (slice_index_or state.now.publishers place None ≡ Some x) }
+    requires reclaimed { (x : PublisherFields) → slice_index_or state.now.publishers place None ≡ Some x → HasReclaimed state.now.connections x.keys }
+    ensures { LoanDecided state.now place result }
+{
+    let Some(publisher) = &state.publishers[place] else {
+        unreachable!();
+    };
+    if publisher.loans.len() >= publisher.max_loaned_samples {
+        return Some(LoanError::ExceedsMaxLoans);
+    }
+    if state.books[publisher.book].is_full() {
+        return Some(LoanError::OutOfMemory);
+    }
+    if state.next_message == u128::MAX {
+        return Some(LoanError::InternalFailure);
+    }
+    None
+}
+
+// The publisher at a place lends a slot that is free, for the next message.
+fn grant<T: Drop, U: Default + Drop>(state: &mut DomainState<T, U>, place: usize) -> LoanAt
+    requires agrees { IsDomain state.old }
+    requires can { CanLend state.old place }
+    ensures named { IsSomeAnd (slice_index_or state.old.publishers place None) (λ x. IsNamed state.old x result) }
+    ensures lends { IsSomeAnd (slice_index_or state.old.publishers place None) (λ x. Lends U.is_default state.old place x result.slot state.new) }
+{
+    let Some(publisher) = &state.publishers[place] else {
+        unreachable!();
+    };
+    let publisher_id = publisher.id;
+    let number = state.next_message;
+    let header = Header {
+        node_id: UniqueNodeId::new(state.config.node_id),
+        publisher_id,
+        number_of_elements: 1,
+    };
+    let key = publisher.book;
+    let Some(slot) = state.books[key].take(number, header) else {
+        unreachable!();
+    };
+    state.next_message += 1;
+    start(
+        &mut state.contents[key],
+        slot,
+        state.config.units_per_element,
+    );
+    lend(&mut state.publishers[place], slot);
+    LoanAt {
+        publisher: publisher_id,
+        number,
+        slot,
+    }
+}

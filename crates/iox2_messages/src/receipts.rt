@@ -1,0 +1,91 @@
+//! Messages that a subscriber takes from its connections, and gives back.
+ghost use Rattle.std.specs.Prelude.{◌≡◌, ℕ, true, None, Some, slice_index_or, IsTrue, IsSomeAnd};
+ghost use Rattle.slab.specs.Slab.{get};
+ghost use Rattle.iox2_store.specs.Link.{can_borrow};
+ghost use Rattle.iox2_store.specs.machine.Mailbox.{is_borrowed};
+ghost use Rattle.iox2_store.specs.machine.Releases.{released};
+ghost use Rattle.iox2_store.specs.machine.SingleCalls.{HoldsSample};
+ghost use Rattle.iox2_domain.specs.Ports.{SubscriberFields};
+ghost use Rattle.iox2_domain.specs.Kept.{state_of};
+ghost use Rattle.iox2_domain.specs.Fields.{kept_of};
+ghost use Rattle.iox2_domain.specs.Invariant.{IsDomain};
+ghost use Rattle.iox2_domain.specs.Reaches.{Reaches};
+ghost use Rattle.iox2_domain.specs.Receipts.{TakesFrom, TakesAs, ReceivesAs};
+
+use iox2_domain::{DomainState, Receipt, SampleAt};
+use iox2_ends::receiver::{Found, find, release, take};
+use iox2_ports::update_subscriber;
+use iox2_store::{ReceiveError, UniquePublisherId, UniqueSubscriberId};
+
+// Borrows the message that has waited longest in a connection.
+fn take_from<T: Drop, U: Default + Drop>(state: &mut DomainState<T, U>, key: usize) -> Receipt
+    requires agrees { IsDomain state.old }
+    requires ready { IsSomeAnd (get state.old.connections key) (λ c. IsTrue (can_borrow c)) }
+    ensures { TakesFrom state.old key result state.new }
+{
+    let book = state.book_of(key);
+    let home = state.connections[key].home();
+    let slot = take(&mut state.connections, key);
+    let number = state.books[book].number(slot);
+    let sample = SampleAt {
+        subscriber: UniqueSubscriberId::new(home.subscriber),
+        number,
+        connection: key,
+        slot,
+    };
+    Receipt {
+        publisher: UniquePublisherId::new(home.publisher),
+        sample,
+    }
+}
+
+/// The subscriber at a place borrows a message, if one waits of which it may borrow one more.
+pub(crate) fn take_at<T: Drop, U: Default + Drop>(
+    state: &mut DomainState<T, U>,
+    place: usize,
+) -> Result<Option<Receipt>, ReceiveError>
+    requires agrees { IsDomain state.old }
+    requires stands { (y : SubscriberFields) × (slice_index_or state.old.subscribers place None ≡ Some y) }
+    ensures { (y : SubscriberFields) → slice_index_or state.old.subscribers place None ≡ Some y → TakesAs state.old y.id result state.new }
+{
+    let Some(subscriber) = &state.subscribers[place] else {
+        unreachable!()
+    };
+    match find(&state.connections, &subscriber.expired, &subscriber.keys) {
+        Found::Ready(key) => Ok(Some(take_from(state, key))),
+        Found::AtLimit => Err(ReceiveError::ExceedsMaxBorrows),
+        Found::Nothing => Ok(None),
+    }
+}
+
+/// The subscriber at a place is updated, and then borrows the message that has waited longest in
+/// some connection. `None` where no message waits. The message lies where the receipt says.
+///
+/// `ExceedsMaxBorrows` where messages wait, but only where as many are borrowed as may be. The
+/// update stands then.
+pub fn receive_at<T: Drop, U: Default + Drop>(
+    state: &mut DomainState<T, U>,
+    place: usize,
+) -> Result<Option<Receipt>, ReceiveError>
+    requires agrees { IsDomain state.old }
+    requires stands { (y : SubscriberFields) × (slice_index_or state.old.subscribers place None ≡ Some y) }
+    ensures { (y : SubscriberFields) → slice_index_or state.old.subscribers place None ≡ Some y → ReceivesAs state.old y.id result state.new }
+{
+    update_subscriber(state, place);
+    take_at(state, place)
+}
+
+/// The subscriber gives back a message that it has borrowed. Its slot is free again once the
+/// publisher reclaims it and nobody else holds it.
+pub fn give_back<T: Drop, U: Default + Drop>(state: &mut DomainState<T, U>, sample: SampleAt)
+    requires agrees { IsDomain state.old }
+    requires live { HoldsSample (state_of (kept_of state.old)) sample.subscriber sample.number }
+    ensures stays { IsDomain state.new }
+    ensures released { (publisher : ℕ) → IsTrue (is_borrowed sample.number ((state_of (kept_of state.old)).mailboxes publisher sample.subscriber))
+        → Reaches state.old state.new (released (state_of (kept_of state.old)) publisher sample.subscriber sample.number) }
+{
+    let Some(at) = state.find_sample(&sample) else {
+        unreachable!()
+    };
+    release(&mut state.connections, at.connection, at.slot);
+}

@@ -1,0 +1,44 @@
+//! What is read of borrowed messages.
+ghost use Rattle.std.specs.Prelude.{◌≡◌, Some, [], ◌∷◌};
+ghost use Rattle.iox2_store.specs.machine.Records.{Entry};
+ghost use Rattle.iox2_store.specs.machine.SingleCalls.{HoldsSample};
+ghost use Rattle.iox2_domain.specs.Kept.{state_of, entries_of};
+ghost use Rattle.iox2_domain.specs.Fields.{kept_of};
+ghost use Rattle.iox2_domain.specs.Invariant.{IsDomain};
+
+use iox2_domain::{DomainState, SampleAt};
+use iox2_store::Header;
+
+/// The value of a borrowed message.
+pub fn sample_payload<'a, T: Drop, U: Default + Drop>(
+    state: &'a DomainState<T, U>,
+    sample: &SampleAt,
+) -> &'a T
+    requires agrees { IsDomain state.now }
+    requires single { (state.now.config).units_per_element ≡ 1 }
+    requires live { HoldsSample (state_of (kept_of state.now)) sample.now.subscriber sample.now.number }
+    ensures { (entry : Entry T U) × (entries_of (kept_of state.now) sample.now.number ≡ Some entry) × (entry.values ≡ result.now ∷ []) }
+{
+    let Some(at) = state.find_sample(sample) else {
+        unreachable!()
+    };
+    let Some(contents) = &state.contents[at.book] else {
+        unreachable!()
+    };
+    contents.value(at.slot)
+}
+
+/// The header of a borrowed message.
+pub fn sample_header<'a, T: Drop, U: Default + Drop>(
+    state: &'a DomainState<T, U>,
+    sample: &SampleAt,
+) -> &'a Header
+    requires agrees { IsDomain state.now }
+    requires live { HoldsSample (state_of (kept_of state.now)) sample.now.subscriber sample.now.number }
+    ensures { (entry : Entry T U) × (entries_of (kept_of state.now) sample.now.number ≡ Some entry) × (entry.header ≡ result.now) }
+{
+    let Some(at) = state.find_sample(sample) else {
+        unreachable!()
+    };
+    state.books[at.book].header(at.slot)
+}

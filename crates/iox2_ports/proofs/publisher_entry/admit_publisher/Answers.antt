@@ -1,0 +1,99 @@
+use Rattle.std.proofs.Common.{rules, ◌≡◌, ◌≢◌, ◌∙◌, ◌+◌, ◌≤◌, length, vec_len, ap, map, arith, refl, [], get_or, inl, inr}
+use Rattle.std.proofs.lemmas.List.{with_items_is}
+use Rattle.std.specs.Option.{option_map}
+use Rattle.std.specs.declared.option.Option.TheVariants.{None}
+use Rattle.circular_buffer.specs.Buffer.{buffer}
+use Rattle.iox2_store.specs.machine.Limits.{last_number}
+use Rattle.iox2_domain.specs.NewPublisher.{entering_publisher, subscriber_due}
+use Rattle.iox2_domain.specs.Ports.{PublisherFields}
+use Rattle.iox2_domain.specs.Fields.{Fields}
+use Rattle.iox2_domain.specs.Placed.{placed}
+use Rattle.iox2_domain.proofs.lemmas.containers.Placed.{placed-here}
+use Rattle.iox2_domain.proofs.lemmas.fields.ReachesShows.{reaches-same}
+use Rattle.iox2_domain.proofs.lemmas.creations.PublisherEntries.{entered-reaches-as, room-reaches, numbered-low, place-low}
+use Rattle.iox2_ports.proofs.publisher_entry.admit_publisher.Goals as goal
+
+pub returns-in_default-entering-clause-step : goal.returns-in_default-entering-clause-step
+returns-in_default-entering-clause-step g c = (reaches-same c.args.state.now c.requires.agrees, inr refl)
+
+pub returns-in_default-try_reserve-clause-step : goal.returns-in_default-try_reserve-clause-step
+returns-in_default-try_reserve-clause-step g c = (
+  room-reaches {T = g.row.T.Denot} {U = g.row.U.Denot} c.args.state.now _ _ c.state.inside.books.capacity c.state.view_is c.requires.agrees (λ i. record {
+    config = c.state.inside.config;
+    next_port = c.state.inside.next_port;
+    next_message = c.state.inside.next_message;
+    warnings = c.state.inside.warnings;
+    publishers = c.in_default-try_reserve.ensures.items i;
+    subscribers = c.state.inside.subscribers.items;
+    connections = c.state.inside.connections;
+    books = c.state.inside.books;
+    contents = c.state.inside.contents.items;
+  }),
+  inr refl,
+)
+
+pub returns-in_default-add_segment-clause-step : goal.returns-in_default-add_segment-clause-step
+returns-in_default-add_segment-clause-step g c = (
+  room-reaches {T = g.row.T.Denot} {U = g.row.U.Denot} c.args.state.now _ _ c.add_segment.new.books.capacity c.state.view_is c.requires.agrees (λ i. record {
+    config = c.state.inside.config;
+    next_port = c.state.inside.next_port;
+    next_message = c.state.inside.next_message;
+    warnings = c.state.inside.warnings;
+    publishers = c.in-Ok-try_reserve.ensures.items i;
+    subscribers = c.state.inside.subscribers.items;
+    connections = c.state.inside.connections;
+    books = c.in_default-add_segment.ensures.same_books i;
+    contents = c.in_default-add_segment.ensures.same_contents i;
+  }),
+  inl refl,
+)
+
+pub overflow_add-state : goal.overflow_add-state
+overflow_add-state g c =
+    let low : c.state.inside.next_port ≢ last_number = numbered-low {T = g.row.T.Denot} {U = g.row.U.Denot} c.args.state.now _ c.args.place c.state.view_is c.requires.has_place in
+    omega arith
+
+pub returns-clause-step : goal.returns-clause-step
+returns-clause-step g c =
+    let loans = c.args.max_loaned_samples in
+    entered-reaches-as {T = g.row.T.Denot} {U = g.row.U.Denot} c.args.state.now _ _ c.state.view_is c.requires.agrees loans c.args.slots c.args.place c.in-Ok-entering.publisher c.in-Ok.segment.book c.in-Ok.segment.contents
+    c.add_segment.new.books c.requires.has_place c.requires.slots (record {
+      publisher = c.in-Ok-entering.ensures.enters
+          ∙ ap (λ id. entering_publisher id c.args.place c.vacant_key-key.result loans c.args.slots c.in-Ok-entering.publisher.loan_room (buffer [] c.state.inside.config.history_size) c.in-Ok-entering.publisher.key_room) c.new-id.ensures
+          ∙ ap (λ key. entering_publisher c.state.inside.next_port c.args.place key loans c.args.slots c.in-Ok-entering.publisher.loan_room (buffer [] c.state.inside.config.history_size) c.in-Ok-entering.publisher.key_room) c.vacant_key-key.ensures.value;
+      room = c.in-Ok-entering.ensures.room;
+      is_its = c.in-Ok.ensures.is_its ∙ c.new-id.ensures;
+      unused = c.in-Ok.ensures.unused;
+      aligned = c.in-Ok.ensures.aligned;
+      contents_length = c.in-Ok.ensures.contents_length;
+      contents_room = c.in-Ok.ensures.contents_room;
+      vacant = c.in-Ok-add_segment.ensures.vacant;
+      updates = c.in-Ok-add_segment.ensures.updates;
+      changed = λ i. record {
+        config = c.state.inside.config;
+        next_port = c.state.inside.next_port + 1;
+        next_message = c.state.inside.next_message;
+        warnings = c.state.inside.warnings;
+        publishers = (c.put_at_place.ensures.items ∙ ap (λ xs. placed xs c.args.place c.in-Ok-entering.publisher) c.in-Ok-try_reserve.ensures.items) i;
+        subscribers = (with_items_is c.state.inside.subscribers c.make_all_due.new.ports (c.make_all_due.auto.ports ∙ c.deref_mut.ensures.len) ∙ c.make_all_due.ensures ∙ ap (map (option_map subscriber_due)) c.deref_mut.ensures.value) i;
+        connections = c.state.inside.connections;
+        books = c.add_segment.new.books;
+        contents = c.in-Ok-add_segment.ensures.contents i;
+      };
+    })
+
+pub returns-clause-stands : goal.returns-clause-stands
+returns-clause-stands g c = (
+  c.in-Ok-entering.publisher,
+  ap (λ xs. get_or xs c.args.place None) c.put_at_place.ensures.items ∙ placed-here c.in-Ok-entering.publisher c.try_reserve.new.self.items c.args.place,
+  ap (λ (x : PublisherFields). x.id) c.in-Ok-entering.ensures.enters ∙ c.new-id.ensures ∙ ap (λ (f : Fields g.row.T.Denot g.row.U.Denot). f.next_port) c.state.view_is,
+)
+
+pub put_at_place-requires : goal.put_at_place-requires
+put_at_place-requires g c =
+    let low : c.args.place ≤ length c.state.inside.publishers.items = place-low {T = g.row.T.Denot} {U = g.row.U.Denot} c.args.state.now _ c.args.place c.state.view_is c.requires.has_place in
+    let long : vec_len c.state.inside.publishers ≡ length c.state.inside.publishers.items = search rules in
+    omega (arith, low, long, c.try_reserve.ensures.len, c.in-Ok-try_reserve.ensures.ok)
+
+pub returns-clause-id : goal.returns-clause-id
+returns-clause-id g c = c.new-id.ensures ∙ ap (λ (f : Fields g.row.T.Denot g.row.U.Denot). f.next_port) c.state.view_is

@@ -1,0 +1,111 @@
+//! A publisher enters a domain.
+ghost use Rattle.std.specs.Prelude.{◌≡◌, ◌⊎◌, None, Some, slice_index_or, IfOk, MatchResult, OnOk};
+ghost use Rattle.iox2_store.specs.machine.Limits.{worst_case};
+ghost use Rattle.iox2_store.specs.machine.Environments.{fixed_handlers};
+ghost use Rattle.iox2_store.specs.machine.Ports.{CreatePublisher, with_new_publisher};
+ghost use Rattle.iox2_store.specs.declared.errors.PublisherCreateError.TheVariants.{UnableToCreateDataSegment, FailedToDeployThreadsafetyPolicy};
+ghost use Rattle.iox2_store.specs.machine.State.{State};
+ghost use Rattle.iox2_domain.specs.Ports.{PublisherFields};
+ghost use Rattle.iox2_domain.specs.Kept.{state_of};
+ghost use Rattle.iox2_domain.specs.Fields.{kept_of};
+ghost use Rattle.iox2_domain.specs.Invariant.{IsDomain};
+ghost use Rattle.iox2_domain.specs.NewPublisher.{place_for_publisher, plain_publisher};
+ghost use Rattle.iox2_domain.specs.Reaches.{Reaches};
+
+use crate::segments::{Segment, add_segment, first_segment};
+use crate::updates::update_publisher;
+use iox2_domain::{DomainState, PortAt, PublisherState, free_place, make_all_due, put_at_place};
+use iox2_store::{PublisherCreateError, UniquePublisherId};
+
+/// The place for a new publisher, or why it is refused.
+pub(crate) fn place_for_publisher<T: Drop, U: Default + Drop>(
+    state: &DomainState<T, U>,
+) -> Result<usize, PublisherCreateError>
+    ensures { result ≡ place_for_publisher state.now }
+{
+    if state.next_port == u128::MAX {
+        return Err(PublisherCreateError::UnableToCreatePortTag);
+    }
+    match free_place(&state.publishers, state.config.max_publishers) {
+        Some(place) => Ok(place),
+        None => Err(PublisherCreateError::ExceedsMaxSupportedPublishers),
+    }
+}
+
+/// A publisher with so many slots enters at the place that it has, and every subscriber is due
+/// for an update. Returns its id, which was the next.
+///
+/// Where memory is refused it doesn't enter, and no id is used.
+pub(crate) fn admit_publisher<T: Drop, U: Default + Drop>(
+    state: &mut DomainState<T, U>,
+    place: usize,
+    max_loaned_samples: usize,
+    slots: usize,
+) -> Result<UniquePublisherId, PublisherCreateError>
+    requires agrees { IsDomain state.old }
+    requires has_place { place_for_publisher state.old ≡ Ok place }
+    requires slots { slots ≡ worst_case (state.old).config max_loaned_samples }
+    ensures stands { OnOk result ((x : PublisherFields) × (slice_index_or state.new.publishers place None ≡ Some x) × (x.id ≡ state.old.next_port)) }
+    ensures id { IfOk result (λ id. id ≡ state.old.next_port) }
+    ensures step { MatchResult result
+        (λ _. Reaches state.old state.new (with_new_publisher (state_of (kept_of state.old)) (plain_publisher max_loaned_samples) place))
+        (λ e. Reaches state.old state.new (state_of (kept_of state.old)) × ((e ≡ UnableToCreateDataSegment) ⊎ (e ≡ FailedToDeployThreadsafetyPolicy))) }
+{
+    let id = UniquePublisherId::new(state.next_port);
+    let key = state.books.vacant_key();
+    let room = state.config.units_per_element;
+    let Ok(segment) = Segment::new(state.alloc, id, slots, room) else {
+        return Err(PublisherCreateError::UnableToCreateDataSegment);
+    };
+    let entering = PublisherState::new(
+        state.alloc,
+        &state.config,
+        id,
+        place,
+        key,
+        max_loaned_samples,
+        slots,
+    );
+    let Ok(publisher) = entering else {
+        return Err(PublisherCreateError::FailedToDeployThreadsafetyPolicy);
+    };
+    let Ok(()) = state.publishers.try_reserve(1) else {
+        return Err(PublisherCreateError::FailedToDeployThreadsafetyPolicy);
+    };
+    let Ok(()) = add_segment(&mut state.books, &mut state.contents, segment) else {
+        return Err(PublisherCreateError::UnableToCreateDataSegment);
+    };
+    make_all_due(&mut state.subscribers);
+    put_at_place(&mut state.publishers, place, publisher);
+    state.next_port += 1;
+    Ok(id)
+}
+
+/// Makes a publisher that may have so many loans out, and connects it with the subscribers that
+/// there are. Returns its id, which was the next, and its place.
+///
+/// `UnableToCreatePortTag` where no id is left, then `ExceedsMaxSupportedPublishers` where no
+/// place is free, then `UnableToCreateDataSegment` where the segment's size doesn't fit `usize`.
+/// After that `UnableToCreateDataSegment` or `FailedToDeployThreadsafetyPolicy` where memory for
+/// the segment or for the port is refused. No id is used then, and nothing changes that can be
+/// seen.
+pub fn create_publisher<T: Drop, U: Default + Drop>(
+    state: &mut DomainState<T, U>,
+    max_loaned_samples: usize,
+) -> Result<PortAt<UniquePublisherId>, PublisherCreateError>
+    requires { IsDomain state.old }
+    ensures id { IfOk result (λ port. port.id ≡ state.old.next_port) }
+    ensures stands { IfOk result (λ port. (x : PublisherFields) × (slice_index_or state.new.publishers port.place None ≡ Some x) × (x.id ≡ port.id)) }
+    ensures step { MatchResult result
+        (λ _. (s' : State T U) × CreatePublisher fixed_handlers (state_of (kept_of state.old)) (plain_publisher max_loaned_samples) s' None × Reaches state.old state.new s')
+        (λ e. CreatePublisher fixed_handlers (state_of (kept_of state.old)) (plain_publisher max_loaned_samples) (state_of (kept_of state.old)) (Some e)
+        × Reaches state.old state.new (state_of (kept_of state.old))) }
+{
+    let place = place_for_publisher(state)?;
+    let Some(slots) = first_segment(&state.config, max_loaned_samples) else {
+        return Err(PublisherCreateError::UnableToCreateDataSegment);
+    };
+    let id = admit_publisher(state, place, max_loaned_samples, slots)?;
+    update_publisher(state, place);
+    Ok(PortAt { id, place })
+}

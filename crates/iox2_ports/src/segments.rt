@@ -1,0 +1,85 @@
+//! The memory of a publisher: a book of its slots, and their contents at the book's key.
+ghost use Rattle.std.specs.Prelude.{◌≡◌, None, Some, IfOk, OnOk, OnErr, IsTrue, SomeIff};
+ghost use Rattle.slab.specs.Slab.{Updates, get};
+ghost use Rattle.iox2_store.specs.machine.Limits.{worst_case as slots_at_most, fits};
+ghost use Rattle.iox2_store.specs.machine.Ports.{first_segment_fits};
+ghost use Rattle.iox2_domain.specs.NewPublisher.{IsNewSegment, plain_publisher};
+ghost use Rattle.iox2_domain.specs.Placed.{placed};
+
+use iox2_domain::{put_at_place, reserve_place};
+use iox2_store::{Contents, ServiceConfig, SlotBook, UniquePublisherId};
+use slab::Slab;
+use std::alloc::{AllocError, Global};
+
+/// How many slots a publisher needs that may have so many loans out, whatever its subscribers hold.
+/// `None` where that number doesn't fit `usize`.
+pub(crate) fn worst_case(config: &ServiceConfig, loans: usize) -> Option<usize>
+    ensures { SomeIff result (IsTrue (fits (slots_at_most config.now loans))) (slots_at_most config.now loans) }
+{
+    let subscribers = config.max_subscribers;
+    let waiting = subscribers.checked_mul(config.subscriber_max_buffer_size.max(1))?;
+    let borrowed = subscribers.checked_mul(config.subscriber_max_borrowed_samples)?;
+    let delivered = waiting.checked_add(borrowed)?;
+    delivered
+        .checked_add(config.history_size)?
+        .checked_add(loans)
+}
+
+/// How many slots the first segment of a publisher of single values has. `None` where their number
+/// or their size doesn't fit `usize`.
+pub(crate) fn first_segment(config: &ServiceConfig, loans: usize) -> Option<usize>
+    ensures { SomeIff result (IsTrue (first_segment_fits config.now (plain_publisher loans))) (slots_at_most config.now loans) }
+{
+    let slots = worst_case(config, loans)?;
+    slots.checked_mul(config.units_per_element)?;
+    Some(slots)
+}
+
+/// The slots of a publisher: what is known of them, and what lies in them.
+#[derive(Drop)]
+pub(crate) struct Segment<T, U> {
+    book: SlotBook,
+    contents: Contents<T, U>,
+}
+
+impl<T: Drop, U: Default + Drop> Segment<T, U> {
+    /// So many slots of a publisher without holders, each with room for so many elements.
+    pub(crate) fn new(
+        alloc: Global,
+        publisher: UniquePublisherId,
+        slots: usize,
+        room: usize,
+    ) -> Result<Self, AllocError>
+        ensures { IfOk result (λ segment. IsNewSegment segment.book segment.contents publisher slots room) }
+    {
+        let book = SlotBook::new(alloc, publisher, slots)?;
+        let contents = Contents::new(alloc, slots, room)?;
+        Ok(Segment { book, contents })
+    }
+}
+
+/// Keeps a segment's book and contents at one key, which the books had vacant. Where memory is
+/// refused, both stay as they are.
+pub(crate) fn add_segment<T: Drop, U: Drop>(
+    books: &mut Slab<SlotBook>,
+    contents: &mut Vec<Option<Contents<T, U>>>,
+    segment: Segment<T, U>,
+) -> Result<(), AllocError>
+    ensures vacant { OnOk result (get books.old books.old.vacant_key ≡ None) }
+    ensures updates { OnOk result (Updates books.old books.new books.old.vacant_key (Some segment.book)) }
+    ensures contents { OnOk result (contents.new.items ≡ placed contents.old.items books.old.vacant_key segment.contents) }
+    ensures same_books { OnErr result (books.new ≡ record books.old { capacity = books.new.capacity }) }
+    ensures same_contents { OnErr result (contents.new.items ≡ contents.old.items) }
+{
+    let key = books.vacant_key();
+    reserve_place(contents, key)?;
+    let Segment {
+        book,
+        contents: slot_contents,
+    } = segment;
+    let Ok(key) = books.insert(book) else {
+        return Err(AllocError);
+    };
+    put_at_place(contents, key, slot_contents);
+    Ok(())
+}

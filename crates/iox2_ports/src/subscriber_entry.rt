@@ -1,0 +1,106 @@
+//! A subscriber enters a domain.
+ghost use Rattle.std.specs.Prelude.{◌≡◌, cond, nat_lt, slice_index_or, IfOk, MatchResult};
+ghost use Rattle.circular_buffer.specs.Buffer.{buffer};
+ghost use Rattle.iox2_store.specs.machine.Limits.{warning_limit};
+ghost use Rattle.iox2_store.specs.machine.Environments.{fixed_handlers};
+ghost use Rattle.iox2_store.specs.machine.Ports.{with_new_subscriber, CreateSubscriber};
+ghost use Rattle.iox2_store.specs.machine.State.{State, warned};
+ghost use Rattle.iox2_store.specs.declared.errors.SubscriberCreateError.TheVariants.{FailedToDeployThreadsafetyPolicy};
+ghost use Rattle.iox2_store.specs.declared.warning.Warning.TheVariants.{ExpiredBufferRaised};
+ghost use Rattle.iox2_domain.specs.Ports.{SubscriberFields};
+ghost use Rattle.iox2_domain.specs.Kept.{state_of};
+ghost use Rattle.iox2_domain.specs.Fields.{kept_of};
+ghost use Rattle.iox2_domain.specs.Invariant.{IsDomain};
+ghost use Rattle.iox2_domain.specs.Reaches.{Reaches};
+ghost use Rattle.iox2_domain.specs.SubscriberEntry.{asked_for, place_for_subscriber};
+
+use crate::updates::update_subscriber;
+use crate::warnings::warn;
+use circular_buffer::HeapCircularBuffer;
+use iox2_domain::{DomainState, PortAt, SubscriberState, free_place, make_all_due, put_at_place};
+use iox2_store::{ServiceConfig, SubscriberCreateError, UniqueSubscriberId, Warning};
+
+// It is warned where the setting for expired publishers is too small for what may be borrowed.
+fn warn_of_expired_buffer(
+    warnings: &mut HeapCircularBuffer<Warning>,
+    config: &ServiceConfig,
+    subscriber: UniqueSubscriberId,
+)
+    requires { warnings.old.capacity ≡ warning_limit }
+    ensures { warnings.new ≡ buffer (cond (nat_lt (config.now).subscriber_expired_connection_buffer (config.now).subscriber_max_borrowed_samples) (warned warnings.old.items (ExpiredBufferRaised subscriber)) warnings.old.items) warning_limit }
+{
+    if config.subscriber_expired_connection_buffer < config.subscriber_max_borrowed_samples {
+        warn(warnings, Warning::ExpiredBufferRaised { subscriber });
+    }
+}
+
+/// The place for a subscriber that asks for a buffer of that size, or why it is refused.
+pub(crate) fn place_for_subscriber<T: Drop, U: Default + Drop>(
+    state: &DomainState<T, U>,
+    asked: usize,
+) -> Result<usize, SubscriberCreateError>
+    ensures { result ≡ place_for_subscriber state.now asked }
+{
+    if state.next_port == u128::MAX {
+        return Err(SubscriberCreateError::UnableToCreatePortTag);
+    }
+    if asked.max(1) > state.config.subscriber_max_buffer_size.max(1) {
+        return Err(SubscriberCreateError::BufferSizeExceedsMaxSupportedBufferSizeOfService);
+    }
+    match free_place(&state.subscribers, state.config.max_subscribers) {
+        Some(place) => Ok(place),
+        None => Err(SubscriberCreateError::ExceedsMaxSupportedSubscribers),
+    }
+}
+
+/// A subscriber enters at the place that it has, and every publisher is due for an update.
+/// Returns its id, which was the next.
+///
+/// Where memory is refused nothing changes.
+pub(crate) fn admit_subscriber<T: Drop, U: Default + Drop>(
+    state: &mut DomainState<T, U>,
+    place: usize,
+    asked: usize,
+) -> Result<UniqueSubscriberId, SubscriberCreateError>
+    requires agrees { IsDomain state.old }
+    requires has_place { place_for_subscriber state.old asked ≡ Ok place }
+    ensures id { IfOk result (λ id. id ≡ state.old.next_port) }
+    ensures step { MatchResult result
+        (λ _. Reaches state.old state.new (with_new_subscriber (state_of (kept_of state.old)) (asked_for asked) place) × (y : SubscriberFields) × (slice_index_or state.new.subscribers place None ≡ Some y) × (y.id ≡ state.old.next_port))
+        (λ e. (state.new ≡ state.old) × (e ≡ FailedToDeployThreadsafetyPolicy)) }
+{
+    let id = UniqueSubscriberId::new(state.next_port);
+    let subscriber = SubscriberState::new(state.alloc, id, place, asked.max(1));
+    let Ok(()) = state.subscribers.try_reserve(1) else {
+        return Err(SubscriberCreateError::FailedToDeployThreadsafetyPolicy);
+    };
+    warn_of_expired_buffer(&mut state.warnings, &state.config, id);
+    make_all_due(&mut state.publishers);
+    put_at_place(&mut state.subscribers, place, subscriber);
+    state.next_port += 1;
+    Ok(id)
+}
+
+/// Makes a subscriber with a buffer of that size, at least 1, and connects it with the publishers
+/// that there are. Returns its id, which was the next, and its place.
+///
+/// `UnableToCreatePortTag` where no id is left, then
+/// `BufferSizeExceedsMaxSupportedBufferSizeOfService`, then `ExceedsMaxSupportedSubscribers`
+/// where no place is free, then `FailedToDeployThreadsafetyPolicy` where memory is refused.
+/// Nothing changes then.
+pub fn create_subscriber<T: Drop, U: Default + Drop>(
+    state: &mut DomainState<T, U>,
+    asked: usize,
+) -> Result<PortAt<UniqueSubscriberId>, SubscriberCreateError>
+    requires { IsDomain state.old }
+    ensures id { IfOk result (λ port. port.id ≡ state.old.next_port) }
+    ensures stands { IfOk result (λ port. (y : SubscriberFields) × (slice_index_or state.new.subscribers port.place None ≡ Some y) × (y.id ≡ port.id)) }
+    ensures step { MatchResult result
+        (λ _. (s' : State T U) × CreateSubscriber fixed_handlers (state_of (kept_of state.old)) (asked_for asked) s' None × Reaches state.old state.new s')
+        (λ e. CreateSubscriber fixed_handlers (state_of (kept_of state.old)) (asked_for asked) (state_of (kept_of state.old)) (Some e) × (state.new ≡ state.old)) }
+{
+    let place = place_for_subscriber(state, asked)?;
+    let id = admit_subscriber(state, place, asked)?;
+    update_subscriber(state, place);
+    Ok(PortAt { id, place })
+}
