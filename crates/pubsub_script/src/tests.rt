@@ -1,4 +1,6 @@
 mod arrivals;
+mod plan;
+mod ports;
 mod streams;
 
 use script_runner::{Ending, ScriptError, script};
@@ -198,6 +200,10 @@ fn the_first_line_is_a_domain_line(rt: HostRuntime) {
         b"domain 1 1 1 1 0 keep\n".as_slice(),
         b"domain 1 1 1 1 0 0 keep 0\n".as_slice(),
         b"domain 1 1 1 1 0 0 Keep\n".as_slice(),
+        b"domain 1 1 1 1 0 0 keep overflow\n".as_slice(),
+        b"domain 1 1 1 1 0 0 overflows\n".as_slice(),
+        b"domain x 1 1 1 0 0 keep\n".as_slice(),
+        b"domain 1 x 1 1 0 0 keep\n".as_slice(),
         b"domain 1 1 1 1 0 0 keep\r".as_slice(),
         b"domain 1 1 1 1 0 0 keep\r\r\n".as_slice(),
         b"domain 1 1 x 1 0 0 keep\n".as_slice(),
@@ -206,10 +212,7 @@ fn the_first_line_is_a_domain_line(rt: HostRuntime) {
         b"domain 1 1 1 1 0 0 k\xC3ep\n".as_slice(),
         b"\nsub x\n".as_slice(),
         // What later scripts may ask for.
-        b"domain 2 1 1 1 0 0 keep\n".as_slice(),
-        b"domain 1 0 1 1 0 0 keep\n".as_slice(),
         b"domain 1 1 1 1 1 0 keep\n".as_slice(),
-        b"domain 1 1 1 1 0 0 overflow\n".as_slice(),
     ] {
         Outcome::of(rt.alloc(), text).assert(&rt, 2, b"", b"line 1: bad command\n");
     }

@@ -1,5 +1,5 @@
 //! Scripts over all small limits, in which each message arrives that finds room.
-use super::Outcome;
+use super::plan::Plan;
 use std::alloc::Global;
 use std::collections::VecDeque;
 use std::io::Write;
@@ -14,47 +14,19 @@ struct Limits {
     loans: usize,
 }
 
-/// A script, and the lines that it must print.
-#[derive(Drop)]
-struct Plan {
-    text: Vec<u8>,
-    replies: Vec<u8>,
-    commands: usize,
-}
-
-impl Plan {
-    /// Makes the domain and its two ports.
-    fn new(alloc: Global, limits: Limits) -> Result<Plan, Fail> {
-        let mut plan = Plan {
-            text: Vec::new(alloc),
-            replies: Vec::new(alloc),
-            commands: 0,
-        };
-        let Limits {
-            buffer,
-            borrowed,
-            ..
-        } = limits;
-        writeln!(plan.text, "domain 1 1 {buffer} {borrowed} 0 1 keep")?;
-        plan.call("sub", buffer, "ok")?;
-        write!(plan.text, "pub {} discard", limits.loans)?;
-        plan.end("ok")?;
-        Ok(plan)
-    }
-
-    /// Adds a call of what the command with the number `of` made, with its reply.
-    fn call(&mut self, call: &str, of: usize, reply: &str) -> Result<usize, Fail> {
-        write!(self.text, "{call} {of}")?;
-        self.end(reply)
-    }
-
-    /// Ends a command, which must have that reply, and returns its number.
-    fn end(&mut self, reply: &str) -> Result<usize, Fail> {
-        writeln!(self.text, "")?;
-        writeln!(self.replies, "{reply}")?;
-        self.commands = self.commands.saturating_add(1);
-        Ok(self.commands)
-    }
+/// Makes the domain and its two ports.
+fn begin(alloc: Global, limits: Limits) -> Result<Plan, Fail> {
+    let Limits {
+        buffer,
+        borrowed,
+        loans,
+    } = limits;
+    let domain = format!(in alloc; "domain 1 1 {buffer} {borrowed} 0 1 keep")?;
+    let mut plan = Plan::new(alloc, &domain)?;
+    plan.call("sub", buffer, "ok")?;
+    write!(plan.text, "pub {loans} discard")?;
+    plan.end("ok")?;
+    Ok(plan)
 }
 
 const SUBSCRIBER: usize = 1;
@@ -107,13 +79,13 @@ fn receive_all(alloc: Global, plan: &mut Plan, limits: Limits) -> Result<(), Fai
 
 /// The scripts send twice, so that slots are used again, but where nothing can be received.
 fn assert_all_arrive(rt: &impl Abort, alloc: Global, limits: Limits) -> Result<(), Fail> {
-    let mut plan = Plan::new(alloc, limits)?;
+    let mut plan = begin(alloc, limits)?;
     let rounds = if limits.borrowed == 0 { 1 } else { 2 };
     for _ in 0..rounds {
         send_all(alloc, &mut plan, limits)?;
         receive_all(alloc, &mut plan, limits)?;
     }
-    Outcome::of(alloc, plan.text.as_slice()).assert(rt, 0, plan.replies.as_slice(), b"");
+    plan.assert(rt, alloc);
     Ok(())
 }
 

@@ -11,7 +11,7 @@ returns-clause-reads c = record {
   borrowed = search rules;
   history = search rules;
   expired = search rules;
-  overflow = c.in_ok-parse_mode.field-0.0;
+  overflow = c.in_ok-parse_mode.field-0;
   mode = search rules;
-  settings = rw c.new.ensures (λ k. script_config (c.in_ok-parse_size-2.ensures.value k) (c.in_ok-parse_size-3.ensures.value k) (c.in_ok-parse_size-4.ensures.value k) (c.in_ok-parse_size-5.ensures.value k) (c.in_ok-parse_size-6.ensures.value k) _);
+  settings = rw c.new.ensures (λ k. script_config (c.in_ok-parse_size-2.ensures.value k) (c.in_ok-parse_size-3.ensures.value k) (c.in_ok-parse_size-4.ensures.value k) (c.in_ok-parse_size-5.ensures.value k) (c.in_ok-parse_size-6.ensures.value k) c.in_ok-parse_mode.field-0);
 }
