@@ -1,21 +1,20 @@
 -- A publisher's reclaims, one after the other.
-use Rattle.std.proofs.Common.{◌≡◌, ℕ, ◌+◌, ◌<◌, ◌≤◌, List, [], ◌∷◌, length, Option, None, Some, get_or, refl, ap, sym, ◌∙◌, inl, inr, arith}
+use Rattle.std.proofs.Common.{◌≡◌, ℕ, ◌+◌, ◌<◌, List, [], ◌∷◌, length, Option, None, Some, get_or, refl, ap, sym, ◌∙◌, inl, inr, arith}
 use Rattle.std.proofs.lemmas.Bool.{cases_eq}
 use Rattle.std.proofs.lemmas.List.{length-set}
 use Rattle.std.specs.Prelude.{IsSomeAnd}
-use Rattle.std.specs.Option.{option_map}
 use Rattle.slab.specs.Slab.{Slab, get, Updates, with_value}
 use Rattle.iox2_store.specs.Link.{Link, IsReclaimed}
 use Rattle.iox2_store.specs.machine.Mailbox.{Mailbox}
 use Rattle.iox2_store.specs.machine.Numbers.{put_at}
 use Rattle.iox2_store.specs.declared.connection.Home.{Home}
 use Rattle.iox2_ends.specs.Mailboxes.{mailbox_of, mailboxes_of, with_box}
-use Rattle.iox2_ends.specs.Homes.{IsApart, SameHomes, IsSenderLinked, fixed_of}
+use Rattle.iox2_ends.specs.Homes.{IsApart, IsSenderLinked, fixed_of}
 use Rattle.iox2_ends.specs.Counters.{stands_in, IsCovered, one_holder_less}
 use Rattle.iox2_ends.specs.Recounts.{returned_count}
-use Rattle.iox2_ends.specs.Reclaims.{Reclaims}
+use Rattle.iox2_ends.specs.Reclaims.{IsHeld, Reclaims, ReclaimsFrom}
 use Rattle.iox2_ends.proofs.MailboxChanges.{Updates-with_value, SameHomes-updated, KeepsOthers-updated, IsApart-same, mailbox-there, mailboxes-changed, put_at-own}
-use Rattle.iox2_ends.proofs.Counts.{one_if_same, times-cons, counter_if_stands, get_or-one_holder_less, CountersFollow-changed, IsCovered-follows}
+use Rattle.iox2_ends.proofs.Counts.{one_if_same, times-cons, get_or-one_holder_less, CountersFollow-changed, IsCovered-follows}
 use Rattle.iox2_ends.proofs.Recounts.{returned-updated, Recounts-same, Recounts-trans}
 use Rattle.iox2_ends.proofs.DeliverySteps.{there, IsSenderLinked-same}
 
@@ -27,71 +26,74 @@ own-at p slab key c own at = rw at at own
 with_box-same : (boxes : ℕ → ℕ → Mailbox) (p q : ℕ) → with_box boxes p q (boxes p q) ≡ boxes
 with_box-same boxes p q = ap (put_at boxes p) (sym (put_at-own (boxes p) q)) ∙ sym (put_at-own boxes p)
 
--- a reclaim leaves what never changes
-reclaimed-fixed : (c d : Link) (o : Option ℕ) → IsReclaimed c o d → fixed_of d ≡ fixed_of c
-reclaimed-fixed c d None r = ap fixed_of r.1
-reclaimed-fixed c d (Some slot) r = ap fixed_of r.2
-
--- a reclaim leaves the mailbox
-reclaimed-mailbox : (number : ℕ → ℕ) (c d : Link) (o : Option ℕ) → IsReclaimed c o d → mailbox_of number d ≡ mailbox_of number c
-reclaimed-mailbox number c d None r = ap (mailbox_of number) r.1
-reclaimed-mailbox number c d (Some slot) r = ap (mailbox_of number) r.2
-
--- a reclaim leaves no more slots given back than before
-reclaimed-fewer : (c d : Link) (o : Option ℕ) → IsReclaimed c o d → length d.returned ≤ length c.returned
-reclaimed-fewer c d None r = omega (arith, ap (λ (x : Link). length x.returned) r.1)
-reclaimed-fewer c d (Some slot) r = omega (arith, ap (λ (x : Link). length x.returned) r.2, ap (length {A = ℕ}) r.1)
-
 -- how many are left
 reclaimed-count : (slab : Slab Link) (key : ℕ) (c : Link) → get slab key ≡ Some c → returned_count slab key ≡ length c.returned
 reclaimed-count slab key c at = rw at refl
 
--- where the slot was, it has a holder
-pub reclaimed-in_use : (p : ℕ) (hs : List ℕ) (slab : Slab Link) (key slot : ℕ) (c d : Link) → IsCovered p hs slab.slots → IsSomeAnd (get slab key) (λ (x : Link). x.home.publisher ≡ p) → get slab key ≡ Some c → IsReclaimed c (Some slot) d → 0 < get_or hs slot 0
-reclaimed-in_use p hs slab key slot c d covered own at r =
-    counter_if_stands p hs slab.slots key slot c covered at (own-at p slab key c own at) (rw r.1 (omega (arith, times-cons slot slot r.0, one_if_same slot)))
+-- ---- from one connection
 
--- one slot, or none, is reclaimed from a connection, with counters that follow
-reclaims-from : (p : ℕ) (hs hs' : List ℕ) (slab : Slab Link) (key : ℕ) (c d : Link) (o : Option ℕ) → IsApart slab → IsSomeAnd (get slab key) (λ (x : Link). x.home.publisher ≡ p) → get slab key ≡ Some c → IsReclaimed c o d
-    → ((n : ℕ) → get_or hs' n 0 + stands_in n c ≡ get_or hs n 0 + stands_in n d) → ((n : ℕ) → get_or hs' n 0 ≤ get_or hs n 0) → length hs' ≡ length hs → Reclaims p hs slab hs' (with_value slab key d)
-reclaims-from p hs hs' slab key c d o apart own at r follows less long = record {
+-- a slot that was given back has a holder
+pub reclaimed-in_use : (hs : List ℕ) (slot : ℕ) (c d : Link) → IsHeld hs c → IsReclaimed c (Some slot) d → 0 < get_or hs slot 0
+reclaimed-in_use hs slot c d held r =
+    let some : 0 < stands_in slot c = rw r.1 (omega (arith, times-cons slot slot r.0, one_if_same slot)) in
+    omega (arith, held.at slot)
+
+-- one slot was reclaimed
+reclaims-one : (hs : List ℕ) (slot : ℕ) (c d : Link) → IsHeld hs c → IsReclaimed c (Some slot) d → ReclaimsFrom hs c (one_holder_less slot hs) d
+reclaims-one hs slot c d held r = record {
+  kept = rw r.2 refl;
+  fewer = rw (r.2, r.1) (omega arith);
+  counters = λ n. rw (r.2, r.1) (omega (arith, times-cons n slot r.0, get_or-one_holder_less hs slot n in_use));
+  shrinks = λ n. omega (arith, get_or-one_holder_less hs slot n in_use);
+  slots = length-set hs slot _;
+}
+  where
+    in_use : 0 < get_or hs slot 0
+    in_use = reclaimed-in_use hs slot c d held r
+
+-- one slot more was reclaimed
+pub reclaims-more : (hs hs' : List ℕ) (slot : ℕ) (a c d : Link) → IsHeld hs' c → ReclaimsFrom hs a hs' c → IsReclaimed c (Some slot) d → ReclaimsFrom hs a (one_holder_less slot hs') d
+reclaims-more hs hs' slot a c d held x r = let y = reclaims-one hs' slot c d held r in record {
+  kept = y.kept ∙ ap (λ (l : Link). let k : Link = record l { returned = d.returned } in k) x.kept;
+  fewer = omega (arith, x.fewer, y.fewer);
+  counters = λ n. omega (arith, x.counters n, y.counters n);
+  shrinks = λ n. omega (arith, x.shrinks n, y.shrinks n);
+  slots = y.slots ∙ x.slots;
+}
+
+-- counters that follow still hold what stands in the connection
+pub held-more : (hs : List ℕ) (slot : ℕ) (c d : Link) → IsHeld hs c → IsReclaimed c (Some slot) d → IsHeld (one_holder_less slot hs) d
+held-more hs slot c d held r = record { at = λ n. omega (arith, held.at n, (reclaims-one hs slot c d held r).counters n) }
+
+-- ---- from a connection of a slab
+
+-- what was reclaimed from one connection was reclaimed from the publisher's
+pub reclaims-at : (p : ℕ) (hs hs' : List ℕ) (slab : Slab Link) (key : ℕ) (c d : Link) → IsApart slab → IsSomeAnd (get slab key) (λ (x : Link). x.home.publisher ≡ p) → get slab key ≡ Some c → ReclaimsFrom hs c hs' d
+    → Reclaims p hs slab hs' (with_value slab key d)
+reclaims-at p hs hs' slab key c d apart own at r = record {
   mailboxes = λ number.
       mailboxes-changed number slab (with_value slab key d) key c d apart at fixed u
-      ∙ ap (with_box (mailboxes_of number slab) c.home.publisher c.home.subscriber) (reclaimed-mailbox (number c.home.publisher) c d o r ∙ sym (mailbox-there number slab key c.home.publisher c.home.subscriber c apart at refl refl))
+      ∙ ap (with_box (mailboxes_of number slab) c.home.publisher c.home.subscriber) (ap (mailbox_of (number c.home.publisher)) r.kept ∙ sym (mailbox-there number slab key c.home.publisher c.home.subscriber c apart at refl refl))
       ∙ with_box-same (mailboxes_of number slab) c.home.publisher c.home.subscriber;
   recounts = record {
     homes = SameHomes-updated slab (with_value slab key d) key c d at fixed u;
     others = KeepsOthers-updated p slab (with_value slab key d) key c (Some d) at mine u;
-    counters = CountersFollow-changed p hs hs' slab.slots key c d at mine (ap (λ (t : Home × ℕ × ℕ). t.0.publisher) fixed ∙ mine) follows;
-    slots = long;
-    in_use = λ n some. omega (arith, less n, some);
-    fewer = returned-updated slab (with_value slab key d) key c d at (reclaimed-fewer c d o r) u;
+    counters = CountersFollow-changed p hs hs' slab.slots key c d at mine (ap (λ (t : Home × ℕ × ℕ). t.0.publisher) fixed ∙ mine) r.counters;
+    slots = r.slots;
+    in_use = λ n some. omega (arith, r.shrinks n, some);
+    fewer = returned-updated slab (with_value slab key d) key c d at r.fewer u;
   };
-  shrinks = less;
+  shrinks = r.shrinks;
 }
   where
     fixed : fixed_of d ≡ fixed_of c
-    fixed = reclaimed-fixed c d o r
+    fixed = ap fixed_of r.kept
 
     mine : c.home.publisher ≡ p
     mine = own-at p slab key c own at
 
     u : Updates slab (with_value slab key d) key (Some d)
     u = Updates-with_value slab key c d at
-
--- nothing was there to reclaim
-pub reclaims-none : (p : ℕ) (hs : List ℕ) (slab : Slab Link) (key : ℕ) (c d : Link) → IsApart slab → IsSomeAnd (get slab key) (λ (x : Link). x.home.publisher ≡ p) → get slab key ≡ Some c → IsReclaimed c None d → Reclaims p hs slab hs (with_value slab key d)
-reclaims-none p hs slab key c d apart own at r = reclaims-from p hs hs slab key c d None apart own at r (λ n. rw r.1 refl) (λ n. omega arith) refl
-
--- one slot was reclaimed
-pub reclaims-some : (p : ℕ) (hs : List ℕ) (slab : Slab Link) (key slot : ℕ) (c d : Link) → IsApart slab → IsCovered p hs slab.slots → IsSomeAnd (get slab key) (λ (x : Link). x.home.publisher ≡ p) → get slab key ≡ Some c → IsReclaimed c (Some slot) d
-    → Reclaims p hs slab (one_holder_less slot hs) (with_value slab key d)
-reclaims-some p hs slab key slot c d apart covered own at r = reclaims-from p hs (one_holder_less slot hs) slab key c d (Some slot) apart own at r
-    (λ n. rw (r.2, r.1) (omega (arith, times-cons n slot r.0, get_or-one_holder_less hs slot n in_use)))
-    (λ n. omega (arith, get_or-one_holder_less hs slot n in_use)) (length-set hs slot _)
-  where
-    in_use : 0 < get_or hs slot 0
-    in_use = reclaimed-in_use p hs slab key slot c d covered own at r
 
 -- ---- many reclaims
 
@@ -108,14 +110,6 @@ Reclaims-trans p hs hs' hs'' a b c x y = record {
   recounts = Recounts-trans p hs hs' hs'' a b c x.recounts y.recounts;
   shrinks = λ n. omega (arith, x.shrinks n, y.shrinks n);
 }
-
--- a connection stays its publisher's
-pub own-same : (p : ℕ) (old new : Slab Link) (key : ℕ) → SameHomes old new → IsSomeAnd (get old key) (λ (c : Link). c.home.publisher ≡ p) → IsSomeAnd (get new key) (λ (c : Link). c.home.publisher ≡ p)
-own-same p old new key same own = by (get old key) (get new key) (same.same key) own where
-  by : (o n : Option Link) → option_map fixed_of n ≡ option_map fixed_of o → IsSomeAnd o (λ (c : Link). c.home.publisher ≡ p) → IsSomeAnd n (λ (c : Link). c.home.publisher ≡ p)
-  by None n e h = absurd h
-  by (Some c) None e h = absurd cc
-  by (Some c) (Some d) e h = let g : fixed_of d ≡ fixed_of c = cc in ap (λ (t : Home × ℕ × ℕ). t.0.publisher) g ∙ h
 
 -- the key at a publisher's place leads to its own connection
 pub own-linked : (p : ℕ) (slab : Slab Link) (keys : List (Option ℕ)) (i key : ℕ) → IsSenderLinked p slab keys → get_or keys i None ≡ Some key → IsSomeAnd (get slab key) (λ (c : Link). c.home.publisher ≡ p)

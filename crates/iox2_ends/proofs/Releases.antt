@@ -1,9 +1,14 @@
 -- A slot that is taken out of a list, and its number.
-use Rattle.std.proofs.Common.{◌≡◌, ℕ, zero, suc, ◌+◌, ◌<◌, Bool, true, false, List, [], ◌∷◌, length, map, get_or, refl, sym, ap, ◌∙◌, arith, eqb, ⊎_elim, Contains}
+use Rattle.std.proofs.Common.{◌≡◌, ℕ, zero, suc, ◌+◌, ◌-◌, ◌<◌, Bool, true, false, cond, List, [], ◌∷◌, ◌++◌, length, take, Option, None, Some, subst, map, get_or, refl, sym, ap, ◌∙◌, arith, eqb, ⊎_elim, Contains}
 use Rattle.std.proofs.lemmas.Bool.{eqb-true, eq-eqb, true≢false, or_cases, or_left, or_right, or_parts, ne_eqb}
+use Rattle.std.proofs.lemmas.List.{map-append}
+use Rattle.std.proofs.lemmas.Option.{slice_get_within, get_or_from_slice_get}
+use Rattle.std.proofs.Math.Seq.{take-suc, take-length}
 use Rattle.std.specs.List.{position_or_len}
+use Rattle.std.specs.Option.{option_map_or}
+use Rattle.std.specs.Prelude.{slice_get}
 use Rattle.iox2_store.specs.machine.Numbers.{contains, without, IsOnce}
-use Rattle.iox2_store.specs.Link.{Link, without_first, with_returned}
+use Rattle.iox2_store.specs.Link.{Link, without_first, ends_with, without_slot, with_returned}
 use Rattle.iox2_store.specs.machine.Mailbox.{Mailbox, with_released}
 use Rattle.iox2_ends.specs.Mailboxes.{mailbox_of}
 use Rattle.iox2_ends.specs.Counters.{times, stands_in}
@@ -43,7 +48,7 @@ without_absent n (k ∷ xs) h =
     rw parts.0 (ap (λ r. k ∷ r) (without_absent n xs parts.1))
 
 -- where the numbers differ, one slot less is one number less
-pub map-without_first : (number : ℕ → ℕ) (slot : ℕ) (xs : List ℕ) → contains xs slot ≡ true → IsOnce (map number xs) → map number (without_first slot xs) ≡ without (number slot) (map number xs)
+map-without_first : (number : ℕ → ℕ) (slot : ℕ) (xs : List ℕ) → contains xs slot ≡ true → IsOnce (map number xs) → map number (without_first slot xs) ≡ without (number slot) (map number xs)
 map-without_first number slot [] h once = absurd (true≢false (sym h))
 map-without_first number slot (x ∷ xs) h once = by (eqb x slot) refl (λ r. map-without_first number slot xs r once.1) where
   by : (b : Bool) → eqb x slot ≡ b → (contains xs slot ≡ true → map number (without_first slot xs) ≡ without (number slot) (map number xs))
@@ -67,10 +72,50 @@ times-without_first n slot (x ∷ xs) h = by (eqb x slot) refl (λ r. times-with
       let rest : contains xs slot ≡ true = ⊎_elim (λ same. absurd (true≢false (sym same ∙ e))) (λ r. r) (or_cases (eqb x slot) (contains xs slot) h) in
       omega (arith, ap (times n) (without_first-other slot x xs e), times-cons n x (without_first slot xs), times-cons n x xs, later rest)
 
+-- ---- a slot that goes from wherever it stands
+
+-- a list that ends with the slot
+ends_with-last : (slot : ℕ) (xs : List ℕ) → ends_with slot xs ≡ true → xs ≡ take (length xs - 1) xs ++ slot ∷ []
+ends_with-last slot xs h = by (slice_get xs (length xs - 1)) refl h where
+  by : (o : Option ℕ) → slice_get xs (length xs - 1) ≡ o → option_map_or (λ last. eqb last slot) o false ≡ true → xs ≡ take (length xs - 1) xs ++ slot ∷ []
+  by None at h = absurd (true≢false (sym h))
+  by (Some x) at h =
+      let below : length xs - 1 < length xs = slice_get_within xs (length xs - 1) x at in
+      let last : get_or xs (length xs - 1) 0 ≡ slot = get_or_from_slice_get xs (length xs - 1) x 0 at ∙ eqb-true x slot h in
+      let one : suc (length xs - 1) ≡ length xs = omega arith in
+      sym (take-length xs) ∙ ap (λ (n : ℕ). take n xs) (sym one) ∙ take-suc xs (length xs - 1) 0 below ∙ ap (λ (y : ℕ). take (length xs - 1) xs ++ y ∷ []) last
+
+contains-last : (xs : List ℕ) (n : ℕ) → contains (xs ++ n ∷ []) n ≡ true
+contains-last [] n = or_left (eqb n n) (contains [] n) (eq-eqb n n refl)
+contains-last (x ∷ xs) n = or_right (eqb x n) (contains (xs ++ n ∷ []) n) (contains-last xs n)
+
+-- where the numbers differ, the last one is taken out alone
+without-last : (n : ℕ) (xs : List ℕ) → IsOnce (xs ++ n ∷ []) → without n (xs ++ n ∷ []) ≡ xs
+without-last n [] once = rw (eq-eqb n n refl) refl
+without-last n (x ∷ xs) once =
+    let apart : eqb x n ≡ false = ne_eqb x n (λ same. true≢false (sym (contains-last xs n) ∙ ap (contains (xs ++ n ∷ [])) (sym same) ∙ once.0)) in
+    rw apart (ap (λ r. x ∷ r) (without-last n xs once.1))
+
+-- where the numbers differ, one slot less is one number less
+map-without_slot : (number : ℕ → ℕ) (slot : ℕ) (xs : List ℕ) → contains xs slot ≡ true → IsOnce (map number xs) → map number (without_slot slot xs) ≡ without (number slot) (map number xs)
+map-without_slot number slot xs h once = by (ends_with slot xs) refl where
+  by : (b : Bool) → ends_with slot xs ≡ b → map number (cond b (take (length xs - 1) xs) (without_first slot xs)) ≡ without (number slot) (map number xs)
+  by true e =
+      let numbers : map number xs ≡ map number (take (length xs - 1) xs) ++ number slot ∷ [] = ap (map number) (ends_with-last slot xs e) ∙ map-append number (take (length xs - 1) xs) (slot ∷ []) in
+      sym (ap (without (number slot)) numbers ∙ without-last (number slot) (map number (take (length xs - 1) xs)) (subst IsOnce numbers once))
+  by false e = map-without_first number slot xs h once
+
+-- the slot stands once less in the list
+times-without_slot : (n slot : ℕ) (xs : List ℕ) → contains xs slot ≡ true → times n (without_slot slot xs) + one_if n slot ≡ times n xs
+times-without_slot n slot xs h = by (ends_with slot xs) refl where
+  by : (b : Bool) → ends_with slot xs ≡ b → times n (cond b (take (length xs - 1) xs) (without_first slot xs)) + one_if n slot ≡ times n xs
+  by true e = sym (ap (times n) (ends_with-last slot xs e) ∙ times_push n (take (length xs - 1) xs) slot)
+  by false e = times-without_first n slot xs h
+
 -- a slot that is given back stands in the connection as before
 pub stands_in-with_returned : (n slot : ℕ) (c : Link) → contains c.borrowed slot ≡ true → stands_in n (with_returned slot c) ≡ stands_in n c
-stands_in-with_returned n slot c h = omega (arith, times-without_first n slot c.borrowed h, times_push n c.returned slot)
+stands_in-with_returned n slot c h = omega (arith, times-without_slot n slot c.borrowed h, times_push n c.returned slot)
 
 -- a slot that is given back leaves the mailbox
 pub mailbox-with_returned : (number : ℕ → ℕ) (slot : ℕ) (c : Link) → contains c.borrowed slot ≡ true → IsOnce (map number c.borrowed) → mailbox_of number (with_returned slot c) ≡ with_released (number slot) (mailbox_of number c)
-mailbox-with_returned number slot c h once = ap (λ (ns : List ℕ). let box : Mailbox = record { waiting = map number c.waiting; borrowed = ns } in box) (map-without_first number slot c.borrowed h once)
+mailbox-with_returned number slot c h once = ap (λ (ns : List ℕ). let box : Mailbox = record { waiting = map number c.waiting; borrowed = ns } in box) (map-without_slot number slot c.borrowed h once)

@@ -60,6 +60,18 @@ search-step connections keys i key found offer next below so_far at is joins =
     ∙ ap (λ (x : Found). first_found (first_found found x) (search connections (drop (i + 1) keys))) (ap (offer_at connections) at ∙ sym is)
     ∙ ap (λ (x : Found). first_found x (search connections (drop (i + 1) keys))) (sym joins)
 
+-- a connection to take from is found, where there was none so far
+pub joins-ready : (found : Found) (key : ℕ) → is_ready found ≡ false → Found.Ready key ≡ first_found found (Found.Ready key)
+joins-ready (Found.Ready k) key e = absurd (true≢false e)
+joins-ready Found.AtLimit key e = refl
+joins-ready Found.Nothing key e = refl
+
+-- a message waits, where there was no connection to take from so far
+pub joins-at_limit : (found : Found) → is_ready found ≡ false → Found.AtLimit ≡ first_found found Found.AtLimit
+joins-at_limit (Found.Ready k) e = absurd (true≢false e)
+joins-at_limit Found.AtLimit e = refl
+joins-at_limit Found.Nothing e = refl
+
 -- a search that found a connection to take from is the whole search
 pub search-ready : (found a b : Found) → found ≡ a → is_ready found ≡ true → first_found a b ≡ found
 search-ready found a b is ready = ap (λ (x : Found). first_found x b) (sym is) ∙ first_found-ready found b ready

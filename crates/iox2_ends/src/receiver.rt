@@ -64,9 +64,10 @@ fn search_keys(connections: &Slab<Connection>, keys: &[Option<usize>]) -> Found
 {
     let mut found = Found::Nothing;
     for place in 0..keys.len() {
-        found = found.or(look(connections, keys[place]));
-        if found.is_ready() {
-            return found;
+        match look(connections, keys[place]) {
+            Found::Ready(key) => return Found::Ready(key),
+            Found::AtLimit => found = Found::AtLimit,
+            Found::Nothing => {}
         }
     }
     found
@@ -78,9 +79,10 @@ fn search_expired(connections: &Slab<Connection>, expired: &[usize]) -> Found
 {
     let mut found = Found::Nothing;
     for index in 0..expired.len() {
-        found = found.or(look(connections, Some(expired[index])));
-        if found.is_ready() {
-            return found;
+        match look(connections, Some(expired[index])) {
+            Found::Ready(key) => return Found::Ready(key),
+            Found::AtLimit => found = Found::AtLimit,
+            Found::Nothing => {}
         }
     }
     found

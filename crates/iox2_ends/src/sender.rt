@@ -1,5 +1,5 @@
 //! A publisher's end: its messages go to the connections at its places.
-ghost use Rattle.std.specs.Prelude.{◌≡◌, ℕ, ◌+◌, ◌≤◌, ◌<◌, ◌^◌, None, length, slice_index, slice_index_or, IsSomeAnd, map};
+ghost use Rattle.std.specs.Prelude.{◌≡◌, ℕ, ◌+◌, ◌≤◌, ◌<◌, ◌^◌, [], None, length, slice_index, slice_index_or, IsSomeAnd, map};
 ghost use Rattle.std.specs.Option.{option_map};
 ghost use Rattle.iox2_store.specs.SlotBook.{holders_at, IsInUse};
 ghost use Rattle.iox2_store.specs.machine.Delivery.{is_blocking, accepted_count};
@@ -8,7 +8,7 @@ ghost use Rattle.iox2_ends.specs.Homes.{IsApart, IsSenderLinked};
 ghost use Rattle.iox2_ends.specs.Receivers.{is_open_at, HasReclaimed, IsReadyToDeliver};
 ghost use Rattle.iox2_ends.specs.Counters.{IsCovered, recounted, CanLeave, with_counters};
 ghost use Rattle.iox2_ends.specs.Recounts.{Recounts, returned_count};
-ghost use Rattle.iox2_ends.specs.Reclaims.{Reclaims, CountsReclaimed};
+ghost use Rattle.iox2_ends.specs.Reclaims.{IsHeld, Reclaims, ReclaimsFrom};
 ghost use Rattle.iox2_ends.specs.Deliveries.{result_of, result_of_put, PutsSlot, DeliversSlot};
 
 use iox2_store::{BackpressureStrategy, Connection, PutOutcome, ServiceConfig, SlotBook};
@@ -217,25 +217,16 @@ pub fn deliver<R: Receiver>(
     DeliveryOutcome::Complete { count }
 }
 
-// Reclaims one slot from the connection at a key, and returns whether there was one.
-fn reclaim_one(
-    publisher: u128,
-    connections: &mut Slab<Connection>,
-    book: &mut SlotBook,
-    key: usize,
-) -> bool
-    requires own { IsSomeAnd (get connections.old key) (λ c. c.home.publisher ≡ publisher) }
-    requires apart { IsApart connections.old }
-    requires covered { IsCovered publisher book.old.holders connections.old.slots }
+// Reclaims all slots that were given back in a connection.
+fn reclaim_from(connection: &mut Connection, book: &mut SlotBook)
+    requires { IsHeld book.old.holders connection.old }
     ensures book { book.new ≡ with_counters book.old book.new.holders }
-    ensures reclaims { Reclaims publisher book.old.holders connections.old book.new.holders connections.new }
-    ensures counts { CountsReclaimed connections.old key result connections.new }
+    ensures reclaims { ReclaimsFrom book.old.holders connection.old book.new.holders connection.new }
+    ensures all { connection.new.returned ≡ [] }
 {
-    let Some(slot) = connections[key].reclaim() else {
-        return false;
-    };
-    book.release(slot);
-    true
+    while let Some(slot) = connection.reclaim() {
+        book.release(slot);
+    }
 }
 
 // Reclaims all slots from the connection at a key.
@@ -247,7 +238,7 @@ fn reclaim_at(publisher: u128, connections: &mut Slab<Connection>, book: &mut Sl
     ensures reclaims { Reclaims publisher book.old.holders connections.old book.new.holders connections.new }
     ensures all { returned_count connections.new key ≡ 0 }
 {
-    while reclaim_one(publisher, connections, book, key) {}
+    reclaim_from(&mut connections[key], book);
 }
 
 /// Reclaims every slot that was given back in the publisher's connections at these keys. Each of

@@ -1,6 +1,7 @@
 //! What lies between one publisher and one subscriber: numbers of the publisher's slots.
 ghost use Rattle.std.specs.Prelude.{◌≡◌, ◌+◌, ◌<◌, ◌≤◌, ◌==◌, ◌↔◌, length, position, Contains, IfOk, IsTrue};
-ghost use Rattle.iox2_store.specs.Link.{load, empty_link, has_slots, can_borrow, with_returned, IsBounded};
+ghost use Rattle.iox2_store.specs.Link.{load, empty_link, has_slots, can_borrow, ends_with, without_slot, with_returned, IsBounded};
+ghost use Rattle.std.specs.Vec.{vec_capacity};
 
 use circular_buffer::HeapCircularBuffer;
 use std::alloc::{AllocError, Global};
@@ -38,6 +39,27 @@ fn position_of(slots: &[usize], slot: usize) -> Option<usize>
     ensures { result ≡ position (λ other. other == slot) slots.now }
 {
     slots.iter().position(|other| *other == slot)
+}
+
+/// Whether the slot stands last.
+fn is_last(slots: &[usize], slot: usize) -> bool
+    ensures { result ≡ ends_with slot slots.now }
+{
+    slots.last().is_some_and(|last| *last == slot)
+}
+
+/// Takes a slot out. The one that stands last goes without a search and without a shift.
+fn take_out(slots: &mut Vec<usize>, slot: usize)
+    requires { Contains slots.old.items slot }
+    ensures items { slots.new.items ≡ without_slot slot slots.old.items }
+    ensures len { length slots.new.items + 1 ≡ length slots.old.items }
+    ensures capacity { vec_capacity slots.new ≡ vec_capacity slots.old }
+{
+    if is_last(slots, slot) {
+        slots.pop();
+    } else if let Some(position) = position_of(slots, slot) {
+        slots.remove(position);
+    }
 }
 
 /// A connection of one publisher and one subscriber. It holds numbers of the publisher's slots:
@@ -143,9 +165,9 @@ impl Connection {
         ensures releases { self.new ≡ with_returned slot self.old }
         ensures bounded { IsBounded self.new }
     {
-        if let Some(position) = position_of(&self.borrowed, slot) {
-            self.borrowed.remove(position);
-            self.returned.push_back(slot);
+        take_out(&mut self.borrowed, slot);
+        if self.returned.try_push_back(slot).is_err() {
+            unreachable!();
         }
     }
 
@@ -182,6 +204,6 @@ impl Connection {
     pub fn is_borrowed(&self, slot: usize) -> bool
         ensures { IsTrue result ↔ Contains self.now.borrowed slot }
     {
-        self.borrowed.contains(&slot)
+        is_last(&self.borrowed, slot) || self.borrowed.contains(&slot)
     }
 }
