@@ -1,0 +1,58 @@
+//! What a message costs: a static library whose one function passes messages through a domain, so
+//! that a tool can count the instructions of the calls that it makes.
+#![tactic(auto)]
+
+ghost use Rattle.std.specs.Prelude.{◌≤◌, IfSome, All};
+ghost use Rattle.iox2_pubsub.specs.Live.{IsLivePublisher, IsLiveSubscriber, IsSingleValued};
+
+mod load;
+mod passing;
+mod ports;
+mod receiver;
+
+use iox2_pubsub::{Domain, Publisher};
+use load::Load;
+use passing::pass_all;
+use ports::{create_receivers, keep_loans, keep_publishers, keep_samples};
+use receiver::Receiver;
+use std::alloc::Global;
+
+/// Makes a domain with this load, and passes so many messages through it. Returns how many of them
+/// every subscriber received and read as they were written: fewer than all where a call is refused.
+#[unsafe(no_mangle)]
+pub extern "C" fn pass_messages(alloc: Global, load: &Load, messages: u64) -> u64
+    ensures { result ≤ messages }
+{
+    pass_under_load(alloc, load, messages).unwrap_or(0)
+}
+
+// Makes the domain and its ports, and passes the messages. `None` where something is refused.
+fn pass_under_load(alloc: Global, load: &Load, messages: u64) -> Option<u64>
+    ensures { IfSome result (λ arrived. arrived ≤ messages) }
+{
+    let mut domain = Domain::<u64, ()>::new(alloc, load.config()?).ok()?;
+    keep_publishers(&mut domain, load.idle_publishers)?;
+    let receivers = create_receivers(alloc, &mut domain, load.subscribers)?;
+    let publisher = domain.publisher_builder().create(&mut domain).ok()?;
+    let arrived = pass_between(&mut domain, &publisher, &receivers, load, messages);
+    publisher.disown();
+    arrived
+}
+
+// Has the ports keep what they are to keep, and passes the messages.
+fn pass_between(
+    domain: &mut Domain<u64, ()>,
+    publisher: &Publisher,
+    receivers: &[Receiver],
+    load: &Load,
+    messages: u64,
+) -> Option<u64>
+    requires single_valued { IsSingleValued domain.old }
+    requires publisher { IsLivePublisher domain.old publisher.now }
+    requires receivers { All (λ receiver. IsLiveSubscriber domain.old receiver.subscriber) receivers.now }
+    ensures { IfSome result (λ arrived. arrived ≤ messages) }
+{
+    keep_samples(domain, publisher, receivers, load.samples)?;
+    keep_loans(domain, publisher, load.loans)?;
+    Some(pass_all(domain, publisher, receivers, messages))
+}

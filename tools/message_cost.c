@@ -1,0 +1,36 @@
+// Passes messages through a domain, by the library `message_cost`: fails unless all of them arrive.
+#include <inttypes.h>
+#include <stddef.h>
+#include <stdint.h>
+#include <stdio.h>
+#include <stdlib.h>
+
+struct load {
+  size_t idle_publishers;
+  size_t subscribers;
+  size_t loans;
+  size_t samples;
+  size_t buffer_size;
+};
+
+uint64_t pass_messages(const struct load *load, uint64_t messages);
+
+static size_t number(const char *word) { return strtoull(word, NULL, 10); }
+
+int main(int count, char **words) {
+  if (count != 7) {
+    fputs("usage: message_cost MESSAGES SUBSCRIBERS IDLE_PUBLISHERS LOANS SAMPLES BUFFER_SIZE\n", stderr);
+    return 2;
+  }
+  struct load load = {
+      .idle_publishers = number(words[3]),
+      .subscribers = number(words[2]),
+      .loans = number(words[4]),
+      .samples = number(words[5]),
+      .buffer_size = number(words[6]),
+  };
+  uint64_t messages = number(words[1]);
+  uint64_t arrived = pass_messages(&load, messages);
+  printf("%" PRIu64 " of %" PRIu64 " messages arrived\n", arrived, messages);
+  return arrived == messages ? 0 : 1;
+}
