@@ -71,6 +71,13 @@ fn find_slot(book: &SlotBook, loans: &[usize], number: u128, hint: usize) -> Opt
     if is_loan_slot(book, hint, number) {
         return Some(hint);
     }
+    search_slots(book, loans, number)
+}
+
+#[inline(never)]
+fn search_slots(book: &SlotBook, loans: &[usize], number: u128) -> Option<usize>
+    ensures { MatchOption result (IsInNoSlot book.now loans.now number) (λ slot. IsLoanSlot book.now slot number) }
+{
     for index in 0..loans.len() {
         let slot = loans[index];
         if is_loan_slot(book, slot, number) {

@@ -1,7 +1,7 @@
 //! The slots of the messages that subscribers have borrowed.
-ghost use Rattle.std.specs.Prelude.{◌<◌, ◌↔◌, ℕ, length, Contains, IsSomeAnd, IsTrue, MatchOption};
+ghost use Rattle.std.specs.Prelude.{◌<◌, ◌↔◌, ℕ, length, Contains, IfSome, IsSomeAnd, IsTrue, MatchOption};
 ghost use Rattle.slab.specs.Slab.{get, ContainsKey};
-ghost use Rattle.iox2_domain.specs.SampleSlots.{HasNoneNumbered, IsNumberedSlot};
+ghost use Rattle.iox2_domain.specs.SampleSlots.{HasNoneNumbered, IsNumberedSlot, IsUsedFor};
 
 use crate::state::DomainState;
 use iox2_store::{Connection, SlotBook, UniquePublisherId, UniqueSubscriberId};
@@ -60,6 +60,13 @@ fn find_borrowed(
     None
 }
 
+// The slot is in use and has this number.
+fn has_number(book: &SlotBook, slot: usize, number: u128) -> bool
+    ensures { IsTrue result ↔ IsUsedFor book.now number slot }
+{
+    slot < book.len() && book.holders(slot) > 0 && book.number(slot) == number
+}
+
 impl<T: Drop, U: Default + Drop> DomainState<T, U> {
     ghost use Rattle.iox2_store.specs.machine.SingleCalls.{HoldsSample};
     ghost use Rattle.iox2_domain.specs.Kept.{state_of};
@@ -109,6 +116,14 @@ impl<T: Drop, U: Default + Drop> DomainState<T, U> {
         if hinted.is_some() {
             return hinted;
         }
+        self.search_connections(sample)
+    }
+
+    #[inline(never)]
+    fn search_connections(&self, sample: &SampleAt) -> Option<SampleSlot>
+        requires { IsDomain self.now }
+        ensures { MatchOption result (HoldsSample (state_of (kept_of self.now)) sample.now.subscriber sample.now.number → ⊥) (LiesBorrowed self.now sample.now.subscriber sample.now.number) }
+    {
         for key in 0..self.connections.capacity() {
             let found = self.find_sample_at(key, sample);
             if found.is_some() {
@@ -116,6 +131,42 @@ impl<T: Drop, U: Default + Drop> DomainState<T, U> {
             }
         }
         None
+    }
+
+    // Where a live sample's connection and slot say that it lies, if it lies there. No borrowed slot
+    // is gone through: no other slot in use has its number.
+    fn sample_at_hint(&self, sample: &SampleAt) -> Option<SampleSlot>
+        requires domain { IsDomain self.now }
+        requires live { HoldsSample (state_of (kept_of self.now)) sample.now.subscriber sample.now.number }
+        ensures { IfSome result (LiesBorrowed self.now sample.now.subscriber sample.now.number) }
+    {
+        let connection = self.connections.get(sample.connection)?;
+        let is_its = connection.home().subscriber == sample.subscriber.value();
+        let book = self.book_of(sample.connection);
+        if is_its && has_number(&self.books[book], sample.slot, sample.number) {
+            return Some(SampleSlot {
+                connection: sample.connection,
+                book,
+                slot: sample.slot,
+            });
+        }
+        None
+    }
+
+    /// Where a sample lies that is live. Its connection and its slot are tested first, by the number
+    /// alone.
+    pub fn find_live_sample(&self, sample: &SampleAt) -> SampleSlot
+        requires domain { IsDomain self.now }
+        requires live { HoldsSample (state_of (kept_of self.now)) sample.now.subscriber sample.now.number }
+        ensures { LiesBorrowed self.now sample.now.subscriber sample.now.number result }
+    {
+        if let Some(at) = self.sample_at_hint(sample) {
+            return at;
+        }
+        let Some(at) = self.find_sample(sample) else {
+            unreachable!()
+        };
+        at
     }
 
     /// Whether the subscriber has borrowed a message with this number.

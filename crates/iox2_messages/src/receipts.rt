@@ -84,8 +84,6 @@ pub fn give_back<T: Drop, U: Default + Drop>(state: &mut DomainState<T, U>, samp
     ensures released { (publisher : ℕ) → IsTrue (is_borrowed sample.number ((state_of (kept_of state.old)).mailboxes publisher sample.subscriber))
         → Reaches state.old state.new (released (state_of (kept_of state.old)) publisher sample.subscriber sample.number) }
 {
-    let Some(at) = state.find_sample(&sample) else {
-        unreachable!()
-    };
+    let at = state.find_live_sample(&sample);
     release(&mut state.connections, at.connection, at.slot);
 }

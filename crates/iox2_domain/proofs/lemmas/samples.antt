@@ -3,3 +3,4 @@ pub mod SampleSlots
 pub mod BorrowedNumbers
 pub mod SampleEntries
 pub mod SampleReads
+pub mod HintedSamples
