@@ -113,6 +113,16 @@ pub record HasBooks {T U : Type 0} (f : Fields T U) : Type 0 where
   pub publishers : (i : ℕ) (x : PublisherFields) → slice_index_or f.publishers i None ≡ Some x → HasBook f x
   pub no_others : (key : ℕ) → get f.books key ≡ None → slice_index_or f.contents key None ≡ None
 
+-- The book at the key is this publisher's.
+pub record IsBookOf (books : Slab Book) (publisher key : ℕ) : Type 0 where
+  pub book : Book
+  pub stands : get books key ≡ Some book
+  pub is_its : book.publisher ≡ publisher
+
+-- Each connection names the key of its publisher's book.
+pub record NamesBooks (books : Slab Book) (connections : Slab Link) : Type 0 where
+  pub at : (key : ℕ) (c : Link) → get connections key ≡ Some c → IsBookOf books c.home.publisher c.home.book
+
 -- ---- slots
 
 -- How many holders the slot of the publisher p has, by its book.
@@ -199,6 +209,7 @@ pub record IsDomain {T U : Type 0} (f : Fields T U) : Type 0 where
   pub apart : IsApart f.connections
   pub linked : IsLinked f
   pub books : HasBooks f
+  pub names : NamesBooks f.books f.connections
   pub counted : IsCounted f
   pub numbered : IsNumbered f.next_message f.books
   pub publisher_room : (i : ℕ) (x : PublisherFields) → slice_index_or f.publishers i None ≡ Some x → HasPublisherRoom f.config x

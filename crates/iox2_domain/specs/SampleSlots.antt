@@ -1,18 +1,12 @@
 -- Where borrowed messages lie.
 use Rattle.std.specs.Prelude.{◌≡◌, ◌≢◌, ◌<◌, ℕ, true, map, slice_index, Contains}
 use Rattle.std.specs.declared.option.Option.TheVariants.{Some}
-use Rattle.slab.specs.Slab.{Slab, get}
+use Rattle.slab.specs.Slab.{get}
 use Rattle.iox2_store.specs.Link.{Link}
 use Rattle.iox2_store.specs.machine.Numbers.{contains}
 use Rattle.iox2_store.specs.SlotBook.{Book, holders_at}
 use Rattle.iox2_domain.specs.Fields.{Fields, numbers_of}
 use Rattle.iox2_domain.specs.declared.sample_slots.SampleSlot.{SampleSlot}
-
--- The book at the key is this publisher's.
-pub record IsBookOf (books : Slab Book) (publisher key : ℕ) : Type 0 where
-  pub book : Book
-  pub stands : get books key ≡ Some book
-  pub is_its : book.publisher ≡ publisher
 
 -- No borrowed slot has this number.
 abbrev pub HasNoneNumbered : Link → Book → (number : ℕ) → Type 0

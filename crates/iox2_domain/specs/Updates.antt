@@ -76,7 +76,7 @@ pub record MakesConnection (old : Slab Link) (home : Home) (buffer limit key : �
 
 -- Where the connection stands of the publisher x at the place i and the subscriber y at the place j.
 abbrev pub home_of : (i j : ℕ) → PublisherFields → SubscriberFields → Home
-home_of i j x y = record { publisher = x.id; subscriber = y.id; publisher_place = i; subscriber_place = j }
+home_of i j x y = record { publisher = x.id; subscriber = y.id; publisher_place = i; subscriber_place = j; book = x.book }
 
 -- A publisher stands at the place i, and a subscriber with that buffer at the place j; this is where their connection stands.
 pub record StandApart (publishers : List (Option PublisherFields)) (subscribers : List (Option SubscriberFields)) (i j : ℕ) (home : Home) (buffer : ℕ) : Type 0 where

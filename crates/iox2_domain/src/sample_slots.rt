@@ -71,8 +71,8 @@ impl<T: Drop, U: Default + Drop> DomainState<T, U> {
     ghost use Rattle.iox2_store.specs.machine.SingleCalls.{HoldsSample};
     ghost use Rattle.iox2_domain.specs.Kept.{state_of};
     ghost use Rattle.iox2_domain.specs.Fields.{kept_of};
-    ghost use Rattle.iox2_domain.specs.Invariant.{IsDomain};
-    ghost use Rattle.iox2_domain.specs.SampleSlots.{IsBookOf, BorrowsAt, LiesBorrowed};
+    ghost use Rattle.iox2_domain.specs.Invariant.{IsDomain, IsBookOf};
+    ghost use Rattle.iox2_domain.specs.SampleSlots.{BorrowsAt, LiesBorrowed};
 
     /// The key of the book of a connection's publisher.
     pub fn book_of(&self, connection: usize) -> usize
@@ -80,11 +80,7 @@ impl<T: Drop, U: Default + Drop> DomainState<T, U> {
         requires stands { ContainsKey self.now.connections connection }
         ensures { IsSomeAnd (get self.now.connections connection) (λ c. IsBookOf self.now.books c.home.publisher result) }
     {
-        let home = self.connections[connection].home();
-        let Some(publisher) = &self.publishers[home.publisher_place] else {
-            unreachable!()
-        };
-        publisher.book
+        self.connections[connection].home().book
     }
 
     // Where the message lies that the subscriber has borrowed in the connection at the key. The

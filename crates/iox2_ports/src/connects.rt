@@ -27,6 +27,7 @@ fn home_of(
         subscriber: subscriber.id.value(),
         publisher_place,
         subscriber_place,
+        book: publisher.book,
     }
 }
 

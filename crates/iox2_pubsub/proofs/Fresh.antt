@@ -99,6 +99,7 @@ module _ {T U : Type 0} (config : ServiceConfig) (v c v' c' : ℕ) where
     apart = record { one = λ p q. none_only _ };
     linked = linked;
     books = has_books;
+    names = record { at = λ key c at. absurd (nothing_at key c at) };
     counted = record { at = λ p slot. refl };
     numbered = numbered v' c';
     publisher_room = λ i x at. absurd (nothing_at i x at);

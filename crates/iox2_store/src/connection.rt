@@ -18,6 +18,8 @@ pub struct Home {
     pub publisher_place: usize,
     /// The subscriber's place among the subscribers, at which the publisher knows the connection.
     pub subscriber_place: usize,
+    /// The key of the book with the publisher's slots.
+    pub book: usize,
 }
 
 /// What `Connection::put` came to.

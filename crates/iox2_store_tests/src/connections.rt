@@ -10,6 +10,7 @@ const HOME: Home = Home {
     subscriber: 2,
     publisher_place: 3,
     subscriber_place: 4,
+    book: 5,
 };
 
 // A connection in which two slots may wait and one may be borrowed.

@@ -12,6 +12,7 @@ const HOME: Home = Home {
     subscriber: 2,
     publisher_place: 0,
     subscriber_place: 0,
+    book: 0,
 };
 
 #[test]

@@ -6,3 +6,4 @@ pub mod ConnectionEnds
 pub mod SameEnds
 pub mod Standing
 pub mod OpenPorts
+pub mod NamedBooks

@@ -1,5 +1,4 @@
 -- Borrowed messages are found and read.
-pub mod SampleSlots
 pub mod BorrowedNumbers
 pub mod SampleEntries
 pub mod SampleReads

@@ -20,6 +20,7 @@ use Rattle.iox2_domain.specs.Invariant.{IsDomain, IsLinked, HasBooks, HasNumber,
 use Rattle.iox2_domain.specs.NewPublisher.{BookEnters, entering_publisher, plain_publisher, subscriber_due, place_for_publisher}
 use Rattle.iox2_domain.specs.Placed.{placed, lowest_empty}
 use Rattle.iox2_domain.specs.Reaches.{Reaches}
+use Rattle.iox2_domain.proofs.lemmas.fields.NamedBooks.{names-books}
 use Rattle.iox2_domain.proofs.lemmas.containers.FreePlaces.{lowest_empty-low, lowest_empty-free}
 use Rattle.iox2_domain.proofs.lemmas.containers.Placed.{placed-here, placed-others}
 use Rattle.iox2_domain.proofs.lemmas.creations.PublisherAdmitted.{with_admitted, admitted-reaches}
@@ -55,6 +56,7 @@ module _ {T U : Type 0} (f : Fields T U) where
     apart = sound.apart;
     linked = linked sound.linked;
     books = books sound.books;
+    names = names-books f.books _ f.connections (λ k b at. (b, at, refl)) sound.names;
     counted = record { at = sound.counted.at };
     numbered = numbered sound.numbered;
     publisher_room = sound.publisher_room;

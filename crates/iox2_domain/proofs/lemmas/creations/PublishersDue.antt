@@ -141,6 +141,7 @@ module _ {T U : Type 0} (f : Fields T U) where
     apart = sound.apart;
     linked = linked-due sound.linked;
     books = books-due sound.books;
+    names = sound.names;
     counted = counted-due sound.counted;
     numbered = sound.numbered;
     publisher_room = λ i x at. let was = is_due i x at in let has = sound.publisher_room i was.0 was.1 in

@@ -126,6 +126,7 @@ module _ {T U : Type 0} (f : Fields T U) (sound : IsDomain f) (warnings : Buffer
     apart = sound.apart;
     linked = linked;
     books = books;
+    names = sound.names;
     counted = record { at = sound.counted.at };
     numbered = sound.numbered;
     publisher_room = sound.publisher_room;

@@ -125,6 +125,7 @@ module _ {T U : Type 0} (f : Fields T U) where
     apart = sound.apart;
     linked = linked-due sound.linked;
     books = books-due sound.books;
+    names = sound.names;
     counted = record { at = sound.counted.at };
     numbered = sound.numbered;
     publisher_room = sound.publisher_room;

@@ -9,7 +9,7 @@ use Rattle.iox2_domain.specs.Ports.{PublisherFields}
 use Rattle.iox2_domain.specs.Kept.{state_of}
 use Rattle.iox2_domain.specs.Fields.{Fields, kept_of}
 use Rattle.iox2_domain.specs.Shows.{KeepsEntries}
-use Rattle.iox2_domain.specs.Invariant.{IsDomain, IsLinked, HasBooks, IsCounted, IsNumbered, HasPublisherRoom, HasShapes, IsSupportedConfig, IsPlain, HasOnlyOpenPorts, is_publisher, is_subscriber}
+use Rattle.iox2_domain.specs.Invariant.{IsDomain, IsLinked, HasBooks, NamesBooks, IsCounted, IsNumbered, HasPublisherRoom, HasShapes, IsSupportedConfig, IsPlain, HasOnlyOpenPorts, is_publisher, is_subscriber}
 
 -- the fields agree with one another, in the midst of a step
 pub record HasParts {T U : Type 0} (f : Fields T U) : Type 0 where
@@ -18,6 +18,7 @@ pub record HasParts {T U : Type 0} (f : Fields T U) : Type 0 where
   pub apart : IsApart f.connections
   pub linked : IsLinked f
   pub books : HasBooks f
+  pub names : NamesBooks f.books f.connections
   pub counted : IsCounted f
   pub numbered : IsNumbered f.next_message f.books
   pub publisher_room : (i : ℕ) (x : PublisherFields) → slice_index_or f.publishers i None ≡ Some x → HasPublisherRoom f.config x
@@ -36,6 +37,7 @@ module _ {T U : Type 0} (f : Fields T U) where
     apart = sound.apart;
     linked = sound.linked;
     books = sound.books;
+    names = sound.names;
     counted = sound.counted;
     numbered = sound.numbered;
     publisher_room = sound.publisher_room;
@@ -54,6 +56,7 @@ module _ {T U : Type 0} (f : Fields T U) where
     apart = parts.apart;
     linked = parts.linked;
     books = parts.books;
+    names = parts.names;
     counted = parts.counted;
     numbered = parts.numbered;
     publisher_room = parts.publisher_room;

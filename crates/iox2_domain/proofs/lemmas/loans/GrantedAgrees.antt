@@ -29,11 +29,12 @@ use Rattle.iox2_domain.specs.Fields.{Fields, kept_of, publisher_of, numbers_of, 
 use Rattle.iox2_domain.specs.Invariant.{IsDomain, IsLinked, IsBook, HasBook, HasBooks, IsCounted, HasShape, HasShapes, HasOnlyOpenPorts, is_publisher, own_holders, holders_of, is_loan_in}
 use Rattle.iox2_domain.specs.Reaches.{Reaches}
 use Rattle.iox2_domain.specs.Shows.{KeepsEntries}
+use Rattle.iox2_domain.proofs.lemmas.fields.NamedBooks.{names-books}
 use Rattle.iox2_domain.proofs.lemmas.fields.ConnectionEnds.{publisher-stands}
 use Rattle.iox2_domain.proofs.lemmas.slots.SlotsInUse.{its_book, slot-counted, size-free}
 use Rattle.iox2_domain.proofs.lemmas.slots.Messages.{lies_at, message_at-book, message_at-slot}
 use Rattle.iox2_domain.proofs.lemmas.loans.PublisherChanges.{KeepsSettings, changed-ids_apart, look_up-publisher, changed-linked_same, changed-books, changed-room, changed-plain, changed-open_ports, changed-entries}
-use Rattle.iox2_domain.proofs.lemmas.loans.Taken.{CanTakeSlot, with_taken, taken_book, taken_books, begun, begun_contents, lent, next_header, taken-stands, others-stand, begun-has, others-have, taken-one_each, taken-found, taken-holders, taken-numbered, taken-entries, lent-lies, others-lie, length-with_changed, room-with_changed}
+use Rattle.iox2_domain.proofs.lemmas.loans.Taken.{taken-after, CanTakeSlot, with_taken, taken_book, taken_books, begun, begun_contents, lent, next_header, taken-stands, others-stand, begun-has, others-have, taken-one_each, taken-found, taken-holders, taken-numbered, taken-entries, lent-lies, others-lie, length-with_changed, room-with_changed}
 use Rattle.iox2_domain.proofs.lemmas.loans.Granted.{lender, with_granted, granted-is, taken-is, lends-granted}
 use Rattle.iox2_domain.proofs.lemmas.fields.Views.{held-before}
 
@@ -262,6 +263,7 @@ module _ {T U : Type 0} (f : Fields T U) (sound : IsDomain f) (i : ℕ) (x : Pub
       apart = sound.apart;
       linked = changed-linked_same mid i x new_lender at refl linked keeps.key_room refl;
       books = changed-books mid i x new_lender at refl taken-books keeps;
+      names = names-books f.books _ f.connections (taken-after f sound x slot can user_header) sound.names;
       counted = granted-counted;
       numbered = taken-numbered f sound x slot can user_header;
       publisher_room = changed-room mid i x new_lender at refl sound.publisher_room keeps;

@@ -134,6 +134,15 @@ module _ {T U : Type 0} (f : Fields T U) (sound : IsDomain f) (x : PublisherFiel
   others-have key away = set-others f.contents x.book can.contents begun can.has key away
 
   -- each publisher has one book at most
+  -- each book is there still, with its publisher
+  pub taken-after : (key : ℕ) (b : Book) → get f.books key ≡ Some b → (d : Book) × (get taken_books key ≡ Some d) × (d.publisher ≡ b.publisher)
+  taken-after key b at_b = elim (cases_eq key x.book) [
+    | inl here ↦
+        let is : Some can.book ≡ Some b = sym can.stands ∙ sym (ap (get f.books) here) ∙ at_b in
+        (taken_book, ap (get taken_books) here ∙ taken-stands, ap (λ (o : Book). o.publisher) (let same : can.book ≡ b = cc in same))
+    | inr away ↦ (b, others-stand key away ∙ at_b, refl)
+  ]
+
   pub taken-one_each : (p : ℕ) → IsOnly (is_book_of p) taken_books.slots
   taken-one_each p = IsOnly-set f.books.slots x.book can.book taken_book can.stands (is_book_of p) refl (sound.books.one_each p)
 

@@ -23,7 +23,8 @@ use Rattle.iox2_domain.specs.Invariant.{IsDomain, IsLinked, HasOnlyOpenPorts, Ha
 use Rattle.iox2_domain.specs.LoanSlots.{LiesInSlot}
 use Rattle.iox2_domain.specs.Reaches.{Reaches}
 use Rattle.iox2_domain.specs.Shows.{KeepsEntries}
-use Rattle.iox2_domain.proofs.lemmas.slots.BookChanges.{with_book, open_ports-book}
+use Rattle.iox2_domain.proofs.lemmas.fields.NamedBooks.{names-books}
+use Rattle.iox2_domain.proofs.lemmas.slots.BookChanges.{book-after, with_book, open_ports-book}
 use Rattle.iox2_domain.proofs.lemmas.slots.Messages.{LiesIn, lies_at, message_in-parts, message_at-slot, message_at-book, message_numbered-found}
 use Rattle.iox2_domain.proofs.lemmas.slots.SlotChanges.{with_slot, marked, marked-keeps, renewed, slot-books, slot-numbered, slot-counted, slot-state, others-lie, slot-lies, others-found, slot-found}
 use Rattle.iox2_domain.proofs.lemmas.fields.Views.{held-before}
@@ -191,6 +192,9 @@ module _ {T U : Type 0} (f : Fields T U) (sound : IsDomain f) (single : (f.confi
         apart = sound.apart;
         linked = linked;
         books = slot-books f sound key slot at.book at.stands cs at_c Written (written_content value) (λ c. refl);
+        names = names-books f.books _ f.connections
+            (book-after f key at.book (marked f sound key slot at.book at.stands cs at_c Written (written_content value)) at.stands
+            (marked-keeps f sound key slot at.book at.stands cs at_c Written (written_content value))) sound.names;
         counted = slot-counted f sound key slot at.book at.stands cs at_c Written (written_content value);
         numbered = slot-numbered f sound key slot at.book at.stands cs at_c Written (written_content value);
         publisher_room = sound.publisher_room;

@@ -18,10 +18,9 @@ use Rattle.iox2_ends.proofs.MailboxChanges.{within_if_some}
 use Rattle.iox2_domain.specs.Ports.{SubscriberFields}
 use Rattle.iox2_domain.specs.Kept.{state_of}
 use Rattle.iox2_domain.specs.Fields.{Fields, kept_of, numbers_of}
-use Rattle.iox2_domain.specs.Invariant.{IsDomain}
+use Rattle.iox2_domain.specs.Invariant.{IsBookOf, IsDomain}
 use Rattle.iox2_domain.specs.Reaches.{Reaches}
 use Rattle.iox2_domain.specs.Receipts.{receive_result, TakesFrom, TakesAs}
-use Rattle.iox2_domain.specs.SampleSlots.{IsBookOf}
 use Rattle.iox2_domain.specs.declared.sample_slots.Receipt.{Receipt}
 use Rattle.iox2_domain.proofs.lemmas.receives.BorrowedSlots.{lies-there}
 use Rattle.iox2_domain.proofs.lemmas.fields.ConnectionEnds.{subscriber-stands}

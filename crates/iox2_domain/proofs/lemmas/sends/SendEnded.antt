@@ -22,9 +22,10 @@ use Rattle.iox2_domain.specs.Kept.{KeptMessage, Lent_message, Sent_message, stat
 use Rattle.iox2_domain.specs.Fields.{Fields, kept_of, publisher_of, numbers_of, is_book_of, message_in, contents_at}
 use Rattle.iox2_domain.specs.Invariant.{IsCounted, IsNumbered, HasNumber, HasShape, HasShapes, is_publisher, own_holders, holders_of, is_loan_in}
 use Rattle.iox2_domain.specs.Deliveries.{with_loan_out, with_sent, with_send_ended}
+use Rattle.iox2_domain.proofs.lemmas.fields.NamedBooks.{names-books}
 use Rattle.iox2_domain.proofs.lemmas.slots.Messages.{lies_at, message_at-book, message_at-slot, has_number, loan-there, entry-there, ChangesSlot, message_numbered-others}
 use Rattle.iox2_domain.proofs.lemmas.fields.Parts.{HasParts}
-use Rattle.iox2_domain.proofs.lemmas.slots.BookChanges.{with_book, book-here, book-others, book-was, holders-here, other-book, numbers-same, book-state, books-changed, linked-book, open_ports-book}
+use Rattle.iox2_domain.proofs.lemmas.slots.BookChanges.{book-after, with_book, book-here, book-others, book-was, holders-here, other-book, numbers-same, book-state, books-changed, linked-book, open_ports-book}
 use Rattle.iox2_domain.proofs.lemmas.loans.PublisherChanges.{KeepsSettings, changed-ids_apart, changed-is, changed-linked_same, changed-books, changed-room, changed-plain, changed-open_ports, changed-own}
 use Rattle.iox2_domain.proofs.lemmas.sends.SentSlots.{times-without, map-without, sent-keeps, sent-holders, sent-in_use, sent-others, LiesWritten, written-loan, sent-lies, sent-is, values-of}
 use mathlib.Core.Path.{fun_ext}
@@ -284,6 +285,7 @@ module _ {T U : Type 0} (f : Fields T U) (parts : HasParts f) (i : ℕ) (x : Pub
     apart = parts.apart;
     linked = changed-linked_same between i x (with_loan_out slot x) here refl (linked-book f x.book b (with_sent slot b) at (sent-keeps b slot) parts.linked) keeps.key_room refl;
     books = changed-books between i x (with_loan_out slot x) here refl (books-changed f x.book b (with_sent slot b) at (sent-keeps b slot) parts.books aligned) keeps;
+    names = names-books f.books _ f.connections (book-after f x.book b (with_sent slot b) at (sent-keeps b slot)) parts.names;
     counted = ended-counted;
     numbered = ended-numbered;
     publisher_room = changed-room f i x (with_loan_out slot x) here refl parts.publisher_room keeps;

@@ -55,6 +55,16 @@ module _ {T U : Type 0} (f : Fields T U) (key : ℕ) (b d : Book) (at : get f.bo
     | inr away ↦ (e, away.1, record { publisher = refl; numbers = refl; slots = refl })
   ]
 
+  -- each book is there still, with its publisher
+  pub book-after : (k : ℕ) (e : Book) → get f.books k ≡ Some e → (o : Book) × (get changed k ≡ Some o) × (o.publisher ≡ e.publisher)
+  book-after k e there = elim (cases_eq k key) [
+    | inl same ↦
+        let is : Some b ≡ Some e = sym at ∙ sym (ap (get f.books) same) ∙ there in
+        let is_b : b ≡ e = cc in
+        (d, ap (get changed) same ∙ book-here, keeps.publisher ∙ ap (λ (o : Book). o.publisher) is_b)
+    | inr away ↦ (e, book-others k away ∙ there, refl)
+  ]
+
   -- ---- books by their publishers
 
   module _ (only : (p : ℕ) → IsOnly (is_book_of p) f.books.slots) where

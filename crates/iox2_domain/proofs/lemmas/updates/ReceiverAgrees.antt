@@ -203,6 +203,13 @@ module _ {T U : Type 0} (f : Fields T U) (sound : IsDomain f) (j : ℕ) (y : Sub
     apart = fits.extends.apart;
     linked = linked;
     books = books;
+    names = record {
+      at = λ key c at_c. elim (fits.news key c at_c) [
+        | inl old ↦ sound.names.at key c old
+        | inr new ↦ let has = sound.books.publishers c.home.publisher_place new.publisher new.stands in
+            rw new.book (record { book = has.book; stands = has.stands; is_its = has.is_its ∙ new.is_its })
+      ];
+    };
     counted = counted;
     numbered = sound.numbered;
     publisher_room = sound.publisher_room;

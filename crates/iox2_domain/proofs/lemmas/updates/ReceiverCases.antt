@@ -146,6 +146,7 @@ module _ {T U : Type 0} (f : Fields T U) (sound : IsDomain f) (i j : ℕ) (x : P
                 publisher = x;
                 stands = at_x;
                 is_its = refl;
+                book = refl;
                 publisher_room = room_x;
               }))
             ];

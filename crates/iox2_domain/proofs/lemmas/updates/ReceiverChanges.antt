@@ -43,6 +43,7 @@ pub record IsNewOfReceiver {T U : Type 0} (f : Fields T U) (j : ℕ) (y : Subscr
   pub publisher : PublisherFields
   pub stands : get_or f.publishers c.home.publisher_place None ≡ Some publisher
   pub is_its : publisher.id ≡ c.home.publisher
+  pub book : c.home.book ≡ publisher.book
   pub publisher_room : c.home.subscriber_place < publisher.key_room
 
 -- The keys may be those of the subscriber y at the place j, among these connections.

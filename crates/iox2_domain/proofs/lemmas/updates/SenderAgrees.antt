@@ -233,6 +233,13 @@ module _ {T U : Type 0} (f : Fields T U) (sound : IsDomain f) (i : ℕ) (x : Pub
     apart = fits.extends.apart;
     linked = linked;
     books = books;
+    names = record {
+      at = λ key c at_c. elim (fits.news key c at_c) [
+        | inl old ↦ sound.names.at key c old
+        | inr new ↦ let has = sound.books.publishers i x at in
+            rw new.book (record { book = has.book; stands = has.stands; is_its = has.is_its ∙ sym new.publisher })
+      ];
+    };
     counted = counted;
     numbered = sound.numbered;
     publisher_room = λ k z at_z. elim (stood k z at_z) [

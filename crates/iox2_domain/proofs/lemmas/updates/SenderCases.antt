@@ -123,6 +123,7 @@ module _ {T U : Type 0} (f : Fields T U) (sound : IsDomain f) (i j : ℕ) (x : P
               | inr is ↦ inr (rw (is.0, is.1) (record {
                 publisher = refl;
                 publisher_place = refl;
+                book = refl;
                 has = set_place-here x.keys j (Some key);
                 room = room;
                 limit = refl;

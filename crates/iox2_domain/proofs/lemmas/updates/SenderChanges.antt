@@ -36,6 +36,7 @@ with_sender f i x keys key_room is_due connections warnings =
 pub record IsNewOfSender {T U : Type 0} (f : Fields T U) (i : ℕ) (x : PublisherFields) (keys : List (Option ℕ)) (key_room key : ℕ) (c : Link) : Type 0 where
   pub publisher : c.home.publisher ≡ x.id
   pub publisher_place : c.home.publisher_place ≡ i
+  pub book : c.home.book ≡ x.book
   pub has : get_or keys c.home.subscriber_place None ≡ Some key
   pub room : c.home.subscriber_place < key_room
   pub limit : c.limit ≡ (f.config).subscriber_max_borrowed_samples
