@@ -1,6 +1,5 @@
 //! The slots of the messages that subscribers have borrowed.
-ghost use Rattle.std.specs.Prelude.{◌<◌, ◌↔◌, ℕ, length, Contains, IfSome, IsSomeAnd, IsTrue, MatchOption};
-ghost use Rattle.slab.specs.Slab.{get, ContainsKey};
+ghost use Rattle.std.specs.Prelude.{◌<◌, ◌↔◌, ℕ, length, Contains, IfSome, IsTrue, MatchOption};
 ghost use Rattle.iox2_domain.specs.SampleSlots.{HasNoneNumbered, IsNumberedSlot, IsUsedFor};
 
 use crate::state::DomainState;
@@ -71,17 +70,8 @@ impl<T: Drop, U: Default + Drop> DomainState<T, U> {
     ghost use Rattle.iox2_store.specs.machine.SingleCalls.{HoldsSample};
     ghost use Rattle.iox2_domain.specs.Kept.{state_of};
     ghost use Rattle.iox2_domain.specs.Fields.{kept_of};
-    ghost use Rattle.iox2_domain.specs.Invariant.{IsDomain, IsBookOf};
+    ghost use Rattle.iox2_domain.specs.Invariant.{IsDomain};
     ghost use Rattle.iox2_domain.specs.SampleSlots.{BorrowsAt, LiesBorrowed};
-
-    /// The key of the book of a connection's publisher.
-    pub fn book_of(&self, connection: usize) -> usize
-        requires domain { IsDomain self.now }
-        requires stands { ContainsKey self.now.connections connection }
-        ensures { IsSomeAnd (get self.now.connections connection) (λ c. IsBookOf self.now.books c.home.publisher result) }
-    {
-        self.connections[connection].home().book
-    }
 
     // Where the message lies that the subscriber has borrowed in the connection at the key. The
     // sample's slot is tested first.
@@ -90,14 +80,15 @@ impl<T: Drop, U: Default + Drop> DomainState<T, U> {
         ensures { MatchOption result (BorrowsAt self.now key sample.now.subscriber sample.now.number → ⊥) (LiesBorrowed self.now sample.now.subscriber sample.now.number) }
     {
         let connection = self.connections.get(key)?;
-        if connection.home().subscriber != sample.subscriber.value() {
+        let home = connection.home();
+        if home.subscriber != sample.subscriber.value() {
             return None;
         }
-        let book = self.book_of(key);
-        let slot = find_borrowed(connection, &self.books[book], sample.number, sample.slot)?;
+        let book = &self.books[home.book];
+        let slot = find_borrowed(connection, book, sample.number, sample.slot)?;
         Some(SampleSlot {
             connection: key,
-            book,
+            book: home.book,
             slot,
         })
     }
@@ -136,13 +127,13 @@ impl<T: Drop, U: Default + Drop> DomainState<T, U> {
         requires live { HoldsSample (state_of (kept_of self.now)) sample.now.subscriber sample.now.number }
         ensures { IfSome result (LiesBorrowed self.now sample.now.subscriber sample.now.number) }
     {
-        let connection = self.connections.get(sample.connection)?;
-        let is_its = connection.home().subscriber == sample.subscriber.value();
-        let book = self.book_of(sample.connection);
-        if is_its && has_number(&self.books[book], sample.slot, sample.number) {
+        let home = self.connections.get(sample.connection)?.home();
+        if home.subscriber == sample.subscriber.value()
+            && has_number(&self.books[home.book], sample.slot, sample.number)
+        {
             return Some(SampleSlot {
                 connection: sample.connection,
-                book,
+                book: home.book,
                 slot: sample.slot,
             });
         }

@@ -23,10 +23,9 @@ fn take_from<T: Drop, U: Default + Drop>(state: &mut DomainState<T, U>, key: usi
     requires ready { IsSomeAnd (get state.old.connections key) (λ c. IsTrue (can_borrow c)) }
     ensures { TakesFrom state.old key result state.new }
 {
-    let book = state.book_of(key);
     let home = state.connections[key].home();
     let slot = take(&mut state.connections, key);
-    let number = state.books[book].number(slot);
+    let number = state.books[home.book].number(slot);
     let sample = SampleAt {
         subscriber: UniqueSubscriberId::new(home.subscriber),
         number,

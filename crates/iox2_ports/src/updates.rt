@@ -12,10 +12,7 @@ use iox2_domain::{DomainState, is_due_at, settle};
 /// subscriber, by rising place. Where memory for one is refused, that is a warning.
 ///
 /// iceoryx2's `PublisherSharedState::force_update_connections` (`src/port/publisher.rs`).
-pub fn update_publisher<T: Drop, U: Default + Drop>(
-    state: &mut DomainState<T, U>,
-    place: usize,
-)
+pub fn update_publisher<T: Drop, U: Default + Drop>(state: &mut DomainState<T, U>, place: usize)
     requires agrees { IsDomain state.old }
     requires stands { place < length state.old.publishers }
     ensures { (x : PublisherFields) → slice_index_or state.old.publishers place None ≡ Some x
@@ -28,10 +25,7 @@ pub fn update_publisher<T: Drop, U: Default + Drop>(
 
 // The publisher at a place, which is due, gets its connection with each subscriber.
 #[inline(never)]
-fn connect_publisher<T: Drop, U: Default + Drop>(
-    state: &mut DomainState<T, U>,
-    place: usize,
-)
+fn connect_publisher<T: Drop, U: Default + Drop>(state: &mut DomainState<T, U>, place: usize)
     requires agrees { IsDomain state.old }
     requires stands { place < length state.old.publishers }
     requires due { is_publisher_due state.old.publishers place ≡ true }
@@ -48,10 +42,7 @@ fn connect_publisher<T: Drop, U: Default + Drop>(
 /// publisher, by rising place. Where memory for one is refused, that is a warning.
 ///
 /// iceoryx2's `Subscriber::force_update_connections` (`src/port/subscriber.rs`).
-pub fn update_subscriber<T: Drop, U: Default + Drop>(
-    state: &mut DomainState<T, U>,
-    place: usize,
-)
+pub fn update_subscriber<T: Drop, U: Default + Drop>(state: &mut DomainState<T, U>, place: usize)
     requires agrees { IsDomain state.old }
     requires stands { place < length state.old.subscribers }
     ensures { (y : SubscriberFields) → slice_index_or state.old.subscribers place None ≡ Some y
@@ -64,10 +55,7 @@ pub fn update_subscriber<T: Drop, U: Default + Drop>(
 
 // The subscriber at a place, which is due, gets its connection with each publisher.
 #[inline(never)]
-fn connect_subscriber<T: Drop, U: Default + Drop>(
-    state: &mut DomainState<T, U>,
-    place: usize,
-)
+fn connect_subscriber<T: Drop, U: Default + Drop>(state: &mut DomainState<T, U>, place: usize)
     requires agrees { IsDomain state.old }
     requires stands { place < length state.old.subscribers }
     requires due { is_subscriber_due state.old.subscribers place ≡ true }

@@ -27,8 +27,8 @@ last-out slot x [] at once =
 last-out slot x (y ∷ ys) at once =
     let there : 0 < times slot (y ∷ ys) = last-stands slot y ys at in
     let away : x ≢ slot = λ same.
-        let one : one_if slot x ≡ 1 = ap (one_if slot) same ∙ one_if_same slot in
-        omega (arith, times-cons slot x (y ∷ ys), one, there, once) in
+    let one : one_if slot x ≡ 1 = ap (one_if slot) same ∙ one_if_same slot in
+    omega (arith, times-cons slot x (y ∷ ys), one, there, once) in
     ap (λ zs. x ∷ zs) (last-out slot y ys at (omega (arith, times-cons slot x (y ∷ ys), once)))
     ∙ ap (λ (t : Bool). cond (not t) (x ∷ without slot (y ∷ ys)) (without slot (y ∷ ys))) (sym (ne_eqb x slot away))
 
