@@ -13,6 +13,8 @@ pub struct LoanAt {
     pub publisher: UniquePublisherId,
     /// The number of its message.
     pub number: u128,
+    /// The place at which its publisher is looked for first.
+    pub place: usize,
     /// The slot in which it is looked for first.
     pub slot: usize,
 }
@@ -31,12 +33,13 @@ impl<T: Drop, U: Default + Drop> DomainState<T, U> {
     ghost use Rattle.iox2_domain.specs.Invariant.{IsDomain};
     ghost use Rattle.iox2_domain.specs.LoanSlots.{LiesInSlot};
 
-    /// Where a publisher's loan lies, and `None` where it isn't out. Its slot is tested first.
+    /// Where a publisher's loan lies, and `None` where it isn't out. Its publisher's place and its
+    /// slot are tested first.
     pub fn find_loan(&self, loan: &LoanAt) -> Option<LoanSlot>
         requires { IsDomain self.now }
         ensures { MatchOption result (HoldsLoan (state_of (kept_of self.now)) loan.now.publisher loan.now.number → ⊥) (λ at. LiesInSlot self.now loan.now.publisher loan.now.number at.book at.slot) }
     {
-        let place = self.find_publisher(loan.publisher, 0)?;
+        let place = self.find_publisher(loan.publisher, loan.place)?;
         let publisher = self.publishers[place].as_ref()?;
         let book = &self.books[publisher.book];
         let slot = find_slot(book, &publisher.loans, loan.number, loan.slot)?;
@@ -54,6 +57,7 @@ impl<T: Drop, U: Default + Drop> DomainState<T, U> {
         let loan = LoanAt {
             publisher,
             number,
+            place: 0,
             slot: 0,
         };
         self.find_loan(&loan).is_some()
@@ -67,6 +71,13 @@ fn find_slot(book: &SlotBook, loans: &[usize], number: u128, hint: usize) -> Opt
     if is_loan_slot(book, hint, number) {
         return Some(hint);
     }
+    search_slots(book, loans, number)
+}
+
+#[inline(never)]
+fn search_slots(book: &SlotBook, loans: &[usize], number: u128) -> Option<usize>
+    ensures { MatchOption result (IsInNoSlot book.now loans.now number) (λ slot. IsLoanSlot book.now slot number) }
+{
     for index in 0..loans.len() {
         let slot = loans[index];
         if is_loan_slot(book, slot, number) {

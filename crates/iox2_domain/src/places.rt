@@ -58,6 +58,13 @@ fn find_place<P: Port>(ports: &[Option<P>], id: u128, hint: usize) -> Option<usi
     if stands_at(ports, hint, id) {
         return Some(hint);
     }
+    search_places(ports, id)
+}
+
+#[inline(never)]
+fn search_places<P: Port>(ports: &[Option<P>], id: u128) -> Option<usize>
+    ensures { MatchOption result (look_up (λ x. P.number x == id) ports.now ≡ None) (λ i. IsSomeAnd (slice_index_or ports.now i None) (λ x. P.number x ≡ id)) }
+{
     for place in 0..ports.len() {
         if stands_at(ports, place, id) {
             return Some(place);

@@ -1,6 +1,7 @@
 //! What a domain has of a publisher.
-ghost use Rattle.std.specs.Prelude.{◌≡◌, ◌<◌, [], length, vec_capacity, IfOk};
+ghost use Rattle.std.specs.Prelude.{◌≡◌, ◌<◌, ◌≤◌, [], length, vec_capacity, IfOk};
 ghost use Rattle.iox2_store.specs.machine.Numbers.{without};
+ghost use Rattle.iox2_ends.specs.Counters.{times};
 
 use crate::places::{key_in, put_at_place, reserve_place};
 use crate::ports::Port;
@@ -117,18 +118,24 @@ impl PublisherState {
 
     /// The loan in a slot is out no more.
     pub fn remove_loan(&mut self, slot: usize)
+        requires { times slot self.old.loans ≤ 1 }
         ensures { self.new ≡ with_loan_out slot self.old }
     {
         remove_slot(&mut self.loans, slot);
     }
 }
 
-// Takes a slot out; the others keep their order.
+// Takes a slot out that stands there once at most; the others keep their order.
 fn remove_slot(slots: &mut Vec<usize>, slot: usize)
+    requires { times slot slots.old.items ≤ 1 }
     ensures items { slots.new.items ≡ without slot slots.old.items }
     ensures capacity { vec_capacity slots.new ≡ vec_capacity slots.old }
 {
-    slots.retain(|other| *other != slot);
+    if slots.last().copied() == Some(slot) {
+        let _ = slots.pop();
+    } else {
+        slots.retain(|other| *other != slot);
+    }
 }
 
 impl Port for PublisherState {

@@ -1,7 +1,6 @@
 //! The slots of the messages that subscribers have borrowed.
-ghost use Rattle.std.specs.Prelude.{◌<◌, ◌↔◌, ℕ, length, Contains, IsSomeAnd, IsTrue, MatchOption};
-ghost use Rattle.slab.specs.Slab.{get, ContainsKey};
-ghost use Rattle.iox2_domain.specs.SampleSlots.{HasNoneNumbered, IsNumberedSlot};
+ghost use Rattle.std.specs.Prelude.{◌<◌, ◌↔◌, ℕ, length, Contains, IfSome, IsTrue, MatchOption};
+ghost use Rattle.iox2_domain.specs.SampleSlots.{HasNoneNumbered, IsNumberedSlot, IsUsedFor};
 
 use crate::state::DomainState;
 use iox2_store::{Connection, SlotBook, UniquePublisherId, UniqueSubscriberId};
@@ -60,21 +59,19 @@ fn find_borrowed(
     None
 }
 
+// The slot is in use and has this number.
+fn has_number(book: &SlotBook, slot: usize, number: u128) -> bool
+    ensures { IsTrue result ↔ IsUsedFor book.now number slot }
+{
+    slot < book.len() && book.holders(slot) > 0 && book.number(slot) == number
+}
+
 impl<T: Drop, U: Default + Drop> DomainState<T, U> {
     ghost use Rattle.iox2_store.specs.machine.SingleCalls.{HoldsSample};
     ghost use Rattle.iox2_domain.specs.Kept.{state_of};
     ghost use Rattle.iox2_domain.specs.Fields.{kept_of};
-    ghost use Rattle.iox2_domain.specs.Invariant.{IsDomain, IsBookOf};
+    ghost use Rattle.iox2_domain.specs.Invariant.{IsDomain};
     ghost use Rattle.iox2_domain.specs.SampleSlots.{BorrowsAt, LiesBorrowed};
-
-    /// The key of the book of a connection's publisher.
-    pub fn book_of(&self, connection: usize) -> usize
-        requires domain { IsDomain self.now }
-        requires stands { ContainsKey self.now.connections connection }
-        ensures { IsSomeAnd (get self.now.connections connection) (λ c. IsBookOf self.now.books c.home.publisher result) }
-    {
-        self.connections[connection].home().book
-    }
 
     // Where the message lies that the subscriber has borrowed in the connection at the key. The
     // sample's slot is tested first.
@@ -83,14 +80,15 @@ impl<T: Drop, U: Default + Drop> DomainState<T, U> {
         ensures { MatchOption result (BorrowsAt self.now key sample.now.subscriber sample.now.number → ⊥) (LiesBorrowed self.now sample.now.subscriber sample.now.number) }
     {
         let connection = self.connections.get(key)?;
-        if connection.home().subscriber != sample.subscriber.value() {
+        let home = connection.home();
+        if home.subscriber != sample.subscriber.value() {
             return None;
         }
-        let book = self.book_of(key);
-        let slot = find_borrowed(connection, &self.books[book], sample.number, sample.slot)?;
+        let book = &self.books[home.book];
+        let slot = find_borrowed(connection, book, sample.number, sample.slot)?;
         Some(SampleSlot {
             connection: key,
-            book,
+            book: home.book,
             slot,
         })
     }
@@ -105,6 +103,14 @@ impl<T: Drop, U: Default + Drop> DomainState<T, U> {
         if hinted.is_some() {
             return hinted;
         }
+        self.search_connections(sample)
+    }
+
+    #[inline(never)]
+    fn search_connections(&self, sample: &SampleAt) -> Option<SampleSlot>
+        requires { IsDomain self.now }
+        ensures { MatchOption result (HoldsSample (state_of (kept_of self.now)) sample.now.subscriber sample.now.number → ⊥) (LiesBorrowed self.now sample.now.subscriber sample.now.number) }
+    {
         for key in 0..self.connections.capacity() {
             let found = self.find_sample_at(key, sample);
             if found.is_some() {
@@ -112,6 +118,42 @@ impl<T: Drop, U: Default + Drop> DomainState<T, U> {
             }
         }
         None
+    }
+
+    // Where a live sample's connection and slot say that it lies, if it lies there. No borrowed slot
+    // is gone through: no other slot in use has its number.
+    fn sample_at_hint(&self, sample: &SampleAt) -> Option<SampleSlot>
+        requires domain { IsDomain self.now }
+        requires live { HoldsSample (state_of (kept_of self.now)) sample.now.subscriber sample.now.number }
+        ensures { IfSome result (LiesBorrowed self.now sample.now.subscriber sample.now.number) }
+    {
+        let home = self.connections.get(sample.connection)?.home();
+        if home.subscriber == sample.subscriber.value()
+            && has_number(&self.books[home.book], sample.slot, sample.number)
+        {
+            return Some(SampleSlot {
+                connection: sample.connection,
+                book: home.book,
+                slot: sample.slot,
+            });
+        }
+        None
+    }
+
+    /// Where a sample lies that is live. Its connection and its slot are tested first, by the number
+    /// alone.
+    pub fn find_live_sample(&self, sample: &SampleAt) -> SampleSlot
+        requires domain { IsDomain self.now }
+        requires live { HoldsSample (state_of (kept_of self.now)) sample.now.subscriber sample.now.number }
+        ensures { LiesBorrowed self.now sample.now.subscriber sample.now.number result }
+    {
+        if let Some(at) = self.sample_at_hint(sample) {
+            return at;
+        }
+        let Some(at) = self.find_sample(sample) else {
+            unreachable!()
+        };
+        at
     }
 
     /// Whether the subscriber has borrowed a message with this number.

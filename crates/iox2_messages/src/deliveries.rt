@@ -1,8 +1,9 @@
 //! A publisher delivers a message.
-ghost use Rattle.std.specs.Prelude.{◌≡◌, ℕ, ◌<◌, None, Some, slice_index_or, vec_capacity};
+ghost use Rattle.std.specs.Prelude.{◌≡◌, ℕ, ◌<◌, ◌≤◌, None, Some, slice_index_or, vec_capacity};
 ghost use Rattle.slab.specs.Slab.{get};
 ghost use Rattle.iox2_store.specs.SlotBook.{Book, IsInUse, holders_at};
 ghost use Rattle.iox2_store.specs.machine.Numbers.{without};
+ghost use Rattle.iox2_ends.specs.Counters.{times};
 ghost use Rattle.iox2_ends.specs.Receivers.{HasReclaimed};
 ghost use Rattle.iox2_domain.specs.Ports.{PublisherFields};
 ghost use Rattle.iox2_domain.specs.Invariant.{IsDomain};
@@ -54,6 +55,7 @@ pub(crate) fn end_send<T: Drop, U: Default + Drop>(
     slot: usize,
 )
     requires stands { (x : PublisherFields) × (b : Book) × (slice_index_or state.old.publishers place None ≡ Some x) × (get state.old.books x.book ≡ Some b) × IsInUse b slot }
+    requires once { (x : PublisherFields) → slice_index_or state.old.publishers place None ≡ Some x → times slot x.loans ≤ 1 }
     ensures { (x : PublisherFields) (b : Book) → slice_index_or state.old.publishers place None ≡ Some x → get state.old.books x.book ≡ Some b → state.new ≡ with_send_ended state.old place x slot b }
 {
     let Some(publisher) = &mut state.publishers[place] else {

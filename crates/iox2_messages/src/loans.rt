@@ -49,6 +49,7 @@ pub fn loan<T: Drop, U: Default + Drop>(
     ensures reaches { IsSomeAnd (slice_index_or state.old.publishers place None) (λ x. LoanReaches U.is_default state.old x result state.new) }
     ensures named { IfOk result (λ loan. IsSomeAnd (slice_index_or state.old.publishers place None) (λ x. IsNamed state.old x loan)) }
     ensures lies { IfOk result (λ loan. (key : ℕ) × LiesInSlot state.new loan.publisher loan.number key loan.slot) }
+    ensures placed { IfOk result (λ loan. loan.place ≡ place) }
 {
     reclaim(state, place);
     if let Some(refusal) = loan_refusal(state, place) {
@@ -88,6 +89,7 @@ fn grant<T: Drop, U: Default + Drop>(state: &mut DomainState<T, U>, place: usize
     requires can { CanLend state.old place }
     ensures named { IsSomeAnd (slice_index_or state.old.publishers place None) (λ x. IsNamed state.old x result) }
     ensures lends { IsSomeAnd (slice_index_or state.old.publishers place None) (λ x. Lends U.is_default state.old place x result.slot state.new) }
+    ensures placed { result.place ≡ place }
 {
     let Some(publisher) = &state.publishers[place] else {
         unreachable!();
@@ -113,6 +115,7 @@ fn grant<T: Drop, U: Default + Drop>(state: &mut DomainState<T, U>, place: usize
     LoanAt {
         publisher: publisher_id,
         number,
+        place,
         slot,
     }
 }

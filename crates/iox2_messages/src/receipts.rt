@@ -23,10 +23,9 @@ fn take_from<T: Drop, U: Default + Drop>(state: &mut DomainState<T, U>, key: usi
     requires ready { IsSomeAnd (get state.old.connections key) (λ c. IsTrue (can_borrow c)) }
     ensures { TakesFrom state.old key result state.new }
 {
-    let book = state.book_of(key);
     let home = state.connections[key].home();
     let slot = take(&mut state.connections, key);
-    let number = state.books[book].number(slot);
+    let number = state.books[home.book].number(slot);
     let sample = SampleAt {
         subscriber: UniqueSubscriberId::new(home.subscriber),
         number,
@@ -84,8 +83,6 @@ pub fn give_back<T: Drop, U: Default + Drop>(state: &mut DomainState<T, U>, samp
     ensures released { (publisher : ℕ) → IsTrue (is_borrowed sample.number ((state_of (kept_of state.old)).mailboxes publisher sample.subscriber))
         → Reaches state.old state.new (released (state_of (kept_of state.old)) publisher sample.subscriber sample.number) }
 {
-    let Some(at) = state.find_sample(&sample) else {
-        unreachable!()
-    };
+    let at = state.find_live_sample(&sample);
     release(&mut state.connections, at.connection, at.slot);
 }

@@ -19,9 +19,7 @@ pub fn sample_payload<'a, T: Drop, U: Default + Drop>(
     requires live { HoldsSample (state_of (kept_of state.now)) sample.now.subscriber sample.now.number }
     ensures { (entry : Entry T U) × (entries_of (kept_of state.now) sample.now.number ≡ Some entry) × (entry.values ≡ result.now ∷ []) }
 {
-    let Some(at) = state.find_sample(sample) else {
-        unreachable!()
-    };
+    let at = state.find_live_sample(sample);
     let Some(contents) = &state.contents[at.book] else {
         unreachable!()
     };
@@ -37,8 +35,6 @@ pub fn sample_header<'a, T: Drop, U: Default + Drop>(
     requires live { HoldsSample (state_of (kept_of state.now)) sample.now.subscriber sample.now.number }
     ensures { (entry : Entry T U) × (entries_of (kept_of state.now) sample.now.number ≡ Some entry) × (entry.header ≡ result.now) }
 {
-    let Some(at) = state.find_sample(sample) else {
-        unreachable!()
-    };
+    let at = state.find_live_sample(sample);
     state.books[at.book].header(at.slot)
 }

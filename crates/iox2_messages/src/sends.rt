@@ -21,7 +21,7 @@ pub fn send_loan<T: Drop, U: Default + Drop>(state: &mut DomainState<T, U>, loan
     requires live { HoldsWritten (state_of (kept_of state.old)) loan.publisher loan.number }
     ensures { SendsLoan state.old state.new loan.number result }
 {
-    let Some(place) = state.find_publisher(loan.publisher, 0) else {
+    let Some(place) = state.find_publisher(loan.publisher, loan.place) else {
         unreachable!()
     };
     update_publisher(state, place);

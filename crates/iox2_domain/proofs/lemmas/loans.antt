@@ -7,6 +7,7 @@ pub mod LendingSteps
 pub mod Lent
 pub mod Loaned
 pub mod LoanSlots
+pub mod RemovedSlots
 pub mod LoansOut
 pub mod LoanCalls
 pub mod WrittenLoan

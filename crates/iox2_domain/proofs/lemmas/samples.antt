@@ -2,3 +2,4 @@
 pub mod BorrowedNumbers
 pub mod SampleEntries
 pub mod SampleReads
+pub mod HintedSamples

@@ -1,12 +1,13 @@
 -- Messages that are taken from connections.
 use Rattle.std.proofs.Common.{◌≡◌, ℕ, ◌<◌, List, map, length, get_or, Option, Some, None, Ok, Err, IsSomeAnd, Contains, MatchOption, refl, ap, sym, subst, ◌∙◌}
 use Rattle.std.proofs.lemmas.List.{get_or_read}
-use Rattle.std.specs.Prelude.{slice_get}
+use Rattle.std.specs.Prelude.{slice_get, is_some}
 use Rattle.slab.specs.Slab.{Slab, get, ContainsKey}
 use Rattle.iox2_store.specs.Link.{Link}
 use Rattle.iox2_store.specs.machine.Receives.{ReceiveResult, Got_sample, TakeSample}
 use Rattle.iox2_store.specs.SlotBook.{Book}
 use Rattle.iox2_store.specs.machine.State.{State}
+use Rattle.iox2_store.specs.declared.connection.Home.{Home}
 use Rattle.iox2_store.specs.declared.errors.ReceiveError.TheVariants.{ExceedsMaxBorrows}
 use Rattle.iox2_ends.specs.Finds.{Finds, IsReceivers, IsReceiverLinked, HasConnections}
 use Rattle.iox2_ends.specs.Homes.{SameHomes}
@@ -37,15 +38,24 @@ pub record HasItsBook {T U : Type 0} (f : Fields T U) (key book : ℕ) (c : Link
   pub has_book : get f.books book ≡ Some b
   pub book_is : b.publisher ≡ c.home.publisher
 
-pub has-its-book : {T U : Type 0} (f now : Fields T U) (key book : ℕ) (c : Link) (b : Book) → f ≡ now → get f.connections key ≡ Some c
-    → IsSomeAnd (get now.connections key) (λ d. IsBookOf now.books d.home.publisher book) → get f.books book ≡ Some b → HasItsBook now key book c b
-has-its-book {T} {U} f now key book c b same at its at_b =
-    let stands : get now.connections key ≡ Some c = ap (λ (h : Fields T U). get h.connections key) (sym same) ∙ at in
-    let of_book : IsBookOf now.books c.home.publisher book = rw stands at its in
-    let has_book : get now.books book ≡ Some b = ap (λ (h : Fields T U). get h.books book) (sym same) ∙ at_b in
-    let one : Some of_book.book ≡ Some b = sym of_book.stands ∙ has_book in
-    let is_one : of_book.book ≡ b = cc in
-    record { stands = stands; has_book = has_book; book_is = ap (λ (x : Book). x.publisher) (sym is_one) ∙ of_book.is_its }
+module _ {T U : Type 0} (f now : Fields T U) (key : ℕ) (home : Home) (c : Link) (same : f ≡ now) (sound : IsDomain now) (at : get f.connections key ≡ Some c) (is : home ≡ c.home) where
+  link-stands : get now.connections key ≡ Some c
+  link-stands = ap (λ (h : Fields T U). get h.connections key) (sym same) ∙ at
+
+  of-book : IsBookOf now.books c.home.publisher home.book
+  of-book = subst (λ (h : Home). IsBookOf now.books c.home.publisher h.book) (sym is) (sound.names.at key c link-stands)
+
+  -- the book that it names is there
+  pub names-book : ContainsKey f.books home.book
+  names-book = ap is_some (ap (λ (h : Fields T U). get h.books home.book) same ∙ of-book.stands)
+
+  -- and is its publisher's
+  pub has-its-book : (b : Book) → get f.books home.book ≡ Some b → HasItsBook now key home.book c b
+  has-its-book b at_b =
+      let has_book : get now.books home.book ≡ Some b = ap (λ (h : Fields T U). get h.books home.book) (sym same) ∙ at_b in
+      let one : Some of-book.book ≡ Some b = sym of-book.stands ∙ has_book in
+      let is_one : of-book.book ≡ b = cc in
+      record { stands = link-stands; has_book = has_book; book_is = ap (λ (x : Book). x.publisher) (sym is_one) ∙ of-book.is_its }
 
 module _ {T U : Type 0} (f now : Fields T U) (same : f ≡ now) (sound : IsDomain now) (key book : ℕ) (c : Link) (b : Book) (has : HasItsBook now key book c b) where
   -- a slot that waits is within the book

@@ -58,7 +58,7 @@ module _ {T U : Type 0} (f : Fields T U) (sound : IsDomain f) (q n : ℕ) (at : 
   abbrev its-publisher : ℕ
   its-publisher = (lies.connection).home.publisher
 
-  its-slot : HasNumber f.books at.book at.slot n
+  pub its-slot : HasNumber f.books at.book at.slot n
   its-slot = record {
     book = lies.book;
     stands = lies.has_book;

@@ -1,5 +1,5 @@
 -- A loan is sent: update, reclaiming, delivery and the end of the send, one after the other.
-use Rattle.std.proofs.Common.{◌≡◌, ℕ, ◌<◌, false, length, get_or, ap, sym, subst, ◌∙◌, inl, inr}
+use Rattle.std.proofs.Common.{◌≡◌, ℕ, ◌<◌, ◌≤◌, false, length, get_or, ap, sym, subst, ◌∙◌, inl, inr, arith}
 use Rattle.std.proofs.lemmas.Bool.{eq-eqb}
 use Rattle.std.proofs.lemmas.List.{get_or-set_same}
 use Rattle.std.specs.declared.option.Option.{Option}
@@ -13,6 +13,7 @@ use Rattle.iox2_store.specs.machine.Sends.{Publish, Delivered_to}
 use Rattle.iox2_store.specs.machine.SingleCalls.{HoldsLoan}
 use Rattle.iox2_store.specs.SlotBook.{Book, IsInUse, holders_at}
 use Rattle.iox2_store.specs.machine.State.{State}
+use Rattle.iox2_ends.specs.Counters.{times}
 use Rattle.iox2_ends.specs.Receivers.{HasReclaimed}
 use Rattle.iox2_ends.proofs.MailboxChanges.{within_if_some}
 use Rattle.iox2_laws.proofs.PublisherUpdates.{update_publisher_leaves}
@@ -27,7 +28,7 @@ use Rattle.iox2_domain.specs.Ports.{PublisherFields}
 use Rattle.iox2_domain.specs.Reaches.{Reaches}
 use Rattle.iox2_domain.specs.SentLoans.{SendsLoan}
 use Rattle.iox2_domain.proofs.lemmas.fields.ConnectionEnds.{publisher-stands}
-use Rattle.iox2_domain.proofs.lemmas.sends.LoanAlone.{loan-alone}
+use Rattle.iox2_domain.proofs.lemmas.sends.LoanAlone.{loan-once, loan-alone}
 use Rattle.iox2_domain.proofs.lemmas.slots.Messages.{lies_at, message_at-slot}
 use Rattle.iox2_domain.proofs.lemmas.sends.Published.{match-some, delivered-in_use, send-publishes}
 
@@ -118,6 +119,15 @@ module _ {T U : Type 0} (f0 : Fields T U) (sound : IsDomain f0) (p n place : ℕ
         can-end =
             let has = delivered-in_use f2 reclaims.agrees place sender still-stands slot n holds.0 lies holds.3 count f3 d in
             (sender, _, delivered-stands, has.0, has.1)
+
+        -- the slot stands once among the publisher's loans
+        pub once-lent : (x : PublisherFields) → get_or f3.publishers place None ≡ Some x → times slot x.loans ≤ 1
+        once-lent x there =
+            let both : Some sender ≡ Some x = sym delivered-stands ∙ there in
+            let is : sender ≡ x = cc in
+            let once : times slot x.loans ≡ 1 =
+            ap (λ (y : PublisherFields). times slot y.loans) (sym is) ∙ loan-once f2 reclaims.agrees place sender still-stands slot n holds.0 lies in
+            omega (arith, once)
 
         -- the whole send
         pub sends-loan : (f4 : Fields T U) → ((x : PublisherFields) (b : Book) → get_or f3.publishers place None ≡ Some x → get f3.books x.book ≡ Some b → f4 ≡ with_send_ended f3 place x slot b)

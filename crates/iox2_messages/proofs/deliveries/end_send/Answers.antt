@@ -1,8 +1,9 @@
 use Rattle.iox2_ends.proofs.MailboxChanges.{within_if_some}
-use Rattle.std.proofs.Common.{◌≡◌, ◌-◌, slice_set, None, Some, ap, sym, ◌∙◌, refl, rules, length, vec_len}
+use Rattle.std.proofs.Common.{◌≡◌, ◌-◌, slice_set, None, Some, ap, sym, ◌∙◌, refl, rules, length, vec_len, subst, ◌≤◌}
 use Rattle.std.specs.Prelude.{slice_index_or}
 use Rattle.slab.specs.Slab.{get, with_value}
 use Rattle.iox2_store.specs.SlotBook.{Book, with_holders, holders_at}
+use Rattle.iox2_ends.specs.Counters.{times}
 use Rattle.iox2_domain.specs.Deliveries.{with_loan_out, with_sent, with_send_ended}
 use Rattle.iox2_domain.specs.Fields.{Fields}
 use Rattle.iox2_domain.specs.Ports.{PublisherFields}
@@ -51,3 +52,10 @@ index_mut-book-requires g c =
     let publisher : c.requires.stands.0 ≡ c.in-Some.publisher = cc in
     let key : c.publisher.inside.book ≡ (c.requires.stands.0).book = ap (λ (p : PublisherFields). p.book) (c.publisher.view_is ∙ c.remove_loan.ensures ∙ ap (with_loan_out c.args.slot) (sym publisher)) in
     rw (key, ap (λ (f : Fields g.row.T.Denot g.row.U.Denot). get f.books (c.requires.stands.0).book) c.state.view_is ∙ c.requires.stands.3) refl
+
+pub remove_loan-requires : goal.remove_loan-requires
+remove_loan-requires g c =
+    let there : slice_index_or c.state.inside.publishers.items c.args.place None ≡ Some c.requires.stands.0 = ap (λ (f : Fields g.row.T.Denot g.row.U.Denot). slice_index_or f.publishers c.args.place None) c.state.view_is ∙ c.requires.stands.2 in
+    let is : Some c.requires.stands.0 ≡ Some c.in-Some.publisher = sym there ∙ read-there _ c.args.place _ _ there c.index_mut.ensures.value ∙ c.in-Some.is in
+    let publisher : c.requires.stands.0 ≡ c.in-Some.publisher = cc in
+    subst (λ (p : PublisherFields). times c.args.slot p.loans ≤ 1) publisher (c.requires.once c.requires.stands.0 c.requires.stands.2)

@@ -1,18 +1,22 @@
-use Rattle.iox2_domain.proofs.lemmas.receives.ReceiptSteps.{has-its-book, waiting-within, takes-from}
+use Rattle.iox2_domain.proofs.lemmas.receives.ReceiptSteps.{names-book, has-its-book, waiting-within, takes-from}
 use Rattle.std.proofs.Common.{ap, refl, ◌∙◌}
 use Rattle.iox2_store.specs.declared.connection.Home.{Home}
 use Rattle.iox2_messages.proofs.receipts.take_from.Goals as goal
 
+pub index-requires-2 : goal.index-requires-2
+index-requires-2 g c =
+    names-book _ c.args.state.now c.args.key c.home-home.result c.index.result.now c.state.view_is c.requires.agrees c.index.ensures c.home-home.ensures.value
+
 pub number-number-requires : goal.number-number-requires
 number-number-requires g c =
-    waiting-within _ c.args.state.now c.state.view_is c.requires.agrees c.args.key c.book_of-book.result c.index.result.now c.index-2.result.now
-    (has-its-book _ c.args.state.now c.args.key c.book_of-book.result c.index.result.now c.index-2.result.now c.state.view_is c.index.ensures c.book_of-book.ensures c.index-2.ensures)
+    waiting-within _ c.args.state.now c.state.view_is c.requires.agrees c.args.key c.home-home.result.book c.index.result.now c.index-2.result.now
+    (has-its-book _ c.args.state.now c.args.key c.home-home.result c.index.result.now c.state.view_is c.requires.agrees c.index.ensures c.home-home.ensures.value c.index-2.result.now c.index-2.ensures)
     c.take-slot.result c.take-slot.ensures.waited
 
 pub returns : goal.returns
 returns g c =
-    takes-from _ c.args.state.now c.state.view_is c.requires.agrees c.args.key c.book_of-book.result c.index.result.now c.index-2.result.now
-    (has-its-book _ c.args.state.now c.args.key c.book_of-book.result c.index.result.now c.index-2.result.now c.state.view_is c.index.ensures c.book_of-book.ensures c.index-2.ensures)
+    takes-from _ c.args.state.now c.state.view_is c.requires.agrees c.args.key c.home-home.result.book c.index.result.now c.index-2.result.now
+    (has-its-book _ c.args.state.now c.args.key c.home-home.result c.index.result.now c.state.view_is c.requires.agrees c.index.ensures c.home-home.ensures.value c.index-2.result.now c.index-2.ensures)
     (record {
       publisher = c.new-2.result;
       sample = record { subscriber = c.new.result; number = c.number-number.result; connection = c.args.key; slot = c.take-slot.result };

@@ -1,5 +1,5 @@
 use Rattle.iox2_domain.proofs.lemmas.loans.LoanSlots.{no-publisher-no-loan}
-use Rattle.iox2_domain.proofs.lemmas.sends.SendSteps.{sender-stands, updated-agrees, still-stands, sender-reclaimed, still-holds, loan-in_use, can-end, sends-loan}
+use Rattle.iox2_domain.proofs.lemmas.sends.SendSteps.{sender-stands, updated-agrees, still-stands, sender-reclaimed, still-holds, loan-in_use, can-end, once-lent, sends-loan}
 use Rattle.iox2_messages.proofs.sends.send_loan.Goals as goal
 
 pub unreachable-requires : goal.unreachable-requires
@@ -41,6 +41,9 @@ deliver_slot-count-requires-clause-in_use g c =
 pub end_send-requires : goal.end_send-requires
 end_send-requires g c = record {
   stands = can-end c.args.state.now c.requires.agrees c.args.loan.publisher c.args.loan.number c.in-Some.place c.requires.live c.in-Some.ensures c.update_publisher.new.state c.update_publisher.ensures
+      c.reclaim.new.state c.reclaim.ensures.reaches c.reclaim.ensures.only c.reclaim.ensures.reclaimed _ c.in-Some-find_loan.at.slot c.in-Some-find_loan.ensures
+      c.deliver_slot-count.result c.deliver_slot-count.new.state c.deliver_slot-count.ensures;
+  once = once-lent c.args.state.now c.requires.agrees c.args.loan.publisher c.args.loan.number c.in-Some.place c.requires.live c.in-Some.ensures c.update_publisher.new.state c.update_publisher.ensures
       c.reclaim.new.state c.reclaim.ensures.reaches c.reclaim.ensures.only c.reclaim.ensures.reclaimed _ c.in-Some-find_loan.at.slot c.in-Some-find_loan.ensures
       c.deliver_slot-count.result c.deliver_slot-count.new.state c.deliver_slot-count.ensures;
 }

@@ -1,12 +1,12 @@
 use Rattle.std.proofs.Common.{◌≡◌, below_more, length, ap, arith}
 use Rattle.iox2_domain.specs.Fields.{Fields}
 use Rattle.iox2_domain.proofs.lemmas.samples.BorrowedNumbers.{live-nowhere, not-there}
-use Rattle.iox2_domain.proofs.state.DomainState.find_sample.Goals as goal
+use Rattle.iox2_domain.proofs.state.DomainState.search_connections.Goals as goal
 
 pub loop-key-preserved : goal.loop-key-preserved
 loop-key-preserved g c =
     below_more _ _ c.loop-key.invariant (not-there c.args.self.now c.loop-key.key c.args.sample.now.subscriber c.args.sample.now.number
-    c.find_sample_at-found.result c.find_sample_at-found.ensures c.is_some-in-loop-key.result c.is_some-in-loop-key.ensures c.if-is_some-2.false)
+    c.find_sample_at-found.result c.find_sample_at-found.ensures c.is_some.result c.is_some.ensures c.if-is_some.false)
 
 pub returns : goal.returns
 returns g c =

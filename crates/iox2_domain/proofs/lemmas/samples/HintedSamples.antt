@@ -1,0 +1,77 @@
+-- A live sample lies where a slot in use has its number.
+use Rattle.std.proofs.Common.{◌≡◌, ℕ, true, eqb, List, Some, Contains, refl, ap, sym, subst, ◌∙◌}
+use Rattle.std.proofs.lemmas.Bool.{eqb-true, eq-eqb, and_from}
+use Rattle.std.proofs.lemmas.Map.Views.{Contains-from_any}
+use Rattle.slab.specs.Slab.{get}
+use Rattle.iox2_store.specs.Link.{Link}
+use Rattle.iox2_store.specs.SlotBook.{Book}
+use Rattle.iox2_store.specs.machine.Numbers.{contains}
+use Rattle.iox2_store.specs.machine.SingleCalls.{HoldsSample}
+use Rattle.iox2_domain.specs.Kept.{state_of}
+use Rattle.iox2_domain.specs.Fields.{Fields, kept_of, numbers_of}
+use Rattle.iox2_domain.specs.Invariant.{IsDomain}
+use Rattle.iox2_domain.specs.SampleSlots.{IsUsedFor, LiesBorrowed}
+use Rattle.iox2_domain.specs.declared.sample_slots.SampleSlot.{SampleSlot}
+use Rattle.iox2_domain.proofs.lemmas.slots.ConnectionSlots.{book-numbers}
+use Rattle.iox2_domain.proofs.lemmas.slots.NumbersInUse.{contains-map_there}
+use Rattle.iox2_domain.proofs.lemmas.receives.ReceiptSteps.{HasItsBook}
+use Rattle.iox2_domain.proofs.lemmas.samples.BorrowedNumbers.{live-borrows}
+use Rattle.iox2_domain.proofs.lemmas.samples.SampleEntries.{its-slot}
+
+contained : (xs : List ℕ) (n : ℕ) → contains xs n ≡ true → Contains xs n
+contained xs n has = Contains-from_any {eq = λ (a b : ℕ). eqb b a} (λ a b e. sym (eqb-true b a e)) n xs has
+
+module _ {T U : Type 0} (f : Fields T U) (sound : IsDomain f) (q n : ℕ) (live : HoldsSample (state_of (kept_of f)) q n) where
+  -- it lies somewhere
+  live-lies : (at : SampleSlot) × LiesBorrowed f q n at
+  live-lies =
+      let there = live-borrows f sound q n live in
+      let borrows = there.2 in
+      let sender = sound.open_ports.senders there.0 borrows.connection borrows.stands in
+      let has = sound.books.publishers (borrows.connection).home.publisher_place sender.0 sender.1 in
+      let its : (has.book).publisher ≡ (borrows.connection).home.publisher = has.is_its ∙ sender.2 in
+      let slot = contains-map_there (numbers_of f.books (borrows.connection).home.publisher) (borrows.connection).borrowed n borrows.is_borrowed in (
+        record { connection = there.0; book = (sender.0).book; slot = slot.0 },
+        record {
+          connection = borrows.connection;
+          book = has.book;
+          has_connection = borrows.stands;
+          has_book = has.stands;
+          subscriber_is = borrows.subscriber_is;
+          book_is = its;
+          slot_is = record {
+            borrowed = contained (borrows.connection).borrowed slot.0 slot.1;
+            number_is = sym (book-numbers f sound there.0 (sender.0).book borrows.connection has.book borrows.stands has.stands its slot.0) ∙ slot.2;
+          };
+        },
+      )
+
+  -- so it lies in any slot in use that has its number, by its subscriber's connection with the slot's publisher
+  pub lies-at-hint : (key book : ℕ) (c : Link) (b : Book) → HasItsBook f key book c b → c.home.subscriber ≡ q → (slot : ℕ) → IsUsedFor b n slot
+      → LiesBorrowed f q n (record { connection = key; book = book; slot = slot })
+  lies-at-hint key book c b has mine slot used =
+      let at = live-lies.0 in
+      let lies = live-lies.1 in
+      let same = sound.numbered.one at.book book at.slot slot n (its-slot f sound q n at lies)
+      (record { book = b; stands = has.has_book; in_use = used.in_use; number = used.number_is }) in
+      let books : Some lies.book ≡ Some b = sym lies.has_book ∙ ap (get f.books) same.0 ∙ has.has_book in
+      let one_book : lies.book ≡ b = cc in
+      let publisher : c.home.publisher ≡ (lies.connection).home.publisher = sym has.book_is ∙ ap (λ (d : Book). d.publisher) (sym one_book) ∙ lies.book_is in
+      let keys : at.connection ≡ key =
+      (sound.apart.one (lies.connection).home.publisher q).one at.connection key lies.connection c lies.has_connection has.stands
+      (and_from _ _ (eq-eqb (lies.connection).home.publisher (lies.connection).home.publisher refl) (eq-eqb (lies.connection).home.subscriber q lies.subscriber_is))
+      (and_from _ _ (eq-eqb c.home.publisher (lies.connection).home.publisher publisher) (eq-eqb c.home.subscriber q mine)) in
+      let links : Some lies.connection ≡ Some c = sym lies.has_connection ∙ ap (get f.connections) keys ∙ has.stands in
+      let one_link : lies.connection ≡ c = cc in
+      record {
+        connection = c;
+        book = b;
+        has_connection = has.stands;
+        has_book = has.has_book;
+        subscriber_is = mine;
+        book_is = has.book_is;
+        slot_is = record {
+          borrowed = subst (λ (d : Link). Contains d.borrowed slot) one_link (subst (Contains (lies.connection).borrowed) same.1 (lies.slot_is).borrowed);
+          number_is = used.number_is;
+        };
+      }
