@@ -3,6 +3,7 @@ mod book;
 mod content;
 mod contents;
 mod mark;
+mod slot;
 
 pub use book::SlotBook;
 pub use contents::Contents;
