@@ -131,7 +131,7 @@ fn is_open<R: Receiver>(receivers: &[Option<R>], place: usize, id: u128) -> bool
 // Counts the holders after a put.
 fn recount(book: &mut SlotBook, outcome: PutOutcome, slot: usize)
     requires in_use { IsInUse book.old slot }
-    requires fits { holders_at book.old slot + 1 < 2 ^ 128 }
+    requires fits { holders_at book.old slot + 1 < 2 ^ 64 }
     requires overwritten { CanLeave outcome book.old.holders }
     ensures { book.new ≡ with_counters book.old (recounted outcome slot book.old.holders) }
 {
@@ -158,7 +158,7 @@ fn deliver_at<R: Receiver>(
     requires at { place < length keys.now }
     requires ready { IsReadyToDeliver delivery.now.publisher connections.old keys.now (map (option_map R.details_of) receivers.now) }
     requires in_use { IsInUse book.old delivery.now.slot }
-    requires fits { holders_at book.old delivery.now.slot + 1 < 2 ^ 128 }
+    requires fits { holders_at book.old delivery.now.slot + 1 < 2 ^ 64 }
     requires covered { IsCovered delivery.now.publisher book.old.holders connections.old.slots }
     ensures puts { PutsSlot config.now delivery.now (map (option_map R.details_of) receivers.now) (slice_index_or keys.now place None)
         connections.old result connections.new }
@@ -199,7 +199,7 @@ pub fn deliver<R: Receiver>(
 ) -> DeliveryOutcome
     requires ready { IsReadyToDeliver delivery.now.publisher connections.old keys.now (map (option_map R.details_of) receivers.now) }
     requires in_use { IsInUse book.old delivery.now.slot }
-    requires fits { holders_at book.old delivery.now.slot + length keys.now < 2 ^ 128 }
+    requires fits { holders_at book.old delivery.now.slot + length keys.now < 2 ^ 64 }
     requires covered { IsCovered delivery.now.publisher book.old.holders connections.old.slots }
     ensures delivers { DeliversSlot config.now delivery.now (map (option_map R.details_of) receivers.now) keys.now
         connections.old result connections.new }

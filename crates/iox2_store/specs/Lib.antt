@@ -4,6 +4,8 @@ pub mod Backpressure
 pub mod ErrorTexts
 pub mod SlotFree
 pub mod SlotBook
+pub mod SlotElements
+pub mod SlotPayload
 pub mod SlotContents
 pub mod Link
 pub mod LinkFields

@@ -2,7 +2,10 @@
 mod book;
 mod content;
 mod contents;
+mod elements;
 mod mark;
+mod payload;
+mod slot;
 
 pub use book::SlotBook;
 pub use contents::Contents;

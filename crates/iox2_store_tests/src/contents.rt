@@ -48,3 +48,21 @@ fn a_payload_is_written_and_read(rt: HostRuntime) {
     drop(contents);
     assert!(rt; celsius == 21 && written == [1, 3, 0] && again == [0, 2]);
 }
+
+#[test]
+fn a_single_value_is_written_and_read(rt: HostRuntime) {
+    let mut contents: Contents<Reading, Station> = Contents::new(rt.alloc(), 2, 1).expect(
+        &rt, "room",
+    );
+    contents.start(0, 1);
+    contents.start(1, 1);
+    let is_empty = contents.cell(1).is_none();
+    contents.write_payload(1, Reading { celsius: 21 });
+    contents.write_payload(0, Reading { celsius: 22 });
+    let written = [contents.value(1).celsius, contents.value(0).celsius];
+    contents.start(1, 1);
+    let is_empty_again = contents.cell(1).is_none();
+    let other = contents.value(0).celsius;
+    drop(contents);
+    assert!(rt; is_empty && written == [21, 22] && is_empty_again && other == 22);
+}

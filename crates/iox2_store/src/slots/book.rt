@@ -6,6 +6,7 @@ ghost use Rattle.iox2_store.specs.SlotFree.{HasFree};
 use crate::header::Header;
 use crate::ids::{UniqueNodeId, UniquePublisherId};
 use crate::slots::mark::SlotMark;
+use crate::slots::slot::Slot;
 use std::alloc::{AllocError, Global};
 use std::marker::Model;
 
@@ -21,16 +22,13 @@ use std::marker::Model;
 #[derive(Drop)]
 pub struct SlotBook {
     publisher: UniquePublisherId,
-    numbers: Vec<u128>,
-    headers: Vec<Header>,
-    marks: Vec<SlotMark>,
-    holders: Vec<u128>,
+    slots: Vec<Slot>,
     // The slots without holders, each once. There is room for all.
     free: Vec<usize>,
 }
 
 impl Model for SlotBook {
-    ghost use Rattle.std.specs.Prelude.{◌≡◌, ◌≤◌, length, vec_capacity};
+    ghost use Rattle.std.specs.Prelude.{◌≤◌, length, map, vec_capacity};
     ghost use Rattle.iox2_store.specs.SlotBook.{Book};
     ghost use Rattle.iox2_store.specs.SlotFree.{HasFree};
 
@@ -38,18 +36,15 @@ impl Model for SlotBook {
 
     ghost view = { λ book. record {
       publisher = book.publisher;
-      numbers = book.numbers.items;
-      headers = book.headers.items;
-      marks = book.marks.items;
-      holders = book.holders.items;
+      numbers = map (λ slot. slot.number) book.slots.items;
+      headers = map (λ slot. slot.header) book.slots.items;
+      marks = map (λ slot. slot.mark) book.slots.items;
+      holders = map (λ slot. slot.holders) book.slots.items;
     } };
 
     ghost invariant = { λ book. record {
-      numbers : length book.numbers.items ≡ length book.holders.items;
-      headers : length book.headers.items ≡ length book.holders.items;
-      marks : length book.marks.items ≡ length book.holders.items;
-      exact : HasFree book.holders.items book.free.items;
-      room : length book.holders.items ≤ vec_capacity book.free;
+      exact : HasFree (map (λ slot. slot.holders) book.slots.items) book.free.items;
+      room : length book.slots.items ≤ vec_capacity book.free;
     } };
 }
 
@@ -72,17 +67,17 @@ impl SlotBook {
             publisher_id: publisher,
             number_of_elements: 0,
         };
-        let numbers = vec![in alloc; 0; slots]?;
-        let headers = vec![in alloc; header; slots]?;
-        let marks = vec![in alloc; SlotMark::Unwritten; slots]?;
-        let holders = vec![in alloc; 0; slots]?;
+        let unused = Slot {
+            number: 0,
+            header,
+            holders: 0,
+            mark: SlotMark::Unwritten,
+        };
         let free = all_slots(alloc, slots)?;
+        let slots = vec![in alloc; unused; slots]?;
         Ok(SlotBook {
             publisher,
-            numbers,
-            headers,
-            marks,
-            holders,
+            slots,
             free,
         })
     }
@@ -97,20 +92,22 @@ impl SlotBook {
         ensures aligned { IsAligned self.new }
     {
         let slot = self.free.pop()?;
-        self.numbers[slot] = number;
-        self.headers[slot] = header;
-        self.marks[slot] = SlotMark::Unwritten;
-        self.holders[slot] = 1;
+        self.slots[slot] = Slot {
+            number,
+            header,
+            holders: 1,
+            mark: SlotMark::Unwritten,
+        };
         Some(slot)
     }
 
     /// Counts one holder more of a slot that has one.
     pub fn hold(&mut self, slot: usize)
         requires in_use { IsInUse self.old slot }
-        requires fits { holders_at self.old slot + 1 < 2 ^ 128 }
+        requires fits { holders_at self.old slot + 1 < 2 ^ 64 }
         ensures { self.new ≡ with_holders self.old slot (holders_at self.old slot + 1) }
     {
-        self.holders[slot] += 1;
+        self.slots[slot].holders += 1;
     }
 
     /// Counts one holder less of a slot that has one, and returns whether it was the last. The slot
@@ -121,8 +118,8 @@ impl SlotBook {
         ensures released { self.new ≡ with_holders self.old slot (holders_at self.old slot - 1) }
         ensures last { IsTrue result ↔ (holders_at self.old slot ≡ 1) }
     {
-        let left = self.holders[slot] - 1;
-        self.holders[slot] = left;
+        let left = self.slots[slot].holders - 1;
+        self.slots[slot].holders = left;
         if left == 0 {
             self.free.push_reserved(slot);
             return true;
@@ -135,7 +132,7 @@ impl SlotBook {
         requires { slot < length self.old.holders }
         ensures { self.new ≡ record self.old { marks = slice_set self.old.marks slot mark } }
     {
-        self.marks[slot] = mark;
+        self.slots[slot].mark = mark;
     }
 
     /// The publisher whose slots these are.
@@ -150,7 +147,7 @@ impl SlotBook {
         requires { slot < length self.now.holders }
         ensures { slice_get self.now.numbers slot ≡ Some result }
     {
-        self.numbers[slot]
+        self.slots[slot].number
     }
 
     /// The header of the message in the slot.
@@ -158,7 +155,7 @@ impl SlotBook {
         requires { slot < length self.now.holders }
         ensures { slice_get self.now.headers slot ≡ Some result.now }
     {
-        &self.headers[slot]
+        &self.slots[slot].header
     }
 
     /// How far the message in the slot has come.
@@ -166,15 +163,15 @@ impl SlotBook {
         requires { slot < length self.now.holders }
         ensures { slice_get self.now.marks slot ≡ Some result }
     {
-        self.marks[slot]
+        self.slots[slot].mark
     }
 
     /// How many holders the slot has.
-    pub fn holders(&self, slot: usize) -> u128
+    pub fn holders(&self, slot: usize) -> usize
         requires { slot < length self.now.holders }
         ensures { result ≡ holders_at self.now slot }
     {
-        self.holders[slot]
+        self.slots[slot].holders
     }
 
     /// How many slots there are.
@@ -182,7 +179,7 @@ impl SlotBook {
         ensures len { result ≡ length self.now.holders }
         ensures aligned { IsAligned self.now }
     {
-        self.holders.len()
+        self.slots.len()
     }
 
     /// Whether every slot has a holder, so that none can be taken.
@@ -196,7 +193,7 @@ impl SlotBook {
     pub fn is_unused(&self) -> bool
         ensures { IsTrue result ↔ All (λ n. n ≡ 0) self.now.holders }
     {
-        self.free.len() == self.holders.len()
+        self.free.len() == self.slots.len()
     }
 }
 

@@ -1,7 +1,8 @@
 //! The content of one slot.
-ghost use Rattle.std.specs.Prelude.{◌≡◌, ◌+◌, ◌<◌, ◌≤◌, [], ◌∷◌, length, replicate, slice_get, vec_capacity, Some, None, IfOk};
+ghost use Rattle.std.specs.Prelude.{◌≡◌, ◌≤◌, [], ◌∷◌, length, ◌<◌, ◌≢◌, slice_get, Some, IfOk};
 ghost use Rattle.iox2_store.specs.SlotContents.{unwritten_content, written_content};
 
+use crate::slots::payload::Payload;
 use std::alloc::{AllocError, Global};
 use std::marker::Model;
 
@@ -13,25 +14,21 @@ use std::marker::Model;
 #[derive(Drop)]
 pub(crate) struct Content<T, U> {
     user_header: U,
-    cells: Vec<Option<T>>,
-    values: Vec<T>,
+    payload: Payload<T>,
 }
 
 impl<T, U> Model for Content<T, U> {
-    ghost use Rattle.std.specs.Prelude.{◌≤◌, length, min, vec_capacity};
     ghost use Rattle.iox2_store.specs.SlotContents.{ContentState};
+    ghost use Rattle.iox2_store.specs.SlotPayload.{cells_of, values_of, room_of};
 
     ghost Value = { ContentState T U };
 
     ghost view = { λ content. record {
       user_header = content.user_header;
-      cells = content.cells.items;
-      values = content.values.items;
-      room = min (vec_capacity content.cells) (vec_capacity content.values);
+      cells = cells_of content.payload;
+      values = values_of content.payload;
+      room = room_of content.payload;
     } };
-
-    // The values of a loan fit once it is written.
-    ghost invariant = { λ content. length content.cells.items ≤ vec_capacity content.values };
 }
 
 impl<T: Drop, U: Default + Drop> Content<T, U> {
@@ -42,12 +39,10 @@ impl<T: Drop, U: Default + Drop> Content<T, U> {
         ensures values { IfOk result (λ content. content.values ≡ []) }
         ensures room { IfOk result (λ content. content.room ≡ room) }
     {
-        let cells = Vec::with_capacity(alloc, room)?;
-        let values = Vec::with_capacity(alloc, room)?;
+        let payload = Payload::new(alloc, room)?;
         Ok(Content {
             user_header: U::default(),
-            cells,
-            values,
+            payload,
         })
     }
 
@@ -58,9 +53,7 @@ impl<T: Drop, U: Default + Drop> Content<T, U> {
         ensures started { self.new ≡ unwritten_content self.new.user_header len self.old }
     {
         self.user_header = U::default();
-        self.values.clear();
-        self.cells.clear();
-        push_unwritten(&mut self.cells, len);
+        self.payload.start(len);
     }
 
     /// Writes the value of a loan of one element.
@@ -68,9 +61,7 @@ impl<T: Drop, U: Default + Drop> Content<T, U> {
         requires { length self.old.cells ≡ 1 }
         ensures { self.new ≡ written_content value self.old }
     {
-        self.cells.clear();
-        self.values.clear();
-        self.values.push_reserved(value);
+        self.payload.write(value);
     }
 }
 
@@ -82,29 +73,35 @@ impl<T, U> Content<T, U> {
         &self.user_header
     }
 
+    /// The first cell of a loan that isn't written.
+    pub(crate) fn cell(&self) -> &Option<T>
+        requires { 0 < length self.now.cells }
+        ensures { slice_get self.now.cells 0 ≡ Some result.now }
+    {
+        self.payload.cell()
+    }
+
     /// The cells, and none once they are written.
     pub(crate) fn cells(&self) -> &[Option<T>]
+        requires { self.now.room ≢ 1 }
         ensures { result.now ≡ self.now.cells }
     {
-        self.cells.as_slice()
+        self.payload.cells()
+    }
+
+    /// The first value of a loan or message that is written.
+    pub(crate) fn value(&self) -> &T
+        requires { 0 < length self.now.values }
+        ensures { slice_get self.now.values 0 ≡ Some result.now }
+    {
+        self.payload.value()
     }
 
     /// The values, and none before they are written.
     pub(crate) fn values(&self) -> &[T]
+        requires { self.now.room ≢ 1 }
         ensures { result.now ≡ self.now.values }
     {
-        self.values.as_slice()
-    }
-}
-
-// Appends so many unwritten cells.
-fn push_unwritten<T>(cells: &mut Vec<Option<T>>, len: usize)
-    requires empty { cells.old.items ≡ [] }
-    requires room { len ≤ vec_capacity cells.old }
-    ensures cells { cells.new.items ≡ replicate len None }
-    ensures room { vec_capacity cells.new ≡ vec_capacity cells.old }
-{
-    for _ in 0..len {
-        cells.push_reserved(None);
+        self.payload.values()
     }
 }

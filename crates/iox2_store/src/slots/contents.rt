@@ -1,5 +1,5 @@
 //! The contents of a publisher's slots.
-ghost use Rattle.std.specs.Prelude.{◌≡◌, ◌<◌, ◌≤◌, [], ◌∷◌, length, Some, IfOk};
+ghost use Rattle.std.specs.Prelude.{◌≡◌, ◌≢◌, ◌<◌, ◌≤◌, [], ◌∷◌, length, Some, IfOk};
 ghost use Rattle.std.specs.List.{All};
 ghost use Rattle.iox2_store.specs.SlotContents.{SomeAt, StartsLoan, with_changed, written_content, user_header_at, cells_at, values_at, first_cell_at, first_value_at};
 
@@ -28,8 +28,8 @@ impl<T, U> Model for Contents<T, U> {
 
 impl<T: Drop, U: Default + Drop> Contents<T, U> {
     /// The contents of so many slots, each with room for so many elements. Each has a default user
-    /// header, no cells and no values. Fails where memory runs out; no other call on contents takes
-    /// memory.
+    /// header, no cells and no values. With room for one element a slot has it in place, and else in
+    /// lists of its own. Fails where memory runs out; no other call on contents takes memory.
     pub fn new(alloc: Global, slots: usize, room: usize) -> Result<Self, AllocError>
         ensures len { IfOk result (λ contents. length contents ≡ slots) }
         ensures default { IfOk result (All (λ content. U.is_default content.user_header)) }
@@ -75,12 +75,13 @@ impl<T, U> Contents<T, U> {
         requires { SomeAt self.now slot (λ content. 0 < length content.cells) }
         ensures { first_cell_at self.now slot ≡ Some result.now }
     {
-        &self.slots[slot].cells()[0]
+        self.slots[slot].cell()
     }
 
-    /// The cells of the slot's loan, and none once it is written.
+    /// The cells of the slot's loan, and none once it is written. The cell of a slot with room for
+    /// one element is read by `cell`.
     pub fn cells(&self, slot: usize) -> &[Option<T>]
-        requires { slot < length self.now }
+        requires { SomeAt self.now slot (λ content. content.room ≢ 1) }
         ensures { cells_at self.now slot ≡ Some result.now }
     {
         self.slots[slot].cells()
@@ -91,12 +92,13 @@ impl<T, U> Contents<T, U> {
         requires { SomeAt self.now slot (λ content. 0 < length content.values) }
         ensures { first_value_at self.now slot ≡ Some result.now }
     {
-        &self.slots[slot].values()[0]
+        self.slots[slot].value()
     }
 
-    /// The values of the slot's loan or message, and none before it is written.
+    /// The values of the slot's loan or message, and none before it is written. The value of a slot
+    /// with room for one element is read by `value`.
     pub fn values(&self, slot: usize) -> &[T]
-        requires { slot < length self.now }
+        requires { SomeAt self.now slot (λ content. content.room ≢ 1) }
         ensures { values_at self.now slot ≡ Some result.now }
     {
         self.slots[slot].values()

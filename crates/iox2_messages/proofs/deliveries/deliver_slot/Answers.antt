@@ -1,5 +1,5 @@
 use Rattle.iox2_ends.proofs.MailboxChanges.{within_if_some}
-use Rattle.std.proofs.Common.{◌≡◌, None, Some, slice_index_or, sym, ◌∙◌, ap, subst, arith, rules, length, vec_len}
+use Rattle.std.proofs.Common.{◌≡◌, ◌<◌, ◌^◌, None, Some, slice_index_or, sym, ◌∙◌, ap, subst, arith, rules, length, vec_len}
 use Rattle.slab.specs.Slab.{get}
 use Rattle.iox2_store.specs.machine.Environments.{fixed_handlers}
 use Rattle.iox2_ends.specs.Receivers.{HasReclaimed}
@@ -38,7 +38,8 @@ deliver-outcome-requires-clause-fits g c =
     let stands = read-there _ c.args.place _ _ (ap (λ (f : Fields g.row.T.Denot g.row.U.Denot). slice_index_or f.publishers c.args.place None) c.state.view_is ∙ c.requires.stands.1) c.index.ensures ∙ c.in-Some.is in
     let one = (c.requires.in_use c.in-Some.publisher c.index_mut.result.now (sym (ap (λ (f : Fields g.row.T.Denot g.row.U.Denot). slice_index_or f.publishers c.args.place None) c.state.view_is) ∙ stands)
     (sym (ap (λ (f : Fields g.row.T.Denot g.row.U.Denot). get f.books c.in-Some.publisher.book) c.state.view_is) ∙ ap (λ (y : PublisherFields). get c.state.inside.books y.book) (sym c.publisher.view_is) ∙ c.index_mut.ensures.value)).1 in
-    omega (arith, one, c.deref.type_inv.0)
+    let few : length c.deref.result.now < 2 ^ 63 = rw c.deref.ensures.value (omega (arith, c.publisher.inside.keys.ok, c.publisher.inside.keys.small)) in
+    omega (arith, one, few)
 
 pub deliver-outcome-requires-clause-covered : goal.deliver-outcome-requires-clause-covered
 deliver-outcome-requires-clause-covered g c =

@@ -1,6 +1,8 @@
-use Rattle.std.proofs.Common.{refl}
-use Rattle.std.proofs.lemmas.List.{get_or_read}
+use Rattle.std.proofs.Common.{sym}
+use Rattle.iox2_store.proofs.SlotRecords.{count_read, within_records}
 use Rattle.iox2_store.proofs.slots.book.SlotBook.holders.Goals as goal
 
 pub returns : goal.returns
-returns c = rw (← c.self.view_is, get_or_read c.self.inside.holders.items _ _ (rw (← c.self.view_is) at c.requires) c.index.ensures 0) refl
+returns c =
+    let inside = within_records (λ slot. slot.holders) c.self.inside.slots.items _ (rw (← c.self.view_is) at c.requires) in
+    rw (← c.self.view_is) (sym (count_read (λ slot. slot.holders) c.self.inside.slots.items _ _ inside c.index.ensures))

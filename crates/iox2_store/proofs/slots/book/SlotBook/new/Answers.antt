@@ -1,17 +1,23 @@
-use Rattle.std.proofs.Common.{◌≡◌, replicate, arith}
-use Rattle.std.proofs.lemmas.Grind.{common_steps}
+use Rattle.std.proofs.Common.{refl}
+use Rattle.std.proofs.lemmas.List.{length-map, length-replicate}
+use Rattle.iox2_store.specs.declared.slots.slot.Slot.{Slot}
+use Rattle.iox2_store.proofs.SlotRecords.{map-replicate}
 use Rattle.iox2_store.proofs.slots.book.SlotBook.new.Goals as goal
 
 pub returns-clause-unused : goal.returns-clause-unused
-returns-clause-unused c = grind (arith, common_steps)
+returns-clause-unused c = rw (c.in_ok-slots.ensures.items_if_clones_equal (λ y h. h)) (map-replicate (λ slot. slot.holders) _ _)
+
+pub returns-clause-aligned : goal.returns-clause-aligned
+returns-clause-aligned c = record {
+  numbers = simp length-map refl;
+  headers = simp length-map refl;
+  marks = simp length-map refl;
+}
 
 pub invariant_of-result : goal.invariant_of-result
 invariant_of-result c =
-    let unused : c.in_ok-holders.holders.items ≡ replicate c.args.slots 0 = grind (arith, common_steps) in
+    let unused = c.in_ok-slots.ensures.items_if_clones_equal (λ y h. h) in
     record {
-      numbers = grind (arith, common_steps);
-      headers = grind (arith, common_steps);
-      marks = grind (arith, common_steps);
-      exact = rw unused c.in_ok-free.ensures.exact;
-      room = grind (arith, common_steps);
+      exact = rw (unused, map-replicate (λ (slot : Slot). slot.holders) _ _) c.in_ok-free.ensures.exact;
+      room = rw (unused, length-replicate) c.in_ok-free.ensures.room;
     }

@@ -1,6 +1,7 @@
-use Rattle.std.proofs.Common.{sym}
-use Rattle.std.proofs.lemmas.Option.{slice_get_read}
+use Rattle.iox2_store.proofs.SlotRecords.{field_read, within_records}
 use Rattle.iox2_store.proofs.slots.book.SlotBook.number.Goals as goal
 
 pub returns : goal.returns
-returns c = rw (← c.self.view_is) (slice_get_read _ _ _ _ (sym c.self.invariant.numbers) (rw (← c.self.view_is) at c.requires) c.index.ensures)
+returns c =
+    let inside = within_records (λ slot. slot.holders) c.self.inside.slots.items _ (rw (← c.self.view_is) at c.requires) in
+    rw (← c.self.view_is) (field_read (λ slot. slot.number) c.self.inside.slots.items _ _ inside c.index.ensures)

@@ -1,14 +1,17 @@
 use Rattle.std.proofs.Common.{refl, arith}
-use Rattle.std.proofs.lemmas.List.{length-set}
+use Rattle.std.proofs.lemmas.List.{length-set, map-set}
 use Rattle.iox2_store.proofs.FreeSlots.{free_popped, popped_count, popped_not_all, popped_within}
+use Rattle.iox2_store.proofs.SlotRecords.{within_records}
 use Rattle.iox2_store.proofs.slots.book.SlotBook.take.Goals as goal
+
+pub index_mut-requires : goal.index_mut-requires
+index_mut-requires c =
+    let slots = c.self.inside.slots.items in
+    omega (arith, within_records (λ slot. slot.holders) slots _ (popped_within _ _ _ _ c.in_ok-slot.ensures.items c.self.invariant.exact), c.self.inside.slots.ok)
 
 pub invariant_of-self-2 : goal.invariant_of-self-2
 invariant_of-self-2 c = record {
-  numbers = simp length-set c.self.invariant.numbers;
-  headers = simp length-set c.self.invariant.headers;
-  marks = simp length-set c.self.invariant.marks;
-  exact = free_popped _ _ _ _ _ c.in_ok-slot.ensures.items (omega arith) c.self.invariant.exact;
+  exact = rw (map-set (λ slot. slot.holders) c.self.inside.slots.items _ _) (free_popped _ _ _ _ _ c.in_ok-slot.ensures.items (omega arith) c.self.invariant.exact);
   room = simp length-set (omega arith);
 }
 
@@ -19,8 +22,10 @@ returns-clause-none c = (
 )
 
 pub returns-clause-taken : goal.returns-clause-taken
-returns-clause-taken c = record {
-  in_bounds = rw (← c.self.view_is) (popped_within _ _ _ _ c.in_ok-slot.ensures.items c.self.invariant.exact);
-  was_unused = rw (← c.self.view_is) (popped_count _ _ _ _ c.in_ok-slot.ensures.items c.self.invariant.exact);
-  taken = rw (← c.self.view_is) refl;
-}
+returns-clause-taken c =
+    let slots = c.self.inside.slots.items in
+    record {
+      in_bounds = rw (← c.self.view_is) (popped_within _ _ _ _ c.in_ok-slot.ensures.items c.self.invariant.exact);
+      was_unused = rw (← c.self.view_is) (popped_count _ _ _ _ c.in_ok-slot.ensures.items c.self.invariant.exact);
+      taken = rw (← c.self.view_is, map-set (λ slot. slot.number) slots _ _, map-set (λ slot. slot.header) slots _ _, map-set (λ slot. slot.mark) slots _ _, map-set (λ slot. slot.holders) slots _ _) refl;
+    }

@@ -1,17 +1,16 @@
-use Rattle.std.proofs.Common.{refl, rules, ◌≡◌, length, vec_len}
-use Rattle.std.proofs.lemmas.Option.{slice_get_read}
+use Rattle.std.proofs.Common.{rules, ◌≡◌, length, vec_len}
 use Rattle.iox2_store.proofs.SlotReads.{some_read, some_within}
 use Rattle.iox2_store.proofs.slots.contents.Contents.value.Goals as goal
 
 pub returns : goal.returns
 returns g c =
     let read = some_read c.self.inside.slots.items _ _ _ (rw (← c.self.view_is) at c.requires) c.index.ensures in
-    rw (← c.self.view_is, read.0, ← c.values.ensures) (slice_get_read c.values.result.now _ _ _ refl (rw c.values.ensures read.1) cc)
+    rw (← c.self.view_is, read.0) c.value.ensures
 
 pub index-requires : goal.index-requires
 index-requires g c =
     let long : vec_len c.self.inside.slots ≡ length c.self.inside.slots.items = search rules in
     rw long (some_within c.self.inside.slots.items c.args.slot _ (rw (← c.self.view_is) at c.requires))
 
-pub bounds-values-0 : goal.bounds-values-0
-bounds-values-0 g c = rw c.values.ensures (some_read c.self.inside.slots.items c.args.slot _ _ (rw (← c.self.view_is) at c.requires) c.index.ensures).1
+pub value-requires : goal.value-requires
+value-requires g c = (some_read c.self.inside.slots.items c.args.slot _ _ (rw (← c.self.view_is) at c.requires) c.index.ensures).1

@@ -1,5 +1,5 @@
 use Rattle.std.proofs.Common.{◌≡◌, replicate, None}
-use Rattle.iox2_store.proofs.slots.content.push_unwritten.Given as goal
+use Rattle.iox2_store.proofs.slots.elements.push_unwritten.Given as goal
 
 abbrev pub invariant-loop : goal.invariant-loop
 invariant-loop g l = record {

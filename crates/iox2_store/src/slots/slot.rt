@@ -1,0 +1,17 @@
+use crate::header::Header;
+use crate::slots::mark::SlotMark;
+
+/// What is known of a slot beside its content.
+///
+/// iceoryx2 has a header and a counter of holders for each slot (`src/port/details/segment_state.rs`).
+#[derive(Clone, Copy)]
+pub(crate) struct Slot {
+    /// The number of the message in it.
+    pub(crate) number: u128,
+    /// The header of that message.
+    pub(crate) header: Header,
+    /// How many holders it has.
+    pub(crate) holders: usize,
+    /// How far that message has come.
+    pub(crate) mark: SlotMark,
+}
