@@ -7,7 +7,7 @@ use Rattle.iox2_ends.proofs.receiver.search_expired.Goals as goal
 use Rattle.iox2_ends.proofs.receiver.search_expired.Goals.{in-AtLimit, in-Nothing}
 
 pub look-requires : goal.look-requires
-look-requires c = λ key e. c.requires.at c.loop-index.index key (key-at c.args.expired.now c.loop-index.index c.loop-index-test.true ∙ e)
+look-requires c = λ key e. c.requires.at c.loop-index.index key (key-at c.args.expired.now c.loop-index.index (omega arith) ∙ e)
 
 pub returns-in-Ready : goal.returns-in-Ready
 returns-in-Ready c =

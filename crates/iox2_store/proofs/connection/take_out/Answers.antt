@@ -8,7 +8,7 @@ pub returns-in_default-clause-len : goal.returns-in_default-clause-len
 returns-in_default-clause-len c =
     let found = position_of_contained c.args.slots.now.items c.args.slot c.requires in
     let missed : Some (position_or_len (λ y. y == c.args.slot) c.args.slots.now.items) ≡ None =
-        sym found.1 ∙ ap (position (λ y. y == c.args.slot)) (sym c.deref-else-is_last.ensures.value) ∙ sym c.position_of.ensures ∙ c.in_default.is in
+    sym found.1 ∙ ap (position (λ y. y == c.args.slot)) (sym c.deref-else-is_last.ensures.value) ∙ sym c.position_of.ensures ∙ c.in_default.is in
     absurd cc
 
 pub returns-in_default-clause-items : goal.returns-in_default-clause-items
