@@ -3,7 +3,8 @@ use crate::slots::mark::SlotMark;
 
 /// What is known of a slot beside its content.
 ///
-/// iceoryx2 has a header and a counter of holders for each slot (`src/port/details/segment_state.rs`).
+/// This library's own, where iceoryx2 has a message's header in shared memory and its counter of
+/// holders in a `SegmentState` (`src/port/details/segment_state.rs`).
 #[derive(Clone, Copy)]
 pub(crate) struct Slot {
     /// The number of the message in it.
