@@ -3,10 +3,10 @@ use Rattle.std.specs.Prelude.{◌≡◌, ◌≤◌, ℕ, false, List, map, slice
 use Rattle.std.specs.declared.option.Option.{Option}
 use Rattle.std.specs.declared.option.Option.TheVariants.{None, Some}
 use Rattle.std.specs.Option.{option_map}
-use Rattle.iox2_store.specs.machine.Environments.{fixed_handlers}
 use Rattle.iox2_store.specs.machine.Limits.{expired_limit}
 use Rattle.iox2_store.specs.machine.Places.{occupant}
 use Rattle.iox2_store.specs.machine.PublisherUpdate.{SenderSide, UpdateSenderPlace, sender_side, with_sender_side, UpdatePublisher}
+use Rattle.iox2_store.specs.machine.Records.{Environment}
 use Rattle.iox2_store.specs.machine.SubscriberUpdate.{ReceiverSide, ConnectAtPlace, receiver_side, with_receiver_side, UpdateSubscriber}
 use Rattle.iox2_store.specs.machine.State.{State, receiving_buffer, has_receiver_end, has_sender_end}
 use Rattle.iox2_domain.specs.Ports.{PublisherFields, SubscriberFields}
@@ -27,6 +27,7 @@ module _ {T U : Type 0} where
       connections = f'.connections;
     }
 
+module _ {T U : Type 0} (environment : Environment) where
   -- The publisher x at the place i, which isn't due, has done the machine's step at the subscriber's place j, and nothing
   -- changed but its keys, connections, warnings and the room for keys.
   pub record ConnectsSender (f : Fields T U) (i j : ℕ) (x : PublisherFields) (f' : Fields T U) : Type 0 where
@@ -36,7 +37,7 @@ module _ {T U : Type 0} where
     pub fields : f' ≡ record f { publishers = slice_set f.publishers i (Some (record x { keys = keys; key_room = key_room })); subscribers = f'.subscribers; connections = f'.connections; warnings = f'.warnings }
     pub others : map (option_map subscriber_but_room) f'.subscribers ≡ map (option_map subscriber_but_room) f.subscribers
     pub side : SenderSide
-    pub steps : UpdateSenderPlace fixed_handlers (f.config).service_id x.id (publisher_of f.books f.connections x).port.degradation_handler
+    pub steps : UpdateSenderPlace environment (f.config).service_id x.id (publisher_of f.books f.connections x).port.degradation_handler
         (publisher_of f.books f.connections x).port.history (receiving_buffer (state_of (kept_of f))) (has_receiver_end (state_of (kept_of f)) x.id)
         j (occupant (state_of (kept_of f)).subscriber_places j) (sender_side (state_of (kept_of f)) x.id (publisher_of f.books f.connections x).port) side None
     pub state : state_of (kept_of f') ≡ with_sender_side (state_of (kept_of f)) x.id (publisher_of f.books f.connections x).port side
@@ -51,7 +52,7 @@ module _ {T U : Type 0} where
     pub others : map (option_map publisher_but_room) f'.publishers ≡ map (option_map publisher_but_room) f.publishers
     pub side : ReceiverSide
     pub settled : side.is_due ≡ false
-    pub steps : ConnectAtPlace fixed_handlers (f.config).service_id y.id (subscriber_of f.books f.connections y).port.degradation_handler
+    pub steps : ConnectAtPlace environment (f.config).service_id y.id (subscriber_of f.books f.connections y).port.degradation_handler
         (expired_limit f.config) (λ p. has_sender_end (state_of (kept_of f)) p y.id)
         i (occupant (state_of (kept_of f)).publisher_places i) (receiver_side (state_of (kept_of f)) y.id (subscriber_of f.books f.connections y).port) side None
     pub state : state_of (kept_of f') ≡ with_receiver_side (state_of (kept_of f)) y.id (subscriber_of f.books f.connections y).port side
@@ -60,7 +61,7 @@ module _ {T U : Type 0} where
   -- for keys.
   pub record UpdatesPublisher (f : Fields T U) (i : ℕ) (x : PublisherFields) (f' : Fields T U) : Type 0 where
     pub after : State T U
-    pub updates : UpdatePublisher fixed_handlers (state_of (kept_of f)) x.id after None
+    pub updates : UpdatePublisher environment (state_of (kept_of f)) x.id after None
     pub reaches : Reaches f f' after
     pub keys : List (Option ℕ)
     pub key_room : ℕ
@@ -71,7 +72,7 @@ module _ {T U : Type 0} where
   -- for keys.
   pub record UpdatesSubscriber (f : Fields T U) (j : ℕ) (y : SubscriberFields) (f' : Fields T U) : Type 0 where
     pub after : State T U
-    pub updates : UpdateSubscriber fixed_handlers (state_of (kept_of f)) y.id after None
+    pub updates : UpdateSubscriber environment (state_of (kept_of f)) y.id after None
     pub reaches : Reaches f f' after
     pub keys : List (Option ℕ)
     pub key_room : ℕ

@@ -13,7 +13,6 @@ use Rattle.iox2_store.specs.machine.Places.{lowest_free}
 use Rattle.iox2_store.specs.machine.Ports.{buffer_for, with_buffer_warning, with_new_subscriber, CreateSubscriber, MakeSubscriber}
 use Rattle.iox2_store.specs.machine.Records.{Subscriber, Environment}
 use Rattle.iox2_store.specs.machine.State.{State}
-use Rattle.iox2_store.specs.machine.Environments.{fixed_handlers}
 use Rattle.iox2_store.specs.machine.SubscriberUpdate.{UpdateSubscriber}
 use Rattle.iox2_store.specs.declared.errors.SubscriberCreateError.{SubscriberCreateError}
 use Rattle.iox2_store.specs.declared.errors.SubscriberCreateError.TheVariants.{UnableToCreatePortTag, BufferSizeExceedsMaxSupportedBufferSizeOfService, ExceedsMaxSupportedSubscribers}
@@ -141,17 +140,17 @@ module _ {T U : Type 0} (f : Fields T U) (asked : ℕ) where
     same = λ i. record before { next_port = before.next_port + 1; warnings = warnings; publishers = all_due i; subscribers = put i }
 
   -- a subscriber that has entered, after its first update
-  pub created-reaches : (mid new : Fields T U) (place : ℕ) → place_for_subscriber f asked ≡ Ok place
+  pub created-reaches : (environment : Environment) (mid new : Fields T U) (place : ℕ) → place_for_subscriber f asked ≡ Ok place
       → Reaches f mid (with_new_subscriber shown (asked_for asked) place) × (z : SubscriberFields) × (get_or mid.subscribers place None ≡ Some z) × (z.id ≡ f.next_port)
-      → ((y : SubscriberFields) → get_or mid.subscribers place None ≡ Some y → UpdatesSubscriber mid place y new)
-      → (s' : State T U) × CreateSubscriber fixed_handlers shown (asked_for asked) s' None × Reaches f new s'
-  created-reaches mid new place h entered updates =
+      → ((y : SubscriberFields) → get_or mid.subscribers place None ≡ Some y → UpdatesSubscriber environment mid place y new)
+      → (s' : State T U) × CreateSubscriber environment shown (asked_for asked) s' None × Reaches f new s'
+  created-reaches environment mid new place h entered updates =
       let updated = updates entered.1 entered.2 in
-      let first : UpdateSubscriber fixed_handlers (with_new_subscriber shown (asked_for asked) place) f.next_port updated.after None =
-      subst (λ (q : ℕ). UpdateSubscriber fixed_handlers (with_new_subscriber shown (asked_for asked) place) q updated.after None) entered.3
-      (subst (λ (s : State T U). UpdateSubscriber fixed_handlers s entered.1.id updated.after None) entered.0.state updated.updates) in (
+      let first : UpdateSubscriber environment (with_new_subscriber shown (asked_for asked) place) f.next_port updated.after None =
+      subst (λ (q : ℕ). UpdateSubscriber environment (with_new_subscriber shown (asked_for asked) place) q updated.after None) entered.3
+      (subst (λ (s : State T U). UpdateSubscriber environment s entered.1.id updated.after None) entered.0.state updated.updates) in (
         updated.after,
-        created-made fixed_handlers place updated.after None h (updated.after, None, first, refl),
+        created-made environment place updated.after None h (updated.after, None, first, refl),
         reaches-then f mid new (with_new_subscriber shown (asked_for asked) place) updated.after entered.0 updated.reaches,
       )
 

@@ -7,12 +7,11 @@ use Rattle.std.specs.declared.option.Option.TheVariants.{None, Some}
 use Rattle.std.specs.Option.{MatchOption, option_map, option_and_then}
 use Rattle.slab.specs.Slab.{get}
 use Rattle.iox2_store.specs.machine.Delivery.{Complete, Deliver, no_time}
-use Rattle.iox2_store.specs.machine.Environments.{fixed_handlers}
 use Rattle.iox2_store.specs.machine.Loans.{entry_of}
 use Rattle.iox2_store.specs.SlotBook.{Book, IsInUse, holders_at}
 use Rattle.iox2_store.specs.machine.Mailbox.{Mailbox, numbers_in}
 use Rattle.iox2_store.specs.machine.Numbers.{put_at, contains, without, last_n}
-use Rattle.iox2_store.specs.machine.Records.{Entry, Loan, Publisher, Subscriber}
+use Rattle.iox2_store.specs.machine.Records.{Entry, Loan, Publisher, Subscriber, Environment}
 use Rattle.iox2_store.specs.machine.Sends.{Publish, Delivered_to, published, send_ended, with_mailboxes}
 use Rattle.iox2_store.specs.Stored.{IsHeldMessage, In_history, In_mailbox, In_blocked_send}
 use Rattle.iox2_store.specs.machine.State.{State, receiving_buffer}
@@ -73,9 +72,9 @@ module _ {T U : Type 0} (f : Fields T U) where
       by None = refl
       by (Some y) = refl
 
-module _ {T U : Type 0} (f : Fields T U) (sound : IsDomain f) (i : ℕ) (x : PublisherFields) (here : get_or f.publishers i None ≡ Some x)
+module _ {T U : Type 0} (environment : Environment) (f : Fields T U) (sound : IsDomain f) (i : ℕ) (x : PublisherFields) (here : get_or f.publishers i None ≡ Some x)
     (slot n : ℕ) (l : Loan T U) (lies : lies_at f x.book slot ≡ Some (Lent_message n l)) (is_written : l.is_written ≡ true)
-    (count : ℕ) (g : Fields T U) (d : DeliversTo f x slot count g) where
+    (count : ℕ) (g : Fields T U) (d : DeliversTo environment f x slot count g) where
   -- the book is the publisher's
   pub own : (d.book).publisher ≡ x.id
   own = book-own f (parts_of f sound) i x here d.book d.stands
@@ -215,16 +214,16 @@ module _ {T U : Type 0} (f : Fields T U) (sound : IsDomain f) (i : ℕ) (x : Pub
 
   -- ---- the machine's step
 
-  delivers : Deliver fixed_handlers f.config x.id x.strategy None (receiving_buffer s) n 0 no_time 0 port.ends 0 false (s.mailboxes x.id) (Complete count false) (boxes x.id)
+  delivers : Deliver environment f.config x.id x.strategy None (receiving_buffer s) n 0 no_time 0 port.ends 0 false (s.mailboxes x.id) (Complete count false) (boxes x.id)
   delivers =
-      subst (λ (row : ℕ → Mailbox). Deliver fixed_handlers f.config x.id x.strategy None (receiving_buffer s) n 0 no_time 0 port.ends 0 false row (Complete count false) (boxes x.id))
+      subst (λ (row : ℕ → Mailbox). Deliver environment f.config x.id x.strategy None (receiving_buffer s) n 0 no_time 0 port.ends 0 false row (Complete count false) (boxes x.id))
       (fun_ext (λ r. sym (mailboxes-are f x.id r)))
-      (subst (λ (m : ℕ). Deliver fixed_handlers f.config x.id x.strategy None (receiving_buffer s) m 0 no_time 0 port.ends 0 false
+      (subst (λ (m : ℕ). Deliver environment f.config x.id x.strategy None (receiving_buffer s) m 0 no_time 0 port.ends 0 false
       (mailboxes_of (numbers_of f.books) f.connections x.id) (Complete count false) (boxes x.id)) (loan-number f sound i x here slot n l lies)
-      (subst (λ (buffers : ℕ → Option ℕ). Deliver fixed_handlers f.config x.id x.strategy None buffers (numbers_of f.books x.id slot) 0 no_time 0 port.ends 0 false
+      (subst (λ (buffers : ℕ → Option ℕ). Deliver environment f.config x.id x.strategy None buffers (numbers_of f.books x.id slot) 0 no_time 0 port.ends 0 false
       (mailboxes_of (numbers_of f.books) f.connections x.id) (Complete count false) (boxes x.id)) (buffers-are f) (d.delivers (numbers_of f.books))))
 
-  publishes : Publish fixed_handlers s x.id n (state_of (kept_of after)) (Delivered_to count)
+  publishes : Publish environment s x.id n (state_of (kept_of after)) (Delivered_to count)
   publishes = match-some (s.publishers x.id) port ⊥ _ stands
       (match-some ((published s x.id n).publishers x.id) (with_message port) ⊥ _
       (put_at-same s.publishers x.id (option_map with_message (s.publishers x.id)) ∙ ap (option_map with_message) stands)
@@ -232,7 +231,7 @@ module _ {T U : Type 0} (f : Fields T U) (sound : IsDomain f) (i : ℕ) (x : Pub
 
   well : IsWellFormed (state_of (kept_of after))
   well = publish_keeps s sound.well_formed x.id n l (loan-is f sound i x here slot n l lies) (loan-of f sound i x here slot n l lies) port stands refl
-      fixed_handlers (state_of (kept_of after)) (Delivered_to count) publishes
+      environment (state_of (kept_of after)) (Delivered_to count) publishes
 
   -- ---- entries
 
@@ -246,7 +245,7 @@ module _ {T U : Type 0} (f : Fields T U) (sound : IsDomain f) (i : ℕ) (x : Pub
       (λ _ none. absurd cc) (λ _ there h. In_blocked_send y b there h is) waits
 
   delivered : Delivered (receiving_buffer s) n port.ends port.ends (s.mailboxes x.id) (Complete count false) (boxes x.id)
-  delivered = deliver_is fixed_handlers f.config x.id x.strategy None (receiving_buffer s) n 0 no_time 0 port.ends 0 false port.ends (s.mailboxes x.id) (Complete count false) (boxes x.id)
+  delivered = deliver_is environment f.config x.id x.strategy None (receiving_buffer s) n 0 no_time 0 port.ends 0 false port.ends (s.mailboxes x.id) (Complete count false) (boxes x.id)
       (sound.well_formed.publishers x.id port stands).ends_apart refl (le_refl 0) delivers
 
   -- and before it
@@ -304,7 +303,7 @@ module _ {T U : Type 0} (f : Fields T U) (sound : IsDomain f) (i : ℕ) (x : Pub
         found_entry (Some k) = entry_in k
 
   -- the loan is published
-  pub sent-publishes : Publishes f after x.id n l count
+  pub sent-publishes : Publishes environment f after x.id n l count
   sent-publishes = record {
     agrees = whole_of after parts-after well entries-after;
     publishes = publishes;
@@ -324,6 +323,6 @@ module _ {T U : Type 0} (f : Fields T U) (sound : IsDomain f) (i : ℕ) (x : Pub
   delivered-in_use = (ap (λ (h : Fields T U). get h.books x.book) d.delivered ∙ book-stands, is_in_use)
 
   -- with the fields that the code makes of those after the delivery
-  pub send-publishes : (h : Fields T U) → ((b : Book) → get g.books x.book ≡ Some b → h ≡ with_send_ended g i x slot b) → Publishes f h x.id n l count
-  send-publishes h is = subst (λ (k : Fields T U). Publishes f k x.id n l count)
+  pub send-publishes : (h : Fields T U) → ((b : Book) → get g.books x.book ≡ Some b → h ≡ with_send_ended g i x slot b) → Publishes environment f h x.id n l count
+  send-publishes h is = subst (λ (k : Fields T U). Publishes environment f k x.id n l count)
       (sym (is book delivered-in_use.0 ∙ ap (λ (k : Fields T U). with_send_ended k i x slot book) d.delivered)) sent-publishes

@@ -4,12 +4,11 @@ use Rattle.std.specs.declared.option.Option.{Option}
 use Rattle.std.specs.declared.option.Option.TheVariants.{None, Some}
 use Rattle.slab.specs.Slab.{Slab}
 use Rattle.circular_buffer.specs.Buffer.{Buffer}
-use Rattle.iox2_store.specs.machine.Environments.{fixed_handlers}
 use Rattle.iox2_store.specs.machine.Limits.{warning_limit, expired_limit}
 use Rattle.iox2_store.specs.Link.{Link}
 use Rattle.iox2_store.specs.machine.Numbers.{put_at}
 use Rattle.iox2_store.specs.machine.Places.{occupant, set_place}
-use Rattle.iox2_store.specs.machine.Records.{Subscriber}
+use Rattle.iox2_store.specs.machine.Records.{Subscriber, Environment}
 use Rattle.iox2_store.specs.machine.State.{State, has_sender_end}
 use Rattle.iox2_store.specs.machine.SubscriberUpdate.{ReceiverSide, ConnectAtPlace, ConnectReceiver, receiver_side, with_receiver_side}
 use Rattle.iox2_store.specs.machine.WellFormed.{IsWellFormed}
@@ -37,9 +36,9 @@ module _ {T U : Type 0} (f : Fields T U) where
   port y = (subscriber_of f.books f.connections y).port
 
   -- the machine's step of the subscriber y at the place i
-  abbrev pub StepsReceiver : (i : ℕ) → SubscriberFields → ReceiverSide → Type 0
-  StepsReceiver i y side =
-      ConnectAtPlace fixed_handlers (f.config).service_id y.id (port y).degradation_handler (expired_limit f.config) (λ p. has_sender_end now p y.id)
+  abbrev pub StepsReceiver : Environment → (i : ℕ) → SubscriberFields → ReceiverSide → Type 0
+  StepsReceiver environment i y side =
+      ConnectAtPlace environment (f.config).service_id y.id (port y).degradation_handler (expired_limit f.config) (λ p. has_sender_end now p y.id)
       i (occupant now.publisher_places i) (receiver_side now y.id (port y)) side None
 
   -- the subscriber's side with these keys, connections and warnings
@@ -52,7 +51,7 @@ module _ {T U : Type 0} (f : Fields T U) where
   connected_receiver j y keys connections warnings =
       record f { subscribers = slice_set f.subscribers j (Some (record y { keys = keys })); connections = connections; warnings = warnings }
 
-module _ {T U : Type 0} (f : Fields T U) (sound : IsDomain f) (i j : ℕ) (x : PublisherFields) (y : SubscriberFields)
+module _ {T U : Type 0} (environment : Environment) (f : Fields T U) (sound : IsDomain f) (i j : ℕ) (x : PublisherFields) (y : SubscriberFields)
     (at_x : get_or f.publishers i None ≡ Some x) (at_y : get_or f.subscribers j None ≡ Some y) (due : y.is_due ≡ false) where
   abbrev s : State T U
   s = state_of (kept_of f)
@@ -65,8 +64,8 @@ module _ {T U : Type 0} (f : Fields T U) (sound : IsDomain f) (i j : ℕ) (x : P
 
   -- the machine's step is done where the fields change so
   pub steps-connect : (keys : List (Option ℕ)) (connections : Slab Link) (warnings : Buffer Warning) → FitsReceiver f j y keys y.key_room connections
-      → warnings.capacity ≡ warning_limit → StepsReceiver f i y (receiver_side_with f y keys connections warnings)
-      → ConnectsReceiver f j i y (connected_receiver f j y keys connections warnings)
+      → warnings.capacity ≡ warning_limit → StepsReceiver f environment i y (receiver_side_with f y keys connections warnings)
+      → ConnectsReceiver environment f j i y (connected_receiver f j y keys connections warnings)
   steps-connect keys connections warnings fits room step = record {
     agrees = receiver-agrees f sound j y at_y keys y.key_room y.is_due connections warnings fits room (rw state well);
     keys = keys;
@@ -89,26 +88,26 @@ module _ {T U : Type 0} (f : Fields T U) (sound : IsDomain f) (i j : ℕ) (x : P
 
     well : IsWellFormed (with_receiver_side s y.id Q (receiver_side_with f y keys connections warnings))
     well = with_receiver_side_keeps s sound.well_formed y.id Q (receiver_side_with f y keys connections warnings) present
-        (connect_at_place_keeps fixed_handlers s sound.well_formed y.id Q.degradation_handler (λ p. has_sender_end s p y.id) i
+        (connect_at_place_keeps environment s sound.well_formed y.id Q.degradation_handler (λ p. has_sender_end s p y.id) i
         (receiver_side s y.id Q) (receiver_side_with f y keys connections warnings) None (receiver_side_begins s sound.well_formed y.id Q present) step)
 
   -- ---- what the machine does
 
   abbrev Step : ReceiverSide → Type 0
-  Step side = StepsReceiver f i y side
+  Step side = StepsReceiver f environment i y side
 
   -- an end to the publisher stays
   pub keeps-end : occupant Q.ends i ≡ Some x.id → Step (receiver_side s y.id Q)
   keeps-end there =
-      connect-keeps fixed_handlers (f.config).service_id y.id Q.degradation_handler (expired_limit f.config) (λ p. has_sender_end s p y.id) i x.id
+      connect-keeps environment (f.config).service_id y.id Q.degradation_handler (expired_limit f.config) (λ p. has_sender_end s p y.id) i x.id
       (occupant s.publisher_places i) (receiver_side s y.id Q) (publisher-listed f sound i x at_x) there
 
   -- without an end one is made
   pub makes-end : occupant Q.ends i ≡ None → (side : ReceiverSide)
-      → ConnectReceiver fixed_handlers (f.config).service_id y.id Q.degradation_handler (expired_limit f.config) (λ p. has_sender_end s p y.id) (receiver_side s y.id Q) i x.id side None
+      → ConnectReceiver environment (f.config).service_id y.id Q.degradation_handler (expired_limit f.config) (λ p. has_sender_end s p y.id) (receiver_side s y.id Q) i x.id side None
       → Step side
   makes-end none side step =
-      connect-makes fixed_handlers (f.config).service_id y.id Q.degradation_handler (expired_limit f.config) (λ p. has_sender_end s p y.id) i x.id
+      connect-makes environment (f.config).service_id y.id Q.degradation_handler (expired_limit f.config) (λ p. has_sender_end s p y.id) i x.id
       (occupant s.publisher_places i) (receiver_side s y.id Q) (publisher-listed f sound i x at_x) side None none step
 
   pub no_end : get_or y.keys i None ≡ None → occupant Q.ends i ≡ None

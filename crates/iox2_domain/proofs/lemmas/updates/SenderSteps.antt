@@ -6,13 +6,12 @@ use Rattle.std.specs.declared.option.Option.TheVariants.{None, Some}
 use Rattle.std.specs.Option.{option_and_then}
 use Rattle.slab.specs.Slab.{Slab}
 use Rattle.circular_buffer.specs.Buffer.{Buffer}
-use Rattle.iox2_store.specs.machine.Environments.{fixed_handlers}
 use Rattle.iox2_store.specs.machine.Limits.{warning_limit}
 use Rattle.iox2_store.specs.Link.{Link}
 use Rattle.iox2_store.specs.machine.Mailbox.{Mailbox, has_numbers, with_waiting}
 use Rattle.iox2_store.specs.machine.Numbers.{put_at, last_n}
 use Rattle.iox2_store.specs.machine.Places.{occupant, set_place}
-use Rattle.iox2_store.specs.machine.Records.{Publisher, Subscriber}
+use Rattle.iox2_store.specs.machine.Records.{Publisher, Subscriber, Environment}
 use Rattle.iox2_store.specs.machine.State.{State, receiving_buffer, has_receiver_end}
 use Rattle.iox2_store.specs.machine.PublisherUpdate.{SenderSide, UpdateSenderPlace, ConnectSender, sender_side, with_sender_side}
 use Rattle.iox2_store.specs.machine.WellFormed.{LeadsTo, IsWellFormed}
@@ -41,9 +40,9 @@ module _ {T U : Type 0} (f : Fields T U) where
   port x = (publisher_of f.books f.connections x).port
 
   -- the machine's step of the publisher x at the place j
-  abbrev pub StepsSender : (j : ℕ) → PublisherFields → SenderSide → Type 0
-  StepsSender j x side =
-      UpdateSenderPlace fixed_handlers (f.config).service_id x.id (port x).degradation_handler (port x).history (receiving_buffer now) (has_receiver_end now x.id)
+  abbrev pub StepsSender : Environment → (j : ℕ) → PublisherFields → SenderSide → Type 0
+  StepsSender environment j x side =
+      UpdateSenderPlace environment (f.config).service_id x.id (port x).degradation_handler (port x).history (receiving_buffer now) (has_receiver_end now x.id)
       j (occupant now.subscriber_places j) (sender_side now x.id (port x)) side None
 
   -- the publisher's side with these keys, connections and warnings
@@ -55,7 +54,7 @@ module _ {T U : Type 0} (f : Fields T U) where
   connected_sender i x keys connections warnings =
       record f { publishers = slice_set f.publishers i (Some (record x { keys = keys })); connections = connections; warnings = warnings }
 
-module _ {T U : Type 0} (f : Fields T U) (sound : IsDomain f) (i j : ℕ) (x : PublisherFields) (y : SubscriberFields)
+module _ {T U : Type 0} (environment : Environment) (f : Fields T U) (sound : IsDomain f) (i j : ℕ) (x : PublisherFields) (y : SubscriberFields)
     (at_x : get_or f.publishers i None ≡ Some x) (at_y : get_or f.subscribers j None ≡ Some y) (due : x.is_due ≡ false) where
   abbrev s : State T U
   s = state_of (kept_of f)
@@ -68,8 +67,8 @@ module _ {T U : Type 0} (f : Fields T U) (sound : IsDomain f) (i j : ℕ) (x : P
 
   -- the machine's step is done where the fields change so
   pub steps-connect : (keys : List (Option ℕ)) (connections : Slab Link) (warnings : Buffer Warning) → FitsSender f i x keys x.key_room connections
-      → warnings.capacity ≡ warning_limit → StepsSender f j x (side_with f x keys connections warnings)
-      → ConnectsSender f i j x (connected_sender f i x keys connections warnings)
+      → warnings.capacity ≡ warning_limit → StepsSender f environment j x (side_with f x keys connections warnings)
+      → ConnectsSender environment f i j x (connected_sender f i x keys connections warnings)
   steps-connect keys connections warnings fits room step = record {
     agrees = sender-agrees f sound i x at_x keys x.key_room x.is_due connections warnings fits room (rw state well);
     keys = keys;
@@ -94,7 +93,7 @@ module _ {T U : Type 0} (f : Fields T U) (sound : IsDomain f) (i j : ℕ) (x : P
 
     well : IsWellFormed (with_sender_side s x.id P (side_with f x keys connections warnings))
     well = with_sender_side_keeps s sound.well_formed x.id P present refl (side_with f x keys connections warnings)
-        (performed_keeps s sound.well_formed x.id P present fixed_handlers j _ _ (sender_side s x.id P) (side_with f x keys connections warnings) None
+        (performed_keeps s sound.well_formed x.id P present environment j _ _ (sender_side s x.id P) (side_with f x keys connections warnings) None
         (occupied_within s.subscriber_places j y.id (subscriber-listed f sound j y at_y)) refl refl (sender_side_begins s sound.well_formed x.id P present) step)
 
   -- ---- what the machine does
@@ -103,7 +102,7 @@ module _ {T U : Type 0} (f : Fields T U) (sound : IsDomain f) (i j : ℕ) (x : P
   Q = (subscriber_of f.books f.connections y).port
 
   abbrev Step : SenderSide → Type 0
-  Step side = StepsSender f j x side
+  Step side = StepsSender f environment j x side
 
   -- the subscriber takes messages
   open_buffer : receiving_buffer s y.id ≡ Some y.buffer
@@ -114,15 +113,15 @@ module _ {T U : Type 0} (f : Fields T U) (sound : IsDomain f) (i j : ℕ) (x : P
   -- an end to the subscriber stays
   pub keeps-end : occupant P.ends j ≡ Some y.id → Step (sender_side s x.id P)
   keeps-end there =
-      update-keeps fixed_handlers (f.config).service_id x.id P.degradation_handler P.history (receiving_buffer s) (has_receiver_end s x.id) j y.id y.buffer
+      update-keeps environment (f.config).service_id x.id P.degradation_handler P.history (receiving_buffer s) (has_receiver_end s x.id) j y.id y.buffer
       (occupant s.subscriber_places j) (sender_side s x.id P) (subscriber-listed f sound j y at_y) open_buffer there
 
   -- without an end one is made
   pub makes-end : occupant P.ends j ≡ None → (side : SenderSide)
-      → ConnectSender fixed_handlers (f.config).service_id x.id P.degradation_handler P.history (receiving_buffer s) (has_receiver_end s x.id) (sender_side s x.id P) j y.id y.buffer side None
+      → ConnectSender environment (f.config).service_id x.id P.degradation_handler P.history (receiving_buffer s) (has_receiver_end s x.id) (sender_side s x.id P) j y.id y.buffer side None
       → Step side
   makes-end none side step =
-      update-connects fixed_handlers (f.config).service_id x.id P.degradation_handler P.history (receiving_buffer s) (has_receiver_end s x.id) j y.id y.buffer
+      update-connects environment (f.config).service_id x.id P.degradation_handler P.history (receiving_buffer s) (has_receiver_end s x.id) j y.id y.buffer
       (occupant s.subscriber_places j) (sender_side s x.id P) (subscriber-listed f sound j y at_y) open_buffer side None none step
 
   pub no_end : get_or x.keys j None ≡ None → occupant P.ends j ≡ None

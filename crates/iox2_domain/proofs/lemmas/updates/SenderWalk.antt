@@ -5,11 +5,10 @@ use Rattle.std.specs.declared.option.Option.{Option}
 use Rattle.std.specs.declared.option.Option.TheVariants.{None, Some}
 use Rattle.std.specs.Option.{option_map_or}
 use Rattle.iox2_store.specs.machine.Connections.{ForEachPlace}
-use Rattle.iox2_store.specs.machine.Environments.{fixed_handlers}
 use Rattle.iox2_store.specs.machine.Numbers.{put_at}
 use Rattle.iox2_store.specs.machine.Places.{occupant, is_port}
 use Rattle.iox2_store.specs.machine.PublisherUpdate.{SenderSide, UpdateSenderPlace, sender_side, with_sender_side, UpdatePublisher}
-use Rattle.iox2_store.specs.machine.Records.{Publisher, Subscriber}
+use Rattle.iox2_store.specs.machine.Records.{Publisher, Subscriber, Environment}
 use Rattle.iox2_store.specs.machine.State.{State, receiving_buffer, has_receiver_end}
 use Rattle.iox2_store.specs.declared.errors.ConnectionFailure.{ConnectionFailure}
 use Rattle.iox2_laws.proofs.Puts.{put_at-same}
@@ -31,11 +30,11 @@ occupant-get_or (x ∷ xs) (suc i) = occupant-get_or xs i
 
 -- ---- in the machine
 
-module _ {T U : Type 0} (s : State T U) (p : ℕ) (x : Publisher) (present : s.publishers p ≡ Some x) where
+module _ {T U : Type 0} (environment : Environment) (s : State T U) (p : ℕ) (x : Publisher) (present : s.publishers p ≡ Some x) where
   -- what the publisher does at a place
   abbrev pub AtPlace : (place : ℕ) → Option ℕ → SenderSide → SenderSide → Option ConnectionFailure → Type 0
   AtPlace place at side side' failure =
-      UpdateSenderPlace fixed_handlers (s.config).service_id p x.degradation_handler x.history (receiving_buffer s) (has_receiver_end s p) place at side side' failure
+      UpdateSenderPlace environment (s.config).service_id p x.degradation_handler x.history (receiving_buffer s) (has_receiver_end s p) place at side side' failure
 
   module _ (side : SenderSide) where
     abbrev mid : State T U
@@ -63,12 +62,12 @@ module _ {T U : Type 0} (s : State T U) (p : ℕ) (x : Publisher) (present : s.p
 
     -- a step from there is a step of the walk
     pub step-again : (place : ℕ) (side' : SenderSide)
-        → UpdateSenderPlace fixed_handlers (mid.config).service_id p publisher_mid.degradation_handler publisher_mid.history (receiving_buffer mid) (has_receiver_end mid p)
+        → UpdateSenderPlace environment (mid.config).service_id p publisher_mid.degradation_handler publisher_mid.history (receiving_buffer mid) (has_receiver_end mid p)
         place (occupant mid.subscriber_places place) (sender_side mid p publisher_mid) side' None
         → AtPlace place (occupant s.subscriber_places place) side side' None
     step-again place side' step =
         subst (λ (now : SenderSide). AtPlace place (occupant s.subscriber_places place) now side' None) side-again
-        (subst (λ (has : ℕ → Bool). UpdateSenderPlace fixed_handlers (s.config).service_id p x.degradation_handler x.history (receiving_buffer s) has
+        (subst (λ (has : ℕ → Bool). UpdateSenderPlace environment (s.config).service_id p x.degradation_handler x.history (receiving_buffer s) has
         place (occupant s.subscriber_places place) (sender_side mid p publisher_mid) side' None) same_receivers step)
 
   -- one place more
@@ -87,9 +86,9 @@ module _ {T U : Type 0} (s : State T U) (p : ℕ) (x : Publisher) (present : s.p
 
   -- the update of a publisher that is due is such a walk
   pub due-updates : x.is_due ≡ true → (side : SenderSide) → ForEachPlace AtPlace 0 s.subscriber_places (sender_side s p x) side None
-      → UpdatePublisher fixed_handlers s p (with_sender_side s p x side) None
+      → UpdatePublisher environment s p (with_sender_side s p x side) None
   due-updates due side walk = rw present (rw due (side, walk, refl))
 
   -- that of another does nothing
-  pub idle-updates : x.is_due ≡ false → UpdatePublisher fixed_handlers s p s None
+  pub idle-updates : x.is_due ≡ false → UpdatePublisher environment s p s None
   idle-updates due = rw present (rw due (refl, refl))
