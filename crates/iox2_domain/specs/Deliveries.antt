@@ -8,7 +8,7 @@ use Rattle.iox2_store.specs.Link.{Link}
 use Rattle.iox2_store.specs.machine.Loans.{entry_of}
 use Rattle.iox2_store.specs.machine.Numbers.{put_at, without}
 use Rattle.iox2_store.specs.machine.Records.{Entry, Loan, Environment}
-use Rattle.iox2_store.specs.machine.Sends.{Publish, Delivered_to}
+use Rattle.iox2_store.specs.machine.Sends.{SendResult, Publish}
 use Rattle.iox2_store.specs.SlotBook.{Book}
 use Rattle.iox2_store.specs.declared.slots.mark.SlotMark.TheVariants.{Sent}
 use Rattle.iox2_ends.specs.Counters.{with_counters}
@@ -48,10 +48,10 @@ with_send_ended f place x slot book = record f {
   books = with_value f.books x.book (with_sent slot book);
 }
 
--- The loan n of the publisher p was published, and so many receivers took it. Its entry may be newly kept, and no other is.
-pub record Publishes {T U : Type 0} (environment : Environment) (old new : Fields T U) (p n : ℕ) (l : Loan T U) (count : ℕ) : Type 0 where
+-- The loan n of the publisher p was published, with this result. Its entry may be newly kept, and no other is.
+pub record Publishes {T U : Type 0} (environment : Environment) (old new : Fields T U) (p n : ℕ) (l : Loan T U) (result : SendResult) : Type 0 where
   pub agrees : IsDomain new
-  pub publishes : Publish environment (state_of (kept_of old)) p n (state_of (kept_of new)) (Delivered_to count)
+  pub publishes : Publish environment (state_of (kept_of old)) p n (state_of (kept_of new)) result
   pub loans : (state_of (kept_of new)).loans ≡ put_at (state_of (kept_of old)).loans n None
   pub entries : (m : ℕ) (entry : Entry T U) → entries_of (kept_of new) m ≡ Some entry
       → ((m ≡ n) × (entry ≡ entry_of l)) ⊎ (entries_of (kept_of old) m ≡ Some entry)

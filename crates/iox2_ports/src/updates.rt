@@ -17,7 +17,7 @@ pub fn update_publisher<T: Drop, U: Default + Drop>(state: &mut DomainState<T, U
     requires agrees { IsDomain state.old }
     requires stands { place < length state.old.publishers }
     ensures { (x : PublisherFields) → slice_index_or state.old.publishers place None ≡ Some x
-        → UpdatesPublisher fixed_handlers state.old place x state.new }
+        → UpdatesPublisher fixed_handlers state.old place x state.new None }
 {
     if is_due_at(&state.publishers, place) {
         connect_publisher(state, place);
@@ -31,7 +31,7 @@ fn connect_publisher<T: Drop, U: Default + Drop>(state: &mut DomainState<T, U>, 
     requires stands { place < length state.old.publishers }
     requires due { is_publisher_due state.old.publishers place ≡ true }
     ensures { (x : PublisherFields) → slice_index_or state.old.publishers place None ≡ Some x
-        → UpdatesPublisher fixed_handlers state.old place x state.new }
+        → UpdatesPublisher fixed_handlers state.old place x state.new None }
 {
     settle(&mut state.publishers, place);
     for other in 0..state.subscribers.len() {
@@ -47,7 +47,7 @@ pub fn update_subscriber<T: Drop, U: Default + Drop>(state: &mut DomainState<T, 
     requires agrees { IsDomain state.old }
     requires stands { place < length state.old.subscribers }
     ensures { (y : SubscriberFields) → slice_index_or state.old.subscribers place None ≡ Some y
-        → UpdatesSubscriber fixed_handlers state.old place y state.new }
+        → UpdatesSubscriber fixed_handlers state.old place y state.new None }
 {
     if is_due_at(&state.subscribers, place) {
         connect_subscriber(state, place);
@@ -61,7 +61,7 @@ fn connect_subscriber<T: Drop, U: Default + Drop>(state: &mut DomainState<T, U>,
     requires stands { place < length state.old.subscribers }
     requires due { is_subscriber_due state.old.subscribers place ≡ true }
     ensures { (y : SubscriberFields) → slice_index_or state.old.subscribers place None ≡ Some y
-        → UpdatesSubscriber fixed_handlers state.old place y state.new }
+        → UpdatesSubscriber fixed_handlers state.old place y state.new None }
 {
     settle(&mut state.subscribers, place);
     for other in 0..state.publishers.len() {

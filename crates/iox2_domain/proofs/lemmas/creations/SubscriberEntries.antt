@@ -142,7 +142,7 @@ module _ {T U : Type 0} (f : Fields T U) (asked : ℕ) where
   -- a subscriber that has entered, after its first update
   pub created-reaches : (environment : Environment) (mid new : Fields T U) (place : ℕ) → place_for_subscriber f asked ≡ Ok place
       → Reaches f mid (with_new_subscriber shown (asked_for asked) place) × (z : SubscriberFields) × (get_or mid.subscribers place None ≡ Some z) × (z.id ≡ f.next_port)
-      → ((y : SubscriberFields) → get_or mid.subscribers place None ≡ Some y → UpdatesSubscriber environment mid place y new)
+      → ((y : SubscriberFields) → get_or mid.subscribers place None ≡ Some y → UpdatesSubscriber environment mid place y new None)
       → (s' : State T U) × CreateSubscriber environment shown (asked_for asked) s' None × Reaches f new s'
   created-reaches environment mid new place h entered updates =
       let updated = updates entered.1 entered.2 in

@@ -24,9 +24,9 @@ use Rattle.iox2_domain.proofs.lemmas.fields.ReachesShows.{reaches-then}
 
 module _ {T U : Type 0} where
   -- the subscriber still stands at its place after its update
-  pub updated-stands : (environment : Environment) (f mid : Fields T U) (place : ℕ) (y : SubscriberFields) (u : UpdatesSubscriber environment f place y mid) → get_or f.subscribers place None ≡ Some y
+  pub updated-stands : (environment : Environment) (f mid : Fields T U) (place : ℕ) (y : SubscriberFields) (failure : Option ConnectionFailure) (u : UpdatesSubscriber environment f place y mid failure) → get_or f.subscribers place None ≡ Some y
       → get_or mid.subscribers place None ≡ Some (record y { keys = u.keys; key_room = u.key_room; is_due = false })
-  updated-stands environment f mid place y u at =
+  updated-stands environment f mid place y failure u at =
       ap (λ (h : Fields T U). get_or h.subscribers place None) u.fields
       ∙ get_or-set_same f.subscribers place (Some (record y { keys = u.keys; key_room = u.key_room; is_due = false })) None (within_if_some f.subscribers place y at)
 
@@ -47,12 +47,12 @@ module _ {T U : Type 0} where
 
   -- the same at a subscriber's place
   pub receives-at : (environment : Environment) (f mid new : Fields T U) (place : ℕ) (result : Result (Option Receipt) ReceiveError)
-      → ((y : SubscriberFields) → get_or f.subscribers place None ≡ Some y → UpdatesSubscriber environment f place y mid)
+      → ((y : SubscriberFields) → get_or f.subscribers place None ≡ Some y → UpdatesSubscriber environment f place y mid None)
       → ((y : SubscriberFields) → get_or mid.subscribers place None ≡ Some y → TakesAs mid y.id result new)
       → (y : SubscriberFields) → get_or f.subscribers place None ≡ Some y → ReceivesAs environment f y.id result new
   receives-at environment f mid new place result update take y at =
       let u = update y at in
-      receives-after environment f mid new y.id u.after u.updates u.reaches result (take (record y { keys = u.keys; key_room = u.key_room; is_due = false }) (updated-stands environment f mid place y u at))
+      receives-after environment f mid new y.id u.after u.updates u.reaches result (take (record y { keys = u.keys; key_room = u.key_room; is_due = false }) (updated-stands environment f mid place y None u at))
 
   -- a message that was received is borrowed
   pub received-borrowed : (environment : Environment) (s : State T U) (q p n : ℕ) (s' : State T U) → Receive environment s q s' (Got_sample p n) → is_borrowed n (s'.mailboxes p q) ≡ true

@@ -303,7 +303,7 @@ module _ {T U : Type 0} (environment : Environment) (f : Fields T U) (sound : Is
         found_entry (Some k) = entry_in k
 
   -- the loan is published
-  pub sent-publishes : Publishes environment f after x.id n l count
+  pub sent-publishes : Publishes environment f after x.id n l (Delivered_to count)
   sent-publishes = record {
     agrees = whole_of after parts-after well entries-after;
     publishes = publishes;
@@ -323,6 +323,6 @@ module _ {T U : Type 0} (environment : Environment) (f : Fields T U) (sound : Is
   delivered-in_use = (ap (λ (h : Fields T U). get h.books x.book) d.delivered ∙ book-stands, is_in_use)
 
   -- with the fields that the code makes of those after the delivery
-  pub send-publishes : (h : Fields T U) → ((b : Book) → get g.books x.book ≡ Some b → h ≡ with_send_ended g i x slot b) → Publishes environment f h x.id n l count
-  send-publishes h is = subst (λ (k : Fields T U). Publishes environment f k x.id n l count)
+  pub send-publishes : (h : Fields T U) → ((b : Book) → get g.books x.book ≡ Some b → h ≡ with_send_ended g i x slot b) → Publishes environment f h x.id n l (Delivered_to count)
+  send-publishes h is = subst (λ (k : Fields T U). Publishes environment f k x.id n l (Delivered_to count))
       (sym (is book delivered-in_use.0 ∙ ap (λ (k : Fields T U). with_send_ended k i x slot book) d.delivered)) sent-publishes

@@ -33,9 +33,9 @@ use Rattle.iox2_domain.proofs.lemmas.sends.Published.{match-some, delivered-in_u
 
 module _ {T U : Type 0} (environment : Environment) (f0 : Fields T U) (sound : IsDomain f0) (p n place : ℕ) (holds : HoldsWritten (state_of (kept_of f0)) p n)
     (found : (x : PublisherFields) × (get_or f0.publishers place None ≡ Some x) × (x.id ≡ p))
-    (f1 : Fields T U) (updated : (x : PublisherFields) → get_or f0.publishers place None ≡ Some x → UpdatesPublisher environment f0 place x f1) where
+    (f1 : Fields T U) (updated : (x : PublisherFields) → get_or f0.publishers place None ≡ Some x → UpdatesPublisher environment f0 place x f1 None) where
   -- its update
-  pub u : UpdatesPublisher environment f0 place found.0 f1
+  pub u : UpdatesPublisher environment f0 place found.0 f1 None
   u = updated found.0 found.1
 
   -- the publisher after its update
@@ -130,7 +130,7 @@ module _ {T U : Type 0} (environment : Environment) (f0 : Fields T U) (sound : I
 
         -- the whole send
         pub sends-loan : (f4 : Fields T U) → ((x : PublisherFields) (b : Book) → get_or f3.publishers place None ≡ Some x → get f3.books x.book ≡ Some b → f4 ≡ with_send_ended f3 place x slot b)
-            → SendsLoan environment f0 f4 n count
+            → SendsLoan environment f0 f4 n (Delivered_to count)
         sends-loan f4 ends = record {
           loan = holds.0;
           out = holds.1;
@@ -149,5 +149,5 @@ module _ {T U : Type 0} (environment : Environment) (f0 : Fields T U) (sound : I
           ];
         }
           where
-            published : Publishes environment f2 f4 sender.id n holds.0 count
+            published : Publishes environment f2 f4 sender.id n holds.0 (Delivered_to count)
             published = send-publishes environment f2 reclaims.agrees place sender still-stands slot n holds.0 lies holds.3 count f3 d f4 (λ b there. ends sender b delivered-stands there)

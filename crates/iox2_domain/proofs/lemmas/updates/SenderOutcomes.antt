@@ -4,14 +4,14 @@ use Rattle.std.specs.declared.option.Option.{Option}
 use Rattle.std.specs.declared.option.Option.TheVariants.{None, Some}
 use Rattle.std.specs.Option.{option_map, option_map_or, option_and_then}
 use Rattle.circular_buffer.specs.Buffer.{Buffer, buffer}
+use Rattle.iox2_store.specs.machine.Connections.{DegradationAnswers, failure_of, warnings_after}
 use Rattle.iox2_store.specs.machine.Limits.{warning_limit}
 use Rattle.iox2_store.specs.machine.Records.{Environment}
-use Rattle.iox2_store.specs.machine.State.{warned}
 use Rattle.iox2_store.specs.declared.connection.Home.{Home}
+use Rattle.iox2_store.specs.declared.degradation.DegradationAction.{DegradationAction}
 use Rattle.iox2_store.specs.declared.warning.Warning.{Warning}
-use Rattle.iox2_store.specs.declared.warning.Warning.TheVariants.{ConnectionNotMade}
 use Rattle.iox2_domain.specs.Ports.{PublisherFields, SubscriberFields}
-use Rattle.iox2_domain.specs.Fields.{Fields}
+use Rattle.iox2_domain.specs.Fields.{Fields, publisher_of}
 use Rattle.iox2_domain.specs.Invariant.{IsDomain}
 use Rattle.iox2_domain.specs.Updates.{changed_at, with_sender_key, with_sender_room, with_receiver_room, sender_key, receiver_key, sender_room, receiver_room, home_of, MakesConnection, StandApart}
 use Rattle.iox2_domain.specs.Connects.{ConnectsSender, MakesRoom}
@@ -43,7 +43,7 @@ module _ {T U : Type 0} (environment : Environment) (f : Fields T U) (sound : Is
   other-key y at_y = ap (option_and_then (λ (z : SubscriberFields). get_or z.keys i None)) at_y
 
   -- it has one
-  pub keeps-as : j < length f.subscribers → is_some (sender_key f.publishers i j) ≡ true → ConnectsSender environment f i j x f
+  pub keeps-as : j < length f.subscribers → is_some (sender_key f.publishers i j) ≡ true → ConnectsSender environment f i j x f None
   keeps-as low some =
       let there = sound.open_ports.subscribers j low in
       let key = some_key (sender_key f.publishers i j) some in
@@ -55,10 +55,10 @@ module _ {T U : Type 0} (environment : Environment) (f : Fields T U) (sound : Is
 
     -- it joins the subscriber's
     pub joins-as : j < length f.subscribers → (key : ℕ) → receiver_key f.subscribers j i ≡ Some key
-        → (f' : Fields T U) → f' ≡ record f { publishers = changed_at (with_sender_key j key) f.publishers i } → ConnectsSender environment f i j x f'
+        → (f' : Fields T U) → f' ≡ record f { publishers = changed_at (with_sender_key j key) f.publishers i } → ConnectsSender environment f i j x f' None
     joins-as low key at f' is =
         let there = sound.open_ports.subscribers j low in
-        subst (ConnectsSender environment f i j x) (sym (is ∙ ap (λ o. record f { publishers = slice_set f.publishers i (option_map (with_sender_key j key) o) }) at_x))
+        subst (λ (h : Fields T U). ConnectsSender environment f i j x h None) (sym (is ∙ ap (λ o. record f { publishers = slice_set f.publishers i (option_map (with_sender_key j key) o) }) at_x))
         (joins-connection environment f sound i j x there.0 at_x there.1 due no_key key (sym (other-key there.0 there.1) ∙ at))
 
     -- no connection is there, and both ports get room for one
@@ -111,10 +111,10 @@ module _ {T U : Type 0} (environment : Environment) (f : Fields T U) (sound : Is
       pub makes-as : ((z : PublisherFields) → get_or mid.publishers i None ≡ Some z → j < z.key_room)
           → ((z : SubscriberFields) → get_or mid.subscribers j None ≡ Some z → i < z.key_room)
           → (key : ℕ) → MakesConnection f.connections home size (f.config).subscriber_max_borrowed_samples key mid.connections
-          → (f' : Fields T U) → f' ≡ record mid { publishers = changed_at (with_sender_key j key) mid.publishers i } → ConnectsSender environment f i j x f'
+          → (f' : Fields T U) → f' ≡ record mid { publishers = changed_at (with_sender_key j key) mid.publishers i } → ConnectsSender environment f i j x f' None
       makes-as room_x room_y key made f' is =
-          sender-from f i j x y n m sound at_x apart.subscriber_stands more_x more_y environment f'
-          (subst (ConnectsSender environment g i j (with_sender_room n x)) (sym after)
+          sender-from f i j x y n m sound at_x apart.subscriber_stands more_x more_y environment f' None
+          (subst (λ (h : Fields T U). ConnectsSender environment g i j (with_sender_room n x) h None) (sym after)
           (makes-connection environment g sound-grown i j (with_sender_room n x) (with_receiver_room m y) here_x here_y due no_key no_key_y
           (room_x (with_sender_room n x) (ap (λ (h : Fields T U). get_or h.publishers i None) mid-is ∙ here_x))
           (room_y (with_receiver_room m y) (ap (λ (h : Fields T U). get_or h.subscribers j None) mid-is ∙ here_y)) key mid.connections
@@ -126,15 +126,17 @@ module _ {T U : Type 0} (environment : Environment) (f : Fields T U) (sound : Is
               ∙ (λ k. record (mid-is k) { publishers = changed_at (with_sender_key j key) ((mid-is k).publishers) i })
               ∙ ap (λ o. record g { publishers = slice_set g.publishers i (option_map (with_sender_key j key) o); connections = mid.connections }) here_x
 
-      -- memory for a new one is refused
-      pub misses-as : environment.may_refuse_memory → (warnings : Buffer Warning) → mid.connections ≡ record f.connections { capacity = mid.connections.capacity }
-          → warnings ≡ buffer (warned f.warnings.items (ConnectionNotMade home.publisher home.subscriber)) warning_limit
-          → (f' : Fields T U) → f' ≡ record mid { warnings = warnings } → ConnectsSender environment f i j x f'
-      misses-as may warnings same warned_is f' is =
-          sender-from f i j x y n m sound at_x apart.subscriber_stands more_x more_y environment f'
-          (subst (ConnectsSender environment g i j (with_sender_room n x))
-          (sym (is ∙ (λ k. record (mid-is k) { warnings = told k }) ∙ (λ k. record g { connections = same k; warnings = buffer (warned f.warnings.items (ConnectionNotMade x.id y.id)) warning_limit })))
-          (misses-connection environment g sound-grown i j (with_sender_room n x) (with_receiver_room m y) here_x here_y due no_key no_key_y may mid.connections.capacity))
+      -- memory for a new one is refused, and the publisher's handler says what comes of that
+      pub misses-as : environment.may_refuse_memory → (action : DegradationAction)
+          → DegradationAnswers environment x.id (publisher_of f.books f.connections x).port.degradation_handler (record { service_id = (f.config).service_id; sender_port_id = x.id; receiver_port_id = y.id }) action
+          → (warnings : Buffer Warning) → mid.connections ≡ record f.connections { capacity = mid.connections.capacity }
+          → warnings ≡ buffer (warnings_after home.publisher home.subscriber action f.warnings.items) warning_limit
+          → (f' : Fields T U) → f' ≡ record mid { warnings = warnings } → ConnectsSender environment f i j x f' (failure_of action)
+      misses-as may action answers warnings same warned_is f' is =
+          sender-from f i j x y n m sound at_x apart.subscriber_stands more_x more_y environment f' (failure_of action)
+          (subst (λ (h : Fields T U). ConnectsSender environment g i j (with_sender_room n x) h (failure_of action))
+          (sym (is ∙ (λ k. record (mid-is k) { warnings = told k }) ∙ (λ k. record g { connections = same k; warnings = buffer (warnings_after x.id y.id action f.warnings.items) warning_limit })))
+          (misses-connection environment g sound-grown i j (with_sender_room n x) (with_receiver_room m y) here_x here_y due no_key no_key_y may action answers mid.connections.capacity))
         where
-          told : warnings ≡ buffer (warned f.warnings.items (ConnectionNotMade x.id y.id)) warning_limit
-          told = warned_is ∙ ap (λ (h : Home). buffer (warned f.warnings.items (ConnectionNotMade h.publisher h.subscriber)) warning_limit) home-is
+          told : warnings ≡ buffer (warnings_after x.id y.id action f.warnings.items) warning_limit
+          told = warned_is ∙ ap (λ (h : Home). buffer (warnings_after h.publisher h.subscriber action f.warnings.items) warning_limit) home-is

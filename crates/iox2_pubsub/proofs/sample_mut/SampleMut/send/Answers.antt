@@ -20,8 +20,8 @@ pub returns-clause-sent : goal.returns-clause-sent
 returns-clause-sent g c = λ m s l shown out.
     let before = subst (λ (k : Kept g.row.T.Denot g.row.U.Denot). Shows k m s) (sym c.domain.view_is) shown in (
       state_of (kept_of c.send_loan-count.new.state),
-      send-shown fixed_handlers c.domain.inside.state c.send_loan-count.new.state c.args.self.loan.number c.send_loan-count.result c.send_loan-count.ensures m s l before out,
-      machine-sends fixed_handlers c.domain.inside.state c.send_loan-count.new.state c.args.self.loan.number c.send_loan-count.result c.send_loan-count.ensures m s l before out,
+      send-shown fixed_handlers c.domain.inside.state c.send_loan-count.new.state c.args.self.loan.number (Delivered_to c.send_loan-count.result) c.send_loan-count.ensures m s l before out,
+      machine-sends fixed_handlers c.domain.inside.state c.send_loan-count.new.state c.args.self.loan.number (Delivered_to c.send_loan-count.result) c.send_loan-count.ensures m s l before out,
     )
 
 pub returns-clause-spent : goal.returns-clause-spent
