@@ -30,7 +30,7 @@ pub record DeliversTo {T U : Type 0} (environment : Environment) (old : Fields T
   pub delivered : new ≡ record old { connections = connections; books = with_value old.books x.book (with_counters book holders) }
   pub recounts : Recounts x.id book.holders old.connections holders connections
   pub delivers : (number : ℕ → ℕ → ℕ)
-      → Deliver environment old.config x.id x.strategy None (buffers_of (map (option_map details_of) old.subscribers)) (number x.id slot)
+      → Deliver environment old.config x.id x.strategy x.backpressure_handler (buffers_of (map (option_map details_of) old.subscribers)) (number x.id slot)
       0 no_time 0 (sender_ends old.connections x.keys) 0 false (mailboxes_of number old.connections x.id) (Complete count false) (mailboxes_of number connections x.id)
 
 -- The publisher without the loan in the slot.

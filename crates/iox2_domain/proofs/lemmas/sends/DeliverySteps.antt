@@ -75,7 +75,7 @@ module _ {T U : Type 0} (environment : Environment) (before f : Fields T U) (sam
   pub delivers-to : (b book : Book) → get f.books y.book ≡ Some b → (new : Slab Link) → book ≡ with_counters b book.holders → Recounts y.id b.holders f.connections book.holders new
       → (slot count : ℕ)
       → ((number : ℕ → ℕ → ℕ)
-      → Deliver environment f.config y.id y.strategy None (buffers_of (map (option_map details_of) f.subscribers)) (number y.id slot)
+      → Deliver environment f.config y.id y.strategy y.backpressure_handler (buffers_of (map (option_map details_of) f.subscribers)) (number y.id slot)
       0 no_time 0 (sender_ends f.connections y.keys) 0 false (mailboxes_of number f.connections y.id) (Complete count false) (mailboxes_of number new y.id))
       → (x : PublisherFields) → get_or before.publishers i None ≡ Some x
       → DeliversTo environment before x slot count (record f { connections = new; books = with_value f.books y.book book })

@@ -29,11 +29,11 @@ use Rattle.iox2_laws.proofs.Puts.{put_at-same, put_at-other, at_each, found_put}
 use Rattle.iox2_laws.proofs.SendLaws.{publish_keeps}
 use Rattle.iox2_domain.specs.Ports.{PublisherFields, SubscriberFields}
 use Rattle.iox2_domain.specs.Kept.{Named, Lent_message, state_of, entries_of, is_named, entry_in, KeptMessage}
-use Rattle.iox2_domain.specs.Fields.{Fields, kept_of, publisher_of, subscriber_of, numbers_of}
+use Rattle.iox2_domain.specs.Fields.{Fields, kept_of, publisher_of, subscriber_of, numbers_of, blocked_send}
 use Rattle.iox2_domain.specs.Invariant.{IsDomain, HasNumber, details_of, is_subscriber, holders_of}
 use Rattle.iox2_domain.specs.Deliveries.{DeliversTo, Publishes, with_sent, with_send_ended}
 use Rattle.iox2_domain.proofs.lemmas.containers.LookUps.{look_up-map}
-use Rattle.iox2_domain.proofs.lemmas.fields.Views.{mailboxes-are}
+use Rattle.iox2_domain.proofs.lemmas.fields.Views.{mailboxes-are, unblocked}
 use Rattle.iox2_domain.proofs.lemmas.fields.ConnectionEnds.{publisher-stands}
 use Rattle.iox2_domain.proofs.lemmas.slots.Messages.{lies_at, in_use_within, has_number, entry-found}
 use Rattle.iox2_domain.proofs.lemmas.fields.Parts.{HasParts, parts_of, whole_of}
@@ -149,6 +149,7 @@ module _ {T U : Type 0} (environment : Environment) (f : Fields T U) (sound : Is
     loans = map (numbers-are t x.id) x.loans;
     history = map (numbers-are t x.id) (x.history).items;
     ends = map (same-subscriber_of_key f.connections d.connections d.recounts.homes t) x.keys;
+    blocked = option_map (blocked_send (numbers-are t x.id) (map (same-subscriber_of_key f.connections d.connections d.recounts.homes t) x.keys)) x.blocked;
   }
 
   -- the publisher without the loan
@@ -182,7 +183,7 @@ module _ {T U : Type 0} (environment : Environment) (f : Fields T U) (sound : Is
   without_loan y = record y { loans = without n y.loans; blocked = None }
 
   sender-is : without_loan (with_message port) ≡ sender
-  sender-is = ap (λ (ns : List ℕ). record port { loans = without n port.loans; history = ns })
+  sender-is = (λ t. record port { loans = without n port.loans; history = last_n (f.config).history_size (port.history ++ n ∷ []); blocked = sym (unblocked f.books f.connections x (sound.plain i x here)) t }) ∙ ap (λ (ns : List ℕ). record port { loans = without n port.loans; history = ns })
       (nil-of (last_n (f.config).history_size (port.history ++ n ∷ []))
       (let few = length-last_n (f.config).history_size (port.history ++ n ∷ []) in omega (arith, few, sound.supported.no_history))
       ∙ sym no-history)
@@ -214,13 +215,13 @@ module _ {T U : Type 0} (environment : Environment) (f : Fields T U) (sound : Is
 
   -- ---- the machine's step
 
-  delivers : Deliver environment f.config x.id x.strategy None (receiving_buffer s) n 0 no_time 0 port.ends 0 false (s.mailboxes x.id) (Complete count false) (boxes x.id)
+  delivers : Deliver environment f.config x.id x.strategy x.backpressure_handler (receiving_buffer s) n 0 no_time 0 port.ends 0 false (s.mailboxes x.id) (Complete count false) (boxes x.id)
   delivers =
-      subst (λ (row : ℕ → Mailbox). Deliver environment f.config x.id x.strategy None (receiving_buffer s) n 0 no_time 0 port.ends 0 false row (Complete count false) (boxes x.id))
+      subst (λ (row : ℕ → Mailbox). Deliver environment f.config x.id x.strategy x.backpressure_handler (receiving_buffer s) n 0 no_time 0 port.ends 0 false row (Complete count false) (boxes x.id))
       (fun_ext (λ r. sym (mailboxes-are f x.id r)))
-      (subst (λ (m : ℕ). Deliver environment f.config x.id x.strategy None (receiving_buffer s) m 0 no_time 0 port.ends 0 false
+      (subst (λ (m : ℕ). Deliver environment f.config x.id x.strategy x.backpressure_handler (receiving_buffer s) m 0 no_time 0 port.ends 0 false
       (mailboxes_of (numbers_of f.books) f.connections x.id) (Complete count false) (boxes x.id)) (loan-number f sound i x here slot n l lies)
-      (subst (λ (buffers : ℕ → Option ℕ). Deliver environment f.config x.id x.strategy None buffers (numbers_of f.books x.id slot) 0 no_time 0 port.ends 0 false
+      (subst (λ (buffers : ℕ → Option ℕ). Deliver environment f.config x.id x.strategy x.backpressure_handler buffers (numbers_of f.books x.id slot) 0 no_time 0 port.ends 0 false
       (mailboxes_of (numbers_of f.books) f.connections x.id) (Complete count false) (boxes x.id)) (buffers-are f) (d.delivers (numbers_of f.books))))
 
   publishes : Publish environment s x.id n (state_of (kept_of after)) (Delivered_to count)
@@ -230,7 +231,7 @@ module _ {T U : Type 0} (environment : Environment) (f : Fields T U) (sound : Is
       (Complete count false, boxes x.id, delivers, (ended-state, refl)))
 
   well : IsWellFormed (state_of (kept_of after))
-  well = publish_keeps s sound.well_formed x.id n l (loan-is f sound i x here slot n l lies) (loan-of f sound i x here slot n l lies) port stands refl
+  well = publish_keeps s sound.well_formed x.id n l (loan-is f sound i x here slot n l lies) (loan-of f sound i x here slot n l lies) port stands (unblocked f.books f.connections x (sound.plain i x here))
       environment (state_of (kept_of after)) (Delivered_to count) publishes
 
   -- ---- entries
@@ -242,10 +243,10 @@ module _ {T U : Type 0} (environment : Environment) (f : Fields T U) (sound : Is
       (λ _ h. In_history port stands h) (λ _ there h. In_history y there h) is
   held-mid q m (In_mailbox r is) = In_mailbox r is
   held-mid q m (In_blocked_send y b at waits is) = found_put s.publishers x.id sender (λ j z. z.blocked ≡ Some b → IsHeldMessage (record s { mailboxes = boxes }) j m) q y at
-      (λ _ none. absurd cc) (λ _ there h. In_blocked_send y b there h is) waits
+      (λ _ h. In_blocked_send port b stands h is) (λ _ there h. In_blocked_send y b there h is) waits
 
   delivered : Delivered (receiving_buffer s) n port.ends port.ends (s.mailboxes x.id) (Complete count false) (boxes x.id)
-  delivered = deliver_is environment f.config x.id x.strategy None (receiving_buffer s) n 0 no_time 0 port.ends 0 false port.ends (s.mailboxes x.id) (Complete count false) (boxes x.id)
+  delivered = deliver_is environment f.config x.id x.strategy x.backpressure_handler (receiving_buffer s) n 0 no_time 0 port.ends 0 false port.ends (s.mailboxes x.id) (Complete count false) (boxes x.id)
       (sound.well_formed.publishers x.id port stands).ends_apart refl (le_refl 0) delivers
 
   -- and before it
@@ -267,7 +268,7 @@ module _ {T U : Type 0} (environment : Environment) (f : Fields T U) (sound : Is
   entries-after : (q m : ℕ) → IsHeldMessage (state_of (kept_of after)) q m → (entry : Entry T U) × (entries_of (kept_of after) m ≡ Some entry) × ((entry.header).publisher_id ≡ q)
   entries-after q m is = elim (cases_eq m n) [ inl same ↦ sent same | inr away ↦ others away ] where
     lying : (key slot : ℕ) × (has : HasNumber after.books key slot m) × ((has.book).publisher ≡ q)
-    lying = held-message-slot after parts-after.counted parts-after.publisher_ids q m is
+    lying = held-message-slot after parts-after.counted parts-after.publisher_ids parts-after.plain q m is
 
     sent : m ≡ n → (entry : Entry T U) × (entries_of (kept_of after) m ≡ Some entry) × ((entry.header).publisher_id ≡ q)
     sent same =

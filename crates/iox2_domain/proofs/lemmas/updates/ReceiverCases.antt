@@ -164,7 +164,7 @@ module _ {T U : Type 0} (environment : Environment) (f : Fields T U) (sound : Is
 
       -- memory for it is refused, and the subscriber's handler says what comes of that
       pub misses-connection : environment.may_refuse_memory → (action : DegradationAction)
-          → DegradationAnswers environment y.id Q.degradation_handler (record { service_id = (f.config).service_id; sender_port_id = x.id; receiver_port_id = y.id }) action
+          → DegradationAnswers environment y.id y.degradation_handler (record { service_id = (f.config).service_id; sender_port_id = x.id; receiver_port_id = y.id }) action
           → (n : ℕ) → ConnectsReceiver environment f j i y (record f {
             connections = record f.connections { capacity = n };
             warnings = buffer (warnings_after x.id y.id action f.warnings.items) warning_limit;

@@ -10,7 +10,7 @@ use Rattle.iox2_store.specs.declared.connection.Home.{Home}
 use Rattle.iox2_store.specs.declared.degradation.DegradationAction.{DegradationAction}
 use Rattle.iox2_store.specs.declared.warning.Warning.{Warning}
 use Rattle.iox2_domain.specs.Ports.{PublisherFields, SubscriberFields}
-use Rattle.iox2_domain.specs.Fields.{Fields, subscriber_of}
+use Rattle.iox2_domain.specs.Fields.{Fields}
 use Rattle.iox2_domain.specs.Invariant.{IsDomain}
 use Rattle.iox2_domain.specs.Updates.{changed_at, with_receiver_key, with_sender_room, with_receiver_room, sender_key, receiver_key, sender_room, receiver_room, home_of, MakesConnection, StandApart}
 use Rattle.iox2_domain.specs.Connects.{ConnectsReceiver, MakesRoom}
@@ -123,7 +123,7 @@ module _ {T U : Type 0} (environment : Environment) (f : Fields T U) (sound : Is
 
       -- memory for a new one is refused, and the subscriber's handler says what comes of that
       pub misses-as : environment.may_refuse_memory → (action : DegradationAction)
-          → DegradationAnswers environment y.id (subscriber_of f.books f.connections y).port.degradation_handler (record { service_id = (f.config).service_id; sender_port_id = x.id; receiver_port_id = y.id }) action
+          → DegradationAnswers environment y.id y.degradation_handler (record { service_id = (f.config).service_id; sender_port_id = x.id; receiver_port_id = y.id }) action
           → (warnings : Buffer Warning) → mid.connections ≡ record f.connections { capacity = mid.connections.capacity }
           → warnings ≡ buffer (warnings_after home.publisher home.subscriber action f.warnings.items) warning_limit
           → (f' : Fields T U) → f' ≡ record mid { warnings = warnings } → ConnectsReceiver environment f j i y f' (failure_of action)

@@ -6,12 +6,14 @@ use Rattle.std.specs.Option.{option_map, option_map_or, option_and_then}
 use Rattle.circular_buffer.specs.Buffer.{Buffer, buffer}
 use Rattle.iox2_store.specs.machine.Connections.{DegradationAnswers, failure_of, warnings_after}
 use Rattle.iox2_store.specs.machine.Limits.{warning_limit}
-use Rattle.iox2_store.specs.machine.Records.{Environment}
+use Rattle.iox2_store.specs.machine.Records.{Environment, Handler, Fixed}
 use Rattle.iox2_store.specs.declared.connection.Home.{Home}
 use Rattle.iox2_store.specs.declared.degradation.DegradationAction.{DegradationAction}
+use Rattle.iox2_store.specs.declared.degradation.DegradationAction.TheVariants.{Warn}
+use Rattle.iox2_store.specs.declared.degradation.DegradationInfo.{DegradationInfo}
 use Rattle.iox2_store.specs.declared.warning.Warning.{Warning}
 use Rattle.iox2_domain.specs.Ports.{PublisherFields, SubscriberFields}
-use Rattle.iox2_domain.specs.Fields.{Fields, publisher_of}
+use Rattle.iox2_domain.specs.Fields.{Fields}
 use Rattle.iox2_domain.specs.Invariant.{IsDomain}
 use Rattle.iox2_domain.specs.Updates.{changed_at, with_sender_key, with_sender_room, with_receiver_room, sender_key, receiver_key, sender_room, receiver_room, home_of, MakesConnection, StandApart}
 use Rattle.iox2_domain.specs.Connects.{ConnectsSender, MakesRoom}
@@ -27,6 +29,10 @@ none_or_some (Some key) e = absurd cc
 pub some_key : (o : Option ℕ) → is_some o ≡ true → (key : ℕ) × (o ≡ Some key)
 some_key None e = absurd cc
 some_key (Some key) e = (key, refl)
+
+-- a port whose handler is to warn is answered so
+pub answers-warn : (environment : Environment) (port : ℕ) (handler : Handler DegradationAction) (info : DegradationInfo) → handler ≡ Fixed Warn → DegradationAnswers environment port handler info Warn
+answers-warn environment port handler info is = subst (λ h. DegradationAnswers environment port h info Warn) (sym is) refl
 
 -- there is room for the key of a connection that the subscriber has
 pub joins-room : {T U : Type 0} (f : Fields T U) → IsDomain f → (i j : ℕ) (x : PublisherFields) → get_or f.publishers i None ≡ Some x → j < length f.subscribers
@@ -128,7 +134,7 @@ module _ {T U : Type 0} (environment : Environment) (f : Fields T U) (sound : Is
 
       -- memory for a new one is refused, and the publisher's handler says what comes of that
       pub misses-as : environment.may_refuse_memory → (action : DegradationAction)
-          → DegradationAnswers environment x.id (publisher_of f.books f.connections x).port.degradation_handler (record { service_id = (f.config).service_id; sender_port_id = x.id; receiver_port_id = y.id }) action
+          → DegradationAnswers environment x.id x.degradation_handler (record { service_id = (f.config).service_id; sender_port_id = x.id; receiver_port_id = y.id }) action
           → (warnings : Buffer Warning) → mid.connections ≡ record f.connections { capacity = mid.connections.capacity }
           → warnings ≡ buffer (warnings_after home.publisher home.subscriber action f.warnings.items) warning_limit
           → (f' : Fields T U) → f' ≡ record mid { warnings = warnings } → ConnectsSender environment f i j x f' (failure_of action)

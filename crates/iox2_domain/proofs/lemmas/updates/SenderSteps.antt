@@ -27,6 +27,7 @@ use Rattle.iox2_domain.specs.Kept.{state_of}
 use Rattle.iox2_domain.specs.Fields.{Fields, kept_of, publisher_of, subscriber_of}
 use Rattle.iox2_domain.specs.Invariant.{IsDomain}
 use Rattle.iox2_domain.specs.Connects.{ConnectsSender}
+use Rattle.iox2_domain.proofs.lemmas.fields.Views.{unblocked}
 use Rattle.iox2_domain.proofs.lemmas.fields.ConnectionEnds.{publisher-stands, subscriber-stands, occupant-sender_ends}
 use Rattle.iox2_domain.proofs.lemmas.updates.SenderChanges.{FitsSender, sender-is}
 use Rattle.iox2_domain.proofs.lemmas.updates.SenderActions.{update-keeps, update-connects}
@@ -93,7 +94,7 @@ module _ {T U : Type 0} (environment : Environment) (f : Fields T U) (sound : Is
         })
 
     well : IsWellFormed (with_sender_side s x.id P (side_with f x keys connections warnings))
-    well = with_sender_side_keeps s sound.well_formed x.id P present refl (side_with f x keys connections warnings)
+    well = with_sender_side_keeps s sound.well_formed x.id P present (unblocked f.books f.connections x (sound.plain i x at_x)) (side_with f x keys connections warnings)
         (performed_keeps s sound.well_formed x.id P present environment j _ _ (sender_side s x.id P) (side_with f x keys connections warnings) failure
         (occupied_within s.subscriber_places j y.id (subscriber-listed f sound j y at_y)) refl refl (sender_side_begins s sound.well_formed x.id P present) step)
 

@@ -22,6 +22,7 @@ use Rattle.iox2_domain.specs.Fields.{Fields, kept_of, publisher_of, subscriber_o
 use Rattle.iox2_domain.specs.Invariant.{IsDomain}
 use Rattle.iox2_domain.specs.Updates.{is_publisher_due, subscriber_but_room}
 use Rattle.iox2_domain.specs.Connects.{ConnectsSender, UpdatesPublisher}
+use Rattle.iox2_domain.proofs.lemmas.fields.Views.{unblocked}
 use Rattle.iox2_domain.proofs.lemmas.fields.ConnectionEnds.{publisher-stands}
 use Rattle.iox2_domain.proofs.lemmas.containers.ChangedRecords.{changed-here}
 use Rattle.iox2_domain.proofs.lemmas.updates.SenderChanges.{sender-is, fits-same}
@@ -72,7 +73,7 @@ module _ {T U : Type 0} (environment : Environment) (f : Fields T U) (sound : Is
   pub walk-begins : WalksSender environment f i x 0 settled None
   walk-begins = record {
     agrees = sender-agrees f sound i x at x.keys x.key_room false f.connections f.warnings (fits-same f sound i x at f.connections.capacity) sound.warning_room
-        (rw settled-is (with_sender_side_keeps s sound.well_formed x.id P present refl (sender_side s x.id P) (sender_side_begins s sound.well_formed x.id P present)));
+        (rw settled-is (with_sender_side_keeps s sound.well_formed x.id P present (unblocked f.books f.connections x (sound.plain i x at)) (sender_side s x.id P) (sender_side_begins s sound.well_formed x.id P present)));
     keys = x.keys;
     key_room = x.key_room;
     fields = refl;

@@ -1,4 +1,4 @@
-use Rattle.std.proofs.Common.{◌≡◌, ◌∙◌, true, false, ap, sym, refl, is_some}
+use Rattle.std.proofs.Common.{◌≡◌, ◌∙◌, true, false, ap, sym, is_some}
 use Rattle.std.proofs.lemmas.List.{with_items_is}
 use Rattle.std.specs.declared.option.Option.TheVariants.{None, Some}
 use Rattle.circular_buffer.specs.Buffer.{buffer}
@@ -10,6 +10,7 @@ use Rattle.iox2_store.specs.declared.warning.Warning.TheVariants.{ConnectionNotM
 use Rattle.iox2_domain.specs.Fields.{Fields}
 use Rattle.iox2_domain.specs.Updates.{receiver_key, sender_key, changed_at, with_receiver_key}
 use Rattle.iox2_domain.proofs.lemmas.fields.Standing.{some-buffer}
+use Rattle.iox2_domain.proofs.lemmas.updates.SenderOutcomes.{answers-warn}
 use Rattle.iox2_domain.proofs.lemmas.updates.ReceiverOutcomes.{joins-room, keeps-as, joins-as, makes-as, misses-as}
 use Rattle.iox2_ports.proofs.connects.connect_receiver.Goals as goal
 
@@ -66,7 +67,8 @@ returns-in_default-make_between g c = λ y at due.
     let nobody : sender_key old.publishers c.args.publisher_place c.args.subscriber_place ≡ None =
     ap (λ ys. sender_key ys c.args.publisher_place c.args.subscriber_place) (sym (c.deref-2.ensures.value ∙ publishers)) ∙ sym c.key_at-2.ensures ∙ c.in_default.is in
     let mid = c.make_between.new.state in
-    misses-as fixed_handlers old c.requires.agrees c.args.publisher_place c.args.subscriber_place y at due none nobody _ _ c.ports_at-buffer.ensures mid c.make_between.ensures.grows tt Warn refl c.warn.new.warnings
+    misses-as fixed_handlers old c.requires.agrees c.args.publisher_place c.args.subscriber_place y at due none nobody _ _ c.ports_at-buffer.ensures mid c.make_between.ensures.grows tt Warn
+    (answers-warn fixed_handlers y.id y.degradation_handler _ (c.requires.agrees.plain_subscribers c.args.subscriber_place y at).degradation) c.warn.new.warnings
     c.in_default-make_between.ensures.refused
     (c.warn.ensures ∙ (λ k. buffer (warned (c.state-2.view_is k).warnings.items (c.not_made.ensures k)) warning_limit) ∙ ap (λ (f : Fields g.row.T.Denot g.row.U.Denot). buffer (warned f.warnings.items (ConnectionNotMade c.ports_at-buffer.result.0.publisher c.ports_at-buffer.result.0.subscriber)) warning_limit) c.make_between.ensures.grows.fields)
     _ (λ k. record (c.state-2.view_is k) { warnings = c.warn.new.warnings })
