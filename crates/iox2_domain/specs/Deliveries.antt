@@ -4,12 +4,11 @@ use Rattle.std.specs.declared.option.Option.TheVariants.{None, Some}
 use Rattle.std.specs.Option.{option_map}
 use Rattle.slab.specs.Slab.{Slab, get, with_value}
 use Rattle.iox2_store.specs.machine.Delivery.{Complete, Deliver, no_time}
-use Rattle.iox2_store.specs.machine.Environments.{fixed_handlers}
 use Rattle.iox2_store.specs.Link.{Link}
 use Rattle.iox2_store.specs.machine.Loans.{entry_of}
 use Rattle.iox2_store.specs.machine.Numbers.{put_at, without}
-use Rattle.iox2_store.specs.machine.Records.{Entry, Loan}
-use Rattle.iox2_store.specs.machine.Sends.{Publish, Delivered_to}
+use Rattle.iox2_store.specs.machine.Records.{Entry, Loan, Environment}
+use Rattle.iox2_store.specs.machine.Sends.{SendResult, Publish}
 use Rattle.iox2_store.specs.SlotBook.{Book}
 use Rattle.iox2_store.specs.declared.slots.mark.SlotMark.TheVariants.{Sent}
 use Rattle.iox2_ends.specs.Counters.{with_counters}
@@ -23,7 +22,7 @@ use Rattle.iox2_domain.specs.Invariant.{IsDomain, details_of}
 
 -- The slot of the publisher x went to its receivers, of which so many took it. Connections and counters changed together, and
 -- nothing else did.
-pub record DeliversTo {T U : Type 0} (old : Fields T U) (x : PublisherFields) (slot count : ℕ) (new : Fields T U) : Type 0 where
+pub record DeliversTo {T U : Type 0} (environment : Environment) (old : Fields T U) (x : PublisherFields) (slot count : ℕ) (new : Fields T U) : Type 0 where
   pub book : Book
   pub stands : get old.books x.book ≡ Some book
   pub holders : List ℕ
@@ -31,7 +30,7 @@ pub record DeliversTo {T U : Type 0} (old : Fields T U) (x : PublisherFields) (s
   pub delivered : new ≡ record old { connections = connections; books = with_value old.books x.book (with_counters book holders) }
   pub recounts : Recounts x.id book.holders old.connections holders connections
   pub delivers : (number : ℕ → ℕ → ℕ)
-      → Deliver fixed_handlers old.config x.id x.strategy None (buffers_of (map (option_map details_of) old.subscribers)) (number x.id slot)
+      → Deliver environment old.config x.id x.strategy x.backpressure_handler (buffers_of (map (option_map details_of) old.subscribers)) (number x.id slot)
       0 no_time 0 (sender_ends old.connections x.keys) 0 false (mailboxes_of number old.connections x.id) (Complete count false) (mailboxes_of number connections x.id)
 
 -- The publisher without the loan in the slot.
@@ -49,10 +48,10 @@ with_send_ended f place x slot book = record f {
   books = with_value f.books x.book (with_sent slot book);
 }
 
--- The loan n of the publisher p was published, and so many receivers took it. Its entry may be newly kept, and no other is.
-pub record Publishes {T U : Type 0} (old new : Fields T U) (p n : ℕ) (l : Loan T U) (count : ℕ) : Type 0 where
+-- The loan n of the publisher p was published, with this result. Its entry may be newly kept, and no other is.
+pub record Publishes {T U : Type 0} (environment : Environment) (old new : Fields T U) (p n : ℕ) (l : Loan T U) (result : SendResult) : Type 0 where
   pub agrees : IsDomain new
-  pub publishes : Publish fixed_handlers (state_of (kept_of old)) p n (state_of (kept_of new)) (Delivered_to count)
+  pub publishes : Publish environment (state_of (kept_of old)) p n (state_of (kept_of new)) result
   pub loans : (state_of (kept_of new)).loans ≡ put_at (state_of (kept_of old)).loans n None
   pub entries : (m : ℕ) (entry : Entry T U) → entries_of (kept_of new) m ≡ Some entry
       → ((m ≡ n) × (entry ≡ entry_of l)) ⊎ (entries_of (kept_of old) m ≡ Some entry)

@@ -1,5 +1,5 @@
 -- The fields of a domain, and what they keep. Ports know connections, books and slots by number.
-use Rattle.std.specs.Prelude.{ℕ, Bool, true, false, ◌+◌, ◌==◌, List, [], ◌∷◌, map, cond, nat_lt, slice_get, slice_index, slice_index_or}
+use Rattle.std.specs.Prelude.{ℕ, Bool, true, false, ◌+◌, ◌==◌, List, [], ◌∷◌, drop, map, cond, nat_lt, slice_get, slice_index, slice_index_or}
 use Rattle.std.specs.declared.option.Option.{Option}
 use Rattle.std.specs.declared.option.Option.TheVariants.{None, Some}
 use Rattle.std.specs.Option.{option_map, option_and_then, option_map_or}
@@ -9,16 +9,15 @@ use Rattle.iox2_store.specs.Link.{Link}
 use Rattle.iox2_store.specs.machine.Places.{occupants}
 use Rattle.iox2_store.specs.SlotBook.{Book, holders_at}
 use Rattle.iox2_store.specs.SlotContents.{ContentState}
-use Rattle.iox2_store.specs.machine.Records.{Publisher, Subscriber, Fixed}
+use Rattle.iox2_store.specs.machine.Records.{Publisher, Subscriber, BlockedSend}
 use Rattle.iox2_store.specs.declared.header.Header.{Header}
 use Rattle.iox2_store.specs.declared.slots.mark.SlotMark.{SlotMark}
 use Rattle.iox2_store.specs.declared.slots.mark.SlotMark.TheVariants.{Unwritten, Written, Sent}
-use Rattle.iox2_store.specs.declared.degradation.DegradationAction.TheVariants.{Warn}
 use Rattle.iox2_store.specs.declared.service_config.ServiceConfig.{ServiceConfig}
 use Rattle.iox2_store.specs.declared.warning.Warning.{Warning}
 use Rattle.iox2_ends.specs.LookUp.{look_up}
 use Rattle.iox2_ends.specs.Mailboxes.{mailbox_of, sender_ends, receiver_ends}
-use Rattle.iox2_domain.specs.Ports.{PublisherFields, SubscriberFields}
+use Rattle.iox2_domain.specs.Ports.{BlockedDelivery, PublisherFields, SubscriberFields}
 use Rattle.iox2_domain.specs.Kept.{Named, Between, KeptMessage, Lent_message, Sent_message, KeptBook, Kept}
 
 pub record Fields (T U : Type 0) : Type 0 where
@@ -84,8 +83,19 @@ module _ {T U : Type 0} where
 
 -- ---- ports and connections
 
+-- The machine's blocked send, where slots have these numbers and the publisher has these ends.
+abbrev pub blocked_send : (number : ℕ → ℕ) → (ends : List (Option ℕ)) → BlockedDelivery → BlockedSend
+blocked_send number ends b = record {
+  message = number b.slot;
+  place = b.place;
+  ends = drop b.place ends;
+  retries = b.retries;
+  count = b.count;
+  has_failed = b.has_failed;
+}
+
 module _ (books : Slab Book) (connections : Slab Link) where
-  -- The machine's record of a publisher. It has no handler, and no send of it is blocked.
+  -- The machine's record of a publisher.
   abbrev pub publisher_of : PublisherFields → Named Publisher
   publisher_of x = record {
     id = x.id;
@@ -98,17 +108,17 @@ module _ (books : Slab Book) (connections : Slab Link) where
       longest_granted = x.longest_granted;
       segments = x.segments;
       backpressure_strategy = x.strategy;
-      backpressure_handler = None;
-      degradation_handler = Fixed Warn;
+      backpressure_handler = x.backpressure_handler;
+      degradation_handler = x.degradation_handler;
       loans = map (numbers_of books x.id) x.loans;
       history = map (numbers_of books x.id) x.history.items;
       ends = sender_ends connections x.keys;
       is_due = x.is_due;
-      blocked = None;
+      blocked = option_map (blocked_send (numbers_of books x.id) (sender_ends connections x.keys)) x.blocked;
     };
   }
 
-  -- The machine's record of a subscriber. It has no handler.
+  -- The machine's record of a subscriber.
   abbrev pub subscriber_of : SubscriberFields → Named Subscriber
   subscriber_of y = record {
     id = y.id;
@@ -116,7 +126,7 @@ module _ (books : Slab Book) (connections : Slab Link) where
       is_open = y.is_open;
       place = y.place;
       buffer = y.buffer;
-      degradation_handler = Fixed Warn;
+      degradation_handler = y.degradation_handler;
       ends = receiver_ends connections y.keys;
       expired = occupants (receiver_ends connections (map Some y.expired));
       is_due = y.is_due;

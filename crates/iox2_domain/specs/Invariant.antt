@@ -10,9 +10,11 @@ use Rattle.iox2_store.specs.Link.{Link}
 use Rattle.iox2_store.specs.SlotBook.{Book, IsAligned, holders_at}
 use Rattle.iox2_store.specs.SlotContents.{ContentState}
 use Rattle.iox2_store.specs.machine.Loans.{is_static}
+use Rattle.iox2_store.specs.machine.Records.{Fixed}
 use Rattle.iox2_store.specs.machine.WellFormed.{IsWellFormed}
 use Rattle.iox2_store.specs.declared.allocation.AllocationStrategy.TheVariants.{Static}
 use Rattle.iox2_store.specs.declared.backpressure.BackpressureStrategy.TheVariants.{DiscardData}
+use Rattle.iox2_store.specs.declared.degradation.DegradationAction.TheVariants.{Warn}
 use Rattle.iox2_store.specs.declared.service_config.ServiceConfig.{ServiceConfig}
 use Rattle.iox2_store.specs.declared.service_config.TypeVariant.TheVariants.{FixedSize}
 use Rattle.iox2_store.specs.declared.slots.mark.SlotMark.{SlotMark}
@@ -180,11 +182,19 @@ pub record IsSupportedConfig (c : ServiceConfig) : Type 0 where
   pub single_values : c.variant ≡ FixedSize
   pub no_history : c.history_size ≡ 0
 
--- The publisher discards what a full receiver doesn't take, and has one segment, of single values.
+-- The publisher discards what a full receiver doesn't take, has one segment, of single values, and no handlers, and no
+-- delivery of it is blocked.
 pub record IsPlain (x : PublisherFields) : Type 0 where
   pub strategy : x.strategy ≡ DiscardData
+  pub backpressure : x.backpressure_handler ≡ None
+  pub degradation : x.degradation_handler ≡ Fixed Warn
+  pub unblocked : x.blocked ≡ None
   pub allocation : x.allocation ≡ Static
   pub length : x.initial_max_slice_len ≡ 1
+
+-- The subscriber has no handler.
+pub record IsPlainSubscriber (y : SubscriberFields) : Type 0 where
+  pub degradation : y.degradation_handler ≡ Fixed Warn
 
 -- No port was closed: each place is taken, each subscriber is open, and the ports of each connection and each book stand
 -- at their places.
@@ -217,6 +227,7 @@ pub record IsDomain {T U : Type 0} (f : Fields T U) : Type 0 where
   pub shapes : HasShapes f
   pub supported : IsSupportedConfig f.config
   pub plain : (i : ℕ) (x : PublisherFields) → slice_index_or f.publishers i None ≡ Some x → IsPlain x
+  pub plain_subscribers : (i : ℕ) (y : SubscriberFields) → slice_index_or f.subscribers i None ≡ Some y → IsPlainSubscriber y
   pub open_ports : HasOnlyOpenPorts f
   pub well_formed : IsWellFormed (state_of (kept_of f))
   pub entries : KeepsEntries (kept_of f)

@@ -33,7 +33,7 @@ plain_publisher max_loaned_samples = record {
   backpressure_handler = None;
 }
 
--- A publisher that was just made, with these slots and with room for so many loans and connections.
+-- A publisher that was just made, without handlers, with these slots and with room for so many loans and connections.
 abbrev pub entering_publisher : (id place book max_loaned_samples slots : ℕ) (loan_room : ℕ) (history : Buffer ℕ) (key_room : ℕ) → PublisherFields
 entering_publisher id place book max_loaned_samples slots loan_room history key_room = record {
   id = id;
@@ -42,6 +42,8 @@ entering_publisher id place book max_loaned_samples slots loan_room history key_
   max_loaned_samples = max_loaned_samples;
   slots = slots;
   strategy = DiscardData;
+  backpressure_handler = None;
+  degradation_handler = Fixed Warn;
   allocation = Static;
   initial_max_slice_len = 1;
   longest_granted = 0;
@@ -52,6 +54,7 @@ entering_publisher id place book max_loaned_samples slots loan_room history key_
   keys = [];
   key_room = key_room;
   is_due = true;
+  blocked = None;
 }
 
 module _ {T U : Type 0} where

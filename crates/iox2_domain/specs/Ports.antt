@@ -2,8 +2,20 @@
 use Rattle.std.specs.Prelude.{ℕ, Bool, true, List, []}
 use Rattle.std.specs.declared.option.Option.{Option}
 use Rattle.circular_buffer.specs.Buffer.{Buffer}
+use Rattle.iox2_store.specs.machine.Records.{Handler, Fixed}
 use Rattle.iox2_store.specs.declared.allocation.AllocationStrategy.{AllocationStrategy}
+use Rattle.iox2_store.specs.declared.backpressure.BackpressureAction.{BackpressureAction}
 use Rattle.iox2_store.specs.declared.backpressure.BackpressureStrategy.{BackpressureStrategy}
+use Rattle.iox2_store.specs.declared.degradation.DegradationAction.{DegradationAction}
+use Rattle.iox2_store.specs.declared.degradation.DegradationAction.TheVariants.{Warn}
+
+-- A delivery that waits for a receiver. The places from that receiver's on remain.
+pub record BlockedDelivery : Type 0 where
+  pub slot : ℕ
+  pub place : ℕ  -- of the receiver that it waits for
+  pub retries : ℕ  -- how often the receiver was asked again
+  pub count : ℕ  -- the receivers that have taken the message so far
+  pub has_failed : Bool  -- whether an earlier receiver's handler failed the send
 
 pub record PublisherFields : Type 0 where
   pub id : ℕ
@@ -12,6 +24,8 @@ pub record PublisherFields : Type 0 where
   pub max_loaned_samples : ℕ
   pub slots : ℕ  -- of each of its segments
   pub strategy : BackpressureStrategy
+  pub backpressure_handler : Option (Handler BackpressureAction)
+  pub degradation_handler : Handler DegradationAction
   pub allocation : AllocationStrategy
   pub initial_max_slice_len : ℕ
   pub longest_granted : ℕ
@@ -22,30 +36,35 @@ pub record PublisherFields : Type 0 where
   pub keys : List (Option ℕ)  -- by the subscriber's place, the keys of its connections
   pub key_room : ℕ  -- so many fit with no allocation
   pub is_due : Bool
+  pub blocked : Option BlockedDelivery
 
 pub record SubscriberFields : Type 0 where
   pub id : ℕ
   pub place : ℕ
   pub is_open : Bool
   pub buffer : ℕ
+  pub degradation_handler : Handler DegradationAction
   pub keys : List (Option ℕ)  -- by the publisher's place, the keys of its connections
   pub key_room : ℕ  -- so many fit with no allocation
   pub expired : List ℕ  -- the keys of its connections with departed publishers, in order of entry
+  pub expired_room : ℕ  -- so many fit with no allocation
   pub is_due : Bool
 
 -- The publisher, due for an update.
 abbrev pub due : PublisherFields → PublisherFields
 due x = record x { is_due = true }
 
--- A subscriber that was just made, with room for so many connections.
-abbrev pub entering : (id place buffer key_room : ℕ) → SubscriberFields
-entering id place buffer key_room = record {
+-- A subscriber that was just made, without a handler of its own, and with room for so many connections and expired ones.
+abbrev pub entering : (id place buffer key_room expired_room : ℕ) → SubscriberFields
+entering id place buffer key_room expired_room = record {
   id = id;
   place = place;
   is_open = true;
   buffer = buffer;
+  degradation_handler = Fixed Warn;
   keys = [];
   key_room = key_room;
   expired = [];
+  expired_room = expired_room;
   is_due = true;
 }

@@ -6,8 +6,8 @@ use Rattle.std.specs.declared.result.Result.{Result}
 use Rattle.std.specs.declared.result.Result.TheVariants.{Ok, Err}
 use Rattle.slab.specs.Slab.{get}
 use Rattle.iox2_store.specs.Link.{Link}
+use Rattle.iox2_store.specs.machine.Records.{Environment}
 use Rattle.iox2_store.specs.machine.State.{State}
-use Rattle.iox2_store.specs.machine.Environments.{fixed_handlers}
 use Rattle.iox2_store.specs.machine.Receives.{ReceiveResult, Got_sample, No_sample, Receive_error, TakeSample, Receive}
 use Rattle.iox2_store.specs.declared.errors.ReceiveError.{ReceiveError}
 use Rattle.iox2_ends.specs.Homes.{SameHomes}
@@ -62,6 +62,6 @@ module _ {T U : Type 0} where
       × LiesIfAny new q result
 
   -- The subscriber q receives, as the machine does, and what it receives lies where it is said.
-  abbrev pub ReceivesAs : (old : Fields T U) (q : ℕ) → Result (Option Receipt) ReceiveError → (new : Fields T U) → Type 0
-  ReceivesAs old q result new =
-      (s' : State T U) × Reaches old new s' × Receive fixed_handlers (state_of (kept_of old)) q s' (receive_result result) × LiesIfAny new q result
+  abbrev pub ReceivesAs : (environment : Environment) (old : Fields T U) (q : ℕ) → Result (Option Receipt) ReceiveError → (new : Fields T U) → Type 0
+  ReceivesAs environment old q result new =
+      (s' : State T U) × Reaches old new s' × Receive environment (state_of (kept_of old)) q s' (receive_result result) × LiesIfAny new q result

@@ -1,21 +1,20 @@
 -- A loan is sent.
 use Rattle.std.specs.Prelude.{◌≡◌, ◌⊎◌, ℕ}
 use Rattle.std.specs.declared.option.Option.TheVariants.{None, Some}
-use Rattle.iox2_store.specs.machine.Environments.{fixed_handlers}
 use Rattle.iox2_store.specs.machine.Loans.{entry_of}
 use Rattle.iox2_store.specs.machine.Numbers.{put_at}
-use Rattle.iox2_store.specs.machine.Records.{Entry, Loan}
-use Rattle.iox2_store.specs.machine.Sends.{Delivered_to, Send}
+use Rattle.iox2_store.specs.machine.Records.{Entry, Loan, Environment}
+use Rattle.iox2_store.specs.machine.Sends.{SendResult, Send}
 use Rattle.iox2_domain.specs.Kept.{state_of, entries_of}
 use Rattle.iox2_domain.specs.Fields.{Fields, kept_of}
 use Rattle.iox2_domain.specs.Invariant.{IsDomain}
 
--- The loan n was sent, so many receivers took it, and it is out no more. Its entry may be newly kept, and no other is.
-pub record SendsLoan {T U : Type 0} (old new : Fields T U) (n count : ℕ) : Type 0 where
+-- The loan n was sent, with this result, and it is out no more. Its entry may be newly kept, and no other is.
+pub record SendsLoan {T U : Type 0} (environment : Environment) (old new : Fields T U) (n : ℕ) (result : SendResult) : Type 0 where
   pub loan : Loan T U
   pub out : (state_of (kept_of old)).loans n ≡ Some loan
   pub agrees : IsDomain new
-  pub sends : Send fixed_handlers (state_of (kept_of old)) n loan (state_of (kept_of new)) (Delivered_to count)
+  pub sends : Send environment (state_of (kept_of old)) n loan (state_of (kept_of new)) result
   pub loans : (state_of (kept_of new)).loans ≡ put_at (state_of (kept_of old)).loans n None
   pub entries : (m : ℕ) (entry : Entry T U) → entries_of (kept_of new) m ≡ Some entry
       → ((m ≡ n) × (entry ≡ entry_of loan)) ⊎ (entries_of (kept_of old) m ≡ Some entry)

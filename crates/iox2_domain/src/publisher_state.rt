@@ -38,6 +38,9 @@ pub struct PublisherState {
 
 impl Model for PublisherState {
     ghost use Rattle.std.specs.Prelude.{vec_capacity};
+    ghost use Rattle.std.specs.declared.option.Option.TheVariants.{None};
+    ghost use Rattle.iox2_store.specs.machine.Records.{Fixed};
+    ghost use Rattle.iox2_store.specs.declared.degradation.DegradationAction.TheVariants.{Warn};
     ghost use Rattle.iox2_domain.specs.Ports.{PublisherFields};
 
     ghost Value = { PublisherFields };
@@ -49,6 +52,8 @@ impl Model for PublisherState {
       max_loaned_samples = x.max_loaned_samples;
       slots = x.slots;
       strategy = x.strategy;
+      backpressure_handler = None;
+      degradation_handler = Fixed Warn;
       allocation = x.allocation;
       initial_max_slice_len = x.initial_max_slice_len;
       longest_granted = x.longest_granted;
@@ -59,6 +64,7 @@ impl Model for PublisherState {
       keys = x.keys.items;
       key_room = vec_capacity x.keys;
       is_due = x.is_due;
+      blocked = None;
     } };
 }
 

@@ -28,6 +28,8 @@ pub struct SubscriberState {
 
 impl Model for SubscriberState {
     ghost use Rattle.std.specs.Prelude.{vec_capacity};
+    ghost use Rattle.iox2_store.specs.machine.Records.{Fixed};
+    ghost use Rattle.iox2_store.specs.declared.degradation.DegradationAction.TheVariants.{Warn};
     ghost use Rattle.iox2_domain.specs.Ports.{SubscriberFields};
 
     ghost Value = { SubscriberFields };
@@ -37,9 +39,11 @@ impl Model for SubscriberState {
       place = y.place;
       is_open = y.is_open;
       buffer = y.buffer;
+      degradation_handler = Fixed Warn;
       keys = y.keys.items;
       key_room = vec_capacity y.keys;
       expired = y.expired.items;
+      expired_room = vec_capacity y.expired;
       is_due = y.is_due;
     } };
 }
@@ -63,7 +67,7 @@ impl SubscriberState {
 
     /// A subscriber that enters at a place.
     pub fn new(alloc: Global, id: UniqueSubscriberId, place: usize, buffer: usize) -> Self
-        ensures { result ≡ entering id place buffer result.key_room }
+        ensures { result ≡ entering id place buffer result.key_room result.expired_room }
     {
         SubscriberState {
             id,

@@ -8,7 +8,7 @@ use Rattle.std.specs.Prelude.{IsSomeAnd}
 use Rattle.slab.specs.Slab.{Slab, get, Updates, with_value, ContainsKey}
 use Rattle.iox2_store.specs.Link.{Link, IsPut, IsBounded, load}
 use Rattle.iox2_store.specs.machine.Mailbox.{Mailbox}
-use Rattle.iox2_store.specs.machine.Environments.{fixed_handlers}
+use Rattle.iox2_store.specs.machine.Records.{Environment}
 use Rattle.iox2_store.specs.machine.Delivery.{Skipped, DeliveryEnd, Put, is_blocking, is_failed, accepted_count, no_time}
 use Rattle.iox2_store.specs.declared.service_config.ServiceConfig.{ServiceConfig}
 use Rattle.iox2_store.specs.declared.backpressure.BackpressureStrategy.{BackpressureStrategy}
@@ -83,13 +83,13 @@ lt-false : (a b : ℕ) → a ≡ b → nat_lt a b ≡ false
 lt-false a b e = grind arith
 
 -- one put, at numbers
-pub put-mailbox : (number : ℕ → ℕ) (config : ServiceConfig) (p q slot : ℕ) (strategy : BackpressureStrategy) (buffers : ℕ → Option ℕ) (c d : Link) (o : PutOutcome) → IsPut c slot config.enable_safe_overflow o d
-    → Put fixed_handlers config p strategy None buffers (number slot) q 0 no_time (Some c.buffer) (mailbox_of number c) (result_of_put strategy o) (mailbox_of number d)
-put-mailbox number config p q slot strategy buffers c d Taken h =
+pub put-mailbox : (environment : Environment) (number : ℕ → ℕ) (config : ServiceConfig) (p q slot : ℕ) (strategy : BackpressureStrategy) (buffers : ℕ → Option ℕ) (c d : Link) (o : PutOutcome) → IsPut c slot config.enable_safe_overflow o d
+    → Put environment config p strategy None buffers (number slot) q 0 no_time (Some c.buffer) (mailbox_of number c) (result_of_put strategy o) (mailbox_of number d)
+put-mailbox environment number config p q slot strategy buffers c d Taken h =
     rw (h.1, length-map c.waiting number, lt-true (length c.waiting) c.buffer h.0, map-append number c.waiting (slot ∷ [])) (refl, refl)
-put-mailbox number config p q slot strategy buffers c d (Overwrote oldest) h =
+put-mailbox environment number config p q slot strategy buffers c d (Overwrote oldest) h =
     rw (h.2.2, length-map c.waiting number, lt-false (length c.waiting) c.buffer h.1, h.0, h.2.1, map-append number h.2.0 (slot ∷ [])) (refl, refl)
-put-mailbox number config p q slot strategy buffers c d Full h =
+put-mailbox environment number config p q slot strategy buffers c d Full h =
     rw (h.2, length-map c.waiting number, lt-false (length c.waiting) c.buffer h.1, h.0) (refl, refl)
 
 -- a put leaves what never changes
@@ -139,10 +139,10 @@ module _ {p : ℕ} {slab : Slab Link} {keys : List (Option ℕ)} {receivers : Li
       u = Updates-with_value slab key c d was_c
 
   -- a put is the machine's, at the end to which the place leads
-  pub put-puts : (config : ServiceConfig) (v : Delivery) (o : PutOutcome) (b c d : Link) (result : Reception) → v.publisher ≡ p → get slab key ≡ Some b → is_open_at receivers i b.home.subscriber ≡ true → get slab key ≡ Some c
+  pub put-puts : (environment : Environment) (config : ServiceConfig) (v : Delivery) (o : PutOutcome) (b c d : Link) (result : Reception) → v.publisher ≡ p → get slab key ≡ Some b → is_open_at receivers i b.home.subscriber ≡ true → get slab key ≡ Some c
       → IsPut c v.slot config.enable_safe_overflow o d → result_of result ≡ result_of_put v.strategy o → (number : ℕ → ℕ → ℕ)
-      → PutsMessage config v receivers (number p v.slot) (subscriber_of_key slab (get_or keys i None)) (mailboxes_of number slab p) (result_of result) (mailboxes_of number (with_value slab key d) p)
-  put-puts config v o b c d result by_p was_b receiving was_c put is number =
+      → PutsMessage environment config v receivers (number p v.slot) (subscriber_of_key slab (get_or keys i None)) (mailboxes_of number slab p) (result_of result) (mailboxes_of number (with_value slab key d) p)
+  put-puts environment config v o b c d result by_p was_b receiving was_c put is number =
       rw (at, was_c, is) (
         mailbox_of (number p) d,
         goes,
@@ -153,14 +153,14 @@ module _ {p : ℕ} {slab : Slab Link} {keys : List (Option ℕ)} {receivers : Li
       open_c : is_open_at receivers i c.home.subscriber ≡ true
       open_c = subst (λ (x : Link). is_open_at receivers i x.home.subscriber ≡ true) (same_link slab key b c was_b was_c) receiving
 
-      goes : Put fixed_handlers config v.publisher v.strategy None (buffers_of receivers) (number p v.slot) c.home.subscriber 0 no_time (buffers_of receivers c.home.subscriber) (mailboxes_of number slab p c.home.subscriber) (result_of_put v.strategy o) (mailbox_of (number p) d)
+      goes : Put environment config v.publisher v.strategy None (buffers_of receivers) (number p v.slot) c.home.subscriber 0 no_time (buffers_of receivers c.home.subscriber) (mailboxes_of number slab p c.home.subscriber) (result_of_put v.strategy o) (mailbox_of (number p) d)
       goes = rw (mailbox-there number slab key p c.home.subscriber c ready.apart was_c (home-of c was_c).publisher refl, buffers-open slab receivers key i c ready.knows (ready.one_id c.home.subscriber) was_c open_c)
-          (put-mailbox (number p) config v.publisher c.home.subscriber v.slot v.strategy (buffers_of receivers) c d o put)
+          (put-mailbox environment (number p) config v.publisher c.home.subscriber v.slot v.strategy (buffers_of receivers) c d o put)
 
   -- a closed receiver is skipped
-  pub put-passes : (config : ServiceConfig) (v : Delivery) (c : Link) → get slab key ≡ Some c → is_open_at receivers i c.home.subscriber ≡ false → (number : ℕ → ℕ → ℕ)
-      → PutsMessage config v receivers (number p v.slot) (subscriber_of_key slab (get_or keys i None)) (mailboxes_of number slab p) Skipped (mailboxes_of number slab p)
-  put-passes config v c was_c shut number =
+  pub put-passes : (environment : Environment) (config : ServiceConfig) (v : Delivery) (c : Link) → get slab key ≡ Some c → is_open_at receivers i c.home.subscriber ≡ false → (number : ℕ → ℕ → ℕ)
+      → PutsMessage environment config v receivers (number p v.slot) (subscriber_of_key slab (get_or keys i None)) (mailboxes_of number slab p) Skipped (mailboxes_of number slab p)
+  put-passes environment config v c was_c shut number =
       rw (at, was_c) (mailboxes_of number slab p c.home.subscriber, rw (buffers-closed slab receivers key c ready.knows was_c (rw (home-of c was_c).place shut)) (refl, refl), put_at-own (mailboxes_of number slab p) c.home.subscriber)
 
 -- ---- the loop
@@ -210,13 +210,13 @@ never_failed Reception.Accepted = refl
 never_failed Reception.Skipped = refl
 never_failed Reception.WouldBlock = refl
 
-module _ (config : ServiceConfig) (v : Delivery) (receivers : List (Option ReceiverDetails)) (n : ℕ) (ends : List (Option ℕ)) where
+module _ (environment : Environment) (config : ServiceConfig) (v : Delivery) (receivers : List (Option ReceiverDetails)) (n : ℕ) (ends : List (Option ℕ)) where
   -- a put that doesn't block is one step of the delivery
-  pub deliver-more : (i count : ℕ) (boxes mid boxes' : ℕ → Mailbox) (d : Reception) (how : DeliveryEnd) → i < length ends → PutsMessage config v receivers n (get_or ends i None) boxes (result_of d) mid → is_blocking (result_of d) ≡ false
-      → DeliversMessage config v receivers n (i + 1) (drop (i + 1) ends) (count + accepted_count (result_of d)) mid how boxes' → DeliversMessage config v receivers n i (drop i ends) count boxes how boxes'
+  pub deliver-more : (i count : ℕ) (boxes mid boxes' : ℕ → Mailbox) (d : Reception) (how : DeliveryEnd) → i < length ends → PutsMessage environment config v receivers n (get_or ends i None) boxes (result_of d) mid → is_blocking (result_of d) ≡ false
+      → DeliversMessage environment config v receivers n (i + 1) (drop (i + 1) ends) (count + accepted_count (result_of d)) mid how boxes' → DeliversMessage environment config v receivers n i (drop i ends) count boxes how boxes'
   deliver-more i count boxes mid boxes' d how below at goes rest = rw (drop_more ends i None below) (result_of d, mid, at, rw (goes, never_failed d) rest)
 
   -- a put that blocks ends the delivery
-  pub deliver-stops : (i count : ℕ) (boxes mid : ℕ → Mailbox) (d : Reception) → i < length ends → PutsMessage config v receivers n (get_or ends i None) boxes (result_of d) mid → is_blocking (result_of d) ≡ true
-      → DeliversMessage config v receivers n i (drop i ends) count boxes (end_of n ends (DeliveryOutcome.Suspended i count)) mid
+  pub deliver-stops : (i count : ℕ) (boxes mid : ℕ → Mailbox) (d : Reception) → i < length ends → PutsMessage environment config v receivers n (get_or ends i None) boxes (result_of d) mid → is_blocking (result_of d) ≡ true
+      → DeliversMessage environment config v receivers n i (drop i ends) count boxes (end_of n ends (DeliveryOutcome.Suspended i count)) mid
   deliver-stops i count boxes mid d below at stops = rw (drop_more ends i None below) (result_of d, mid, at, rw stops (refl, refl))

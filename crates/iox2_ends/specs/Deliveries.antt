@@ -5,7 +5,7 @@ use Rattle.std.specs.declared.option.Option.TheVariants.{None}
 use Rattle.slab.specs.Slab.{Slab}
 use Rattle.iox2_store.specs.Link.{Link}
 use Rattle.iox2_store.specs.machine.Mailbox.{Mailbox}
-use Rattle.iox2_store.specs.machine.Environments.{fixed_handlers}
+use Rattle.iox2_store.specs.machine.Records.{Environment}
 use Rattle.iox2_store.specs.machine.Delivery.{PutResult, Accepted, Skipped, Would_block, DeliveryEnd, Complete, Suspended, by_strategy, no_time, PutAtEnd, Deliver}
 use Rattle.iox2_store.specs.declared.service_config.ServiceConfig.{ServiceConfig}
 use Rattle.iox2_store.specs.declared.backpressure.BackpressureStrategy.{BackpressureStrategy}
@@ -37,14 +37,14 @@ end_of n ends (DeliveryOutcome.Suspended place count) =
     Suspended (record { message = n; place = place; ends = drop place ends; retries = 0; count = count; has_failed = false })
 
 -- A publisher without a handler delivers with this strategy under these settings.
-module _ (config : ServiceConfig) (d : Delivery) (receivers : List (Option ReceiverDetails)) where
+module _ (environment : Environment) (config : ServiceConfig) (d : Delivery) (receivers : List (Option ReceiverDetails)) where
   -- The machine's put of the message n at the end, in the publisher's mailboxes.
   abbrev pub PutsMessage : (n : ℕ) → (end : Option ℕ) → (ℕ → Mailbox) → PutResult → (ℕ → Mailbox) → Type 0
-  PutsMessage n end boxes result boxes' = PutAtEnd fixed_handlers config d.publisher d.strategy None (buffers_of receivers) n 0 no_time end boxes result boxes'
+  PutsMessage n end boxes result boxes' = PutAtEnd environment config d.publisher d.strategy None (buffers_of receivers) n 0 no_time end boxes result boxes'
 
   -- The machine's delivery of the message n to these ends, which stand from that place on, in the publisher's mailboxes.
   abbrev pub DeliversMessage : (n place : ℕ) → List (Option ℕ) → (count : ℕ) → (ℕ → Mailbox) → DeliveryEnd → (ℕ → Mailbox) → Type 0
-  DeliversMessage n place ends count boxes how boxes' = Deliver fixed_handlers config d.publisher d.strategy None (buffers_of receivers) n 0 no_time place ends count false boxes how boxes'
+  DeliversMessage n place ends count boxes how boxes' = Deliver environment config d.publisher d.strategy None (buffers_of receivers) n 0 no_time place ends count false boxes how boxes'
 
   -- Whatever numbers the slots have, the slot's message is put at the end to which the key leads.
   abbrev pub PutsSlot : (key : Option ℕ) → Slab Link → Reception → Slab Link → Type 0

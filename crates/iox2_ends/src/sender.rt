@@ -3,6 +3,7 @@ ghost use Rattle.std.specs.Prelude.{◌≡◌, ℕ, ◌+◌, ◌≤◌, ◌<◌,
 ghost use Rattle.std.specs.Option.{option_map};
 ghost use Rattle.iox2_store.specs.SlotBook.{holders_at, IsInUse};
 ghost use Rattle.iox2_store.specs.machine.Delivery.{is_blocking, accepted_count};
+ghost use Rattle.iox2_store.specs.machine.Environments.{fixed_handlers};
 ghost use Rattle.slab.specs.Slab.{get};
 ghost use Rattle.iox2_ends.specs.Homes.{IsApart, IsSenderLinked};
 ghost use Rattle.iox2_ends.specs.Receivers.{is_open_at, HasReclaimed, IsReadyToDeliver};
@@ -160,7 +161,7 @@ fn deliver_at<R: Receiver>(
     requires in_use { IsInUse book.old delivery.now.slot }
     requires fits { holders_at book.old delivery.now.slot + 1 < 2 ^ 64 }
     requires covered { IsCovered delivery.now.publisher book.old.holders connections.old.slots }
-    ensures puts { PutsSlot config.now delivery.now (map (option_map R.details_of) receivers.now) (slice_index_or keys.now place None)
+    ensures puts { PutsSlot fixed_handlers config.now delivery.now (map (option_map R.details_of) receivers.now) (slice_index_or keys.now place None)
         connections.old result connections.new }
     ensures book { book.new ≡ with_counters book.old book.new.holders }
     ensures recounts { Recounts delivery.now.publisher book.old.holders connections.old book.new.holders connections.new }
@@ -201,7 +202,7 @@ pub fn deliver<R: Receiver>(
     requires in_use { IsInUse book.old delivery.now.slot }
     requires fits { holders_at book.old delivery.now.slot + length keys.now < 2 ^ 64 }
     requires covered { IsCovered delivery.now.publisher book.old.holders connections.old.slots }
-    ensures delivers { DeliversSlot config.now delivery.now (map (option_map R.details_of) receivers.now) keys.now
+    ensures delivers { DeliversSlot fixed_handlers config.now delivery.now (map (option_map R.details_of) receivers.now) keys.now
         connections.old result connections.new }
     ensures book { book.new ≡ with_counters book.old book.new.holders }
     ensures recounts { Recounts delivery.now.publisher book.old.holders connections.old book.new.holders connections.new }

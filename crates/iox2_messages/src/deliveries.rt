@@ -2,6 +2,7 @@
 ghost use Rattle.std.specs.Prelude.{◌≡◌, ℕ, ◌<◌, ◌≤◌, None, Some, slice_index_or, vec_capacity};
 ghost use Rattle.slab.specs.Slab.{get};
 ghost use Rattle.iox2_store.specs.SlotBook.{Book, IsInUse, holders_at};
+ghost use Rattle.iox2_store.specs.machine.Environments.{fixed_handlers};
 ghost use Rattle.iox2_store.specs.machine.Numbers.{without};
 ghost use Rattle.iox2_ends.specs.Counters.{times};
 ghost use Rattle.iox2_ends.specs.Receivers.{HasReclaimed};
@@ -24,7 +25,7 @@ pub(crate) fn deliver_slot<T: Drop, U: Default + Drop>(
     requires stands { (x : PublisherFields) × (slice_index_or state.old.publishers place None ≡ Some x) }
     requires reclaimed { (x : PublisherFields) → slice_index_or state.old.publishers place None ≡ Some x → HasReclaimed state.old.connections x.keys }
     requires in_use { (x : PublisherFields) (b : Book) → slice_index_or state.old.publishers place None ≡ Some x → get state.old.books x.book ≡ Some b → IsInUse b slot × (holders_at b slot ≡ 1) }
-    ensures { (x : PublisherFields) → slice_index_or state.old.publishers place None ≡ Some x → DeliversTo state.old x slot result state.new }
+    ensures { (x : PublisherFields) → slice_index_or state.old.publishers place None ≡ Some x → DeliversTo fixed_handlers state.old x slot result state.new }
 {
     let Some(publisher) = &state.publishers[place] else {
         unreachable!();

@@ -2,6 +2,7 @@
 ghost use Rattle.std.specs.Prelude.{◌≡◌, ℕ, true, None, Some, slice_index_or, IsTrue, IsSomeAnd};
 ghost use Rattle.slab.specs.Slab.{get};
 ghost use Rattle.iox2_store.specs.Link.{can_borrow};
+ghost use Rattle.iox2_store.specs.machine.Environments.{fixed_handlers};
 ghost use Rattle.iox2_store.specs.machine.Mailbox.{is_borrowed};
 ghost use Rattle.iox2_store.specs.machine.Releases.{released};
 ghost use Rattle.iox2_store.specs.machine.SingleCalls.{HoldsSample};
@@ -68,7 +69,7 @@ pub fn receive_at<T: Drop, U: Default + Drop>(
 ) -> Result<Option<Receipt>, ReceiveError>
     requires agrees { IsDomain state.old }
     requires stands { (y : SubscriberFields) × (slice_index_or state.old.subscribers place None ≡ Some y) }
-    ensures { (y : SubscriberFields) → slice_index_or state.old.subscribers place None ≡ Some y → ReceivesAs state.old y.id result state.new }
+    ensures { (y : SubscriberFields) → slice_index_or state.old.subscribers place None ≡ Some y → ReceivesAs fixed_handlers state.old y.id result state.new }
 {
     update_subscriber(state, place);
     take_at(state, place)

@@ -1,5 +1,7 @@
 //! A loan is sent.
 ghost use Rattle.std.specs.Prelude.{◌≡◌};
+ghost use Rattle.iox2_store.specs.machine.Environments.{fixed_handlers};
+ghost use Rattle.iox2_store.specs.machine.Sends.{Delivered_to};
 ghost use Rattle.iox2_domain.specs.Kept.{state_of};
 ghost use Rattle.iox2_domain.specs.Fields.{kept_of};
 ghost use Rattle.iox2_domain.specs.Invariant.{IsDomain};
@@ -19,7 +21,7 @@ use iox2_ports::update_publisher;
 pub fn send_loan<T: Drop, U: Default + Drop>(state: &mut DomainState<T, U>, loan: LoanAt) -> usize
     requires agrees { IsDomain state.old }
     requires live { HoldsWritten (state_of (kept_of state.old)) loan.publisher loan.number }
-    ensures { SendsLoan state.old state.new loan.number result }
+    ensures { SendsLoan fixed_handlers state.old state.new loan.number (Delivered_to result) }
 {
     let Some(place) = state.find_publisher(loan.publisher, loan.place) else {
         unreachable!()

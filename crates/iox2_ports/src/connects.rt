@@ -1,5 +1,6 @@
 //! Ports get their connections, one place after the other.
 ghost use Rattle.std.specs.Prelude.{◌≡◌, ◌<◌, false, Some, None, length, slice_index_or, IfOk, OnOk, OnErr};
+ghost use Rattle.iox2_store.specs.machine.Environments.{fixed_handlers};
 ghost use Rattle.iox2_store.specs.declared.warning.Warning.TheVariants.{ConnectionNotMade};
 ghost use Rattle.iox2_domain.specs.Ports.{PublisherFields, SubscriberFields};
 ghost use Rattle.iox2_domain.specs.Updates.{MakesConnection, StandApart, home_of};
@@ -118,7 +119,7 @@ pub(crate) fn connect_sender<T: Drop, U: Default + Drop>(
     requires publisher { publisher_place < length state.old.publishers }
     requires subscriber { subscriber_place < length state.old.subscribers }
     ensures { (x : PublisherFields) → slice_index_or state.old.publishers publisher_place None ≡ Some x → x.is_due ≡ false
-        → ConnectsSender state.old publisher_place subscriber_place x state.new }
+        → ConnectsSender fixed_handlers state.old publisher_place subscriber_place x state.new None }
 {
     if key_at(&state.publishers, publisher_place, subscriber_place).is_some() {
         return;
@@ -156,7 +157,7 @@ pub(crate) fn connect_receiver<T: Drop, U: Default + Drop>(
     requires publisher { publisher_place < length state.old.publishers }
     requires subscriber { subscriber_place < length state.old.subscribers }
     ensures { (y : SubscriberFields) → slice_index_or state.old.subscribers subscriber_place None ≡ Some y → y.is_due ≡ false
-        → ConnectsReceiver state.old subscriber_place publisher_place y state.new }
+        → ConnectsReceiver fixed_handlers state.old subscriber_place publisher_place y state.new None }
 {
     if key_at(&state.subscribers, subscriber_place, publisher_place).is_some() {
         return;

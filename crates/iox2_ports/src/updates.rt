@@ -1,5 +1,6 @@
 //! Updates: a port gets its connections with the ports of the other side.
 ghost use Rattle.std.specs.Prelude.{◌≡◌, ◌<◌, Some, None, true, length, slice_index_or};
+ghost use Rattle.iox2_store.specs.machine.Environments.{fixed_handlers};
 ghost use Rattle.iox2_domain.specs.Ports.{PublisherFields, SubscriberFields};
 ghost use Rattle.iox2_domain.specs.Invariant.{IsDomain};
 ghost use Rattle.iox2_domain.specs.Updates.{is_publisher_due, is_subscriber_due};
@@ -16,7 +17,7 @@ pub fn update_publisher<T: Drop, U: Default + Drop>(state: &mut DomainState<T, U
     requires agrees { IsDomain state.old }
     requires stands { place < length state.old.publishers }
     ensures { (x : PublisherFields) → slice_index_or state.old.publishers place None ≡ Some x
-        → UpdatesPublisher state.old place x state.new }
+        → UpdatesPublisher fixed_handlers state.old place x state.new None }
 {
     if is_due_at(&state.publishers, place) {
         connect_publisher(state, place);
@@ -30,7 +31,7 @@ fn connect_publisher<T: Drop, U: Default + Drop>(state: &mut DomainState<T, U>, 
     requires stands { place < length state.old.publishers }
     requires due { is_publisher_due state.old.publishers place ≡ true }
     ensures { (x : PublisherFields) → slice_index_or state.old.publishers place None ≡ Some x
-        → UpdatesPublisher state.old place x state.new }
+        → UpdatesPublisher fixed_handlers state.old place x state.new None }
 {
     settle(&mut state.publishers, place);
     for other in 0..state.subscribers.len() {
@@ -46,7 +47,7 @@ pub fn update_subscriber<T: Drop, U: Default + Drop>(state: &mut DomainState<T, 
     requires agrees { IsDomain state.old }
     requires stands { place < length state.old.subscribers }
     ensures { (y : SubscriberFields) → slice_index_or state.old.subscribers place None ≡ Some y
-        → UpdatesSubscriber state.old place y state.new }
+        → UpdatesSubscriber fixed_handlers state.old place y state.new None }
 {
     if is_due_at(&state.subscribers, place) {
         connect_subscriber(state, place);
@@ -60,7 +61,7 @@ fn connect_subscriber<T: Drop, U: Default + Drop>(state: &mut DomainState<T, U>,
     requires stands { place < length state.old.subscribers }
     requires due { is_subscriber_due state.old.subscribers place ≡ true }
     ensures { (y : SubscriberFields) → slice_index_or state.old.subscribers place None ≡ Some y
-        → UpdatesSubscriber state.old place y state.new }
+        → UpdatesSubscriber fixed_handlers state.old place y state.new None }
 {
     settle(&mut state.subscribers, place);
     for other in 0..state.publishers.len() {

@@ -2,13 +2,13 @@
 use Rattle.std.proofs.Common.{◌≡◌, ℕ, ◌<◌, List, true, false, sym, ap, subst, ◌∙◌, Option, None, Some, Result, Ok, Err, inl, inr, arith}
 use Rattle.std.specs.Prelude.{◌≢◌}
 use Rattle.std.proofs.lemmas.Bool.{cases_eq, ne_eqb, true≢false}
-use Rattle.iox2_store.specs.machine.Environments.{fixed_handlers, ample_memory}
+use Rattle.iox2_store.specs.machine.Environments.{ample_memory}
 use Rattle.iox2_store.specs.machine.Loans.{written}
 use Rattle.iox2_store.specs.machine.Mailbox.{is_borrowed}
 use Rattle.iox2_store.specs.machine.Numbers.{put_at, contains}
 use Rattle.iox2_store.specs.machine.Ports.{CreatePublisher, CreateSubscriber}
 use Rattle.iox2_store.specs.machine.Receives.{ReceiveResult, Got_sample, No_sample, Receive_error, Receive}
-use Rattle.iox2_store.specs.machine.Records.{Entry, Loan, PublisherSettings, SubscriberSettings}
+use Rattle.iox2_store.specs.machine.Records.{Entry, Loan, PublisherSettings, SubscriberSettings, Environment}
 use Rattle.iox2_store.specs.machine.Releases.{released}
 use Rattle.iox2_store.specs.machine.Sends.{SendResult, Blocked_send, Send}
 use Rattle.iox2_store.specs.Stored.{In_mailbox}
@@ -61,16 +61,16 @@ module _ {T U : Type 0} (old new : Kept T U) (m : Messages T U) (s : State T U) 
       (λ p q n at _. same_borrowed s s' stay p q n ∙ at)
 
   -- a publisher is made, or refused
-  pub publisher-creation-stays : (given : PublisherSettings) (refusal : Option PublisherCreateError) (s' : State T U) → Shows new m s'
-      → CreatePublisher fixed_handlers s given s' refusal → Stays old new
-  publisher-creation-stays given refusal s' shown' h =
-      quiet s' shown' (create_publisher_stays fixed_handlers s given s' refusal h) (create_publisher_loans fixed_handlers s given s' refusal h)
+  pub publisher-creation-stays : (environment : Environment) (given : PublisherSettings) (refusal : Option PublisherCreateError) (s' : State T U) → Shows new m s'
+      → CreatePublisher environment s given s' refusal → Stays old new
+  publisher-creation-stays environment given refusal s' shown' h =
+      quiet s' shown' (create_publisher_stays environment s given s' refusal h) (create_publisher_loans environment s given s' refusal h)
 
   -- a subscriber is made, or refused
-  pub subscriber-creation-stays : (given : SubscriberSettings) (refusal : Option SubscriberCreateError) (s' : State T U) → Shows new m s'
-      → CreateSubscriber fixed_handlers s given s' refusal → Stays old new
-  subscriber-creation-stays given refusal s' shown' h =
-      quiet s' shown' (create_subscriber_stays fixed_handlers s given s' refusal h) (create_subscriber_loans fixed_handlers s given s' refusal h)
+  pub subscriber-creation-stays : (environment : Environment) (given : SubscriberSettings) (refusal : Option SubscriberCreateError) (s' : State T U) → Shows new m s'
+      → CreateSubscriber environment s given s' refusal → Stays old new
+  subscriber-creation-stays environment given refusal s' shown' h =
+      quiet s' shown' (create_subscriber_stays environment s given s' refusal h) (create_subscriber_loans environment s given s' refusal h)
 
   -- a loan is granted, or refused
   pub loan-stays : {A : Type 0} (is_default : U → Type 0) (p : ℕ) (answer : Result A LoanError) (s' : State T U) → Shows new m s' → LoanCall is_default s p answer s' → Stays old new
@@ -119,11 +119,11 @@ module _ {T U : Type 0} (old new : Kept T U) (m : Messages T U) (s : State T U) 
       (λ i j k at _. same_borrowed s s' stay i j k ∙ at)
 
   -- a loan is sent
-  pub send-stays : (n : ℕ) (l : Loan T U) → s.loans n ≡ Some l → (result : SendResult) (entry : Entry T U) (s' : State T U) → Shows new (put_at m n (Some entry)) s'
-      → Send fixed_handlers s n l s' result → (result ≡ Blocked_send → ⊥) → StaysBut (A_loan n) old new
-  send-stays n l out result entry s' shown' h free =
-      let stay : PortsStay s s' = send_stays fixed_handlers s n l s' result h free in
-      let loans : s'.loans ≡ put_at s.loans n None = send_loans fixed_handlers s n l s' result h in
+  pub send-stays : (environment : Environment) (n : ℕ) (l : Loan T U) → s.loans n ≡ Some l → (result : SendResult) (entry : Entry T U) (s' : State T U) → Shows new (put_at m n (Some entry)) s'
+      → Send environment s n l s' result → (result ≡ Blocked_send → ⊥) → StaysBut (A_loan n) old new
+  send-stays environment n l out result entry s' shown' h free =
+      let stay : PortsStay s s' = send_stays environment s n l s' result h free in
+      let loans : s'.loans ≡ put_at s.loans n None = send_loans environment s n l s' result h in
       stays-between (A_loan n) old new m (put_at m n (Some entry)) s s' shown shown' sent stay.remain
       (λ k loan at other. ap (λ (f : ℕ → Option (Loan T U)). f k) loans ∙ put_at-other s.loans n None k (ne_eqb k n other) ∙ at)
       (λ i j k at _. same_borrowed s s' stay i j k ∙ at)
@@ -134,20 +134,20 @@ module _ {T U : Type 0} (old new : Kept T U) (m : Messages T U) (s : State T U) 
           let clash : None ≡ Some other = sym (shown.unsent n l out) ∙ ap m (sym e) ∙ at in absurd cc)) ∙ at
 
   -- it is out no more
-  pub send-spends : (key : Key) (l : Loan T U) (result : SendResult) (m' : Messages T U) (s' : State T U) → Shows new m' s'
-      → Send fixed_handlers s key.message l s' result → IsLoanKey new key → ⊥
-  send-spends key l result m' s' shown' h live =
+  pub send-spends : (environment : Environment) (key : Key) (l : Loan T U) (result : SendResult) (m' : Messages T U) (s' : State T U) → Shows new m' s'
+      → Send environment s key.message l s' result → IsLoanKey new key → ⊥
+  send-spends environment key l result m' s' shown' h live =
       let has = (loan-parts new key live).1 in
-      let loans : s'.loans ≡ put_at s.loans key.message None = send_loans fixed_handlers s key.message l s' result h in
+      let loans : s'.loans ≡ put_at s.loans key.message None = send_loans environment s key.message l s' result h in
       let clash : None ≡ Some has.0 =
       sym (ap (λ (f : ℕ → Option (Loan T U)). f key.message) loans ∙ put_at-same s.loans key.message None)
       ∙ ap (λ (t : State T U). t.loans key.message) shown'.state ∙ has.1 in
       absurd cc
 
   -- a subscriber receives, or doesn't
-  pub receive-stays : (q : ℕ) (result : ReceiveResult) (s' : State T U) → Shows new m s' → Receive fixed_handlers s q s' result → Stays old new
-  receive-stays q (Got_sample p n) s' shown' h =
-      let got : IsReceived fixed_handlers s q p n s' = received_one fixed_handlers s q p n s' h in
+  pub receive-stays : (environment : Environment) (q : ℕ) (result : ReceiveResult) (s' : State T U) → Shows new m s' → Receive environment s q s' result → Stays old new
+  receive-stays environment q (Got_sample p n) s' shown' h =
+      let got : IsReceived environment s q p n s' = received_one environment s q p n s' h in
       stays-between No_item old new m m s s' shown shown' (λ n entry at. at) got.remain (λ k l at _. ap (λ (f : ℕ → Option (Loan T U)). f k) got.loans ∙ at)
       (λ i j k at _. elim (cases_eq i p) [
         | inr away ↦ got.others i j k (λ e _ _. away e) ∙ at
@@ -161,32 +161,32 @@ module _ {T U : Type 0} (old new : Kept T U) (m : Messages T U) (s : State T U) 
           ]
         ]
       ])
-  receive-stays q No_sample s' shown' h =
-      quiet s' shown' (nothing_received fixed_handlers s q s' No_sample (λ p n e. let clash : No_sample ≡ Got_sample p n = e in absurd cc) h) (receive_loans fixed_handlers s q s' No_sample h)
-  receive-stays q (Receive_error e) s' shown' h =
-      quiet s' shown' (nothing_received fixed_handlers s q s' (Receive_error e) (λ p n f. let clash : Receive_error e ≡ Got_sample p n = f in absurd cc) h)
-      (receive_loans fixed_handlers s q s' (Receive_error e) h)
+  receive-stays environment q No_sample s' shown' h =
+      quiet s' shown' (nothing_received environment s q s' No_sample (λ p n e. let clash : No_sample ≡ Got_sample p n = e in absurd cc) h) (receive_loans environment s q s' No_sample h)
+  receive-stays environment q (Receive_error e) s' shown' h =
+      quiet s' shown' (nothing_received environment s q s' (Receive_error e) (λ p n f. let clash : Receive_error e ≡ Got_sample p n = f in absurd cc) h)
+      (receive_loans environment s q s' (Receive_error e) h)
 
   -- what is received wasn't borrowed
-  not-borrowed : (p q n : ℕ) (s' : State T U) → Receive fixed_handlers s q s' (Got_sample p n) → is_borrowed n (s.mailboxes p q) ≡ true → ⊥
-  not-borrowed p q n s' h borrowed =
-      let first : PortsStay s h.0 = update_subscriber_stays fixed_handlers s q h.0 h.1 h.2 in
+  not-borrowed : (environment : Environment) (p q n : ℕ) (s' : State T U) → Receive environment s q s' (Got_sample p n) → is_borrowed n (s.mailboxes p q) ≡ true → ⊥
+  not-borrowed environment p q n s' h borrowed =
+      let first : PortsStay s h.0 = update_subscriber_stays environment s q h.0 h.1 h.2 in
       by_option ⊥ h.1 _ _ h.3
       (λ _ k. by_option ⊥ ((h.0).subscribers q) _ _ k (λ _ v. absurd v) (λ y _ k.
       let box = (h.0).mailboxes p q in
-      let once = ((update_subscriber_keeps fixed_handlers s q h.0 h.1 shown.well_formed h.2).mailboxes p q).within.once in
+      let once = ((update_subscriber_keeps environment s q h.0 h.1 shown.well_formed h.2).mailboxes p q).within.once in
       let waits : contains box.waiting n ≡ true = ap (λ (ns : List ℕ). contains ns n) (k.2).1 ∙ contains_first n (k.2).0 in
       true≢false (sym (same_borrowed s h.0 first p q n ∙ borrowed) ∙ IsOnce-apart box.waiting box.borrowed once n waits)))
       (λ e _ k. let clash : Got_sample p n ≡ Receive_error _ = k.1 in absurd cc)
 
-  pub received-is-new : (p q n : ℕ) (s' : State T U) → Shows new m s' → Receive fixed_handlers s q s' (Got_sample p n) → IsNewIn old (A_sample q n)
-  received-is-new p q n s' shown' h = record { loans = λ key live. tt; unwritten_loans = λ it live. tt; written_loans = λ it live. tt; samples = λ it live. apart (sample_key it) live; origins = λ it from. away it.origin it.sample.subscriber it.sample.number (origin-parts old it from); payloads = λ it value reads. tt } where
-    got : IsReceived fixed_handlers s q p n s'
-    got = received_one fixed_handlers s q p n s' h
+  pub received-is-new : (environment : Environment) (p q n : ℕ) (s' : State T U) → Shows new m s' → Receive environment s q s' (Got_sample p n) → IsNewIn old (A_sample q n)
+  received-is-new environment p q n s' shown' h = record { loans = λ key live. tt; unwritten_loans = λ it live. tt; written_loans = λ it live. tt; samples = λ it live. apart (sample_key it) live; origins = λ it from. away it.origin it.sample.subscriber it.sample.number (origin-parts old it from); payloads = λ it value reads. tt } where
+    got : IsReceived environment s q p n s'
+    got = received_one environment s q p n s' h
 
     same : (i : ℕ) → is_borrowed n (s.mailboxes i q) ≡ true → ⊥
     same i there = elim (cases_eq i p) [
-      | inl e ↦ not-borrowed p q n s' h (ap (λ (v : ℕ). is_borrowed n (s.mailboxes v q)) (sym e) ∙ there)
+      | inl e ↦ not-borrowed environment p q n s' h (ap (λ (v : ℕ). is_borrowed n (s.mailboxes v q)) (sym e) ∙ there)
       | inr away ↦ away (one-origin new m s' shown' i p q q n (got.others i q n (λ e _ _. away e) ∙ there) got.now)
     ]
 

@@ -107,6 +107,7 @@ module _ {T U : Type 0} (config : ServiceConfig) (v c v' c' : ℕ) where
     shapes = record { at = λ key slot b m at _. absurd (nothing_at key b at) };
     supported = supported;
     plain = λ i x at. absurd (nothing_at i x at);
+    plain_subscribers = λ i y at. absurd (nothing_at i y at);
     open_ports = open_ports;
     well_formed = fresh_is_well_formed config;
     entries = keeps_entries;

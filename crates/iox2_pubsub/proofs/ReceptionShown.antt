@@ -1,7 +1,6 @@
 -- A receive, seen from outside.
 use Rattle.std.proofs.Common.{◌≡◌, ℕ, true, get_or, ap, sym, subst, ◌∙◌, Option, Some, None, Result, Ok, Err}
 use Rattle.std.specs.Prelude.{IsErrAnd}
-use Rattle.iox2_store.specs.machine.Environments.{fixed_handlers}
 use Rattle.iox2_store.specs.machine.Mailbox.{is_borrowed}
 use Rattle.iox2_store.specs.machine.Receives.{ReceiveResult, Got_sample, Receive_error, Receive}
 use Rattle.iox2_store.specs.machine.State.{State, Messages}
@@ -21,7 +20,7 @@ use Rattle.iox2_domain.specs.Fields.{Fields, kept_of, subscriber_of}
 use Rattle.iox2_domain.specs.Invariant.{is_subscriber}
 use Rattle.iox2_domain.proofs.lemmas.containers.LookUps.{look_up-map}
 use Rattle.iox2_ends.specs.LookUp.{look_up}
-use Rattle.iox2_store.specs.machine.Records.{Subscriber as MachineSubscriber}
+use Rattle.iox2_store.specs.machine.Records.{Subscriber as MachineSubscriber, Environment}
 use Rattle.std.specs.Option.{option_map}
 use Rattle.iox2_domain.specs.Receipts.{receive_result, ReceivesAs}
 use Rattle.iox2_domain.specs.declared.sample_slots.Receipt.{Receipt}
@@ -31,35 +30,35 @@ use Rattle.iox2_domain.proofs.lemmas.receives.Reception.{received-borrowed}
 
 module _ {T U : Type 0} where
   -- the domain shows what the receive comes to, with the same messages
-  pub reception-shows : (kept : Kept T U) (f g : Fields T U) → kept_of f ≡ kept → (q : ℕ) (result : Result (Option Receipt) ReceiveError) → ReceivesAs f q result g
-      → (m : Messages T U) (s : State T U) → Shows kept m s → (s' : State T U) × Shows (kept_of g) m s' × Receive fixed_handlers s q s' (receive_result result)
-  reception-shows kept f g same q result receives m s shown =
+  pub reception-shows : (environment : Environment) (kept : Kept T U) (f g : Fields T U) → kept_of f ≡ kept → (q : ℕ) (result : Result (Option Receipt) ReceiveError) → ReceivesAs environment f q result g
+      → (m : Messages T U) (s : State T U) → Shows kept m s → (s' : State T U) × Shows (kept_of g) m s' × Receive environment s q s' (receive_result result)
+  reception-shows environment kept f g same q result receives m s shown =
       let here : Shows (kept_of f) m s = subst (λ (k : Kept T U). Shows k m s) (sym same) shown in
-      let received_result : Receive fixed_handlers s q receives.0 (receive_result result) =
-      subst (λ (t : State T U). Receive fixed_handlers t q receives.0 (receive_result result)) (sym here.state) receives.2 in (
+      let received_result : Receive environment s q receives.0 (receive_result result) =
+      subst (λ (t : State T U). Receive environment t q receives.0 (receive_result result)) (sym here.state) receives.2 in (
         receives.0,
-        reaches-shows f g m s receives.0 here receives.1 (receive_advances fixed_handlers s q receives.0 (receive_result result) received_result).next_message
-            (λ n l at. here.unsent n l (ap (λ all. all n) (sym (receive_loans fixed_handlers s q receives.0 (receive_result result) received_result)) ∙ at)),
+        reaches-shows f g m s receives.0 here receives.1 (receive_advances environment s q receives.0 (receive_result result) received_result).next_message
+            (λ n l at. here.unsent n l (ap (λ all. all n) (sym (receive_loans environment s q receives.0 (receive_result result) received_result)) ∙ at)),
         received_result,
       )
 
   -- the sample that was received
-  module _ (kept : Kept T U) (f g : Fields T U) (same : kept_of f ≡ kept) (subscriber : Subscriber) (sample : Sample) (receipt : Receipt)
-      (receives : ReceivesAs f subscriber.id (Ok (Some receipt)) g) (origin : sample.origin ≡ receipt.publisher) (its : sample.sample ≡ receipt.sample) where
+  module _ (environment : Environment) (kept : Kept T U) (f g : Fields T U) (same : kept_of f ≡ kept) (subscriber : Subscriber) (sample : Sample) (receipt : Receipt)
+      (receives : ReceivesAs environment f subscriber.id (Ok (Some receipt)) g) (origin : sample.origin ≡ receipt.publisher) (its : sample.sample ≡ receipt.sample) where
     is-borrowed : is_borrowed sample.sample.number ((state_of (kept_of g)).mailboxes sample.origin sample.sample.subscriber) ≡ true
     is-borrowed =
         ap (λ (at : SampleAt). is_borrowed at.number ((state_of (kept_of g)).mailboxes sample.origin at.subscriber)) its
         ∙ ap (λ (p : ℕ). is_borrowed receipt.sample.number ((state_of (kept_of g)).mailboxes p receipt.sample.subscriber)) origin
         ∙ ap (λ (q : ℕ). is_borrowed receipt.sample.number ((state_of (kept_of g)).mailboxes receipt.publisher q)) (receives.3).its
         ∙ ap (λ (s : State T U). is_borrowed receipt.sample.number (s.mailboxes receipt.publisher subscriber.id)) receives.1.state
-        ∙ received-borrowed (state_of (kept_of f)) subscriber.id receipt.publisher receipt.sample.number receives.0 receives.2
+        ∙ received-borrowed environment (state_of (kept_of f)) subscriber.id receipt.publisher receipt.sample.number receives.0 receives.2
 
     -- it is live
     pub reception-live : sample.service_id ≡ subscriber.service_id → IsLiveSubscriber kept subscriber → IsLiveSample (kept_of g) sample
     reception-live service live =
         let config : g.config ≡ f.config =
         ap (λ (s : State T U). s.config) receives.1.state
-        ∙ (receive_advances fixed_handlers (state_of (kept_of f)) subscriber.id receives.0 (Got_sample receipt.publisher receipt.sample.number) receives.2).config in
+        ∙ (receive_advances environment (state_of (kept_of f)) subscriber.id receives.0 (Got_sample receipt.publisher receipt.sample.number) receives.2).config in
         sample-live (kept_of g) _ (
           service ∙ (subscriber-parts kept _ live).1 ∙ ap (λ (k : Kept T U). (k.config).service_id) (sym same) ∙ ap (λ (x : ServiceConfig). x.service_id) (sym config),
           (sample.origin, is-borrowed),
@@ -70,12 +69,12 @@ module _ {T U : Type 0} where
     reception-origin = origin-live (kept_of g) sample is-borrowed
 
   -- the subscriber that was found receives
-  pub reception-at : (f g : Fields T U) (place q : ℕ) (result result' : Result (Option Receipt) ReceiveError)
+  pub reception-at : (environment : Environment) (f g : Fields T U) (place q : ℕ) (result result' : Result (Option Receipt) ReceiveError)
       → (y : SubscriberFields) × (get_or f.subscribers place None ≡ Some y) × (y.id ≡ q) → result ≡ result'
-      → ((y : SubscriberFields) → get_or f.subscribers place None ≡ Some y → ReceivesAs f y.id result g) → ReceivesAs f q result' g
-  reception-at f g place q result result' found is receives =
-      subst (λ (r : Result (Option Receipt) ReceiveError). ReceivesAs f q r g) is
-      (subst (λ (r : ℕ). ReceivesAs f r result g) found.2 (receives found.0 found.1))
+      → ((y : SubscriberFields) → get_or f.subscribers place None ≡ Some y → ReceivesAs environment f y.id result g) → ReceivesAs environment f q result' g
+  reception-at environment f g place q result result' found is receives =
+      subst (λ (r : Result (Option Receipt) ReceiveError). ReceivesAs environment f q r g) is
+      (subst (λ (r : ℕ). ReceivesAs environment f r result g) found.2 (receives found.0 found.1))
 
 -- ---- a receive that failed
 
@@ -84,12 +83,12 @@ error-answered : (r : Result (Option Sample) ReceiveError) (e : ReceiveError) �
 error-answered (Ok sample) e same = absurd same
 error-answered (Err e') e same = ap Receive_error same
 
-module _ {T U : Type 0} (kept : Kept T U) (f g : Fields T U) (view : kept_of f ≡ kept) (q : ℕ) (e : ReceiveError) (receives : ReceivesAs f q (Err e) g)
+module _ {T U : Type 0} (environment : Environment) (kept : Kept T U) (f g : Fields T U) (view : kept_of f ≡ kept) (q : ℕ) (e : ReceiveError) (receives : ReceivesAs environment f q (Err e) g)
     (r : Result (Option Sample) ReceiveError) (same : IsErrAnd r (λ e'. e' ≡ e)) where
-  pub error-shows : (m : Messages T U) (s : State T U) → Shows kept m s → (s' : State T U) × Shows (kept_of g) m s' × Receive fixed_handlers s q s' (received_result r)
+  pub error-shows : (m : Messages T U) (s : State T U) → Shows kept m s → (s' : State T U) × Shows (kept_of g) m s' × Receive environment s q s' (received_result r)
   error-shows m s shown =
-      subst (λ (answer : ReceiveResult). (s' : State T U) × Shows (kept_of g) m s' × Receive fixed_handlers s q s' answer) (sym (error-answered r e same))
-      (reception-shows kept f g view q (Err e) receives m s shown)
+      subst (λ (answer : ReceiveResult). (s' : State T U) × Shows (kept_of g) m s' × Receive environment s q s' answer) (sym (error-answered r e same))
+      (reception-shows environment kept f g view q (Err e) receives m s shown)
 
 -- a subscriber that is live stands somewhere
 pub subscriber-missing : {T U : Type 0} (f : Fields T U) (kept : Kept T U) → kept_of f ≡ kept → (subscriber : Subscriber)

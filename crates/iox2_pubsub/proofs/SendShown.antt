@@ -3,11 +3,10 @@ use Rattle.std.proofs.Common.{◌≡◌, ℕ, ◌<◌, eqb, refl, ap, sym, subst
 use Rattle.std.proofs.lemmas.Bool.{eqb-true, cases_eq}
 use Rattle.std.specs.declared.option.Option.{Option}
 use Rattle.std.specs.declared.option.Option.TheVariants.{None, Some}
-use Rattle.iox2_store.specs.machine.Environments.{fixed_handlers}
 use Rattle.iox2_store.specs.machine.Loans.{entry_of}
 use Rattle.iox2_store.specs.machine.Numbers.{put_at}
-use Rattle.iox2_store.specs.machine.Records.{Entry, Loan}
-use Rattle.iox2_store.specs.machine.Sends.{Send, Delivered_to}
+use Rattle.iox2_store.specs.machine.Records.{Entry, Loan, Environment}
+use Rattle.iox2_store.specs.machine.Sends.{SendResult, Send}
 use Rattle.iox2_store.specs.machine.State.{State, Messages}
 use Rattle.iox2_laws.proofs.Puts.{put_at-same, put_at-other}
 use Rattle.iox2_laws.proofs.SendLaws.{send_advances}
@@ -16,7 +15,7 @@ use Rattle.iox2_domain.specs.Kept.{state_of}
 use Rattle.iox2_domain.specs.SentLoans.{SendsLoan}
 use Rattle.iox2_domain.specs.Shows.{Shows}
 
-module _ {T U : Type 0} (f g : Fields T U) (n count : ℕ) (sends : SendsLoan f g n count) (m : Messages T U) (s : State T U) (l : Loan T U)
+module _ {T U : Type 0} (environment : Environment) (f g : Fields T U) (n : ℕ) (result : SendResult) (sends : SendsLoan environment f g n result) (m : Messages T U) (s : State T U) (l : Loan T U)
     (shown : Shows (kept_of f) m s) (out : s.loans n ≡ Some l) where
   was-out : (state_of (kept_of f)).loans n ≡ Some l
   was-out = ap (λ (t : State T U). t.loans n) (sym shown.state) ∙ out
@@ -25,10 +24,10 @@ module _ {T U : Type 0} (f g : Fields T U) (n count : ℕ) (sends : SendsLoan f 
   loan-is = let both : Some sends.loan ≡ Some l = sym sends.out ∙ was-out in cc
 
   -- the machine's step
-  pub machine-sends : Send fixed_handlers s n l (state_of (kept_of g)) (Delivered_to count)
+  pub machine-sends : Send environment s n l (state_of (kept_of g)) result
   machine-sends =
-      subst (λ (t : State T U). Send fixed_handlers t n l (state_of (kept_of g)) (Delivered_to count)) (sym shown.state)
-      (subst (λ (k : Loan T U). Send fixed_handlers (state_of (kept_of f)) n k (state_of (kept_of g)) (Delivered_to count)) loan-is sends.sends)
+      subst (λ (t : State T U). Send environment t n l (state_of (kept_of g)) result) (sym shown.state)
+      (subst (λ (k : Loan T U). Send environment (state_of (kept_of f)) n k (state_of (kept_of g)) result) loan-is sends.sends)
 
   abbrev messages : Messages T U
   messages = put_at m n (Some (entry_of l))
@@ -50,7 +49,7 @@ module _ {T U : Type 0} (f g : Fields T U) (n count : ℕ) (sends : SendsLoan f 
     ];
     complete = sends.agrees.entries;
     below = λ k le.
-        let rises = (send_advances fixed_handlers s n l (state_of (kept_of g)) (Delivered_to count) machine-sends).next_message in
+        let rises = (send_advances environment s n l (state_of (kept_of g)) result machine-sends).next_message in
         let low : n < s.next_message = (shown.well_formed.loans n l out).below in
         others k (λ same. absurd (omega arith)) ∙ shown.below k (omega arith);
     unsent = λ k loan e. elim (cases_eq k n) [

@@ -1,9 +1,8 @@
 -- The creation of a subscriber, seen from outside.
 use Rattle.std.proofs.Common.{◌≡◌, ℕ, refl, ap, sym, subst, ◌∙◌}
 use Rattle.std.specs.declared.option.Option.TheVariants.{None, Some}
-use Rattle.iox2_store.specs.machine.Environments.{fixed_handlers}
 use Rattle.iox2_store.specs.machine.Ports.{buffer_for, CreateSubscriber}
-use Rattle.iox2_store.specs.machine.Records.{SubscriberSettings}
+use Rattle.iox2_store.specs.machine.Records.{SubscriberSettings, Environment}
 use Rattle.iox2_store.specs.machine.State.{State, Messages}
 use Rattle.iox2_store.specs.declared.errors.SubscriberCreateError.{SubscriberCreateError}
 use Rattle.iox2_domain.specs.Kept.{Kept, state_of}
@@ -16,47 +15,47 @@ use Rattle.iox2_domain.specs.Shows.{Shows}
 use Rattle.iox2_domain.proofs.lemmas.fields.ReachesShows.{reaches-shows-same}
 use Rattle.iox2_domain.proofs.lemmas.creations.SubscriberCreations.{create-keeps, create-open}
 
-module _ {T U : Type 0} (old new : Fields T U) (before : Kept T U) (is_before : kept_of old ≡ before) where
+module _ {T U : Type 0} (environment : Environment) (old new : Fields T U) (before : Kept T U) (is_before : kept_of old ≡ before) where
   was : (m : Messages T U) (s : State T U) → Shows before m s → Shows (kept_of old) m s
   was m s shown = subst (λ (kept : Kept T U). Shows kept m s) (sym is_before) shown
 
   module _ (asked given : SubscriberSettings) (is_given : asked ≡ given) where
     -- for every state that was shown, the one that is shown now has the subscriber
-    pub made-shown : (s' : State T U) × CreateSubscriber fixed_handlers (state_of (kept_of old)) asked s' None × Reaches old new s'
+    pub made-shown : (s' : State T U) × CreateSubscriber environment (state_of (kept_of old)) asked s' None × Reaches old new s'
         → (id buffer : ℕ) → id ≡ old.next_port → buffer ≡ buffer_for asked → (m : Messages T U) (s : State T U) → Shows before m s
-        → (s' : State T U) × Shows (kept_of new) m s' × (CreateSubscriber fixed_handlers s given s' None × (id ≡ s.next_port) × (buffer ≡ buffer_for given))
+        → (s' : State T U) × Shows (kept_of new) m s' × (CreateSubscriber environment s given s' None × (id ≡ s.next_port) × (buffer ≡ buffer_for given))
     made-shown made id buffer is_id is_buffer m s shown =
         let same : s ≡ state_of (kept_of old) = (was m s shown).state in
-        let keeps = create-keeps fixed_handlers (state_of (kept_of old)) asked made.0 None made.1 in (
+        let keeps = create-keeps environment (state_of (kept_of old)) asked made.0 None made.1 in (
           made.0,
           reaches-shows-same old new m s made.0 (was m s shown) made.2
               (keeps.next_message ∙ ap (λ (t : State T U). t.next_message) (sym same)) (keeps.loans ∙ ap (λ (t : State T U). t.loans) (sym same)),
           (
-            subst (λ (t : State T U). CreateSubscriber fixed_handlers t given made.0 None) (sym same)
-                (subst (λ (settings : SubscriberSettings). CreateSubscriber fixed_handlers (state_of (kept_of old)) settings made.0 None) is_given made.1),
+            subst (λ (t : State T U). CreateSubscriber environment t given made.0 None) (sym same)
+                (subst (λ (settings : SubscriberSettings). CreateSubscriber environment (state_of (kept_of old)) settings made.0 None) is_given made.1),
             is_id ∙ ap (λ (t : State T U). t.next_port) (sym same),
             is_buffer ∙ ap buffer_for is_given,
           ),
         )
 
     -- a refusal leaves what was shown
-    pub refused-shown : (e : SubscriberCreateError) → CreateSubscriber fixed_handlers (state_of (kept_of old)) asked (state_of (kept_of old)) (Some e) × (new ≡ old)
-        → (m : Messages T U) (s : State T U) → Shows before m s → (s' : State T U) × Shows (kept_of new) m s' × CreateSubscriber fixed_handlers s given s' (Some e)
+    pub refused-shown : (e : SubscriberCreateError) → CreateSubscriber environment (state_of (kept_of old)) asked (state_of (kept_of old)) (Some e) × (new ≡ old)
+        → (m : Messages T U) (s : State T U) → Shows before m s → (s' : State T U) × Shows (kept_of new) m s' × CreateSubscriber environment s given s' (Some e)
     refused-shown e refused m s shown =
         let same : s ≡ state_of (kept_of old) = (was m s shown).state in (
           s,
           subst (λ (f : Fields T U). Shows (kept_of f) m s) (sym refused.1) (was m s shown),
-          subst (λ (t : State T U). CreateSubscriber fixed_handlers t given t (Some e)) (sym same)
-              (subst (λ (settings : SubscriberSettings). CreateSubscriber fixed_handlers (state_of (kept_of old)) settings (state_of (kept_of old)) (Some e)) is_given refused.0),
+          subst (λ (t : State T U). CreateSubscriber environment t given t (Some e)) (sym same)
+              (subst (λ (settings : SubscriberSettings). CreateSubscriber environment (state_of (kept_of old)) settings (state_of (kept_of old)) (Some e)) is_given refused.0),
         )
 
-module _ {T U : Type 0} (old new : Fields T U) (asked : SubscriberSettings) where
+module _ {T U : Type 0} (environment : Environment) (old new : Fields T U) (asked : SubscriberSettings) where
   -- the domain has the new subscriber
-  pub made-live : (s' : State T U) × CreateSubscriber fixed_handlers (state_of (kept_of old)) asked s' None × Reaches old new s'
+  pub made-live : (s' : State T U) × CreateSubscriber environment (state_of (kept_of old)) asked s' None × Reaches old new s'
       → (subscriber : Subscriber) → subscriber.service_id ≡ (old.config).service_id → subscriber.id ≡ old.next_port → IsLiveSubscriber (kept_of new) subscriber
   made-live made subscriber is_service is_id =
-      let keeps = create-keeps fixed_handlers (state_of (kept_of old)) asked made.0 None made.1 in
-      let has = create-open fixed_handlers (state_of (kept_of old)) asked made.0 made.1 in
+      let keeps = create-keeps environment (state_of (kept_of old)) asked made.0 None made.1 in
+      let has = create-open environment (state_of (kept_of old)) asked made.0 made.1 in
       subscriber-live (kept_of new) _ (
         refl,
         is_service ∙ sym (ap (λ (s : State T U). (s.config).service_id) made.2.state ∙ ap (λ c. c.service_id) keeps.config),

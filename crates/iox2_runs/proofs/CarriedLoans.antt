@@ -1,10 +1,10 @@
 -- Commands on loans, with what a run holds.
 use Rattle.std.proofs.Common.{◌≡◌, ℕ, false, List, [], ◌∷◌, ◌++◌, map, refl, sym, ap, subst, ◌∙◌, None, Some}
 use Rattle.std.specs.Prelude.{slice_set, slice_index_or}
-use Rattle.iox2_store.specs.machine.Records.{Loan}
+use Rattle.iox2_store.specs.machine.Records.{Loan, Environment}
 use Rattle.iox2_store.specs.machine.State.{State, Messages, with_loan}
 use Rattle.iox2_store.specs.machine.Numbers.{put_at}
-use Rattle.iox2_store.specs.machine.Environments.{fixed_handlers, ample_memory}
+use Rattle.iox2_store.specs.machine.Environments.{ample_memory}
 use Rattle.iox2_store.specs.machine.Loans.{GrantLoan, written, entry_of}
 use Rattle.iox2_store.specs.machine.Sends.{Send, Delivered_to}
 use Rattle.iox2_store.specs.declared.errors.LoanError.{LoanError}
@@ -28,20 +28,20 @@ use Rattle.iox2_runs.proofs.TableCalls.{write_comes, write_skipped, send_comes, 
 use Rattle.iox2_runs.proofs.TableMakes.{loan_skipped, loan_elsewhere, loan_comes, loan_refused_comes, loan_any}
 use Rattle.iox2_runs.proofs.TableEntries.{entries-set, entry-stands, lacks}
 
-module _ {T U : Type 0} (defaults : Defaults T U) (old new : Domain T U) (table table' : List Made) (of : ℕ) where
+module _ {T U : Type 0} (environment : Environment) (defaults : Defaults T U) (old new : Domain T U) (table table' : List Made) (of : ℕ) where
   -- a written loan
   pub write_carried : (value : T) (h : SampleMutUninit) (h' : SampleMut) → slice_index_or table of Nothing ≡ Unwritten h
       → ((m : Messages T U) (s : State T U) → Shows old m s → (l : Loan T U) × (s.loans h.loan.number ≡ Some l) × Shows new m (with_loan s h.loan.number (Some (written l value))))
       → h'.service_id ≡ h.service_id → h'.loan.publisher ≡ h.loan.publisher → h'.loan.number ≡ h.loan.number
       → table' ≡ slice_set table of (Written h')
-      → Carries defaults old new table (WriteAll of value) Done table' Nothing
+      → Carries environment defaults old new table (WriteAll of value) Done table' Nothing
   write_carried value h h' at writes service publisher number is = λ m s handles events shown w default_value default_header is_value is_header.
       let wrote = writes m s shown in
       let same : entry_for (Written h') ≡ Written_entry h.service_id h.loan.publisher h.loan.number = λ i. Written_entry (service i) (publisher i) (number i) in
       let after : map entry_for table' ≡ slice_set (map entry_for table) of (Written_entry h.service_id h.loan.publisher h.loan.number) =
       ap (λ (t : List Made). map entry_for t) is ∙ entries-set table of (Written h') ∙ ap (λ (k : TableEntry). slice_set (map entry_for table) of k) same in
-      subst (λ (ks : List TableEntry). Comes defaults (Shows new) m s handles events (WriteAll of value) Done (ks ++ No_entry ∷ [])) (sym after)
-      (write_comes defaults (Shows new) m s handles events (map entry_for table) w default_value default_header is_value is_header of h.service_id h.loan.publisher h.loan.number value
+      subst (λ (ks : List TableEntry). Comes environment defaults (Shows new) m s handles events (WriteAll of value) Done (ks ++ No_entry ∷ [])) (sym after)
+      (write_comes environment defaults (Shows new) m s handles events (map entry_for table) w default_value default_header is_value is_header of h.service_id h.loan.publisher h.loan.number value
       (entry-stands table of (Unwritten h) at (λ e. let clash : Unwritten h ≡ Nothing = e in cc))
       (λ l there. subst (λ (k : Loan T U). Shows new m (with_loan s h.loan.number (Some (written k value)))) (same_loan wrote.0 l (sym wrote.1 ∙ there)) wrote.2))
     where
@@ -50,23 +50,23 @@ module _ {T U : Type 0} (defaults : Defaults T U) (old new : Domain T U) (table 
 
   -- there is no such loan
   pub write_passed : (value : T) → is_unwritten_entry (entry_for (slice_index_or table of Nothing)) ≡ false → old ≡ new → table' ≡ table
-      → Carries defaults old new table (WriteAll of value) Skipped table' Nothing
+      → Carries environment defaults old new table (WriteAll of value) Skipped table' Nothing
   write_passed value other same is = λ m s handles events shown w default_value default_header is_value is_header.
-      subst (λ (t : List Made). Comes defaults (Shows new) m s handles events (WriteAll of value) Skipped (map entry_for t ++ No_entry ∷ [])) (sym is)
-      (write_skipped defaults (Shows new) m s handles events (map entry_for table) w default_value default_header is_value is_header of value
+      subst (λ (t : List Made). Comes environment defaults (Shows new) m s handles events (WriteAll of value) Skipped (map entry_for t ++ No_entry ∷ [])) (sym is)
+      (write_skipped environment defaults (Shows new) m s handles events (map entry_for table) w default_value default_header is_value is_header of value
       (lacks is_unwritten_entry refl table of other) (subst (λ (d : Domain T U). Shows d m s) same shown))
 
   -- ---- a loan
 
-  pub loan_passed : table' ≡ table → is_publisher_entry (entry_for (slice_index_or table of Nothing)) ≡ false → old ≡ new → Carries defaults old new table (LoanUninit of) Skipped table' Nothing
+  pub loan_passed : table' ≡ table → is_publisher_entry (entry_for (slice_index_or table of Nothing)) ≡ false → old ≡ new → Carries environment defaults old new table (LoanUninit of) Skipped table' Nothing
   loan_passed is other same = λ m s handles events shown w default_value default_header is_value is_header.
-      subst (λ (t : List Made). Comes defaults (Shows new) m s handles events (LoanUninit of) Skipped (map entry_for t ++ No_entry ∷ [])) (sym is)
-      (loan_skipped defaults (Shows new) m s handles events (map entry_for table) w default_value default_header is_value is_header of
+      subst (λ (t : List Made). Comes environment defaults (Shows new) m s handles events (LoanUninit of) Skipped (map entry_for t ++ No_entry ∷ [])) (sym is)
+      (loan_skipped environment defaults (Shows new) m s handles events (map entry_for table) w default_value default_header is_value is_header of
       (lacks is_publisher_entry refl table of other) (subst (λ (d : Domain T U). Shows d m s) same shown))
 
-  pub loan_of_other : ((old.config).units_per_element ≡ 1 → ⊥) → old ≡ new → Carries defaults old new table (LoanUninit of) Skipped table Nothing
+  pub loan_of_other : ((old.config).units_per_element ≡ 1 → ⊥) → old ≡ new → Carries environment defaults old new table (LoanUninit of) Skipped table Nothing
   loan_of_other other same = λ m s handles events shown w default_value default_header is_value is_header.
-      loan_elsewhere defaults (Shows new) m s handles events (map entry_for table) w default_value default_header is_value is_header of
+      loan_elsewhere environment defaults (Shows new) m s handles events (map entry_for table) w default_value default_header is_value is_header of
       (λ single. other (sym (ap (λ (t : State T U). (t.config).units_per_element) shown.state) ∙ single.1)) (subst (λ (d : Domain T U). Shows d m s) same shown)
 
   pub loan_carried : table' ≡ table → (h : PublisherHandle) (h' : SampleMutUninit) → slice_index_or table of Nothing ≡ MadePublisher h
@@ -74,51 +74,51 @@ module _ {T U : Type 0} (defaults : Defaults T U) (old new : Domain T U) (table 
       → ((m : Messages T U) (s : State T U) → Shows old m s → (s' : State T U) × Shows new m s'
       × ((header : U) × defaults.IsDefaultHeader header × GrantLoan ample_memory header false 1 s h.id s' None))
       → h'.service_id ≡ (new.config).service_id → h'.loan.publisher ≡ h.id → h'.loan.number ≡ old.next_message
-      → Carries defaults old new table (LoanUninit of) Loaned table' (Unwritten h')
+      → Carries environment defaults old new table (LoanUninit of) Loaned table' (Unwritten h')
   loan_carried is h h' at variant units lends service publisher number = λ m s handles events shown w default_value default_header is_value is_header.
       let lent = lends m s shown in
       let loan = lent.2 in
       let made : Unwritten_entry h'.service_id h.id s.next_message ≡ entry_for (Unwritten h') =
       λ i. Unwritten_entry h'.service_id (sym publisher i) ((ap (λ (t : State T U). t.next_message) shown.state ∙ sym number) i) in
-      subst (λ (t : List Made). Comes defaults (Shows new) m s handles events (LoanUninit of) Loaned (map entry_for t ++ entry_for (Unwritten h') ∷ [])) (sym is)
-      (subst (λ (k : TableEntry). Comes defaults (Shows new) m s handles events (LoanUninit of) Loaned (map entry_for table ++ k ∷ [])) made
-      (loan_comes defaults (Shows new) m s handles events (map entry_for table) w default_value default_header is_value is_header of h.service_id h.id
+      subst (λ (t : List Made). Comes environment defaults (Shows new) m s handles events (LoanUninit of) Loaned (map entry_for t ++ entry_for (Unwritten h') ∷ [])) (sym is)
+      (subst (λ (k : TableEntry). Comes environment defaults (Shows new) m s handles events (LoanUninit of) Loaned (map entry_for table ++ k ∷ [])) made
+      (loan_comes environment defaults (Shows new) m s handles events (map entry_for table) w default_value default_header is_value is_header of h.service_id h.id
       (entry-stands table of (MadePublisher h) at (λ e. let clash : MadePublisher h ≡ Nothing = e in cc))
       (ap (λ (t : State T U). (t.config).variant) shown.state ∙ variant, ap (λ (t : State T U). (t.config).units_per_element) shown.state ∙ units)
-      loan.0 loan.1 lent.0 (loan_any loan.0 false 1 s h.id lent.0 None loan.2) lent.1
+      loan.0 loan.1 lent.0 (loan_any environment loan.0 false 1 s h.id lent.0 None loan.2) lent.1
       h'.service_id (service ∙ sym (ap (λ (t : State T U). (t.config).service_id) (lent.1).state))))
 
   pub loan_denied : table' ≡ table → (h : PublisherHandle) (e : LoanError) → slice_index_or table of Nothing ≡ MadePublisher h
       → (old.config).variant ≡ FixedSize → (old.config).units_per_element ≡ 1
       → ((m : Messages T U) (s : State T U) → Shows old m s → (s' : State T U) × Shows new m s' × ((s' ≡ s) × ((header : U) → GrantLoan ample_memory header false 1 s h.id s' (Some e))))
-      → Carries defaults old new table (LoanUninit of) (LoanRefused e) table' Nothing
+      → Carries environment defaults old new table (LoanUninit of) (LoanRefused e) table' Nothing
   loan_denied is h e at variant units refuses = λ m s handles events shown w default_value default_header is_value is_header.
       let refused = refuses m s shown in
-      subst (λ (t : List Made). Comes defaults (Shows new) m s handles events (LoanUninit of) (LoanRefused e) (map entry_for t ++ No_entry ∷ [])) (sym is)
-      (loan_refused_comes defaults (Shows new) m s handles events (map entry_for table) w default_value default_header is_value is_header of h.service_id h.id
+      subst (λ (t : List Made). Comes environment defaults (Shows new) m s handles events (LoanUninit of) (LoanRefused e) (map entry_for t ++ No_entry ∷ [])) (sym is)
+      (loan_refused_comes environment defaults (Shows new) m s handles events (map entry_for table) w default_value default_header is_value is_header of h.service_id h.id
       (entry-stands table of (MadePublisher h) at (λ e. let clash : MadePublisher h ≡ Nothing = e in cc))
       (ap (λ (t : State T U). (t.config).variant) shown.state ∙ variant, ap (λ (t : State T U). (t.config).units_per_element) shown.state ∙ units)
-      default_header is_header refused.0 e (loan_any default_header false 1 s h.id refused.0 (Some e) ((refused.2).1 default_header)) refused.1)
+      default_header is_header refused.0 e (loan_any environment default_header false 1 s h.id refused.0 (Some e) ((refused.2).1 default_header)) refused.1)
 
   -- ---- a send
 
   pub send_passed : is_written_entry (entry_for (slice_index_or table of Nothing)) ≡ false → old ≡ new → table' ≡ table
-      → Carries defaults old new table (SendLoan of) Skipped table' Nothing
+      → Carries environment defaults old new table (SendLoan of) Skipped table' Nothing
   send_passed other same is = λ m s handles events shown w default_value default_header is_value is_header.
-      subst (λ (t : List Made). Comes defaults (Shows new) m s handles events (SendLoan of) Skipped (map entry_for t ++ No_entry ∷ [])) (sym is)
-      (send_skipped defaults (Shows new) m s handles events (map entry_for table) w default_value default_header is_value is_header of
+      subst (λ (t : List Made). Comes environment defaults (Shows new) m s handles events (SendLoan of) Skipped (map entry_for t ++ No_entry ∷ [])) (sym is)
+      (send_skipped environment defaults (Shows new) m s handles events (map entry_for table) w default_value default_header is_value is_header of
       (lacks is_written_entry refl table of other) (subst (λ (d : Domain T U). Shows d m s) same shown))
 
   pub send_carried : (h : SampleMut) (count : ℕ) → slice_index_or table of Nothing ≡ Written h
       → ((m : Messages T U) (s : State T U) (l : Loan T U) → Shows old m s → s.loans h.loan.number ≡ Some l
-      → (s' : State T U) × Shows new (put_at m h.loan.number (Some (entry_of l))) s' × Send fixed_handlers s h.loan.number l s' (Delivered_to count))
+      → (s' : State T U) × Shows new (put_at m h.loan.number (Some (entry_of l))) s' × Send environment s h.loan.number l s' (Delivered_to count))
       → table' ≡ slice_set table of Nothing
-      → Carries defaults old new table (SendLoan of) (Delivered count) table' Nothing
+      → Carries environment defaults old new table (SendLoan of) (Delivered count) table' Nothing
   send_carried h count at sends is = λ m s handles events shown w default_value default_header is_value is_header.
       let stand = entry-stands table of (Written h) at (λ e. let clash : Written h ≡ Nothing = e in cc) in
       let named = has_written s handles events (map entry_for table) w of h.service_id h.loan.publisher h.loan.number stand in
       let sent = sends m s named.0 shown named.3 in
       let after : map entry_for table' ≡ slice_set (map entry_for table) of No_entry = ap (λ (t : List Made). map entry_for t) is ∙ entries-set table of Nothing in
-      subst (λ (ks : List TableEntry). Comes defaults (Shows new) m s handles events (SendLoan of) (Delivered count) (ks ++ No_entry ∷ [])) (sym after)
-      (send_comes defaults (Shows new) m s handles events (map entry_for table) w default_value default_header is_value is_header of h.service_id h.loan.publisher h.loan.number count
-      stand named.0 named.3 sent.0 sent.2 (send_advances fixed_handlers s h.loan.number named.0 sent.0 (Delivered_to count) sent.2).next_message sent.1)
+      subst (λ (ks : List TableEntry). Comes environment defaults (Shows new) m s handles events (SendLoan of) (Delivered count) (ks ++ No_entry ∷ [])) (sym after)
+      (send_comes environment defaults (Shows new) m s handles events (map entry_for table) w default_value default_header is_value is_header of h.service_id h.loan.publisher h.loan.number count
+      stand named.0 named.3 sent.0 sent.2 (send_advances environment s h.loan.number named.0 sent.0 (Delivered_to count) sent.2).next_message sent.1)

@@ -1,8 +1,7 @@
 -- Commands that make ports, with what a run holds.
 use Rattle.std.proofs.Common.{◌≡◌, ℕ, List, [], ◌∷◌, ◌++◌, map, sym, ap, subst, ◌∙◌, Option, None, Some}
 use Rattle.iox2_store.specs.machine.Limits.{buffer_limit}
-use Rattle.iox2_store.specs.machine.Environments.{fixed_handlers}
-use Rattle.iox2_store.specs.machine.Records.{PublisherSettings, SubscriberSettings, Fixed}
+use Rattle.iox2_store.specs.machine.Records.{PublisherSettings, SubscriberSettings, Fixed, Environment}
 use Rattle.iox2_store.specs.machine.State.{State, Messages}
 use Rattle.iox2_store.specs.machine.Ports.{CreatePublisher, CreateSubscriber}
 use Rattle.iox2_store.specs.declared.allocation.AllocationStrategy.TheVariants.{Static}
@@ -33,57 +32,57 @@ use Rattle.iox2_runs.proofs.TableMakes.{publisher_comes, publisher_refused_comes
 abbrev pub given_for : (limit : ℕ) → Option ℕ → SubscriberSettings
 given_for limit buffer = record { buffer_size = elim buffer [ None ↦ limit | Some asked ↦ asked ]; degradation_handler = Fixed Warn }
 
-module _ {T U : Type 0} (defaults : Defaults T U) (old new : Domain T U) (table : List Made) where
+module _ {T U : Type 0} (environment : Environment) (defaults : Defaults T U) (old new : Domain T U) (table : List Made) where
   -- what the command says in a service for single values is what the factory was told
   settings_are : (loans len : ℕ) (s : State T U) → (s.config).variant ≡ FixedSize → plain_publisher loans ≡ publisher_settings (s.config).variant loans DiscardData Static len None Warn None
   settings_are loans len s e = ap (λ (v : TypeVariant). publisher_settings v loans DiscardData Static len None Warn None) (sym e)
 
   pub publisher_carried : (loans len : ℕ) (h : PublisherHandle) (id : ℕ) → (old.config).variant ≡ FixedSize
-      → ((m : Messages T U) (s : State T U) → Shows old m s → (s' : State T U) × Shows new m s' × ((h.id ≡ s.next_port) × CreatePublisher fixed_handlers s (plain_publisher loans) s' None))
+      → ((m : Messages T U) (s : State T U) → Shows old m s → (s' : State T U) × Shows new m s' × ((h.id ≡ s.next_port) × CreatePublisher environment s (plain_publisher loans) s' None))
       → h.service_id ≡ (new.config).service_id → id ≡ h.id
-      → Carries defaults old new table (PublisherCommand loans DiscardData Static len None Warn None) (PublisherMade id) table (MadePublisher h)
+      → Carries environment defaults old new table (PublisherCommand loans DiscardData Static len None Warn None) (PublisherMade id) table (MadePublisher h)
   publisher_carried loans len h id variant creates service same = λ m s handles events shown w default_value default_header is_value is_header.
       let made = creates m s shown in
       let single : (s.config).variant ≡ FixedSize = ap (λ (t : State T U). (t.config).variant) shown.state ∙ variant in
-      let create = subst (λ (given : PublisherSettings). CreatePublisher fixed_handlers s given made.0 None) (settings_are loans len s single) (made.2).1 in
-      let Arrives : (a b : ℕ) → Type 0 = λ a b. Comes defaults (Shows new) m s handles events (PublisherCommand loans DiscardData Static len None Warn None) (PublisherMade a)
+      let create = subst (λ (given : PublisherSettings). CreatePublisher environment s given made.0 None) (settings_are loans len s single) (made.2).1 in
+      let Arrives : (a b : ℕ) → Type 0 = λ a b. Comes environment defaults (Shows new) m s handles events (PublisherCommand loans DiscardData Static len None Warn None) (PublisherMade a)
       (map entry_for table ++ Publisher_entry h.service_id b ∷ []) in
       subst (λ (a : ℕ). Arrives a h.id) (sym (made.2).0 ∙ sym same) (subst (Arrives s.next_port) (sym (made.2).0)
-      (publisher_comes defaults (Shows new) m s handles events (map entry_for table) w default_value default_header is_value is_header loans DiscardData Static len None Warn None
-      made.0 create (create_publisher_advances fixed_handlers s (publisher_settings (s.config).variant loans DiscardData Static len None Warn None) made.0 None create).next_message made.1 h.service_id
+      (publisher_comes environment defaults (Shows new) m s handles events (map entry_for table) w default_value default_header is_value is_header loans DiscardData Static len None Warn None
+      made.0 create (create_publisher_advances environment s (publisher_settings (s.config).variant loans DiscardData Static len None Warn None) made.0 None create).next_message made.1 h.service_id
       (service ∙ sym (ap (λ (t : State T U). (t.config).service_id) (made.1).state))))
 
   pub publisher_denied : (loans len : ℕ) (e : PublisherCreateError) → (old.config).variant ≡ FixedSize
-      → ((m : Messages T U) (s : State T U) → Shows old m s → (s' : State T U) × Shows new m s' × CreatePublisher fixed_handlers s (plain_publisher loans) s' (Some e))
-      → Carries defaults old new table (PublisherCommand loans DiscardData Static len None Warn None) (PublisherRefused e) table Nothing
+      → ((m : Messages T U) (s : State T U) → Shows old m s → (s' : State T U) × Shows new m s' × CreatePublisher environment s (plain_publisher loans) s' (Some e))
+      → Carries environment defaults old new table (PublisherCommand loans DiscardData Static len None Warn None) (PublisherRefused e) table Nothing
   publisher_denied loans len e variant refuses = λ m s handles events shown w default_value default_header is_value is_header.
       let refused = refuses m s shown in
       let single : (s.config).variant ≡ FixedSize = ap (λ (t : State T U). (t.config).variant) shown.state ∙ variant in
-      let create = subst (λ (given : PublisherSettings). CreatePublisher fixed_handlers s given refused.0 (Some e)) (settings_are loans len s single) refused.2 in
-      publisher_refused_comes defaults (Shows new) m s handles events (map entry_for table) w default_value default_header is_value is_header loans DiscardData Static len None Warn None
-      refused.0 e create (create_publisher_advances fixed_handlers s (publisher_settings (s.config).variant loans DiscardData Static len None Warn None) refused.0 (Some e) create).next_message refused.1
+      let create = subst (λ (given : PublisherSettings). CreatePublisher environment s given refused.0 (Some e)) (settings_are loans len s single) refused.2 in
+      publisher_refused_comes environment defaults (Shows new) m s handles events (map entry_for table) w default_value default_header is_value is_header loans DiscardData Static len None Warn None
+      refused.0 e create (create_publisher_advances environment s (publisher_settings (s.config).variant loans DiscardData Static len None Warn None) refused.0 (Some e) create).next_message refused.1
 
   pub subscriber_carried : (buffer : Option ℕ) (given : SubscriberSettings) → given ≡ given_for (buffer_limit old.config) buffer
       → (h : SubscriberHandle) (id : ℕ)
-      → ((m : Messages T U) (s : State T U) → Shows old m s → (s' : State T U) × Shows new m s' × (CreateSubscriber fixed_handlers s given s' None × (h.id ≡ s.next_port)))
+      → ((m : Messages T U) (s : State T U) → Shows old m s → (s' : State T U) × Shows new m s' × (CreateSubscriber environment s given s' None × (h.id ≡ s.next_port)))
       → h.service_id ≡ (new.config).service_id → id ≡ h.id
-      → Carries defaults old new table (SubscriberCommand buffer Warn) (SubscriberMade id) table (MadeSubscriber h)
+      → Carries environment defaults old new table (SubscriberCommand buffer Warn) (SubscriberMade id) table (MadeSubscriber h)
   subscriber_carried buffer given is h id creates service same = λ m s handles events shown w default_value default_header is_value is_header.
       let made = creates m s shown in
       let so : given ≡ given_for (buffer_limit s.config) buffer = is ∙ sym (ap (λ (t : State T U). given_for (buffer_limit t.config) buffer) shown.state) in
-      let create = subst (λ (given : SubscriberSettings). CreateSubscriber fixed_handlers s given made.0 None) so (made.2).0 in
-      let Arrives : (a b : ℕ) → Type 0 = λ a b. Comes defaults (Shows new) m s handles events (SubscriberCommand buffer Warn) (SubscriberMade a) (map entry_for table ++ Subscriber_entry h.service_id b ∷ []) in
+      let create = subst (λ (given : SubscriberSettings). CreateSubscriber environment s given made.0 None) so (made.2).0 in
+      let Arrives : (a b : ℕ) → Type 0 = λ a b. Comes environment defaults (Shows new) m s handles events (SubscriberCommand buffer Warn) (SubscriberMade a) (map entry_for table ++ Subscriber_entry h.service_id b ∷ []) in
       subst (λ (a : ℕ). Arrives a h.id) (sym (made.2).1 ∙ sym same) (subst (Arrives s.next_port) (sym (made.2).1)
-      (subscriber_comes defaults (Shows new) m s handles events (map entry_for table) w default_value default_header is_value is_header buffer Warn
-      made.0 create (create_subscriber_advances fixed_handlers s (given_for (buffer_limit s.config) buffer) made.0 None create).next_message made.1 h.service_id
+      (subscriber_comes environment defaults (Shows new) m s handles events (map entry_for table) w default_value default_header is_value is_header buffer Warn
+      made.0 create (create_subscriber_advances environment s (given_for (buffer_limit s.config) buffer) made.0 None create).next_message made.1 h.service_id
       (service ∙ sym (ap (λ (t : State T U). (t.config).service_id) (made.1).state))))
 
   pub subscriber_denied : (buffer : Option ℕ) (given : SubscriberSettings) → given ≡ given_for (buffer_limit old.config) buffer
-      → (e : SubscriberCreateError) → ((m : Messages T U) (s : State T U) → Shows old m s → (s' : State T U) × Shows new m s' × CreateSubscriber fixed_handlers s given s' (Some e))
-      → Carries defaults old new table (SubscriberCommand buffer Warn) (SubscriberRefused e) table Nothing
+      → (e : SubscriberCreateError) → ((m : Messages T U) (s : State T U) → Shows old m s → (s' : State T U) × Shows new m s' × CreateSubscriber environment s given s' (Some e))
+      → Carries environment defaults old new table (SubscriberCommand buffer Warn) (SubscriberRefused e) table Nothing
   subscriber_denied buffer given is e refuses = λ m s handles events shown w default_value default_header is_value is_header.
       let refused = refuses m s shown in
       let so : given ≡ given_for (buffer_limit s.config) buffer = is ∙ sym (ap (λ (t : State T U). given_for (buffer_limit t.config) buffer) shown.state) in
-      let create = subst (λ (given : SubscriberSettings). CreateSubscriber fixed_handlers s given refused.0 (Some e)) so refused.2 in
-      subscriber_refused_comes defaults (Shows new) m s handles events (map entry_for table) w default_value default_header is_value is_header buffer Warn
-      refused.0 e create (create_subscriber_advances fixed_handlers s (given_for (buffer_limit s.config) buffer) refused.0 (Some e) create).next_message refused.1
+      let create = subst (λ (given : SubscriberSettings). CreateSubscriber environment s given refused.0 (Some e)) so refused.2 in
+      subscriber_refused_comes environment defaults (Shows new) m s handles events (map entry_for table) w default_value default_header is_value is_header buffer Warn
+      refused.0 e create (create_subscriber_advances environment s (given_for (buffer_limit s.config) buffer) refused.0 (Some e) create).next_message refused.1

@@ -3,8 +3,7 @@ use Rattle.std.proofs.Common.{◌≡◌, ℕ, zero, suc, Bool, true, false, cond
 use Rattle.std.specs.Prelude.{slice_get, slice_set, slice_index_or}
 use Rattle.std.proofs.lemmas.Bool.{ne_eqb}
 use Rattle.std.proofs.lemmas.Option.{same_Some}
-use Rattle.iox2_store.specs.machine.Environments.{fixed_handlers}
-use Rattle.iox2_store.specs.machine.Records.{Entry, Loan}
+use Rattle.iox2_store.specs.machine.Records.{Entry, Loan, Environment}
 use Rattle.iox2_store.specs.machine.State.{State, Messages}
 use Rattle.iox2_store.specs.machine.Receives.{Receive, Got_sample, No_sample, Receive_error}
 use Rattle.iox2_store.specs.machine.Mailbox.{is_borrowed}
@@ -39,14 +38,14 @@ use Rattle.iox2_runs.proofs.TableEntries.{entries-set, entry-stands, lacks}
 past_one : (k : ℕ) → nat_lt (suc k) 1 ≡ false
 past_one k = grind arith
 
-module _ {T U : Type 0} (defaults : Defaults T U) (old new : Domain T U) (table table' : List Made) (of : ℕ) where
+module _ {T U : Type 0} (environment : Environment) (defaults : Defaults T U) (old new : Domain T U) (table table' : List Made) (of : ℕ) where
   -- ---- release
 
   pub release_passed : is_sample_entry (entry_for (slice_index_or table of Nothing)) ≡ false → old ≡ new → table' ≡ table
-      → Carries defaults old new table (ReleaseCommand of) Skipped table' Nothing
+      → Carries environment defaults old new table (ReleaseCommand of) Skipped table' Nothing
   release_passed other same is = λ m s handles events shown w default_value default_header is_value is_header.
-      subst (λ (t : List Made). Comes defaults (Shows new) m s handles events (ReleaseCommand of) Skipped (map entry_for t ++ No_entry ∷ [])) (sym is)
-      (release_skipped defaults (Shows new) m s handles events (map entry_for table) w default_value default_header is_value is_header of
+      subst (λ (t : List Made). Comes environment defaults (Shows new) m s handles events (ReleaseCommand of) Skipped (map entry_for t ++ No_entry ∷ [])) (sym is)
+      (release_skipped environment defaults (Shows new) m s handles events (map entry_for table) w default_value default_header is_value is_header of
       (lacks is_sample_entry refl table of other) (subst (λ (d : Domain T U). Shows d m s) same shown))
 
   pub release_carried : (h : SampleHandle) → slice_index_or table of Nothing ≡ MadeSample h
@@ -54,80 +53,80 @@ module _ {T U : Type 0} (defaults : Defaults T U) (old new : Domain T U) (table 
       → ((m : Messages T U) (s : State T U) → Shows old m s → (p : ℕ) → is_borrowed h.sample.number (s.mailboxes p h.sample.subscriber) ≡ true
       → (s' : State T U) × Shows new m s' × (s' ≡ released s p h.sample.subscriber h.sample.number))
       → table' ≡ slice_set table of Nothing
-      → Carries defaults old new table (ReleaseCommand of) Done table' Nothing
+      → Carries environment defaults old new table (ReleaseCommand of) Done table' Nothing
   release_carried h at live releases is = λ m s handles events shown w default_value default_header is_value is_header.
       let freed =
       releases m s shown h.origin (subst (λ (t : State T U). is_borrowed h.sample.number (t.mailboxes h.origin h.sample.subscriber) ≡ true) (sym shown.state) live) in
       let after : map entry_for table' ≡ slice_set (map entry_for table) of No_entry = ap (λ (t : List Made). map entry_for t) is ∙ entries-set table of Nothing in
-      subst (λ (ks : List TableEntry). Comes defaults (Shows new) m s handles events (ReleaseCommand of) Done (ks ++ No_entry ∷ [])) (sym after)
-      (release_comes defaults (Shows new) m s handles events (map entry_for table) w default_value default_header is_value is_header of h.service_id h.origin h.sample.subscriber h.sample.number
+      subst (λ (ks : List TableEntry). Comes environment defaults (Shows new) m s handles events (ReleaseCommand of) Done (ks ++ No_entry ∷ [])) (sym after)
+      (release_comes environment defaults (Shows new) m s handles events (map entry_for table) w default_value default_header is_value is_header of h.service_id h.origin h.sample.subscriber h.sample.number
       (entry-stands table of (MadeSample h) at (λ e. let clash : MadeSample h ≡ Nothing = e in cc))
       (released_advances s h.origin h.sample.subscriber h.sample.number).next_message (subst (Shows new m) freed.2 freed.1))
 
   -- ---- receive
 
-  pub receive_passed : table' ≡ table → is_subscriber_entry (entry_for (slice_index_or table of Nothing)) ≡ false → old ≡ new → Carries defaults old new table (ReceiveCommand of) Skipped table' Nothing
+  pub receive_passed : table' ≡ table → is_subscriber_entry (entry_for (slice_index_or table of Nothing)) ≡ false → old ≡ new → Carries environment defaults old new table (ReceiveCommand of) Skipped table' Nothing
   receive_passed is other same = λ m s handles events shown w default_value default_header is_value is_header.
-      subst (λ (t : List Made). Comes defaults (Shows new) m s handles events (ReceiveCommand of) Skipped (map entry_for t ++ No_entry ∷ [])) (sym is)
-      (receive_skipped defaults (Shows new) m s handles events (map entry_for table) w default_value default_header is_value is_header of
+      subst (λ (t : List Made). Comes environment defaults (Shows new) m s handles events (ReceiveCommand of) Skipped (map entry_for t ++ No_entry ∷ [])) (sym is)
+      (receive_skipped environment defaults (Shows new) m s handles events (map entry_for table) w default_value default_header is_value is_header of
       (lacks is_subscriber_entry refl table of other) (subst (λ (d : Domain T U). Shows d m s) same shown))
 
-  pub receive_of_other : ((old.config).units_per_element ≡ 1 → ⊥) → old ≡ new → Carries defaults old new table (ReceiveCommand of) Skipped table Nothing
+  pub receive_of_other : ((old.config).units_per_element ≡ 1 → ⊥) → old ≡ new → Carries environment defaults old new table (ReceiveCommand of) Skipped table Nothing
   receive_of_other other same = λ m s handles events shown w default_value default_header is_value is_header.
-      receive_elsewhere defaults (Shows new) m s handles events (map entry_for table) w default_value default_header is_value is_header of
+      receive_elsewhere environment defaults (Shows new) m s handles events (map entry_for table) w default_value default_header is_value is_header of
       (λ units. other (sym (ap (λ (t : State T U). (t.config).units_per_element) shown.state) ∙ units)) (subst (λ (d : Domain T U). Shows d m s) same shown)
 
   pub receive_carried : table' ≡ table → (h : SubscriberHandle) (h' : SampleHandle) (origin : ℕ) → slice_index_or table of Nothing ≡ MadeSubscriber h
       → (old.config).variant ≡ FixedSize → (old.config).units_per_element ≡ 1
-      → ((m : Messages T U) (s : State T U) → Shows old m s → (s' : State T U) × Shows new m s' × Receive fixed_handlers s h.id s' (Got_sample h'.origin h'.sample.number))
+      → ((m : Messages T U) (s : State T U) → Shows old m s → (s' : State T U) × Shows new m s' × Receive environment s h.id s' (Got_sample h'.origin h'.sample.number))
       → h'.service_id ≡ (new.config).service_id → h'.sample.subscriber ≡ h.id → origin ≡ h'.origin
-      → Carries defaults old new table (ReceiveCommand of) (SampleReply origin) table' (MadeSample h')
+      → Carries environment defaults old new table (ReceiveCommand of) (SampleReply origin) table' (MadeSample h')
   receive_carried is h h' origin at variant units receives service subscriber same = λ m s handles events shown w default_value default_header is_value is_header.
       let got = receives m s shown in
       let made : Sample_entry h'.service_id h'.origin h.id h'.sample.number ≡ entry_for (MadeSample h') = λ i. Sample_entry h'.service_id h'.origin (sym subscriber i) h'.sample.number in
-      subst (λ (t : List Made). Comes defaults (Shows new) m s handles events (ReceiveCommand of) (SampleReply origin) (map entry_for t ++ entry_for (MadeSample h') ∷ [])) (sym is)
-      (subst (λ (p : ℕ). Comes defaults (Shows new) m s handles events (ReceiveCommand of) (SampleReply p) (map entry_for table ++ entry_for (MadeSample h') ∷ [])) (sym same)
-      (subst (λ (k : TableEntry). Comes defaults (Shows new) m s handles events (ReceiveCommand of) (SampleReply h'.origin) (map entry_for table ++ k ∷ [])) made
-      (receive_comes defaults (Shows new) m s handles events (map entry_for table) w default_value default_header is_value is_header of h.service_id h.id
+      subst (λ (t : List Made). Comes environment defaults (Shows new) m s handles events (ReceiveCommand of) (SampleReply origin) (map entry_for t ++ entry_for (MadeSample h') ∷ [])) (sym is)
+      (subst (λ (p : ℕ). Comes environment defaults (Shows new) m s handles events (ReceiveCommand of) (SampleReply p) (map entry_for table ++ entry_for (MadeSample h') ∷ [])) (sym same)
+      (subst (λ (k : TableEntry). Comes environment defaults (Shows new) m s handles events (ReceiveCommand of) (SampleReply h'.origin) (map entry_for table ++ k ∷ [])) made
+      (receive_comes environment defaults (Shows new) m s handles events (map entry_for table) w default_value default_header is_value is_header of h.service_id h.id
       (entry-stands table of (MadeSubscriber h) at (λ e. let clash : MadeSubscriber h ≡ Nothing = e in cc))
       (ap (λ (t : State T U). (t.config).variant) shown.state ∙ variant, ap (λ (t : State T U). (t.config).units_per_element) shown.state ∙ units)
-      got.0 h'.origin h'.sample.number got.2 (receive_advances fixed_handlers s h.id got.0 (Got_sample h'.origin h'.sample.number) got.2).next_message got.1
+      got.0 h'.origin h'.sample.number got.2 (receive_advances environment s h.id got.0 (Got_sample h'.origin h'.sample.number) got.2).next_message got.1
       h'.service_id (service ∙ sym (ap (λ (t : State T U). (t.config).service_id) (got.1).state)))))
 
   pub receive_none : table' ≡ table → (h : SubscriberHandle) → slice_index_or table of Nothing ≡ MadeSubscriber h → (old.config).units_per_element ≡ 1
-      → ((m : Messages T U) (s : State T U) → Shows old m s → (s' : State T U) × Shows new m s' × Receive fixed_handlers s h.id s' No_sample)
-      → Carries defaults old new table (ReceiveCommand of) NoSample table' Nothing
+      → ((m : Messages T U) (s : State T U) → Shows old m s → (s' : State T U) × Shows new m s' × Receive environment s h.id s' No_sample)
+      → Carries environment defaults old new table (ReceiveCommand of) NoSample table' Nothing
   receive_none is h at units receives = λ m s handles events shown w default_value default_header is_value is_header.
       let got = receives m s shown in
-      subst (λ (t : List Made). Comes defaults (Shows new) m s handles events (ReceiveCommand of) NoSample (map entry_for t ++ No_entry ∷ [])) (sym is)
-      (receive_quiet_comes defaults (Shows new) m s handles events (map entry_for table) w default_value default_header is_value is_header of h.service_id h.id
+      subst (λ (t : List Made). Comes environment defaults (Shows new) m s handles events (ReceiveCommand of) NoSample (map entry_for t ++ No_entry ∷ [])) (sym is)
+      (receive_quiet_comes environment defaults (Shows new) m s handles events (map entry_for table) w default_value default_header is_value is_header of h.service_id h.id
       (entry-stands table of (MadeSubscriber h) at (λ e. let clash : MadeSubscriber h ≡ Nothing = e in cc)) (ap (λ (t : State T U). (t.config).units_per_element) shown.state ∙ units)
       got.0 No_sample NoSample (λ p n e. let clash : No_sample ≡ Got_sample p n = e in absurd cc) refl got.2
-      (receive_advances fixed_handlers s h.id got.0 No_sample got.2).next_message got.1)
+      (receive_advances environment s h.id got.0 No_sample got.2).next_message got.1)
 
   pub receive_denied : table' ≡ table → (h : SubscriberHandle) (e : ReceiveError) → slice_index_or table of Nothing ≡ MadeSubscriber h → (old.config).units_per_element ≡ 1
-      → ((m : Messages T U) (s : State T U) → Shows old m s → (s' : State T U) × Shows new m s' × Receive fixed_handlers s h.id s' (Receive_error e))
-      → Carries defaults old new table (ReceiveCommand of) (ReceiveRefused e) table' Nothing
+      → ((m : Messages T U) (s : State T U) → Shows old m s → (s' : State T U) × Shows new m s' × Receive environment s h.id s' (Receive_error e))
+      → Carries environment defaults old new table (ReceiveCommand of) (ReceiveRefused e) table' Nothing
   receive_denied is h e at units receives = λ m s handles events shown w default_value default_header is_value is_header.
       let got = receives m s shown in
-      subst (λ (t : List Made). Comes defaults (Shows new) m s handles events (ReceiveCommand of) (ReceiveRefused e) (map entry_for t ++ No_entry ∷ [])) (sym is)
-      (receive_quiet_comes defaults (Shows new) m s handles events (map entry_for table) w default_value default_header is_value is_header of h.service_id h.id
+      subst (λ (t : List Made). Comes environment defaults (Shows new) m s handles events (ReceiveCommand of) (ReceiveRefused e) (map entry_for t ++ No_entry ∷ [])) (sym is)
+      (receive_quiet_comes environment defaults (Shows new) m s handles events (map entry_for table) w default_value default_header is_value is_header of h.service_id h.id
       (entry-stands table of (MadeSubscriber h) at (λ e. let clash : MadeSubscriber h ≡ Nothing = e in cc)) (ap (λ (t : State T U). (t.config).units_per_element) shown.state ∙ units)
       got.0 (Receive_error e) (ReceiveRefused e) (λ p n e2. let clash : Receive_error e ≡ Got_sample p n = e2 in absurd cc) refl got.2
-      (receive_advances fixed_handlers s h.id got.0 (Receive_error e) got.2).next_message got.1)
+      (receive_advances environment s h.id got.0 (Receive_error e) got.2).next_message got.1)
 
   -- ---- read
 
   module _ (m : Messages T U) (s : State T U) (handles : List Handle) (default_value : T) (default_header : U) (at : ℕ) where
     -- the reply is this one
     abbrev Reads : Option T → Type 0
-    Reads cell = Step fixed_handlers default_value default_header m s handles (ReadCommand of at) (replied (cond (eqb at 0) (Cell cell) Skipped) s)
+    Reads cell = Step environment default_value default_header m s handles (ReadCommand of at) (replied (cond (eqb at 0) (Cell cell) Skipped) s)
 
   -- past the first cell the read is skipped
   past : (m : Messages T U) (s : State T U) (handles : List Handle) (default_value : T) (default_header : U) (k : ℕ) (cell : Option T)
-      → Step fixed_handlers default_value default_header m s handles (ReadCommand of (suc k)) (skipped s) → Reads m s handles default_value default_header (suc k) cell
+      → Step environment default_value default_header m s handles (ReadCommand of (suc k)) (skipped s) → Reads m s handles default_value default_header (suc k) cell
   past m s handles default_value default_header k cell step =
-      subst (λ (b : Bool). Step fixed_handlers default_value default_header m s handles (ReadCommand of (suc k)) (replied (cond b (Cell cell) Skipped) s))
+      subst (λ (b : Bool). Step environment default_value default_header m s handles (ReadCommand of (suc k)) (replied (cond b (Cell cell) Skipped) s))
       (sym (ne_eqb (suc k) 0 (λ e. omega (arith, e)))) step
 
   read_loan : (m : Messages T U) (s : State T U) (handles : List Handle) (default_value : T) (default_header : U) (at n : ℕ) (l : Loan T U) (cell : Option T)
@@ -152,17 +151,17 @@ module _ {T U : Type 0} (defaults : Defaults T U) (old new : Domain T U) (table 
   -- a read at which this step replies so, with the table as it was
   reads : table' ≡ table → (at : ℕ) (reply : Reply T U)
       → ((m : Messages T U) (s : State T U) (handles : List Handle) (events : List (Event T U)) → Shows old m s → IsTable s handles events (map entry_for table)
-      → (default_value : T) (default_header : U) → Step fixed_handlers default_value default_header m s handles (ReadCommand of at) (replied reply s))
-      → Carries defaults old old table (ReadCommand of at) reply table' Nothing
+      → (default_value : T) (default_header : U) → Step environment default_value default_header m s handles (ReadCommand of at) (replied reply s))
+      → Carries environment defaults old old table (ReadCommand of at) reply table' Nothing
   reads is at reply step = λ m s handles events shown w default_value default_header is_value is_header.
-      subst (λ (t : List Made). Comes defaults (Shows old) m s handles events (ReadCommand of at) reply (map entry_for t ++ No_entry ∷ [])) (sym is)
-      (read_comes defaults (Shows old) m s handles events (map entry_for table) w default_value default_header is_value is_header of at reply
+      subst (λ (t : List Made). Comes environment defaults (Shows old) m s handles events (ReadCommand of at) reply (map entry_for t ++ No_entry ∷ [])) (sym is)
+      (read_comes environment defaults (Shows old) m s handles events (map entry_for table) w default_value default_header is_value is_header of at reply
       (step m s handles events shown w default_value default_header) shown)
 
   pub read_unwritten : table' ≡ table → (at : ℕ) (h : SampleMutUninit) (cell : Option T) (reply : Reply T U) → slice_index_or table of Nothing ≡ Unwritten h
       → ((m : Messages T U) (s : State T U) → Shows old m s → HasCell s h.loan.number cell) → reply ≡ cond (eqb at 0) (Cell cell) Skipped
-      → Carries defaults old old table (ReadCommand of at) reply table' Nothing
-  read_unwritten is at h cell reply stood has so = subst (λ (r : Reply T U). Carries defaults old old table (ReadCommand of at) r table' Nothing) (sym so)
+      → Carries environment defaults old old table (ReadCommand of at) reply table' Nothing
+  read_unwritten is at h cell reply stood has so = subst (λ (r : Reply T U). Carries environment defaults old old table (ReadCommand of at) r table' Nothing) (sym so)
       (reads is at (cond (eqb at 0) (Cell cell) Skipped) (λ m s handles events shown w default_value default_header.
       let stand = entry-stands table of (Unwritten h) stood (λ e. let clash : Unwritten h ≡ Nothing = e in cc) in
       let named = has_unwritten s handles events (map entry_for table) w of h.service_id h.loan.publisher h.loan.number stand in
@@ -173,8 +172,8 @@ module _ {T U : Type 0} (defaults : Defaults T U) (old new : Domain T U) (table 
 
   pub read_written : table' ≡ table → (at : ℕ) (h : SampleMut) (value : T) (reply : Reply T U) → slice_index_or table of Nothing ≡ Written h
       → ((m : Messages T U) (s : State T U) → Shows old m s → HasCell s h.loan.number (Some value)) → reply ≡ cond (eqb at 0) (Cell (Some value)) Skipped
-      → Carries defaults old old table (ReadCommand of at) reply table' Nothing
-  read_written is at h value reply stood has so = subst (λ (r : Reply T U). Carries defaults old old table (ReadCommand of at) r table' Nothing) (sym so)
+      → Carries environment defaults old old table (ReadCommand of at) reply table' Nothing
+  read_written is at h value reply stood has so = subst (λ (r : Reply T U). Carries environment defaults old old table (ReadCommand of at) r table' Nothing) (sym so)
       (reads is at (cond (eqb at 0) (Cell (Some value)) Skipped) (λ m s handles events shown w default_value default_header.
       let stand = entry-stands table of (Written h) stood (λ e. let clash : Written h ≡ Nothing = e in cc) in
       let named = has_written s handles events (map entry_for table) w of h.service_id h.loan.publisher h.loan.number stand in
@@ -185,8 +184,8 @@ module _ {T U : Type 0} (defaults : Defaults T U) (old new : Domain T U) (table 
 
   pub read_sampled : table' ≡ table → (at : ℕ) (h : SampleHandle) (value : T) (reply : Reply T U) → slice_index_or table of Nothing ≡ MadeSample h
       → ((m : Messages T U) (s : State T U) → Shows old m s → (entry : Entry T U) × (m h.sample.number ≡ Some entry) × (entry.values ≡ value ∷ [])) → reply ≡ cond (eqb at 0) (Cell (Some value)) Skipped
-      → Carries defaults old old table (ReadCommand of at) reply table' Nothing
-  read_sampled is at h value reply stood has so = subst (λ (r : Reply T U). Carries defaults old old table (ReadCommand of at) r table' Nothing) (sym so)
+      → Carries environment defaults old old table (ReadCommand of at) reply table' Nothing
+  read_sampled is at h value reply stood has so = subst (λ (r : Reply T U). Carries environment defaults old old table (ReadCommand of at) r table' Nothing) (sym so)
       (reads is at (cond (eqb at 0) (Cell (Some value)) Skipped) (λ m s handles events shown w default_value default_header.
       let stand = entry-stands table of (MadeSample h) stood (λ e. let clash : MadeSample h ≡ Nothing = e in cc) in
       let read = has m s shown in
@@ -194,7 +193,7 @@ module _ {T U : Type 0} (defaults : Defaults T U) (old new : Domain T U) (table 
       (has_sample s handles events (map entry_for table) w of h.service_id h.origin h.sample.subscriber h.sample.number stand) read.1 read.2))
 
   pub read_passed : table' ≡ table → (at : ℕ) → is_sample_entry (entry_for (slice_index_or table of Nothing)) ≡ false → is_loan_entry (entry_for (slice_index_or table of Nothing)) ≡ false
-      → Carries defaults old old table (ReadCommand of at) Skipped table' Nothing
+      → Carries environment defaults old old table (ReadCommand of at) Skipped table' Nothing
   read_passed is at no_sample no_loan =
       reads is at Skipped (λ m s handles events shown w default_value default_header.
       at_none _ _ _ (lacks_sample s handles events (map entry_for table) w of (lacks is_sample_entry refl table of no_sample))

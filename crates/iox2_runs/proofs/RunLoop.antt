@@ -4,6 +4,7 @@ use Rattle.std.specs.Prelude.{slice_get}
 use Rattle.std.proofs.lemmas.List.{map-append}
 use Rattle.std.proofs.lemmas.Option.{none-some}
 use Rattle.iox2_store.specs.machine.Environments.{fixed_handlers}
+use Rattle.iox2_store.specs.machine.Records.{Environment}
 use Rattle.iox2_store.specs.machine.State.{State, Messages}
 use Rattle.iox2_domain.specs.Kept.{Kept as Domain}
 use Rattle.iox2_domain.specs.Shows.{Shows}
@@ -21,13 +22,13 @@ use Rattle.iox2_commands.proofs.Faithful.{is_faithful}
 use Rattle.iox2_commands.proofs.OneDefault.{uses_one_default}
 use Rattle.iox2_runs.proofs.RunsOn.{run_of, run_more, received_once}
 
-module _ {T U : Type 0} (defaults : Defaults T U) where
+module _ {T U : Type 0} (environment : Environment) (defaults : Defaults T U) where
   -- From each state that the domain showed, the commands ran to one that it shows now, with what the table keeps.
   abbrev pub HasRun : (old new : Domain T U) → List (Command T U) → List (Reply T U) → List Made → Type 0
   HasRun old new commands replies table =
       (m : Messages T U) (s : State T U) → Shows old m s
       → (events : List (Event T U)) × (handles : List Handle) × (m' : Messages T U) × (s' : State T U) × Shows new m' s'
-      × RunTo fixed_handlers defaults m s [] commands replies events m' s' handles
+      × RunTo environment defaults m s [] commands replies events m' s' handles
       × IsTable s' handles events (map entry_for table)
 
   -- at the start nothing ran
@@ -53,15 +54,15 @@ module _ {T U : Type 0} (defaults : Defaults T U) where
 
   -- one command more
   pub has_run_more : (old mid new : Domain T U) (commands : List (Command T U)) (replies : List (Reply T U)) (table table' : List Made) (command : Command T U) (reply : Reply T U) (made : Made)
-      → HasRun old mid commands replies table → Carries defaults mid new table command reply table' made
+      → HasRun old mid commands replies table → Carries environment defaults mid new table command reply table' made
       → (default_value : T) (default_header : U) → defaults.IsDefaultValue default_value → defaults.IsDefaultHeader default_header
       → HasRun old new (commands ++ command ∷ []) (replies ++ reply ∷ []) (table' ++ made ∷ [])
   has_run_more old mid new commands replies table table' command reply made ran carries default_value default_header is_value is_header = λ m s shown.
       let before = ran m s shown in
       let comes = carries before.2 before.3 before.1 before.0 before.4 before.6 default_value default_header is_value is_header in
-      let more = run_more fixed_handlers defaults m before.2 s before.3 [] before.1 commands replies before.0 before.5
+      let more = run_more environment defaults m before.2 s before.3 [] before.1 commands replies before.0 before.5
       comes.default_value comes.default_header comes.is_default_value comes.is_default_header command reply comes.outcome comes.step comes.replied in
-      let once = received_once fixed_handlers defaults m (messages_after comes.outcome.event before.2) s comes.outcome.state (before.1 ++ comes.outcome.handle ∷ [])
+      let once = received_once environment defaults m (messages_after comes.outcome.event before.2) s comes.outcome.state (before.1 ++ comes.outcome.handle ∷ [])
       (commands ++ command ∷ []) (replies ++ reply ∷ []) (before.0 ++ comes.outcome.event ∷ []) shown.well_formed more in (
         before.0 ++ comes.outcome.event ∷ [],
         before.1 ++ comes.outcome.handle ∷ [],
@@ -81,15 +82,16 @@ module _ {T U : Type 0} (defaults : Defaults T U) where
   -- it is a run, and a faithful one
   pub is_run : (old new : Domain T U) (commands : List (Command T U)) (replies : List (Reply T U)) (table : List Made) → HasRun old new commands replies table
       → (m : Messages T U) (s : State T U) → Shows old m s
-      → (events : List (Event T U)) × (m' : Messages T U) × (s' : State T U) × Shows new m' s' × Run fixed_handlers defaults m s commands replies events m' s'
+      → (events : List (Event T U)) × (m' : Messages T U) × (s' : State T U) × Shows new m' s' × Run environment defaults m s commands replies events m' s'
       × IsFaithful commands replies events
   is_run old new commands replies table ran = λ m s shown.
       let now = ran m s shown in
-      let run = run_of fixed_handlers defaults m now.2 s now.3 [] now.1 commands replies now.0 now.5 in
-      (now.0, now.2, now.3, now.4, run, is_faithful fixed_handlers defaults m now.2 s now.3 commands replies now.0 shown.well_formed run)
+      let run = run_of environment defaults m now.2 s now.3 [] now.1 commands replies now.0 now.5 in
+      (now.0, now.2, now.3, now.4, run, is_faithful environment defaults m now.2 s now.3 commands replies now.0 shown.well_formed run)
 
+module _ {T U : Type 0} (defaults : Defaults T U) where
   -- it has one default value and one default header throughout, where there are no others
-  pub runs_on_domain : (old new : Domain T U) (commands : List (Command T U)) (replies : List (Reply T U)) (table : List Made) → HasRun old new commands replies table
+  pub runs_on_domain : (old new : Domain T U) (commands : List (Command T U)) (replies : List (Reply T U)) (table : List Made) → HasRun fixed_handlers defaults old new commands replies table
       → HasOneDefault defaults → (default_value : T) (default_header : U) → defaults.IsDefaultValue default_value → defaults.IsDefaultHeader default_header
       → (m : Messages T U) (s : State T U) → Shows old m s → RunsOnDomain (only_defaults default_value default_header) new m s commands replies
   runs_on_domain old new commands replies table ran one default_value default_header is_value is_header m s shown =

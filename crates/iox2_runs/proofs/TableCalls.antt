@@ -5,9 +5,8 @@ use Rattle.std.specs.Option.{option_and_then}
 use Rattle.std.proofs.lemmas.Bool.{ne_eqb}
 use Rattle.std.proofs.lemmas.Option.{same_Some}
 use Rattle.iox2_store.specs.machine.Numbers.{put_at}
-use Rattle.iox2_store.specs.machine.Records.{Loan}
+use Rattle.iox2_store.specs.machine.Records.{Loan, Environment}
 use Rattle.iox2_store.specs.machine.State.{State, Messages, with_loan, is_blocked}
-use Rattle.iox2_store.specs.machine.Environments.{fixed_handlers}
 use Rattle.iox2_store.specs.machine.Loans.{written, entry_of}
 use Rattle.iox2_store.specs.machine.Sends.{Send, Delivered_to}
 use Rattle.iox2_laws.proofs.LoanKeeping.{send_loans}
@@ -38,13 +37,13 @@ set_length [] i x = refl
 set_length (y ∷ xs) zero x = refl
 set_length (y ∷ xs) (suc i) x = ap suc (set_length xs i x)
 
-module _ {T U : Type 0} (defaults : Defaults T U) (Shown : Messages T U → State T U → Type 0) (m : Messages T U) (s : State T U) (handles : List Handle)
+module _ {T U : Type 0} (environment : Environment) (defaults : Defaults T U) (Shown : Messages T U → State T U → Type 0) (m : Messages T U) (s : State T U) (handles : List Handle)
     (events : List (Event T U)) (table : List TableEntry) (w : IsTable s handles events table) (default_value : T) (default_header : U)
     (is_default_value : defaults.IsDefaultValue default_value) (is_default_header : defaults.IsDefaultHeader default_header) where
   -- a command that makes nothing and after which all is kept that was
-  pub quiet_comes : (command : Command T U) (reply : Reply T U) (s' : State T U) → Step fixed_handlers default_value default_header m s handles command (replied reply s')
+  pub quiet_comes : (command : Command T U) (reply : Reply T U) (s' : State T U) → Step environment default_value default_header m s handles command (replied reply s')
       → Shown m s' → PortsStay s s' → ((n : ℕ) → n < s.next_message → s'.loans n ≡ s.loans n) → s.next_message ≤ s'.next_message
-      → Comes defaults Shown m s handles events command reply (table ++ No_entry ∷ [])
+      → Comes environment defaults Shown m s handles events command reply (table ++ No_entry ∷ [])
   quiet_comes command reply s' step shown stay loans rises = record {
     default_value = default_value;
     default_header = default_header;
@@ -60,22 +59,22 @@ module _ {T U : Type 0} (defaults : Defaults T U) (Shown : Messages T U → Stat
   }
 
   -- a command that is skipped
-  pub skip_comes : (command : Command T U) → Step fixed_handlers default_value default_header m s handles command (skipped s) → Shown m s
-      → Comes defaults Shown m s handles events command Skipped (table ++ No_entry ∷ [])
+  pub skip_comes : (command : Command T U) → Step environment default_value default_header m s handles command (skipped s) → Shown m s
+      → Comes environment defaults Shown m s handles events command Skipped (table ++ No_entry ∷ [])
   skip_comes command step shown = quiet_comes command Skipped s step shown (ports_stay_themselves s) (λ n low. refl) (omega arith)
 
-  pub nothing_comes : Shown m s → Comes defaults Shown m s handles events Nothing Done (table ++ No_entry ∷ [])
+  pub nothing_comes : Shown m s → Comes environment defaults Shown m s handles events Nothing Done (table ++ No_entry ∷ [])
   nothing_comes shown = quiet_comes Nothing Done s refl shown (ports_stay_themselves s) (λ n low. refl) (omega arith)
 
   -- ---- a loan is written
 
-  pub write_skipped : (of : ℕ) (value : T) → Lacks is_unwritten_entry table of → Shown m s → Comes defaults Shown m s handles events (WriteAll of value) Skipped (table ++ No_entry ∷ [])
+  pub write_skipped : (of : ℕ) (value : T) → Lacks is_unwritten_entry table of → Shown m s → Comes environment defaults Shown m s handles events (WriteAll of value) Skipped (table ++ No_entry ∷ [])
   write_skipped of value absent shown =
       skip_comes (WriteAll of value) (at_none _ _ _ (lacks_unwritten s handles events table w of absent) refl) shown
 
   pub write_comes : (of service p n : ℕ) (value : T) → slice_get table of ≡ Some (Unwritten_entry service p n)
       → ((l : Loan T U) → s.loans n ≡ Some l → Shown m (with_loan s n (Some (written l value))))
-      → Comes defaults Shown m s handles events (WriteAll of value) Done (slice_set table of (Written_entry service p n) ++ No_entry ∷ [])
+      → Comes environment defaults Shown m s handles events (WriteAll of value) Done (slice_set table of (Written_entry service p n) ++ No_entry ∷ [])
   write_comes of service p n value at shown =
       let found = has_unwritten s handles events table w of service p n at in
       let named = handle_of s handles events table w of (Unwritten_entry service p n) at in
@@ -100,22 +99,22 @@ module _ {T U : Type 0} (defaults : Defaults T U) (Shown : Messages T U → Stat
 
   -- ---- a loan is sent
 
-  pub send_skipped : (of : ℕ) → Lacks is_written_entry table of → Shown m s → Comes defaults Shown m s handles events (SendLoan of) Skipped (table ++ No_entry ∷ [])
+  pub send_skipped : (of : ℕ) → Lacks is_written_entry table of → Shown m s → Comes environment defaults Shown m s handles events (SendLoan of) Skipped (table ++ No_entry ∷ [])
   send_skipped of absent shown =
       skip_comes (SendLoan of)
       (at_none _ _ _ (ap (λ (o : Option (ℕ × Loan T U)). option_and_then (λ named. cond (is_blocked s named.1.publisher) None (Some named)) o) (lacks_written s handles events table w of absent)) refl)
       shown
 
   pub send_comes : (of service p n count : ℕ) → slice_get table of ≡ Some (Written_entry service p n)
-      → (l : Loan T U) → s.loans n ≡ Some l → (s' : State T U) → Send fixed_handlers s n l s' (Delivered_to count) → s.next_message ≤ s'.next_message
+      → (l : Loan T U) → s.loans n ≡ Some l → (s' : State T U) → Send environment s n l s' (Delivered_to count) → s.next_message ≤ s'.next_message
       → Shown (put_at m n (Some (entry_of l))) s'
-      → Comes defaults Shown m s handles events (SendLoan of) (Delivered count) (slice_set table of No_entry ++ No_entry ∷ [])
+      → Comes environment defaults Shown m s handles events (SendLoan of) (Delivered count) (slice_set table of No_entry ++ No_entry ∷ [])
   send_comes of service p n count at l here s' sends rises shown =
       let found = has_written s handles events table w of service p n at in
       let named = handle_of s handles events table w of (Written_entry service p n) at in
       let same : found.0 ≡ l = same_Some found.0 l (sym found.3 ∙ here) in
-      let stay : PortsStay s s' = send_stays fixed_handlers s n l s' (Delivered_to count) sends (λ e. absurd cc) in
-      let loans : s'.loans ≡ put_at s.loans n None = send_loans fixed_handlers s n l s' (Delivered_to count) sends in
+      let stay : PortsStay s s' = send_stays environment s n l s' (Delivered_to count) sends (λ e. absurd cc) in
+      let loans : s'.loans ≡ put_at s.loans n None = send_loans environment s n l s' (Delivered_to count) sends in
       let o : Outcome T U = record { reply = Delivered count; handle = No_handle; event = Message_sent l.publisher n (entry_of l); state = s' } in record {
         default_value = default_value;
         default_header = default_header;

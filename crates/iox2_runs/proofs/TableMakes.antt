@@ -8,7 +8,7 @@ use Rattle.iox2_store.specs.machine.Limits.{last_number, buffer_limit}
 use Rattle.iox2_store.specs.machine.Places.{free_place}
 use Rattle.iox2_store.specs.machine.Records.{Loan, Publisher, Subscriber, Environment, PublisherSettings, SubscriberSettings, Fixed}
 use Rattle.iox2_store.specs.machine.State.{State, Messages}
-use Rattle.iox2_store.specs.machine.Environments.{fixed_handlers, ample_memory}
+use Rattle.iox2_store.specs.machine.Environments.{ample_memory}
 use Rattle.iox2_store.specs.machine.Loans.{GrantLoan, StaticLoan, DynamicLoan, limit_error, is_static}
 use Rattle.iox2_store.specs.machine.Ports.{CreatePublisher, CreateSubscriber, MakePublisher, MakeSubscriber, with_new_publisher, with_new_subscriber, new_publisher, new_subscriber, first_segment_fits, buffer_for}
 use Rattle.iox2_store.specs.declared.service_config.ServiceConfig.{ServiceConfig}
@@ -76,14 +76,14 @@ module _ {T U : Type 0} (environment : Environment) (s : State T U) where
           (ports_stay_trans new i.0 _ (update_subscriber_stays environment new s.next_port i.0 i.1 i.2) (warning_stays i.0 (SubscriberPartlyConnected s.next_port) i.1)) in
           (stay.remain).subscribers s.next_port (new_subscriber given place) (put_at-same s.subscribers s.next_port (Some (new_subscriber given place))) refl
 
-module _ {T U : Type 0} (defaults : Defaults T U) (Shown : Messages T U → State T U → Type 0) (m : Messages T U) (s : State T U) (handles : List Handle)
+module _ {T U : Type 0} (environment : Environment) (defaults : Defaults T U) (Shown : Messages T U → State T U → Type 0) (m : Messages T U) (s : State T U) (handles : List Handle)
     (events : List (Event T U)) (table : List TableEntry) (w : IsTable s handles events table) (default_value : T) (default_header : U)
     (is_default_value : defaults.IsDefaultValue default_value) (is_default_header : defaults.IsDefaultHeader default_header) where
   -- a command that makes a port
   port_comes : (command : Command T U) (reply : Reply T U) (handle : Handle) (entry : TableEntry) (s' : State T U)
-      → Step fixed_handlers default_value default_header m s handles command (outcome reply handle s') → Shown m s' → PortsStay s s' → s'.loans ≡ s.loans → s.next_message ≤ s'.next_message
+      → Step environment default_value default_header m s handles command (outcome reply handle s') → Shown m s' → PortsStay s s' → s'.loans ≡ s.loans → s.next_message ≤ s'.next_message
       → IsEntryOf s' handle entry → ((n : ℕ) → handle ≡ Loan_handle n → ⊥) → ((p q n : ℕ) → handle ≡ Sample_handle p q n → ⊥)
-      → Comes defaults Shown m s handles events command reply (table ++ entry ∷ [])
+      → Comes environment defaults Shown m s handles events command reply (table ++ entry ∷ [])
   port_comes command reply handle entry s' step shown stay loans rises new no_loan no_sample = record {
     default_value = default_value;
     default_header = default_header;
@@ -100,54 +100,54 @@ module _ {T U : Type 0} (defaults : Defaults T U) (Shown : Messages T U → Stat
 
   pub publisher_comes : (loans : ℕ) (strategy : BackpressureStrategy) (allocation : AllocationStrategy) (len : ℕ) (override_slots : Option ℕ) (degradation : DegradationAction)
       (backpressure : Option BackpressureAction) (s' : State T U)
-      → CreatePublisher fixed_handlers s (publisher_settings (s.config).variant loans strategy allocation len override_slots degradation backpressure) s' None
+      → CreatePublisher environment s (publisher_settings (s.config).variant loans strategy allocation len override_slots degradation backpressure) s' None
       → s.next_message ≤ s'.next_message → Shown m s' → (service : ℕ) → service ≡ (s'.config).service_id
-      → Comes defaults Shown m s handles events (PublisherCommand loans strategy allocation len override_slots degradation backpressure) (PublisherMade s.next_port)
+      → Comes environment defaults Shown m s handles events (PublisherCommand loans strategy allocation len override_slots degradation backpressure) (PublisherMade s.next_port)
       (table ++ Publisher_entry service s.next_port ∷ [])
   publisher_comes loans strategy allocation len override_slots degradation backpressure s' h rises shown service ours =
       let given = publisher_settings (s.config).variant loans strategy allocation len override_slots degradation backpressure in
-      let stay : PortsStay s s' = create_publisher_stays fixed_handlers s given s' None h in
+      let stay : PortsStay s s' = create_publisher_stays environment s given s' None h in
       port_comes (PublisherCommand loans strategy allocation len override_slots degradation backpressure) (PublisherMade s.next_port) (Publisher_handle s.next_port)
-      (Publisher_entry service s.next_port) s' (s', None, h, refl) shown stay (create_publisher_loans fixed_handlers s given s' None h) rises
-      (ours, refl, publisher_made fixed_handlers s given s' h)
+      (Publisher_entry service s.next_port) s' (s', None, h, refl) shown stay (create_publisher_loans environment s given s' None h) rises
+      (ours, refl, publisher_made environment s given s' h)
       (λ n e. let clash : Publisher_handle s.next_port ≡ Loan_handle n = e in absurd (cc)) (λ p q n e. let clash : Publisher_handle s.next_port ≡ Sample_handle p q n = e in absurd (cc))
 
   pub publisher_refused_comes : (loans : ℕ) (strategy : BackpressureStrategy) (allocation : AllocationStrategy) (len : ℕ) (override_slots : Option ℕ) (degradation : DegradationAction)
       (backpressure : Option BackpressureAction) (s' : State T U) (e : PublisherCreateError)
-      → CreatePublisher fixed_handlers s (publisher_settings (s.config).variant loans strategy allocation len override_slots degradation backpressure) s' (Some e)
+      → CreatePublisher environment s (publisher_settings (s.config).variant loans strategy allocation len override_slots degradation backpressure) s' (Some e)
       → s.next_message ≤ s'.next_message → Shown m s'
-      → Comes defaults Shown m s handles events (PublisherCommand loans strategy allocation len override_slots degradation backpressure) (PublisherRefused e) (table ++ No_entry ∷ [])
+      → Comes environment defaults Shown m s handles events (PublisherCommand loans strategy allocation len override_slots degradation backpressure) (PublisherRefused e) (table ++ No_entry ∷ [])
   publisher_refused_comes loans strategy allocation len override_slots degradation backpressure s' e h rises shown =
       let given = publisher_settings (s.config).variant loans strategy allocation len override_slots degradation backpressure in
-      quiet_comes defaults Shown m s handles events table w default_value default_header is_default_value is_default_header
+      quiet_comes environment defaults Shown m s handles events table w default_value default_header is_default_value is_default_header
       (PublisherCommand loans strategy allocation len override_slots degradation backpressure) (PublisherRefused e) s' (s', Some e, h, refl) shown
-      (create_publisher_stays fixed_handlers s given s' (Some e) h) (λ n _. ap (λ (f : ℕ → Option (Loan T U)). f n) (create_publisher_loans fixed_handlers s given s' (Some e) h)) rises
+      (create_publisher_stays environment s given s' (Some e) h) (λ n _. ap (λ (f : ℕ → Option (Loan T U)). f n) (create_publisher_loans environment s given s' (Some e) h)) rises
 
   -- what a command says of a subscriber
   abbrev subscriber_settings : Option ℕ → DegradationAction → SubscriberSettings
   subscriber_settings buffer degradation = record { buffer_size = elim buffer [ None ↦ buffer_limit s.config | Some asked ↦ asked ]; degradation_handler = Fixed degradation }
 
   pub subscriber_comes : (buffer : Option ℕ) (degradation : DegradationAction) (s' : State T U)
-      → CreateSubscriber fixed_handlers s (record { buffer_size = elim buffer [ None ↦ buffer_limit s.config | Some asked ↦ asked ]; degradation_handler = Fixed degradation }) s' None
+      → CreateSubscriber environment s (record { buffer_size = elim buffer [ None ↦ buffer_limit s.config | Some asked ↦ asked ]; degradation_handler = Fixed degradation }) s' None
       → s.next_message ≤ s'.next_message → Shown m s' → (service : ℕ) → service ≡ (s'.config).service_id
-      → Comes defaults Shown m s handles events (SubscriberCommand buffer degradation) (SubscriberMade s.next_port) (table ++ Subscriber_entry service s.next_port ∷ [])
+      → Comes environment defaults Shown m s handles events (SubscriberCommand buffer degradation) (SubscriberMade s.next_port) (table ++ Subscriber_entry service s.next_port ∷ [])
   subscriber_comes buffer degradation s' h rises shown service ours =
-      let stay : PortsStay s s' = create_subscriber_stays fixed_handlers s (subscriber_settings buffer degradation) s' None h in
-      let made = subscriber_made fixed_handlers s (subscriber_settings buffer degradation) s' h in
+      let stay : PortsStay s s' = create_subscriber_stays environment s (subscriber_settings buffer degradation) s' None h in
+      let made = subscriber_made environment s (subscriber_settings buffer degradation) s' h in
       port_comes (SubscriberCommand buffer degradation) (SubscriberMade s.next_port) (Subscriber_handle s.next_port) (Subscriber_entry service s.next_port) s' (s', None, h, refl) shown stay
-      (create_subscriber_loans fixed_handlers s (subscriber_settings buffer degradation) s' None h) rises
+      (create_subscriber_loans environment s (subscriber_settings buffer degradation) s' None h) rises
       (ours, refl, made.0, made.1, made.2)
       (λ n e. let clash : Subscriber_handle s.next_port ≡ Loan_handle n = e in absurd (cc)) (λ p q n e. let clash : Subscriber_handle s.next_port ≡ Sample_handle p q n = e in absurd (cc))
 
   pub subscriber_refused_comes : (buffer : Option ℕ) (degradation : DegradationAction) (s' : State T U) (e : SubscriberCreateError)
-      → CreateSubscriber fixed_handlers s (record { buffer_size = elim buffer [ None ↦ buffer_limit s.config | Some asked ↦ asked ]; degradation_handler = Fixed degradation }) s' (Some e)
+      → CreateSubscriber environment s (record { buffer_size = elim buffer [ None ↦ buffer_limit s.config | Some asked ↦ asked ]; degradation_handler = Fixed degradation }) s' (Some e)
       → s.next_message ≤ s'.next_message → Shown m s'
-      → Comes defaults Shown m s handles events (SubscriberCommand buffer degradation) (SubscriberRefused e) (table ++ No_entry ∷ [])
+      → Comes environment defaults Shown m s handles events (SubscriberCommand buffer degradation) (SubscriberRefused e) (table ++ No_entry ∷ [])
   subscriber_refused_comes buffer degradation s' e h rises shown =
-      quiet_comes defaults Shown m s handles events table w default_value default_header is_default_value is_default_header
+      quiet_comes environment defaults Shown m s handles events table w default_value default_header is_default_value is_default_header
       (SubscriberCommand buffer degradation) (SubscriberRefused e) s' (s', Some e, h, refl) shown
-      (create_subscriber_stays fixed_handlers s (subscriber_settings buffer degradation) s' (Some e) h)
-      (λ n _. ap (λ (f : ℕ → Option (Loan T U)). f n) (create_subscriber_loans fixed_handlers s (subscriber_settings buffer degradation) s' (Some e) h)) rises
+      (create_subscriber_stays environment s (subscriber_settings buffer degradation) s' (Some e) h)
+      (λ n _. ap (λ (f : ℕ → Option (Loan T U)). f n) (create_subscriber_loans environment s (subscriber_settings buffer degradation) s' (Some e) h)) rises
 
   -- ---- a loan
 
@@ -181,25 +181,25 @@ module _ {T U : Type 0} (defaults : Defaults T U) (Shown : Messages T U → Stat
     by true FixedSize = e
     by true Dynamic = refl
 
-  pub loan_skipped : (of : ℕ) → Lacks is_publisher_entry table of → Shown m s → Comes defaults Shown m s handles events (LoanUninit of) Skipped (table ++ No_entry ∷ [])
+  pub loan_skipped : (of : ℕ) → Lacks is_publisher_entry table of → Shown m s → Comes environment defaults Shown m s handles events (LoanUninit of) Skipped (table ++ No_entry ∷ [])
   loan_skipped of absent shown =
-      skip_comes defaults Shown m s handles events table w default_value default_header is_default_value is_default_header (LoanUninit of)
+      skip_comes environment defaults Shown m s handles events table w default_value default_header is_default_value is_default_header (LoanUninit of)
       (at_none _ _ _ (none_named (unblocked_at s handles of) (lacks_publisher s handles events table w of absent)) refl) shown
 
-  pub loan_elsewhere : (of : ℕ) → (IsSingle s → ⊥) → Shown m s → Comes defaults Shown m s handles events (LoanUninit of) Skipped (table ++ No_entry ∷ [])
+  pub loan_elsewhere : (of : ℕ) → (IsSingle s → ⊥) → Shown m s → Comes environment defaults Shown m s handles events (LoanUninit of) Skipped (table ++ No_entry ∷ [])
   loan_elsewhere of other shown =
-      skip_comes defaults Shown m s handles events table w default_value default_header is_default_value is_default_header (LoanUninit of)
+      skip_comes environment defaults Shown m s handles events table w default_value default_header is_default_value is_default_header (LoanUninit of)
       (at_none _ _ _ (other_service (unblocked_at s handles of) other) refl) shown
 
   pub loan_comes : (of service p : ℕ) → slice_get table of ≡ Some (Publisher_entry service p) → IsSingle s
-      → (header : U) → defaults.IsDefaultHeader header → (s' : State T U) → GrantLoan fixed_handlers header false 1 s p s' None → Shown m s'
+      → (header : U) → defaults.IsDefaultHeader header → (s' : State T U) → GrantLoan environment header false 1 s p s' None → Shown m s'
       → (new_service : ℕ) → new_service ≡ (s'.config).service_id
-      → Comes defaults Shown m s handles events (LoanUninit of) Loaned (table ++ Unwritten_entry new_service p s.next_message ∷ [])
+      → Comes environment defaults Shown m s handles events (LoanUninit of) Loaned (table ++ Unwritten_entry new_service p s.next_message ∷ [])
   loan_comes of service p at single header is_default s' h shown new_service ours =
       let found = has_publisher s handles events table w of service p at in
       let named = handle_of s handles events table w of (Publisher_entry service p) at in
-      let stay : PortsStay s s' = grant_loan_stays fixed_handlers header false 1 s p s' None h in
-      let next : IsNextLoan fixed_handlers s p s' = loan_next fixed_handlers s header false 1 p s' h in
+      let stay : PortsStay s s' = grant_loan_stays environment header false 1 s p s' None h in
+      let next : IsNextLoan environment s p s' = loan_next environment s header false 1 p s' h in
       let free = (stay.remain).publishers p ((named.2).2).0 ((named.2).2).1 in record {
         default_value = default_value;
         default_header = header;
@@ -221,20 +221,20 @@ module _ {T U : Type 0} (defaults : Defaults T U) (Shown : Messages T U → Stat
       }
 
   pub loan_refused_comes : (of service p : ℕ) → slice_get table of ≡ Some (Publisher_entry service p) → IsSingle s
-      → (header : U) → defaults.IsDefaultHeader header → (s' : State T U) (e : LoanError) → GrantLoan fixed_handlers header false 1 s p s' (Some e) → Shown m s'
-      → Comes defaults Shown m s handles events (LoanUninit of) (LoanRefused e) (table ++ No_entry ∷ [])
+      → (header : U) → defaults.IsDefaultHeader header → (s' : State T U) (e : LoanError) → GrantLoan environment header false 1 s p s' (Some e) → Shown m s'
+      → Comes environment defaults Shown m s handles events (LoanUninit of) (LoanRefused e) (table ++ No_entry ∷ [])
   loan_refused_comes of service p at single header is_default s' e h shown =
       let found = has_publisher s handles events table w of service p at in
-      let same : s' ≡ s = loan_refused fixed_handlers s header false 1 p s' e h in
-      quiet_comes defaults Shown m s handles events table w default_value header is_default_value is_default (LoanUninit of) (LoanRefused e) s'
+      let same : s' ≡ s = loan_refused environment s header false 1 p s' e h in
+      quiet_comes environment defaults Shown m s handles events table w default_value header is_default_value is_default (LoanUninit of) (LoanRefused e) s'
       (at_some _ _ _ (p, found.0) (this_service (unblocked_at s handles of) single ∙ found.1) (s', Some e, h, refl)) shown
-      (grant_loan_stays fixed_handlers header false 1 s p s' (Some e) h) (λ n _. ap (λ (t : State T U). t.loans n) same) (subst (λ (t : State T U). s.next_message ≤ t.next_message) (sym same) (omega arith))
+      (grant_loan_stays environment header false 1 s p s' (Some e) h) (λ n _. ap (λ (t : State T U). t.loans n) same) (subst (λ (t : State T U). s.next_message ≤ t.next_message) (sym same) (omega arith))
 
--- a loan that is granted or refused where memory is ample is so where it isn't
-pub loan_any : {T U : Type 0} (header : U) (checks_length : Bool) (len : ℕ) (s : State T U) (p : ℕ) (s' : State T U) (refusal : Option LoanError)
-    → GrantLoan ample_memory header checks_length len s p s' refusal → GrantLoan fixed_handlers header checks_length len s p s' refusal
-loan_any {T} {U} header checks_length len s p s' refusal h = by_publisher (s.publishers p) h where
-  dynamic : (x : Publisher) (refusal : Option LoanError) → DynamicLoan ample_memory header s p x len s' refusal → DynamicLoan fixed_handlers header s p x len s' refusal
+-- a loan that is granted or refused where memory is ample is so anywhere
+pub loan_any : {T U : Type 0} (environment : Environment) (header : U) (checks_length : Bool) (len : ℕ) (s : State T U) (p : ℕ) (s' : State T U) (refusal : Option LoanError)
+    → GrantLoan ample_memory header checks_length len s p s' refusal → GrantLoan environment header checks_length len s p s' refusal
+loan_any {T} {U} environment header checks_length len s p s' refusal h = by_publisher (s.publishers p) h where
+  dynamic : (x : Publisher) (refusal : Option LoanError) → DynamicLoan ample_memory header s p x len s' refusal → DynamicLoan environment header s p x len s' refusal
   dynamic x None h = h
   dynamic x (Some OutOfMemory) h = h
   dynamic x (Some InternalFailure) h = (h.0, ⊎_elim (λ end. inl end) (λ other. inr (⊎_elim (λ refused. absurd refused) (λ none. inr none) other.0, other.1)) h.1)
@@ -243,16 +243,16 @@ loan_any {T} {U} header checks_length len s p s' refusal h = by_publisher (s.pub
 
   by_limit : (x : Publisher) (o : Option LoanError)
       → MatchOption o (MatchBool (is_static x.allocation_strategy) (StaticLoan header s p x len s' refusal) (DynamicLoan ample_memory header s p x len s' refusal)) (λ limit. (s' ≡ s) × (refusal ≡ Some limit))
-      → MatchOption o (MatchBool (is_static x.allocation_strategy) (StaticLoan header s p x len s' refusal) (DynamicLoan fixed_handlers header s p x len s' refusal)) (λ limit. (s' ≡ s) × (refusal ≡ Some limit))
+      → MatchOption o (MatchBool (is_static x.allocation_strategy) (StaticLoan header s p x len s' refusal) (DynamicLoan environment header s p x len s' refusal)) (λ limit. (s' ≡ s) × (refusal ≡ Some limit))
   by_limit x (Some limit) h = h
   by_limit x None h = by_kind (is_static x.allocation_strategy) h where
     by_kind : (b : Bool) → MatchBool b (StaticLoan header s p x len s' refusal) (DynamicLoan ample_memory header s p x len s' refusal)
-        → MatchBool b (StaticLoan header s p x len s' refusal) (DynamicLoan fixed_handlers header s p x len s' refusal)
+        → MatchBool b (StaticLoan header s p x len s' refusal) (DynamicLoan environment header s p x len s' refusal)
     by_kind true h = h
     by_kind false h = dynamic x refusal h
 
   by_publisher : (o : Option Publisher)
       → MatchOption o ⊥ (λ x. MatchOption (limit_error checks_length x len) (MatchBool (is_static x.allocation_strategy) (StaticLoan header s p x len s' refusal) (DynamicLoan ample_memory header s p x len s' refusal)) (λ limit. (s' ≡ s) × (refusal ≡ Some limit)))
-      → MatchOption o ⊥ (λ x. MatchOption (limit_error checks_length x len) (MatchBool (is_static x.allocation_strategy) (StaticLoan header s p x len s' refusal) (DynamicLoan fixed_handlers header s p x len s' refusal)) (λ limit. (s' ≡ s) × (refusal ≡ Some limit)))
+      → MatchOption o ⊥ (λ x. MatchOption (limit_error checks_length x len) (MatchBool (is_static x.allocation_strategy) (StaticLoan header s p x len s' refusal) (DynamicLoan environment header s p x len s' refusal)) (λ limit. (s' ≡ s) × (refusal ≡ Some limit)))
   by_publisher None h = h
   by_publisher (Some x) h = by_limit x (limit_error checks_length x len) h

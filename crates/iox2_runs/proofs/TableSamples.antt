@@ -2,9 +2,8 @@
 use Rattle.std.proofs.Common.{◌≡◌, ℕ, ◌≤◌, ◌<◌, Bool, true, false, cond, List, [], ◌∷◌, ◌++◌, refl, sym, ap, subst, ◌∙◌, eqb, Option, None, Some, arith}
 use Rattle.std.specs.Prelude.{slice_get, slice_set}
 use Rattle.std.proofs.lemmas.Bool.{ne_eqb, eq-eqb}
-use Rattle.iox2_store.specs.machine.Records.{Loan}
+use Rattle.iox2_store.specs.machine.Records.{Loan, Environment}
 use Rattle.iox2_store.specs.machine.State.{State, Messages}
-use Rattle.iox2_store.specs.machine.Environments.{fixed_handlers}
 use Rattle.iox2_store.specs.machine.Receives.{Receive, ReceiveResult, Got_sample}
 use Rattle.iox2_store.specs.machine.Releases.{released}
 use Rattle.iox2_store.specs.declared.service_config.ServiceConfig.{ServiceConfig}
@@ -29,18 +28,18 @@ use Rattle.iox2_runs.proofs.TableCalls.{quiet_comes, skip_comes, at_none, at_som
 sample_event : (T U : Type 0) (p p' q q' n k : ℕ) → Sample_handle p q n ≡ Sample_handle p' q' k → ◌≡◌ {A = Event T U} (Message_received p q n) (Message_received p' q' k)
 sample_event T U p p' q q' n k e = cc
 
-module _ {T U : Type 0} (defaults : Defaults T U) (Shown : Messages T U → State T U → Type 0) (m : Messages T U) (s : State T U) (handles : List Handle)
+module _ {T U : Type 0} (environment : Environment) (defaults : Defaults T U) (Shown : Messages T U → State T U → Type 0) (m : Messages T U) (s : State T U) (handles : List Handle)
     (events : List (Event T U)) (table : List TableEntry) (w : IsTable s handles events table) (default_value : T) (default_header : U)
     (is_default_value : defaults.IsDefaultValue default_value) (is_default_header : defaults.IsDefaultHeader default_header) where
   abbrev Arrives : Command T U → Reply T U → List TableEntry → Type 0
-  Arrives command reply table' = Comes defaults Shown m s handles events command reply table'
+  Arrives command reply table' = Comes environment defaults Shown m s handles events command reply table'
 
-  skips : (command : Command T U) → Step fixed_handlers default_value default_header m s handles command (skipped s) → Shown m s → Arrives command Skipped (table ++ No_entry ∷ [])
-  skips = skip_comes defaults Shown m s handles events table w default_value default_header is_default_value is_default_header
+  skips : (command : Command T U) → Step environment default_value default_header m s handles command (skipped s) → Shown m s → Arrives command Skipped (table ++ No_entry ∷ [])
+  skips = skip_comes environment defaults Shown m s handles events table w default_value default_header is_default_value is_default_header
 
-  quiet : (command : Command T U) (reply : Reply T U) (s' : State T U) → Step fixed_handlers default_value default_header m s handles command (replied reply s')
+  quiet : (command : Command T U) (reply : Reply T U) (s' : State T U) → Step environment default_value default_header m s handles command (replied reply s')
       → Shown m s' → PortsStay s s' → ((n : ℕ) → n < s.next_message → s'.loans n ≡ s.loans n) → s.next_message ≤ s'.next_message → Arrives command reply (table ++ No_entry ∷ [])
-  quiet = quiet_comes defaults Shown m s handles events table w default_value default_header is_default_value is_default_header
+  quiet = quiet_comes environment defaults Shown m s handles events table w default_value default_header is_default_value is_default_header
 
   single_units : {A : Type 0} (o : Option A) → (s.config).units_per_element ≡ 1 → if_single_units s o ≡ o
   single_units {A} o e = ap (λ (b : Bool). cond b o None) (eq-eqb (s.config).units_per_element 1 e)
@@ -63,19 +62,19 @@ module _ {T U : Type 0} (defaults : Defaults T U) (Shown : Messages T U → Stat
 
   pub receive_quiet_comes : (of service q : ℕ) → slice_get table of ≡ Some (Subscriber_entry service q) → (s.config).units_per_element ≡ 1
       → (s' : State T U) (result : ReceiveResult) (reply : Reply T U) → ((p n : ℕ) → result ≡ Got_sample p n → ⊥) → after_receive s' q result ≡ replied reply s'
-      → Receive fixed_handlers s q s' result → s.next_message ≤ s'.next_message → Shown m s' → Arrives (ReceiveCommand of) reply (table ++ No_entry ∷ [])
+      → Receive environment s q s' result → s.next_message ≤ s'.next_message → Shown m s' → Arrives (ReceiveCommand of) reply (table ++ No_entry ∷ [])
   receive_quiet_comes of service q at units s' result reply none e h rises shown =
       let found = has_subscriber s handles events table w of service q at in
       quiet (ReceiveCommand of) reply s' (at_some _ _ _ (q, found.0) (single_units (subscriber_at s handles of) units ∙ found.1) (s', result, h, sym e)) shown
-      (nothing_received fixed_handlers s q s' result none h) (λ n _. ap (λ (f : ℕ → Option (Loan T U)). f n) (receive_loans fixed_handlers s q s' result h)) rises
+      (nothing_received environment s q s' result none h) (λ n _. ap (λ (f : ℕ → Option (Loan T U)). f n) (receive_loans environment s q s' result h)) rises
 
   pub receive_comes : (of service q : ℕ) → slice_get table of ≡ Some (Subscriber_entry service q) → IsSingle s → (s' : State T U) (p n : ℕ)
-      → Receive fixed_handlers s q s' (Got_sample p n) → s.next_message ≤ s'.next_message → Shown m s' → (new_service : ℕ) → new_service ≡ (s'.config).service_id
+      → Receive environment s q s' (Got_sample p n) → s.next_message ≤ s'.next_message → Shown m s' → (new_service : ℕ) → new_service ≡ (s'.config).service_id
       → Arrives (ReceiveCommand of) (SampleReply p) (table ++ Sample_entry new_service p q n ∷ [])
   receive_comes of service q at single s' p n h rises shown new_service ours =
       let found = has_subscriber s handles events table w of service q at in
       let named = handle_of s handles events table w of (Subscriber_entry service q) at in
-      let got : IsReceived fixed_handlers s q p n s' = received_one fixed_handlers s q p n s' h in
+      let got : IsReceived environment s q p n s' = received_one environment s q p n s' h in
       let same : s'.config ≡ s.config = (got.remain).config in record {
         default_value = default_value;
         default_header = default_header;
@@ -129,6 +128,6 @@ module _ {T U : Type 0} (defaults : Defaults T U) (Shown : Messages T U → Stat
   -- ---- read
 
   -- a command that reads changes nothing
-  pub read_comes : (of at : ℕ) (reply : Reply T U) → Step fixed_handlers default_value default_header m s handles (ReadCommand of at) (replied reply s) → Shown m s
+  pub read_comes : (of at : ℕ) (reply : Reply T U) → Step environment default_value default_header m s handles (ReadCommand of at) (replied reply s) → Shown m s
       → Arrives (ReadCommand of at) reply (table ++ No_entry ∷ [])
   read_comes of at reply step shown = quiet (ReadCommand of at) reply s step shown (ports_stay_themselves s) (λ n low. refl) (omega arith)

@@ -1,5 +1,6 @@
 -- The entries of a run's table, and what the function of one command ensures.
 use Rattle.std.specs.Prelude.{List, [], ◌∷◌, ◌++◌, map}
+use Rattle.iox2_store.specs.machine.Records.{Environment}
 use Rattle.iox2_store.specs.machine.State.{State, Messages}
 use Rattle.iox2_domain.specs.Kept.{Kept as Domain}
 use Rattle.iox2_domain.specs.Shows.{Shows}
@@ -36,8 +37,8 @@ IsLiveTable {T} {U} domain table =
 
 -- Whatever state the domain shows and whatever handles the table has entries of, the command steps to what the domain shows
 -- afterwards, with this reply, and the table follows.
-abbrev pub Carries : {T U : Type 0} → Defaults T U → (old new : Domain T U) → (table : List Made) → Command T U → Reply T U → (table' : List Made) → (made : Made) → Type 0
-Carries {T} {U} defaults old new table command reply table' made =
+abbrev pub Carries : {T U : Type 0} → Environment → Defaults T U → (old new : Domain T U) → (table : List Made) → Command T U → Reply T U → (table' : List Made) → (made : Made) → Type 0
+Carries {T} {U} environment defaults old new table command reply table' made =
     (m : Messages T U) (s : State T U) (handles : List Handle) (events : List (Event T U)) → Shows old m s → IsTable s handles events (map entry_for table)
     → (default_value : T) (default_header : U) → defaults.IsDefaultValue default_value → defaults.IsDefaultHeader default_header
-    → Comes defaults (Shows new) m s handles events command reply (entries_with table' made)
+    → Comes environment defaults (Shows new) m s handles events command reply (entries_with table' made)

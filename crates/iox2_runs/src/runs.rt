@@ -56,7 +56,7 @@ fn carry_out<
 ) -> (Reply<T, U>, Made)
     requires supported { IsSupportedCommand command }
     requires keeps { IsLiveTable domain.old table.old.items }
-    ensures carries { Carries (defaults_of T.is_default U.is_default) domain.old domain.new table.old.items command result.0 table.new.items result.1 }
+    ensures carries { Carries fixed_handlers (defaults_of T.is_default U.is_default) domain.old domain.new table.old.items command result.0 table.new.items result.1 }
     ensures leaves { Leaves domain.old domain.new table.old.items table.new.items result.1 }
     ensures room { SameRoom table.old table.new }
 {

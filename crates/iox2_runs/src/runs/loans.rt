@@ -2,6 +2,7 @@
 ghost use Rattle.std.specs.Prelude.{◌≡◌};
 ghost use Rattle.iox2_store.specs.machine.Sends.{Delivered_to};
 ghost use Rattle.iox2_pubsub.specs.SendCalls.{sent_result};
+ghost use Rattle.iox2_store.specs.machine.Environments.{fixed_handlers};
 ghost use Rattle.iox2_runs.specs.Rooms.{SameRoom};
 ghost use Rattle.iox2_runs.specs.Leaves.{Leaves};
 ghost use Rattle.iox2_runs.specs.Carries.{IsLiveTable, Carries, defaults_of};
@@ -21,7 +22,7 @@ pub(crate) fn loan_uninit<
     G: DegradationFn,
 >(domain: &mut Domain<T, U, F, G>, table: &[Made], of: usize) -> (Reply<T, U>, Made)
     requires { IsLiveTable domain.old table.now }
-    ensures carries { Carries (defaults_of T.is_default U.is_default) domain.old domain.new table.now (LoanUninit of) result.0 table.now result.1 }
+    ensures carries { Carries fixed_handlers (defaults_of T.is_default U.is_default) domain.old domain.new table.now (LoanUninit of) result.0 table.now result.1 }
     ensures leaves { Leaves domain.old domain.new table.now table.now result.1 }
 {
     if domain.config().units_per_element != 1 {
@@ -47,7 +48,7 @@ pub(crate) fn write_all<T: Default + Drop, U: Default + Drop, F: BackpressureFn,
     value: T,
 ) -> Reply<T, U>
     requires { IsLiveTable domain.old table.old.items }
-    ensures carries { Carries (defaults_of T.is_default U.is_default) domain.old domain.new table.old.items (WriteAll of value) result table.new.items Nothing }
+    ensures carries { Carries fixed_handlers (defaults_of T.is_default U.is_default) domain.old domain.new table.old.items (WriteAll of value) result table.new.items Nothing }
     ensures leaves { Leaves domain.old domain.new table.old.items table.new.items Nothing }
     ensures room { SameRoom table.old table.new }
 {
@@ -71,7 +72,7 @@ pub(crate) fn send<T: Default + Drop, U: Default + Drop, F: BackpressureFn, G: D
     of: usize,
 ) -> Reply<T, U>
     requires { IsLiveTable domain.old table.old.items }
-    ensures carries { Carries (defaults_of T.is_default U.is_default) domain.old domain.new table.old.items (Send of) result table.new.items Nothing }
+    ensures carries { Carries fixed_handlers (defaults_of T.is_default U.is_default) domain.old domain.new table.old.items (Send of) result table.new.items Nothing }
     ensures leaves { Leaves domain.old domain.new table.old.items table.new.items Nothing }
     ensures room { SameRoom table.old table.new }
 {

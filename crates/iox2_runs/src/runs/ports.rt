@@ -1,6 +1,7 @@
 //! Commands that make ports.
 ghost use Rattle.std.specs.Prelude.{ℕ};
 ghost use Rattle.std.specs.declared.option.Option.TheVariants.{None};
+ghost use Rattle.iox2_store.specs.machine.Environments.{fixed_handlers};
 ghost use Rattle.iox2_store.specs.declared.allocation.AllocationStrategy.TheVariants.{Static};
 ghost use Rattle.iox2_store.specs.declared.backpressure.BackpressureStrategy.TheVariants.{DiscardData};
 ghost use Rattle.iox2_store.specs.declared.degradation.DegradationAction.TheVariants.{Warn};
@@ -21,7 +22,7 @@ pub(crate) fn create_publisher<
     G: DegradationFn,
 >(domain: &mut Domain<T, U, F, G>, table: &[Made], loans: usize) -> (Reply<T, U>, Made)
     requires { IsLiveTable domain.old table.now }
-    ensures carries { (len : ℕ) → Carries (defaults_of T.is_default U.is_default) domain.old domain.new table.now
+    ensures carries { (len : ℕ) → Carries fixed_handlers (defaults_of T.is_default U.is_default) domain.old domain.new table.now
         (CreatePublisher loans DiscardData Static len None Warn None) result.0 table.now result.1 }
     ensures leaves { Leaves domain.old domain.new table.now table.now result.1 }
 {
@@ -48,7 +49,7 @@ pub(crate) fn create_subscriber<
     G: DegradationFn,
 >(domain: &mut Domain<T, U, F, G>, table: &[Made], buffer: Option<usize>) -> (Reply<T, U>, Made)
     requires { IsLiveTable domain.old table.now }
-    ensures carries { Carries (defaults_of T.is_default U.is_default) domain.old domain.new table.now
+    ensures carries { Carries fixed_handlers (defaults_of T.is_default U.is_default) domain.old domain.new table.now
         (CreateSubscriber buffer Warn) result.0 table.now result.1 }
     ensures leaves { Leaves domain.old domain.new table.now table.now result.1 }
 {

@@ -1,6 +1,7 @@
 //! Commands on samples, and reads.
 ghost use Rattle.std.specs.Prelude.{◌≡◌, ◌==◌, cond};
 ghost use Rattle.iox2_commands.specs.declared.reply.Reply.TheVariants.{Cell, Skipped};
+ghost use Rattle.iox2_store.specs.machine.Environments.{fixed_handlers};
 ghost use Rattle.iox2_runs.specs.Rooms.{SameRoom};
 ghost use Rattle.iox2_runs.specs.Leaves.{Leaves};
 ghost use Rattle.iox2_runs.specs.Carries.{IsLiveTable, Carries, defaults_of};
@@ -19,7 +20,7 @@ pub(crate) fn release<T: Default + Drop, U: Default + Drop, F: BackpressureFn, G
     of: usize,
 ) -> Reply<T, U>
     requires { IsLiveTable domain.old table.old.items }
-    ensures carries { Carries (defaults_of T.is_default U.is_default) domain.old domain.new table.old.items (Release of) result table.new.items Nothing }
+    ensures carries { Carries fixed_handlers (defaults_of T.is_default U.is_default) domain.old domain.new table.old.items (Release of) result table.new.items Nothing }
     ensures leaves { Leaves domain.old domain.new table.old.items table.new.items Nothing }
     ensures room { SameRoom table.old table.new }
 {
@@ -43,7 +44,7 @@ pub(crate) fn read<
     G: DegradationFn,
 >(domain: &Domain<T, U, F, G>, table: &[Made], of: usize, at: usize) -> Reply<T, U>
     requires { IsLiveTable domain.now table.now }
-    ensures { Carries (defaults_of T.is_default U.is_default) domain.now domain.now table.now (Read of at) result table.now Nothing }
+    ensures { Carries fixed_handlers (defaults_of T.is_default U.is_default) domain.now domain.now table.now (Read of at) result table.now Nothing }
 {
     let Some(made) = table.get(of) else {
         return Reply::Skipped;
@@ -74,7 +75,7 @@ pub(crate) fn receive<T: Default + Drop, U: Default + Drop, F: BackpressureFn, G
     of: usize,
 ) -> (Reply<T, U>, Made)
     requires { IsLiveTable domain.old table.now }
-    ensures carries { Carries (defaults_of T.is_default U.is_default) domain.old domain.new table.now (Receive of) result.0 table.now result.1 }
+    ensures carries { Carries fixed_handlers (defaults_of T.is_default U.is_default) domain.old domain.new table.now (Receive of) result.0 table.now result.1 }
     ensures leaves { Leaves domain.old domain.new table.now table.now result.1 }
 {
     if domain.config().units_per_element != 1 {

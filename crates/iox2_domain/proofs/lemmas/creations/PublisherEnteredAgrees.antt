@@ -263,7 +263,8 @@ module _ {T U : Type 0} (f : Fields T U) (place loans loan_room key_room key : �
     warning_room = enters.sound.warning_room;
     shapes = record { at = shaped };
     supported = enters.sound.supported;
-    plain = λ i x at. elim (was i x at) [ inl e ↦ rw e.1 (record { strategy = refl; allocation = refl; length = refl }) | inr old ↦ enters.sound.plain i x old ];
+    plain = λ i x at. elim (was i x at) [ inl e ↦ rw e.1 (record { strategy = refl; backpressure = refl; degradation = refl; unblocked = refl; allocation = refl; length = refl }) | inr old ↦ enters.sound.plain i x old ];
+    plain_subscribers = enters.sound.plain_subscribers;
     open_ports = open_ports low;
     well_formed = well;
     entries = λ p n held. let has = enters.sound.entries p n (held_still p n held) in (has.0, entries_same n ∙ has.1, has.2);

@@ -64,6 +64,7 @@ module _ {T U : Type 0} (f : Fields T U) where
     shapes = record { at = sound.shapes.at };
     supported = sound.supported;
     plain = sound.plain;
+    plain_subscribers = sound.plain_subscribers;
     open_ports = open_ports sound.open_ports;
     well_formed = sound.well_formed;
     entries = sound.entries;

@@ -150,7 +150,8 @@ module _ {T U : Type 0} (f : Fields T U) where
     shapes = record { at = sound.shapes.at };
     supported = sound.supported;
     plain = λ i x at. let was = is_due i x at in let has = sound.plain i was.0 was.1 in
-        rw was.2 (record { strategy = has.strategy; allocation = has.allocation; length = has.length });
+        rw was.2 (record { strategy = has.strategy; backpressure = has.backpressure; degradation = has.degradation; unblocked = has.unblocked; allocation = has.allocation; length = has.length });
+    plain_subscribers = sound.plain_subscribers;
     open_ports = open_ports-due sound.open_ports;
     well_formed = rw publishers_due-are (publishers_due_keeps (state_of (kept_of f)) sound.well_formed);
     entries = λ p n held. sound.entries p n (held-before (state_of (kept_of f)) (state_of (kept_of (with_publishers_due f))) p n (λ q. refl)

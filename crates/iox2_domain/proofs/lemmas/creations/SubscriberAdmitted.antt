@@ -29,16 +29,16 @@ module _ {T U : Type 0} (f : Fields T U) where
   occupant-free (x ∷ xs) zero free = ap (λ o. option_map (λ (z : Named _). z.id) (option_map (subscriber_of f.books f.connections) o)) free
   occupant-free (x ∷ xs) (suc place) free = occupant-free xs place free
 
-module _ {T U : Type 0} (f : Fields T U) (sound : IsDomain f) (warnings : Buffer Warning) (place asked key_room : ℕ) (free : get_or f.subscribers place None ≡ None) where
+module _ {T U : Type 0} (f : Fields T U) (sound : IsDomain f) (warnings : Buffer Warning) (place asked key_room expired_room : ℕ) (free : get_or f.subscribers place None ≡ None) where
   -- the fields with every publisher due, and with the new subscriber
   abbrev pub with_admitted : Fields T U
-  with_admitted = with_entered_subscriber (with_publishers_due f) (publishers_due-agree f sound) warnings place asked key_room free
+  with_admitted = with_entered_subscriber (with_publishers_due f) (publishers_due-agree f sound) warnings place asked key_room expired_room free
 
   -- the machine's step
   pub admitted-is : warnings.items ≡ (with_buffer_warning (state_of (kept_of f)) f.next_port).warnings
       → state_of (kept_of with_admitted) ≡ with_new_subscriber (state_of (kept_of f)) (asked_for asked) place
   admitted-is warned =
-      entered-is (with_publishers_due f) (publishers_due-agree f sound) warnings place asked key_room free
+      entered-is (with_publishers_due f) (publishers_due-agree f sound) warnings place asked key_room expired_room free
       ∙ ap (λ (s : State T U). record s {
         next_port = f.next_port + 1;
         warnings = warnings.items;
@@ -51,5 +51,5 @@ module _ {T U : Type 0} (f : Fields T U) (sound : IsDomain f) (warnings : Buffer
   pub admitted-agrees : warnings.items ≡ (with_buffer_warning (state_of (kept_of f)) f.next_port).warnings → warnings.capacity ≡ warning_limit
       → buffer_for (asked_for asked) ≤ buffer_limit f.config → place < (f.config).max_subscribers → place ≤ length f.subscribers → IsDomain with_admitted
   admitted-agrees warned room fits low next =
-      entered-agrees (with_publishers_due f) (publishers_due-agree f sound) warnings place asked key_room free room next
+      entered-agrees (with_publishers_due f) (publishers_due-agree f sound) warnings place asked key_room expired_room free room next
       (rw (admitted-is warned) (new_subscriber_keeps (state_of (kept_of f)) sound.well_formed (asked_for asked) place fits low (occupant-free f f.subscribers place free)))

@@ -22,10 +22,10 @@ use Rattle.iox2_domain.specs.SubscriberEntry.{asked_for}
 use Rattle.iox2_domain.proofs.lemmas.containers.Placed.{placed-here, placed-others, map-placed, placed-ids}
 use mathlib.Core.Path.{fun_ext}
 
-module _ {T U : Type 0} (f : Fields T U) (sound : IsDomain f) (warnings : Buffer Warning) (place asked key_room : ℕ) (free : get_or f.subscribers place None ≡ None) where
+module _ {T U : Type 0} (f : Fields T U) (sound : IsDomain f) (warnings : Buffer Warning) (place asked key_room expired_room : ℕ) (free : get_or f.subscribers place None ≡ None) where
   -- the subscriber that enters
   abbrev pub newcomer : SubscriberFields
-  newcomer = entering f.next_port place (buffer_for (asked_for asked)) key_room
+  newcomer = entering f.next_port place (buffer_for (asked_for asked)) key_room expired_room
 
   -- the fields with it
   abbrev pub with_entered_subscriber : Fields T U

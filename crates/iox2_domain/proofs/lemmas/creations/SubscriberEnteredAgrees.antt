@@ -26,15 +26,15 @@ nothing_at : {A : Type 0} (i : ℕ) (x : A) → get_or {A = Option A} [] i None 
 nothing_at {A} zero x e = cc
 nothing_at {A} (suc i) x e = cc
 
-module _ {T U : Type 0} (f : Fields T U) (sound : IsDomain f) (warnings : Buffer Warning) (place asked key_room : ℕ) (free : get_or f.subscribers place None ≡ None) where
+module _ {T U : Type 0} (f : Fields T U) (sound : IsDomain f) (warnings : Buffer Warning) (place asked key_room expired_room : ℕ) (free : get_or f.subscribers place None ≡ None) where
   abbrev new : SubscriberFields
-  new = newcomer f sound warnings place asked key_room free
+  new = newcomer f sound warnings place asked key_room expired_room free
 
   abbrev after : Fields T U
-  after = with_entered_subscriber f sound warnings place asked key_room free
+  after = with_entered_subscriber f sound warnings place asked key_room expired_room free
 
   was : (i : ℕ) (y : SubscriberFields) → get_or (placed f.subscribers place new) i None ≡ Some y → (y ≡ new) ⊎ (get_or f.subscribers i None ≡ Some y)
-  was i y at = stood f sound warnings place asked key_room free i y at
+  was i y at = stood f sound warnings place asked key_room expired_room free i y at
 
   -- a new subscriber has no connection
   unlinked : (q most : ℕ) → IsReceiverLinked q most f.connections []
@@ -64,7 +64,7 @@ module _ {T U : Type 0} (f : Fields T U) (sound : IsDomain f) (warnings : Buffer
     by key c (inl has) = inl has
     by key c (inr has) = inr (record {
       subscriber = has.subscriber;
-      stands = still f sound warnings place asked key_room free c.home.subscriber_place has.subscriber has.stands;
+      stands = still f sound warnings place asked key_room expired_room free c.home.subscriber_place has.subscriber has.stands;
       is_its = has.is_its;
       has = has.has;
     })
@@ -108,13 +108,13 @@ module _ {T U : Type 0} (f : Fields T U) (sound : IsDomain f) (warnings : Buffer
   open_ports le = record {
     publishers = sound.open_ports.publishers;
     subscribers = λ i lt. elim (filled f.subscribers place i new le lt) [
-      | inl below ↦ let old = sound.open_ports.subscribers i below in (old.0, still f sound warnings place asked key_room free i old.0 old.1)
+      | inl below ↦ let old = sound.open_ports.subscribers i below in (old.0, still f sound warnings place asked key_room expired_room free i old.0 old.1)
       | inr here ↦ (new, rw here (placed-here new f.subscribers place))
     ];
     are_open = λ i y at. elim (was i y at) [ inl e ↦ rw e (refl, refl) | inr old ↦ sound.open_ports.are_open i y old ];
     senders = sound.open_ports.senders;
     receivers = λ key c at. let has = sound.open_ports.receivers key c at in
-        (has.0, still f sound warnings place asked key_room free c.home.subscriber_place has.0 has.1, has.2);
+        (has.0, still f sound warnings place asked key_room expired_room free c.home.subscriber_place has.0 has.1, has.2);
     books = sound.open_ports.books;
   }
 
@@ -122,7 +122,7 @@ module _ {T U : Type 0} (f : Fields T U) (sound : IsDomain f) (warnings : Buffer
   pub entered-agrees : warnings.capacity ≡ warning_limit → place ≤ length f.subscribers → IsWellFormed (state_of (kept_of after)) → IsDomain after
   entered-agrees room low well = record {
     publisher_ids = sound.publisher_ids;
-    subscriber_ids = ids_apart f sound warnings place asked key_room free;
+    subscriber_ids = ids_apart f sound warnings place asked key_room expired_room free;
     apart = sound.apart;
     linked = linked;
     books = books;
@@ -134,6 +134,7 @@ module _ {T U : Type 0} (f : Fields T U) (sound : IsDomain f) (warnings : Buffer
     shapes = record { at = sound.shapes.at };
     supported = sound.supported;
     plain = sound.plain;
+    plain_subscribers = λ i y at. elim (was i y at) [ inl e ↦ rw e (record { degradation = refl }) | inr old ↦ sound.plain_subscribers i y old ];
     open_ports = open_ports low;
     well_formed = well;
     entries = λ p n held. sound.entries p n (held-before (state_of (kept_of f)) (state_of (kept_of after)) p n (λ q. refl) (λ y at. (y, at, record { history = refl; blocked = refl })) held);

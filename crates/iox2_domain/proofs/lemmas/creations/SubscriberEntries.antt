@@ -13,7 +13,6 @@ use Rattle.iox2_store.specs.machine.Places.{lowest_free}
 use Rattle.iox2_store.specs.machine.Ports.{buffer_for, with_buffer_warning, with_new_subscriber, CreateSubscriber, MakeSubscriber}
 use Rattle.iox2_store.specs.machine.Records.{Subscriber, Environment}
 use Rattle.iox2_store.specs.machine.State.{State}
-use Rattle.iox2_store.specs.machine.Environments.{fixed_handlers}
 use Rattle.iox2_store.specs.machine.SubscriberUpdate.{UpdateSubscriber}
 use Rattle.iox2_store.specs.declared.errors.SubscriberCreateError.{SubscriberCreateError}
 use Rattle.iox2_store.specs.declared.errors.SubscriberCreateError.TheVariants.{UnableToCreatePortTag, BufferSizeExceedsMaxSupportedBufferSizeOfService, ExceedsMaxSupportedSubscribers}
@@ -101,7 +100,7 @@ module _ {T U : Type 0} (f : Fields T U) (asked : ℕ) where
 
   -- a subscriber that has entered at its place
   pub entered-reaches : IsDomain f → (new : Fields T U) (place : ℕ) (y : SubscriberFields) (warnings : Buffer Warning) → place_for_subscriber f asked ≡ Ok place
-      → y ≡ entering f.next_port place (buffer_for (asked_for asked)) y.key_room
+      → y ≡ entering f.next_port place (buffer_for (asked_for asked)) y.key_room y.expired_room
       → warnings.items ≡ (with_buffer_warning shown f.next_port).warnings → warnings.capacity ≡ warning_limit
       → new ≡ record f { next_port = f.next_port + 1; warnings = warnings; publishers = map (option_map due) f.publishers; subscribers = placed f.subscribers place y }
       → Reaches f new (with_new_subscriber shown (asked_for asked) place)
@@ -109,26 +108,26 @@ module _ {T U : Type 0} (f : Fields T U) (asked : ℕ) where
       let has = has_place place h in
       let free : get_or f.subscribers place None ≡ None = subst (λ (p : ℕ). get_or f.subscribers p None ≡ None) has.lowest (lowest_empty-free f.subscribers) in
       let next : place ≤ length f.subscribers = subst (λ (p : ℕ). p ≤ length f.subscribers) has.lowest (lowest_empty-low f.subscribers) in
-      let after : Fields T U = with_admitted f sound warnings place asked y.key_room free in
+      let after : Fields T U = with_admitted f sound warnings place asked y.key_room y.expired_room free in
       let same : new ≡ after = changed ∙ ap (λ (z : SubscriberFields). record f { next_port = f.next_port + 1; warnings = warnings; publishers = map (option_map due) f.publishers; subscribers = placed f.subscribers place z }) is in
       subst (λ (g : Fields T U). Reaches f g (with_new_subscriber shown (asked_for asked) place)) (sym same) (record {
-        agrees = admitted-agrees f sound warnings place asked y.key_room free warned limit
+        agrees = admitted-agrees f sound warnings place asked y.key_room y.expired_room free warned limit
             (ltb-false _ _ has.fits) (subst (λ (p : ℕ). suc p ≤ (f.config).max_subscribers) has.lowest (ltb-true _ _ has.low)) next;
-        state = admitted-is f sound warnings place asked y.key_room free warned;
+        state = admitted-is f sound warnings place asked y.key_room y.expired_room free warned;
         entries = λ n entry at. at;
       })
 
   -- a subscriber that has entered, where the fields are known by another name, and two of the new ones
   pub has-entered : (before : Fields T U) → before ≡ f → IsDomain f → (place : ℕ) (y : SubscriberFields) (warnings : Buffer Warning)
       → (publishers : List (Option PublisherFields)) (subscribers : List (Option SubscriberFields)) → place_for_subscriber f asked ≡ Ok place
-      → y ≡ entering before.next_port place (buffer_for (asked_for asked)) y.key_room
+      → y ≡ entering before.next_port place (buffer_for (asked_for asked)) y.key_room y.expired_room
       → warnings ≡ buffer (with_buffer_warning (state_of (kept_of before)) before.next_port).warnings warning_limit
       → publishers ≡ map (option_map due) before.publishers → subscribers ≡ placed before.subscribers place y
       → Reaches f (record before { next_port = before.next_port + 1; warnings = warnings; publishers = publishers; subscribers = subscribers }) (with_new_subscriber shown (asked_for asked) place)
       × (z : SubscriberFields) × (get_or subscribers place None ≡ Some z) × (z.id ≡ f.next_port)
   has-entered before e sound place y warnings publishers subscribers h is warned all_due put = (
     entered-reaches sound (record before { next_port = before.next_port + 1; warnings = warnings; publishers = publishers; subscribers = subscribers }) place y warnings h
-        (subst (λ (g : Fields T U). y ≡ entering g.next_port place (buffer_for (asked_for asked)) y.key_room) e is)
+        (subst (λ (g : Fields T U). y ≡ entering g.next_port place (buffer_for (asked_for asked)) y.key_room y.expired_room) e is)
         (ap (λ (ws : Buffer Warning). ws.items) warned ∙ ap (λ (g : Fields T U). (with_buffer_warning (state_of (kept_of g)) g.next_port).warnings) e)
         (ap (λ (ws : Buffer Warning). ws.capacity) warned)
         (same ∙ ap (λ (g : Fields T U). record g { next_port = g.next_port + 1; warnings = warnings; publishers = map (option_map due) g.publishers; subscribers = placed g.subscribers place y }) e),
@@ -141,17 +140,17 @@ module _ {T U : Type 0} (f : Fields T U) (asked : ℕ) where
     same = λ i. record before { next_port = before.next_port + 1; warnings = warnings; publishers = all_due i; subscribers = put i }
 
   -- a subscriber that has entered, after its first update
-  pub created-reaches : (mid new : Fields T U) (place : ℕ) → place_for_subscriber f asked ≡ Ok place
+  pub created-reaches : (environment : Environment) (mid new : Fields T U) (place : ℕ) → place_for_subscriber f asked ≡ Ok place
       → Reaches f mid (with_new_subscriber shown (asked_for asked) place) × (z : SubscriberFields) × (get_or mid.subscribers place None ≡ Some z) × (z.id ≡ f.next_port)
-      → ((y : SubscriberFields) → get_or mid.subscribers place None ≡ Some y → UpdatesSubscriber mid place y new)
-      → (s' : State T U) × CreateSubscriber fixed_handlers shown (asked_for asked) s' None × Reaches f new s'
-  created-reaches mid new place h entered updates =
+      → ((y : SubscriberFields) → get_or mid.subscribers place None ≡ Some y → UpdatesSubscriber environment mid place y new None)
+      → (s' : State T U) × CreateSubscriber environment shown (asked_for asked) s' None × Reaches f new s'
+  created-reaches environment mid new place h entered updates =
       let updated = updates entered.1 entered.2 in
-      let first : UpdateSubscriber fixed_handlers (with_new_subscriber shown (asked_for asked) place) f.next_port updated.after None =
-      subst (λ (q : ℕ). UpdateSubscriber fixed_handlers (with_new_subscriber shown (asked_for asked) place) q updated.after None) entered.3
-      (subst (λ (s : State T U). UpdateSubscriber fixed_handlers s entered.1.id updated.after None) entered.0.state updated.updates) in (
+      let first : UpdateSubscriber environment (with_new_subscriber shown (asked_for asked) place) f.next_port updated.after None =
+      subst (λ (q : ℕ). UpdateSubscriber environment (with_new_subscriber shown (asked_for asked) place) q updated.after None) entered.3
+      (subst (λ (s : State T U). UpdateSubscriber environment s entered.1.id updated.after None) entered.0.state updated.updates) in (
         updated.after,
-        created-made fixed_handlers place updated.after None h (updated.after, None, first, refl),
+        created-made environment place updated.after None h (updated.after, None, first, refl),
         reaches-then f mid new (with_new_subscriber shown (asked_for asked) place) updated.after entered.0 updated.reaches,
       )
 

@@ -133,6 +133,7 @@ module _ {T U : Type 0} (f : Fields T U) where
     shapes = record { at = sound.shapes.at };
     supported = sound.supported;
     plain = sound.plain;
+    plain_subscribers = λ i y at. let was = was_there i y at in rw was.2 (record { degradation = (sound.plain_subscribers i was.0 was.1).degradation });
     open_ports = open_ports-due sound.open_ports;
     well_formed = rw subscribers_due-are (subscribers_due_keeps (state_of (kept_of f)) sound.well_formed);
     entries = λ p n held. sound.entries p n (held-before (state_of (kept_of f)) (state_of (kept_of (with_subscribers_due f))) p n (λ q. refl)

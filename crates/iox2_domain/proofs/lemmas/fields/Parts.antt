@@ -5,11 +5,11 @@ use Rattle.iox2_store.specs.machine.Limits.{warning_limit}
 use Rattle.iox2_store.specs.machine.WellFormed.{IsWellFormed}
 use Rattle.iox2_ends.specs.LookUp.{IsOnly}
 use Rattle.iox2_ends.specs.Homes.{IsApart}
-use Rattle.iox2_domain.specs.Ports.{PublisherFields}
+use Rattle.iox2_domain.specs.Ports.{PublisherFields, SubscriberFields}
 use Rattle.iox2_domain.specs.Kept.{state_of}
 use Rattle.iox2_domain.specs.Fields.{Fields, kept_of}
 use Rattle.iox2_domain.specs.Shows.{KeepsEntries}
-use Rattle.iox2_domain.specs.Invariant.{IsDomain, IsLinked, HasBooks, NamesBooks, IsCounted, IsNumbered, HasPublisherRoom, HasShapes, IsSupportedConfig, IsPlain, HasOnlyOpenPorts, is_publisher, is_subscriber}
+use Rattle.iox2_domain.specs.Invariant.{IsDomain, IsLinked, HasBooks, NamesBooks, IsCounted, IsNumbered, HasPublisherRoom, HasShapes, IsSupportedConfig, IsPlain, IsPlainSubscriber, HasOnlyOpenPorts, is_publisher, is_subscriber}
 
 -- the fields agree with one another, in the midst of a step
 pub record HasParts {T U : Type 0} (f : Fields T U) : Type 0 where
@@ -26,6 +26,7 @@ pub record HasParts {T U : Type 0} (f : Fields T U) : Type 0 where
   pub shapes : HasShapes f
   pub supported : IsSupportedConfig f.config
   pub plain : (i : ℕ) (x : PublisherFields) → slice_index_or f.publishers i None ≡ Some x → IsPlain x
+  pub plain_subscribers : (i : ℕ) (y : SubscriberFields) → slice_index_or f.subscribers i None ≡ Some y → IsPlainSubscriber y
   pub open_ports : HasOnlyOpenPorts f
 
 module _ {T U : Type 0} (f : Fields T U) where
@@ -45,6 +46,7 @@ module _ {T U : Type 0} (f : Fields T U) where
     shapes = sound.shapes;
     supported = sound.supported;
     plain = sound.plain;
+    plain_subscribers = sound.plain_subscribers;
     open_ports = sound.open_ports;
   }
 
@@ -64,6 +66,7 @@ module _ {T U : Type 0} (f : Fields T U) where
     shapes = parts.shapes;
     supported = parts.supported;
     plain = parts.plain;
+    plain_subscribers = parts.plain_subscribers;
     open_ports = parts.open_ports;
     well_formed = well;
     entries = entries;

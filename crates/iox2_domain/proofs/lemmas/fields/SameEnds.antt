@@ -11,7 +11,7 @@ use Rattle.iox2_ends.specs.Finds.{IsReceivers}
 use Rattle.iox2_ends.specs.Mailboxes.{mailboxes_of, subscriber_of_key, publisher_of_key}
 use Rattle.iox2_ends.proofs.MailboxChanges.{was}
 use Rattle.iox2_domain.specs.Kept.{state_of, port_named, ids}
-use Rattle.iox2_domain.specs.Fields.{Fields, kept_of, publisher_of, subscriber_of, numbers_of}
+use Rattle.iox2_domain.specs.Fields.{Fields, kept_of, publisher_of, subscriber_of, numbers_of, blocked_send}
 use Rattle.iox2_domain.specs.Invariant.{IsLinked, HasOnlyOpenPorts, SenderHas, ReceiverHas}
 use Rattle.iox2_domain.proofs.lemmas.fields.Views.{mailboxes-are}
 use mathlib.Core.Path.{fun_ext}
@@ -59,7 +59,10 @@ module _ {T U : Type 0} (f : Fields T U) (new : Slab Link) (same : SameHomes f.c
     where
       senders : publisher_of f.books new ≡ publisher_of f.books f.connections
       senders = λ i x. record (publisher_of f.books f.connections x) {
-        port = record (publisher_of f.books f.connections x).port { ends = map (same-subscriber_of_key f.connections new same i) x.keys };
+        port = record (publisher_of f.books f.connections x).port {
+          ends = map (same-subscriber_of_key f.connections new same i) x.keys;
+          blocked = option_map (blocked_send (numbers_of f.books x.id) (map (same-subscriber_of_key f.connections new same i) x.keys)) x.blocked;
+        };
       }
 
       receivers : subscriber_of f.books new ≡ subscriber_of f.books f.connections

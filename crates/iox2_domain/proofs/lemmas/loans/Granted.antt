@@ -23,6 +23,7 @@ use Rattle.iox2_domain.specs.Ports.{PublisherFields}
 use Rattle.iox2_domain.specs.Kept.{state_of}
 use Rattle.iox2_domain.specs.Fields.{Fields, kept_of, publisher_of, numbers_of, is_book_of}
 use Rattle.iox2_domain.specs.Invariant.{IsDomain, holders_of}
+use Rattle.iox2_domain.proofs.lemmas.fields.Views.{nothing-blocked}
 use Rattle.iox2_domain.proofs.lemmas.slots.SlotsInUse.{loan-in_use, history-in_use, holders-are}
 use Rattle.iox2_domain.proofs.lemmas.loans.PublisherChanges.{with_publisher, changed-is}
 use Rattle.iox2_domain.proofs.lemmas.slots.Renumbered.{map-numbers, with_books-is}
@@ -105,7 +106,7 @@ module _ {T U : Type 0} (f : Fields T U) (sound : IsDomain f) (i : ℕ) (x : Pub
 
   -- the lender has the number among its loans
   lender-is : (publisher_of books_after f.connections lender).port ≡ record machine { loans = machine.loans ++ f.next_message ∷ []; longest_granted = max machine.longest_granted 1 }
-  lender-is = λ t. record machine { loans = loans t; longest_granted = max x.longest_granted 1; history = history t } where
+  lender-is = λ t. record machine { loans = loans t; longest_granted = max x.longest_granted 1; history = history t; blocked = blocked t } where
     keeps : (p slot' : ℕ) → 0 < holders_of f.books p slot' → numbers_of books_after p slot' ≡ numbers_of f.books p slot'
     keeps = taken-keeps f sound x slot can user_header
 
@@ -118,6 +119,9 @@ module _ {T U : Type 0} (f : Fields T U) (sound : IsDomain f) (i : ℕ) (x : Pub
 
     history : map (numbers_of books_after x.id) (x.history).items ≡ map (numbers_of f.books x.id) (x.history).items
     history = map-numbers f sound books_after keeps x.id (x.history).items (λ k e. rw (holders-are f sound i x at k) (history-in_use f sound i x at k e))
+
+    blocked : ((publisher_of books_after f.connections lender).port).blocked ≡ machine.blocked
+    blocked = nothing-blocked _ _ x.blocked (sound.plain i x at).unblocked
 
   -- the state before the publisher has the loan
   pub taken-is : state_of (kept_of (with_taken f sound x slot can user_header)) ≡ record state {

@@ -69,6 +69,9 @@ module _ {T U : Type 0} (f : Fields T U) (sound : IsDomain f) (i : ℕ) (x : Pub
     max_loaned_samples = refl;
     slots = refl;
     strategy = refl;
+    backpressure_handler = refl;
+    degradation_handler = refl;
+    blocked = refl;
     allocation = refl;
     initial_max_slice_len = refl;
     loan_room = le_refl x.loan_room;
@@ -271,9 +274,10 @@ module _ {T U : Type 0} (f : Fields T U) (sound : IsDomain f) (i : ℕ) (x : Pub
       shapes = granted-shapes;
       supported = sound.supported;
       plain = changed-plain mid i x new_lender at refl sound.plain keeps;
+      plain_subscribers = sound.plain_subscribers;
       open_ports = changed-open_ports mid i x new_lender at refl open_ports refl;
       well_formed = rw (granted-is f sound i x at slot can user_header) granted-well_formed;
-      entries = changed-entries mid i x new_lender at refl sound.publisher_ids taken-keeps_entries refl;
+      entries = changed-entries mid i x new_lender at refl sound.publisher_ids taken-keeps_entries refl refl;
     } where
       linked : IsLinked mid
       linked = record {

@@ -30,13 +30,16 @@ use mathlib.Core.Path.{fun_ext}
 abbrev pub with_publisher : {T U : Type 0} → Fields T U → (i : ℕ) → PublisherFields → Fields T U
 with_publisher f i x = record f { publishers = slice_set f.publishers i (Some x) }
 
--- the publisher keeps what it was made with, and has no less room
+-- the publisher keeps what it was made with and its blocked delivery, and has no less room
 pub record KeepsSettings (x y : PublisherFields) : Type 0 where
   pub id : y.id ≡ x.id
   pub book : y.book ≡ x.book
   pub max_loaned_samples : y.max_loaned_samples ≡ x.max_loaned_samples
   pub slots : y.slots ≡ x.slots
   pub strategy : y.strategy ≡ x.strategy
+  pub backpressure_handler : y.backpressure_handler ≡ x.backpressure_handler
+  pub degradation_handler : y.degradation_handler ≡ x.degradation_handler
+  pub blocked : y.blocked ≡ x.blocked
   pub allocation : y.allocation ≡ x.allocation
   pub initial_max_slice_len : y.initial_max_slice_len ≡ x.initial_max_slice_len
   pub loan_room : x.loan_room ≤ y.loan_room
@@ -260,6 +263,9 @@ module _ {T U : Type 0} (f : Fields T U) (i : ℕ) (x y : PublisherFields) (at :
         let has = plain i x at in
         rw is.1 (record {
           strategy = keeps.strategy ∙ has.strategy;
+          backpressure = keeps.backpressure_handler ∙ has.backpressure;
+          degradation = keeps.degradation_handler ∙ has.degradation;
+          unblocked = keeps.blocked ∙ has.unblocked;
           allocation = keeps.allocation ∙ has.allocation;
           length = keeps.initial_max_slice_len ∙ has.length;
         })
@@ -318,9 +324,10 @@ module _ {T U : Type 0} (f : Fields T U) (i : ℕ) (x y : PublisherFields) (at :
     own-same : (p slot : ℕ) → own_holders (with_publisher f i y) p slot ≡ own_holders f p slot
     own-same p slot = ap (own p slot) (look_up-publisher only p) ∙ by p slot (eqb x.id p) refl
 
-  -- with its old history it holds what it held
-  pub changed-entries : ((q : ℕ) → IsOnly (is_publisher q) f.publishers) → KeepsEntries (kept_of f) → y.history ≡ x.history → KeepsEntries (kept_of (with_publisher f i y))
-  changed-entries only entries history = λ p n held. entries p n
+  -- with its old history and its old blocked delivery it holds what it held
+  pub changed-entries : ((q : ℕ) → IsOnly (is_publisher q) f.publishers) → KeepsEntries (kept_of f) → y.history ≡ x.history
+      → ((publisher_of f.books f.connections x).port).blocked ≡ ((publisher_of f.books f.connections y).port).blocked → KeepsEntries (kept_of (with_publisher f i y))
+  changed-entries only entries history blocked = λ p n held. entries p n
       (held-before (state_of (kept_of f)) (state_of (kept_of (with_publisher f i y))) p n (λ q. refl) (λ z here. was p z (eqb p x.id) refl (sym (named-changed only p) ∙ here)) held) where
         there : (p : ℕ) → p ≡ x.id → (state_of (kept_of f)).publishers p ≡ Some ((publisher_of f.books f.connections x).port)
         there p e = ap port (look_up-map (is_named p) shown f.publishers ∙ ap (option_map shown) (look_up-found (is_publisher p) f.publishers i x (only p) at (rw e (grind arith))))
@@ -334,7 +341,7 @@ module _ {T U : Type 0} (f : Fields T U) (i : ℕ) (x y : PublisherFields) (at :
               there p (eqb-true p x.id e),
               record {
                 history = history_same ∙ ap (λ (w : Publisher). w.history) is;
-                blocked = ap (λ (w : Publisher). w.blocked) is;
+                blocked = blocked ∙ ap (λ (w : Publisher). w.blocked) is;
               },
             )
           where

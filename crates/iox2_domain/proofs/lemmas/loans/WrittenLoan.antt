@@ -202,6 +202,7 @@ module _ {T U : Type 0} (f : Fields T U) (sound : IsDomain f) (single : (f.confi
         shapes = write-shapes;
         supported = sound.supported;
         plain = sound.plain;
+        plain_subscribers = sound.plain_subscribers;
         open_ports = open_ports;
         well_formed = rw write-is (loan_written_keeps state sound.well_formed n at.loan at.is_out value);
         entries = write-keeps_entries;

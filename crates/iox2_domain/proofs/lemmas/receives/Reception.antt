@@ -2,10 +2,9 @@
 use Rattle.std.proofs.Common.{◌≡◌, ℕ, Bool, true, false, cond, [], ◌∷◌, eqb, get_or, refl, ap, subst, ◌∙◌, Option, Some, None, Result, MatchOption}
 use Rattle.std.proofs.lemmas.Bool.{eq-eqb, or_left}
 use Rattle.std.proofs.lemmas.List.{get_or-set_same}
-use Rattle.iox2_store.specs.machine.Environments.{fixed_handlers}
 use Rattle.iox2_store.specs.machine.Mailbox.{Mailbox, is_borrowed}
 use Rattle.iox2_store.specs.machine.Numbers.{put_at}
-use Rattle.iox2_store.specs.machine.Records.{Subscriber}
+use Rattle.iox2_store.specs.machine.Records.{Subscriber, Environment}
 use Rattle.iox2_store.specs.machine.Receives.{Got_sample, Receive_error, TakeSample, Receive}
 use Rattle.iox2_store.specs.machine.State.{State}
 use Rattle.iox2_store.specs.machine.SubscriberUpdate.{UpdateSubscriber}
@@ -25,16 +24,16 @@ use Rattle.iox2_domain.proofs.lemmas.fields.ReachesShows.{reaches-then}
 
 module _ {T U : Type 0} where
   -- the subscriber still stands at its place after its update
-  pub updated-stands : (f mid : Fields T U) (place : ℕ) (y : SubscriberFields) (u : UpdatesSubscriber f place y mid) → get_or f.subscribers place None ≡ Some y
+  pub updated-stands : (environment : Environment) (f mid : Fields T U) (place : ℕ) (y : SubscriberFields) (failure : Option ConnectionFailure) (u : UpdatesSubscriber environment f place y mid failure) → get_or f.subscribers place None ≡ Some y
       → get_or mid.subscribers place None ≡ Some (record y { keys = u.keys; key_room = u.key_room; is_due = false })
-  updated-stands f mid place y u at =
+  updated-stands environment f mid place y failure u at =
       ap (λ (h : Fields T U). get_or h.subscribers place None) u.fields
       ∙ get_or-set_same f.subscribers place (Some (record y { keys = u.keys; key_room = u.key_room; is_due = false })) None (within_if_some f.subscribers place y at)
 
   -- an update and what is taken after it are a receive
-  pub receives-after : (f mid new : Fields T U) (q : ℕ) (after : State T U) → UpdateSubscriber fixed_handlers (state_of (kept_of f)) q after None → Reaches f mid after
-      → (result : Result (Option Receipt) ReceiveError) → TakesAs mid q result new → ReceivesAs f q result new
-  receives-after f mid new q after updates reached result takes = (
+  pub receives-after : (environment : Environment) (f mid new : Fields T U) (q : ℕ) (after : State T U) → UpdateSubscriber environment (state_of (kept_of f)) q after None → Reaches f mid after
+      → (result : Result (Option Receipt) ReceiveError) → TakesAs mid q result new → ReceivesAs environment f q result new
+  receives-after environment f mid new q after updates reached result takes = (
     takes.0,
     reaches-then f mid new after takes.0 reached takes.1,
     (
@@ -47,17 +46,17 @@ module _ {T U : Type 0} where
   )
 
   -- the same at a subscriber's place
-  pub receives-at : (f mid new : Fields T U) (place : ℕ) (result : Result (Option Receipt) ReceiveError)
-      → ((y : SubscriberFields) → get_or f.subscribers place None ≡ Some y → UpdatesSubscriber f place y mid)
+  pub receives-at : (environment : Environment) (f mid new : Fields T U) (place : ℕ) (result : Result (Option Receipt) ReceiveError)
+      → ((y : SubscriberFields) → get_or f.subscribers place None ≡ Some y → UpdatesSubscriber environment f place y mid None)
       → ((y : SubscriberFields) → get_or mid.subscribers place None ≡ Some y → TakesAs mid y.id result new)
-      → (y : SubscriberFields) → get_or f.subscribers place None ≡ Some y → ReceivesAs f y.id result new
-  receives-at f mid new place result update take y at =
+      → (y : SubscriberFields) → get_or f.subscribers place None ≡ Some y → ReceivesAs environment f y.id result new
+  receives-at environment f mid new place result update take y at =
       let u = update y at in
-      receives-after f mid new y.id u.after u.updates u.reaches result (take (record y { keys = u.keys; key_room = u.key_room; is_due = false }) (updated-stands f mid place y u at))
+      receives-after environment f mid new y.id u.after u.updates u.reaches result (take (record y { keys = u.keys; key_room = u.key_room; is_due = false }) (updated-stands environment f mid place y None u at))
 
   -- a message that was received is borrowed
-  pub received-borrowed : (s : State T U) (q p n : ℕ) (s' : State T U) → Receive fixed_handlers s q s' (Got_sample p n) → is_borrowed n (s'.mailboxes p q) ≡ true
-  received-borrowed s q p n s' received = by received.1 received.3 where
+  pub received-borrowed : (environment : Environment) (s : State T U) (q p n : ℕ) (s' : State T U) → Receive environment s q s' (Got_sample p n) → is_borrowed n (s'.mailboxes p q) ≡ true
+  received-borrowed environment s q p n s' received = by received.1 received.3 where
     taken : (mid : State T U) (y : Option Subscriber) → MatchOption y ⊥ (λ z. TakeSample mid q z s' (Got_sample p n)) → is_borrowed n (s'.mailboxes p q) ≡ true
     taken mid None t = absurd t
     taken mid (Some y) t =

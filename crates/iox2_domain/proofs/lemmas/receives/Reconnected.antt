@@ -87,6 +87,7 @@ module _ {T U : Type 0} (f : Fields T U) (sound : IsDomain f) (key : ℕ) (c : L
       shapes = record { at = sound.shapes.at };
       supported = sound.supported;
       plain = sound.plain;
+      plain_subscribers = sound.plain_subscribers;
       open_ports = open_ports-still f new same sound.open_ports;
       well_formed = subst IsWellFormed (sym (connections-are f new same)) well;
       entries = λ p n held. sound.entries p n (held-within (state_of (kept_of f)) (mailboxes_of (numbers_of f.books) new) p n (λ q. before p q n)

@@ -6,7 +6,6 @@ use Rattle.std.specs.declared.time.Duration.{Duration}
 use Rattle.std.specs.Option.{option_map}
 use Rattle.slab.specs.Slab.{Slab, get, with_value}
 use Rattle.iox2_store.specs.machine.Delivery.{PutResult, DeliveryEnd, Complete, Suspended, Put, PutAtEnd, Deliver, is_blocking, is_failed, accepted_count, no_time}
-use Rattle.iox2_store.specs.machine.Environments.{fixed_handlers}
 use Rattle.iox2_store.specs.Link.{Link}
 use Rattle.iox2_store.specs.machine.Mailbox.{Mailbox, has_room}
 use Rattle.iox2_store.specs.machine.Records.{Environment, BlockedSend}
@@ -71,18 +70,18 @@ module _ {T U : Type 0} (f : Fields T U) (parts : HasParts f) (i : ℕ) (x : Pub
     reclaimed = reclaimed;
   }
 
-module _ {T U : Type 0} (before f : Fields T U) (same : f ≡ before) (i : ℕ) (y : PublisherFields) (stands : get_or f.publishers i None ≡ Some y) where
+module _ {T U : Type 0} (environment : Environment) (before f : Fields T U) (same : f ≡ before) (i : ℕ) (y : PublisherFields) (stands : get_or f.publishers i None ≡ Some y) where
   -- the delivery of the publisher that stands at the place
   pub delivers-to : (b book : Book) → get f.books y.book ≡ Some b → (new : Slab Link) → book ≡ with_counters b book.holders → Recounts y.id b.holders f.connections book.holders new
       → (slot count : ℕ)
       → ((number : ℕ → ℕ → ℕ)
-      → Deliver fixed_handlers f.config y.id y.strategy None (buffers_of (map (option_map details_of) f.subscribers)) (number y.id slot)
+      → Deliver environment f.config y.id y.strategy y.backpressure_handler (buffers_of (map (option_map details_of) f.subscribers)) (number y.id slot)
       0 no_time 0 (sender_ends f.connections y.keys) 0 false (mailboxes_of number f.connections y.id) (Complete count false) (mailboxes_of number new y.id))
       → (x : PublisherFields) → get_or before.publishers i None ≡ Some x
-      → DeliversTo before x slot count (record f { connections = new; books = with_value f.books y.book book })
+      → DeliversTo environment before x slot count (record f { connections = new; books = with_value f.books y.book book })
   delivers-to b book at new is r slot count delivers x there =
-      subst (λ (h : Fields T U). DeliversTo h x slot count (record f { connections = new; books = with_value f.books y.book book })) same
-      (subst (λ (z : PublisherFields). DeliversTo f z slot count (record f { connections = new; books = with_value f.books y.book book })) it (record {
+      subst (λ (h : Fields T U). DeliversTo environment h x slot count (record f { connections = new; books = with_value f.books y.book book })) same
+      (subst (λ (z : PublisherFields). DeliversTo environment f z slot count (record f { connections = new; books = with_value f.books y.book book })) it (record {
         book = b;
         stands = at;
         holders = book.holders;

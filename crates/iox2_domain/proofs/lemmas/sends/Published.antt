@@ -7,12 +7,11 @@ use Rattle.std.specs.declared.option.Option.TheVariants.{None, Some}
 use Rattle.std.specs.Option.{MatchOption, option_map, option_and_then}
 use Rattle.slab.specs.Slab.{get}
 use Rattle.iox2_store.specs.machine.Delivery.{Complete, Deliver, no_time}
-use Rattle.iox2_store.specs.machine.Environments.{fixed_handlers}
 use Rattle.iox2_store.specs.machine.Loans.{entry_of}
 use Rattle.iox2_store.specs.SlotBook.{Book, IsInUse, holders_at}
 use Rattle.iox2_store.specs.machine.Mailbox.{Mailbox, numbers_in}
 use Rattle.iox2_store.specs.machine.Numbers.{put_at, contains, without, last_n}
-use Rattle.iox2_store.specs.machine.Records.{Entry, Loan, Publisher, Subscriber}
+use Rattle.iox2_store.specs.machine.Records.{Entry, Loan, Publisher, Subscriber, Environment}
 use Rattle.iox2_store.specs.machine.Sends.{Publish, Delivered_to, published, send_ended, with_mailboxes}
 use Rattle.iox2_store.specs.Stored.{IsHeldMessage, In_history, In_mailbox, In_blocked_send}
 use Rattle.iox2_store.specs.machine.State.{State, receiving_buffer}
@@ -30,11 +29,11 @@ use Rattle.iox2_laws.proofs.Puts.{put_at-same, put_at-other, at_each, found_put}
 use Rattle.iox2_laws.proofs.SendLaws.{publish_keeps}
 use Rattle.iox2_domain.specs.Ports.{PublisherFields, SubscriberFields}
 use Rattle.iox2_domain.specs.Kept.{Named, Lent_message, state_of, entries_of, is_named, entry_in, KeptMessage}
-use Rattle.iox2_domain.specs.Fields.{Fields, kept_of, publisher_of, subscriber_of, numbers_of}
+use Rattle.iox2_domain.specs.Fields.{Fields, kept_of, publisher_of, subscriber_of, numbers_of, blocked_send}
 use Rattle.iox2_domain.specs.Invariant.{IsDomain, HasNumber, details_of, is_subscriber, holders_of}
 use Rattle.iox2_domain.specs.Deliveries.{DeliversTo, Publishes, with_sent, with_send_ended}
 use Rattle.iox2_domain.proofs.lemmas.containers.LookUps.{look_up-map}
-use Rattle.iox2_domain.proofs.lemmas.fields.Views.{mailboxes-are}
+use Rattle.iox2_domain.proofs.lemmas.fields.Views.{mailboxes-are, unblocked}
 use Rattle.iox2_domain.proofs.lemmas.fields.ConnectionEnds.{publisher-stands}
 use Rattle.iox2_domain.proofs.lemmas.slots.Messages.{lies_at, in_use_within, has_number, entry-found}
 use Rattle.iox2_domain.proofs.lemmas.fields.Parts.{HasParts, parts_of, whole_of}
@@ -73,9 +72,9 @@ module _ {T U : Type 0} (f : Fields T U) where
       by None = refl
       by (Some y) = refl
 
-module _ {T U : Type 0} (f : Fields T U) (sound : IsDomain f) (i : ℕ) (x : PublisherFields) (here : get_or f.publishers i None ≡ Some x)
+module _ {T U : Type 0} (environment : Environment) (f : Fields T U) (sound : IsDomain f) (i : ℕ) (x : PublisherFields) (here : get_or f.publishers i None ≡ Some x)
     (slot n : ℕ) (l : Loan T U) (lies : lies_at f x.book slot ≡ Some (Lent_message n l)) (is_written : l.is_written ≡ true)
-    (count : ℕ) (g : Fields T U) (d : DeliversTo f x slot count g) where
+    (count : ℕ) (g : Fields T U) (d : DeliversTo environment f x slot count g) where
   -- the book is the publisher's
   pub own : (d.book).publisher ≡ x.id
   own = book-own f (parts_of f sound) i x here d.book d.stands
@@ -150,6 +149,7 @@ module _ {T U : Type 0} (f : Fields T U) (sound : IsDomain f) (i : ℕ) (x : Pub
     loans = map (numbers-are t x.id) x.loans;
     history = map (numbers-are t x.id) (x.history).items;
     ends = map (same-subscriber_of_key f.connections d.connections d.recounts.homes t) x.keys;
+    blocked = option_map (blocked_send (numbers-are t x.id) (map (same-subscriber_of_key f.connections d.connections d.recounts.homes t) x.keys)) x.blocked;
   }
 
   -- the publisher without the loan
@@ -183,7 +183,7 @@ module _ {T U : Type 0} (f : Fields T U) (sound : IsDomain f) (i : ℕ) (x : Pub
   without_loan y = record y { loans = without n y.loans; blocked = None }
 
   sender-is : without_loan (with_message port) ≡ sender
-  sender-is = ap (λ (ns : List ℕ). record port { loans = without n port.loans; history = ns })
+  sender-is = (λ t. record port { loans = without n port.loans; history = last_n (f.config).history_size (port.history ++ n ∷ []); blocked = sym (unblocked f.books f.connections x (sound.plain i x here)) t }) ∙ ap (λ (ns : List ℕ). record port { loans = without n port.loans; history = ns })
       (nil-of (last_n (f.config).history_size (port.history ++ n ∷ []))
       (let few = length-last_n (f.config).history_size (port.history ++ n ∷ []) in omega (arith, few, sound.supported.no_history))
       ∙ sym no-history)
@@ -215,24 +215,24 @@ module _ {T U : Type 0} (f : Fields T U) (sound : IsDomain f) (i : ℕ) (x : Pub
 
   -- ---- the machine's step
 
-  delivers : Deliver fixed_handlers f.config x.id x.strategy None (receiving_buffer s) n 0 no_time 0 port.ends 0 false (s.mailboxes x.id) (Complete count false) (boxes x.id)
+  delivers : Deliver environment f.config x.id x.strategy x.backpressure_handler (receiving_buffer s) n 0 no_time 0 port.ends 0 false (s.mailboxes x.id) (Complete count false) (boxes x.id)
   delivers =
-      subst (λ (row : ℕ → Mailbox). Deliver fixed_handlers f.config x.id x.strategy None (receiving_buffer s) n 0 no_time 0 port.ends 0 false row (Complete count false) (boxes x.id))
+      subst (λ (row : ℕ → Mailbox). Deliver environment f.config x.id x.strategy x.backpressure_handler (receiving_buffer s) n 0 no_time 0 port.ends 0 false row (Complete count false) (boxes x.id))
       (fun_ext (λ r. sym (mailboxes-are f x.id r)))
-      (subst (λ (m : ℕ). Deliver fixed_handlers f.config x.id x.strategy None (receiving_buffer s) m 0 no_time 0 port.ends 0 false
+      (subst (λ (m : ℕ). Deliver environment f.config x.id x.strategy x.backpressure_handler (receiving_buffer s) m 0 no_time 0 port.ends 0 false
       (mailboxes_of (numbers_of f.books) f.connections x.id) (Complete count false) (boxes x.id)) (loan-number f sound i x here slot n l lies)
-      (subst (λ (buffers : ℕ → Option ℕ). Deliver fixed_handlers f.config x.id x.strategy None buffers (numbers_of f.books x.id slot) 0 no_time 0 port.ends 0 false
+      (subst (λ (buffers : ℕ → Option ℕ). Deliver environment f.config x.id x.strategy x.backpressure_handler buffers (numbers_of f.books x.id slot) 0 no_time 0 port.ends 0 false
       (mailboxes_of (numbers_of f.books) f.connections x.id) (Complete count false) (boxes x.id)) (buffers-are f) (d.delivers (numbers_of f.books))))
 
-  publishes : Publish fixed_handlers s x.id n (state_of (kept_of after)) (Delivered_to count)
+  publishes : Publish environment s x.id n (state_of (kept_of after)) (Delivered_to count)
   publishes = match-some (s.publishers x.id) port ⊥ _ stands
       (match-some ((published s x.id n).publishers x.id) (with_message port) ⊥ _
       (put_at-same s.publishers x.id (option_map with_message (s.publishers x.id)) ∙ ap (option_map with_message) stands)
       (Complete count false, boxes x.id, delivers, (ended-state, refl)))
 
   well : IsWellFormed (state_of (kept_of after))
-  well = publish_keeps s sound.well_formed x.id n l (loan-is f sound i x here slot n l lies) (loan-of f sound i x here slot n l lies) port stands refl
-      fixed_handlers (state_of (kept_of after)) (Delivered_to count) publishes
+  well = publish_keeps s sound.well_formed x.id n l (loan-is f sound i x here slot n l lies) (loan-of f sound i x here slot n l lies) port stands (unblocked f.books f.connections x (sound.plain i x here))
+      environment (state_of (kept_of after)) (Delivered_to count) publishes
 
   -- ---- entries
 
@@ -243,10 +243,10 @@ module _ {T U : Type 0} (f : Fields T U) (sound : IsDomain f) (i : ℕ) (x : Pub
       (λ _ h. In_history port stands h) (λ _ there h. In_history y there h) is
   held-mid q m (In_mailbox r is) = In_mailbox r is
   held-mid q m (In_blocked_send y b at waits is) = found_put s.publishers x.id sender (λ j z. z.blocked ≡ Some b → IsHeldMessage (record s { mailboxes = boxes }) j m) q y at
-      (λ _ none. absurd cc) (λ _ there h. In_blocked_send y b there h is) waits
+      (λ _ h. In_blocked_send port b stands h is) (λ _ there h. In_blocked_send y b there h is) waits
 
   delivered : Delivered (receiving_buffer s) n port.ends port.ends (s.mailboxes x.id) (Complete count false) (boxes x.id)
-  delivered = deliver_is fixed_handlers f.config x.id x.strategy None (receiving_buffer s) n 0 no_time 0 port.ends 0 false port.ends (s.mailboxes x.id) (Complete count false) (boxes x.id)
+  delivered = deliver_is environment f.config x.id x.strategy x.backpressure_handler (receiving_buffer s) n 0 no_time 0 port.ends 0 false port.ends (s.mailboxes x.id) (Complete count false) (boxes x.id)
       (sound.well_formed.publishers x.id port stands).ends_apart refl (le_refl 0) delivers
 
   -- and before it
@@ -268,7 +268,7 @@ module _ {T U : Type 0} (f : Fields T U) (sound : IsDomain f) (i : ℕ) (x : Pub
   entries-after : (q m : ℕ) → IsHeldMessage (state_of (kept_of after)) q m → (entry : Entry T U) × (entries_of (kept_of after) m ≡ Some entry) × ((entry.header).publisher_id ≡ q)
   entries-after q m is = elim (cases_eq m n) [ inl same ↦ sent same | inr away ↦ others away ] where
     lying : (key slot : ℕ) × (has : HasNumber after.books key slot m) × ((has.book).publisher ≡ q)
-    lying = held-message-slot after parts-after.counted parts-after.publisher_ids q m is
+    lying = held-message-slot after parts-after.counted parts-after.publisher_ids parts-after.plain q m is
 
     sent : m ≡ n → (entry : Entry T U) × (entries_of (kept_of after) m ≡ Some entry) × ((entry.header).publisher_id ≡ q)
     sent same =
@@ -304,7 +304,7 @@ module _ {T U : Type 0} (f : Fields T U) (sound : IsDomain f) (i : ℕ) (x : Pub
         found_entry (Some k) = entry_in k
 
   -- the loan is published
-  pub sent-publishes : Publishes f after x.id n l count
+  pub sent-publishes : Publishes environment f after x.id n l (Delivered_to count)
   sent-publishes = record {
     agrees = whole_of after parts-after well entries-after;
     publishes = publishes;
@@ -324,6 +324,6 @@ module _ {T U : Type 0} (f : Fields T U) (sound : IsDomain f) (i : ℕ) (x : Pub
   delivered-in_use = (ap (λ (h : Fields T U). get h.books x.book) d.delivered ∙ book-stands, is_in_use)
 
   -- with the fields that the code makes of those after the delivery
-  pub send-publishes : (h : Fields T U) → ((b : Book) → get g.books x.book ≡ Some b → h ≡ with_send_ended g i x slot b) → Publishes f h x.id n l count
-  send-publishes h is = subst (λ (k : Fields T U). Publishes f k x.id n l count)
+  pub send-publishes : (h : Fields T U) → ((b : Book) → get g.books x.book ≡ Some b → h ≡ with_send_ended g i x slot b) → Publishes environment f h x.id n l (Delivered_to count)
+  send-publishes h is = subst (λ (k : Fields T U). Publishes environment f k x.id n l (Delivered_to count))
       (sym (is book delivered-in_use.0 ∙ ap (λ (k : Fields T U). with_send_ended k i x slot book) d.delivered)) sent-publishes

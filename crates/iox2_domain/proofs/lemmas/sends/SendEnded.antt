@@ -5,7 +5,7 @@ use Rattle.std.proofs.lemmas.List.{length-set}
 use Rattle.std.specs.Prelude.{slice_index}
 use Rattle.std.specs.declared.option.Option.{Option}
 use Rattle.std.specs.declared.option.Option.TheVariants.{None, Some}
-use Rattle.std.specs.Option.{option_map_or}
+use Rattle.std.specs.Option.{option_map, option_map_or}
 use Rattle.std.specs.List.{sum_by}
 use Rattle.slab.specs.Slab.{get}
 use Rattle.iox2_store.specs.machine.Loans.{entry_of}
@@ -17,9 +17,10 @@ use Rattle.iox2_ends.specs.LookUp.{look_up}
 use Rattle.iox2_ends.specs.Counters.{times, stands}
 use Rattle.iox2_ends.proofs.Counts.{one_if, one_if_same, one_if_other}
 use Rattle.iox2_ends.proofs.LookUps.{look_up-found}
+use Rattle.iox2_ends.specs.Mailboxes.{sender_ends}
 use Rattle.iox2_domain.specs.Ports.{PublisherFields}
 use Rattle.iox2_domain.specs.Kept.{KeptMessage, Lent_message, Sent_message, state_of, entries_of, is_numbered, message_numbered, loan_in, entry_in}
-use Rattle.iox2_domain.specs.Fields.{Fields, kept_of, publisher_of, numbers_of, is_book_of, message_in, contents_at}
+use Rattle.iox2_domain.specs.Fields.{Fields, kept_of, publisher_of, numbers_of, is_book_of, message_in, contents_at, blocked_send}
 use Rattle.iox2_domain.specs.Invariant.{IsCounted, IsNumbered, HasNumber, HasShape, HasShapes, is_publisher, own_holders, holders_of, is_loan_in}
 use Rattle.iox2_domain.specs.Deliveries.{with_loan_out, with_sent, with_send_ended}
 use Rattle.iox2_domain.proofs.lemmas.fields.NamedBooks.{names-books}
@@ -48,6 +49,9 @@ module _ {T U : Type 0} (f : Fields T U) (parts : HasParts f) (i : ℕ) (x : Pub
     max_loaned_samples = refl;
     slots = refl;
     strategy = refl;
+    backpressure_handler = refl;
+    degradation_handler = refl;
+    blocked = refl;
     allocation = refl;
     initial_max_slice_len = refl;
     loan_room = omega arith;
@@ -197,6 +201,7 @@ module _ {T U : Type 0} (f : Fields T U) (parts : HasParts f) (i : ℕ) (x : Pub
           (λ t. record (publisher_of f.books f.connections (with_loan_out slot x)).port {
             loans = map (numbers-same f x.book b (with_sent slot b) at (sent-keeps b slot) parts.books.one_each t x.id) (without slot x.loans);
             history = map (numbers-same f x.book b (with_sent slot b) at (sent-keeps b slot) parts.books.one_each t x.id) (x.history).items;
+            blocked = option_map (blocked_send (numbers-same f x.book b (with_sent slot b) at (sent-keeps b slot) parts.books.one_each t x.id) (sender_ends f.connections x.keys)) x.blocked;
           })
           ∙ ap (λ ns. record (publisher_of f.books f.connections x).port { loans = ns }) (map-without (numbers_of f.books x.id) slot n is x.loans only)
 
@@ -293,6 +298,7 @@ module _ {T U : Type 0} (f : Fields T U) (parts : HasParts f) (i : ℕ) (x : Pub
     shapes = ended-shapes;
     supported = parts.supported;
     plain = changed-plain f i x (with_loan_out slot x) here refl parts.plain keeps;
+    plain_subscribers = parts.plain_subscribers;
     open_ports = changed-open_ports between i x (with_loan_out slot x) here refl (open_ports-book f x.book b (with_sent slot b) at (sent-keeps b slot) parts.open_ports) refl;
   }
     where

@@ -5,10 +5,9 @@ use Rattle.std.proofs.lemmas.List.{get_or-set_same}
 use Rattle.std.specs.declared.option.Option.{Option}
 use Rattle.std.specs.declared.option.Option.TheVariants.{None, Some}
 use Rattle.slab.specs.Slab.{get}
-use Rattle.iox2_store.specs.machine.Environments.{fixed_handlers}
 use Rattle.iox2_store.specs.machine.Numbers.{put_at}
 use Rattle.iox2_store.specs.machine.PublisherUpdate.{UpdatePublisher}
-use Rattle.iox2_store.specs.machine.Records.{Loan}
+use Rattle.iox2_store.specs.machine.Records.{Loan, Environment}
 use Rattle.iox2_store.specs.machine.Sends.{Publish, Delivered_to}
 use Rattle.iox2_store.specs.machine.SingleCalls.{HoldsLoan}
 use Rattle.iox2_store.specs.SlotBook.{Book, IsInUse, holders_at}
@@ -32,11 +31,11 @@ use Rattle.iox2_domain.proofs.lemmas.sends.LoanAlone.{loan-once, loan-alone}
 use Rattle.iox2_domain.proofs.lemmas.slots.Messages.{lies_at, message_at-slot}
 use Rattle.iox2_domain.proofs.lemmas.sends.Published.{match-some, delivered-in_use, send-publishes}
 
-module _ {T U : Type 0} (f0 : Fields T U) (sound : IsDomain f0) (p n place : ℕ) (holds : HoldsWritten (state_of (kept_of f0)) p n)
+module _ {T U : Type 0} (environment : Environment) (f0 : Fields T U) (sound : IsDomain f0) (p n place : ℕ) (holds : HoldsWritten (state_of (kept_of f0)) p n)
     (found : (x : PublisherFields) × (get_or f0.publishers place None ≡ Some x) × (x.id ≡ p))
-    (f1 : Fields T U) (updated : (x : PublisherFields) → get_or f0.publishers place None ≡ Some x → UpdatesPublisher f0 place x f1) where
+    (f1 : Fields T U) (updated : (x : PublisherFields) → get_or f0.publishers place None ≡ Some x → UpdatesPublisher environment f0 place x f1 None) where
   -- its update
-  pub u : UpdatesPublisher f0 place found.0 f1
+  pub u : UpdatesPublisher environment f0 place found.0 f1 None
   u = updated found.0 found.1
 
   -- the publisher after its update
@@ -70,7 +69,7 @@ module _ {T U : Type 0} (f0 : Fields T U) (sound : IsDomain f0) (p n place : ℕ
 
     loans-are : (state_of (kept_of f2)).loans ≡ (state_of (kept_of f0)).loans
     loans-are = ap (λ (s : State T U). s.loans) state-is
-        ∙ (update_publisher_leaves fixed_handlers (state_of (kept_of f0)) found.0.id u.after None _ (publisher-stands f0 sound place found.0 found.1) u.updates).5
+        ∙ (update_publisher_leaves environment (state_of (kept_of f0)) found.0.id u.after None _ (publisher-stands f0 sound place found.0 found.1) u.updates).5
 
     still-out : (state_of (kept_of f2)).loans n ≡ Some holds.0
     still-out = ap (λ (loans : ℕ → Option (Loan T U)). loans n) loans-are ∙ holds.1
@@ -107,8 +106,8 @@ module _ {T U : Type 0} (f0 : Fields T U) (sound : IsDomain f0) (p n place : ℕ
             loan-alone f2 reclaims.agrees place sender still-stands slot n holds.0 lies (sender-reclaimed sender still-stands) b here,
           )
 
-      module _ (count : ℕ) (f3 : Fields T U) (delivers : (x : PublisherFields) → get_or f2.publishers place None ≡ Some x → DeliversTo f2 x slot count f3) where
-        d : DeliversTo f2 sender slot count f3
+      module _ (count : ℕ) (f3 : Fields T U) (delivers : (x : PublisherFields) → get_or f2.publishers place None ≡ Some x → DeliversTo environment f2 x slot count f3) where
+        d : DeliversTo environment f2 sender slot count f3
         d = delivers sender still-stands
 
         delivered-stands : get_or f3.publishers place None ≡ Some sender
@@ -117,7 +116,7 @@ module _ {T U : Type 0} (f0 : Fields T U) (sound : IsDomain f0) (p n place : ℕ
         -- what the end of the send needs
         pub can-end : (x : PublisherFields) × (b : Book) × (get_or f3.publishers place None ≡ Some x) × (get f3.books x.book ≡ Some b) × IsInUse b slot
         can-end =
-            let has = delivered-in_use f2 reclaims.agrees place sender still-stands slot n holds.0 lies holds.3 count f3 d in
+            let has = delivered-in_use environment f2 reclaims.agrees place sender still-stands slot n holds.0 lies holds.3 count f3 d in
             (sender, _, delivered-stands, has.0, has.1)
 
         -- the slot stands once among the publisher's loans
@@ -131,7 +130,7 @@ module _ {T U : Type 0} (f0 : Fields T U) (sound : IsDomain f0) (p n place : ℕ
 
         -- the whole send
         pub sends-loan : (f4 : Fields T U) → ((x : PublisherFields) (b : Book) → get_or f3.publishers place None ≡ Some x → get f3.books x.book ≡ Some b → f4 ≡ with_send_ended f3 place x slot b)
-            → SendsLoan f0 f4 n count
+            → SendsLoan environment f0 f4 n (Delivered_to count)
         sends-loan f4 ends = record {
           loan = holds.0;
           out = holds.1;
@@ -139,9 +138,9 @@ module _ {T U : Type 0} (f0 : Fields T U) (sound : IsDomain f0) (p n place : ℕ
           sends = match-some ((state_of (kept_of f0)).publishers holds.0.publisher) _ _ _ (ap (state_of (kept_of f0)).publishers holds.2 ∙ present) (
             u.after,
             None,
-            subst (λ (q : ℕ). UpdatePublisher fixed_handlers (state_of (kept_of f0)) q u.after None) (found.2 ∙ sym holds.2) u.updates,
-            subst (λ (q : ℕ). Publish fixed_handlers u.after q n (state_of (kept_of f4)) (Delivered_to count)) (found.2 ∙ sym holds.2)
-                (subst (λ (s : State T U). Publish fixed_handlers s sender.id n (state_of (kept_of f4)) (Delivered_to count)) state-is published.publishes),
+            subst (λ (q : ℕ). UpdatePublisher environment (state_of (kept_of f0)) q u.after None) (found.2 ∙ sym holds.2) u.updates,
+            subst (λ (q : ℕ). Publish environment u.after q n (state_of (kept_of f4)) (Delivered_to count)) (found.2 ∙ sym holds.2)
+                (subst (λ (s : State T U). Publish environment s sender.id n (state_of (kept_of f4)) (Delivered_to count)) state-is published.publishes),
           );
           loans = published.loans ∙ ap (λ (loans : ℕ → Option (Loan T U)). put_at loans n None) loans-are;
           entries = λ m entry e. elim (published.entries m entry e) [
@@ -150,5 +149,5 @@ module _ {T U : Type 0} (f0 : Fields T U) (sound : IsDomain f0) (p n place : ℕ
           ];
         }
           where
-            published : Publishes f2 f4 sender.id n holds.0 count
-            published = send-publishes f2 reclaims.agrees place sender still-stands slot n holds.0 lies holds.3 count f3 d f4 (λ b there. ends sender b delivered-stands there)
+            published : Publishes environment f2 f4 sender.id n holds.0 (Delivered_to count)
+            published = send-publishes environment f2 reclaims.agrees place sender still-stands slot n holds.0 lies holds.3 count f3 d f4 (λ b there. ends sender b delivered-stands there)

@@ -10,12 +10,12 @@ use Rattle.slab.specs.Slab.{Slab, get, with_value}
 use Rattle.iox2_store.specs.SlotBook.{Book, IsAligned, holders_at}
 use Rattle.iox2_store.specs.SlotContents.{ContentState}
 use Rattle.iox2_ends.specs.LookUp.{look_up, IsOnly}
-use Rattle.iox2_ends.specs.Mailboxes.{mailbox_of}
+use Rattle.iox2_ends.specs.Mailboxes.{mailbox_of, sender_ends}
 use Rattle.iox2_ends.proofs.LookUps.{look_up-changed, look_up-found}
 use Rattle.iox2_ends.proofs.MailboxChanges.{within_if_some}
 use Rattle.iox2_domain.specs.Ports.{PublisherFields}
 use Rattle.iox2_domain.specs.Kept.{state_of, port_named, ids, stands_between, box_if_any}
-use Rattle.iox2_domain.specs.Fields.{Fields, kept_of, publisher_of, between_of, is_book_of, numbers_of}
+use Rattle.iox2_domain.specs.Fields.{Fields, kept_of, publisher_of, between_of, is_book_of, numbers_of, blocked_send}
 use Rattle.iox2_domain.specs.Invariant.{IsLinked, HasBook, HasBooks, HasOnlyOpenPorts, holders_of}
 use mathlib.Core.Path.{fun_ext}
 
@@ -116,6 +116,7 @@ module _ {T U : Type 0} (f : Fields T U) (key : ℕ) (b d : Book) (at : get f.bo
           port = record (publisher_of f.books f.connections x).port {
             loans = map (numbers-same i x.id) x.loans;
             history = map (numbers-same i x.id) x.history.items;
+            blocked = option_map (blocked_send (numbers-same i x.id) (sender_ends f.connections x.keys)) x.blocked;
           };
         }
 

@@ -24,9 +24,9 @@ use Rattle.iox2_laws.proofs.NumberLemmas.{contains_in_append, contains_in_cons}
 use Rattle.iox2_domain.specs.Ports.{PublisherFields}
 use Rattle.iox2_domain.specs.Kept.{Named, state_of, is_named}
 use Rattle.iox2_domain.specs.Fields.{Fields, kept_of, publisher_of, is_book_of, numbers_of}
-use Rattle.iox2_domain.specs.Invariant.{IsCounted, HasNumber, is_publisher, own_holders, holders_of, is_loan_in}
+use Rattle.iox2_domain.specs.Invariant.{IsCounted, HasNumber, is_publisher, own_holders, holders_of, is_loan_in, IsPlain}
 use Rattle.iox2_domain.proofs.lemmas.containers.LookUps.{look_up-map}
-use Rattle.iox2_domain.proofs.lemmas.fields.Views.{mailboxes-are}
+use Rattle.iox2_domain.proofs.lemmas.fields.Views.{mailboxes-are, unblocked}
 
 -- a number of a list of slots belongs to one that stands there
 pub slot_numbered : (number : ℕ → ℕ) (n : ℕ) (slots : List ℕ) → contains (map number slots) n ≡ true → (slot : ℕ) × (0 < times slot slots) × (number slot ≡ n)
@@ -91,15 +91,15 @@ module _ {T U : Type 0} (f : Fields T U) where
     moved q r e slot h = subst (λ (k : ℕ). 0 < holders_of f.books k slot) e h
 
     -- a message that somebody holds lies in a slot in use
-    pub held-message-slot : (p n : ℕ) → IsHeldMessage (state_of (kept_of f)) p n → LiesWith p n
-    held-message-slot p n (In_history y at is) =
+    pub held-message-slot : ((i : ℕ) (x : PublisherFields) → get_or f.publishers i None ≡ Some x → IsPlain x) → (p n : ℕ) → IsHeldMessage (state_of (kept_of f)) p n → LiesWith p n
+    held-message-slot plain p n (In_history y at is) =
         let there = publisher-there p y at in
         let x = there.1 in
         let slot = slot_numbered (numbers_of f.books x.id) n x.history.items (ap (λ (z : Publisher). contains z.history n) (sym there.4) ∙ is) in
         lies_with p slot.0 n
         (moved x.id p there.3 slot.0 (own-in_use there.0 slot.0 x there.2 (omega (arith, slot.1))))
         (ap (λ (q : ℕ). numbers_of f.books q slot.0) (sym there.3) ∙ slot.2)
-    held-message-slot p n (In_mailbox q is) = by (look_up (is_between p q) f.connections.slots) refl (ap (λ box. contains (numbers_in box) n) (sym (mailboxes-are f p q)) ∙ is) where
+    held-message-slot plain p n (In_mailbox q is) = by (look_up (is_between p q) f.connections.slots) refl (ap (λ box. contains (numbers_in box) n) (sym (mailboxes-are f p q)) ∙ is) where
       at_link : (key : ℕ) (c : Link) → get f.connections key ≡ Some c → c.home.publisher ≡ p → (slots : List ℕ) → ((slot : ℕ) → times slot slots ≤ stands_in slot c)
           → contains (map (numbers_of f.books p) slots) n ≡ true → LiesWith p n
       at_link key c at mine slots part h =
@@ -115,6 +115,7 @@ module _ {T U : Type 0} (f : Fields T U) where
             | inl waits ↦ at_link there.0 c there.1 mine c.waiting (λ slot. omega arith) waits
             | inr borrowed ↦ at_link there.0 c there.1 mine c.borrowed (λ slot. omega arith) borrowed
           ]
-    held-message-slot p n (In_blocked_send y b at blocked is) =
+    held-message-slot plain p n (In_blocked_send y b at blocked is) =
         let there = publisher-there p y at in
-        absurd (let none : None ≡ Some b = sym (ap (λ (z : Publisher). z.blocked) there.4) ∙ blocked in cc)
+        let x = there.1 in
+        absurd (let no : None ≡ Some b = sym (unblocked f.books f.connections x (plain there.0 x there.2)) ∙ sym (ap (λ (z : Publisher). z.blocked) there.4) ∙ blocked in cc)

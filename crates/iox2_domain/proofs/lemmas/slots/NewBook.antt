@@ -10,9 +10,10 @@ use Rattle.iox2_store.specs.SlotBook.{Book, holders_at}
 use Rattle.iox2_store.specs.SlotContents.{ContentState}
 use Rattle.iox2_ends.specs.LookUp.{look_up, IsOnly}
 use Rattle.iox2_ends.proofs.LookUps.{look_up-nothing}
+use Rattle.iox2_ends.specs.Mailboxes.{sender_ends}
 use Rattle.iox2_domain.specs.Ports.{PublisherFields}
 use Rattle.iox2_domain.specs.Kept.{message_numbered}
-use Rattle.iox2_domain.specs.Fields.{Fields, kept_book, map_from, is_book_of, numbers_of, message_in, messages_in, contents_at, publisher_of, between_of}
+use Rattle.iox2_domain.specs.Fields.{Fields, kept_book, map_from, is_book_of, numbers_of, message_in, messages_in, contents_at, publisher_of, between_of, blocked_send}
 use Rattle.iox2_domain.specs.Invariant.{IsDomain, HasNumber, IsNumbered}
 use Rattle.iox2_domain.specs.NewPublisher.{BookEnters}
 use Rattle.iox2_domain.proofs.lemmas.containers.LookUps.{look_up-written, IsOnly-inserted}
@@ -150,7 +151,7 @@ module _ {T U : Type 0} (f : Fields T U) (sound : IsDomain f) (slots room key : 
 
   pub publishers-shown : map (option_map (publisher_of books f.connections)) f.publishers ≡ map (option_map (publisher_of f.books f.connections)) f.publishers
   publishers-shown = map-alike (publisher_of books f.connections) (publisher_of f.books f.connections) f.publishers (λ i x at.
-      ap (λ (number : ℕ → ℕ). record (publisher_of f.books f.connections x) { port = record ((publisher_of f.books f.connections x).port) { loans = map number x.loans; history = map number x.history.items } })
+      ap (λ (number : ℕ → ℕ). record (publisher_of f.books f.connections x) { port = record ((publisher_of f.books f.connections x).port) { loans = map number x.loans; history = map number x.history.items; blocked = option_map (blocked_send number (sender_ends f.connections x.keys)) x.blocked } })
       (numbers-same x.id (publisher_before i x at)))
 
   pub connections-shown : map (option_map (between_of books f.connections)) f.connections.slots ≡ map (option_map (between_of f.books f.connections)) f.connections.slots

@@ -136,7 +136,7 @@ module _ {T U : Type 0} (f : Fields T U) (sound : IsDomain f) (p key : ℕ) (b :
   pub recounted-keeps : (q n : ℕ) (entry : Entry T U) → IsHeldMessage (state_of (kept_of recounted_fields)) q n → entries_of (kept_of f) n ≡ Some entry
       → entries_of (kept_of recounted_fields) n ≡ Some entry
   recounted-keeps q n entry held e =
-      let has = held-message-slot recounted_fields parts-recounted.counted parts-recounted.publisher_ids q n held in
+      let has = held-message-slot recounted_fields parts-recounted.counted parts-recounted.publisher_ids parts-recounted.plain q n held in
       let at_slot = entry-there f n entry e in
       let now = there at_slot.0 at_slot.1 has.0 has.1 n (has_number f.contents f.books at_slot.0 at_slot.1 n (Sent_message n entry) at_slot.2 (eq-eqb n n refl)) has.2 in
       entry-found recounted_fields parts-recounted.numbered at_slot.0 at_slot.1 n entry (lies at_slot.0 at_slot.1 n (Sent_message n entry) now at_slot.2)

@@ -249,5 +249,6 @@ module _ {T U : Type 0} (f : Fields T U) (parts : HasParts f) (p key : ℕ) (b :
     shapes = shapes;
     supported = parts.supported;
     plain = parts.plain;
+    plain_subscribers = parts.plain_subscribers;
     open_ports = open_ports-book between key b counted_book at keeps (open_ports-still f new r.homes parts.open_ports);
   }

@@ -14,6 +14,7 @@ use Rattle.iox2_domain.specs.Ports.{PublisherFields}
 use Rattle.iox2_domain.specs.Kept.{state_of, port_named, ids, box_if_any, stands_between}
 use Rattle.iox2_domain.specs.Fields.{Fields, kept_of, publisher_of, between_of, numbers_of}
 use Rattle.iox2_domain.specs.Invariant.{IsDomain, holders_of}
+use Rattle.iox2_domain.proofs.lemmas.fields.Views.{nothing-blocked}
 use Rattle.iox2_domain.proofs.lemmas.slots.SlotsInUse.{connected-in_use, loan-in_use, history-in_use, holders-are}
 use Rattle.iox2_domain.proofs.lemmas.slots.NumbersInUse.{times-there}
 
@@ -31,10 +32,10 @@ module _ {T U : Type 0} (f : Fields T U) (sound : IsDomain f) (new : Slab Book)
   map-numbers p [] in_use = refl
   map-numbers p (x ∷ xs) in_use = λ t. keeps p x (in_use x (contains_first x xs)) t ∷ map-numbers p xs (λ slot e. in_use slot (contains_later x slot xs e)) t
 
-  -- a publisher has the loans and the history that it had
+  -- a publisher has the loans, the history and the blocked delivery that it had
   publisher-same : (i : ℕ) (x : PublisherFields) → get_or f.publishers i None ≡ Some x → publisher_of new f.connections x ≡ publisher_of f.books f.connections x
   publisher-same i x at = λ t. record (publisher_of f.books f.connections x) {
-    port = record ((publisher_of f.books f.connections x).port) { loans = loans t; history = history t };
+    port = record ((publisher_of f.books f.connections x).port) { loans = loans t; history = history t; blocked = blocked t };
   }
     where
       loans : map (numbers_of new x.id) x.loans ≡ map (numbers_of f.books x.id) x.loans
@@ -42,6 +43,9 @@ module _ {T U : Type 0} (f : Fields T U) (sound : IsDomain f) (new : Slab Book)
 
       history : map (numbers_of new x.id) (x.history).items ≡ map (numbers_of f.books x.id) (x.history).items
       history = map-numbers x.id (x.history).items (λ slot e. rw (holders-are f sound i x at slot) (history-in_use f sound i x at slot e))
+
+      blocked : ((publisher_of new f.connections x).port).blocked ≡ ((publisher_of f.books f.connections x).port).blocked
+      blocked = nothing-blocked _ _ x.blocked (sound.plain i x at).unblocked
 
   -- in a connection lies what lay there
   between-same : (key : ℕ) (c : Link) → get f.connections key ≡ Some c → between_of new f.connections c ≡ between_of f.books f.connections c

@@ -4,14 +4,14 @@ use Rattle.std.proofs.lemmas.List.{map-set, set-set, set-get_or}
 use Rattle.std.specs.declared.option.Option.{Option}
 use Rattle.std.specs.declared.option.Option.TheVariants.{None, Some}
 use Rattle.std.specs.Option.{option_map}
-use Rattle.iox2_store.specs.machine.Environments.{fixed_handlers}
 use Rattle.iox2_store.specs.machine.Limits.{expired_limit}
 use Rattle.iox2_store.specs.machine.Places.{occupant}
 use Rattle.iox2_store.specs.machine.PublisherUpdate.{UpdateSenderPlace, sender_side, with_sender_side}
 use Rattle.iox2_store.specs.machine.SubscriberUpdate.{ConnectAtPlace, receiver_side, with_receiver_side}
-use Rattle.iox2_store.specs.machine.Records.{Publisher, Subscriber}
+use Rattle.iox2_store.specs.machine.Records.{Publisher, Subscriber, Environment}
 use Rattle.iox2_store.specs.machine.State.{State, receiving_buffer, has_receiver_end, has_sender_end}
 use Rattle.iox2_store.specs.machine.WellFormed.{IsWellFormed}
+use Rattle.iox2_store.specs.declared.errors.ConnectionFailure.{ConnectionFailure}
 use Rattle.iox2_domain.specs.Ports.{PublisherFields, SubscriberFields}
 use Rattle.iox2_domain.specs.Kept.{state_of}
 use Rattle.iox2_domain.specs.Fields.{Fields, kept_of, publisher_of, subscriber_of}
@@ -76,8 +76,8 @@ module _ {T U : Type 0} (f : Fields T U) (i j : ℕ) (x : PublisherFields) (y : 
     Q = (subscriber_of f.books f.connections y).port
 
     -- what a publisher does from there it does from here
-    pub sender-from : (f' : Fields T U) → ConnectsSender grown i j (with_sender_room n x) f' → ConnectsSender f i j x f'
-    sender-from f' step = record {
+    pub sender-from : (environment : Environment) (f' : Fields T U) (failure : Option ConnectionFailure) → ConnectsSender environment grown i j (with_sender_room n x) f' failure → ConnectsSender environment f i j x f' failure
+    sender-from environment f' failure step = record {
       agrees = step.agrees;
       keys = step.keys;
       key_room = step.key_room;
@@ -86,14 +86,14 @@ module _ {T U : Type 0} (f : Fields T U) (i j : ℕ) (x : PublisherFields) (y : 
           (set-set f.publishers i (Some (with_sender_room n x)) (Some (record x { keys = step.keys; key_room = step.key_room })));
       others = step.others ∙ same-shown subscriber_but_room f.subscribers j y (with_receiver_room m y) at_y refl;
       side = step.side;
-      steps = subst (λ (s : State T U). UpdateSenderPlace fixed_handlers (f.config).service_id x.id P.degradation_handler P.history (receiving_buffer s) (has_receiver_end s x.id)
-          j (occupant s.subscriber_places j) (sender_side s x.id P) step.side None) grown-state step.steps;
+      steps = subst (λ (s : State T U). UpdateSenderPlace environment (f.config).service_id x.id P.degradation_handler P.history (receiving_buffer s) (has_receiver_end s x.id)
+          j (occupant s.subscriber_places j) (sender_side s x.id P) step.side failure) grown-state step.steps;
       state = step.state ∙ ap (λ (s : State T U). with_sender_side s x.id P step.side) grown-state;
     }
 
     -- and a subscriber
-    pub receiver-from : (f' : Fields T U) → ConnectsReceiver grown j i (with_receiver_room m y) f' → ConnectsReceiver f j i y f'
-    receiver-from f' step = record {
+    pub receiver-from : (environment : Environment) (f' : Fields T U) (failure : Option ConnectionFailure) → ConnectsReceiver environment grown j i (with_receiver_room m y) f' failure → ConnectsReceiver environment f j i y f' failure
+    receiver-from environment f' failure step = record {
       agrees = step.agrees;
       keys = step.keys;
       key_room = step.key_room;
@@ -103,7 +103,7 @@ module _ {T U : Type 0} (f : Fields T U) (i j : ℕ) (x : PublisherFields) (y : 
       others = step.others ∙ same-shown publisher_but_room f.publishers i x (with_sender_room n x) at_x refl;
       side = step.side;
       settled = step.settled;
-      steps = subst (λ (s : State T U). ConnectAtPlace fixed_handlers (f.config).service_id y.id Q.degradation_handler (expired_limit f.config) (λ p. has_sender_end s p y.id)
-          i (occupant s.publisher_places i) (receiver_side s y.id Q) step.side None) grown-state step.steps;
+      steps = subst (λ (s : State T U). ConnectAtPlace environment (f.config).service_id y.id Q.degradation_handler (expired_limit f.config) (λ p. has_sender_end s p y.id)
+          i (occupant s.publisher_places i) (receiver_side s y.id Q) step.side failure) grown-state step.steps;
       state = step.state ∙ ap (λ (s : State T U). with_receiver_side s y.id Q step.side) grown-state;
     }

@@ -217,6 +217,10 @@ module _ {T U : Type 0} (f : Fields T U) (sound : IsDomain f) (j : ℕ) (y : Sub
     shapes = record { at = sound.shapes.at };
     supported = sound.supported;
     plain = sound.plain;
+    plain_subscribers = λ k z at_z. elim (stood k z at_z) [
+      | inl here ↦ rw here.1 (record { degradation = (sound.plain_subscribers j y at).degradation })
+      | inr old ↦ sound.plain_subscribers k z old
+    ];
     open_ports = open_ports;
     well_formed = well;
     entries = λ p n held. sound.entries p n (held-before (state_of (kept_of f)) (state_of (kept_of after)) p n

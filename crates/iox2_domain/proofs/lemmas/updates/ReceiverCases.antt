@@ -6,13 +6,13 @@ use Rattle.std.specs.declared.option.Option.TheVariants.{None, Some}
 use Rattle.std.specs.Option.{option_map, option_map_or}
 use Rattle.slab.specs.Slab.{Slab, get}
 use Rattle.circular_buffer.specs.Buffer.{buffer}
+use Rattle.iox2_store.specs.machine.Connections.{DegradationAnswers, failure_of, warnings_after}
 use Rattle.iox2_store.specs.machine.Limits.{warning_limit}
 use Rattle.iox2_store.specs.Link.{Link, empty_link}
 use Rattle.iox2_store.specs.machine.Places.{occupant, set_place, is_port}
-use Rattle.iox2_store.specs.machine.Records.{Publisher, Subscriber}
-use Rattle.iox2_store.specs.machine.State.{State, warned, has_sender_end}
-use Rattle.iox2_store.specs.declared.degradation.DegradationAction.TheVariants.{Warn}
-use Rattle.iox2_store.specs.declared.warning.Warning.TheVariants.{ConnectionNotMade}
+use Rattle.iox2_store.specs.machine.Records.{Publisher, Subscriber, Environment}
+use Rattle.iox2_store.specs.machine.State.{State, has_sender_end}
+use Rattle.iox2_store.specs.declared.degradation.DegradationAction.{DegradationAction}
 use Rattle.iox2_ends.specs.LookUp.{look_up}
 use Rattle.iox2_ends.specs.Finds.{IsReceiverLinked, IsReceivers}
 use Rattle.iox2_ends.specs.Mailboxes.{is_between, receiver_ends, subscriber_of_key, publisher_of_key}
@@ -30,7 +30,7 @@ use Rattle.iox2_domain.proofs.lemmas.updates.ReceiverChanges.{receiver_fits-same
 use Rattle.iox2_domain.proofs.lemmas.updates.ReceiverSteps.{connected_receiver, steps-connect, keeps-end, makes-end, no_end, connects}
 use Rattle.iox2_domain.proofs.lemmas.fields.Standing.{some_is, subscriber-place, occupant-receiver_ends, sender-joins, receiver-joins, no-connection}
 
-module _ {T U : Type 0} (f : Fields T U) (sound : IsDomain f) (i j : ℕ) (x : PublisherFields) (y : SubscriberFields)
+module _ {T U : Type 0} (environment : Environment) (f : Fields T U) (sound : IsDomain f) (i j : ℕ) (x : PublisherFields) (y : SubscriberFields)
     (at_x : get_or f.publishers i None ≡ Some x) (at_y : get_or f.subscribers j None ≡ Some y) (due : y.is_due ≡ false) where
   abbrev s : State T U
   s = state_of (kept_of f)
@@ -47,15 +47,15 @@ module _ {T U : Type 0} (f : Fields T U) (sound : IsDomain f) (i j : ℕ) (x : P
   same_subscribers = ap (slice_set f.subscribers j) (sym at_y) ∙ set-get_or f.subscribers j None
 
   -- an end that is there stays
-  pub keeps-connection : (key : ℕ) → get_or y.keys i None ≡ Some key → ConnectsReceiver f j i y f
+  pub keeps-connection : (key : ℕ) → get_or y.keys i None ≡ Some key → ConnectsReceiver environment f j i y f None
   keeps-connection key at =
       let joined = receiver-joins f sound i j x y at_x at_y key at in
       let there : occupant Q.ends i ≡ Some x.id =
       occupant-receiver_ends f.connections y.keys i ∙ ap (publisher_of_key f.connections) at
       ∙ ap (option_map (λ (c : Link). c.home.publisher)) joined.1.stands ∙ ap Some joined.1.publisher in
-      subst (ConnectsReceiver f j i y) (λ k. record f { subscribers = same_subscribers k })
-      (steps-connect f sound i j x y at_x at_y due y.keys f.connections f.warnings (receiver_fits-same f sound j y at_y f.connections.capacity) sound.warning_room
-      (keeps-end f sound i j x y at_x at_y due there))
+      subst (λ (h : Fields T U). ConnectsReceiver environment f j i y h None) (λ k. record f { subscribers = same_subscribers k })
+      (steps-connect environment f sound i j x y at_x at_y due y.keys f.connections f.warnings None (receiver_fits-same f sound j y at_y f.connections.capacity) sound.warning_room
+      (keeps-end environment f sound i j x y at_x at_y due there))
 
   -- ---- the publisher has its end
 
@@ -96,12 +96,12 @@ module _ {T U : Type 0} (f : Fields T U) (sound : IsDomain f) (i j : ℕ) (x : P
     ]
 
     -- the subscriber joins the publisher's connection
-    pub joins-connection : (key : ℕ) → get_or x.keys j None ≡ Some key → ConnectsReceiver f j i y (connected_receiver f j y (set_place y.keys i (Some key)) f.connections f.warnings)
+    pub joins-connection : (key : ℕ) → get_or x.keys j None ≡ Some key → ConnectsReceiver environment f j i y (connected_receiver f j y (set_place y.keys i (Some key)) f.connections f.warnings) None
     joins-connection key at =
         let joined = sender-joins f sound i j x y at_x at_y key at in
         let own = joined.1 in
         let extends = (receiver_fits-same f sound j y at_y f.connections.capacity).extends in
-        steps-connect f sound i j x y at_x at_y due (keys_with key) f.connections f.warnings (record {
+        steps-connect environment f sound i j x y at_x at_y due (keys_with key) f.connections f.warnings None (record {
           extends = extends;
           grows = le_refl y.key_room;
           linked = linked-with f.connections key joined.0 (sound.linked.receivers j y at_y) own.stands own.subscriber (sound.linked.limits key joined.0 own.stands);
@@ -109,7 +109,7 @@ module _ {T U : Type 0} (f : Fields T U) (sound : IsDomain f) (i j : ℕ) (x : P
           keeps = set_place-keeps y.keys i key none;
           news = λ k c there. inl there;
         }) sound.warning_room
-        (connects f sound i j x y at_x at_y due none (keys_with key) f.connections (leads f.connections key joined.0 refl own.stands own.publisher))
+        (connects environment f sound i j x y at_x at_y due none (keys_with key) f.connections (leads f.connections key joined.0 refl own.stands own.publisher))
 
     -- ---- nobody has an end
 
@@ -125,9 +125,9 @@ module _ {T U : Type 0} (f : Fields T U) (sound : IsDomain f) (i j : ℕ) (x : P
 
       -- a connection is made
       pub makes-connection : j < x.key_room → i < y.key_room → (key : ℕ) (new : Slab Link) → MakesConnection f.connections (home_of i j x y) y.buffer (f.config).subscriber_max_borrowed_samples key new
-          → ConnectsReceiver f j i y (connected_receiver f j y (set_place y.keys i (Some key)) new f.warnings)
+          → ConnectsReceiver environment f j i y (connected_receiver f j y (set_place y.keys i (Some key)) new f.warnings) None
       makes-connection room_x room key new made =
-          steps-connect f sound i j x y at_x at_y due (keys_with key) new f.warnings (record {
+          steps-connect environment f sound i j x y at_x at_y due (keys_with key) new f.warnings None (record {
             extends = extends-made key new made;
             grows = le_refl y.key_room;
             linked = linked-with new key link (receiver_linked f.connections new (extends-made key new made) y.id most y.keys (sound.linked.receivers j y at_y)) made.made.changed refl refl;
@@ -151,7 +151,7 @@ module _ {T U : Type 0} (f : Fields T U) (sound : IsDomain f) (i j : ℕ) (x : P
               }))
             ];
           }) sound.warning_room
-          (connects f sound i j x y at_x at_y due none (keys_with key) new
+          (connects environment f sound i j x y at_x at_y due none (keys_with key) new
           (leads new key link (receiver_ends-same f.connections new (extends-made key new made) y.id most y.keys (sound.linked.receivers j y at_y)) made.made.changed refl))
 
       no_sender : has_sender_end s x.id y.id ≡ false
@@ -162,18 +162,20 @@ module _ {T U : Type 0} (f : Fields T U) (sound : IsDomain f) (i j : ℕ) (x : P
           (ap (occupant ((publisher_of f.books f.connections x).port).ends) (subscriber-place f sound j y at_y)
           ∙ occupant-sender_ends f.connections x.keys j ∙ ap (subscriber_of_key f.connections) none_x)
 
-      -- memory for it is refused
-      pub misses-connection : (n : ℕ) → ConnectsReceiver f j i y (record f {
-        connections = record f.connections { capacity = n };
-        warnings = buffer (warned f.warnings.items (ConnectionNotMade x.id y.id)) warning_limit;
-      })
-      misses-connection n =
-          subst (ConnectsReceiver f j i y) (λ k. record f {
+      -- memory for it is refused, and the subscriber's handler says what comes of that
+      pub misses-connection : environment.may_refuse_memory → (action : DegradationAction)
+          → DegradationAnswers environment y.id y.degradation_handler (record { service_id = (f.config).service_id; sender_port_id = x.id; receiver_port_id = y.id }) action
+          → (n : ℕ) → ConnectsReceiver environment f j i y (record f {
+            connections = record f.connections { capacity = n };
+            warnings = buffer (warnings_after x.id y.id action f.warnings.items) warning_limit;
+          }) (failure_of action)
+      misses-connection may action answers n =
+          subst (λ (h : Fields T U). ConnectsReceiver environment f j i y h (failure_of action)) (λ k. record f {
             subscribers = same_subscribers k;
             connections = record f.connections { capacity = n };
-            warnings = buffer (warned f.warnings.items (ConnectionNotMade x.id y.id)) warning_limit;
+            warnings = buffer (warnings_after x.id y.id action f.warnings.items) warning_limit;
           })
-          (steps-connect f sound i j x y at_x at_y due y.keys (record f.connections { capacity = n }) (buffer (warned f.warnings.items (ConnectionNotMade x.id y.id)) warning_limit)
+          (steps-connect environment f sound i j x y at_x at_y due y.keys (record f.connections { capacity = n }) (buffer (warnings_after x.id y.id action f.warnings.items) warning_limit) (failure_of action)
           (receiver_fits-same f sound j y at_y n) refl
-          (makes-end f sound i j x y at_x at_y due (no_end f sound i j x y at_x at_y due none) _
-          (inr (no_sender, warned f.warnings.items (ConnectionNotMade x.id y.id), (Warn, tt, refl, refl, refl), refl))))
+          (makes-end environment f sound i j x y at_x at_y due (no_end environment f sound i j x y at_x at_y due none) _ (failure_of action)
+          (inr (no_sender, warnings_after x.id y.id action f.warnings.items, (action, may, answers, refl, refl), refl))))

@@ -3,11 +3,12 @@ use Rattle.std.proofs.Common.{◌≡◌, ◌<◌, ◌≤◌, ℕ, true, false, l
 use Rattle.std.specs.declared.option.Option.TheVariants.{None, Some}
 use Rattle.std.specs.Option.{option_map, option_map_or, option_and_then}
 use Rattle.circular_buffer.specs.Buffer.{Buffer, buffer}
+use Rattle.iox2_store.specs.machine.Connections.{DegradationAnswers, failure_of, warnings_after}
 use Rattle.iox2_store.specs.machine.Limits.{warning_limit}
-use Rattle.iox2_store.specs.machine.State.{warned}
+use Rattle.iox2_store.specs.machine.Records.{Environment}
 use Rattle.iox2_store.specs.declared.connection.Home.{Home}
+use Rattle.iox2_store.specs.declared.degradation.DegradationAction.{DegradationAction}
 use Rattle.iox2_store.specs.declared.warning.Warning.{Warning}
-use Rattle.iox2_store.specs.declared.warning.Warning.TheVariants.{ConnectionNotMade}
 use Rattle.iox2_domain.specs.Ports.{PublisherFields, SubscriberFields}
 use Rattle.iox2_domain.specs.Fields.{Fields}
 use Rattle.iox2_domain.specs.Invariant.{IsDomain}
@@ -26,7 +27,7 @@ joins-room f sound i j y at_y low key at =
     let there = sound.open_ports.publishers i low in
     joined-room f sound i j there.0 y there.1 at_y key (sym (ap (option_and_then (λ (z : PublisherFields). get_or z.keys j None)) there.1) ∙ at)
 
-module _ {T U : Type 0} (f : Fields T U) (sound : IsDomain f) (i j : ℕ) (y : SubscriberFields) (at_y : get_or f.subscribers j None ≡ Some y) (due : y.is_due ≡ false) where
+module _ {T U : Type 0} (environment : Environment) (f : Fields T U) (sound : IsDomain f) (i j : ℕ) (y : SubscriberFields) (at_y : get_or f.subscribers j None ≡ Some y) (due : y.is_due ≡ false) where
   own-key : receiver_key f.subscribers j i ≡ get_or y.keys i None
   own-key = ap (option_and_then (λ (z : SubscriberFields). get_or z.keys i None)) at_y
 
@@ -34,11 +35,11 @@ module _ {T U : Type 0} (f : Fields T U) (sound : IsDomain f) (i j : ℕ) (y : S
   other-key x at_x = ap (option_and_then (λ (z : PublisherFields). get_or z.keys j None)) at_x
 
   -- it has one
-  pub keeps-as : i < length f.publishers → is_some (receiver_key f.subscribers j i) ≡ true → ConnectsReceiver f j i y f
+  pub keeps-as : i < length f.publishers → is_some (receiver_key f.subscribers j i) ≡ true → ConnectsReceiver environment f j i y f None
   keeps-as low some =
       let there = sound.open_ports.publishers i low in
       let key = some_key (receiver_key f.subscribers j i) some in
-      keeps-connection f sound i j there.0 y there.1 at_y due key.0 (sym own-key ∙ key.1)
+      keeps-connection environment f sound i j there.0 y there.1 at_y due key.0 (sym own-key ∙ key.1)
 
   module _ (none : is_some (receiver_key f.subscribers j i) ≡ false) where
     no_key : get_or y.keys i None ≡ None
@@ -46,11 +47,11 @@ module _ {T U : Type 0} (f : Fields T U) (sound : IsDomain f) (i j : ℕ) (y : S
 
     -- it joins the publisher's
     pub joins-as : i < length f.publishers → (key : ℕ) → sender_key f.publishers i j ≡ Some key
-        → (f' : Fields T U) → f' ≡ record f { subscribers = changed_at (with_receiver_key i key) f.subscribers j } → ConnectsReceiver f j i y f'
+        → (f' : Fields T U) → f' ≡ record f { subscribers = changed_at (with_receiver_key i key) f.subscribers j } → ConnectsReceiver environment f j i y f' None
     joins-as low key at f' is =
         let there = sound.open_ports.publishers i low in
-        subst (ConnectsReceiver f j i y) (sym (is ∙ ap (λ o. record f { subscribers = slice_set f.subscribers j (option_map (with_receiver_key i key) o) }) at_y))
-        (joins-connection f sound i j there.0 y there.1 at_y due no_key key (sym (other-key there.0 there.1) ∙ at))
+        subst (λ (h : Fields T U). ConnectsReceiver environment f j i y h None) (sym (is ∙ ap (λ o. record f { subscribers = slice_set f.subscribers j (option_map (with_receiver_key i key) o) }) at_y))
+        (joins-connection environment f sound i j there.0 y there.1 at_y due no_key key (sym (other-key there.0 there.1) ∙ at))
 
     -- no connection is there, and both ports get room for one
     module _ (nobody : sender_key f.publishers i j ≡ None) (home : Home) (size : ℕ) (apart : StandApart f.publishers f.subscribers i j home size)
@@ -105,11 +106,11 @@ module _ {T U : Type 0} (f : Fields T U) (sound : IsDomain f) (i j : ℕ) (y : S
       pub makes-as : ((z : PublisherFields) → get_or mid.publishers i None ≡ Some z → j < z.key_room)
           → ((z : SubscriberFields) → get_or mid.subscribers j None ≡ Some z → i < z.key_room)
           → (key : ℕ) → MakesConnection f.connections home size (f.config).subscriber_max_borrowed_samples key mid.connections
-          → (f' : Fields T U) → f' ≡ record mid { subscribers = changed_at (with_receiver_key i key) mid.subscribers j } → ConnectsReceiver f j i y f'
+          → (f' : Fields T U) → f' ≡ record mid { subscribers = changed_at (with_receiver_key i key) mid.subscribers j } → ConnectsReceiver environment f j i y f' None
       makes-as room_x room_y key made f' is =
-          receiver-from f i j x y n m sound apart.publisher_stands at_y more_x more_y f'
-          (subst (ConnectsReceiver g j i (with_receiver_room m y)) (sym after)
-          (makes-connection g sound-grown i j (with_sender_room n x) (with_receiver_room m y) here_x here_y due no_key no_key_x
+          receiver-from f i j x y n m sound apart.publisher_stands at_y more_x more_y environment f' None
+          (subst (λ (h : Fields T U). ConnectsReceiver environment g j i (with_receiver_room m y) h None) (sym after)
+          (makes-connection environment g sound-grown i j (with_sender_room n x) (with_receiver_room m y) here_x here_y due no_key no_key_x
           (room_x (with_sender_room n x) (ap (λ (h : Fields T U). get_or h.publishers i None) mid-is ∙ here_x))
           (room_y (with_receiver_room m y) (ap (λ (h : Fields T U). get_or h.subscribers j None) mid-is ∙ here_y)) key mid.connections
           (subst (λ (h : Home). MakesConnection f.connections h y.buffer (f.config).subscriber_max_borrowed_samples key mid.connections) home-is
@@ -120,15 +121,17 @@ module _ {T U : Type 0} (f : Fields T U) (sound : IsDomain f) (i j : ℕ) (y : S
               ∙ (λ k. record (mid-is k) { subscribers = changed_at (with_receiver_key i key) ((mid-is k).subscribers) j })
               ∙ ap (λ o. record g { subscribers = slice_set g.subscribers j (option_map (with_receiver_key i key) o); connections = mid.connections }) here_y
 
-      -- memory for a new one is refused
-      pub misses-as : (warnings : Buffer Warning) → mid.connections ≡ record f.connections { capacity = mid.connections.capacity }
-          → warnings ≡ buffer (warned f.warnings.items (ConnectionNotMade home.publisher home.subscriber)) warning_limit
-          → (f' : Fields T U) → f' ≡ record mid { warnings = warnings } → ConnectsReceiver f j i y f'
-      misses-as warnings same warned_is f' is =
-          receiver-from f i j x y n m sound apart.publisher_stands at_y more_x more_y f'
-          (subst (ConnectsReceiver g j i (with_receiver_room m y))
-          (sym (is ∙ (λ k. record (mid-is k) { warnings = told k }) ∙ (λ k. record g { connections = same k; warnings = buffer (warned f.warnings.items (ConnectionNotMade x.id y.id)) warning_limit })))
-          (misses-connection g sound-grown i j (with_sender_room n x) (with_receiver_room m y) here_x here_y due no_key no_key_x mid.connections.capacity))
+      -- memory for a new one is refused, and the subscriber's handler says what comes of that
+      pub misses-as : environment.may_refuse_memory → (action : DegradationAction)
+          → DegradationAnswers environment y.id y.degradation_handler (record { service_id = (f.config).service_id; sender_port_id = x.id; receiver_port_id = y.id }) action
+          → (warnings : Buffer Warning) → mid.connections ≡ record f.connections { capacity = mid.connections.capacity }
+          → warnings ≡ buffer (warnings_after home.publisher home.subscriber action f.warnings.items) warning_limit
+          → (f' : Fields T U) → f' ≡ record mid { warnings = warnings } → ConnectsReceiver environment f j i y f' (failure_of action)
+      misses-as may action answers warnings same warned_is f' is =
+          receiver-from f i j x y n m sound apart.publisher_stands at_y more_x more_y environment f' (failure_of action)
+          (subst (λ (h : Fields T U). ConnectsReceiver environment g j i (with_receiver_room m y) h (failure_of action))
+          (sym (is ∙ (λ k. record (mid-is k) { warnings = told k }) ∙ (λ k. record g { connections = same k; warnings = buffer (warnings_after x.id y.id action f.warnings.items) warning_limit })))
+          (misses-connection environment g sound-grown i j (with_sender_room n x) (with_receiver_room m y) here_x here_y due no_key no_key_x may action answers mid.connections.capacity))
         where
-          told : warnings ≡ buffer (warned f.warnings.items (ConnectionNotMade x.id y.id)) warning_limit
-          told = warned_is ∙ ap (λ (h : Home). buffer (warned f.warnings.items (ConnectionNotMade h.publisher h.subscriber)) warning_limit) home-is
+          told : warnings ≡ buffer (warnings_after x.id y.id action f.warnings.items) warning_limit
+          told = warned_is ∙ ap (λ (h : Home). buffer (warnings_after h.publisher h.subscriber action f.warnings.items) warning_limit) home-is

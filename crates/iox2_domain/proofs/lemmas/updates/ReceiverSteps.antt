@@ -4,15 +4,15 @@ use Rattle.std.specs.declared.option.Option.{Option}
 use Rattle.std.specs.declared.option.Option.TheVariants.{None, Some}
 use Rattle.slab.specs.Slab.{Slab}
 use Rattle.circular_buffer.specs.Buffer.{Buffer}
-use Rattle.iox2_store.specs.machine.Environments.{fixed_handlers}
 use Rattle.iox2_store.specs.machine.Limits.{warning_limit, expired_limit}
 use Rattle.iox2_store.specs.Link.{Link}
 use Rattle.iox2_store.specs.machine.Numbers.{put_at}
 use Rattle.iox2_store.specs.machine.Places.{occupant, set_place}
-use Rattle.iox2_store.specs.machine.Records.{Subscriber}
+use Rattle.iox2_store.specs.machine.Records.{Subscriber, Environment}
 use Rattle.iox2_store.specs.machine.State.{State, has_sender_end}
 use Rattle.iox2_store.specs.machine.SubscriberUpdate.{ReceiverSide, ConnectAtPlace, ConnectReceiver, receiver_side, with_receiver_side}
 use Rattle.iox2_store.specs.machine.WellFormed.{IsWellFormed}
+use Rattle.iox2_store.specs.declared.errors.ConnectionFailure.{ConnectionFailure}
 use Rattle.iox2_store.specs.declared.warning.Warning.{Warning}
 use Rattle.iox2_ends.specs.Mailboxes.{receiver_ends, publisher_of_key}
 use Rattle.iox2_ends.proofs.MailboxChanges.{put_at-own}
@@ -37,10 +37,10 @@ module _ {T U : Type 0} (f : Fields T U) where
   port y = (subscriber_of f.books f.connections y).port
 
   -- the machine's step of the subscriber y at the place i
-  abbrev pub StepsReceiver : (i : ℕ) → SubscriberFields → ReceiverSide → Type 0
-  StepsReceiver i y side =
-      ConnectAtPlace fixed_handlers (f.config).service_id y.id (port y).degradation_handler (expired_limit f.config) (λ p. has_sender_end now p y.id)
-      i (occupant now.publisher_places i) (receiver_side now y.id (port y)) side None
+  abbrev pub StepsReceiver : Environment → (i : ℕ) → SubscriberFields → ReceiverSide → Option ConnectionFailure → Type 0
+  StepsReceiver environment i y side failure =
+      ConnectAtPlace environment (f.config).service_id y.id (port y).degradation_handler (expired_limit f.config) (λ p. has_sender_end now p y.id)
+      i (occupant now.publisher_places i) (receiver_side now y.id (port y)) side failure
 
   -- the subscriber's side with these keys, connections and warnings
   abbrev pub receiver_side_with : SubscriberFields → List (Option ℕ) → Slab Link → Buffer Warning → ReceiverSide
@@ -52,7 +52,7 @@ module _ {T U : Type 0} (f : Fields T U) where
   connected_receiver j y keys connections warnings =
       record f { subscribers = slice_set f.subscribers j (Some (record y { keys = keys })); connections = connections; warnings = warnings }
 
-module _ {T U : Type 0} (f : Fields T U) (sound : IsDomain f) (i j : ℕ) (x : PublisherFields) (y : SubscriberFields)
+module _ {T U : Type 0} (environment : Environment) (f : Fields T U) (sound : IsDomain f) (i j : ℕ) (x : PublisherFields) (y : SubscriberFields)
     (at_x : get_or f.publishers i None ≡ Some x) (at_y : get_or f.subscribers j None ≡ Some y) (due : y.is_due ≡ false) where
   abbrev s : State T U
   s = state_of (kept_of f)
@@ -64,10 +64,10 @@ module _ {T U : Type 0} (f : Fields T U) (sound : IsDomain f) (i j : ℕ) (x : P
   present = subscriber-stands f sound j y at_y
 
   -- the machine's step is done where the fields change so
-  pub steps-connect : (keys : List (Option ℕ)) (connections : Slab Link) (warnings : Buffer Warning) → FitsReceiver f j y keys y.key_room connections
-      → warnings.capacity ≡ warning_limit → StepsReceiver f i y (receiver_side_with f y keys connections warnings)
-      → ConnectsReceiver f j i y (connected_receiver f j y keys connections warnings)
-  steps-connect keys connections warnings fits room step = record {
+  pub steps-connect : (keys : List (Option ℕ)) (connections : Slab Link) (warnings : Buffer Warning) (failure : Option ConnectionFailure) → FitsReceiver f j y keys y.key_room connections
+      → warnings.capacity ≡ warning_limit → StepsReceiver f environment i y (receiver_side_with f y keys connections warnings) failure
+      → ConnectsReceiver environment f j i y (connected_receiver f j y keys connections warnings) failure
+  steps-connect keys connections warnings failure fits room step = record {
     agrees = receiver-agrees f sound j y at_y keys y.key_room y.is_due connections warnings fits room (rw state well);
     keys = keys;
     key_room = y.key_room;
@@ -89,34 +89,34 @@ module _ {T U : Type 0} (f : Fields T U) (sound : IsDomain f) (i j : ℕ) (x : P
 
     well : IsWellFormed (with_receiver_side s y.id Q (receiver_side_with f y keys connections warnings))
     well = with_receiver_side_keeps s sound.well_formed y.id Q (receiver_side_with f y keys connections warnings) present
-        (connect_at_place_keeps fixed_handlers s sound.well_formed y.id Q.degradation_handler (λ p. has_sender_end s p y.id) i
-        (receiver_side s y.id Q) (receiver_side_with f y keys connections warnings) None (receiver_side_begins s sound.well_formed y.id Q present) step)
+        (connect_at_place_keeps environment s sound.well_formed y.id Q.degradation_handler (λ p. has_sender_end s p y.id) i
+        (receiver_side s y.id Q) (receiver_side_with f y keys connections warnings) failure (receiver_side_begins s sound.well_formed y.id Q present) step)
 
   -- ---- what the machine does
 
-  abbrev Step : ReceiverSide → Type 0
-  Step side = StepsReceiver f i y side
+  abbrev Step : ReceiverSide → Option ConnectionFailure → Type 0
+  Step side failure = StepsReceiver f environment i y side failure
 
   -- an end to the publisher stays
-  pub keeps-end : occupant Q.ends i ≡ Some x.id → Step (receiver_side s y.id Q)
+  pub keeps-end : occupant Q.ends i ≡ Some x.id → Step (receiver_side s y.id Q) None
   keeps-end there =
-      connect-keeps fixed_handlers (f.config).service_id y.id Q.degradation_handler (expired_limit f.config) (λ p. has_sender_end s p y.id) i x.id
+      connect-keeps environment (f.config).service_id y.id Q.degradation_handler (expired_limit f.config) (λ p. has_sender_end s p y.id) i x.id
       (occupant s.publisher_places i) (receiver_side s y.id Q) (publisher-listed f sound i x at_x) there
 
   -- without an end one is made
-  pub makes-end : occupant Q.ends i ≡ None → (side : ReceiverSide)
-      → ConnectReceiver fixed_handlers (f.config).service_id y.id Q.degradation_handler (expired_limit f.config) (λ p. has_sender_end s p y.id) (receiver_side s y.id Q) i x.id side None
-      → Step side
-  makes-end none side step =
-      connect-makes fixed_handlers (f.config).service_id y.id Q.degradation_handler (expired_limit f.config) (λ p. has_sender_end s p y.id) i x.id
-      (occupant s.publisher_places i) (receiver_side s y.id Q) (publisher-listed f sound i x at_x) side None none step
+  pub makes-end : occupant Q.ends i ≡ None → (side : ReceiverSide) (failure : Option ConnectionFailure)
+      → ConnectReceiver environment (f.config).service_id y.id Q.degradation_handler (expired_limit f.config) (λ p. has_sender_end s p y.id) (receiver_side s y.id Q) i x.id side failure
+      → Step side failure
+  makes-end none side failure step =
+      connect-makes environment (f.config).service_id y.id Q.degradation_handler (expired_limit f.config) (λ p. has_sender_end s p y.id) i x.id
+      (occupant s.publisher_places i) (receiver_side s y.id Q) (publisher-listed f sound i x at_x) side failure none step
 
   pub no_end : get_or y.keys i None ≡ None → occupant Q.ends i ≡ None
   no_end none = occupant-receiver_ends f.connections y.keys i ∙ ap (publisher_of_key f.connections) none
 
   -- an end is made where the keys lead to it
   pub connects : get_or y.keys i None ≡ None → (keys : List (Option ℕ)) (connections : Slab Link) → receiver_ends connections keys ≡ set_place Q.ends i (Some x.id)
-      → Step (receiver_side_with f y keys connections f.warnings)
+      → Step (receiver_side_with f y keys connections f.warnings) None
   connects none keys connections leads =
-      makes-end (no_end none) (receiver_side_with f y keys connections f.warnings)
+      makes-end (no_end none) (receiver_side_with f y keys connections f.warnings) None
       (inl (λ k. record (receiver_side s y.id Q) { ends = leads k }, refl))

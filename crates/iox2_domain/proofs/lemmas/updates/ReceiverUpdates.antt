@@ -5,17 +5,17 @@ use Rattle.std.proofs.lemmas.Option.{same_Some}
 use Rattle.std.specs.declared.option.Option.{Option}
 use Rattle.std.specs.declared.option.Option.TheVariants.{None, Some}
 use Rattle.std.specs.Option.{option_map, option_map_or}
-use Rattle.iox2_store.specs.machine.Connections.{ForEachPlace}
-use Rattle.iox2_store.specs.machine.Environments.{fixed_handlers}
+use Rattle.iox2_store.specs.machine.Connections.{ForEachPlace, first_failure}
 use Rattle.iox2_store.specs.machine.Limits.{expired_limit}
 use Rattle.iox2_store.specs.machine.Numbers.{put_at}
 use Rattle.iox2_store.specs.machine.Places.{occupant}
-use Rattle.iox2_store.specs.machine.Records.{Entry, Subscriber}
+use Rattle.iox2_store.specs.machine.Records.{Entry, Subscriber, Environment}
 use Rattle.iox2_store.specs.machine.State.{State, has_sender_end}
 use Rattle.iox2_store.specs.machine.SubscriberUpdate.{ReceiverSide, ConnectAtPlace, receiver_side, with_receiver_side}
 use Rattle.iox2_laws.proofs.Puts.{put_at-same}
 use Rattle.iox2_laws.proofs.ReceiverSides.{receiver_side_begins}
 use Rattle.iox2_laws.proofs.SubscriberUpdates.{with_receiver_side_keeps}
+use Rattle.iox2_store.specs.declared.errors.ConnectionFailure.{ConnectionFailure}
 use Rattle.iox2_ends.proofs.MailboxChanges.{put_at-own}
 use Rattle.iox2_domain.specs.Ports.{SubscriberFields}
 use Rattle.iox2_domain.specs.Kept.{state_of, entries_of}
@@ -27,12 +27,13 @@ use Rattle.iox2_domain.proofs.lemmas.fields.ConnectionEnds.{subscriber-stands}
 use Rattle.iox2_domain.proofs.lemmas.containers.ChangedRecords.{changed-here}
 use Rattle.iox2_domain.proofs.lemmas.updates.ReceiverChanges.{receiver-is, receiver_fits-same}
 use Rattle.iox2_domain.proofs.lemmas.updates.ReceiverAgrees.{receiver-agrees}
+use Rattle.iox2_domain.proofs.lemmas.updates.SenderWalk.{first_failure-none, first_failure-assoc}
 use Rattle.iox2_domain.proofs.lemmas.updates.ReceiverWalk.{AtPlace, subscriber_mid, state-again, step-again, walk-goes-on, walk-ends, due-updates, idle-updates as machine-idle}
 use Rattle.iox2_domain.proofs.lemmas.fields.Standing.{publisher-listed}
 
--- The subscriber y at the place j was updated at the places below i: whatever the rest of the walk comes to from here, the
--- whole walk comes to.
-pub record WalksReceiver {T U : Type 0} (f : Fields T U) (j : ℕ) (y : SubscriberFields) (i : ℕ) (f' : Fields T U) : Type 0 where
+-- The subscriber y at the place j was updated at the places below i, with this failure if any: whatever the rest of the
+-- walk comes to from here, the whole walk comes to.
+pub record WalksReceiver {T U : Type 0} (environment : Environment) (f : Fields T U) (j : ℕ) (y : SubscriberFields) (i : ℕ) (f' : Fields T U) (failure : Option ConnectionFailure) : Type 0 where
   pub agrees : IsDomain f'
   pub keys : List (Option ℕ)
   pub key_room : ℕ
@@ -41,14 +42,14 @@ pub record WalksReceiver {T U : Type 0} (f : Fields T U) (j : ℕ) (y : Subscrib
   pub side : ReceiverSide
   pub settled : side.is_due ≡ false
   pub state : state_of (kept_of f') ≡ with_receiver_side (state_of (kept_of f)) y.id (subscriber_of f.books f.connections y).port side
-  pub walk : (end : ReceiverSide)
-      → ForEachPlace (ConnectAtPlace fixed_handlers (f.config).service_id y.id (subscriber_of f.books f.connections y).port.degradation_handler (expired_limit f.config)
-      (λ p. has_sender_end (state_of (kept_of f)) p y.id)) i (drop i (state_of (kept_of f)).publisher_places) side end None
-      → ForEachPlace (ConnectAtPlace fixed_handlers (f.config).service_id y.id (subscriber_of f.books f.connections y).port.degradation_handler (expired_limit f.config)
+  pub walk : (end : ReceiverSide) (later : Option ConnectionFailure)
+      → ForEachPlace (ConnectAtPlace environment (f.config).service_id y.id (subscriber_of f.books f.connections y).port.degradation_handler (expired_limit f.config)
+      (λ p. has_sender_end (state_of (kept_of f)) p y.id)) i (drop i (state_of (kept_of f)).publisher_places) side end later
+      → ForEachPlace (ConnectAtPlace environment (f.config).service_id y.id (subscriber_of f.books f.connections y).port.degradation_handler (expired_limit f.config)
       (λ p. has_sender_end (state_of (kept_of f)) p y.id)) 0 (state_of (kept_of f)).publisher_places
-      (receiver_side (state_of (kept_of f)) y.id (subscriber_of f.books f.connections y).port) end None
+      (receiver_side (state_of (kept_of f)) y.id (subscriber_of f.books f.connections y).port) end (first_failure failure later)
 
-module _ {T U : Type 0} (f : Fields T U) (sound : IsDomain f) (j : ℕ) (y : SubscriberFields) (at : get_or f.subscribers j None ≡ Some y) where
+module _ {T U : Type 0} (environment : Environment) (f : Fields T U) (sound : IsDomain f) (j : ℕ) (y : SubscriberFields) (at : get_or f.subscribers j None ≡ Some y) where
   abbrev s : State T U
   s = state_of (kept_of f)
 
@@ -57,6 +58,10 @@ module _ {T U : Type 0} (f : Fields T U) (sound : IsDomain f) (j : ℕ) (y : Sub
 
   present : s.subscribers y.id ≡ Some Q
   present = subscriber-stands f sound j y at
+
+  -- the walk over all places
+  abbrev Whole : ReceiverSide → Option ConnectionFailure → Type 0
+  Whole end failure = ForEachPlace (AtPlace environment s y.id Q present) 0 s.publisher_places (receiver_side s y.id Q) end failure
 
   -- the subscriber that is due no more
   abbrev settled : Fields T U
@@ -68,7 +73,7 @@ module _ {T U : Type 0} (f : Fields T U) (sound : IsDomain f) (j : ℕ) (y : Sub
       ∙ (λ k. record s { subscribers = put_at s.subscribers y.id (Some (record Q { is_due = false })); mailboxes = λ p. put_at-own (s.mailboxes p) y.id k })
 
   -- the walk begins where the subscriber is due no more
-  pub walk-begins : WalksReceiver f j y 0 settled
+  pub walk-begins : WalksReceiver environment f j y 0 settled None
   walk-begins = record {
     agrees = receiver-agrees f sound j y at y.keys y.key_room false f.connections f.warnings (receiver_fits-same f sound j y at f.connections.capacity) sound.warning_room
         (rw settled-is (with_receiver_side_keeps s sound.well_formed y.id Q (receiver_side s y.id Q) present (receiver_side_begins s sound.well_formed y.id Q present)));
@@ -79,7 +84,7 @@ module _ {T U : Type 0} (f : Fields T U) (sound : IsDomain f) (j : ℕ) (y : Sub
     side = receiver_side s y.id Q;
     settled = refl;
     state = settled-is;
-    walk = λ end rest. rest;
+    walk = λ end later rest. rest;
   }
 
   listed : length s.publisher_places ≡ length f.publishers
@@ -91,7 +96,7 @@ module _ {T U : Type 0} (f : Fields T U) (sound : IsDomain f) (j : ℕ) (y : Sub
   full : (i : ℕ) → i < length s.publisher_places → (p : ℕ) × (occupant s.publisher_places i ≡ Some p)
   full i low = let there = sound.open_ports.publishers i (omega (arith, listed)) in (there.0.id, publisher-listed f sound i there.0 there.1)
 
-  module _ (i : ℕ) (f' : Fields T U) (walks : WalksReceiver f j y i f') where
+  module _ (i : ℕ) (f' : Fields T U) (failure : Option ConnectionFailure) (walks : WalksReceiver environment f j y i f' failure) where
     -- the subscriber on its way
     abbrev pub walking : SubscriberFields
     walking = record y { keys = walks.keys; key_room = walks.key_room; is_due = false }
@@ -100,15 +105,16 @@ module _ {T U : Type 0} (f : Fields T U) (sound : IsDomain f) (j : ℕ) (y : Sub
     walking-stands = ap (λ (g : Fields T U). get_or g.subscribers j None) walks.fields ∙ changed-here f.subscribers j y walking at
 
     -- as the machine sees it
-    port-is : (subscriber_of f'.books f'.connections walking).port ≡ subscriber_mid s y.id Q present walks.side walks.settled
+    port-is : (subscriber_of f'.books f'.connections walking).port ≡ subscriber_mid environment s y.id Q present walks.side walks.settled
     port-is =
         same_Some _ _ (sym (subscriber-stands f' walks.agrees j walking walking-stands)
         ∙ ap (λ (t : State T U). t.subscribers y.id) walks.state
-        ∙ put_at-same s.subscribers y.id (Some (subscriber_mid s y.id Q present walks.side walks.settled)))
+        ∙ put_at-same s.subscribers y.id (Some (subscriber_mid environment s y.id Q present walks.side walks.settled)))
 
     -- one place more
-    pub walk-more : i < length f.publishers → (f'' : Fields T U) → ConnectsReceiver f' j i walking f'' → WalksReceiver f j y (i + 1) f''
-    walk-more low f'' step = record {
+    pub walk-more : i < length f.publishers → (f'' : Fields T U) (first : Option ConnectionFailure) → ConnectsReceiver environment f' j i walking f'' first
+        → WalksReceiver environment f j y (i + 1) f'' (first_failure failure first)
+    walk-more low f'' first step = record {
       agrees = step.agrees;
       keys = step.keys;
       key_room = step.key_room;
@@ -119,24 +125,25 @@ module _ {T U : Type 0} (f : Fields T U) (sound : IsDomain f) (j : ℕ) (y : Sub
       others = step.others ∙ walks.others;
       side = step.side;
       settled = step.settled;
-      state = step.state ∙ (λ k. with_receiver_side (walks.state k) y.id (port-is k) step.side) ∙ state-again s y.id Q present walks.side walks.settled step.side;
-      walk = λ end rest. walks.walk end (walk-goes-on s y.id Q present i walks.side step.side end (omega (arith, listed)) machine rest);
+      state = step.state ∙ (λ k. with_receiver_side (walks.state k) y.id (port-is k) step.side) ∙ state-again environment s y.id Q present walks.side walks.settled step.side;
+      walk = λ end later rest. subst (Whole end) (sym (first_failure-assoc failure first later))
+          (walks.walk end (first_failure first later) (walk-goes-on environment s y.id Q present i walks.side step.side end first later (omega (arith, listed)) machine rest));
     } where
-      machine : AtPlace s y.id Q present i (occupant s.publisher_places i) walks.side step.side None
-      machine = step-again s y.id Q present walks.side walks.settled i step.side
-          (subst (λ (z : Subscriber). ConnectAtPlace fixed_handlers (f.config).service_id y.id z.degradation_handler (expired_limit f.config)
-          (λ p. has_sender_end (with_receiver_side s y.id Q walks.side) p y.id) i (occupant s.publisher_places i) (receiver_side (with_receiver_side s y.id Q walks.side) y.id z) step.side None) port-is
-          (subst (λ (t : State T U). ConnectAtPlace fixed_handlers (t.config).service_id y.id (subscriber_of f'.books f'.connections walking).port.degradation_handler (expired_limit t.config)
-          (λ p. has_sender_end t p y.id) i (occupant t.publisher_places i) (receiver_side t y.id (subscriber_of f'.books f'.connections walking).port) step.side None) walks.state step.steps))
+      machine : AtPlace environment s y.id Q present i (occupant s.publisher_places i) walks.side step.side first
+      machine = step-again environment s y.id Q present walks.side walks.settled i step.side first
+          (subst (λ (z : Subscriber). ConnectAtPlace environment (f.config).service_id y.id z.degradation_handler (expired_limit f.config)
+          (λ p. has_sender_end (with_receiver_side s y.id Q walks.side) p y.id) i (occupant s.publisher_places i) (receiver_side (with_receiver_side s y.id Q walks.side) y.id z) step.side first) port-is
+          (subst (λ (t : State T U). ConnectAtPlace environment (t.config).service_id y.id (subscriber_of f'.books f'.connections walking).port.degradation_handler (expired_limit t.config)
+          (λ p. has_sender_end t p y.id) i (occupant t.publisher_places i) (receiver_side t y.id (subscriber_of f'.books f'.connections walking).port) step.side first) walks.state step.steps))
 
     same-entries : (n : ℕ) (entry : Entry T U) → entries_of (kept_of f') n ≡ Some entry → entries_of (kept_of f) n ≡ Some entry
     same-entries n entry at_entry = sym (ap (λ (g : Fields T U). entries_of (kept_of g) n) walks.fields) ∙ at_entry
 
     -- the subscriber is updated where the walk is over
-    pub walk-updates : y.is_due ≡ true → length f.publishers ≤ i → UpdatesSubscriber f j y f'
+    pub walk-updates : y.is_due ≡ true → length f.publishers ≤ i → UpdatesSubscriber environment f j y f' failure
     walk-updates due past = record {
       after = with_receiver_side s y.id Q walks.side;
-      updates = due-updates s y.id Q present due full walks.side (walks.walk walks.side (walk-ends s y.id Q present i walks.side (omega (arith, listed))));
+      updates = due-updates environment s y.id Q present due full walks.side failure (subst (Whole walks.side) (first_failure-none failure) (walks.walk walks.side None (walk-ends environment s y.id Q present i walks.side (omega (arith, listed)))));
       reaches = record { agrees = walks.agrees; state = walks.state; entries = same-entries };
       keys = walks.keys;
       key_room = walks.key_room;
@@ -145,10 +152,10 @@ module _ {T U : Type 0} (f : Fields T U) (sound : IsDomain f) (j : ℕ) (y : Sub
     }
 
   -- a subscriber that isn't due is as it is
-  pub idle-updates : y.is_due ≡ false → UpdatesSubscriber f j y f
+  pub idle-updates : y.is_due ≡ false → UpdatesSubscriber environment f j y f None
   idle-updates due = record {
     after = s;
-    updates = machine-idle s y.id Q present due;
+    updates = machine-idle environment s y.id Q present due;
     reaches = record { agrees = sound; state = refl; entries = λ n entry e. e };
     keys = y.keys;
     key_room = y.key_room;
@@ -162,9 +169,9 @@ pub due-at : (ys : List (Option SubscriberFields)) (j : ℕ) (y : SubscriberFiel
 due-at ys j y at = ap (λ o. option_map_or (λ (z : SubscriberFields). z.is_due) o false) at
 
 -- how many places there are on the way
-pub walking-publishers : {T U : Type 0} (f : Fields T U) (j : ℕ) (y : SubscriberFields) (i : ℕ) (f' : Fields T U) → WalksReceiver f j y i f' → length f'.publishers ≡ length f.publishers
-walking-publishers f j y i f' walks =
+pub walking-publishers : {T U : Type 0} (environment : Environment) (f : Fields T U) (j : ℕ) (y : SubscriberFields) (i : ℕ) (f' : Fields T U) (failure : Option ConnectionFailure) → WalksReceiver environment f j y i f' failure → length f'.publishers ≡ length f.publishers
+walking-publishers environment f j y i f' failure walks =
     sym (length-map f'.publishers (option_map publisher_but_room)) ∙ ap length walks.others ∙ length-map f.publishers (option_map publisher_but_room)
 
-pub walking-subscribers : {T U : Type 0} (f : Fields T U) (j : ℕ) (y : SubscriberFields) (i : ℕ) (f' : Fields T U) → WalksReceiver f j y i f' → length f'.subscribers ≡ length f.subscribers
-walking-subscribers f j y i f' walks = ap (λ g. length g.subscribers) walks.fields ∙ length-set f.subscribers j (Some (record y { keys = walks.keys; key_room = walks.key_room; is_due = false }))
+pub walking-subscribers : {T U : Type 0} (environment : Environment) (f : Fields T U) (j : ℕ) (y : SubscriberFields) (i : ℕ) (f' : Fields T U) (failure : Option ConnectionFailure) → WalksReceiver environment f j y i f' failure → length f'.subscribers ≡ length f.subscribers
+walking-subscribers environment f j y i f' failure walks = ap (λ g. length g.subscribers) walks.fields ∙ length-set f.subscribers j (Some (record y { keys = walks.keys; key_room = walks.key_room; is_due = false }))

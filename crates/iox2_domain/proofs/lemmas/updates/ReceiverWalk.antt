@@ -6,28 +6,27 @@ use Rattle.std.specs.Bool.{MatchBool}
 use Rattle.std.specs.declared.option.Option.{Option}
 use Rattle.std.specs.declared.option.Option.TheVariants.{None, Some}
 use Rattle.std.specs.Option.{option_map_or}
-use Rattle.iox2_store.specs.machine.Connections.{ForEachPlace}
-use Rattle.iox2_store.specs.machine.Environments.{fixed_handlers}
+use Rattle.iox2_store.specs.machine.Connections.{ForEachPlace, first_failure}
 use Rattle.iox2_store.specs.machine.Limits.{expired_limit}
 use Rattle.iox2_store.specs.machine.Places.{occupant, is_port}
-use Rattle.iox2_store.specs.machine.Records.{Publisher, Subscriber}
+use Rattle.iox2_store.specs.machine.Records.{Publisher, Subscriber, Environment}
 use Rattle.iox2_store.specs.machine.State.{State, has_sender_end}
 use Rattle.iox2_store.specs.machine.SubscriberUpdate.{ReceiverSide, ConnectAtPlace, DisconnectAtPlace, UpdateReceiverSide, receiver_side, with_receiver_side, UpdateSubscriber}
 use Rattle.iox2_store.specs.declared.errors.ConnectionFailure.{ConnectionFailure}
 use Rattle.iox2_laws.proofs.Puts.{put_at-same}
-use Rattle.iox2_domain.proofs.lemmas.updates.SenderWalk.{put_at-twice, occupant-get_or}
+use Rattle.iox2_domain.proofs.lemmas.updates.SenderWalk.{put_at-twice, occupant-get_or, first_failure-none}
 use mathlib.Core.Path.{fun_ext}
 
-module _ {T U : Type 0} (s : State T U) (q : ℕ) (y : Subscriber) (present : s.subscribers q ≡ Some y) where
+module _ {T U : Type 0} (environment : Environment) (s : State T U) (q : ℕ) (y : Subscriber) (present : s.subscribers q ≡ Some y) where
   -- what the subscriber does at a place
   abbrev pub AtPlace : (place : ℕ) → Option ℕ → ReceiverSide → ReceiverSide → Option ConnectionFailure → Type 0
   AtPlace place at side side' failure =
-      ConnectAtPlace fixed_handlers (s.config).service_id q y.degradation_handler (expired_limit s.config) (λ p. has_sender_end s p q) place at side side' failure
+      ConnectAtPlace environment (s.config).service_id q y.degradation_handler (expired_limit s.config) (λ p. has_sender_end s p q) place at side side' failure
 
   -- and at an empty one
   abbrev AtEmpty : (place : ℕ) → Option ℕ → ReceiverSide → ReceiverSide → Option ConnectionFailure → Type 0
   AtEmpty place at side side' failure =
-      DisconnectAtPlace fixed_handlers (s.config).service_id q y.degradation_handler (expired_limit s.config) (λ p. has_sender_end s p q) place at side side' failure
+      DisconnectAtPlace environment (s.config).service_id q y.degradation_handler (expired_limit s.config) (λ p. has_sender_end s p q) place at side side' failure
 
   -- a side that is due no more and has the same expired ones
   module _ (side : ReceiverSide) (settled : side.is_due ≡ false) where
@@ -57,24 +56,24 @@ module _ {T U : Type 0} (s : State T U) (q : ℕ) (y : Subscriber) (present : s.
       joined o = option_map_or (λ (x : Publisher). option_map_or (λ (z : Subscriber). is_port (occupant x.ends z.place) q) o false) (s.publishers p) false
 
     -- a step from there is a step of the walk
-    pub step-again : (place : ℕ) (side' : ReceiverSide)
-        → ConnectAtPlace fixed_handlers (mid.config).service_id q subscriber_mid.degradation_handler (expired_limit mid.config) (λ p. has_sender_end mid p q)
-        place (occupant mid.publisher_places place) (receiver_side mid q subscriber_mid) side' None
-        → AtPlace place (occupant s.publisher_places place) side side' None
-    step-again place side' step =
-        subst (λ (now : ReceiverSide). AtPlace place (occupant s.publisher_places place) now side' None) side-again
-        (subst (λ (has : ℕ → Bool). ConnectAtPlace fixed_handlers (s.config).service_id q y.degradation_handler (expired_limit s.config) has
-        place (occupant s.publisher_places place) (receiver_side mid q subscriber_mid) side' None) (fun_ext same_senders) step)
+    pub step-again : (place : ℕ) (side' : ReceiverSide) (failure : Option ConnectionFailure)
+        → ConnectAtPlace environment (mid.config).service_id q subscriber_mid.degradation_handler (expired_limit mid.config) (λ p. has_sender_end mid p q)
+        place (occupant mid.publisher_places place) (receiver_side mid q subscriber_mid) side' failure
+        → AtPlace place (occupant s.publisher_places place) side side' failure
+    step-again place side' failure step =
+        subst (λ (now : ReceiverSide). AtPlace place (occupant s.publisher_places place) now side' failure) side-again
+        (subst (λ (has : ℕ → Bool). ConnectAtPlace environment (s.config).service_id q y.degradation_handler (expired_limit s.config) has
+        place (occupant s.publisher_places place) (receiver_side mid q subscriber_mid) side' failure) (fun_ext same_senders) step)
 
   -- one place more
-  pub walk-goes-on : (place : ℕ) (side side' end : ReceiverSide) → place < length s.publisher_places
-      → AtPlace place (occupant s.publisher_places place) side side' None
-      → ForEachPlace AtPlace (place + 1) (drop (place + 1) s.publisher_places) side' end None
-      → ForEachPlace AtPlace place (drop place s.publisher_places) side end None
-  walk-goes-on place side side' end low step rest =
-      subst (λ (places : List (Option ℕ)). ForEachPlace AtPlace place places side end None)
+  pub walk-goes-on : (place : ℕ) (side side' end : ReceiverSide) (first later : Option ConnectionFailure) → place < length s.publisher_places
+      → AtPlace place (occupant s.publisher_places place) side side' first
+      → ForEachPlace AtPlace (place + 1) (drop (place + 1) s.publisher_places) side' end later
+      → ForEachPlace AtPlace place (drop place s.publisher_places) side end (first_failure first later)
+  walk-goes-on place side side' end first later low step rest =
+      subst (λ (places : List (Option ℕ)). ForEachPlace AtPlace place places side end (first_failure first later))
       (sym (drop_more s.publisher_places place None low ∙ ap (λ o. o ∷ drop (place + 1) s.publisher_places) (occupant-get_or s.publisher_places place)))
-      (side', None, None, step, rest, refl)
+      (side', first, later, step, rest, refl)
 
   pub walk-ends : (place : ℕ) (side : ReceiverSide) → length s.publisher_places ≤ place → ForEachPlace AtPlace place (drop place s.publisher_places) side side None
   walk-ends place side past =
@@ -88,26 +87,26 @@ module _ {T U : Type 0} (s : State T U) (q : ℕ) (y : Subscriber) (present : s.
   nothing_empty place (Some p ∷ places) side full =
       (side, None, None, (refl, refl), nothing_empty (place + 1) places side (λ i low. full (suc i) (omega arith)), refl)
 
-  abbrev Updates : Option Subscriber → State T U → Type 0
-  Updates o s' = MatchOption o ⊥ (λ (z : Subscriber). MatchBool z.is_due
+  abbrev Updates : Option Subscriber → State T U → Option ConnectionFailure → Type 0
+  Updates o s' failure = MatchOption o ⊥ (λ (z : Subscriber). MatchBool z.is_due
       ((end : ReceiverSide)
-      × UpdateReceiverSide fixed_handlers (s.config).service_id q z.degradation_handler (expired_limit s.config) (λ p. has_sender_end s p q) s.publisher_places (receiver_side s q z) end None
+      × UpdateReceiverSide environment (s.config).service_id q z.degradation_handler (expired_limit s.config) (λ p. has_sender_end s p q) s.publisher_places (receiver_side s q z) end failure
       × (s' ≡ with_receiver_side s q z end))
-      ((s' ≡ s) × (◌≡◌ {A = Option ConnectionFailure} None None)))
+      ((s' ≡ s) × (failure ≡ None)))
 
   -- the update of a subscriber that is due is such a walk, where no place is empty
   pub due-updates : y.is_due ≡ true → ((i : ℕ) → i < length s.publisher_places → (p : ℕ) × (occupant s.publisher_places i ≡ Some p))
-      → (side : ReceiverSide) → ForEachPlace AtPlace 0 s.publisher_places (receiver_side s q y) side None
-      → UpdateSubscriber fixed_handlers s q (with_receiver_side s q y side) None
-  due-updates due full side walk = subst (λ o. Updates o (with_receiver_side s q y side)) (sym present) (by y.is_due due) where
+      → (side : ReceiverSide) (failure : Option ConnectionFailure) → ForEachPlace AtPlace 0 s.publisher_places (receiver_side s q y) side failure
+      → UpdateSubscriber environment s q (with_receiver_side s q y side) failure
+  due-updates due full side failure walk = subst (λ o. Updates o (with_receiver_side s q y side) failure) (sym present) (by y.is_due due) where
     by : (b : Bool) → b ≡ true → MatchBool b
         ((end : ReceiverSide)
-        × UpdateReceiverSide fixed_handlers (s.config).service_id q y.degradation_handler (expired_limit s.config) (λ p. has_sender_end s p q) s.publisher_places (receiver_side s q y) end None
+        × UpdateReceiverSide environment (s.config).service_id q y.degradation_handler (expired_limit s.config) (λ p. has_sender_end s p q) s.publisher_places (receiver_side s q y) end failure
         × (with_receiver_side s q y side ≡ with_receiver_side s q y end))
-        ((with_receiver_side s q y side ≡ s) × (◌≡◌ {A = Option ConnectionFailure} None None))
-    by true e = (side, (side, None, None, walk, nothing_empty 0 s.publisher_places side full, refl), refl)
+        ((with_receiver_side s q y side ≡ s) × (failure ≡ None))
+    by true e = (side, (side, failure, None, walk, nothing_empty 0 s.publisher_places side full, sym (first_failure-none failure)), refl)
     by false e = absurd cc
 
   -- that of another does nothing
-  pub idle-updates : y.is_due ≡ false → UpdateSubscriber fixed_handlers s q s None
+  pub idle-updates : y.is_due ≡ false → UpdateSubscriber environment s q s None
   idle-updates due = rw present (rw due (refl, refl))

@@ -250,9 +250,10 @@ module _ {T U : Type 0} (f : Fields T U) (sound : IsDomain f) (i : ℕ) (x : Pub
     shapes = record { at = sound.shapes.at };
     supported = sound.supported;
     plain = λ k z at_z. elim (stood k z at_z) [
-      | inl here ↦ rw here.1 (let has = sound.plain i x at in record { strategy = has.strategy; allocation = has.allocation; length = has.length })
+      | inl here ↦ rw here.1 (let has = sound.plain i x at in record { strategy = has.strategy; backpressure = has.backpressure; degradation = has.degradation; unblocked = has.unblocked; allocation = has.allocation; length = has.length })
       | inr old ↦ sound.plain k z old
     ];
+    plain_subscribers = sound.plain_subscribers;
     open_ports = open_ports;
     well_formed = well;
     entries = λ p n held_now. sound.entries p n (held-before (state_of (kept_of f)) (state_of (kept_of after)) p n

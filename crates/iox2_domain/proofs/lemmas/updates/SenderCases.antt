@@ -6,13 +6,13 @@ use Rattle.std.specs.declared.option.Option.TheVariants.{None, Some}
 use Rattle.std.specs.Option.{option_map, option_map_or}
 use Rattle.slab.specs.Slab.{Slab, get}
 use Rattle.circular_buffer.specs.Buffer.{buffer}
+use Rattle.iox2_store.specs.machine.Connections.{DegradationAnswers, failure_of, warnings_after}
 use Rattle.iox2_store.specs.machine.Limits.{warning_limit}
 use Rattle.iox2_store.specs.Link.{Link, empty_link}
 use Rattle.iox2_store.specs.machine.Places.{occupant, set_place, is_port}
-use Rattle.iox2_store.specs.machine.Records.{Publisher, Subscriber}
-use Rattle.iox2_store.specs.machine.State.{State, warned, has_receiver_end}
-use Rattle.iox2_store.specs.declared.degradation.DegradationAction.TheVariants.{Warn}
-use Rattle.iox2_store.specs.declared.warning.Warning.TheVariants.{ConnectionNotMade}
+use Rattle.iox2_store.specs.machine.Records.{Publisher, Subscriber, Environment}
+use Rattle.iox2_store.specs.machine.State.{State, has_receiver_end}
+use Rattle.iox2_store.specs.declared.degradation.DegradationAction.{DegradationAction}
 use Rattle.iox2_ends.specs.LookUp.{look_up}
 use Rattle.iox2_ends.specs.Homes.{IsSenderLinked}
 use Rattle.iox2_ends.specs.Mailboxes.{is_between, sender_ends, subscriber_of_key, publisher_of_key}
@@ -30,7 +30,7 @@ use Rattle.iox2_domain.proofs.lemmas.updates.SenderChanges.{fits-same}
 use Rattle.iox2_domain.proofs.lemmas.updates.SenderSteps.{connected_sender, steps-connect, keeps-end, makes-end, no_end, connects}
 use Rattle.iox2_domain.proofs.lemmas.fields.Standing.{publisher-place, occupant-receiver_ends, sender-joins, receiver-joins, no-connection}
 
-module _ {T U : Type 0} (f : Fields T U) (sound : IsDomain f) (i j : ℕ) (x : PublisherFields) (y : SubscriberFields)
+module _ {T U : Type 0} (environment : Environment) (f : Fields T U) (sound : IsDomain f) (i j : ℕ) (x : PublisherFields) (y : SubscriberFields)
     (at_x : get_or f.publishers i None ≡ Some x) (at_y : get_or f.subscribers j None ≡ Some y) (due : x.is_due ≡ false) where
   abbrev s : State T U
   s = state_of (kept_of f)
@@ -47,15 +47,15 @@ module _ {T U : Type 0} (f : Fields T U) (sound : IsDomain f) (i j : ℕ) (x : P
   same_publishers = ap (slice_set f.publishers i) (sym at_x) ∙ set-get_or f.publishers i None
 
   -- an end that is there stays
-  pub keeps-connection : (key : ℕ) → get_or x.keys j None ≡ Some key → ConnectsSender f i j x f
+  pub keeps-connection : (key : ℕ) → get_or x.keys j None ≡ Some key → ConnectsSender environment f i j x f None
   keeps-connection key at =
       let joined = sender-joins f sound i j x y at_x at_y key at in
       let there : occupant P.ends j ≡ Some y.id =
       occupant-sender_ends f.connections x.keys j ∙ ap (subscriber_of_key f.connections) at
       ∙ ap (option_map (λ (c : Link). c.home.subscriber)) joined.1.stands ∙ ap Some joined.1.subscriber in
-      subst (ConnectsSender f i j x) (λ k. record f { publishers = same_publishers k })
-      (steps-connect f sound i j x y at_x at_y due x.keys f.connections f.warnings (fits-same f sound i x at_x f.connections.capacity) sound.warning_room
-      (keeps-end f sound i j x y at_x at_y due there))
+      subst (λ (h : Fields T U). ConnectsSender environment f i j x h None) (λ k. record f { publishers = same_publishers k })
+      (steps-connect environment f sound i j x y at_x at_y due x.keys f.connections f.warnings None (fits-same f sound i x at_x f.connections.capacity) sound.warning_room
+      (keeps-end environment f sound i j x y at_x at_y due there))
 
   -- ---- the subscriber has its end
 
@@ -81,18 +81,18 @@ module _ {T U : Type 0} (f : Fields T U) (sound : IsDomain f) (i j : ℕ) (x : P
     }
 
     -- the publisher joins the subscriber's connection
-    pub joins-connection : (key : ℕ) → get_or y.keys i None ≡ Some key → ConnectsSender f i j x (connected_sender f i x (set_place x.keys j (Some key)) f.connections f.warnings)
+    pub joins-connection : (key : ℕ) → get_or y.keys i None ≡ Some key → ConnectsSender environment f i j x (connected_sender f i x (set_place x.keys j (Some key)) f.connections f.warnings) None
     joins-connection key at =
         let joined = receiver-joins f sound i j x y at_x at_y key at in
         let own = joined.1 in
-        steps-connect f sound i j x y at_x at_y due (keys_with key) f.connections f.warnings (record {
+        steps-connect environment f sound i j x y at_x at_y due (keys_with key) f.connections f.warnings None (record {
           extends = (fits-same f sound i x at_x f.connections.capacity).extends;
           grows = le_refl x.key_room;
           linked = linked-with f.connections key joined.0 (sound.linked.senders i x at_x) own.stands own.publisher own.subscriber_place;
           keeps = set_place-keeps x.keys j key none;
           news = λ k c there. inl there;
         }) sound.warning_room
-        (connects f sound i j x y at_x at_y due none (keys_with key) f.connections (leads f.connections key joined.0 refl own.stands own.subscriber))
+        (connects environment f sound i j x y at_x at_y due none (keys_with key) f.connections (leads f.connections key joined.0 refl own.stands own.subscriber))
 
     -- ---- nobody has an end
 
@@ -111,9 +111,9 @@ module _ {T U : Type 0} (f : Fields T U) (sound : IsDomain f) (i j : ℕ) (x : P
 
       -- a connection is made
       pub makes-connection : j < x.key_room → i < y.key_room → (key : ℕ) (new : Slab Link) → MakesConnection f.connections (home_of i j x y) y.buffer (f.config).subscriber_max_borrowed_samples key new
-          → ConnectsSender f i j x (connected_sender f i x (set_place x.keys j (Some key)) new f.warnings)
+          → ConnectsSender environment f i j x (connected_sender f i x (set_place x.keys j (Some key)) new f.warnings) None
       makes-connection room room_y key new made =
-          steps-connect f sound i j x y at_x at_y due (keys_with key) new f.warnings (record {
+          steps-connect environment f sound i j x y at_x at_y due (keys_with key) new f.warnings None (record {
             extends = extends key new made;
             grows = le_refl x.key_room;
             linked = linked-with new key link (sender_linked f.connections new (extends key new made) x.id x.keys (sound.linked.senders i x at_x)) made.made.changed refl refl;
@@ -135,7 +135,7 @@ module _ {T U : Type 0} (f : Fields T U) (sound : IsDomain f) (i j : ℕ) (x : P
               }))
             ];
           }) sound.warning_room
-          (connects f sound i j x y at_x at_y due none (keys_with key) new
+          (connects environment f sound i j x y at_x at_y due none (keys_with key) new
           (leads new key link (sender_ends-same f.connections new (extends key new made) x.id x.keys (sound.linked.senders i x at_x)) made.made.changed refl))
 
       no_receiver : has_receiver_end s x.id y.id ≡ false
@@ -146,17 +146,20 @@ module _ {T U : Type 0} (f : Fields T U) (sound : IsDomain f) (i j : ℕ) (x : P
           (ap (occupant ((subscriber_of f.books f.connections y).port).ends) (publisher-place f sound i x at_x)
           ∙ occupant-receiver_ends f.connections y.keys i ∙ ap (publisher_of_key f.connections) none_y)
 
-      -- memory for it is refused
-      pub misses-connection : (n : ℕ) → ConnectsSender f i j x (record f {
-        connections = record f.connections { capacity = n };
-        warnings = buffer (warned f.warnings.items (ConnectionNotMade x.id y.id)) warning_limit;
-      })
-      misses-connection n =
-          subst (ConnectsSender f i j x) (λ k. record f {
+      -- memory for it is refused, and the publisher's handler says what comes of that
+      pub misses-connection : environment.may_refuse_memory → (action : DegradationAction)
+          → DegradationAnswers environment x.id x.degradation_handler (record { service_id = (f.config).service_id; sender_port_id = x.id; receiver_port_id = y.id }) action
+          → (n : ℕ) → ConnectsSender environment f i j x (record f {
+            connections = record f.connections { capacity = n };
+            warnings = buffer (warnings_after x.id y.id action f.warnings.items) warning_limit;
+          }) (failure_of action)
+      misses-connection may action answers n =
+          subst (λ (h : Fields T U). ConnectsSender environment f i j x h (failure_of action)) (λ k. record f {
             publishers = same_publishers k;
             connections = with_capacity n;
-            warnings = buffer (warned f.warnings.items (ConnectionNotMade x.id y.id)) warning_limit;
+            warnings = buffer (warnings_after x.id y.id action f.warnings.items) warning_limit;
           })
-          (steps-connect f sound i j x y at_x at_y due x.keys (with_capacity n) (buffer (warned f.warnings.items (ConnectionNotMade x.id y.id)) warning_limit) (fits-same f sound i x at_x n) refl
-          (makes-end f sound i j x y at_x at_y due (no_end f sound i j x y at_x at_y due none) _
-          (inr (no_receiver, warned f.warnings.items (ConnectionNotMade x.id y.id), (Warn, tt, refl, refl, refl), refl))))
+          (steps-connect environment f sound i j x y at_x at_y due x.keys (with_capacity n) (buffer (warnings_after x.id y.id action f.warnings.items) warning_limit) (failure_of action)
+          (fits-same f sound i x at_x n) refl
+          (makes-end environment f sound i j x y at_x at_y due (no_end environment f sound i j x y at_x at_y due none) _ (failure_of action)
+          (inr (no_receiver, warnings_after x.id y.id action f.warnings.items, (action, may, answers, refl, refl), refl))))

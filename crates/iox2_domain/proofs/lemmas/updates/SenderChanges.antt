@@ -15,10 +15,10 @@ use Rattle.iox2_ends.specs.Homes.{IsSenderLinked}
 use Rattle.iox2_ends.specs.Mailboxes.{sender_ends, receiver_ends}
 use Rattle.iox2_domain.specs.Ports.{PublisherFields, SubscriberFields}
 use Rattle.iox2_domain.specs.Kept.{Named, state_of, port_named, ids, is_named}
-use Rattle.iox2_domain.specs.Fields.{Fields, kept_of, publisher_of, subscriber_of, numbers_of}
+use Rattle.iox2_domain.specs.Fields.{Fields, kept_of, publisher_of, subscriber_of, numbers_of, blocked_send}
 use Rattle.iox2_domain.specs.Invariant.{IsDomain, is_publisher}
 use Rattle.iox2_domain.proofs.lemmas.containers.LookUps.{IsOnly-map, map-at}
-use Rattle.iox2_domain.proofs.lemmas.fields.Views.{mailboxes-are}
+use Rattle.iox2_domain.proofs.lemmas.fields.Views.{mailboxes-are, nothing-blocked}
 use Rattle.iox2_domain.proofs.lemmas.containers.ChangedRecords.{changed-ids, changed-ports, map-agrees}
 use Rattle.iox2_domain.proofs.lemmas.updates.Extensions.{Extends, sender_ends-same, receiver_ends-same}
 use mathlib.Core.Path.{fun_ext}
@@ -59,7 +59,7 @@ module _ {T U : Type 0} (f : Fields T U) (sound : IsDomain f) (connections : Sla
   pub publisher-same : (k : ℕ) (z : PublisherFields) → get_or f.publishers k None ≡ Some z → publisher_of f.books connections z ≡ publisher_of f.books f.connections z
   publisher-same k z at = ap named (sender_ends-same f.connections connections e z.id z.keys (sound.linked.senders k z at)) where
     named : List (Option ℕ) → Named Publisher
-    named ends = record (publisher_of f.books f.connections z) { port = record (publisher_of f.books f.connections z).port { ends = ends } }
+    named ends = record (publisher_of f.books f.connections z) { port = record (publisher_of f.books f.connections z).port { ends = ends; blocked = option_map (blocked_send (numbers_of f.books z.id) ends) z.blocked } }
 
   pub subscriber-same : (k : ℕ) (y : SubscriberFields) → get_or f.subscribers k None ≡ Some y → subscriber_of f.books connections y ≡ subscriber_of f.books f.connections y
   subscriber-same k y at =
@@ -102,6 +102,10 @@ module _ {T U : Type 0} (f : Fields T U) (sound : IsDomain f) (i : ℕ) (x : Pub
       map-set (option_map (publisher_of f.books connections)) f.publishers i (Some (with_keys x keys key_room is_due))
       ∙ ap (λ ns. slice_set ns i (Some (publisher_of f.books connections (with_keys x keys key_room is_due)))) (publishers-same f sound connections fits.extends)
 
+  -- the machine's publisher afterwards, since nothing is blocked
+  after-port : (publisher_of f.books connections (with_keys x keys key_room is_due)).port ≡ port_after
+  after-port = λ k. record port_after { blocked = nothing-blocked (blocked_send (numbers_of f.books x.id) (sender_ends connections keys)) (blocked_send (numbers_of f.books x.id) (sender_ends f.connections x.keys)) x.blocked (sound.plain i x at).unblocked k }
+
   stands-shown : get_or shown i None ≡ Some (publisher_of f.books f.connections x)
   stands-shown = map-at (publisher_of f.books f.connections) f.publishers i ∙ ap (option_map (publisher_of f.books f.connections)) at
 
@@ -121,7 +125,8 @@ module _ {T U : Type 0} (f : Fields T U) (sound : IsDomain f) (i : ℕ) (x : Pub
     all : (state_of (kept_of (with_sender f i x keys key_room is_due connections warnings))).publishers ≡ put_at (state_of (kept_of f)).publishers x.id (Some port_after)
     all = fun_ext (λ p. ap (port_named p) after-shown
         ∙ changed-ports shown i (publisher_of f.books f.connections x) (publisher_of f.books connections (with_keys x keys key_room is_due)) stands-shown refl
-        (λ id. IsOnly-map (publisher_of f.books f.connections) (is_publisher id) (is_named id) (λ z. refl) f.publishers (sound.publisher_ids id)) p)
+        (λ id. IsOnly-map (publisher_of f.books f.connections) (is_publisher id) (is_named id) (λ z. refl) f.publishers (sound.publisher_ids id)) p
+        ∙ ap (λ (w : Publisher). put_at (state_of (kept_of f)).publishers x.id (Some w) p) after-port)
 
     places : (state_of (kept_of (with_sender f i x keys key_room is_due connections warnings))).publisher_places ≡ (state_of (kept_of f)).publisher_places
     places = ap ids after-shown ∙ changed-ids shown i (publisher_of f.books f.connections x) (publisher_of f.books connections (with_keys x keys key_room is_due)) stands-shown refl

@@ -4,11 +4,14 @@ use Rattle.std.specs.declared.option.Option.{Option}
 use Rattle.std.specs.declared.option.Option.TheVariants.{None, Some}
 use Rattle.std.specs.Option.{option_map, option_map_or, option_and_then}
 use Rattle.circular_buffer.specs.Buffer.{Buffer, buffer}
+use Rattle.iox2_store.specs.machine.Connections.{DegradationAnswers, failure_of, warnings_after}
 use Rattle.iox2_store.specs.machine.Limits.{warning_limit}
-use Rattle.iox2_store.specs.machine.State.{warned}
+use Rattle.iox2_store.specs.machine.Records.{Environment, Handler, Fixed}
 use Rattle.iox2_store.specs.declared.connection.Home.{Home}
+use Rattle.iox2_store.specs.declared.degradation.DegradationAction.{DegradationAction}
+use Rattle.iox2_store.specs.declared.degradation.DegradationAction.TheVariants.{Warn}
+use Rattle.iox2_store.specs.declared.degradation.DegradationInfo.{DegradationInfo}
 use Rattle.iox2_store.specs.declared.warning.Warning.{Warning}
-use Rattle.iox2_store.specs.declared.warning.Warning.TheVariants.{ConnectionNotMade}
 use Rattle.iox2_domain.specs.Ports.{PublisherFields, SubscriberFields}
 use Rattle.iox2_domain.specs.Fields.{Fields}
 use Rattle.iox2_domain.specs.Invariant.{IsDomain}
@@ -27,6 +30,10 @@ pub some_key : (o : Option ℕ) → is_some o ≡ true → (key : ℕ) × (o ≡
 some_key None e = absurd cc
 some_key (Some key) e = (key, refl)
 
+-- a port whose handler is to warn is answered so
+pub answers-warn : (environment : Environment) (port : ℕ) (handler : Handler DegradationAction) (info : DegradationInfo) → handler ≡ Fixed Warn → DegradationAnswers environment port handler info Warn
+answers-warn environment port handler info is = subst (λ h. DegradationAnswers environment port h info Warn) (sym is) refl
+
 -- there is room for the key of a connection that the subscriber has
 pub joins-room : {T U : Type 0} (f : Fields T U) → IsDomain f → (i j : ℕ) (x : PublisherFields) → get_or f.publishers i None ≡ Some x → j < length f.subscribers
     → (key : ℕ) → receiver_key f.subscribers j i ≡ Some key → j < x.key_room
@@ -34,7 +41,7 @@ joins-room f sound i j x at_x low key at =
     let there = sound.open_ports.subscribers j low in
     joined-room f sound i j x there.0 at_x there.1 key (sym (ap (option_and_then (λ (z : SubscriberFields). get_or z.keys i None)) there.1) ∙ at)
 
-module _ {T U : Type 0} (f : Fields T U) (sound : IsDomain f) (i j : ℕ) (x : PublisherFields) (at_x : get_or f.publishers i None ≡ Some x) (due : x.is_due ≡ false) where
+module _ {T U : Type 0} (environment : Environment) (f : Fields T U) (sound : IsDomain f) (i j : ℕ) (x : PublisherFields) (at_x : get_or f.publishers i None ≡ Some x) (due : x.is_due ≡ false) where
   own-key : sender_key f.publishers i j ≡ get_or x.keys j None
   own-key = ap (option_and_then (λ (z : PublisherFields). get_or z.keys j None)) at_x
 
@@ -42,11 +49,11 @@ module _ {T U : Type 0} (f : Fields T U) (sound : IsDomain f) (i j : ℕ) (x : P
   other-key y at_y = ap (option_and_then (λ (z : SubscriberFields). get_or z.keys i None)) at_y
 
   -- it has one
-  pub keeps-as : j < length f.subscribers → is_some (sender_key f.publishers i j) ≡ true → ConnectsSender f i j x f
+  pub keeps-as : j < length f.subscribers → is_some (sender_key f.publishers i j) ≡ true → ConnectsSender environment f i j x f None
   keeps-as low some =
       let there = sound.open_ports.subscribers j low in
       let key = some_key (sender_key f.publishers i j) some in
-      keeps-connection f sound i j x there.0 at_x there.1 due key.0 (sym own-key ∙ key.1)
+      keeps-connection environment f sound i j x there.0 at_x there.1 due key.0 (sym own-key ∙ key.1)
 
   module _ (none : is_some (sender_key f.publishers i j) ≡ false) where
     no_key : get_or x.keys j None ≡ None
@@ -54,11 +61,11 @@ module _ {T U : Type 0} (f : Fields T U) (sound : IsDomain f) (i j : ℕ) (x : P
 
     -- it joins the subscriber's
     pub joins-as : j < length f.subscribers → (key : ℕ) → receiver_key f.subscribers j i ≡ Some key
-        → (f' : Fields T U) → f' ≡ record f { publishers = changed_at (with_sender_key j key) f.publishers i } → ConnectsSender f i j x f'
+        → (f' : Fields T U) → f' ≡ record f { publishers = changed_at (with_sender_key j key) f.publishers i } → ConnectsSender environment f i j x f' None
     joins-as low key at f' is =
         let there = sound.open_ports.subscribers j low in
-        subst (ConnectsSender f i j x) (sym (is ∙ ap (λ o. record f { publishers = slice_set f.publishers i (option_map (with_sender_key j key) o) }) at_x))
-        (joins-connection f sound i j x there.0 at_x there.1 due no_key key (sym (other-key there.0 there.1) ∙ at))
+        subst (λ (h : Fields T U). ConnectsSender environment f i j x h None) (sym (is ∙ ap (λ o. record f { publishers = slice_set f.publishers i (option_map (with_sender_key j key) o) }) at_x))
+        (joins-connection environment f sound i j x there.0 at_x there.1 due no_key key (sym (other-key there.0 there.1) ∙ at))
 
     -- no connection is there, and both ports get room for one
     module _ (nobody : receiver_key f.subscribers j i ≡ None) (home : Home) (size : ℕ) (apart : StandApart f.publishers f.subscribers i j home size)
@@ -110,11 +117,11 @@ module _ {T U : Type 0} (f : Fields T U) (sound : IsDomain f) (i j : ℕ) (x : P
       pub makes-as : ((z : PublisherFields) → get_or mid.publishers i None ≡ Some z → j < z.key_room)
           → ((z : SubscriberFields) → get_or mid.subscribers j None ≡ Some z → i < z.key_room)
           → (key : ℕ) → MakesConnection f.connections home size (f.config).subscriber_max_borrowed_samples key mid.connections
-          → (f' : Fields T U) → f' ≡ record mid { publishers = changed_at (with_sender_key j key) mid.publishers i } → ConnectsSender f i j x f'
+          → (f' : Fields T U) → f' ≡ record mid { publishers = changed_at (with_sender_key j key) mid.publishers i } → ConnectsSender environment f i j x f' None
       makes-as room_x room_y key made f' is =
-          sender-from f i j x y n m sound at_x apart.subscriber_stands more_x more_y f'
-          (subst (ConnectsSender g i j (with_sender_room n x)) (sym after)
-          (makes-connection g sound-grown i j (with_sender_room n x) (with_receiver_room m y) here_x here_y due no_key no_key_y
+          sender-from f i j x y n m sound at_x apart.subscriber_stands more_x more_y environment f' None
+          (subst (λ (h : Fields T U). ConnectsSender environment g i j (with_sender_room n x) h None) (sym after)
+          (makes-connection environment g sound-grown i j (with_sender_room n x) (with_receiver_room m y) here_x here_y due no_key no_key_y
           (room_x (with_sender_room n x) (ap (λ (h : Fields T U). get_or h.publishers i None) mid-is ∙ here_x))
           (room_y (with_receiver_room m y) (ap (λ (h : Fields T U). get_or h.subscribers j None) mid-is ∙ here_y)) key mid.connections
           (subst (λ (h : Home). MakesConnection f.connections h y.buffer (f.config).subscriber_max_borrowed_samples key mid.connections) home-is
@@ -125,15 +132,17 @@ module _ {T U : Type 0} (f : Fields T U) (sound : IsDomain f) (i j : ℕ) (x : P
               ∙ (λ k. record (mid-is k) { publishers = changed_at (with_sender_key j key) ((mid-is k).publishers) i })
               ∙ ap (λ o. record g { publishers = slice_set g.publishers i (option_map (with_sender_key j key) o); connections = mid.connections }) here_x
 
-      -- memory for a new one is refused
-      pub misses-as : (warnings : Buffer Warning) → mid.connections ≡ record f.connections { capacity = mid.connections.capacity }
-          → warnings ≡ buffer (warned f.warnings.items (ConnectionNotMade home.publisher home.subscriber)) warning_limit
-          → (f' : Fields T U) → f' ≡ record mid { warnings = warnings } → ConnectsSender f i j x f'
-      misses-as warnings same warned_is f' is =
-          sender-from f i j x y n m sound at_x apart.subscriber_stands more_x more_y f'
-          (subst (ConnectsSender g i j (with_sender_room n x))
-          (sym (is ∙ (λ k. record (mid-is k) { warnings = told k }) ∙ (λ k. record g { connections = same k; warnings = buffer (warned f.warnings.items (ConnectionNotMade x.id y.id)) warning_limit })))
-          (misses-connection g sound-grown i j (with_sender_room n x) (with_receiver_room m y) here_x here_y due no_key no_key_y mid.connections.capacity))
+      -- memory for a new one is refused, and the publisher's handler says what comes of that
+      pub misses-as : environment.may_refuse_memory → (action : DegradationAction)
+          → DegradationAnswers environment x.id x.degradation_handler (record { service_id = (f.config).service_id; sender_port_id = x.id; receiver_port_id = y.id }) action
+          → (warnings : Buffer Warning) → mid.connections ≡ record f.connections { capacity = mid.connections.capacity }
+          → warnings ≡ buffer (warnings_after home.publisher home.subscriber action f.warnings.items) warning_limit
+          → (f' : Fields T U) → f' ≡ record mid { warnings = warnings } → ConnectsSender environment f i j x f' (failure_of action)
+      misses-as may action answers warnings same warned_is f' is =
+          sender-from f i j x y n m sound at_x apart.subscriber_stands more_x more_y environment f' (failure_of action)
+          (subst (λ (h : Fields T U). ConnectsSender environment g i j (with_sender_room n x) h (failure_of action))
+          (sym (is ∙ (λ k. record (mid-is k) { warnings = told k }) ∙ (λ k. record g { connections = same k; warnings = buffer (warnings_after x.id y.id action f.warnings.items) warning_limit })))
+          (misses-connection environment g sound-grown i j (with_sender_room n x) (with_receiver_room m y) here_x here_y due no_key no_key_y may action answers mid.connections.capacity))
         where
-          told : warnings ≡ buffer (warned f.warnings.items (ConnectionNotMade x.id y.id)) warning_limit
-          told = warned_is ∙ ap (λ (h : Home). buffer (warned f.warnings.items (ConnectionNotMade h.publisher h.subscriber)) warning_limit) home-is
+          told : warnings ≡ buffer (warnings_after x.id y.id action f.warnings.items) warning_limit
+          told = warned_is ∙ ap (λ (h : Home). buffer (warnings_after h.publisher h.subscriber action f.warnings.items) warning_limit) home-is

@@ -6,16 +6,16 @@ use Rattle.std.specs.declared.option.Option.TheVariants.{None, Some}
 use Rattle.std.specs.Option.{option_and_then}
 use Rattle.slab.specs.Slab.{Slab}
 use Rattle.circular_buffer.specs.Buffer.{Buffer}
-use Rattle.iox2_store.specs.machine.Environments.{fixed_handlers}
 use Rattle.iox2_store.specs.machine.Limits.{warning_limit}
 use Rattle.iox2_store.specs.Link.{Link}
 use Rattle.iox2_store.specs.machine.Mailbox.{Mailbox, has_numbers, with_waiting}
 use Rattle.iox2_store.specs.machine.Numbers.{put_at, last_n}
 use Rattle.iox2_store.specs.machine.Places.{occupant, set_place}
-use Rattle.iox2_store.specs.machine.Records.{Publisher, Subscriber}
+use Rattle.iox2_store.specs.machine.Records.{Publisher, Subscriber, Environment}
 use Rattle.iox2_store.specs.machine.State.{State, receiving_buffer, has_receiver_end}
 use Rattle.iox2_store.specs.machine.PublisherUpdate.{SenderSide, UpdateSenderPlace, ConnectSender, sender_side, with_sender_side}
 use Rattle.iox2_store.specs.machine.WellFormed.{LeadsTo, IsWellFormed}
+use Rattle.iox2_store.specs.declared.errors.ConnectionFailure.{ConnectionFailure}
 use Rattle.iox2_store.specs.declared.warning.Warning.{Warning}
 use Rattle.iox2_ends.specs.Mailboxes.{sender_ends, subscriber_of_key}
 use Rattle.iox2_ends.proofs.MailboxChanges.{put_at-own}
@@ -27,6 +27,7 @@ use Rattle.iox2_domain.specs.Kept.{state_of}
 use Rattle.iox2_domain.specs.Fields.{Fields, kept_of, publisher_of, subscriber_of}
 use Rattle.iox2_domain.specs.Invariant.{IsDomain}
 use Rattle.iox2_domain.specs.Connects.{ConnectsSender}
+use Rattle.iox2_domain.proofs.lemmas.fields.Views.{unblocked}
 use Rattle.iox2_domain.proofs.lemmas.fields.ConnectionEnds.{publisher-stands, subscriber-stands, occupant-sender_ends}
 use Rattle.iox2_domain.proofs.lemmas.updates.SenderChanges.{FitsSender, sender-is}
 use Rattle.iox2_domain.proofs.lemmas.updates.SenderActions.{update-keeps, update-connects}
@@ -41,10 +42,10 @@ module _ {T U : Type 0} (f : Fields T U) where
   port x = (publisher_of f.books f.connections x).port
 
   -- the machine's step of the publisher x at the place j
-  abbrev pub StepsSender : (j : ℕ) → PublisherFields → SenderSide → Type 0
-  StepsSender j x side =
-      UpdateSenderPlace fixed_handlers (f.config).service_id x.id (port x).degradation_handler (port x).history (receiving_buffer now) (has_receiver_end now x.id)
-      j (occupant now.subscriber_places j) (sender_side now x.id (port x)) side None
+  abbrev pub StepsSender : Environment → (j : ℕ) → PublisherFields → SenderSide → Option ConnectionFailure → Type 0
+  StepsSender environment j x side failure =
+      UpdateSenderPlace environment (f.config).service_id x.id (port x).degradation_handler (port x).history (receiving_buffer now) (has_receiver_end now x.id)
+      j (occupant now.subscriber_places j) (sender_side now x.id (port x)) side failure
 
   -- the publisher's side with these keys, connections and warnings
   abbrev pub side_with : PublisherFields → List (Option ℕ) → Slab Link → Buffer Warning → SenderSide
@@ -55,7 +56,7 @@ module _ {T U : Type 0} (f : Fields T U) where
   connected_sender i x keys connections warnings =
       record f { publishers = slice_set f.publishers i (Some (record x { keys = keys })); connections = connections; warnings = warnings }
 
-module _ {T U : Type 0} (f : Fields T U) (sound : IsDomain f) (i j : ℕ) (x : PublisherFields) (y : SubscriberFields)
+module _ {T U : Type 0} (environment : Environment) (f : Fields T U) (sound : IsDomain f) (i j : ℕ) (x : PublisherFields) (y : SubscriberFields)
     (at_x : get_or f.publishers i None ≡ Some x) (at_y : get_or f.subscribers j None ≡ Some y) (due : x.is_due ≡ false) where
   abbrev s : State T U
   s = state_of (kept_of f)
@@ -67,10 +68,10 @@ module _ {T U : Type 0} (f : Fields T U) (sound : IsDomain f) (i j : ℕ) (x : P
   present = publisher-stands f sound i x at_x
 
   -- the machine's step is done where the fields change so
-  pub steps-connect : (keys : List (Option ℕ)) (connections : Slab Link) (warnings : Buffer Warning) → FitsSender f i x keys x.key_room connections
-      → warnings.capacity ≡ warning_limit → StepsSender f j x (side_with f x keys connections warnings)
-      → ConnectsSender f i j x (connected_sender f i x keys connections warnings)
-  steps-connect keys connections warnings fits room step = record {
+  pub steps-connect : (keys : List (Option ℕ)) (connections : Slab Link) (warnings : Buffer Warning) (failure : Option ConnectionFailure) → FitsSender f i x keys x.key_room connections
+      → warnings.capacity ≡ warning_limit → StepsSender f environment j x (side_with f x keys connections warnings) failure
+      → ConnectsSender environment f i j x (connected_sender f i x keys connections warnings) failure
+  steps-connect keys connections warnings failure fits room step = record {
     agrees = sender-agrees f sound i x at_x keys x.key_room x.is_due connections warnings fits room (rw state well);
     keys = keys;
     key_room = x.key_room;
@@ -93,8 +94,8 @@ module _ {T U : Type 0} (f : Fields T U) (sound : IsDomain f) (i j : ℕ) (x : P
         })
 
     well : IsWellFormed (with_sender_side s x.id P (side_with f x keys connections warnings))
-    well = with_sender_side_keeps s sound.well_formed x.id P present refl (side_with f x keys connections warnings)
-        (performed_keeps s sound.well_formed x.id P present fixed_handlers j _ _ (sender_side s x.id P) (side_with f x keys connections warnings) None
+    well = with_sender_side_keeps s sound.well_formed x.id P present (unblocked f.books f.connections x (sound.plain i x at_x)) (side_with f x keys connections warnings)
+        (performed_keeps s sound.well_formed x.id P present environment j _ _ (sender_side s x.id P) (side_with f x keys connections warnings) failure
         (occupied_within s.subscriber_places j y.id (subscriber-listed f sound j y at_y)) refl refl (sender_side_begins s sound.well_formed x.id P present) step)
 
   -- ---- what the machine does
@@ -102,8 +103,8 @@ module _ {T U : Type 0} (f : Fields T U) (sound : IsDomain f) (i j : ℕ) (x : P
   abbrev Q : Subscriber
   Q = (subscriber_of f.books f.connections y).port
 
-  abbrev Step : SenderSide → Type 0
-  Step side = StepsSender f j x side
+  abbrev Step : SenderSide → Option ConnectionFailure → Type 0
+  Step side failure = StepsSender f environment j x side failure
 
   -- the subscriber takes messages
   open_buffer : receiving_buffer s y.id ≡ Some y.buffer
@@ -112,18 +113,18 @@ module _ {T U : Type 0} (f : Fields T U) (sound : IsDomain f) (i j : ℕ) (x : P
       ∙ ap (λ b. cond b (Some y.buffer) None) (sound.open_ports.are_open j y at_y).0
 
   -- an end to the subscriber stays
-  pub keeps-end : occupant P.ends j ≡ Some y.id → Step (sender_side s x.id P)
+  pub keeps-end : occupant P.ends j ≡ Some y.id → Step (sender_side s x.id P) None
   keeps-end there =
-      update-keeps fixed_handlers (f.config).service_id x.id P.degradation_handler P.history (receiving_buffer s) (has_receiver_end s x.id) j y.id y.buffer
+      update-keeps environment (f.config).service_id x.id P.degradation_handler P.history (receiving_buffer s) (has_receiver_end s x.id) j y.id y.buffer
       (occupant s.subscriber_places j) (sender_side s x.id P) (subscriber-listed f sound j y at_y) open_buffer there
 
   -- without an end one is made
-  pub makes-end : occupant P.ends j ≡ None → (side : SenderSide)
-      → ConnectSender fixed_handlers (f.config).service_id x.id P.degradation_handler P.history (receiving_buffer s) (has_receiver_end s x.id) (sender_side s x.id P) j y.id y.buffer side None
-      → Step side
-  makes-end none side step =
-      update-connects fixed_handlers (f.config).service_id x.id P.degradation_handler P.history (receiving_buffer s) (has_receiver_end s x.id) j y.id y.buffer
-      (occupant s.subscriber_places j) (sender_side s x.id P) (subscriber-listed f sound j y at_y) open_buffer side None none step
+  pub makes-end : occupant P.ends j ≡ None → (side : SenderSide) (failure : Option ConnectionFailure)
+      → ConnectSender environment (f.config).service_id x.id P.degradation_handler P.history (receiving_buffer s) (has_receiver_end s x.id) (sender_side s x.id P) j y.id y.buffer side failure
+      → Step side failure
+  makes-end none side failure step =
+      update-connects environment (f.config).service_id x.id P.degradation_handler P.history (receiving_buffer s) (has_receiver_end s x.id) j y.id y.buffer
+      (occupant s.subscriber_places j) (sender_side s x.id P) (subscriber-listed f sound j y at_y) open_buffer side failure none step
 
   pub no_end : get_or x.keys j None ≡ None → occupant P.ends j ≡ None
   no_end none = occupant-sender_ends f.connections x.keys j ∙ ap (subscriber_of_key f.connections) none
@@ -162,7 +163,7 @@ module _ {T U : Type 0} (f : Fields T U) (sound : IsDomain f) (i j : ℕ) (x : P
 
   -- an end is made where the keys lead to it
   pub connects : get_or x.keys j None ≡ None → (keys : List (Option ℕ)) (connections : Slab Link) → sender_ends connections keys ≡ set_place P.ends j (Some y.id)
-      → Step (side_with f x keys connections f.warnings)
+      → Step (side_with f x keys connections f.warnings) None
   connects none keys connections leads =
-      makes-end (no_end none) (side_with f x keys connections f.warnings)
+      makes-end (no_end none) (side_with f x keys connections f.warnings) None
       (inl (λ k. record { ends = leads k; mailboxes = same_mailboxes none k; warnings = f.warnings.items }, refl))

@@ -4,12 +4,11 @@ use Rattle.std.proofs.lemmas.List.{drop_more, drop_all}
 use Rattle.std.specs.declared.option.Option.{Option}
 use Rattle.std.specs.declared.option.Option.TheVariants.{None, Some}
 use Rattle.std.specs.Option.{option_map_or}
-use Rattle.iox2_store.specs.machine.Connections.{ForEachPlace}
-use Rattle.iox2_store.specs.machine.Environments.{fixed_handlers}
+use Rattle.iox2_store.specs.machine.Connections.{ForEachPlace, first_failure}
 use Rattle.iox2_store.specs.machine.Numbers.{put_at}
 use Rattle.iox2_store.specs.machine.Places.{occupant, is_port}
 use Rattle.iox2_store.specs.machine.PublisherUpdate.{SenderSide, UpdateSenderPlace, sender_side, with_sender_side, UpdatePublisher}
-use Rattle.iox2_store.specs.machine.Records.{Publisher, Subscriber}
+use Rattle.iox2_store.specs.machine.Records.{Publisher, Subscriber, Environment}
 use Rattle.iox2_store.specs.machine.State.{State, receiving_buffer, has_receiver_end}
 use Rattle.iox2_store.specs.declared.errors.ConnectionFailure.{ConnectionFailure}
 use Rattle.iox2_laws.proofs.Puts.{put_at-same}
@@ -29,13 +28,23 @@ occupant-get_or [] (suc i) = refl
 occupant-get_or (x ∷ xs) zero = refl
 occupant-get_or (x ∷ xs) (suc i) = occupant-get_or xs i
 
+-- a failure before none is the first
+pub first_failure-none : (failure : Option ConnectionFailure) → first_failure failure None ≡ failure
+first_failure-none None = refl
+first_failure-none (Some failure) = refl
+
+-- which of three is the first
+pub first_failure-assoc : (a b c : Option ConnectionFailure) → first_failure (first_failure a b) c ≡ first_failure a (first_failure b c)
+first_failure-assoc None b c = refl
+first_failure-assoc (Some failure) b c = refl
+
 -- ---- in the machine
 
-module _ {T U : Type 0} (s : State T U) (p : ℕ) (x : Publisher) (present : s.publishers p ≡ Some x) where
+module _ {T U : Type 0} (environment : Environment) (s : State T U) (p : ℕ) (x : Publisher) (present : s.publishers p ≡ Some x) where
   -- what the publisher does at a place
   abbrev pub AtPlace : (place : ℕ) → Option ℕ → SenderSide → SenderSide → Option ConnectionFailure → Type 0
   AtPlace place at side side' failure =
-      UpdateSenderPlace fixed_handlers (s.config).service_id p x.degradation_handler x.history (receiving_buffer s) (has_receiver_end s p) place at side side' failure
+      UpdateSenderPlace environment (s.config).service_id p x.degradation_handler x.history (receiving_buffer s) (has_receiver_end s p) place at side side' failure
 
   module _ (side : SenderSide) where
     abbrev mid : State T U
@@ -62,34 +71,34 @@ module _ {T U : Type 0} (s : State T U) (p : ℕ) (x : Publisher) (present : s.p
       joined q o = option_map_or (λ (y : Subscriber). option_map_or (λ (z : Publisher). is_port (occupant y.ends z.place) p) o false) (s.subscribers q) false
 
     -- a step from there is a step of the walk
-    pub step-again : (place : ℕ) (side' : SenderSide)
-        → UpdateSenderPlace fixed_handlers (mid.config).service_id p publisher_mid.degradation_handler publisher_mid.history (receiving_buffer mid) (has_receiver_end mid p)
-        place (occupant mid.subscriber_places place) (sender_side mid p publisher_mid) side' None
-        → AtPlace place (occupant s.subscriber_places place) side side' None
-    step-again place side' step =
-        subst (λ (now : SenderSide). AtPlace place (occupant s.subscriber_places place) now side' None) side-again
-        (subst (λ (has : ℕ → Bool). UpdateSenderPlace fixed_handlers (s.config).service_id p x.degradation_handler x.history (receiving_buffer s) has
-        place (occupant s.subscriber_places place) (sender_side mid p publisher_mid) side' None) same_receivers step)
+    pub step-again : (place : ℕ) (side' : SenderSide) (failure : Option ConnectionFailure)
+        → UpdateSenderPlace environment (mid.config).service_id p publisher_mid.degradation_handler publisher_mid.history (receiving_buffer mid) (has_receiver_end mid p)
+        place (occupant mid.subscriber_places place) (sender_side mid p publisher_mid) side' failure
+        → AtPlace place (occupant s.subscriber_places place) side side' failure
+    step-again place side' failure step =
+        subst (λ (now : SenderSide). AtPlace place (occupant s.subscriber_places place) now side' failure) side-again
+        (subst (λ (has : ℕ → Bool). UpdateSenderPlace environment (s.config).service_id p x.degradation_handler x.history (receiving_buffer s) has
+        place (occupant s.subscriber_places place) (sender_side mid p publisher_mid) side' failure) same_receivers step)
 
   -- one place more
-  pub walk-goes-on : (place : ℕ) (side side' end : SenderSide) → place < length s.subscriber_places
-      → AtPlace place (occupant s.subscriber_places place) side side' None
-      → ForEachPlace AtPlace (place + 1) (drop (place + 1) s.subscriber_places) side' end None
-      → ForEachPlace AtPlace place (drop place s.subscriber_places) side end None
-  walk-goes-on place side side' end low step rest =
-      subst (λ (places : List (Option ℕ)). ForEachPlace AtPlace place places side end None)
+  pub walk-goes-on : (place : ℕ) (side side' end : SenderSide) (first later : Option ConnectionFailure) → place < length s.subscriber_places
+      → AtPlace place (occupant s.subscriber_places place) side side' first
+      → ForEachPlace AtPlace (place + 1) (drop (place + 1) s.subscriber_places) side' end later
+      → ForEachPlace AtPlace place (drop place s.subscriber_places) side end (first_failure first later)
+  walk-goes-on place side side' end first later low step rest =
+      subst (λ (places : List (Option ℕ)). ForEachPlace AtPlace place places side end (first_failure first later))
       (sym (drop_more s.subscriber_places place None low ∙ ap (λ o. o ∷ drop (place + 1) s.subscriber_places) (occupant-get_or s.subscriber_places place)))
-      (side', None, None, step, rest, refl)
+      (side', first, later, step, rest, refl)
 
   pub walk-ends : (place : ℕ) (side : SenderSide) → length s.subscriber_places ≤ place → ForEachPlace AtPlace place (drop place s.subscriber_places) side side None
   walk-ends place side past =
       subst (λ (places : List (Option ℕ)). ForEachPlace AtPlace place places side side None) (sym (drop_all place s.subscriber_places past)) (refl, refl)
 
   -- the update of a publisher that is due is such a walk
-  pub due-updates : x.is_due ≡ true → (side : SenderSide) → ForEachPlace AtPlace 0 s.subscriber_places (sender_side s p x) side None
-      → UpdatePublisher fixed_handlers s p (with_sender_side s p x side) None
-  due-updates due side walk = rw present (rw due (side, walk, refl))
+  pub due-updates : x.is_due ≡ true → (side : SenderSide) (failure : Option ConnectionFailure) → ForEachPlace AtPlace 0 s.subscriber_places (sender_side s p x) side failure
+      → UpdatePublisher environment s p (with_sender_side s p x side) failure
+  due-updates due side failure walk = rw present (rw due (side, walk, refl))
 
   -- that of another does nothing
-  pub idle-updates : x.is_due ≡ false → UpdatePublisher fixed_handlers s p s None
+  pub idle-updates : x.is_due ≡ false → UpdatePublisher environment s p s None
   idle-updates due = rw present (rw due (refl, refl))

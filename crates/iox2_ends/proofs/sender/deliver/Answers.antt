@@ -8,6 +8,7 @@ use Rattle.iox2_store.specs.SlotBook.{Book}
 use Rattle.iox2_ends.specs.Counters.{with_counters}
 use Rattle.std.specs.Prelude.{map}
 use Rattle.std.specs.Option.{option_map}
+use Rattle.iox2_store.specs.machine.Environments.{fixed_handlers}
 use Rattle.iox2_ends.proofs.sender.deliver.Goals as goal
 
 pub loop-place-init : goal.loop-place-init
@@ -24,7 +25,7 @@ loop-place-init g c = record {
 pub returns-then-is_blocking-clause-delivers : goal.returns-then-is_blocking-clause-delivers
 returns-then-is_blocking-clause-delivers g c = λ number.
     c.loop-place.invariant.walk number _ _
-    (deliver-stops c.args.config.now c.args.delivery.now (map (option_map g.R.Receiver.details_of) c.args.receivers.now) (number c.args.delivery.now.publisher c.args.delivery.now.slot) (sender_ends c.args.connections.now c.args.keys.now) c.loop-place.place c.loop-place.count _ _ c.deliver_at-reception.result
+    (deliver-stops fixed_handlers c.args.config.now c.args.delivery.now (map (option_map g.R.Receiver.details_of) c.args.receivers.now) (number c.args.delivery.now.publisher c.args.delivery.now.slot) (sender_ends c.args.connections.now c.args.keys.now) c.loop-place.place c.loop-place.count _ _ c.deliver_at-reception.result
     (omega (arith, length-map c.args.keys.now (subscriber_of_key c.args.connections.now)))
     (rw (ends-at _ _ c.args.keys.now c.loop-place.place c.loop-place.invariant.recounts.homes) at (c.deliver_at-reception.ensures.puts number))
     (sym c.is_blocking.ensures ∙ c.if-is_blocking.true))
@@ -37,7 +38,7 @@ loop-place-preserved g c = record {
   ready = IsReadyToDeliver-same c.args.delivery.now.publisher _ _ c.args.keys.now (map (option_map g.R.Receiver.details_of) c.args.receivers.now) c.loop-place.invariant.ready c.deliver_at-reception.ensures.recounts.homes c.deliver_at-reception.ensures.reclaimed;
   recounts = Recounts-trans c.args.delivery.now.publisher _ _ _ _ _ _ c.loop-place.invariant.recounts c.deliver_at-reception.ensures.recounts;
   walk = λ number how boxes' rest. c.loop-place.invariant.walk number how boxes'
-      (deliver-more c.args.config.now c.args.delivery.now (map (option_map g.R.Receiver.details_of) c.args.receivers.now) (number c.args.delivery.now.publisher c.args.delivery.now.slot) (sender_ends c.args.connections.now c.args.keys.now) c.loop-place.place c.loop-place.count _ _ boxes' c.deliver_at-reception.result how
+      (deliver-more fixed_handlers c.args.config.now c.args.delivery.now (map (option_map g.R.Receiver.details_of) c.args.receivers.now) (number c.args.delivery.now.publisher c.args.delivery.now.slot) (sender_ends c.args.connections.now c.args.keys.now) c.loop-place.place c.loop-place.count _ _ boxes' c.deliver_at-reception.result how
       (omega (arith, length-map c.args.keys.now (subscriber_of_key c.args.connections.now)))
       (rw (ends-at _ _ c.args.keys.now c.loop-place.place c.loop-place.invariant.recounts.homes) at (c.deliver_at-reception.ensures.puts number))
       (sym c.is_blocking.ensures ∙ c.if-is_blocking.false)

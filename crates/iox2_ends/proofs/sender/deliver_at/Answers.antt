@@ -1,4 +1,5 @@
 use Rattle.std.proofs.Common.{refl, sym, ◌∙◌}
+use Rattle.iox2_store.specs.machine.Environments.{fixed_handlers}
 use Rattle.iox2_ends.proofs.DeliverySteps.{contains-at, home-of, put-room, put-reclaimed, put-puts, put-passes}
 use Rattle.iox2_ends.proofs.Counts.{put-can_leave, recounted-grows, recounted-keeps}
 use Rattle.iox2_ends.proofs.Recounts.{put-recounts}
@@ -9,7 +10,7 @@ index-requires g c = contains-at c.args.delivery.now.publisher _ c.args.keys.now
 
 pub returns-then-not-is_open-clause-puts : goal.returns-then-not-is_open-clause-puts
 returns-then-not-is_open-clause-puts g c =
-    put-passes c.args.place _ c.requires.ready c.in-Some.is c.args.config.now c.args.delivery.now c.index.result.now c.index.ensures
+    put-passes c.args.place _ c.requires.ready c.in-Some.is fixed_handlers c.args.config.now c.args.delivery.now c.index.result.now c.index.ensures
     (rw c.home-home.ensures.value at (sym c.is_open.ensures ∙ c.if-not-is_open.true))
 
 pub put-outcome-requires : goal.put-outcome-requires
@@ -17,7 +18,7 @@ put-outcome-requires g c = put-room c.args.place _ c.requires.ready c.in-Some.is
 
 pub returns-clause-puts : goal.returns-clause-puts
 returns-clause-puts g c =
-    put-puts c.args.place _ c.requires.ready c.in-Some.is c.args.config.now c.args.delivery.now c.put-outcome.result c.index.result.now c.index_mut.result.now c.put-outcome.new.self c.reception_of.result refl c.index.ensures
+    put-puts c.args.place _ c.requires.ready c.in-Some.is fixed_handlers c.args.config.now c.args.delivery.now c.put-outcome.result c.index.result.now c.index_mut.result.now c.put-outcome.new.self c.reception_of.result refl c.index.ensures
     (rw c.home-home.ensures.value at (sym c.is_open.ensures ∙ c.if-not-is_open.false)) c.index_mut.ensures.value c.put-outcome.ensures.put c.reception_of.ensures
 
 pub returns-clause-reclaimed : goal.returns-clause-reclaimed

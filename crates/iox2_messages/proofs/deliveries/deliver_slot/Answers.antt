@@ -59,7 +59,7 @@ pub returns : goal.returns
 returns g c =
     let stands = read-there _ c.args.place _ _ (ap (λ (f : Fields g.row.T.Denot g.row.U.Denot). slice_index_or f.publishers c.args.place None) c.state.view_is ∙ c.requires.stands.1) c.index.ensures ∙ c.in-Some.is in
     let delivers = c.in-Complete.ensures.delivers in
-    delivers-to _ _ c.state.view_is c.args.place _ (stands ∙ ap Some (sym c.publisher.view_is)) _ _ c.index_mut.ensures.value _ c.deliver-outcome.ensures.book
+    delivers-to fixed_handlers _ _ c.state.view_is c.args.place _ (stands ∙ ap Some (sym c.publisher.view_is)) _ _ c.index_mut.ensures.value _ c.deliver-outcome.ensures.book
     (rw c.value.ensures at c.deliver-outcome.ensures.recounts) c.args.slot c.in-Complete.count
     (rw (c.value.ensures, c.deref.ensures.value, c.deref-2.ensures.value) at delivers)
 

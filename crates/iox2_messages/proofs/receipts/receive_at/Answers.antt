@@ -1,3 +1,5 @@
+use Rattle.std.specs.declared.option.Option.TheVariants.{None}
+use Rattle.iox2_store.specs.machine.Environments.{fixed_handlers}
 use Rattle.iox2_domain.proofs.lemmas.receives.Reception.{updated-stands, receives-at}
 use Rattle.iox2_messages.proofs.receipts.receive_at.Goals as goal
 
@@ -7,7 +9,7 @@ take_at-requires-clause-agrees g c = (c.update_subscriber.ensures c.requires.sta
 pub take_at-requires-clause-stands : goal.take_at-requires-clause-stands
 take_at-requires-clause-stands g c =
     let y = c.requires.stands in
-    (_, updated-stands c.args.state.now c.update_subscriber.new.state c.args.place y.0 (c.update_subscriber.ensures y.0 y.1) y.1)
+    (_, updated-stands fixed_handlers c.args.state.now c.update_subscriber.new.state c.args.place y.0 None (c.update_subscriber.ensures y.0 y.1) y.1)
 
 pub returns : goal.returns
-returns g c = receives-at c.args.state.now c.update_subscriber.new.state _ c.args.place _ c.update_subscriber.ensures c.take_at.ensures
+returns g c = receives-at fixed_handlers c.args.state.now c.update_subscriber.new.state _ c.args.place _ c.update_subscriber.ensures c.take_at.ensures

@@ -2,12 +2,15 @@ use Rattle.std.proofs.Common.{◌≡◌, ◌∙◌, true, false, ap, sym, is_som
 use Rattle.std.proofs.lemmas.List.{with_items_is}
 use Rattle.std.specs.declared.option.Option.TheVariants.{None, Some}
 use Rattle.circular_buffer.specs.Buffer.{buffer}
+use Rattle.iox2_store.specs.machine.Environments.{fixed_handlers}
 use Rattle.iox2_store.specs.machine.Limits.{warning_limit}
 use Rattle.iox2_store.specs.machine.State.{warned}
+use Rattle.iox2_store.specs.declared.degradation.DegradationAction.TheVariants.{Warn}
 use Rattle.iox2_store.specs.declared.warning.Warning.TheVariants.{ConnectionNotMade}
 use Rattle.iox2_domain.specs.Fields.{Fields}
 use Rattle.iox2_domain.specs.Updates.{receiver_key, sender_key, changed_at, with_receiver_key}
 use Rattle.iox2_domain.proofs.lemmas.fields.Standing.{some-buffer}
+use Rattle.iox2_domain.proofs.lemmas.updates.SenderOutcomes.{answers-warn}
 use Rattle.iox2_domain.proofs.lemmas.updates.ReceiverOutcomes.{joins-room, keeps-as, joins-as, makes-as, misses-as}
 use Rattle.iox2_ports.proofs.connects.connect_receiver.Goals as goal
 
@@ -17,7 +20,7 @@ returns-then-is_some g c = λ y at due.
     let same : c.deref.result.now ≡ old.subscribers = c.deref.ensures.value ∙ ap (λ (f : Fields g.row.T.Denot g.row.U.Denot). f.subscribers) c.state.view_is in
     let some : is_some (receiver_key old.subscribers c.args.subscriber_place c.args.publisher_place) ≡ true =
     ap (λ xs. is_some (receiver_key xs c.args.subscriber_place c.args.publisher_place)) (sym same) ∙ ap is_some (sym c.key_at.ensures) ∙ sym c.is_some.ensures ∙ c.if-is_some.true in
-    keeps-as old c.requires.agrees c.args.publisher_place c.args.subscriber_place y at due c.requires.publisher some
+    keeps-as fixed_handlers old c.requires.agrees c.args.publisher_place c.args.subscriber_place y at due c.requires.publisher some
 
 pub set_key_at-requires-clause-room : goal.set_key_at-requires-clause-room
 set_key_at-requires-clause-room g c = λ y at.
@@ -51,7 +54,7 @@ returns-in-Some g c = λ y at due.
     let written : _ ≡ changed_at (with_receiver_key c.args.publisher_place c.in-Some.key) old.subscribers c.args.subscriber_place =
     with_items_is c.state.inside.subscribers c.set_key_at.new.ports (c.set_key_at.auto.ports ∙ c.deref_mut.ensures.len)
     ∙ c.set_key_at.ensures ∙ ap (λ xs. changed_at (with_receiver_key c.args.publisher_place c.in-Some.key) xs c.args.subscriber_place) (c.deref_mut.ensures.value ∙ subscribers) in
-    joins-as old c.requires.agrees c.args.publisher_place c.args.subscriber_place y at due none c.requires.publisher c.in-Some.key key _ (λ k. record (viewed k) { subscribers = written k })
+    joins-as fixed_handlers old c.requires.agrees c.args.publisher_place c.args.subscriber_place y at due none c.requires.publisher c.in-Some.key key _ (λ k. record (viewed k) { subscribers = written k })
 
 pub returns-in_default-make_between : goal.returns-in_default-make_between
 returns-in_default-make_between g c = λ y at due.
@@ -64,7 +67,8 @@ returns-in_default-make_between g c = λ y at due.
     let nobody : sender_key old.publishers c.args.publisher_place c.args.subscriber_place ≡ None =
     ap (λ ys. sender_key ys c.args.publisher_place c.args.subscriber_place) (sym (c.deref-2.ensures.value ∙ publishers)) ∙ sym c.key_at-2.ensures ∙ c.in_default.is in
     let mid = c.make_between.new.state in
-    misses-as old c.requires.agrees c.args.publisher_place c.args.subscriber_place y at due none nobody _ _ c.ports_at-buffer.ensures mid c.make_between.ensures.grows c.warn.new.warnings
+    misses-as fixed_handlers old c.requires.agrees c.args.publisher_place c.args.subscriber_place y at due none nobody _ _ c.ports_at-buffer.ensures mid c.make_between.ensures.grows tt Warn
+    (answers-warn fixed_handlers y.id y.degradation_handler _ (c.requires.agrees.plain_subscribers c.args.subscriber_place y at).degradation) c.warn.new.warnings
     c.in_default-make_between.ensures.refused
     (c.warn.ensures ∙ (λ k. buffer (warned (c.state-2.view_is k).warnings.items (c.not_made.ensures k)) warning_limit) ∙ ap (λ (f : Fields g.row.T.Denot g.row.U.Denot). buffer (warned f.warnings.items (ConnectionNotMade c.ports_at-buffer.result.0.publisher c.ports_at-buffer.result.0.subscriber)) warning_limit) c.make_between.ensures.grows.fields)
     _ (λ k. record (c.state-2.view_is k) { warnings = c.warn.new.warnings })
@@ -84,6 +88,6 @@ returns g c = λ y at due.
     with_items_is c.state-2.inside.subscribers c.set_key_at-2.new.ports (c.set_key_at-2.auto.ports ∙ c.deref_mut-2.ensures.len)
     ∙ c.set_key_at-2.ensures
     ∙ ap (λ zs. changed_at (with_receiver_key c.args.publisher_place c.in-Ok.key) zs c.args.subscriber_place) (c.deref_mut-2.ensures.value ∙ ap (λ (f : Fields g.row.T.Denot g.row.U.Denot). f.subscribers) c.state-2.view_is) in
-    makes-as old c.requires.agrees c.args.publisher_place c.args.subscriber_place y at due none nobody _ _ c.ports_at-buffer.ensures mid c.make_between.ensures.grows
+    makes-as fixed_handlers old c.requires.agrees c.args.publisher_place c.args.subscriber_place y at due none nobody _ _ c.ports_at-buffer.ensures mid c.make_between.ensures.grows
     c.in-Ok.ensures.sender_room c.in-Ok.ensures.receiver_room c.in-Ok.key c.in-Ok.ensures.made
     _ (λ k. record (c.state-2.view_is k) { subscribers = written k })

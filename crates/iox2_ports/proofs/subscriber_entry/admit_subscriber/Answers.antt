@@ -32,8 +32,8 @@ returns-clause-step g c =
     let size : c.max.result ≡ max 1 c.args.asked = grind (arith, c.max.ensures) in
     has-entered {T = g.row.T.Denot} {U = g.row.U.Denot} c.args.state.now c.args.asked _ c.state.view_is c.requires.agrees c.args.place c.new-subscriber.result
     c.warn_of_expired_buffer.new.warnings _ _ c.requires.has_place
-    (c.new-subscriber.ensures ∙ ap (λ id. entering id c.args.place c.max.result c.new-subscriber.result.key_room) c.new-id.ensures
-    ∙ ap (λ size. entering c.state.inside.next_port c.args.place size c.new-subscriber.result.key_room) size)
+    (c.new-subscriber.ensures ∙ ap (λ id. entering id c.args.place c.max.result c.new-subscriber.result.key_room c.new-subscriber.result.expired_room) c.new-id.ensures
+    ∙ ap (λ size. entering c.state.inside.next_port c.args.place size c.new-subscriber.result.key_room c.new-subscriber.result.expired_room) size)
     (rw (← c.new-id.ensures) c.warn_of_expired_buffer.ensures)
     (with_items_is c.state.inside.publishers c.make_all_due.new.ports (c.make_all_due.auto.ports ∙ c.deref_mut.ensures.len) ∙ all_due)
     (c.put_at_place.ensures.items ∙ ap (λ ys. placed ys c.args.place c.new-subscriber.result) c.in-Ok.ensures.items)

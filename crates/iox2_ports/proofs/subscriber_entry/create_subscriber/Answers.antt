@@ -29,7 +29,7 @@ returns-in_err-id-clause-step g c =
 
 pub returns-clause-step : goal.returns-clause-step
 returns-clause-step g c =
-    created-reaches {T = g.row.T.Denot} {U = g.row.U.Denot} c.args.state.now c.args.asked c.admit_subscriber.new.state c.update_subscriber.new.state c.in_ok-place.place
+    created-reaches {T = g.row.T.Denot} {U = g.row.U.Denot} c.args.state.now c.args.asked fixed_handlers c.admit_subscriber.new.state c.update_subscriber.new.state c.in_ok-place.place
     (sym c.place_for_subscriber.ensures ∙ c.in_ok-place.was) c.in_ok-id.ensures.step c.update_subscriber.ensures
 
 pub returns-clause-stands : goal.returns-clause-stands

@@ -1,6 +1,8 @@
 use Rattle.std.proofs.Common.{rules, ◌≡◌, ◌∙◌, length, true, false, ap, sym, subst, arith, vec_len, refl, slice_set}
 use Rattle.std.proofs.lemmas.List.{with_items_is}
+use Rattle.std.specs.declared.option.Option.TheVariants.{None}
 use Rattle.std.specs.Option.{option_map}
+use Rattle.iox2_store.specs.machine.Environments.{fixed_handlers}
 use Rattle.iox2_domain.specs.Fields.{Fields}
 use Rattle.iox2_domain.specs.Updates.{changed_at, updated_publisher}
 use Rattle.iox2_domain.proofs.lemmas.updates.SenderUpdates.{WalksSender, walk-begins, walk-more, walk-updates, walking-stands, walking-publishers, walking-subscribers, due-at}
@@ -14,9 +16,9 @@ loop-other-init g c = λ x at.
     with_items_is c.state.inside.publishers c.settle.new.ports (c.settle.auto.ports ∙ c.deref_mut.ensures.len)
     ∙ c.settle.ensures
     ∙ ap (λ xs. changed_at updated_publisher xs c.args.place) (c.deref_mut.ensures.value ∙ ap (λ (f : Fields g.row.T.Denot g.row.U.Denot). f.publishers) viewed) in
-    subst (WalksSender old c.args.place x 0)
+    subst (λ (f : Fields g.row.T.Denot g.row.U.Denot). WalksSender fixed_handlers old c.args.place x 0 f None)
     (sym ((λ k. record (viewed k) { publishers = settled k }) ∙ ap (λ o. record old { publishers = slice_set old.publishers c.args.place (option_map updated_publisher o) }) at))
-    (walk-begins old c.requires.agrees c.args.place x at)
+    (walk-begins fixed_handlers old c.requires.agrees c.args.place x at)
 
 pub connect_sender-requires-clause-agrees : goal.connect_sender-requires-clause-agrees
 connect_sender-requires-clause-agrees g c =
@@ -26,14 +28,14 @@ connect_sender-requires-clause-agrees g c =
 pub connect_sender-requires-clause-publisher : goal.connect_sender-requires-clause-publisher
 connect_sender-requires-clause-publisher g c =
     let there = c.requires.agrees.open_ports.publishers c.args.place c.requires.stands in
-    rw (walking-publishers c.args.state.now c.args.place there.0 _ _ (c.loop-other.invariant there.0 there.1)) c.requires.stands
+    rw (walking-publishers fixed_handlers c.args.state.now c.args.place there.0 _ _ None (c.loop-other.invariant there.0 there.1)) c.requires.stands
 
 pub connect_sender-requires-clause-subscriber : goal.connect_sender-requires-clause-subscriber
 connect_sender-requires-clause-subscriber g c =
     let there = c.requires.agrees.open_ports.publishers c.args.place c.requires.stands in
     let size : vec_len c.state.inside.subscribers ≡ length c.state.inside.subscribers.items = search rules in
     let same : length c.state.inside.subscribers.items ≡ length c.args.state.now.subscribers = ap (λ (f : Fields g.row.T.Denot g.row.U.Denot). length f.subscribers) c.state.view_is in
-    let walking = walking-subscribers c.args.state.now c.args.place there.0 _ _ (c.loop-other.invariant there.0 there.1) in
+    let walking = walking-subscribers fixed_handlers c.args.state.now c.args.place there.0 _ _ None (c.loop-other.invariant there.0 there.1) in
     omega arith
 
 pub loop-other-preserved : goal.loop-other-preserved
@@ -42,8 +44,8 @@ loop-other-preserved g c = λ x at.
     let walks = c.loop-other.invariant x at in
     let size : vec_len c.state.inside.subscribers ≡ length c.state.inside.subscribers.items = search rules in
     let same : length c.state.inside.subscribers.items ≡ length old.subscribers = ap (λ (f : Fields g.row.T.Denot g.row.U.Denot). length f.subscribers) c.state.view_is in
-    walk-more old c.requires.agrees c.args.place x at c.loop-other.other c.loop-other.state walks (omega arith) c.connect_sender.new.state
-    (c.connect_sender.ensures (record x { keys = walks.keys; key_room = walks.key_room; is_due = false }) (walking-stands old c.requires.agrees c.args.place x at c.loop-other.other c.loop-other.state walks) refl)
+    walk-more fixed_handlers old c.requires.agrees c.args.place x at c.loop-other.other c.loop-other.state None walks (omega arith) c.connect_sender.new.state None
+    (c.connect_sender.ensures (record x { keys = walks.keys; key_room = walks.key_room; is_due = false }) (walking-stands fixed_handlers old c.requires.agrees c.args.place x at c.loop-other.other c.loop-other.state None walks) refl)
 
 pub returns : goal.returns
 returns g c = λ x at.
@@ -51,4 +53,4 @@ returns g c = λ x at.
     let due : x.is_due ≡ true = sym (due-at old.publishers c.args.place x at) ∙ c.requires.due in
     let size : vec_len c.state.inside.subscribers ≡ length c.state.inside.subscribers.items = search rules in
     let same : length c.state.inside.subscribers.items ≡ length old.subscribers = ap (λ (f : Fields g.row.T.Denot g.row.U.Denot). length f.subscribers) c.state.view_is in
-    walk-updates old c.requires.agrees c.args.place x at c.loop-other.other c.loop-other.state (c.loop-other.invariant x at) due (omega arith)
+    walk-updates fixed_handlers old c.requires.agrees c.args.place x at c.loop-other.other c.loop-other.state None (c.loop-other.invariant x at) due (omega arith)

@@ -1,6 +1,7 @@
 use Rattle.iox2_domain.specs.Shows.{Shows}
 use Rattle.iox2_runs.specs.Carries.{entry_for}
 use Rattle.std.proofs.Common.{map, sym, refl}
+use Rattle.iox2_store.specs.machine.Environments.{fixed_handlers}
 use Rattle.iox2_runs.proofs.TableCalls.{nothing_comes}
 use Rattle.iox2_runs.proofs.LeavingSteps.{leaves-all}
 use Rattle.iox2_runs.proofs.runs.carry_out.Goals as goal
@@ -22,7 +23,7 @@ returns-in-Release-clause-carries g c = rw c.in-Release.is c.release.ensures.car
 
 pub returns-in-Nothing-clause-carries : goal.returns-in-Nothing-clause-carries
 returns-in-Nothing-clause-carries g c = rw c.in-Nothing.is (λ m s handles events shown w default_value default_header is_value is_header.
-    nothing_comes {T = g.row.T.Denot} {U = g.row.U.Denot} _ (Shows c.args.domain.now) m s handles events (map entry_for c.args.table.now.items) w default_value default_header is_value is_header shown)
+    nothing_comes {T = g.row.T.Denot} {U = g.row.U.Denot} fixed_handlers _ (Shows c.args.domain.now) m s handles events (map entry_for c.args.table.now.items) w default_value default_header is_value is_header shown)
 
 pub returns-in-LoanUninit-clause-carries : goal.returns-in-LoanUninit-clause-carries
 returns-in-LoanUninit-clause-carries g c = rw (c.in-LoanUninit.is, sym c.deref-in-LoanUninit.ensures.value) c.loan_uninit.ensures.carries

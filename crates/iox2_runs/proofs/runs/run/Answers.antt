@@ -1,6 +1,7 @@
 use Rattle.std.proofs.Common.{◌≡◌, ◌<◌, ◌+◌, arith, length, List, [], ◌∷◌, ◌++◌, take, get_or, refl, sym, ap, subst, ◌∙◌}
 use Rattle.std.proofs.lemmas.List.{take_more, take_all}
 use Rattle.std.proofs.lemmas.List.Elements.{All-get_or}
+use Rattle.iox2_store.specs.machine.Environments.{fixed_handlers}
 use Rattle.iox2_runs.specs.Carries.{defaults_of}
 use Rattle.iox2_runs.specs.Supported.{IsSupportedCommand}
 use Rattle.iox2_commands.specs.declared.command.Command.{Command}
@@ -11,7 +12,7 @@ use Rattle.iox2_runs.proofs.runs.run.Goals as goal
 
 pub loop-command-init : goal.loop-command-init
 loop-command-init g c = record {
-  ran = rw (c.in-Ok.ensures.items, c.in-Ok-with_capacity.ensures.items) (has_run_none {T = g.row.T.Denot} {U = g.row.U.Denot} (defaults_of g.T.Default.is_default g.U.Default.is_default) c.args.domain.now);
+  ran = rw (c.in-Ok.ensures.items, c.in-Ok-with_capacity.ensures.items) (has_run_none {T = g.row.T.Denot} {U = g.row.U.Denot} fixed_handlers (defaults_of g.T.Default.is_default g.U.Default.is_default) c.args.domain.now);
   stays = stays-itself {T = g.row.T.Denot} {U = g.row.U.Denot} c.args.domain.now;
   new = rw c.in-Ok-with_capacity.ensures.items (none-new {T = g.row.T.Denot} {U = g.row.U.Denot} c.args.domain.now);
   made = omega (arith, c.in-Ok-with_capacity.ensures.len);
@@ -30,7 +31,7 @@ carry_out-reply-requires-clause-supported g c =
 
 pub carry_out-reply-requires-clause-keeps : goal.carry_out-reply-requires-clause-keeps
 carry_out-reply-requires-clause-keeps g c =
-    still_keeps {T = g.row.T.Denot} {U = g.row.U.Denot} (defaults_of g.T.Default.is_default g.U.Default.is_default) c.args.domain.now c.loop-command.domain _ _ c.loop-command.table.items
+    still_keeps {T = g.row.T.Denot} {U = g.row.U.Denot} fixed_handlers (defaults_of g.T.Default.is_default g.U.Default.is_default) c.args.domain.now c.loop-command.domain _ _ c.loop-command.table.items
     c.shows_a_state.ensures.0 c.shows_a_state.ensures.1 c.shows_a_state.ensures.2 c.loop-command.invariant.ran
 
 pub push_reserved-requires-in-loop-command : goal.push_reserved-requires-in-loop-command
@@ -48,7 +49,7 @@ loop-command-preserved g c =
     let left = c.carry_out-reply.ensures.leaves c.args.domain.now c.loop-command.invariant.stays c.loop-command.invariant.new in
     record {
       ran = rw (more, c.push_reserved.ensures.items, c.push_reserved-in-loop-command.ensures.items)
-          (has_run_more {T = g.row.T.Denot} {U = g.row.U.Denot} (defaults_of g.T.Default.is_default g.U.Default.is_default) c.args.domain.now c.loop-command.domain c.carry_out-reply.new.domain
+          (has_run_more {T = g.row.T.Denot} {U = g.row.U.Denot} fixed_handlers (defaults_of g.T.Default.is_default g.U.Default.is_default) c.args.domain.now c.loop-command.domain c.carry_out-reply.new.domain
           (take i xs) c.loop-command.replies.items c.loop-command.table.items c.carry_out-reply.new.table.items x c.carry_out-reply.result.0 c.carry_out-reply.result.1
           c.loop-command.invariant.ran c.carry_out-reply.ensures.carries c.has_default.ensures.0 c.has_default-2.ensures.0 c.has_default.ensures.1 c.has_default-2.ensures.1);
       stays = left.0;
@@ -64,7 +65,7 @@ returns-clause-ran g c =
     let xs = c.args.commands.items in
     let i = c.loop-command.command-index in
     let all : take i xs ≡ xs = take_all i xs (omega (arith, ap length c.deref-command-items.ensures.value, c.loop-command-test.false)) in
-    rw all at (is_run {T = g.row.T.Denot} {U = g.row.U.Denot} (defaults_of g.T.Default.is_default g.U.Default.is_default) c.args.domain.now c.loop-command.domain
+    rw all at (is_run {T = g.row.T.Denot} {U = g.row.U.Denot} fixed_handlers (defaults_of g.T.Default.is_default g.U.Default.is_default) c.args.domain.now c.loop-command.domain
     (take i xs) c.loop-command.replies.items c.loop-command.table.items c.loop-command.invariant.ran)
 
 pub returns-clause-one_default : goal.returns-clause-one_default

@@ -1,5 +1,6 @@
 use Rattle.std.proofs.Common.{◌≡◌, ◌≤◌, take, vec_len}
 use Rattle.std.specs.Prelude.{vec_capacity}
+use Rattle.iox2_store.specs.machine.Environments.{fixed_handlers}
 use Rattle.iox2_pubsub.specs.Live.{Stays}
 use Rattle.iox2_runs.specs.Carries.{defaults_of}
 use Rattle.iox2_runs.specs.Leaves.{AreNewIn}
@@ -8,7 +9,7 @@ use Rattle.iox2_runs.proofs.runs.run.Given as goal
 
 abbrev pub invariant-loop-command : goal.invariant-loop-command
 invariant-loop-command g l = record {
-  ran : HasRun {T = g.row.T.Denot} {U = g.row.U.Denot} (defaults_of g.T.Default.is_default g.U.Default.is_default) l.fn.domain l.domain
+  ran : HasRun {T = g.row.T.Denot} {U = g.row.U.Denot} fixed_handlers (defaults_of g.T.Default.is_default g.U.Default.is_default) l.fn.domain l.domain
       (take l.command-index l.fn.commands.items) l.replies.items l.table.items;
   stays : Stays l.fn.domain l.domain;
   new : AreNewIn l.fn.domain l.table.items;

@@ -1,4 +1,5 @@
 use Rattle.std.proofs.Common.{◌≡◌, ap, sym, subst, ◌∙◌}
+use Rattle.iox2_store.specs.machine.Environments.{fixed_handlers}
 use Rattle.iox2_store.specs.machine.Sends.{Delivered_to, Blocked_send}
 use Rattle.iox2_store.specs.machine.State.{State}
 use Rattle.iox2_domain.specs.Fields.{kept_of}
@@ -19,8 +20,8 @@ pub returns-clause-sent : goal.returns-clause-sent
 returns-clause-sent g c = λ m s l shown out.
     let before = subst (λ (k : Kept g.row.T.Denot g.row.U.Denot). Shows k m s) (sym c.domain.view_is) shown in (
       state_of (kept_of c.send_loan-count.new.state),
-      send-shown c.domain.inside.state c.send_loan-count.new.state c.args.self.loan.number c.send_loan-count.result c.send_loan-count.ensures m s l before out,
-      machine-sends c.domain.inside.state c.send_loan-count.new.state c.args.self.loan.number c.send_loan-count.result c.send_loan-count.ensures m s l before out,
+      send-shown fixed_handlers c.domain.inside.state c.send_loan-count.new.state c.args.self.loan.number (Delivered_to c.send_loan-count.result) c.send_loan-count.ensures m s l before out,
+      machine-sends fixed_handlers c.domain.inside.state c.send_loan-count.new.state c.args.self.loan.number (Delivered_to c.send_loan-count.result) c.send_loan-count.ensures m s l before out,
     )
 
 pub returns-clause-spent : goal.returns-clause-spent
@@ -28,7 +29,7 @@ returns-clause-spent g c = λ live.
     let it = always-shown {T = g.row.T.Denot} {U = g.row.U.Denot} c.domain.inside.state c.args.domain.now c.domain.invariant c.domain.view_is in
     let has = (written-parts c.args.domain.now c.args.self c.requires).1 in
     let step = returns-clause-sent g c it.0 it.1 has.0 it.2 (ap (λ (t : State g.row.T.Denot g.row.U.Denot). t.loans c.args.self.loan.number) (it.2).state ∙ has.1) in
-    send-spends {T = g.row.T.Denot} {U = g.row.U.Denot} c.args.domain.now _ it.0 it.1 it.2 (written_key c.args.self) has.0 (Delivered_to c.send_loan-count.result) _ step.0 step.1 step.2 live
+    send-spends {T = g.row.T.Denot} {U = g.row.U.Denot} c.args.domain.now _ it.0 it.1 it.2 fixed_handlers (written_key c.args.self) has.0 (Delivered_to c.send_loan-count.result) _ step.0 step.1 step.2 live
 
 pub returns-clause-stays : goal.returns-clause-stays
 returns-clause-stays g c =
@@ -36,5 +37,5 @@ returns-clause-stays g c =
     let has = (written-parts c.args.domain.now c.args.self c.requires).1 in
     let out = ap (λ (t : State g.row.T.Denot g.row.U.Denot). t.loans c.args.self.loan.number) (it.2).state ∙ has.1 in
     let step = returns-clause-sent g c it.0 it.1 has.0 it.2 out in
-    send-stays {T = g.row.T.Denot} {U = g.row.U.Denot} c.args.domain.now _ it.0 it.1 it.2 c.args.self.loan.number has.0 out (Delivered_to c.send_loan-count.result) _ step.0 step.1 step.2
+    send-stays {T = g.row.T.Denot} {U = g.row.U.Denot} c.args.domain.now _ it.0 it.1 it.2 fixed_handlers c.args.self.loan.number has.0 out (Delivered_to c.send_loan-count.result) _ step.0 step.1 step.2
     (λ e. let clash : Delivered_to c.send_loan-count.result ≡ Blocked_send = e in absurd cc)

@@ -1,4 +1,5 @@
 use Rattle.std.proofs.Common.{refl, sym, ap, ◌∙◌}
+use Rattle.iox2_store.specs.machine.Environments.{fixed_handlers}
 use Rattle.iox2_store.specs.declared.service_config.ServiceConfig.{ServiceConfig}
 use Rattle.iox2_runs.specs.Carries.{entry_for}
 use Rattle.iox2_runs.specs.declared.runs.made.Made.{Made}
@@ -14,7 +15,7 @@ use Rattle.iox2_runs.proofs.runs.loans.loan_uninit.Goals as goal
 
 pub returns-then-config-ne1-clause-carries : goal.returns-then-config-ne1-clause-carries
 returns-then-config-ne1-clause-carries g c =
-    loan_of_other {T = g.row.T.Denot} {U = g.row.U.Denot} _ c.args.domain.now c.args.domain.now c.args.table.now c.args.table.now c.args.of
+    loan_of_other {T = g.row.T.Denot} {U = g.row.U.Denot} fixed_handlers _ c.args.domain.now c.args.domain.now c.args.table.now c.args.table.now c.args.of
     (λ units. c.if-config-ne1.true (ap (λ (k : ServiceConfig). k.units_per_element) c.config.ensures.value ∙ units)) refl
 
 pub loan_uninit-requires-clause-live : goal.loan_uninit-requires-clause-live
@@ -27,7 +28,7 @@ loan_uninit-requires-clause-single_valued g c = c.config.ensures.single_valued c
 
 pub returns-in-Ok-clause-carries : goal.returns-in-Ok-clause-carries
 returns-in-Ok-clause-carries g c =
-    loan_carried {T = g.row.T.Denot} {U = g.row.U.Denot} _ c.args.domain.now c.loan_uninit.new.domain c.args.table.now c.args.table.now c.args.of
+    loan_carried {T = g.row.T.Denot} {U = g.row.U.Denot} fixed_handlers _ c.args.domain.now c.loan_uninit.new.domain c.args.table.now c.args.table.now c.args.of
     refl c.in-Publisher.publisher c.in-Ok.sample
     (looked c.args.table.now c.args.of c.get.result c.in-Some.made _ c.get.ensures.lookup c.in-Some.is c.in-Publisher.is)
     c.config.ensures.supported.single_values (ap (λ (k : ServiceConfig). k.units_per_element) (sym c.config.ensures.value) ∙ c.if-config-ne1.false)
@@ -35,7 +36,7 @@ returns-in-Ok-clause-carries g c =
 
 pub returns-in-Err-clause-carries : goal.returns-in-Err-clause-carries
 returns-in-Err-clause-carries g c =
-    loan_denied {T = g.row.T.Denot} {U = g.row.U.Denot} _ c.args.domain.now c.loan_uninit.new.domain c.args.table.now c.args.table.now c.args.of
+    loan_denied {T = g.row.T.Denot} {U = g.row.U.Denot} fixed_handlers _ c.args.domain.now c.loan_uninit.new.domain c.args.table.now c.args.table.now c.args.of
     refl c.in-Publisher.publisher c.in-Err.error
     (looked c.args.table.now c.args.of c.get.result c.in-Some.made _ c.get.ensures.lookup c.in-Some.is c.in-Publisher.is)
     c.config.ensures.supported.single_values (ap (λ (k : ServiceConfig). k.units_per_element) (sym c.config.ensures.value) ∙ c.if-config-ne1.false)
@@ -43,12 +44,12 @@ returns-in-Err-clause-carries g c =
 
 pub returns-in_default-made-clause-carries : goal.returns-in_default-made-clause-carries
 returns-in_default-made-clause-carries g c =
-    loan_passed {T = g.row.T.Denot} {U = g.row.U.Denot} _ c.args.domain.now c.args.domain.now c.args.table.now c.args.table.now c.args.of refl
+    loan_passed {T = g.row.T.Denot} {U = g.row.U.Denot} fixed_handlers _ c.args.domain.now c.args.domain.now c.args.table.now c.args.table.now c.args.of refl
     (ap (λ (h : Made). is_publisher_entry (entry_for h)) (looked c.args.table.now c.args.of c.get.result c.in-Some.made _ c.get.ensures.lookup c.in-Some.is refl) ∙ not_publisher c.in-Some.made.now c.in_default-made.not-Publisher) refl
 
 pub returns-in_default-clause-carries : goal.returns-in_default-clause-carries
 returns-in_default-clause-carries g c =
-    loan_passed {T = g.row.T.Denot} {U = g.row.U.Denot} _ c.args.domain.now c.args.domain.now c.args.table.now c.args.table.now c.args.of refl
+    loan_passed {T = g.row.T.Denot} {U = g.row.U.Denot} fixed_handlers _ c.args.domain.now c.args.domain.now c.args.table.now c.args.table.now c.args.of refl
     (ap (λ (h : Made). is_publisher_entry (entry_for h)) (looked_past c.args.table.now c.args.of c.get.result c.get.ensures.lookup c.in_default.is)) refl
 
 pub returns-then-config-ne1-clause-leaves : goal.returns-then-config-ne1-clause-leaves

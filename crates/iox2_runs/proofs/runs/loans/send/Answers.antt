@@ -18,14 +18,14 @@ send-requires g c =
 
 pub returns-in-Ok-clause-carries : goal.returns-in-Ok-clause-carries
 returns-in-Ok-clause-carries g c =
-    send_carried {T = g.row.T.Denot} {U = g.row.U.Denot} _ c.args.domain.now c.send.new.domain c.args.table.now.items c.take.new.table.items c.args.of
+    send_carried {T = g.row.T.Denot} {U = g.row.U.Denot} fixed_handlers _ c.args.domain.now c.send.new.domain c.args.table.now.items c.take.new.table.items c.args.of
     c.in-Written.sample c.delivered_count.result (sym c.take.ensures.made ∙ c.in-Written.is)
     (λ m s l shown there. let sent = c.in-Ok.ensures.sent m s l shown there in
     (sent.0, sent.1, subst (λ r. Send fixed_handlers s c.in-Written.sample.loan.number l sent.0 r) c.delivered_count.ensures sent.2)) c.take.ensures.items
 
 pub returns-in_default-clause-carries : goal.returns-in_default-clause-carries
 returns-in_default-clause-carries g c =
-    send_passed {T = g.row.T.Denot} {U = g.row.U.Denot} _ c.args.domain.now c.args.domain.now c.args.table.now.items c.put.new.table.items c.args.of
+    send_passed {T = g.row.T.Denot} {U = g.row.U.Denot} fixed_handlers _ c.args.domain.now c.args.domain.now c.args.table.now.items c.put.new.table.items c.args.of
     (ap (λ (h : Made). is_written_entry (entry_for h)) (sym c.take.ensures.made) ∙ not_written c.take.result c.in_default.not-Written) refl
     (back c.args.table.now.items c.take.new.table.items c.put.new.table.items c.args.of c.take.result c.take.ensures.items (sym c.take.ensures.made) c.put.ensures.items)
 

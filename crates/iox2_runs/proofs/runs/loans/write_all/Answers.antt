@@ -1,5 +1,6 @@
 use Rattle.std.proofs.Common.{refl, sym, ap, subst, ◌∙◌, List}
 use Rattle.std.specs.Prelude.{slice_set}
+use Rattle.iox2_store.specs.machine.Environments.{fixed_handlers}
 use Rattle.iox2_runs.specs.Carries.{entry_for}
 use Rattle.iox2_runs.specs.declared.runs.made.Made.{Made}
 use Rattle.iox2_runs.specs.declared.runs.made.Made.TheVariants.{Nothing, Written}
@@ -23,14 +24,14 @@ write_payload-sample-requires-clause-single_valued g c =
 
 pub returns-in-Unwritten-clause-carries : goal.returns-in-Unwritten-clause-carries
 returns-in-Unwritten-clause-carries g c =
-    write_carried {T = g.row.T.Denot} {U = g.row.U.Denot} _ c.args.domain.now c.write_payload-sample.new.domain c.args.table.now.items c.put.new.table.items c.args.of
+    write_carried {T = g.row.T.Denot} {U = g.row.U.Denot} fixed_handlers _ c.args.domain.now c.write_payload-sample.new.domain c.args.table.now.items c.put.new.table.items c.args.of
     c.args.value c.in-Unwritten.sample c.write_payload-sample.result (sym c.take.ensures.made ∙ c.in-Unwritten.is) c.write_payload-sample.ensures.written
     (ap (λ (k : Key). k.service_id) c.write_payload-sample.ensures.key) (ap (λ (k : Key). k.port) c.write_payload-sample.ensures.key) (ap (λ (k : Key). k.message) c.write_payload-sample.ensures.key)
     (c.put.ensures.items ∙ ap (λ (t : List Made). slice_set t c.args.of (Written c.write_payload-sample.result)) c.take.ensures.items ∙ set_again c.args.table.now.items c.args.of Nothing (Written c.write_payload-sample.result))
 
 pub returns-in_default-clause-carries : goal.returns-in_default-clause-carries
 returns-in_default-clause-carries g c =
-    write_passed {T = g.row.T.Denot} {U = g.row.U.Denot} _ c.args.domain.now c.args.domain.now c.args.table.now.items c.put-in_default.new.table.items c.args.of c.args.value
+    write_passed {T = g.row.T.Denot} {U = g.row.U.Denot} fixed_handlers _ c.args.domain.now c.args.domain.now c.args.table.now.items c.put-in_default.new.table.items c.args.of c.args.value
     (ap (λ (h : Made). is_unwritten_entry (entry_for h)) (sym c.take.ensures.made) ∙ not_unwritten c.take.result c.in_default.not-Unwritten)
     refl (c.put-in_default.ensures.items ∙ ap (λ (t : List Made). slice_set t c.args.of c.take.result) c.take.ensures.items
     ∙ ap (λ (h : Made). slice_set (slice_set c.args.table.now.items c.args.of Nothing) c.args.of h) c.take.ensures.made ∙ put_back c.args.table.now.items c.args.of)

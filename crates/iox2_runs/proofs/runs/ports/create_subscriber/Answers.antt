@@ -1,4 +1,5 @@
 use Rattle.std.proofs.Common.{◌≡◌, sym, ap, ◌∙◌}
+use Rattle.iox2_store.specs.machine.Environments.{fixed_handlers}
 use Rattle.iox2_store.specs.machine.Limits.{buffer_limit}
 use Rattle.iox2_store.specs.machine.Records.{SubscriberSettings}
 use Rattle.iox2_pubsub.proofs.LiveParts.{subscriber-parts}
@@ -16,7 +17,7 @@ returns-in-Ok-clause-carries g c =
           ∙ ap (given_for (buffer_limit c.args.domain.now.config)) (sym w.in-Some.is)
       | in-None w ↦ w.factory-is ∙ c.subscriber_builder-factory.ensures ∙ ap (given_for (buffer_limit c.args.domain.now.config)) (sym w.in-None.is)
     ] in
-    subscriber_carried {T = g.row.T.Denot} {U = g.row.U.Denot} _ c.args.domain.now c.create.new.domain c.args.table.now c.args.buffer c.match-buffer.factory told c.in-Ok.subscriber c.id.result
+    subscriber_carried {T = g.row.T.Denot} {U = g.row.U.Denot} fixed_handlers _ c.args.domain.now c.create.new.domain c.args.table.now c.args.buffer c.match-buffer.factory told c.in-Ok.subscriber c.id.result
     (λ m s shown. let made = c.in-Ok.ensures.creates m s shown in (made.0, made.1, ((made.2).0, (made.2).1))) (subscriber-parts {T = g.row.T.Denot} {U = g.row.U.Denot} c.create.new.domain _ c.in-Ok.ensures.live).1 c.id.ensures
 
 pub returns-in-Err-clause-carries : goal.returns-in-Err-clause-carries
@@ -26,7 +27,7 @@ returns-in-Err-clause-carries g c =
           ∙ ap (given_for (buffer_limit c.args.domain.now.config)) (sym w.in-Some.is)
       | in-None w ↦ w.factory-is ∙ c.subscriber_builder-factory.ensures ∙ ap (given_for (buffer_limit c.args.domain.now.config)) (sym w.in-None.is)
     ] in
-    subscriber_denied {T = g.row.T.Denot} {U = g.row.U.Denot} _ c.args.domain.now c.create.new.domain c.args.table.now c.args.buffer c.match-buffer.factory told c.in-Err.error
+    subscriber_denied {T = g.row.T.Denot} {U = g.row.U.Denot} fixed_handlers _ c.args.domain.now c.create.new.domain c.args.table.now c.args.buffer c.match-buffer.factory told c.in-Err.error
     c.in-Err.ensures.creates
 
 pub returns-in-Ok-clause-leaves : goal.returns-in-Ok-clause-leaves

@@ -23,7 +23,7 @@ use Rattle.iox2_runs.proofs.runs.samples.receive.Goals as goal
 
 pub returns-then-config-ne1-clause-carries : goal.returns-then-config-ne1-clause-carries
 returns-then-config-ne1-clause-carries g c =
-    receive_of_other {T = g.row.T.Denot} {U = g.row.U.Denot} _ c.args.domain.now c.args.domain.now c.args.table.now c.args.table.now c.args.of
+    receive_of_other {T = g.row.T.Denot} {U = g.row.U.Denot} fixed_handlers _ c.args.domain.now c.args.domain.now c.args.table.now c.args.table.now c.args.of
     (λ units. c.if-config-ne1.true (ap (λ (k : ServiceConfig). k.units_per_element) c.config.ensures.value ∙ units)) refl
 
 pub receive-requires : goal.receive-requires
@@ -37,7 +37,7 @@ returns-in-Ok-Some-clause-carries g c =
     subst (λ (r : Result (Option Sample) ReceiveError). IfOk r (λ o. IfSome o (IsLiveSample c.receive.new.domain))) result c.receive.ensures.live in
     let whose : c.in-Ok-Some.sample.sample.subscriber ≡ c.in-Subscriber.subscriber.id =
     subst (λ (r : Result (Option Sample) ReceiveError). IfOk r (λ o. IfSome o (λ (it : Sample). it.sample.subscriber ≡ c.in-Subscriber.subscriber.id))) result c.receive.ensures.subscriber in
-    receive_carried {T = g.row.T.Denot} {U = g.row.U.Denot} _ c.args.domain.now c.receive.new.domain c.args.table.now c.args.table.now c.args.of
+    receive_carried {T = g.row.T.Denot} {U = g.row.U.Denot} fixed_handlers _ c.args.domain.now c.receive.new.domain c.args.table.now c.args.table.now c.args.of
     refl
     c.in-Subscriber.subscriber c.in-Ok-Some.sample c.origin.result (looked c.args.table.now c.args.of c.get.result c.in-Some.made _ c.get.ensures.lookup c.in-Some.is c.in-Subscriber.is) c.config.ensures.supported.single_values
     (ap (λ (k : ServiceConfig). k.units_per_element) (sym c.config.ensures.value) ∙ c.if-config-ne1.false)
@@ -47,7 +47,7 @@ returns-in-Ok-Some-clause-carries g c =
 pub returns-in-Ok-None-clause-carries : goal.returns-in-Ok-None-clause-carries
 returns-in-Ok-None-clause-carries g c =
     let result : c.receive.result ≡ Ok None = c.in-Ok-None.is ∙ ap (λ (o : Option Sample). Ok o) c.in-Ok-None.field-0-is in
-    receive_none {T = g.row.T.Denot} {U = g.row.U.Denot} _ c.args.domain.now c.receive.new.domain c.args.table.now c.args.table.now c.args.of
+    receive_none {T = g.row.T.Denot} {U = g.row.U.Denot} fixed_handlers _ c.args.domain.now c.receive.new.domain c.args.table.now c.args.table.now c.args.of
     refl
     c.in-Subscriber.subscriber (looked c.args.table.now c.args.of c.get.result c.in-Some.made _ c.get.ensures.lookup c.in-Some.is c.in-Subscriber.is)
     (ap (λ (k : ServiceConfig). k.units_per_element) (sym c.config.ensures.value) ∙ c.if-config-ne1.false)
@@ -55,7 +55,7 @@ returns-in-Ok-None-clause-carries g c =
 
 pub returns-in-Err-clause-carries : goal.returns-in-Err-clause-carries
 returns-in-Err-clause-carries g c =
-    receive_denied {T = g.row.T.Denot} {U = g.row.U.Denot} _ c.args.domain.now c.receive.new.domain c.args.table.now c.args.table.now c.args.of
+    receive_denied {T = g.row.T.Denot} {U = g.row.U.Denot} fixed_handlers _ c.args.domain.now c.receive.new.domain c.args.table.now c.args.table.now c.args.of
     refl
     c.in-Subscriber.subscriber c.in-Err.error (looked c.args.table.now c.args.of c.get.result c.in-Some.made _ c.get.ensures.lookup c.in-Some.is c.in-Subscriber.is)
     (ap (λ (k : ServiceConfig). k.units_per_element) (sym c.config.ensures.value) ∙ c.if-config-ne1.false)
@@ -63,12 +63,12 @@ returns-in-Err-clause-carries g c =
 
 pub returns-in_default-made-clause-carries : goal.returns-in_default-made-clause-carries
 returns-in_default-made-clause-carries g c =
-    receive_passed {T = g.row.T.Denot} {U = g.row.U.Denot} _ c.args.domain.now c.args.domain.now c.args.table.now c.args.table.now c.args.of refl
+    receive_passed {T = g.row.T.Denot} {U = g.row.U.Denot} fixed_handlers _ c.args.domain.now c.args.domain.now c.args.table.now c.args.table.now c.args.of refl
     (ap (λ (h : Made). is_subscriber_entry (entry_for h)) (looked c.args.table.now c.args.of c.get.result c.in-Some.made _ c.get.ensures.lookup c.in-Some.is refl) ∙ not_subscriber c.in-Some.made.now c.in_default-made.not-Subscriber) refl
 
 pub returns-in_default-clause-carries : goal.returns-in_default-clause-carries
 returns-in_default-clause-carries g c =
-    receive_passed {T = g.row.T.Denot} {U = g.row.U.Denot} _ c.args.domain.now c.args.domain.now c.args.table.now c.args.table.now c.args.of refl
+    receive_passed {T = g.row.T.Denot} {U = g.row.U.Denot} fixed_handlers _ c.args.domain.now c.args.domain.now c.args.table.now c.args.table.now c.args.of refl
     (ap (λ (h : Made). is_subscriber_entry (entry_for h)) (looked_past c.args.table.now c.args.of c.get.result c.get.ensures.lookup c.in_default.is)) refl
 
 pub returns-then-config-ne1-clause-leaves : goal.returns-then-config-ne1-clause-leaves

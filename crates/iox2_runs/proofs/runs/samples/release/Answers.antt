@@ -1,4 +1,5 @@
 use Rattle.std.proofs.Common.{refl, sym, ap, ◌∙◌}
+use Rattle.iox2_store.specs.machine.Environments.{fixed_handlers}
 use Rattle.iox2_runs.specs.Carries.{entry_for}
 use Rattle.iox2_runs.specs.declared.runs.made.Made.{Made}
 use Rattle.iox2_runs.proofs.TableLooks.{is_sample_entry}
@@ -16,14 +17,14 @@ release-requires g c =
 
 pub returns-in-Sample-clause-carries : goal.returns-in-Sample-clause-carries
 returns-in-Sample-clause-carries g c =
-    release_carried {T = g.row.T.Denot} {U = g.row.U.Denot} _ c.args.domain.now c.release.new.domain c.args.table.now.items c.take.new.table.items c.args.of
+    release_carried {T = g.row.T.Denot} {U = g.row.U.Denot} fixed_handlers _ c.args.domain.now c.release.new.domain c.args.table.now.items c.take.new.table.items c.args.of
     c.in-Sample.sample (sym c.take.ensures.made ∙ c.in-Sample.is)
     (borrowed_there {T = g.row.T.Denot} {U = g.row.U.Denot} c.args.domain.now c.args.table.now.items c.requires c.args.of c.in-Sample.sample (sym c.take.ensures.made ∙ c.in-Sample.is))
     c.release.ensures.released c.take.ensures.items
 
 pub returns-in_default-clause-carries : goal.returns-in_default-clause-carries
 returns-in_default-clause-carries g c =
-    release_passed {T = g.row.T.Denot} {U = g.row.U.Denot} _ c.args.domain.now c.args.domain.now c.args.table.now.items c.put.new.table.items c.args.of
+    release_passed {T = g.row.T.Denot} {U = g.row.U.Denot} fixed_handlers _ c.args.domain.now c.args.domain.now c.args.table.now.items c.put.new.table.items c.args.of
     (ap (λ (h : Made). is_sample_entry (entry_for h)) (sym c.take.ensures.made) ∙ not_sample c.take.result c.in_default.not-Sample) refl
     (back c.args.table.now.items c.take.new.table.items c.put.new.table.items c.args.of c.take.result c.take.ensures.items (sym c.take.ensures.made) c.put.ensures.items)
 

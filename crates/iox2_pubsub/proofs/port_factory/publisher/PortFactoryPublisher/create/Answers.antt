@@ -51,10 +51,10 @@ returns-in_err-port-clause-stays g c =
     let why = c.in_err-port.field-0.0 in
     let shown : Shows (kept_of c.domain.inside.state) it.0 it.1 = subst (λ (kept : Kept g.row.T.Denot g.row.U.Denot). Shows kept it.0 it.1) (sym c.domain.view_is) it.2 in
     let next = created-shows {T = g.row.T.Denot} {U = g.row.U.Denot} c.domain.inside.state c.create_publisher.new.state c.self.inside.max_loaned_samples fixed_handlers it.0 it.1 _ (Some why) shown made.0 made.1 in
-    publisher-creation-stays {T = g.row.T.Denot} {U = g.row.U.Denot} c.args.domain.now _ it.0 it.1 it.2 (plain_publisher c.self.inside.max_loaned_samples) (Some why) _ next.0 next.1
+    publisher-creation-stays {T = g.row.T.Denot} {U = g.row.U.Denot} c.args.domain.now _ it.0 it.1 it.2 fixed_handlers (plain_publisher c.self.inside.max_loaned_samples) (Some why) _ next.0 next.1
 
 pub returns-clause-stays : goal.returns-clause-stays
 returns-clause-stays g c =
     let it = always-shown {T = g.row.T.Denot} {U = g.row.U.Denot} c.domain.inside.state c.args.domain.now c.domain.invariant c.domain.view_is in
     let step = returns-clause-creates g c it.0 it.1 it.2 in
-    publisher-creation-stays {T = g.row.T.Denot} {U = g.row.U.Denot} c.args.domain.now _ it.0 it.1 it.2 c.args.self None step.0 step.1 (step.2).1
+    publisher-creation-stays {T = g.row.T.Denot} {U = g.row.U.Denot} c.args.domain.now _ it.0 it.1 it.2 fixed_handlers c.args.self None step.0 step.1 (step.2).1
