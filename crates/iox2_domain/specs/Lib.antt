@@ -17,3 +17,4 @@ pub mod Connects
 pub mod LoanCalls
 pub mod Deliveries
 pub mod SentLoans
+pub mod Discards

@@ -5,6 +5,7 @@
 #![tactic(auto)]
 
 mod deliveries;
+mod discards;
 mod loan_calls;
 mod loans;
 mod receipts;
@@ -12,6 +13,7 @@ mod reclaims;
 mod sample_reads;
 mod sends;
 
+pub use discards::discard_loan;
 pub use loan_calls::{loan_cell, loan_header, loan_value, write_loan};
 pub use loans::loan;
 pub use receipts::{give_back, receive_at};

@@ -11,3 +11,4 @@ pub mod ReceptionShown
 pub mod LiveParts
 pub mod StaysBut
 pub mod CallsStay
+pub mod DiscardShows
