@@ -33,11 +33,7 @@ pub fn discard_loan<T: Drop, U: Default + Drop>(state: &mut DomainState<T, U>, l
 // The loan in a slot of the publisher at a place is out no more, and the slot has one holder less.
 //
 // iceoryx2's `Sender::return_loaned_sample` (`src/port/details/sender.rs`).
-fn return_loan<T: Drop, U: Default + Drop>(
-    state: &mut DomainState<T, U>,
-    place: usize,
-    slot: usize,
-)
+fn return_loan<T: Drop, U: Default + Drop>(state: &mut DomainState<T, U>, place: usize, slot: usize)
     requires stands { (x : PublisherFields) × (b : Book) × (slice_index_or state.old.publishers place None ≡ Some x) × (get state.old.books x.book ≡ Some b) × IsInUse b slot }
     requires once { (x : PublisherFields) → slice_index_or state.old.publishers place None ≡ Some x → times slot x.loans ≤ 1 }
     ensures { (x : PublisherFields) (b : Book) → slice_index_or state.old.publishers place None ≡ Some x → get state.old.books x.book ≡ Some b → state.new ≡ with_loan_returned state.old place x slot b }

@@ -5,7 +5,7 @@ use Rattle.iox2_store.specs.declared.allocation.AllocationStrategy.TheVariants.{
 use Rattle.iox2_store.specs.declared.backpressure.BackpressureStrategy.TheVariants.{DiscardData}
 use Rattle.iox2_store.specs.declared.degradation.DegradationAction.TheVariants.{Warn}
 use Rattle.iox2_commands.specs.declared.command.Command.{Command}
-use Rattle.iox2_commands.specs.declared.command.Command.TheVariants.{Nothing, CreatePublisher, CreateSubscriber, LoanUninit, WriteAll, Send, Receive, Read, Release}
+use Rattle.iox2_commands.specs.declared.command.Command.TheVariants.{Nothing, CreatePublisher, CreateSubscriber, LoanUninit, WriteAll, Send, Discard, Receive, Read, Release}
 
 -- The command is one of those that make ports and take a message from a loan to its release, with nothing set that a
 -- factory can't be told yet.
@@ -17,6 +17,7 @@ IsSupportedCommand (CreateSubscriber buffer degradation) = degradation ≡ Warn
 IsSupportedCommand (LoanUninit of) = Unit {0}
 IsSupportedCommand (WriteAll of value) = Unit {0}
 IsSupportedCommand (Send of) = Unit {0}
+IsSupportedCommand (Discard of) = Unit {0}
 IsSupportedCommand (Receive of) = Unit {0}
 IsSupportedCommand (Read of at) = Unit {0}
 IsSupportedCommand (Release of) = Unit {0}

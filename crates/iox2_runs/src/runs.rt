@@ -16,6 +16,7 @@ ghost use Rattle.iox2_runs.specs.DomainRuns.{RunsOnDomain};
 ghost use Rattle.iox2_runs.specs.Supported.{IsSupportedCommand};
 ghost use Rattle.iox2_runs.specs.declared.runs.made.Made.TheVariants.{Nothing};
 
+mod discards;
 mod loans;
 mod made;
 mod ports;
@@ -70,6 +71,7 @@ fn carry_out<
             (loans::write_all(domain, table, of, value), Made::Nothing)
         }
         Command::Send { of } => (loans::send(domain, table, of), Made::Nothing),
+        Command::Discard { of } => (discards::discard(domain, table, of), Made::Nothing),
         Command::Receive { of } => samples::receive(domain, table, of),
         Command::Read { of, at } => (samples::read(domain, table, of, at), Made::Nothing),
         Command::Release { of } => (samples::release(domain, table, of), Made::Nothing),

@@ -150,6 +150,7 @@ fn parse_command(words: &[&str]) -> Option<Command<u64, u64>>
             match call {
                 "loan" => Command::LoanUninit { of },
                 "send" => Command::Send { of },
+                "discard" => Command::Discard { of },
                 "recv" => Command::Receive { of },
                 "read" => Command::Read { of, at: 0 },
                 "release" => Command::Release { of },

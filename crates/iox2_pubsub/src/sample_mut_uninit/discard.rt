@@ -28,7 +28,10 @@ impl SampleMutUninit {
         ensures spent { IsLoanKey domain.new (unwritten_key self) → ⊥ }
         ensures stays { StaysBut (unwritten_loan self) domain.old domain.new }
     {
-        let SampleMutUninit { service_id: _, loan } = self;
+        let SampleMutUninit {
+            service_id: _,
+            loan,
+        } = self;
         discard_loan(&mut domain.state, loan);
     }
 }
