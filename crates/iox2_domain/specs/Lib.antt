@@ -8,6 +8,7 @@ pub mod Placed
 pub mod Reaches
 pub mod SampleSlots
 pub mod Receipts
+pub mod Questions
 pub mod Lending
 pub mod Updates
 pub mod NewPublisher

@@ -12,3 +12,5 @@ pub mod LiveParts
 pub mod StaysBut
 pub mod CallsStay
 pub mod DiscardShows
+pub mod QuestionShown
+pub mod UpdatesStay

@@ -10,5 +10,6 @@ pub mod RunLoop
 pub mod CarriedLoans
 pub mod CarriedDiscards
 pub mod CarriedPorts
+pub mod CarriedQuestions
 pub mod CarriedSamples
 pub mod LeavingSteps

@@ -20,6 +20,7 @@ mod discards;
 mod loans;
 mod made;
 mod ports;
+mod questions;
 mod samples;
 
 use iox2_commands::{Command, Reply};
@@ -73,6 +74,10 @@ fn carry_out<
         Command::Send { of } => (loans::send(domain, table, of), Made::Nothing),
         Command::Discard { of } => (discards::discard(domain, table, of), Made::Nothing),
         Command::Receive { of } => samples::receive(domain, table, of),
+        Command::HasSamples { of } => (
+            questions::has_samples(domain, table, of),
+            Made::Nothing,
+        ),
         Command::Read { of, at } => (samples::read(domain, table, of, at), Made::Nothing),
         Command::Release { of } => (samples::release(domain, table, of), Made::Nothing),
         Command::Nothing => (Reply::Done, Made::Nothing),

@@ -17,6 +17,9 @@ returns-in-Discard-clause-carries g c = rw c.in-Discard.is c.discard.ensures.car
 pub returns-in-Receive-clause-carries : goal.returns-in-Receive-clause-carries
 returns-in-Receive-clause-carries g c = rw (c.in-Receive.is, sym c.deref-in-Receive.ensures.value) c.receive.ensures.carries
 
+pub returns-in-HasSamples-clause-carries : goal.returns-in-HasSamples-clause-carries
+returns-in-HasSamples-clause-carries g c = rw (c.in-HasSamples.is, sym c.deref-in-HasSamples.ensures.value) c.has_samples.ensures.carries
+
 pub returns-in-Read-clause-carries : goal.returns-in-Read-clause-carries
 returns-in-Read-clause-carries g c = rw (c.in-Read.is, sym c.deref-in-Read.ensures.value) c.read.ensures
 
@@ -51,6 +54,9 @@ discard-requires g c = c.requires.keeps
 pub receive-requires : goal.receive-requires
 receive-requires g c = rw c.deref-in-Receive.ensures.value c.requires.keeps
 
+pub has_samples-requires : goal.has_samples-requires
+has_samples-requires g c = rw c.deref-in-HasSamples.ensures.value c.requires.keeps
+
 pub read-requires : goal.read-requires
 read-requires g c = rw c.deref-in-Read.ensures.value c.requires.keeps
 
@@ -77,6 +83,9 @@ returns-in-Discard-clause-room g c = c.discard.ensures.room
 
 pub returns-in-Receive-clause-room : goal.returns-in-Receive-clause-room
 returns-in-Receive-clause-room g c = record { len = refl; capacity = refl }
+
+pub returns-in-HasSamples-clause-room : goal.returns-in-HasSamples-clause-room
+returns-in-HasSamples-clause-room g c = record { len = refl; capacity = refl }
 
 pub returns-in-Read-clause-room : goal.returns-in-Read-clause-room
 returns-in-Read-clause-room g c = record { len = refl; capacity = refl }
@@ -124,6 +133,10 @@ returns-in-Discard-clause-leaves g c =
 pub returns-in-Receive-clause-leaves : goal.returns-in-Receive-clause-leaves
 returns-in-Receive-clause-leaves g c =
     rw (sym c.deref-in-Receive.ensures.value) c.receive.ensures.leaves
+
+pub returns-in-HasSamples-clause-leaves : goal.returns-in-HasSamples-clause-leaves
+returns-in-HasSamples-clause-leaves g c =
+    rw (sym c.deref-in-HasSamples.ensures.value) c.has_samples.ensures.leaves
 
 pub returns-in-Release-clause-leaves : goal.returns-in-Release-clause-leaves
 returns-in-Release-clause-leaves g c =
