@@ -6,6 +6,7 @@ pub mod creations
 pub mod loans
 pub mod updates
 pub mod sends
+pub mod discards
 pub mod receives
 pub mod samples
 pub mod releases

@@ -8,6 +8,7 @@ pub mod Placed
 pub mod Reaches
 pub mod SampleSlots
 pub mod Receipts
+pub mod Questions
 pub mod Lending
 pub mod Updates
 pub mod NewPublisher
@@ -17,3 +18,4 @@ pub mod Connects
 pub mod LoanCalls
 pub mod Deliveries
 pub mod SentLoans
+pub mod Discards

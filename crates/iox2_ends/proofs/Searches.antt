@@ -138,7 +138,7 @@ none-less f g (p ∷ ps) less h =
     by false e fails rest = rw e rest
 
 -- a test passes in a list in which it passes at some number
-any-contains : (f : ℕ → Bool) (p : ℕ) (ps : List ℕ) → contains ps p ≡ true → f p ≡ true → list_any f ps ≡ true
+pub any-contains : (f : ℕ → Bool) (p : ℕ) (ps : List ℕ) → contains ps p ≡ true → f p ≡ true → list_any f ps ≡ true
 any-contains f p [] h passes = absurd (true≢false (sym h))
 any-contains f p (x ∷ ps) h passes =
     ⊎_elim (λ e. or_left (f x) (list_any f ps) (ap f (eqb-true x p e) ∙ passes)) (λ r. or_right (f x) (list_any f ps) (any-contains f p ps r passes)) (or_cases (eqb x p) (contains ps p) h)

@@ -5,15 +5,19 @@
 #![tactic(auto)]
 
 mod deliveries;
+mod discards;
 mod loan_calls;
 mod loans;
+mod questions;
 mod receipts;
 mod reclaims;
 mod sample_reads;
 mod sends;
 
+pub use discards::discard_loan;
 pub use loan_calls::{loan_cell, loan_header, loan_value, write_loan};
 pub use loans::loan;
+pub use questions::has_samples_at;
 pub use receipts::{give_back, receive_at};
 pub use sample_reads::{sample_header, sample_payload};
 pub use sends::send_loan;

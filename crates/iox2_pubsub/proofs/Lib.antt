@@ -11,3 +11,6 @@ pub mod ReceptionShown
 pub mod LiveParts
 pub mod StaysBut
 pub mod CallsStay
+pub mod DiscardShows
+pub mod QuestionShown
+pub mod UpdatesStay

@@ -1,3 +1,4 @@
 pub mod Live
 pub mod ReceivedSamples
 pub mod SendCalls
+pub mod QuestionCalls

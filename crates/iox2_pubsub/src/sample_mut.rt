@@ -1,6 +1,7 @@
 //! A loan that is written.
 ghost use Rattle.std.specs.Prelude.{◌≡◌};
 
+mod discard;
 mod send;
 
 use crate::domain::Domain;

@@ -1,6 +1,7 @@
 //! A loan that isn't written.
 ghost use Rattle.std.specs.Prelude.{◌≡◌};
 
+mod discard;
 mod write_payload;
 
 use crate::domain::Domain;

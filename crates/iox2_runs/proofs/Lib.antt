@@ -8,6 +8,8 @@ pub mod TableEntries
 pub mod LiveEntries
 pub mod RunLoop
 pub mod CarriedLoans
+pub mod CarriedDiscards
 pub mod CarriedPorts
+pub mod CarriedQuestions
 pub mod CarriedSamples
 pub mod LeavingSteps

@@ -16,9 +16,11 @@ ghost use Rattle.iox2_runs.specs.DomainRuns.{RunsOnDomain};
 ghost use Rattle.iox2_runs.specs.Supported.{IsSupportedCommand};
 ghost use Rattle.iox2_runs.specs.declared.runs.made.Made.TheVariants.{Nothing};
 
+mod discards;
 mod loans;
 mod made;
 mod ports;
+mod questions;
 mod samples;
 
 use iox2_commands::{Command, Reply};
@@ -70,7 +72,12 @@ fn carry_out<
             (loans::write_all(domain, table, of, value), Made::Nothing)
         }
         Command::Send { of } => (loans::send(domain, table, of), Made::Nothing),
+        Command::Discard { of } => (discards::discard(domain, table, of), Made::Nothing),
         Command::Receive { of } => samples::receive(domain, table, of),
+        Command::HasSamples { of } => (
+            questions::has_samples(domain, table, of),
+            Made::Nothing,
+        ),
         Command::Read { of, at } => (samples::read(domain, table, of, at), Made::Nothing),
         Command::Release { of } => (samples::release(domain, table, of), Made::Nothing),
         Command::Nothing => (Reply::Done, Made::Nothing),

@@ -8,6 +8,7 @@ mod commands;
 #[cfg(test)]
 mod deliveries;
 #[cfg(test)]
+mod discards;
 mod domains;
 #[cfg(test)]
 mod fixtures;

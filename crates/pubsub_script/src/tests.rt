@@ -1,4 +1,5 @@
 mod arrivals;
+mod calls;
 mod plan;
 mod ports;
 mod streams;
@@ -258,6 +259,8 @@ fn a_malformed_line_is_named(rt: HostRuntime) -> Result<(), Fail> {
         b"write 1 18446744073709551616".as_slice(),
         b"send".as_slice(),
         b"send 1 1".as_slice(),
+        b"discard".as_slice(),
+        b"discard 1 1".as_slice(),
         b"recv".as_slice(),
         b"recv 1 1".as_slice(),
         b"read".as_slice(),
@@ -268,7 +271,6 @@ fn a_malformed_line_is_named(rt: HostRuntime) -> Result<(), Fail> {
         b"pub 1 retry".as_slice(),
         b"copy 1 1".as_slice(),
         b"has 1".as_slice(),
-        b"discard 1".as_slice(),
         b"retry 1".as_slice(),
         b"giveup 1".as_slice(),
         b"update 1".as_slice(),
@@ -303,6 +305,7 @@ fn a_number_that_names_nothing_is_skipped(rt: HostRuntime) {
         b"domain 1 1 1 1 0 0 keep\nwrite 0 18446744073709551615".as_slice(),
         b"domain 1 1 1 1 0 0 keep\nread 00000000000000000000000000001".as_slice(),
         b"domain 1 1 1 1 0 0 keep\nrelease 1".as_slice(),
+        b"domain 1 1 1 1 0 0 keep\ndiscard 1".as_slice(),
     ] {
         Outcome::of(rt.alloc(), text).assert(&rt, 0, b"skipped\n", b"");
     }

@@ -150,7 +150,9 @@ fn parse_command(words: &[&str]) -> Option<Command<u64, u64>>
             match call {
                 "loan" => Command::LoanUninit { of },
                 "send" => Command::Send { of },
+                "discard" => Command::Discard { of },
                 "recv" => Command::Receive { of },
+                "has" => Command::HasSamples { of },
                 "read" => Command::Read { of, at: 0 },
                 "release" => Command::Release { of },
                 _ => return None,

@@ -77,7 +77,7 @@ fn report_pair(
     let second = match publisher.loan_uninit(domain) {
         Ok(second) => second,
         Err(error) => {
-            first.disown();
+            first.discard(domain);
             return Err(Failure::from(error));
         }
     };

@@ -5,3 +5,4 @@ pub mod BorrowedSlots
 pub mod Received
 pub mod ReceiptSteps
 pub mod Reception
+pub mod Questions

@@ -154,14 +154,14 @@ module _ {T U : Type 0} (f now : Fields T U) (place : ℕ) (z : SubscriberFields
       subst (λ (keys : List ℕ). HasConnections f.connections (map Some keys)) (sym has.expired_is)
       (keys-connected (now.config).subscriber_max_borrowed_samples z.id (map Some z.expired) ((has.sound).linked.expired place z has.stands))
 
-  finds-now : (found : Found) → Finds f.connections expired places found → Finds now.connections z.expired z.keys found
+  pub finds-now : (found : Found) → Finds f.connections expired places found → Finds now.connections z.expired z.keys found
   finds-now found finds =
       subst (λ (h : Fields T U). Finds h.connections z.expired z.keys found) has.same
       (subst (λ (keys : List ℕ). Finds f.connections keys z.keys found) has.expired_is
       (subst (λ (keys : List (Option ℕ)). Finds f.connections expired keys found) has.places_is finds))
 
   -- whoever stands at the place is the one
-  same-one : (y : SubscriberFields) → get_or now.subscribers place None ≡ Some y → z ≡ y
+  pub same-one : (y : SubscriberFields) → get_or now.subscribers place None ≡ Some y → z ≡ y
   same-one y at = let one : Some z ≡ Some y = sym has.stands ∙ at in let is : z ≡ y = cc in is
 
   pub at-ready : (key : ℕ) (receipt : Receipt) (new : Fields T U) → Finds f.connections expired places (Found.Ready key) → TakesFrom now key receipt new

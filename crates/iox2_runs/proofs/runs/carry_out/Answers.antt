@@ -12,8 +12,14 @@ returns-in-WriteAll-clause-carries g c = rw c.in-WriteAll.is c.write_all.ensures
 pub returns-in-Send-clause-carries : goal.returns-in-Send-clause-carries
 returns-in-Send-clause-carries g c = rw c.in-Send.is c.send.ensures.carries
 
+pub returns-in-Discard-clause-carries : goal.returns-in-Discard-clause-carries
+returns-in-Discard-clause-carries g c = rw c.in-Discard.is c.discard.ensures.carries
+
 pub returns-in-Receive-clause-carries : goal.returns-in-Receive-clause-carries
 returns-in-Receive-clause-carries g c = rw (c.in-Receive.is, sym c.deref-in-Receive.ensures.value) c.receive.ensures.carries
+
+pub returns-in-HasSamples-clause-carries : goal.returns-in-HasSamples-clause-carries
+returns-in-HasSamples-clause-carries g c = rw (c.in-HasSamples.is, sym c.deref-in-HasSamples.ensures.value) c.has_samples.ensures.carries
 
 pub returns-in-Read-clause-carries : goal.returns-in-Read-clause-carries
 returns-in-Read-clause-carries g c = rw (c.in-Read.is, sym c.deref-in-Read.ensures.value) c.read.ensures
@@ -43,8 +49,14 @@ write_all-requires g c = c.requires.keeps
 pub send-requires : goal.send-requires
 send-requires g c = c.requires.keeps
 
+pub discard-requires : goal.discard-requires
+discard-requires g c = c.requires.keeps
+
 pub receive-requires : goal.receive-requires
 receive-requires g c = rw c.deref-in-Receive.ensures.value c.requires.keeps
+
+pub has_samples-requires : goal.has_samples-requires
+has_samples-requires g c = rw c.deref-in-HasSamples.ensures.value c.requires.keeps
 
 pub read-requires : goal.read-requires
 read-requires g c = rw c.deref-in-Read.ensures.value c.requires.keeps
@@ -67,8 +79,14 @@ returns-in-WriteAll-clause-room g c = c.write_all.ensures.room
 pub returns-in-Send-clause-room : goal.returns-in-Send-clause-room
 returns-in-Send-clause-room g c = c.send.ensures.room
 
+pub returns-in-Discard-clause-room : goal.returns-in-Discard-clause-room
+returns-in-Discard-clause-room g c = c.discard.ensures.room
+
 pub returns-in-Receive-clause-room : goal.returns-in-Receive-clause-room
 returns-in-Receive-clause-room g c = record { len = refl; capacity = refl }
+
+pub returns-in-HasSamples-clause-room : goal.returns-in-HasSamples-clause-room
+returns-in-HasSamples-clause-room g c = record { len = refl; capacity = refl }
 
 pub returns-in-Read-clause-room : goal.returns-in-Read-clause-room
 returns-in-Read-clause-room g c = record { len = refl; capacity = refl }
@@ -109,9 +127,17 @@ pub returns-in-Send-clause-leaves : goal.returns-in-Send-clause-leaves
 returns-in-Send-clause-leaves g c =
     c.send.ensures.leaves
 
+pub returns-in-Discard-clause-leaves : goal.returns-in-Discard-clause-leaves
+returns-in-Discard-clause-leaves g c =
+    c.discard.ensures.leaves
+
 pub returns-in-Receive-clause-leaves : goal.returns-in-Receive-clause-leaves
 returns-in-Receive-clause-leaves g c =
     rw (sym c.deref-in-Receive.ensures.value) c.receive.ensures.leaves
+
+pub returns-in-HasSamples-clause-leaves : goal.returns-in-HasSamples-clause-leaves
+returns-in-HasSamples-clause-leaves g c =
+    rw (sym c.deref-in-HasSamples.ensures.value) c.has_samples.ensures.leaves
 
 pub returns-in-Release-clause-leaves : goal.returns-in-Release-clause-leaves
 returns-in-Release-clause-leaves g c =

@@ -1,0 +1,3 @@
+-- A loan is given back unsent.
+pub mod Returned
+pub mod DiscardSteps

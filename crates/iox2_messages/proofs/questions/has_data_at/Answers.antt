@@ -1,0 +1,47 @@
+use Rattle.iox2_domain.proofs.lemmas.slots.PublisherBooks.{read-there}
+use Rattle.iox2_domain.specs.Fields.{Fields}
+use Rattle.iox2_ends.proofs.MailboxChanges.{within_if_some}
+use Rattle.iox2_ends.specs.Finds.{Finds}
+use Rattle.iox2_ends.specs.declared.receiver.Found.{Found}
+use Rattle.std.proofs.Common.{◌≡◌, ◌∙◌, ap, sym, subst, inl, inr, None, Some, slice_index_or, rules, length, vec_len}
+use Rattle.iox2_domain.proofs.lemmas.receives.ReceiptSteps.{has-keys, connected-places}
+use Rattle.iox2_domain.proofs.lemmas.receives.Questions.{answers-found}
+use Rattle.iox2_messages.proofs.questions.has_data_at.Goals as goal
+
+pub find-requires-clause-keys : goal.find-requires-clause-keys
+find-requires-clause-keys g c =
+    connected-places _ c.args.state.now c.args.place c.in-Some.subscriber c.deref.result.now c.deref-2.result.now
+    (has-keys _ c.args.state.now c.args.place c.index.result.now c.in-Some.subscriber _ c.deref.result.now c.deref-2.result.now c.requires.agrees c.state.view_is c.requires.stands
+    c.index.ensures c.in-Some.is c.subscriber.view_is c.deref.ensures.value c.deref-2.ensures.value)
+
+pub returns-in-Ready : goal.returns-in-Ready
+returns-in-Ready g c =
+    let has =
+    has-keys _ c.args.state.now c.args.place c.index.result.now c.in-Some.subscriber _ c.deref.result.now c.deref-2.result.now c.requires.agrees c.state.view_is c.requires.stands
+    c.index.ensures c.in-Some.is c.subscriber.view_is c.deref.ensures.value c.deref-2.ensures.value in
+    elim c.in-Ready.is [
+      | inl ready ↦
+          answers-found _ c.args.state.now c.args.place c.in-Some.subscriber c.deref.result.now c.deref-2.result.now has (Found.Ready ready.0)
+          (subst (Finds c.state.inside.connections c.deref.result.now c.deref-2.result.now) ready.1 c.find.ensures.finds)
+      | inr limit ↦
+          answers-found _ c.args.state.now c.args.place c.in-Some.subscriber c.deref.result.now c.deref-2.result.now has Found.AtLimit
+          (subst (Finds c.state.inside.connections c.deref.result.now c.deref-2.result.now) limit c.find.ensures.finds)
+    ]
+
+pub returns-in-Nothing : goal.returns-in-Nothing
+returns-in-Nothing g c =
+    answers-found _ c.args.state.now c.args.place c.in-Some.subscriber c.deref.result.now c.deref-2.result.now
+    (has-keys _ c.args.state.now c.args.place c.index.result.now c.in-Some.subscriber _ c.deref.result.now c.deref-2.result.now c.requires.agrees c.state.view_is c.requires.stands
+    c.index.ensures c.in-Some.is c.subscriber.view_is c.deref.ensures.value c.deref-2.ensures.value)
+    Found.Nothing c.in-Nothing.ensures.finds
+
+pub index-requires : goal.index-requires
+index-requires g c =
+    let there : slice_index_or c.state.inside.subscribers.items c.args.place None ≡ Some c.requires.stands.0 = ap (λ (f : Fields g.row.T.Denot g.row.U.Denot). slice_index_or f.subscribers c.args.place None) c.state.view_is ∙ c.requires.stands.1 in
+    let long : vec_len c.state.inside.subscribers ≡ length c.state.inside.subscribers.items = search rules in
+    rw long (within_if_some c.state.inside.subscribers.items c.args.place c.requires.stands.0 there)
+
+pub unreachable-requires : goal.unreachable-requires
+unreachable-requires g c =
+    let there : slice_index_or c.state.inside.subscribers.items c.args.place None ≡ Some c.requires.stands.0 = ap (λ (f : Fields g.row.T.Denot g.row.U.Denot). slice_index_or f.subscribers c.args.place None) c.state.view_is ∙ c.requires.stands.1 in
+    c.in_default.not-Some c.requires.stands.0 (sym (read-there _ c.args.place _ _ there c.index.ensures) ∙ there)

@@ -1,0 +1,46 @@
+//! A loan is given back unsent.
+ghost use Rattle.std.specs.Prelude.{◌≡◌, ℕ, ◌≤◌, None, Some, slice_index_or};
+ghost use Rattle.slab.specs.Slab.{get};
+ghost use Rattle.iox2_store.specs.SlotBook.{Book, IsInUse};
+ghost use Rattle.iox2_store.specs.machine.SingleCalls.{HoldsLoan};
+ghost use Rattle.iox2_ends.specs.Counters.{times};
+ghost use Rattle.iox2_domain.specs.Discards.{with_loan_returned, DiscardsLoan};
+ghost use Rattle.iox2_domain.specs.Fields.{kept_of};
+ghost use Rattle.iox2_domain.specs.Invariant.{IsDomain};
+ghost use Rattle.iox2_domain.specs.Kept.{state_of};
+ghost use Rattle.iox2_domain.specs.Ports.{PublisherFields};
+
+use crate::reclaims::reclaim;
+use iox2_domain::{DomainState, LoanAt};
+
+/// Gives a publisher's loan back unsent, written or not: it is out no more, and its slot is free.
+/// The publisher reclaims what its subscribers gave back, as before each loan. It takes no memory.
+pub fn discard_loan<T: Drop, U: Default + Drop>(state: &mut DomainState<T, U>, loan: LoanAt)
+    requires agrees { IsDomain state.old }
+    requires live { HoldsLoan (state_of (kept_of state.old)) loan.publisher loan.number }
+    ensures { DiscardsLoan state.old state.new loan.number }
+{
+    let Some(place) = state.find_publisher(loan.publisher, loan.place) else {
+        unreachable!()
+    };
+    reclaim(state, place);
+    let Some(at) = state.find_loan(&loan) else {
+        unreachable!()
+    };
+    return_loan(state, place, at.slot);
+}
+
+// The loan in a slot of the publisher at a place is out no more, and the slot has one holder less.
+//
+// iceoryx2's `Sender::return_loaned_sample` (`src/port/details/sender.rs`).
+fn return_loan<T: Drop, U: Default + Drop>(state: &mut DomainState<T, U>, place: usize, slot: usize)
+    requires stands { (x : PublisherFields) × (b : Book) × (slice_index_or state.old.publishers place None ≡ Some x) × (get state.old.books x.book ≡ Some b) × IsInUse b slot }
+    requires once { (x : PublisherFields) → slice_index_or state.old.publishers place None ≡ Some x → times slot x.loans ≤ 1 }
+    ensures { (x : PublisherFields) (b : Book) → slice_index_or state.old.publishers place None ≡ Some x → get state.old.books x.book ≡ Some b → state.new ≡ with_loan_returned state.old place x slot b }
+{
+    let Some(publisher) = &mut state.publishers[place] else {
+        unreachable!();
+    };
+    publisher.remove_loan(slot);
+    state.books[publisher.book].release(slot);
+}

@@ -1,0 +1,41 @@
+//! Whether messages wait.
+ghost use Rattle.std.specs.Prelude.{◌≡◌, None, Some, slice_index_or};
+ghost use Rattle.iox2_store.specs.machine.Environments.{fixed_handlers};
+ghost use Rattle.iox2_domain.specs.Invariant.{IsDomain};
+ghost use Rattle.iox2_domain.specs.Ports.{SubscriberFields};
+ghost use Rattle.iox2_domain.specs.Questions.{IsWhetherWaiting, AnswersAs};
+
+use iox2_domain::DomainState;
+use iox2_ends::receiver::{Found, find};
+use iox2_ports::update_subscriber;
+
+/// The subscriber at a place is updated, and then asked whether any message waits for it, also one
+/// that it may not borrow yet.
+pub fn has_samples_at<T: Drop, U: Default + Drop>(
+    state: &mut DomainState<T, U>,
+    place: usize,
+) -> bool
+    requires agrees { IsDomain state.old }
+    requires stands { (y : SubscriberFields) × (slice_index_or state.old.subscribers place None ≡ Some y) }
+    ensures { (y : SubscriberFields) → slice_index_or state.old.subscribers place None ≡ Some y → AnswersAs fixed_handlers state.old y.id result state.new }
+{
+    update_subscriber(state, place);
+    has_data_at(state, place)
+}
+
+// Whether any message waits for the subscriber at a place.
+//
+// iceoryx2's `Receiver::has_samples` (`src/port/details/receiver.rs`).
+fn has_data_at<T: Drop, U: Default + Drop>(state: &DomainState<T, U>, place: usize) -> bool
+    requires agrees { IsDomain state.now }
+    requires stands { (y : SubscriberFields) × (slice_index_or state.now.subscribers place None ≡ Some y) }
+    ensures { (y : SubscriberFields) → slice_index_or state.now.subscribers place None ≡ Some y → IsWhetherWaiting state.now y.id result }
+{
+    let Some(subscriber) = &state.subscribers[place] else {
+        unreachable!()
+    };
+    match find(&state.connections, &subscriber.expired, &subscriber.keys) {
+        Found::Ready(_) | Found::AtLimit => true,
+        Found::Nothing => false,
+    }
+}

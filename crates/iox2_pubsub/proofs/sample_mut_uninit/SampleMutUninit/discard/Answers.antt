@@ -1,0 +1,33 @@
+use Rattle.std.proofs.Common.{ap, refl, ◌∙◌}
+use Rattle.iox2_store.specs.machine.State.{State}
+use Rattle.iox2_domain.specs.Fields.{kept_of}
+use Rattle.iox2_pubsub.specs.Live.{unwritten_key}
+use Rattle.iox2_pubsub.proofs.CallsStay.{always-shown}
+use Rattle.iox2_pubsub.proofs.DiscardShows.{discard-shows, discard-stays, discard-spends}
+use Rattle.iox2_pubsub.proofs.LiveParts.{loan-parts}
+use Rattle.iox2_pubsub.proofs.LoanHandles.{loan-out}
+use Rattle.iox2_pubsub.proofs.sample_mut_uninit.SampleMutUninit.discard.Goals as goal
+
+pub discard_loan-requires-clause-live : goal.discard_loan-requires-clause-live
+discard_loan-requires-clause-live g c = loan-out {T = g.row.T.Denot} {U = g.row.U.Denot} _ c.args.domain.now c.domain.view_is (unwritten_key c.args.self) c.requires
+
+pub returns-clause-discarded : goal.returns-clause-discarded
+returns-clause-discarded g c =
+    discard-shows {T = g.row.T.Denot} {U = g.row.U.Denot} c.domain.inside.state c.discard_loan.new.state c.args.domain.now c.domain.view_is
+    c.args.self.loan.number c.discard_loan.ensures
+
+pub returns-clause-spent : goal.returns-clause-spent
+returns-clause-spent g c =
+    let it = always-shown {T = g.row.T.Denot} {U = g.row.U.Denot} c.domain.inside.state c.args.domain.now c.domain.invariant c.domain.view_is in
+    let has = (loan-parts c.args.domain.now _ c.requires).1 in
+    let out = ap (λ (t : State g.row.T.Denot g.row.U.Denot). t.loans c.args.self.loan.number) (it.2).state ∙ has.1 in
+    discard-spends {T = g.row.T.Denot} {U = g.row.U.Denot} c.args.domain.now (kept_of c.discard_loan.new.state) it.0 it.1 it.2 c.args.self.loan.number has.0
+    (returns-clause-discarded g c it.0 it.1 has.0 it.2 out) (unwritten_key c.args.self) refl
+
+pub returns-clause-stays : goal.returns-clause-stays
+returns-clause-stays g c =
+    let it = always-shown {T = g.row.T.Denot} {U = g.row.U.Denot} c.domain.inside.state c.args.domain.now c.domain.invariant c.domain.view_is in
+    let has = (loan-parts c.args.domain.now _ c.requires).1 in
+    let out = ap (λ (t : State g.row.T.Denot g.row.U.Denot). t.loans c.args.self.loan.number) (it.2).state ∙ has.1 in
+    discard-stays {T = g.row.T.Denot} {U = g.row.U.Denot} c.args.domain.now (kept_of c.discard_loan.new.state) it.0 it.1 it.2 c.args.self.loan.number has.0
+    (returns-clause-discarded g c it.0 it.1 has.0 it.2 out)

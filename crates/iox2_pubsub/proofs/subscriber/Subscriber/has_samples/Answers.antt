@@ -1,0 +1,29 @@
+use Rattle.std.proofs.Common.{Ok, None}
+use Rattle.iox2_store.specs.machine.Environments.{fixed_handlers}
+use Rattle.iox2_domain.specs.Fields.{kept_of}
+use Rattle.iox2_laws.proofs.LoanKeeping.{has_samples_loans}
+use Rattle.iox2_laws.proofs.PortsStay.{update_subscriber_stays}
+use Rattle.iox2_pubsub.proofs.CallsStay.{always-shown}
+use Rattle.iox2_pubsub.proofs.QuestionShown.{answer-at, answer-shows}
+use Rattle.iox2_pubsub.proofs.ReceptionShown.{subscriber-missing}
+use Rattle.iox2_pubsub.proofs.UpdatesStay.{updates-stay}
+use Rattle.iox2_pubsub.proofs.subscriber.Subscriber.has_samples.Goals as goal
+
+pub unreachable-requires : goal.unreachable-requires
+unreachable-requires g c =
+    subscriber-missing {T = g.row.T.Denot} {U = g.row.U.Denot} c.domain.inside.state c.args.domain.now c.domain.view_is c.args.self.now
+    c.in_default.ensures c.requires
+
+pub returns-clause-answers : goal.returns-clause-answers
+returns-clause-answers g c =
+    answer-shows {T = g.row.T.Denot} {U = g.row.U.Denot} c.args.domain.now c.domain.inside.state c.has_samples_at.new.state c.domain.view_is c.args.self.now.id c.has_samples_at.result
+    (answer-at {T = g.row.T.Denot} {U = g.row.U.Denot} c.domain.inside.state c.has_samples_at.new.state c.in-Some.place c.args.self.now.id c.has_samples_at.result
+    c.in-Some.ensures c.has_samples_at.ensures)
+
+pub returns-clause-stays : goal.returns-clause-stays
+returns-clause-stays g c =
+    let it = always-shown {T = g.row.T.Denot} {U = g.row.U.Denot} c.domain.inside.state c.args.domain.now c.domain.invariant c.domain.view_is in
+    let step = returns-clause-answers g c it.0 it.1 it.2 in
+    updates-stay {T = g.row.T.Denot} {U = g.row.U.Denot} c.args.domain.now (kept_of c.has_samples_at.new.state) it.0 it.1 step.0 it.2 step.1
+    (update_subscriber_stays fixed_handlers it.1 c.args.self.now.id step.0 None (step.2).0)
+    (has_samples_loans fixed_handlers it.1 c.args.self.now.id step.0 None c.has_samples_at.result step.2)

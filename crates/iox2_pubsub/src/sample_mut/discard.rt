@@ -1,0 +1,37 @@
+//! A written loan is given back unsent.
+ghost use Rattle.std.specs.Prelude.{◌≡◌};
+
+use crate::domain::Domain;
+use crate::sample_mut::SampleMut;
+use iox2_messages::discard_loan;
+use iox2_store::{BackpressureFn, DegradationFn};
+
+impl SampleMut {
+    ghost use Rattle.std.specs.Prelude.{Some};
+    ghost use Rattle.iox2_store.specs.machine.Loans.{loan_discarded};
+    ghost use Rattle.iox2_store.specs.machine.Records.{Loan};
+    ghost use Rattle.iox2_store.specs.machine.State.{State, Messages};
+    ghost use Rattle.iox2_pubsub.specs.Live.{IsLoanKey, StaysBut, written_key, written_loan};
+    ghost use Rattle.iox2_domain.specs.Shows.{Shows};
+
+    /// Gives the loan back unsent. It counts among the publisher's loans no more, its slot is free
+    /// again, and no subscriber sees anything of it. Takes no memory.
+    ///
+    /// iceoryx2's `SampleMut`, when it is dropped (`src/sample_mut.rs`).
+    pub fn discard<T: Drop, U: Default + Drop, F: BackpressureFn, G: DegradationFn>(
+        self,
+        domain: &mut Domain<T, U, F, G>,
+    )
+        requires { IsLoanKey domain.old (written_key self) }
+        ensures discarded { (m : Messages T U) (s : State T U) (l : Loan T U) → Shows domain.old m s → s.loans self.loan.number ≡ Some l
+            → Shows domain.new m (loan_discarded s self.loan.number l) }
+        ensures spent { IsLoanKey domain.new (written_key self) → ⊥ }
+        ensures stays { StaysBut (written_loan self) domain.old domain.new }
+    {
+        let SampleMut {
+            service_id: _,
+            loan,
+        } = self;
+        discard_loan(&mut domain.state, loan);
+    }
+}

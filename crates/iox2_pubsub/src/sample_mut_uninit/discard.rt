@@ -1,0 +1,37 @@
+//! An unwritten loan is given back.
+ghost use Rattle.std.specs.Prelude.{◌≡◌};
+
+use crate::domain::Domain;
+use crate::sample_mut_uninit::SampleMutUninit;
+use iox2_messages::discard_loan;
+use iox2_store::{BackpressureFn, DegradationFn};
+
+impl SampleMutUninit {
+    ghost use Rattle.std.specs.Prelude.{Some};
+    ghost use Rattle.iox2_store.specs.machine.Loans.{loan_discarded};
+    ghost use Rattle.iox2_store.specs.machine.Records.{Loan};
+    ghost use Rattle.iox2_store.specs.machine.State.{State, Messages};
+    ghost use Rattle.iox2_pubsub.specs.Live.{IsLoanKey, StaysBut, unwritten_key, unwritten_loan};
+    ghost use Rattle.iox2_domain.specs.Shows.{Shows};
+
+    /// Gives the loan back without a payload. It counts among the publisher's loans no more, its
+    /// slot is free again, and no subscriber sees anything of it. Takes no memory.
+    ///
+    /// iceoryx2's `SampleMutUninit`, when it is dropped (`src/sample_mut_uninit.rs`).
+    pub fn discard<T: Drop, U: Default + Drop, F: BackpressureFn, G: DegradationFn>(
+        self,
+        domain: &mut Domain<T, U, F, G>,
+    )
+        requires { IsLoanKey domain.old (unwritten_key self) }
+        ensures discarded { (m : Messages T U) (s : State T U) (l : Loan T U) → Shows domain.old m s → s.loans self.loan.number ≡ Some l
+            → Shows domain.new m (loan_discarded s self.loan.number l) }
+        ensures spent { IsLoanKey domain.new (unwritten_key self) → ⊥ }
+        ensures stays { StaysBut (unwritten_loan self) domain.old domain.new }
+    {
+        let SampleMutUninit {
+            service_id: _,
+            loan,
+        } = self;
+        discard_loan(&mut domain.state, loan);
+    }
+}

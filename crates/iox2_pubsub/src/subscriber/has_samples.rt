@@ -1,0 +1,37 @@
+//! A subscriber is asked whether messages wait.
+ghost use Rattle.std.specs.Prelude.{◌≡◌, IsOk};
+
+use crate::domain::Domain;
+use crate::subscriber::Subscriber;
+use iox2_messages::has_samples_at;
+use iox2_store::{BackpressureFn, ConnectionFailure, DegradationFn};
+
+impl Subscriber {
+    ghost use Rattle.iox2_store.specs.machine.State.{State, Messages};
+    ghost use Rattle.iox2_pubsub.specs.Live.{IsLiveSubscriber, Stays};
+    ghost use Rattle.iox2_pubsub.specs.QuestionCalls.{Answers};
+    ghost use Rattle.iox2_domain.specs.Shows.{Shows};
+
+    /// Updates the subscriber's connections and says whether any message waits for it, also one
+    /// that it can't receive before it has released another.
+    ///
+    /// No failure is returned yet. Where memory for a connection is refused, that is a warning of
+    /// the domain.
+    ///
+    /// iceoryx2's `Subscriber::has_samples` (`src/port/subscriber.rs`).
+    pub fn has_samples<T: Drop, U: Default + Drop, F: BackpressureFn, G: DegradationFn>(
+        &self,
+        domain: &mut Domain<T, U, F, G>,
+    ) -> Result<bool, ConnectionFailure>
+        requires { IsLiveSubscriber domain.old self.now }
+        ensures ok { IsOk result }
+        ensures answers { (m : Messages T U) (s : State T U) → Shows domain.old m s
+            → (s' : State T U) × Shows domain.new m s' × Answers s self.now.id result s' }
+        ensures stays { Stays domain.old domain.new }
+    {
+        let Some(place) = domain.state.find_subscriber(self.id, self.place) else {
+            unreachable!()
+        };
+        Ok(has_samples_at(&mut domain.state, place))
+    }
+}
