@@ -25,7 +25,8 @@ use Rattle.iox2_domain.specs.Discards.{with_holder_gone, with_loan_returned}
 use Rattle.iox2_domain.specs.Deliveries.{with_loan_out}
 use Rattle.iox2_domain.specs.Ports.{PublisherFields}
 use Rattle.iox2_domain.specs.Kept.{KeptMessage, Lent_message, Sent_message, state_of, entries_of, is_numbered, message_numbered, loan_in, entry_in}
-use Rattle.iox2_domain.specs.Fields.{Fields, kept_of, publisher_of, numbers_of, is_book_of, message_in, contents_at}
+use Rattle.iox2_ends.specs.Mailboxes.{sender_ends}
+use Rattle.iox2_domain.specs.Fields.{Fields, kept_of, publisher_of, numbers_of, blocked_send, is_book_of, message_in, contents_at}
 use Rattle.iox2_domain.specs.Invariant.{IsDomain, IsCounted, IsNumbered, HasNumber, HasShapes, is_publisher, own_holders, holders_of, is_loan_in}
 use Rattle.iox2_domain.specs.Reaches.{Reaches}
 use Rattle.iox2_domain.specs.Shows.{KeepsEntries}
@@ -73,6 +74,9 @@ module _ {T U : Type 0} (f : Fields T U) (sound : IsDomain f) (i : ℕ) (x : Pub
     max_loaned_samples = refl;
     slots = refl;
     strategy = refl;
+    backpressure_handler = refl;
+    degradation_handler = refl;
+    blocked = refl;
     allocation = refl;
     initial_max_slice_len = refl;
     loan_room = omega arith;
@@ -205,6 +209,7 @@ module _ {T U : Type 0} (f : Fields T U) (sound : IsDomain f) (i : ℕ) (x : Pub
           (λ t. Some (record (publisher_of f.books f.connections (with_loan_out slot x)).port {
             loans = map (numbers-same f x.book b given at keeps_slots parts.books.one_each t x.id) (without slot x.loans);
             history = map (numbers-same f x.book b given at keeps_slots parts.books.one_each t x.id) (x.history).items;
+            blocked = option_map (blocked_send (numbers-same f x.book b given at keeps_slots parts.books.one_each t x.id) (sender_ends f.connections x.keys)) x.blocked;
           }))
           ∙ ap (λ ns. Some (record (publisher_of f.books f.connections x).port { loans = ns }))
           (map-without (numbers_of f.books x.id) slot n (loan-number f sound i x here slot n l lies) x.loans (loan-slot f sound i x here slot n l lies))
@@ -286,6 +291,7 @@ module _ {T U : Type 0} (f : Fields T U) (sound : IsDomain f) (i : ℕ) (x : Pub
     shapes = shapes;
     supported = parts.supported;
     plain = changed-plain f i x (with_loan_out slot x) here refl parts.plain keeps;
+    plain_subscribers = parts.plain_subscribers;
     open_ports = changed-open_ports between i x (with_loan_out slot x) here refl (open_ports-book f x.book b given at keeps_slots parts.open_ports) refl;
   }
     where
@@ -301,7 +307,7 @@ module _ {T U : Type 0} (f : Fields T U) (sound : IsDomain f) (i : ℕ) (x : Pub
   keeps_entries : KeepsEntries (kept_of returned)
   keeps_entries q m is = elim (cases_eq m n) [
     | inl same ↦
-        let there = held-message-slot returned counted returned-parts.publisher_ids q m is in
+        let there = held-message-slot returned counted returned-parts.publisher_ids returned-parts.plain q m is in
         absurd (unnumbered there.0 there.1 (subst (HasNumber returned.books there.0 there.1) same there.2))
     | inr away ↦
         let old = sound.entries q m (held-before was (loan_discarded was n l) q m (λ r. refl) standing (subst (λ (s : State T U). IsHeldMessage s q m) returned-is is)) in

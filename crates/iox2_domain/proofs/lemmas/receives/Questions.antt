@@ -4,7 +4,6 @@ use Rattle.std.specs.Prelude.{IsSomeAnd}
 use Rattle.std.specs.Bool.{MatchBool}
 use Rattle.slab.specs.Slab.{get}
 use Rattle.iox2_store.specs.Link.{Link}
-use Rattle.iox2_store.specs.machine.Environments.{fixed_handlers}
 use Rattle.iox2_store.specs.machine.Mailbox.{Mailbox, has_data}
 use Rattle.iox2_store.specs.machine.Numbers.{contains}
 use Rattle.iox2_store.specs.machine.Places.{occupants}
@@ -82,11 +81,11 @@ module _ {T U : Type 0} where
   )
 
   -- the same at a subscriber's place
-  pub answers-at : (f mid : Fields T U) (place : ℕ) (waits : Bool)
-      → ((y : SubscriberFields) → get_or f.subscribers place None ≡ Some y → UpdatesSubscriber f place y mid)
+  pub answers-at : (environment : Environment) (f mid : Fields T U) (place : ℕ) (waits : Bool)
+      → ((y : SubscriberFields) → get_or f.subscribers place None ≡ Some y → UpdatesSubscriber environment f place y mid None)
       → ((y : SubscriberFields) → get_or mid.subscribers place None ≡ Some y → IsWhetherWaiting mid y.id waits)
-      → (y : SubscriberFields) → get_or f.subscribers place None ≡ Some y → AnswersAs fixed_handlers f y.id waits mid
-  answers-at f mid place waits update answer y at =
+      → (y : SubscriberFields) → get_or f.subscribers place None ≡ Some y → AnswersAs environment f y.id waits mid
+  answers-at environment f mid place waits update answer y at =
       let u = update y at in
-      answers-after fixed_handlers f mid y.id u.after u.updates u.reaches waits
-      (answer (record y { keys = u.keys; key_room = u.key_room; is_due = false }) (updated-stands f mid place y u at))
+      answers-after environment f mid y.id u.after u.updates u.reaches waits
+      (answer (record y { keys = u.keys; key_room = u.key_room; is_due = false }) (updated-stands environment f mid place y None u at))
