@@ -14,3 +14,4 @@ pub mod CallsStay
 pub mod DiscardShows
 pub mod QuestionShown
 pub mod UpdatesStay
+pub mod UpdateShown

@@ -2,3 +2,4 @@ pub mod Live
 pub mod ReceivedSamples
 pub mod SendCalls
 pub mod QuestionCalls
+pub mod UpdateCalls

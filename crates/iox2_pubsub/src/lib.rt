@@ -9,6 +9,7 @@ mod sample_mut;
 mod sample_mut_uninit;
 mod send_outcome;
 mod subscriber;
+mod update_connections;
 
 pub use domain::Domain;
 pub use iox2_store::{
@@ -26,3 +27,4 @@ pub use sample_mut::SampleMut;
 pub use sample_mut_uninit::SampleMutUninit;
 pub use send_outcome::SendOutcome;
 pub use subscriber::Subscriber;
+pub use update_connections::UpdateConnections;

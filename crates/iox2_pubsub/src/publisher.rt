@@ -3,6 +3,7 @@ ghost use Rattle.std.specs.Prelude.{◌≡◌};
 ghost use Rattle.iox2_pubsub.specs.Live.{publisher_key};
 
 mod loan;
+mod update_connections;
 
 use crate::domain::Domain;
 use iox2_store::{BackpressureFn, DegradationFn, Key, UniquePublisherId};

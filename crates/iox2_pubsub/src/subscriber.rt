@@ -4,6 +4,7 @@ ghost use Rattle.iox2_pubsub.specs.Live.{subscriber_key};
 
 mod has_samples;
 mod receive;
+mod update_connections;
 
 use crate::domain::Domain;
 use iox2_store::{BackpressureFn, DegradationFn, Key, UniqueSubscriberId};

@@ -12,4 +12,5 @@ pub mod CarriedDiscards
 pub mod CarriedPorts
 pub mod CarriedQuestions
 pub mod CarriedSamples
+pub mod CarriedUpdates
 pub mod LeavingSteps

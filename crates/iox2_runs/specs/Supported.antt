@@ -5,10 +5,10 @@ use Rattle.iox2_store.specs.declared.allocation.AllocationStrategy.TheVariants.{
 use Rattle.iox2_store.specs.declared.backpressure.BackpressureStrategy.TheVariants.{DiscardData}
 use Rattle.iox2_store.specs.declared.degradation.DegradationAction.TheVariants.{Warn}
 use Rattle.iox2_commands.specs.declared.command.Command.{Command}
-use Rattle.iox2_commands.specs.declared.command.Command.TheVariants.{Nothing, CreatePublisher, CreateSubscriber, LoanUninit, WriteAll, Send, Discard, Receive, HasSamples, Read, Release}
+use Rattle.iox2_commands.specs.declared.command.Command.TheVariants.{Nothing, CreatePublisher, CreateSubscriber, LoanUninit, WriteAll, Send, Discard, Update, Receive, HasSamples, Read, Release}
 
--- The command is one of those that make ports, that take a message from a loan to its release, and of a discard and a question,
--- with nothing set that a factory can't be told yet.
+-- The command makes a port, with nothing set that a factory can't be told yet, or updates one; or it takes a message from its
+-- loan to its release, gives a loan back unsent, or asks whether messages wait.
 abbrev pub IsSupportedCommand : {T U : Type 0} → Command T U → Type 0
 IsSupportedCommand Nothing = Unit {0}
 IsSupportedCommand (CreatePublisher loans strategy allocation len override_slots degradation backpressure) =
@@ -18,6 +18,7 @@ IsSupportedCommand (LoanUninit of) = Unit {0}
 IsSupportedCommand (WriteAll of value) = Unit {0}
 IsSupportedCommand (Send of) = Unit {0}
 IsSupportedCommand (Discard of) = Unit {0}
+IsSupportedCommand (Update of) = Unit {0}
 IsSupportedCommand (Receive of) = Unit {0}
 IsSupportedCommand (HasSamples of) = Unit {0}
 IsSupportedCommand (Read of at) = Unit {0}

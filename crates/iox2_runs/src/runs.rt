@@ -22,6 +22,7 @@ mod made;
 mod ports;
 mod questions;
 mod samples;
+mod updates;
 
 use iox2_commands::{Command, Reply};
 use iox2_pubsub::Domain;
@@ -73,6 +74,7 @@ fn carry_out<
         }
         Command::Send { of } => (loans::send(domain, table, of), Made::Nothing),
         Command::Discard { of } => (discards::discard(domain, table, of), Made::Nothing),
+        Command::Update { of } => (updates::update(domain, table, of), Made::Nothing),
         Command::Receive { of } => samples::receive(domain, table, of),
         Command::HasSamples { of } => (
             questions::has_samples(domain, table, of),

@@ -151,6 +151,7 @@ fn parse_command(words: &[&str]) -> Option<Command<u64, u64>>
                 "loan" => Command::LoanUninit { of },
                 "send" => Command::Send { of },
                 "discard" => Command::Discard { of },
+                "update" => Command::Update { of },
                 "recv" => Command::Receive { of },
                 "has" => Command::HasSamples { of },
                 "read" => Command::Read { of, at: 0 },

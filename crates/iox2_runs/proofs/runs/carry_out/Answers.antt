@@ -15,6 +15,9 @@ returns-in-Send-clause-carries g c = rw c.in-Send.is c.send.ensures.carries
 pub returns-in-Discard-clause-carries : goal.returns-in-Discard-clause-carries
 returns-in-Discard-clause-carries g c = rw c.in-Discard.is c.discard.ensures.carries
 
+pub returns-in-Update-clause-carries : goal.returns-in-Update-clause-carries
+returns-in-Update-clause-carries g c = rw (c.in-Update.is, sym c.deref-in-Update.ensures.value) c.update.ensures.carries
+
 pub returns-in-Receive-clause-carries : goal.returns-in-Receive-clause-carries
 returns-in-Receive-clause-carries g c = rw (c.in-Receive.is, sym c.deref-in-Receive.ensures.value) c.receive.ensures.carries
 
@@ -52,6 +55,9 @@ send-requires g c = c.requires.keeps
 pub discard-requires : goal.discard-requires
 discard-requires g c = c.requires.keeps
 
+pub update-requires : goal.update-requires
+update-requires g c = rw c.deref-in-Update.ensures.value c.requires.keeps
+
 pub receive-requires : goal.receive-requires
 receive-requires g c = rw c.deref-in-Receive.ensures.value c.requires.keeps
 
@@ -81,6 +87,9 @@ returns-in-Send-clause-room g c = c.send.ensures.room
 
 pub returns-in-Discard-clause-room : goal.returns-in-Discard-clause-room
 returns-in-Discard-clause-room g c = c.discard.ensures.room
+
+pub returns-in-Update-clause-room : goal.returns-in-Update-clause-room
+returns-in-Update-clause-room g c = record { len = refl; capacity = refl }
 
 pub returns-in-Receive-clause-room : goal.returns-in-Receive-clause-room
 returns-in-Receive-clause-room g c = record { len = refl; capacity = refl }
@@ -130,6 +139,10 @@ returns-in-Send-clause-leaves g c =
 pub returns-in-Discard-clause-leaves : goal.returns-in-Discard-clause-leaves
 returns-in-Discard-clause-leaves g c =
     c.discard.ensures.leaves
+
+pub returns-in-Update-clause-leaves : goal.returns-in-Update-clause-leaves
+returns-in-Update-clause-leaves g c =
+    rw (sym c.deref-in-Update.ensures.value) c.update.ensures.leaves
 
 pub returns-in-Receive-clause-leaves : goal.returns-in-Receive-clause-leaves
 returns-in-Receive-clause-leaves g c =

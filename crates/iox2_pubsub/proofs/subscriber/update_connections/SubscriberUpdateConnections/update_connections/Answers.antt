@@ -1,0 +1,30 @@
+use Rattle.std.proofs.Common.{None}
+use Rattle.iox2_store.specs.machine.Environments.{fixed_handlers}
+use Rattle.iox2_laws.proofs.LoanKeeping.{update_subscriber_loans}
+use Rattle.iox2_laws.proofs.PortsStay.{update_subscriber_stays}
+use Rattle.iox2_domain.specs.Fields.{kept_of}
+use Rattle.iox2_pubsub.proofs.CallsStay.{always-shown}
+use Rattle.iox2_pubsub.proofs.ReceptionShown.{subscriber-missing}
+use Rattle.iox2_pubsub.proofs.UpdateShown.{subscriber-update-shows}
+use Rattle.iox2_pubsub.proofs.UpdatesStay.{updates-stay}
+use Rattle.iox2_pubsub.proofs.subscriber.update_connections.SubscriberUpdateConnections.update_connections.Goals as goal
+
+pub unreachable-requires : goal.unreachable-requires
+unreachable-requires g c =
+    subscriber-missing {T = g.row.T.Denot} {U = g.row.U.Denot} c.domain.inside.state c.args.domain.now c.domain.view_is c.args.self.now
+    c.in_default.ensures c.requires
+
+pub invariant_of-domain : goal.invariant_of-domain
+invariant_of-domain g c = (c.update_subscriber.ensures c.in-Some.ensures.0 c.in-Some.ensures.1).reaches.agrees
+
+pub returns-clause-updates : goal.returns-clause-updates
+returns-clause-updates g c = λ m s shown.
+    subscriber-update-shows {T = g.row.T.Denot} {U = g.row.U.Denot} c.args.domain.now c.domain.inside.state c.update_subscriber.new.state c.domain.view_is
+    c.in-Some.place c.args.self.now.id m s shown c.in-Some.ensures c.update_subscriber.ensures
+
+pub returns-clause-stays : goal.returns-clause-stays
+returns-clause-stays g c =
+    let it = always-shown {T = g.row.T.Denot} {U = g.row.U.Denot} c.domain.inside.state c.args.domain.now c.domain.invariant c.domain.view_is in
+    let step = returns-clause-updates g c it.0 it.1 it.2 in
+    updates-stay {T = g.row.T.Denot} {U = g.row.U.Denot} c.args.domain.now (kept_of c.update_subscriber.new.state) it.0 it.1 step.0 it.2 step.1
+    (update_subscriber_stays fixed_handlers it.1 c.args.self.now.id step.0 None step.2) (update_subscriber_loans fixed_handlers it.1 c.args.self.now.id step.0 None step.2)

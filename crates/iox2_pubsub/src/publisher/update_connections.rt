@@ -1,0 +1,31 @@
+//! A publisher updates its connections.
+
+use crate::domain::Domain;
+use crate::publisher::Publisher;
+use crate::update_connections::UpdateConnections;
+use iox2_ports::update_publisher;
+use iox2_store::{BackpressureFn, ConnectionFailure, DegradationFn};
+
+/// A publisher gets its connections with new subscribers, which a send does too.
+///
+/// iceoryx2's `UpdateConnections` of `Publisher` (`src/port/publisher.rs`).
+impl<T: Drop, U: Default + Drop> UpdateConnections<T, U> for Publisher {
+    ghost use Rattle.iox2_store.specs.machine.Environments.{fixed_handlers};
+    ghost use Rattle.iox2_store.specs.machine.PublisherUpdate.{UpdatePublisher};
+    ghost use Rattle.iox2_pubsub.specs.Live.{IsLivePublisher};
+
+    ghost is_live = { IsLivePublisher };
+
+    ghost updates = { λ s publisher s' failure. UpdatePublisher fixed_handlers s publisher.id s' failure };
+
+    fn update_connections<F: BackpressureFn, G: DegradationFn>(
+        &self,
+        domain: &mut Domain<T, U, F, G>,
+    ) -> Result<(), ConnectionFailure> {
+        let Some(place) = domain.state.find_publisher(self.id, self.place) else {
+            unreachable!()
+        };
+        update_publisher(&mut domain.state, place);
+        Ok(())
+    }
+}

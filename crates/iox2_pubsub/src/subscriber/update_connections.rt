@@ -1,0 +1,31 @@
+//! A subscriber updates its connections.
+
+use crate::domain::Domain;
+use crate::subscriber::Subscriber;
+use crate::update_connections::UpdateConnections;
+use iox2_ports::update_subscriber;
+use iox2_store::{BackpressureFn, ConnectionFailure, DegradationFn};
+
+/// A subscriber gets its connections with new publishers, which a receive does too.
+///
+/// iceoryx2's `UpdateConnections` of `Subscriber` (`src/port/subscriber.rs`).
+impl<T: Drop, U: Default + Drop> UpdateConnections<T, U> for Subscriber {
+    ghost use Rattle.iox2_store.specs.machine.Environments.{fixed_handlers};
+    ghost use Rattle.iox2_store.specs.machine.SubscriberUpdate.{UpdateSubscriber};
+    ghost use Rattle.iox2_pubsub.specs.Live.{IsLiveSubscriber};
+
+    ghost is_live = { IsLiveSubscriber };
+
+    ghost updates = { λ s subscriber s' failure. UpdateSubscriber fixed_handlers s subscriber.id s' failure };
+
+    fn update_connections<F: BackpressureFn, G: DegradationFn>(
+        &self,
+        domain: &mut Domain<T, U, F, G>,
+    ) -> Result<(), ConnectionFailure> {
+        let Some(place) = domain.state.find_subscriber(self.id, self.place) else {
+            unreachable!()
+        };
+        update_subscriber(&mut domain.state, place);
+        Ok(())
+    }
+}

@@ -1,0 +1,40 @@
+//! Updates of a port's connections, by call.
+ghost use Rattle.std.specs.Prelude.{◌≡◌, IsOk};
+
+use crate::domain::Domain;
+use iox2_store::{BackpressureFn, ConnectionFailure, DegradationFn};
+
+/// A port of which the connections can be updated by a call. Each send, receive and question does
+/// it too.
+///
+/// iceoryx2's `UpdateConnections` (`src/port/update_connections.rs`).
+pub trait UpdateConnections<T: Drop, U: Default + Drop> {
+    ghost use Rattle.std.specs.declared.option.Option.{Option};
+    ghost use Rattle.iox2_store.specs.machine.State.{State, Messages};
+    ghost use Rattle.iox2_store.specs.declared.errors.ConnectionFailure.{ConnectionFailure};
+    ghost use Rattle.iox2_domain.specs.Kept.{Kept};
+    ghost use Rattle.iox2_domain.specs.Shows.{Shows};
+    ghost use Rattle.iox2_pubsub.specs.Live.{Stays};
+    ghost use Rattle.iox2_pubsub.specs.UpdateCalls.{failure_of};
+
+    // The port is one of the domain's, and wasn't closed.
+    ghost is_live: { Kept T U → Self → Type 0 };
+
+    // The machine's update of the port, with this failure if any.
+    ghost updates: { State T U → Self → State T U → Option ConnectionFailure → Type 0 };
+
+    /// Makes the port's connections with the ports of the other side that came since its last
+    /// update. Where none came it does nothing.
+    ///
+    /// No failure is returned yet. Where memory for a connection is refused, that is a warning of
+    /// the domain.
+    fn update_connections<F: BackpressureFn, G: DegradationFn>(
+        &self,
+        domain: &mut Domain<T, U, F, G>,
+    ) -> Result<(), ConnectionFailure>
+        requires { is_live domain.old self.now }
+        ensures ok { IsOk result }
+        ensures updates { (m : Messages T U) (s : State T U) → Shows domain.old m s
+            → (s' : State T U) × Shows domain.new m s' × updates s self.now s' (failure_of result) }
+        ensures stays { Stays domain.old domain.new };
+}

@@ -1,0 +1,78 @@
+-- A port is updated, with what a run keeps.
+use Rattle.std.proofs.Common.{◌≡◌, ℕ, false, List, [], ◌∷◌, ◌++◌, map, Option, refl, sym, ap, subst, ◌∙◌, None, Some}
+use Rattle.std.specs.Option.{option_map_or}
+use Rattle.std.specs.Prelude.{slice_index_or}
+use Rattle.iox2_store.specs.machine.Environments.{fixed_handlers}
+use Rattle.iox2_store.specs.machine.PublisherUpdate.{UpdatePublisher}
+use Rattle.iox2_store.specs.machine.Records.{Loan}
+use Rattle.iox2_store.specs.machine.State.{State, Messages}
+use Rattle.iox2_store.specs.machine.SubscriberUpdate.{UpdateSubscriber}
+use Rattle.iox2_store.specs.declared.errors.ConnectionFailure.{ConnectionFailure}
+use Rattle.iox2_laws.proofs.LoanKeeping.{update_publisher_loans, update_subscriber_loans}
+use Rattle.iox2_laws.proofs.PortsStay.{update_publisher_stays, update_subscriber_stays}
+use Rattle.iox2_laws.proofs.PublisherUpdates.{update_publisher_advances}
+use Rattle.iox2_laws.proofs.SubscriberUpdates.{update_subscriber_advances}
+use Rattle.iox2_domain.specs.Kept.{Kept as Domain}
+use Rattle.iox2_domain.specs.Shows.{Shows}
+use Rattle.iox2_pubsub.specs.declared.publisher.Publisher.{Publisher as PublisherHandle}
+use Rattle.iox2_pubsub.specs.declared.subscriber.Subscriber.{Subscriber as SubscriberHandle}
+use Rattle.iox2_commands.specs.Outcomes.{replied}
+use Rattle.iox2_commands.specs.Runs.{Defaults}
+use Rattle.iox2_commands.specs.Step.{after_update}
+use Rattle.iox2_runs.specs.Carries.{entry_for, Carries}
+use Rattle.iox2_commands.specs.declared.command.Command.TheVariants.{Update}
+use Rattle.iox2_commands.specs.declared.reply.Reply.{Reply}
+use Rattle.iox2_commands.specs.declared.reply.Reply.TheVariants.{Done, Skipped, UpdateRefused}
+use Rattle.iox2_runs.specs.declared.runs.made.Made.{Made}
+use Rattle.iox2_runs.specs.declared.runs.made.Made.TheVariants.{Nothing, Publisher as MadePublisher, Subscriber as MadeSubscriber}
+use Rattle.iox2_runs.proofs.TableCalls.{skip_comes, quiet_comes, at_none, at_some}
+use Rattle.iox2_runs.proofs.TableEntries.{entry-stands, lacks}
+use Rattle.iox2_runs.proofs.TableLooks.{is_publisher_entry, is_subscriber_entry, lacks_publisher, lacks_subscriber, has_publisher, has_subscriber}
+
+module _ {T U : Type 0} where
+  -- what is replied where an update has this failure, if any
+  abbrev pub update_reply : Option ConnectionFailure → Reply T U
+  update_reply failure = option_map_or (λ e. UpdateRefused e) failure Done
+
+  replied-so : (s : State T U) (failure : Option ConnectionFailure) (reply : Reply T U) → reply ≡ update_reply failure → replied reply s ≡ after_update s failure
+  replied-so s None reply is = ap (λ (r : Reply T U). replied r s) is
+  replied-so s (Some e) reply is = ap (λ (r : Reply T U). replied r s) is
+
+module _ {T U : Type 0} (defaults : Defaults T U) (old new : Domain T U) (table : List Made) (of : ℕ) where
+  -- there is no such port
+  pub update_passed : is_publisher_entry (entry_for (slice_index_or table of Nothing)) ≡ false → is_subscriber_entry (entry_for (slice_index_or table of Nothing)) ≡ false
+      → old ≡ new → Carries defaults old new table (Update of) Skipped table Nothing
+  update_passed no_publisher no_subscriber same = λ m s handles events shown w default_value default_header is_value is_header.
+      skip_comes defaults (Shows new) m s handles events (map entry_for table) w default_value default_header is_value is_header (Update of)
+      (at_none _ _ _ (lacks_publisher s handles events (map entry_for table) w of (lacks is_publisher_entry refl table of no_publisher))
+      (at_none _ _ _ (lacks_subscriber s handles events (map entry_for table) w of (lacks is_subscriber_entry refl table of no_subscriber)) refl))
+      (subst (λ (d : Domain T U). Shows d m s) same shown)
+
+  -- a publisher is updated, and this is replied
+  pub update_of_publisher : (h : PublisherHandle) (failure : Option ConnectionFailure) (reply : Reply T U) → slice_index_or table of Nothing ≡ MadePublisher h
+      → ((m : Messages T U) (s : State T U) → Shows old m s → (s' : State T U) × Shows new m s' × UpdatePublisher fixed_handlers s h.id s' failure)
+      → reply ≡ update_reply failure → Carries defaults old new table (Update of) reply table Nothing
+  update_of_publisher h failure reply at updates is = λ m s handles events shown w default_value default_header is_value is_header.
+      let updated = updates m s shown in
+      let s' : State T U = updated.0 in
+      let found = has_publisher s handles events (map entry_for table) w of h.service_id h.id (entry-stands table of (MadePublisher h) at (λ e. let clash : MadePublisher h ≡ Nothing = e in cc)) in
+      quiet_comes defaults (Shows new) m s handles events (map entry_for table) w default_value default_header is_value is_header (Update of) reply s'
+      (at_some _ _ _ (h.id, found.0) found.1 (s', failure, updated.2, replied-so s' failure reply is))
+      updated.1 (update_publisher_stays fixed_handlers s h.id s' failure updated.2)
+      (λ n _. ap (λ (f : ℕ → Option (Loan T U)). f n) (update_publisher_loans fixed_handlers s h.id s' failure updated.2))
+      (update_publisher_advances fixed_handlers s h.id s' failure updated.2).next_message
+
+  -- a subscriber is updated, and this is replied
+  pub update_of_subscriber : (h : SubscriberHandle) (failure : Option ConnectionFailure) (reply : Reply T U) → slice_index_or table of Nothing ≡ MadeSubscriber h
+      → ((m : Messages T U) (s : State T U) → Shows old m s → (s' : State T U) × Shows new m s' × UpdateSubscriber fixed_handlers s h.id s' failure)
+      → reply ≡ update_reply failure → Carries defaults old new table (Update of) reply table Nothing
+  update_of_subscriber h failure reply at updates is = λ m s handles events shown w default_value default_header is_value is_header.
+      let updated = updates m s shown in
+      let s' : State T U = updated.0 in
+      let found = has_subscriber s handles events (map entry_for table) w of h.service_id h.id (entry-stands table of (MadeSubscriber h) at (λ e. let clash : MadeSubscriber h ≡ Nothing = e in cc)) in
+      quiet_comes defaults (Shows new) m s handles events (map entry_for table) w default_value default_header is_value is_header (Update of) reply s'
+      (at_none _ _ _ (lacks_publisher s handles events (map entry_for table) w of (lacks is_publisher_entry refl table of (ap (λ (v : Made). is_publisher_entry (entry_for v)) at)))
+      (at_some _ _ _ (h.id, found.0) found.1 (s', failure, updated.2, replied-so s' failure reply is)))
+      updated.1 (update_subscriber_stays fixed_handlers s h.id s' failure updated.2)
+      (λ n _. ap (λ (f : ℕ → Option (Loan T U)). f n) (update_subscriber_loans fixed_handlers s h.id s' failure updated.2))
+      (update_subscriber_advances fixed_handlers s h.id s' failure updated.2).next_message
