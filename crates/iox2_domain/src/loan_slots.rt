@@ -1,5 +1,5 @@
 //! The slots in which loans lie.
-ghost use Rattle.std.specs.Prelude.{IsTrue, ◌≡◌, ◌↔◌, MatchOption};
+ghost use Rattle.std.specs.Prelude.{IsTrue, ◌≡◌, ◌↔◌, IfSome, MatchOption};
 ghost use Rattle.iox2_domain.specs.Invariant.{is_lent};
 ghost use Rattle.iox2_domain.specs.LoanSlots.{IsLoanSlot, IsInNoSlot};
 
@@ -15,6 +15,8 @@ pub struct LoanAt {
     pub number: u128,
     /// The place at which its publisher is looked for first.
     pub place: usize,
+    /// The key of the book in which it is looked for first.
+    pub book: usize,
     /// The slot in which it is looked for first.
     pub slot: usize,
 }
@@ -35,6 +37,7 @@ impl<T: Drop, U: Default + Drop> DomainState<T, U> {
 
     /// Where a publisher's loan lies, and `None` where it isn't out. Its publisher's place and its
     /// slot are tested first.
+    #[inline(never)]
     pub fn find_loan(&self, loan: &LoanAt) -> Option<LoanSlot>
         requires { IsDomain self.now }
         ensures { MatchOption result (HoldsLoan (state_of (kept_of self.now)) loan.now.publisher loan.now.number → ⊥) (λ at. LiesInSlot self.now loan.now.publisher loan.now.number at.book at.slot) }
@@ -49,6 +52,37 @@ impl<T: Drop, U: Default + Drop> DomainState<T, U> {
         })
     }
 
+    // Where a live loan's book and slot say that it lies, if it lies there. No loan is gone through:
+    // no other slot in use has its number.
+    fn loan_at_hint(&self, loan: &LoanAt) -> Option<LoanSlot>
+        requires domain { IsDomain self.now }
+        requires live { HoldsLoan (state_of (kept_of self.now)) loan.now.publisher loan.now.number }
+        ensures { IfSome result (λ at. LiesInSlot self.now loan.now.publisher loan.now.number at.book at.slot) }
+    {
+        if self.books.get(loan.book)?.has(loan.slot, loan.number) {
+            return Some(LoanSlot {
+                book: loan.book,
+                slot: loan.slot,
+            });
+        }
+        None
+    }
+
+    /// Where a loan lies that is live. Its book and its slot are tested first, by the number alone.
+    pub fn find_live_loan(&self, loan: &LoanAt) -> LoanSlot
+        requires domain { IsDomain self.now }
+        requires live { HoldsLoan (state_of (kept_of self.now)) loan.now.publisher loan.now.number }
+        ensures { LiesInSlot self.now loan.now.publisher loan.now.number result.book result.slot }
+    {
+        if let Some(at) = self.loan_at_hint(loan) {
+            return at;
+        }
+        let Some(at) = self.find_loan(loan) else {
+            unreachable!()
+        };
+        at
+    }
+
     /// Whether the publisher's loan of the message with this number is out.
     pub fn has_loan(&self, publisher: UniquePublisherId, number: u128) -> bool
         requires { IsDomain self.now }
@@ -58,6 +92,7 @@ impl<T: Drop, U: Default + Drop> DomainState<T, U> {
             publisher,
             number,
             place: 0,
+            book: 0,
             slot: 0,
         };
         self.find_loan(&loan).is_some()

@@ -6,14 +6,13 @@ ghost use Rattle.iox2_domain.specs.Invariant.{IsDomain};
 ghost use Rattle.iox2_domain.specs.LoanCalls.{HoldsWritten};
 ghost use Rattle.iox2_domain.specs.SentLoans.{SendsLoan};
 
-use crate::deliveries::{deliver_slot, end_send};
-use crate::reclaims::reclaim;
+use crate::deliveries::send_slot;
 use iox2_domain::{DomainState, LoanAt};
 use iox2_ports::update_publisher;
 
 /// Sends a publisher's written loan to its receivers, and returns how many took it. The
-/// publisher's connections are updated and its slots reclaimed first. Where memory for a
-/// connection is refused, that is a warning. The loan is out no more afterwards.
+/// publisher's connections are updated first. Where memory for a connection is refused, that is a
+/// warning. The loan is out no more afterwards.
 ///
 /// iceoryx2's `PublisherSharedState::send_sample` (`src/port/publisher.rs`).
 pub fn send_loan<T: Drop, U: Default + Drop>(state: &mut DomainState<T, U>, loan: LoanAt) -> usize
@@ -25,11 +24,6 @@ pub fn send_loan<T: Drop, U: Default + Drop>(state: &mut DomainState<T, U>, loan
         unreachable!()
     };
     update_publisher(state, place);
-    reclaim(state, place);
-    let Some(at) = state.find_loan(&loan) else {
-        unreachable!()
-    };
-    let count = deliver_slot(state, place, at.slot);
-    end_send(state, place, at.slot);
-    count
+    let at = state.find_live_loan(&loan);
+    send_slot(state, place, at.slot)
 }
