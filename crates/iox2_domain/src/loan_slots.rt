@@ -35,19 +35,18 @@ impl<T: Drop, U: Default + Drop> DomainState<T, U> {
     ghost use Rattle.iox2_domain.specs.Invariant.{IsDomain};
     ghost use Rattle.iox2_domain.specs.LoanSlots.{LiesInSlot};
 
-    /// Where a publisher's loan lies, and `None` where it isn't out. Its publisher's place and its
-    /// slot are tested first.
+    /// Where a publisher's loan lies, and `None` where it isn't out.
     #[inline(never)]
-    pub fn find_loan(&self, loan: &LoanAt) -> Option<LoanSlot>
+    pub fn find_loan(&self, publisher: UniquePublisherId, number: u128) -> Option<LoanSlot>
         requires { IsDomain self.now }
-        ensures { MatchOption result (HoldsLoan (state_of (kept_of self.now)) loan.now.publisher loan.now.number → ⊥) (λ at. LiesInSlot self.now loan.now.publisher loan.now.number at.book at.slot) }
+        ensures { MatchOption result (HoldsLoan (state_of (kept_of self.now)) publisher number → ⊥) (λ at. LiesInSlot self.now publisher number at.book at.slot) }
     {
-        let place = self.find_publisher(loan.publisher, loan.place)?;
-        let publisher = self.publishers[place].as_ref()?;
-        let book = &self.books[publisher.book];
-        let slot = find_slot(book, &publisher.loans, loan.number, loan.slot)?;
+        let place = self.find_publisher(publisher, 0)?;
+        let lender = self.publishers[place].as_ref()?;
+        let book = &self.books[lender.book];
+        let slot = find_slot(book, &lender.loans, number)?;
         Some(LoanSlot {
-            book: publisher.book,
+            book: lender.book,
             slot,
         })
     }
@@ -77,7 +76,7 @@ impl<T: Drop, U: Default + Drop> DomainState<T, U> {
         if let Some(at) = self.loan_at_hint(loan) {
             return at;
         }
-        let Some(at) = self.find_loan(loan) else {
+        let Some(at) = self.find_loan(loan.publisher, loan.number) else {
             unreachable!()
         };
         at
@@ -88,29 +87,12 @@ impl<T: Drop, U: Default + Drop> DomainState<T, U> {
         requires { IsDomain self.now }
         ensures { IsTrue result ↔ HoldsLoan (state_of (kept_of self.now)) publisher number }
     {
-        let loan = LoanAt {
-            publisher,
-            number,
-            place: 0,
-            book: 0,
-            slot: 0,
-        };
-        self.find_loan(&loan).is_some()
+        self.find_loan(publisher, number).is_some()
     }
 }
 
-// The slot in which a loan with this number lies: the hint, or one of the slots of loans.
-fn find_slot(book: &SlotBook, loans: &[usize], number: u128, hint: usize) -> Option<usize>
-    ensures { MatchOption result (IsInNoSlot book.now loans.now number) (λ slot. IsLoanSlot book.now slot number) }
-{
-    if is_loan_slot(book, hint, number) {
-        return Some(hint);
-    }
-    search_slots(book, loans, number)
-}
-
-#[inline(never)]
-fn search_slots(book: &SlotBook, loans: &[usize], number: u128) -> Option<usize>
+// The slot in which a loan with this number lies, among the slots of loans.
+fn find_slot(book: &SlotBook, loans: &[usize], number: u128) -> Option<usize>
     ensures { MatchOption result (IsInNoSlot book.now loans.now number) (λ slot. IsLoanSlot book.now slot number) }
 {
     for index in 0..loans.len() {

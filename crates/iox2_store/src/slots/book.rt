@@ -171,7 +171,7 @@ impl SlotBook {
         ensures { IsTrue result ↔ IsUsedFor self.now number slot }
     {
         match self.slots.get(slot) {
-            Some(slot) => slot.holders > 0 && slot.number == number,
+            Some(found) => found.holders > 0 && found.number == number,
             None => false,
         }
     }

@@ -23,19 +23,35 @@ use Rattle.iox2_domain.specs.Kept.{Lent_message, state_of}
 use Rattle.iox2_domain.specs.LoanCalls.{HoldsWritten}
 use Rattle.iox2_domain.specs.LoanSlots.{LiesInSlot}
 use Rattle.iox2_domain.specs.Ports.{PublisherFields}
-use Rattle.iox2_domain.specs.SentLoans.{SendsLoan}
+use Rattle.iox2_domain.specs.SentLoans.{SendsLoan, IsReadyToSend}
 use Rattle.iox2_domain.proofs.lemmas.fields.ConnectionEnds.{publisher-stands}
 use Rattle.iox2_domain.proofs.lemmas.sends.LoanAlone.{loan-once, loan-alone, loan-own}
 use Rattle.iox2_domain.proofs.lemmas.slots.Messages.{lies_at, message_at-slot}
 use Rattle.iox2_domain.proofs.lemmas.sends.Published.{match-some, send-publishes}
+use Rattle.iox2_store.specs.SlotBook.{Book, IsUsedFor}
+use Rattle.iox2_domain.proofs.lemmas.loans.LoanSlots.{live-lies, book-its}
+use Rattle.iox2_domain.proofs.lemmas.updates.SenderUpdates.{idle-updates}
+
+-- a loan in a slot in use with its number may be sent at once where its publisher, whose book has the slot, isn't due
+pub ready-at-hint : {T U : Type 0} (f v : Fields T U) → v ≡ f → IsDomain f → (p n place slot : ℕ) → HoldsWritten (state_of (kept_of f)) p n
+    → (x : PublisherFields) → get_or f.publishers place None ≡ Some x → x.is_due ≡ false → (b : Book) → get v.books x.book ≡ Some b → IsUsedFor b n slot → IsReadyToSend f f p n place slot
+ready-at-hint {T} {U} f v view sound p n place slot live x stands idle b read used =
+    let at : get f.books x.book ≡ Some b = sym (ap (λ (g : Fields T U). get g.books x.book) view) ∙ read in
+    let lies : LiesInSlot f p n x.book slot = live-lies f sound p n (live.0, live.1, live.2) x.book slot b at used in
+    let both : Some b ≡ Some lies.book = sym at ∙ lies.stands in
+    let is : b ≡ lies.book = cc in
+    record {
+      publisher = x;
+      stands = stands;
+      is_its = sym (book-its f sound place x b stands at) ∙ ap (λ (c : Book). c.publisher) is ∙ lies.is_its;
+      updated = idle-updates f sound place x stands idle;
+      key = x.book;
+      lies = lies;
+    }
 
 module _ {T U : Type 0} (f0 : Fields T U) (sound : IsDomain f0) (p n place : ℕ) (holds : HoldsWritten (state_of (kept_of f0)) p n)
     (found : (x : PublisherFields) × (get_or f0.publishers place None ≡ Some x) × (x.id ≡ p))
-    (f1 : Fields T U) (updated : (x : PublisherFields) → get_or f0.publishers place None ≡ Some x → UpdatesPublisher f0 place x f1) where
-  -- its update
-  pub u : UpdatesPublisher f0 place found.0 f1
-  u = updated found.0 found.1
-
+    (f1 : Fields T U) (u : UpdatesPublisher f0 place found.0 f1) where
   -- the publisher after its update
   abbrev sender : PublisherFields
   sender = record found.0 { keys = u.keys; key_room = u.key_room; is_due = false }
