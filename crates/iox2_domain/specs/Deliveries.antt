@@ -1,5 +1,5 @@
 -- A publisher's message is delivered, and its send ends.
-use Rattle.std.specs.Prelude.{◌≡◌, ◌⊎◌, ℕ, ◌-◌, false, List, map, slice_index, slice_set}
+use Rattle.std.specs.Prelude.{◌≡◌, ◌⊎◌, ℕ, ◌-◌, ◌≤◌, false, List, map, slice_index, slice_set}
 use Rattle.std.specs.declared.option.Option.TheVariants.{None, Some}
 use Rattle.std.specs.Option.{option_map}
 use Rattle.slab.specs.Slab.{Slab, get, with_value}
@@ -9,9 +9,9 @@ use Rattle.iox2_store.specs.machine.Loans.{entry_of}
 use Rattle.iox2_store.specs.machine.Numbers.{put_at, without}
 use Rattle.iox2_store.specs.machine.Records.{Entry, Loan, Environment}
 use Rattle.iox2_store.specs.machine.Sends.{SendResult, Publish}
-use Rattle.iox2_store.specs.SlotBook.{Book}
+use Rattle.iox2_store.specs.SlotBook.{Book, holders_at}
 use Rattle.iox2_store.specs.declared.slots.mark.SlotMark.TheVariants.{Sent}
-use Rattle.iox2_ends.specs.Counters.{with_counters}
+use Rattle.iox2_ends.specs.Counters.{HoldsItself, GrowsAlone, times, with_counters}
 use Rattle.iox2_ends.specs.Mailboxes.{mailboxes_of, sender_ends}
 use Rattle.iox2_ends.specs.Receivers.{buffers_of}
 use Rattle.iox2_ends.specs.Recounts.{Recounts}
@@ -29,6 +29,7 @@ pub record DeliversTo {T U : Type 0} (environment : Environment) (old : Fields T
   pub connections : Slab Link
   pub delivered : new ≡ record old { connections = connections; books = with_value old.books x.book (with_counters book holders) }
   pub recounts : Recounts x.id book.holders old.connections holders connections
+  pub alone : GrowsAlone slot book.holders holders
   pub delivers : (number : ℕ → ℕ → ℕ)
       → Deliver environment old.config x.id x.strategy x.backpressure_handler (buffers_of (map (option_map details_of) old.subscribers)) (number x.id slot)
       0 no_time 0 (sender_ends old.connections x.keys) 0 false (mailboxes_of number old.connections x.id) (Complete count false) (mailboxes_of number connections x.id)
@@ -47,6 +48,22 @@ with_send_ended f place x slot book = record f {
   publishers = slice_set f.publishers place (Some (with_loan_out slot x));
   books = with_value f.books x.book (with_sent slot book);
 }
+
+-- The slot is a loan of the publisher x: it stands once among its loans, and the publisher itself is its one holder.
+pub record CanSend {T U : Type 0} (f : Fields T U) (x : PublisherFields) (slot : ℕ) : Type 0 where
+  pub book : Book
+  pub stands : get f.books x.book ≡ Some book
+  pub own : HoldsItself x.id slot book.holders f.connections.slots
+  pub alone : holders_at book slot ≡ 1
+  pub once : times slot x.loans ≤ 1
+
+-- The slot of the publisher x, which stands at that place, went to its receivers, of which so many took it, and the send ended.
+pub record SendsSlot {T U : Type 0} (environment : Environment) (old : Fields T U) (place : ℕ) (x : PublisherFields) (slot count : ℕ) (new : Fields T U) : Type 0 where
+  pub delivered : Fields T U
+  pub delivers : DeliversTo environment old x slot count delivered
+  pub book : Book
+  pub stands : get delivered.books x.book ≡ Some book
+  pub ended : new ≡ with_send_ended delivered place x slot book
 
 -- The loan n of the publisher p was published, with this result. Its entry may be newly kept, and no other is.
 pub record Publishes {T U : Type 0} (environment : Environment) (old new : Fields T U) (p n : ℕ) (l : Loan T U) (result : SendResult) : Type 0 where

@@ -141,6 +141,10 @@ is_lent Sent = false
 abbrev pub is_loan_in : Book → (slot : ℕ) → Bool
 is_loan_in b slot = nat_lt 0 (holders_at b slot) && option_map_or is_lent (slice_get b.marks slot) false
 
+-- A loan has one holder, its user.
+pub record HasLoneLoans (books : Slab Book) : Type 0 where
+  pub at : (key slot : ℕ) (b : Book) → get books key ≡ Some b → is_loan_in b slot ≡ true → holders_at b slot ≡ 1
+
 -- How often the publisher itself has the slot, as a loan or in its history. Of one that is gone, loans may still be out.
 abbrev pub own_holders : {T U : Type 0} → Fields T U → (p slot : ℕ) → ℕ
 own_holders f p slot =
@@ -222,6 +226,7 @@ pub record IsDomain {T U : Type 0} (f : Fields T U) : Type 0 where
   pub names : NamesBooks f.books f.connections
   pub counted : IsCounted f
   pub numbered : IsNumbered f.next_message f.books
+  pub lone : HasLoneLoans f.books
   pub publisher_room : (i : ℕ) (x : PublisherFields) → slice_index_or f.publishers i None ≡ Some x → HasPublisherRoom f.config x
   pub warning_room : (f.warnings).capacity ≡ warning_limit
   pub shapes : HasShapes f

@@ -14,6 +14,7 @@ use Rattle.iox2_store.specs.declared.header.Header.{Header}
 use Rattle.iox2_store.specs.declared.service_config.ServiceConfig.{ServiceConfig}
 use Rattle.iox2_store.specs.declared.slots.mark.SlotMark.TheVariants.{Unwritten}
 use Rattle.iox2_store.specs.machine.Environments.{ample_memory}
+use Rattle.iox2_ends.specs.Receivers.{HasReclaimed}
 use Rattle.iox2_domain.specs.Kept.{state_of}
 use Rattle.iox2_domain.specs.Reaches.{Reaches}
 use Rattle.iox2_domain.specs.Fields.{Fields, kept_of, publisher_of}
@@ -48,6 +49,11 @@ module _ {T U : Type 0} where
     pub some_free : All (λ n. 0 < n) book.holders → ⊥
     pub more : f.next_message < last_number
 
+  -- Where each slot of the publisher at the place has a holder, it has reclaimed all that was given back.
+  pub record IsReclaimedIfFull (f : Fields T U) (place : ℕ) : Type 0 where
+    pub at : (x : PublisherFields) (b : Book) → slice_index_or f.publishers place None ≡ Some x → get f.books x.book ≡ Some b
+        → All (λ n. 0 < n) b.holders → HasReclaimed f.connections x.keys
+
   -- A loan of a single value by the publisher at the place is refused for this reason, or a slot may be lent.
   abbrev pub LoanDecided : Fields T U → (place : ℕ) → Option LoanError → Type 0
   LoanDecided f place decision = IsSomeAnd (slice_index_or f.publishers place None) (λ x. MatchOption decision (CanLend f place)
@@ -76,10 +82,11 @@ module _ {T U : Type 0} where
       publishers = slice_set old.publishers place (Some (lending slot x));
     }
 
-  -- The loan is the publisher's, of the message with the next number.
+  -- The loan is the publisher's, of the message with the next number, in the publisher's book.
   pub record IsNamed (old : Fields T U) (x : PublisherFields) (loan : LoanAt) : Type 0 where
     pub publisher : loan.publisher ≡ x.id
     pub number : loan.number ≡ old.next_message
+    pub book : loan.book ≡ x.book
 
   -- A publisher is asked for a loan of a single value: it lends a slot, or refuses, and then nothing changes in the state.
   abbrev pub LoanReaches : {A : Type 0} → (is_default : U → Type 0) → Fields T U → PublisherFields → Result A LoanError → Fields T U → Type 0

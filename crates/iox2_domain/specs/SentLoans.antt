@@ -1,5 +1,5 @@
 -- A loan is sent.
-use Rattle.std.specs.Prelude.{◌≡◌, ◌⊎◌, ℕ}
+use Rattle.std.specs.Prelude.{◌≡◌, ◌⊎◌, ℕ, slice_index_or}
 use Rattle.std.specs.declared.option.Option.TheVariants.{None, Some}
 use Rattle.iox2_store.specs.machine.Loans.{entry_of}
 use Rattle.iox2_store.specs.machine.Numbers.{put_at}
@@ -7,7 +7,19 @@ use Rattle.iox2_store.specs.machine.Records.{Entry, Loan, Environment}
 use Rattle.iox2_store.specs.machine.Sends.{SendResult, Send}
 use Rattle.iox2_domain.specs.Kept.{state_of, entries_of}
 use Rattle.iox2_domain.specs.Fields.{Fields, kept_of}
+use Rattle.iox2_domain.specs.Connects.{UpdatesPublisher}
 use Rattle.iox2_domain.specs.Invariant.{IsDomain}
+use Rattle.iox2_domain.specs.LoanSlots.{LiesInSlot}
+use Rattle.iox2_domain.specs.Ports.{PublisherFields}
+
+-- The publisher p stands at the place and is updated, and its loan n lies in the slot.
+pub record IsReadyToSend {T U : Type 0} (environment : Environment) (old new : Fields T U) (p n place slot : ℕ) : Type 0 where
+  pub publisher : PublisherFields
+  pub stands : slice_index_or old.publishers place None ≡ Some publisher
+  pub is_its : publisher.id ≡ p
+  pub updated : UpdatesPublisher environment old place publisher new None
+  pub key : ℕ
+  pub lies : LiesInSlot new p n key slot
 
 -- The loan n was sent, with this result, and it is out no more. Its entry may be newly kept, and no other is.
 pub record SendsLoan {T U : Type 0} (environment : Environment) (old new : Fields T U) (n : ℕ) (result : SendResult) : Type 0 where

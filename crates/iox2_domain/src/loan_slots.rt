@@ -1,5 +1,5 @@
 //! The slots in which loans lie.
-ghost use Rattle.std.specs.Prelude.{IsTrue, ◌≡◌, ◌↔◌, MatchOption};
+ghost use Rattle.std.specs.Prelude.{IsTrue, ◌≡◌, ◌↔◌, IfSome, MatchOption};
 ghost use Rattle.iox2_domain.specs.Invariant.{is_lent};
 ghost use Rattle.iox2_domain.specs.LoanSlots.{IsLoanSlot, IsInNoSlot};
 
@@ -15,6 +15,8 @@ pub struct LoanAt {
     pub number: u128,
     /// The place at which its publisher is looked for first.
     pub place: usize,
+    /// The key of the book in which it is looked for first.
+    pub book: usize,
     /// The slot in which it is looked for first.
     pub slot: usize,
 }
@@ -33,20 +35,51 @@ impl<T: Drop, U: Default + Drop> DomainState<T, U> {
     ghost use Rattle.iox2_domain.specs.Invariant.{IsDomain};
     ghost use Rattle.iox2_domain.specs.LoanSlots.{LiesInSlot};
 
-    /// Where a publisher's loan lies, and `None` where it isn't out. Its publisher's place and its
-    /// slot are tested first.
-    pub fn find_loan(&self, loan: &LoanAt) -> Option<LoanSlot>
+    /// Where a publisher's loan lies, and `None` where it isn't out.
+    #[inline(never)]
+    pub fn find_loan(&self, publisher: UniquePublisherId, number: u128) -> Option<LoanSlot>
         requires { IsDomain self.now }
-        ensures { MatchOption result (HoldsLoan (state_of (kept_of self.now)) loan.now.publisher loan.now.number → ⊥) (λ at. LiesInSlot self.now loan.now.publisher loan.now.number at.book at.slot) }
+        ensures { MatchOption result (HoldsLoan (state_of (kept_of self.now)) publisher number → ⊥) (λ at. LiesInSlot self.now publisher number at.book at.slot) }
     {
-        let place = self.find_publisher(loan.publisher, loan.place)?;
-        let publisher = self.publishers[place].as_ref()?;
-        let book = &self.books[publisher.book];
-        let slot = find_slot(book, &publisher.loans, loan.number, loan.slot)?;
+        let place = self.find_publisher(publisher, 0)?;
+        let lender = self.publishers[place].as_ref()?;
+        let book = &self.books[lender.book];
+        let slot = find_slot(book, &lender.loans, number)?;
         Some(LoanSlot {
-            book: publisher.book,
+            book: lender.book,
             slot,
         })
+    }
+
+    // Where a live loan's book and slot say that it lies, if it lies there. No loan is gone through:
+    // no other slot in use has its number.
+    fn loan_at_hint(&self, loan: &LoanAt) -> Option<LoanSlot>
+        requires domain { IsDomain self.now }
+        requires live { HoldsLoan (state_of (kept_of self.now)) loan.now.publisher loan.now.number }
+        ensures { IfSome result (λ at. LiesInSlot self.now loan.now.publisher loan.now.number at.book at.slot) }
+    {
+        if self.books.get(loan.book)?.has(loan.slot, loan.number) {
+            return Some(LoanSlot {
+                book: loan.book,
+                slot: loan.slot,
+            });
+        }
+        None
+    }
+
+    /// Where a loan lies that is live. Its book and its slot are tested first, by the number alone.
+    pub fn find_live_loan(&self, loan: &LoanAt) -> LoanSlot
+        requires domain { IsDomain self.now }
+        requires live { HoldsLoan (state_of (kept_of self.now)) loan.now.publisher loan.now.number }
+        ensures { LiesInSlot self.now loan.now.publisher loan.now.number result.book result.slot }
+    {
+        if let Some(at) = self.loan_at_hint(loan) {
+            return at;
+        }
+        let Some(at) = self.find_loan(loan.publisher, loan.number) else {
+            unreachable!()
+        };
+        at
     }
 
     /// Whether the publisher's loan of the message with this number is out.
@@ -54,28 +87,12 @@ impl<T: Drop, U: Default + Drop> DomainState<T, U> {
         requires { IsDomain self.now }
         ensures { IsTrue result ↔ HoldsLoan (state_of (kept_of self.now)) publisher number }
     {
-        let loan = LoanAt {
-            publisher,
-            number,
-            place: 0,
-            slot: 0,
-        };
-        self.find_loan(&loan).is_some()
+        self.find_loan(publisher, number).is_some()
     }
 }
 
-// The slot in which a loan with this number lies: the hint, or one of the slots of loans.
-fn find_slot(book: &SlotBook, loans: &[usize], number: u128, hint: usize) -> Option<usize>
-    ensures { MatchOption result (IsInNoSlot book.now loans.now number) (λ slot. IsLoanSlot book.now slot number) }
-{
-    if is_loan_slot(book, hint, number) {
-        return Some(hint);
-    }
-    search_slots(book, loans, number)
-}
-
-#[inline(never)]
-fn search_slots(book: &SlotBook, loans: &[usize], number: u128) -> Option<usize>
+// The slot in which a loan with this number lies, among the slots of loans.
+fn find_slot(book: &SlotBook, loans: &[usize], number: u128) -> Option<usize>
     ensures { MatchOption result (IsInNoSlot book.now loans.now number) (λ slot. IsLoanSlot book.now slot number) }
 {
     for index in 0..loans.len() {

@@ -1,6 +1,6 @@
 //! The slots of the messages that subscribers have borrowed.
 ghost use Rattle.std.specs.Prelude.{◌<◌, ◌↔◌, ℕ, length, Contains, IfSome, IsTrue, MatchOption};
-ghost use Rattle.iox2_domain.specs.SampleSlots.{HasNoneNumbered, IsNumberedSlot, IsUsedFor};
+ghost use Rattle.iox2_domain.specs.SampleSlots.{HasNoneNumbered, IsNumberedSlot};
 
 use crate::state::DomainState;
 use iox2_store::{Connection, SlotBook, UniquePublisherId, UniqueSubscriberId};
@@ -57,13 +57,6 @@ fn find_borrowed(
         }
     }
     None
-}
-
-// The slot is in use and has this number.
-fn has_number(book: &SlotBook, slot: usize, number: u128) -> bool
-    ensures { IsTrue result ↔ IsUsedFor book.now number slot }
-{
-    slot < book.len() && book.holders(slot) > 0 && book.number(slot) == number
 }
 
 impl<T: Drop, U: Default + Drop> DomainState<T, U> {
@@ -129,7 +122,7 @@ impl<T: Drop, U: Default + Drop> DomainState<T, U> {
     {
         let home = self.connections.get(sample.connection)?.home();
         if home.subscriber == sample.subscriber.value()
-            && has_number(&self.books[home.book], sample.slot, sample.number)
+            && self.books[home.book].has(sample.slot, sample.number)
         {
             return Some(SampleSlot {
                 connection: sample.connection,

@@ -1,12 +1,12 @@
 -- One put of a delivery, seen from the machine.
-use Rattle.std.proofs.Common.{◌≡◌, ◌<◌, ◌≤◌, ◌+◌, length, drop, ℕ, List, [], ◌∷◌, Bool, true, false, ◌&&◌, eqb, nat_lt, Option, None, Some, get_or, refl, ap, sym, ◌∙◌, subst, inl, inr, arith}
-use Rattle.std.proofs.lemmas.Bool.{cases_eq, eqb-true}
+use Rattle.std.proofs.Common.{◌≡◌, ◌<◌, ◌+◌, length, drop, ℕ, List, [], ◌∷◌, Bool, true, false, ◌&&◌, eqb, nat_lt, Option, None, Some, get_or, refl, ap, sym, ◌∙◌, subst, arith}
+use Rattle.std.proofs.lemmas.Bool.{eqb-true}
 use Rattle.std.proofs.lemmas.List.{drop_more, map-append, length-map}
 use Rattle.std.proofs.Math.ListN.{get_or-map}
 use Rattle.std.specs.Option.{option_map, option_and_then}
 use Rattle.std.specs.Prelude.{IsSomeAnd}
-use Rattle.slab.specs.Slab.{Slab, get, Updates, with_value, ContainsKey}
-use Rattle.iox2_store.specs.Link.{Link, IsPut, IsBounded, load}
+use Rattle.slab.specs.Slab.{Slab, get, with_value, ContainsKey}
+use Rattle.iox2_store.specs.Link.{Link, IsPut}
 use Rattle.iox2_store.specs.machine.Mailbox.{Mailbox}
 use Rattle.iox2_store.specs.machine.Records.{Environment}
 use Rattle.iox2_store.specs.machine.Delivery.{Skipped, DeliveryEnd, Put, is_blocking, is_failed, accepted_count, no_time}
@@ -22,7 +22,7 @@ use Rattle.iox2_ends.specs.declared.sender.DeliveryOutcome.{DeliveryOutcome}
 use Rattle.iox2_ends.specs.LookUp.{look_up, IsOnly}
 use Rattle.iox2_ends.specs.Mailboxes.{mailbox_of, mailboxes_of, subscriber_of_key, sender_ends}
 use Rattle.iox2_ends.specs.Homes.{SameHomes, KeepsOthers, IsSenders, IsSenderLinked, fixed_of}
-use Rattle.iox2_ends.specs.Receivers.{has_id, buffer_if_open, buffers_of, is_open_one, is_open_at, KnowsReceivers, HasReclaimed, IsReadyToDeliver}
+use Rattle.iox2_ends.specs.Receivers.{has_id, buffer_if_open, buffers_of, is_open_one, is_open_at, KnowsReceivers, IsReadyToDeliver}
 use Rattle.iox2_ends.specs.Deliveries.{result_of, result_of_put, end_of, PutsMessage, DeliversMessage}
 use Rattle.iox2_ends.proofs.LookUps.{look_up-found, look_up-there}
 use Rattle.iox2_ends.proofs.MailboxChanges.{Updates-with_value, SameHomes-updated, KeepsOthers-updated, was, IsApart-same, both-true, mailbox-there, row-changed, put_at-own}
@@ -112,10 +112,6 @@ module _ {p : ℕ} {slab : Slab Link} {keys : List (Option ℕ)} {receivers : Li
   pub home-of : (c : Link) → get slab key ≡ Some c → IsSenders p i c
   home-of c was_c = senders-at p slab keys i key c ready.linked at was_c
 
-  -- a connection from which all was reclaimed has room for one slot more
-  pub put-room : (b c : Link) → get slab key ≡ Some b → IsBounded b → get slab key ≡ Some c → load c ≤ c.buffer + c.limit
-  put-room b c was_b bounded was_c = subst (λ (x : Link). load x ≤ x.buffer + x.limit) (same_link slab key b c was_b was_c) (omega (arith, bounded.waiting, bounded.borrowed, ap (length {A = ℕ}) (ready.reclaimed.at i key b at was_b)))
-
   pub put-homes : (slot : ℕ) (overflow : Bool) (o : PutOutcome) (c d : Link) → get slab key ≡ Some c → IsPut c slot overflow o d → SameHomes slab (with_value slab key d)
   put-homes slot overflow o c d was_c put = SameHomes-updated slab (with_value slab key d) key c d was_c (put-fixed c slot overflow o d put) (Updates-with_value slab key c d was_c)
 
@@ -123,26 +119,11 @@ module _ {p : ℕ} {slab : Slab Link} {keys : List (Option ℕ)} {receivers : Li
   put-others slot overflow o c d was_c put =
       KeepsOthers-updated p slab (with_value slab key d) key c (Some d) was_c (home-of c was_c).publisher (Updates-with_value slab key c d was_c)
 
-  pub put-reclaimed : (slot : ℕ) (overflow : Bool) (o : PutOutcome) (c d : Link) → get slab key ≡ Some c → IsPut c slot overflow o d → HasReclaimed (with_value slab key d) keys
-  put-reclaimed slot overflow o c d was_c put = record {
-    at = λ k other e at_k at_e. elim (cases_eq other key) [
-      | inl same ↦
-          let now : get (with_value slab key d) key ≡ Some e = sym (ap (get (with_value slab key d)) same) ∙ at_e in
-          let new : Some d ≡ Some e = sym u.changed ∙ now in
-          let is_d : d ≡ e = cc in
-          sym (ap (λ (x : Link). x.returned) is_d) ∙ put-returned c slot overflow o d put ∙ ready.reclaimed.at i key c at was_c
-      | inr differs ↦ ready.reclaimed.at k other e at_k (sym (u.others other differs) ∙ at_e)
-    ];
-  }
-    where
-      u : Updates slab (with_value slab key d) key (Some d)
-      u = Updates-with_value slab key c d was_c
-
   -- a put is the machine's, at the end to which the place leads
-  pub put-puts : (environment : Environment) (config : ServiceConfig) (v : Delivery) (o : PutOutcome) (b c d : Link) (result : Reception) → v.publisher ≡ p → get slab key ≡ Some b → is_open_at receivers i b.home.subscriber ≡ true → get slab key ≡ Some c
+  pub put-puts : (environment : Environment) (config : ServiceConfig) (v : Delivery) (o : PutOutcome) (c d : Link) (result : Reception) → v.publisher ≡ p → get slab key ≡ Some c → is_open_at receivers i c.home.subscriber ≡ true
       → IsPut c v.slot config.enable_safe_overflow o d → result_of result ≡ result_of_put v.strategy o → (number : ℕ → ℕ → ℕ)
       → PutsMessage environment config v receivers (number p v.slot) (subscriber_of_key slab (get_or keys i None)) (mailboxes_of number slab p) (result_of result) (mailboxes_of number (with_value slab key d) p)
-  put-puts environment config v o b c d result by_p was_b receiving was_c put is number =
+  put-puts environment config v o c d result by_p was_c receiving put is number =
       rw (at, was_c, is) (
         mailbox_of (number p) d,
         goes,
@@ -150,11 +131,8 @@ module _ {p : ℕ} {slab : Slab Link} {keys : List (Option ℕ)} {receivers : Li
             (home-of c was_c).publisher (ap (λ (t : Home × ℕ × ℕ). t.0) (put-fixed c v.slot config.enable_safe_overflow o d put)) (Updates-with_value slab key c d was_c) q),
       )
     where
-      open_c : is_open_at receivers i c.home.subscriber ≡ true
-      open_c = subst (λ (x : Link). is_open_at receivers i x.home.subscriber ≡ true) (same_link slab key b c was_b was_c) receiving
-
       goes : Put environment config v.publisher v.strategy None (buffers_of receivers) (number p v.slot) c.home.subscriber 0 no_time (buffers_of receivers c.home.subscriber) (mailboxes_of number slab p c.home.subscriber) (result_of_put v.strategy o) (mailbox_of (number p) d)
-      goes = rw (mailbox-there number slab key p c.home.subscriber c ready.apart was_c (home-of c was_c).publisher refl, buffers-open slab receivers key i c ready.knows (ready.one_id c.home.subscriber) was_c open_c)
+      goes = rw (mailbox-there number slab key p c.home.subscriber c ready.apart was_c (home-of c was_c).publisher refl, buffers-open slab receivers key i c ready.knows (ready.one_id c.home.subscriber) was_c receiving)
           (put-mailbox environment (number p) config v.publisher c.home.subscriber v.slot v.strategy (buffers_of receivers) c d o put)
 
   -- a closed receiver is skipped
@@ -177,8 +155,8 @@ IsSenderLinked-same p old new keys linked same = record { at = λ i key e. by i 
       record { publisher = sym (ap (λ (h : Home). h.publisher) home) ∙ c.2.publisher; place = sym (ap (λ (h : Home). h.subscriber_place) home) ∙ c.2.place }
 
 -- what a delivery needs is there after each of its puts
-pub IsReadyToDeliver-same : (p : ℕ) (old new : Slab Link) (keys : List (Option ℕ)) (receivers : List (Option ReceiverDetails)) → IsReadyToDeliver p old keys receivers → SameHomes old new → HasReclaimed new keys → IsReadyToDeliver p new keys receivers
-IsReadyToDeliver-same p old new keys receivers ready same reclaimed = record {
+pub IsReadyToDeliver-same : (p : ℕ) (old new : Slab Link) (keys : List (Option ℕ)) (receivers : List (Option ReceiverDetails)) → IsReadyToDeliver p old keys receivers → SameHomes old new → IsReadyToDeliver p new keys receivers
+IsReadyToDeliver-same p old new keys receivers ready same = record {
   linked = IsSenderLinked-same p old new keys ready.linked same;
   apart = IsApart-same old new ready.apart same;
   knows = record {
@@ -188,7 +166,6 @@ IsReadyToDeliver-same p old new keys receivers ready same reclaimed = record {
         (know.0 ∙ ap (λ (t : Home × ℕ × ℕ). t.0.subscriber_place) c'.2, sym (ap (λ (t : Home × ℕ × ℕ). t.1) c'.2) ∙ know.1);
   };
   one_id = ready.one_id;
-  reclaimed = reclaimed;
 }
 
 -- a key leads to the same subscriber

@@ -8,3 +8,4 @@ pub mod Searches
 pub mod Recounts
 pub mod ReclaimSteps
 pub mod AnyEnvironment
+pub mod ReclaimedPuts

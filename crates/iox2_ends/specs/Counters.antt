@@ -1,5 +1,5 @@
 -- The counters of one publisher's slots, and the connections in which its slots stand.
-use Rattle.std.specs.Prelude.{◌≡◌, ℕ, ◌+◌, ◌-◌, ◌<◌, ◌≤◌, ◌==◌, cond, List, count_by, sum_by, slice_index, slice_set}
+use Rattle.std.specs.Prelude.{◌≡◌, ◌≢◌, ℕ, ◌+◌, ◌-◌, ◌<◌, ◌≤◌, ◌==◌, cond, List, count_by, sum_by, slice_index, slice_set}
 use Rattle.std.specs.declared.option.Option.{Option}
 use Rattle.std.specs.declared.option.Option.TheVariants.{None, Some}
 use Rattle.iox2_store.specs.Link.{Link}
@@ -23,6 +23,14 @@ stands p slot (Some c) = cond (c.home.publisher == p) (stands_in slot c) 0
 -- No slot of the publisher p stands in connections more often than its counter says.
 pub record IsCovered (p : ℕ) (holders : List ℕ) (connections : List (Option Link)) : Type 0 where
   pub at : (slot : ℕ) → sum_by (stands p slot) connections ≤ slice_index holders slot
+
+-- The publisher p itself holds the slot: its counter is above the number of times that it stands in connections.
+pub record HoldsItself (p slot : ℕ) (holders : List ℕ) (connections : List (Option Link)) : Type 0 where
+  pub more : sum_by (stands p slot) connections < slice_index holders slot
+
+-- No slot but this one has more holders than before.
+pub record GrowsAlone (slot : ℕ) (holders holders' : List ℕ) : Type 0 where
+  pub others : (other : ℕ) → other ≢ slot → slice_index holders' other ≤ slice_index holders other
 
 -- The counters of the publisher p changed as the numbers did of how often its slots stand in connections.
 pub record CountersFollow (p : ℕ) (holders : List ℕ) (connections : List (Option Link)) (holders' : List ℕ) (connections' : List (Option Link)) : Type 0 where

@@ -45,4 +45,3 @@ pub record IsReadyToDeliver (p : ℕ) (connections : Slab Link) (keys : List (Op
   pub apart : IsApart connections
   pub knows : KnowsReceivers connections receivers
   pub one_id : (q : ℕ) → IsOnly (has_id q) receivers
-  pub reclaimed : HasReclaimed connections keys

@@ -7,7 +7,7 @@ ghost use Rattle.iox2_store.specs.machine.Environments.{fixed_handlers};
 ghost use Rattle.slab.specs.Slab.{get};
 ghost use Rattle.iox2_ends.specs.Homes.{IsApart, IsSenderLinked};
 ghost use Rattle.iox2_ends.specs.Receivers.{is_open_at, HasReclaimed, IsReadyToDeliver};
-ghost use Rattle.iox2_ends.specs.Counters.{IsCovered, recounted, CanLeave, with_counters};
+ghost use Rattle.iox2_ends.specs.Counters.{IsCovered, HoldsItself, GrowsAlone, recounted, CanLeave, with_counters};
 ghost use Rattle.iox2_ends.specs.Recounts.{Recounts, returned_count};
 ghost use Rattle.iox2_ends.specs.Reclaims.{IsHeld, Reclaims, ReclaimsFrom};
 ghost use Rattle.iox2_ends.specs.Deliveries.{result_of, result_of_put, PutsSlot, DeliversSlot};
@@ -146,7 +146,8 @@ fn recount(book: &mut SlotBook, outcome: PutOutcome, slot: usize)
     }
 }
 
-// Puts the slot into the connection at one place, if there is one and its subscriber is open.
+// Reclaims what was given back in the connection at one place, if there is one, and puts the slot
+// into it if its subscriber is open.
 fn deliver_at<R: Receiver>(
     config: &ServiceConfig,
     delivery: &Delivery,
@@ -158,36 +159,37 @@ fn deliver_at<R: Receiver>(
 ) -> Reception
     requires at { place < length keys.now }
     requires ready { IsReadyToDeliver delivery.now.publisher connections.old keys.now (map (option_map R.details_of) receivers.now) }
-    requires in_use { IsInUse book.old delivery.now.slot }
+    requires own { HoldsItself delivery.now.publisher delivery.now.slot book.old.holders connections.old.slots }
     requires fits { holders_at book.old delivery.now.slot + 1 < 2 ^ 64 }
     requires covered { IsCovered delivery.now.publisher book.old.holders connections.old.slots }
     ensures puts { PutsSlot fixed_handlers config.now delivery.now (map (option_map R.details_of) receivers.now) (slice_index_or keys.now place None)
         connections.old result connections.new }
     ensures book { book.new ≡ with_counters book.old book.new.holders }
     ensures recounts { Recounts delivery.now.publisher book.old.holders connections.old book.new.holders connections.new }
-    ensures reclaimed { HasReclaimed connections.new keys.now }
-    ensures keeps { holders_at book.old delivery.now.slot ≤ holders_at book.new delivery.now.slot }
     ensures grows { holders_at book.new delivery.now.slot ≤ holders_at book.old delivery.now.slot + 1 }
+    ensures alone { GrowsAlone delivery.now.slot book.old.holders book.new.holders }
 {
     let Some(key) = keys[place] else {
         return Reception::Skipped;
     };
-    let home = connections[key].home();
-    if !is_open(receivers, place, home.subscriber) {
+    let connection = &mut connections[key];
+    reclaim_from(connection, book);
+    if !is_open(receivers, place, connection.home().subscriber) {
         return Reception::Skipped;
     }
-    let outcome = connections[key].put(delivery.slot, config.enable_safe_overflow);
+    let outcome = connection.put(delivery.slot, config.enable_safe_overflow);
     recount(book, outcome, delivery.slot);
     reception_of(outcome, delivery.strategy)
 }
 
 /// Delivers a message to the receivers at these places, one after the other, until one blocks it.
-/// A receiver that is closed is skipped. One with room takes the message, and with safe overflow
-/// each does; at any other the strategy decides.
+/// What each gave back is reclaimed first. A receiver that is closed is skipped. One with room takes
+/// the message, and with safe overflow each does; at any other the strategy decides.
 ///
 /// `keys` has at each subscriber's place the key of the publisher's connection to it, and
 /// `receivers` the subscriber that stands there now. The count of holders of each slot in `book` follows:
-/// it grows with each connection that takes the slot, and shrinks for a slot that is overwritten.
+/// it grows with each connection that takes the slot, and shrinks for a slot that is overwritten or
+/// reclaimed.
 ///
 /// iceoryx2's `Sender::deliver_offset` (`src/port/details/sender.rs`).
 pub fn deliver<R: Receiver>(
@@ -199,13 +201,14 @@ pub fn deliver<R: Receiver>(
     receivers: &[Option<R>],
 ) -> DeliveryOutcome
     requires ready { IsReadyToDeliver delivery.now.publisher connections.old keys.now (map (option_map R.details_of) receivers.now) }
-    requires in_use { IsInUse book.old delivery.now.slot }
+    requires own { HoldsItself delivery.now.publisher delivery.now.slot book.old.holders connections.old.slots }
     requires fits { holders_at book.old delivery.now.slot + length keys.now < 2 ^ 64 }
     requires covered { IsCovered delivery.now.publisher book.old.holders connections.old.slots }
     ensures delivers { DeliversSlot fixed_handlers config.now delivery.now (map (option_map R.details_of) receivers.now) keys.now
         connections.old result connections.new }
     ensures book { book.new ≡ with_counters book.old book.new.holders }
     ensures recounts { Recounts delivery.now.publisher book.old.holders connections.old book.new.holders connections.new }
+    ensures alone { GrowsAlone delivery.now.slot book.old.holders book.new.holders }
 {
     let mut count = 0;
     for place in 0..keys.len() {
@@ -243,7 +246,7 @@ fn reclaim_at(publisher: u128, connections: &mut Slab<Connection>, book: &mut Sl
 }
 
 /// Reclaims every slot that was given back in the publisher's connections at these keys. Each of
-/// them has one holder less for it. A publisher calls this before it delivers.
+/// them has one holder less for it. A publisher calls this where none of its slots is free.
 ///
 /// iceoryx2's `Sender::retrieve_returned_samples` (`src/port/details/sender.rs`).
 pub fn reclaim_all(

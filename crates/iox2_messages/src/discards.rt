@@ -10,11 +10,10 @@ ghost use Rattle.iox2_domain.specs.Invariant.{IsDomain};
 ghost use Rattle.iox2_domain.specs.Kept.{state_of};
 ghost use Rattle.iox2_domain.specs.Ports.{PublisherFields};
 
-use crate::reclaims::reclaim;
 use iox2_domain::{DomainState, LoanAt};
 
-/// Gives a publisher's loan back unsent, written or not: it is out no more, and its slot is free.
-/// The publisher reclaims what its subscribers gave back, as before each loan. It takes no memory.
+/// Gives a publisher's loan back unsent, written or not: it is out no more, and its slot is free. It takes
+/// no memory.
 pub fn discard_loan<T: Drop, U: Default + Drop>(state: &mut DomainState<T, U>, loan: LoanAt)
     requires agrees { IsDomain state.old }
     requires live { HoldsLoan (state_of (kept_of state.old)) loan.publisher loan.number }
@@ -23,10 +22,7 @@ pub fn discard_loan<T: Drop, U: Default + Drop>(state: &mut DomainState<T, U>, l
     let Some(place) = state.find_publisher(loan.publisher, loan.place) else {
         unreachable!()
     };
-    reclaim(state, place);
-    let Some(at) = state.find_loan(&loan) else {
-        unreachable!()
-    };
+    let at = state.find_live_loan(&loan);
     return_loan(state, place, at.slot);
 }
 

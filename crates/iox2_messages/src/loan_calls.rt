@@ -1,5 +1,5 @@
 //! Calls on a loan that is out.
-ghost use Rattle.std.specs.Prelude.{◌≡◌, ℕ, length, IsSomeAnd};
+ghost use Rattle.std.specs.Prelude.{◌≡◌, length, IsSomeAnd};
 ghost use Rattle.std.specs.Option.{option_map};
 ghost use Rattle.iox2_store.specs.SlotContents.{SomeAt, with_changed, written_content};
 ghost use Rattle.std.specs.Prelude.{Some};
@@ -14,7 +14,7 @@ use iox2_domain::{DomainState, LoanAt};
 use iox2_store::{Contents, Header, SlotMark};
 
 /// Writes the value of a publisher's unwritten loan of one element, which counts as written from
-/// then on. Returns the loan with the slot in which it lies.
+/// then on. Returns the loan with its book and the slot in which it lies.
 pub fn write_loan<T: Drop, U: Default + Drop>(
     state: &mut DomainState<T, U>,
     loan: LoanAt,
@@ -24,14 +24,13 @@ pub fn write_loan<T: Drop, U: Default + Drop>(
     requires single { (state.old.config).units_per_element ≡ 1 }
     requires live { HoldsUnwritten (state_of (kept_of state.old)) loan.publisher loan.number }
     ensures writes { WritesLoan state.old state.new loan.number value }
-    ensures same { result ≡ record loan { slot = result.slot } }
-    ensures lies { (key : ℕ) × LiesInSlot state.old loan.publisher loan.number key result.slot }
+    ensures same { result ≡ record loan { book = result.book; slot = result.slot } }
+    ensures lies { LiesInSlot state.old loan.publisher loan.number result.book result.slot }
 {
-    let Some(at) = state.find_loan(&loan) else {
-        unreachable!()
-    };
+    let at = state.find_live_loan(&loan);
     write_slot(state, at.book, at.slot, value);
     LoanAt {
+        book: at.book,
         slot: at.slot,
         ..loan
     }
@@ -61,9 +60,7 @@ pub fn loan_cell<'a, T: Drop, U: Default + Drop>(
     requires live { HoldsUnwritten (state_of (kept_of state.now)) loan.now.publisher loan.now.number }
     ensures { HasCell (state_of (kept_of state.now)) loan.now.number result.now }
 {
-    let Some(at) = state.find_loan(loan) else {
-        unreachable!()
-    };
+    let at = state.find_live_loan(loan);
     let Some(contents) = &state.contents[at.book] else {
         unreachable!()
     };
@@ -80,9 +77,7 @@ pub fn loan_value<'a, T: Drop, U: Default + Drop>(
     requires live { HoldsWritten (state_of (kept_of state.now)) loan.now.publisher loan.now.number }
     ensures { HasCell (state_of (kept_of state.now)) loan.now.number (Some result.now) }
 {
-    let Some(at) = state.find_loan(loan) else {
-        unreachable!()
-    };
+    let at = state.find_live_loan(loan);
     let Some(contents) = &state.contents[at.book] else {
         unreachable!()
     };
@@ -98,9 +93,7 @@ pub fn loan_header<'a, T: Drop, U: Default + Drop>(
     requires live { HoldsLoan (state_of (kept_of state.now)) loan.now.publisher loan.now.number }
     ensures { HasLoanHeader (state_of (kept_of state.now)) loan.now.number result.now }
 {
-    let Some(at) = state.find_loan(loan) else {
-        unreachable!()
-    };
+    let at = state.find_live_loan(loan);
     state.books[at.book].header(at.slot)
 }
 

@@ -1,26 +1,14 @@
 //! A publisher lends the slots of its book.
-ghost use Rattle.std.specs.Prelude.{◌≡◌, ◌<◌, ◌≤◌, ℕ, length, slice_index_or, None, Some, IfOk, IsSomeAnd};
-ghost use Rattle.std.specs.Option.{option_map};
+ghost use Rattle.std.specs.Prelude.{◌≡◌, ◌≤◌, slice_index_or, None, Some, IfOk, IsSomeAnd};
 ghost use Rattle.iox2_store.specs.SlotContents.{SomeAt};
-ghost use Rattle.iox2_ends.specs.Receivers.{HasReclaimed};
-ghost use Rattle.iox2_domain.specs.Lending.{lending, Starts, CanLend, LoanDecided, IsNamed, Lends, LoanReaches};
+ghost use Rattle.iox2_domain.specs.Lending.{Starts, CanLend, IsReclaimedIfFull, LoanDecided, IsNamed, Lends, LoanReaches};
 ghost use Rattle.iox2_domain.specs.LoanSlots.{LiesInSlot};
 ghost use Rattle.iox2_domain.specs.Ports.{PublisherFields};
 ghost use Rattle.iox2_domain.specs.Invariant.{IsDomain};
 
-use crate::reclaims::reclaim;
-use iox2_domain::{DomainState, LoanAt, PublisherState};
+use crate::reclaims::reclaim_if_full;
+use iox2_domain::{DomainState, LoanAt};
 use iox2_store::{Contents, Header, LoanError, UniqueNodeId};
-
-// The slot is a loan of the publisher.
-fn lend(publisher: &mut Option<PublisherState>, slot: usize)
-    requires { IsSomeAnd publisher.old (λ x. length x.loans < x.loan_room) }
-    ensures { publisher.new ≡ option_map (lending slot) publisher.old }
-{
-    if let Some(publisher) = publisher {
-        publisher.lend(slot);
-    }
-}
 
 // In the slot starts a loan of that length.
 fn start<T: Drop, U: Default + Drop>(contents: &mut Option<Contents<T, U>>, slot: usize, len: usize)
@@ -48,10 +36,10 @@ pub fn loan<T: Drop, U: Default + Drop>(
     requires stands { (x : PublisherFields) × (slice_index_or state.old.publishers place None ≡ Some x) }
     ensures reaches { IsSomeAnd (slice_index_or state.old.publishers place None) (λ x. LoanReaches U.is_default state.old x result state.new) }
     ensures named { IfOk result (λ loan. IsSomeAnd (slice_index_or state.old.publishers place None) (λ x. IsNamed state.old x loan)) }
-    ensures lies { IfOk result (λ loan. (key : ℕ) × LiesInSlot state.new loan.publisher loan.number key loan.slot) }
+    ensures lies { IfOk result (λ loan. LiesInSlot state.new loan.publisher loan.number loan.book loan.slot) }
     ensures placed { IfOk result (λ loan. loan.place ≡ place) }
 {
-    reclaim(state, place);
+    reclaim_if_full(state, place);
     if let Some(refusal) = loan_refusal(state, place) {
         return Err(refusal);
     }
@@ -65,7 +53,7 @@ fn loan_refusal<T: Drop, U: Default + Drop>(
 ) -> Option<LoanError>
     requires agrees { IsDomain state.now }
     requires stands { (x : PublisherFields) × (slice_index_or state.now.publishers place None ≡ Some x) }
-    requires reclaimed { (x : PublisherFields) → slice_index_or state.now.publishers place None ≡ Some x → HasReclaimed state.now.connections x.keys }
+    requires reclaimed { IsReclaimedIfFull state.now place }
     ensures { LoanDecided state.now place result }
 {
     let Some(publisher) = &state.publishers[place] else {
@@ -91,17 +79,17 @@ fn grant<T: Drop, U: Default + Drop>(state: &mut DomainState<T, U>, place: usize
     ensures lends { IsSomeAnd (slice_index_or state.old.publishers place None) (λ x. Lends U.is_default state.old place x result.slot state.new) }
     ensures placed { result.place ≡ place }
 {
-    let Some(publisher) = &state.publishers[place] else {
+    let Some(publisher) = &mut state.publishers[place] else {
         unreachable!();
     };
     let publisher_id = publisher.id;
+    let key = publisher.book;
     let number = state.next_message;
     let header = Header {
         node_id: UniqueNodeId::new(state.config.node_id),
         publisher_id,
         number_of_elements: 1,
     };
-    let key = publisher.book;
     let Some(slot) = state.books[key].take(number, header) else {
         unreachable!();
     };
@@ -111,11 +99,12 @@ fn grant<T: Drop, U: Default + Drop>(state: &mut DomainState<T, U>, place: usize
         slot,
         state.config.units_per_element,
     );
-    lend(&mut state.publishers[place], slot);
+    publisher.lend(slot);
     LoanAt {
         publisher: publisher_id,
         number,
         place,
+        book: key,
         slot,
     }
 }

@@ -6,13 +6,33 @@ ghost use Rattle.iox2_domain.specs.Kept.{state_of};
 ghost use Rattle.iox2_domain.specs.Fields.{kept_of};
 ghost use Rattle.iox2_domain.specs.Invariant.{IsDomain};
 ghost use Rattle.iox2_domain.specs.Reaches.{Reaches};
+ghost use Rattle.iox2_domain.specs.Lending.{IsReclaimedIfFull};
 
 use iox2_domain::DomainState;
 use iox2_ends::sender::reclaim_all;
 
-/// The publisher at a place reclaims every slot that was given back in its connections. A slot
-/// that nobody else holds is free then.
-pub(crate) fn reclaim<T: Drop, U: Default + Drop>(state: &mut DomainState<T, U>, place: usize)
+/// The publisher at a place reclaims every slot that was given back in its connections, if none of
+/// its slots is free. A slot that nobody else holds is free then.
+pub(crate) fn reclaim_if_full<T: Drop, U: Default + Drop>(
+    state: &mut DomainState<T, U>,
+    place: usize,
+)
+    requires agrees { IsDomain state.old }
+    requires stands { (x : PublisherFields) × (slice_index_or state.old.publishers place None ≡ Some x) }
+    ensures reaches { Reaches state.old state.new (state_of (kept_of state.old)) }
+    ensures only { state.new ≡ record state.old { connections = state.new.connections; books = state.new.books } }
+    ensures reclaimed { IsReclaimedIfFull state.new place }
+{
+    let Some(publisher) = &state.publishers[place] else {
+        unreachable!();
+    };
+    if state.books[publisher.book].is_full() {
+        reclaim(state, place);
+    }
+}
+
+#[inline(never)]
+fn reclaim<T: Drop, U: Default + Drop>(state: &mut DomainState<T, U>, place: usize)
     requires agrees { IsDomain state.old }
     requires stands { (x : PublisherFields) × (slice_index_or state.old.publishers place None ≡ Some x) }
     ensures reaches { Reaches state.old state.new (state_of (kept_of state.old)) }

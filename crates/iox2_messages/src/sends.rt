@@ -1,21 +1,74 @@
 //! A loan is sent.
-ghost use Rattle.std.specs.Prelude.{◌≡◌};
+ghost use Rattle.std.specs.Prelude.{◌≡◌, IsTrue};
 ghost use Rattle.iox2_store.specs.machine.Environments.{fixed_handlers};
 ghost use Rattle.iox2_store.specs.machine.Sends.{Delivered_to};
 ghost use Rattle.iox2_domain.specs.Kept.{state_of};
 ghost use Rattle.iox2_domain.specs.Fields.{kept_of};
 ghost use Rattle.iox2_domain.specs.Invariant.{IsDomain};
 ghost use Rattle.iox2_domain.specs.LoanCalls.{HoldsWritten};
-ghost use Rattle.iox2_domain.specs.SentLoans.{SendsLoan};
+ghost use Rattle.iox2_domain.specs.SentLoans.{IsReadyToSend, SendsLoan};
 
-use crate::deliveries::{deliver_slot, end_send};
-use crate::reclaims::reclaim;
+use crate::deliveries::send_slot;
 use iox2_domain::{DomainState, LoanAt};
 use iox2_ports::update_publisher;
+use iox2_store::UniquePublisherId;
+
+// Whether the loan lies where its handle says, and its publisher is due for no update.
+fn is_ready<T: Drop, U: Default + Drop>(state: &DomainState<T, U>, loan: &LoanAt) -> bool
+    requires agrees { IsDomain state.now }
+    requires live { HoldsWritten (state_of (kept_of state.now)) loan.now.publisher loan.now.number }
+    ensures { IsTrue result → IsReadyToSend fixed_handlers state.now state.now loan.now.publisher loan.now.number loan.now.place loan.now.slot }
+{
+    match state.publishers.get(loan.place) {
+        Some(Some(publisher)) => {
+            !publisher.is_due && state.books[publisher.book].has(loan.slot, loan.number)
+        }
+        _ => false,
+    }
+}
+
+// Updates the publisher of a loan, where it is due, and finds where both are.
+#[inline(never)]
+fn update_and_find<T: Drop, U: Default + Drop>(
+    state: &mut DomainState<T, U>,
+    publisher: UniquePublisherId,
+    number: u128,
+) -> LoanAt
+    requires agrees { IsDomain state.old }
+    requires live { HoldsWritten (state_of (kept_of state.old)) publisher number }
+    ensures { IsReadyToSend fixed_handlers state.old state.new publisher number result.place result.slot }
+{
+    let Some(place) = state.find_publisher(publisher, 0) else {
+        unreachable!()
+    };
+    update_publisher(state, place);
+    let Some(at) = state.find_loan(publisher, number) else {
+        unreachable!()
+    };
+    LoanAt {
+        publisher,
+        number,
+        place,
+        book: at.book,
+        slot: at.slot,
+    }
+}
+
+// The loan at its publisher's place, which is updated where it is due, and in its slot.
+fn prepare<T: Drop, U: Default + Drop>(state: &mut DomainState<T, U>, loan: LoanAt) -> LoanAt
+    requires agrees { IsDomain state.old }
+    requires live { HoldsWritten (state_of (kept_of state.old)) loan.publisher loan.number }
+    ensures { IsReadyToSend fixed_handlers state.old state.new loan.publisher loan.number result.place result.slot }
+{
+    if is_ready(state, &loan) {
+        return loan;
+    }
+    update_and_find(state, loan.publisher, loan.number)
+}
 
 /// Sends a publisher's written loan to its receivers, and returns how many took it. The
-/// publisher's connections are updated and its slots reclaimed first. Where memory for a
-/// connection is refused, that is a warning. The loan is out no more afterwards.
+/// publisher's connections are updated first. Where memory for a connection is refused, that is a
+/// warning. The loan is out no more afterwards.
 ///
 /// iceoryx2's `PublisherSharedState::send_sample` (`src/port/publisher.rs`).
 pub fn send_loan<T: Drop, U: Default + Drop>(state: &mut DomainState<T, U>, loan: LoanAt) -> usize
@@ -23,15 +76,6 @@ pub fn send_loan<T: Drop, U: Default + Drop>(state: &mut DomainState<T, U>, loan
     requires live { HoldsWritten (state_of (kept_of state.old)) loan.publisher loan.number }
     ensures { SendsLoan fixed_handlers state.old state.new loan.number (Delivered_to result) }
 {
-    let Some(place) = state.find_publisher(loan.publisher, loan.place) else {
-        unreachable!()
-    };
-    update_publisher(state, place);
-    reclaim(state, place);
-    let Some(at) = state.find_loan(&loan) else {
-        unreachable!()
-    };
-    let count = deliver_slot(state, place, at.slot);
-    end_send(state, place, at.slot);
-    count
+    let loan = prepare(state, loan);
+    send_slot(state, loan.place, loan.slot)
 }

@@ -102,6 +102,7 @@ module _ {T U : Type 0} (config : ServiceConfig) (v c v' c' : ℕ) where
     names = record { at = λ key c at. absurd (nothing_at key c at) };
     counted = record { at = λ p slot. refl };
     numbered = numbered v' c';
+    lone = record { at = λ key slot b at _. absurd (nothing_at key b at) };
     publisher_room = λ i x at. absurd (nothing_at i x at);
     warning_room = refl;
     shapes = record { at = λ key slot b m at _. absurd (nothing_at key b at) };

@@ -3,6 +3,7 @@ pub mod Messages
 pub mod HeldMessages
 pub mod MessageLists
 pub mod BookChanges
+pub mod LoneLoans
 pub mod SlotChanges
 pub mod ConnectionSlots
 pub mod PublisherBooks

@@ -29,7 +29,7 @@ use Rattle.iox2_domain.specs.NewPublisher.{plain_publisher}
 use Rattle.iox2_store.specs.Stored.{IsHeldMessage, In_history, In_mailbox, In_blocked_send}
 use Rattle.iox2_domain.proofs.lemmas.fields.NamedBooks.{names-books}
 use Rattle.iox2_domain.proofs.lemmas.containers.Placed.{placed-here}
-use Rattle.iox2_domain.proofs.lemmas.slots.NewBook.{sender_before, no_book, books-apart, book-found, unheld, was_book, away_from, still_book, nothing_in, contents-same, messages-same, numbered-still}
+use Rattle.iox2_domain.proofs.lemmas.slots.NewBook.{sender_before, no_book, books-apart, book-found, unheld, was_book, away_from, still_book, nothing_in, contents-same, messages-same, numbered-still, lone-still}
 use Rattle.iox2_domain.proofs.lemmas.creations.PublisherEntered.{PublisherEnters, newcomer, with_entered_publisher, ids_apart, stood, still, publisher-found, entered-is}
 
 nothing_at : {A : Type 0} (i : ℕ) (x : A) → get_or {A = Option A} [] i None ≡ Some x → ⊥
@@ -259,6 +259,7 @@ module _ {T U : Type 0} (f : Fields T U) (place loans loan_room key_room key : �
         (λ k b at. (b, still_book f enters.sound slots units key books contents enters.book k b at, refl)) enters.sound.names;
     counted = counted;
     numbered = numbered-still f enters.sound slots units key books contents enters.book;
+    lone = lone-still f enters.sound slots units key books contents enters.book;
     publisher_room = λ i x at. elim (was i x at) [ inl e ↦ rw e.1 rooms | inr old ↦ enters.sound.publisher_room i x old ];
     warning_room = enters.sound.warning_room;
     shapes = record { at = shaped };

@@ -59,6 +59,7 @@ module _ {T U : Type 0} (f : Fields T U) where
     names = names-books f.books _ f.connections (λ k b at. (b, at, refl)) sound.names;
     counted = record { at = sound.counted.at };
     numbered = numbered sound.numbered;
+    lone = record { at = sound.lone.at };
     publisher_room = sound.publisher_room;
     warning_room = sound.warning_room;
     shapes = record { at = sound.shapes.at };

@@ -144,6 +144,7 @@ module _ {T U : Type 0} (f : Fields T U) where
     names = sound.names;
     counted = counted-due sound.counted;
     numbered = sound.numbered;
+    lone = sound.lone;
     publisher_room = λ i x at. let was = is_due i x at in let has = sound.publisher_room i was.0 was.1 in
         rw was.2 (record { loans = has.loans; history = has.history });
     warning_room = sound.warning_room;

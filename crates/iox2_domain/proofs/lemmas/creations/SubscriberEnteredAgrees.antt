@@ -129,6 +129,7 @@ module _ {T U : Type 0} (f : Fields T U) (sound : IsDomain f) (warnings : Buffer
     names = sound.names;
     counted = record { at = sound.counted.at };
     numbered = sound.numbered;
+    lone = sound.lone;
     publisher_room = sound.publisher_room;
     warning_room = room;
     shapes = record { at = sound.shapes.at };

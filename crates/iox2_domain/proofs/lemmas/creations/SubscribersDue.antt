@@ -128,6 +128,7 @@ module _ {T U : Type 0} (f : Fields T U) where
     names = sound.names;
     counted = record { at = sound.counted.at };
     numbered = sound.numbered;
+    lone = sound.lone;
     publisher_room = sound.publisher_room;
     warning_room = sound.warning_room;
     shapes = record { at = sound.shapes.at };

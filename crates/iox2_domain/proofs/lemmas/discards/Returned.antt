@@ -27,7 +27,7 @@ use Rattle.iox2_domain.specs.Ports.{PublisherFields}
 use Rattle.iox2_domain.specs.Kept.{KeptMessage, Lent_message, Sent_message, state_of, entries_of, is_numbered, message_numbered, loan_in, entry_in}
 use Rattle.iox2_ends.specs.Mailboxes.{sender_ends}
 use Rattle.iox2_domain.specs.Fields.{Fields, kept_of, publisher_of, numbers_of, blocked_send, is_book_of, message_in, contents_at}
-use Rattle.iox2_domain.specs.Invariant.{IsDomain, IsCounted, IsNumbered, HasNumber, HasShapes, is_publisher, own_holders, holders_of, is_loan_in}
+use Rattle.iox2_domain.specs.Invariant.{IsDomain, HasLoneLoans, IsCounted, IsNumbered, HasNumber, HasShapes, is_publisher, own_holders, holders_of, is_loan_in}
 use Rattle.iox2_domain.specs.Reaches.{Reaches}
 use Rattle.iox2_domain.specs.Shows.{KeepsEntries}
 use Rattle.iox2_domain.proofs.lemmas.fields.ConnectionEnds.{publisher-stands}
@@ -37,6 +37,7 @@ use Rattle.iox2_domain.proofs.lemmas.fields.Views.{KeepsHeld, held-before}
 use Rattle.iox2_domain.proofs.lemmas.loans.PublisherChanges.{KeepsSettings, changed-ids_apart, changed-is, changed-linked_same, changed-books, changed-room, changed-plain, changed-open_ports, changed-own}
 use Rattle.iox2_domain.proofs.lemmas.sends.LoanAlone.{loan-number, loan-is, loan-of, loan-slot, loan-once}
 use Rattle.iox2_domain.proofs.lemmas.sends.SentSlots.{times-without, map-without}
+use Rattle.iox2_domain.proofs.lemmas.slots.LoneLoans.{lone-counters}
 use Rattle.iox2_domain.proofs.lemmas.slots.BookChanges.{KeepsSlots, book-after, with_book, book-here, book-others, book-was, holders-here, other-book, numbers-same, book-state, books-changed, linked-book, open_ports-book}
 use Rattle.iox2_domain.proofs.lemmas.slots.HeldMessages.{held-message-slot}
 use Rattle.iox2_domain.proofs.lemmas.slots.Messages.{lies_at, message_in-free, message_at-book, message_at-slot, has_number, loan-there, entry-there, ChangesSlot, message_numbered-others}
@@ -323,10 +324,14 @@ module _ {T U : Type 0} (f : Fields T U) (sound : IsDomain f) (i : ℕ) (x : Pub
           (λ _. (port, stood, record { history = refl; blocked = refl }))
           (λ _ there. (y, there, record { history = refl; blocked = refl }))
 
+  -- each loan that is left has one holder
+  lone : HasLoneLoans returned.books
+  lone = lone-counters f.books x.book b given.holders at sound.lone (λ s. let fewer = fewer-holders s in omega (arith, fewer))
+
   -- the loan is given back
   pub returned-reaches : Reaches f returned (loan_discarded was n l)
   returned-reaches = record {
-    agrees = whole_of returned returned-parts (subst IsWellFormed (sym returned-is) (loan_discarded_keeps was sound.well_formed n l (loan-is f sound i x here slot n l lies))) keeps_entries;
+    agrees = whole_of returned returned-parts lone (subst IsWellFormed (sym returned-is) (loan_discarded_keeps was sound.well_formed n l (loan-is f sound i x here slot n l lies))) keeps_entries;
     state = returned-is;
     entries = returned-entries;
   }

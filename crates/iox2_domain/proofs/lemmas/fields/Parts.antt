@@ -9,7 +9,7 @@ use Rattle.iox2_domain.specs.Ports.{PublisherFields, SubscriberFields}
 use Rattle.iox2_domain.specs.Kept.{state_of}
 use Rattle.iox2_domain.specs.Fields.{Fields, kept_of}
 use Rattle.iox2_domain.specs.Shows.{KeepsEntries}
-use Rattle.iox2_domain.specs.Invariant.{IsDomain, IsLinked, HasBooks, NamesBooks, IsCounted, IsNumbered, HasPublisherRoom, HasShapes, IsSupportedConfig, IsPlain, IsPlainSubscriber, HasOnlyOpenPorts, is_publisher, is_subscriber}
+use Rattle.iox2_domain.specs.Invariant.{IsDomain, HasLoneLoans, IsLinked, HasBooks, NamesBooks, IsCounted, IsNumbered, HasPublisherRoom, HasShapes, IsSupportedConfig, IsPlain, IsPlainSubscriber, HasOnlyOpenPorts, is_publisher, is_subscriber}
 
 -- the fields agree with one another, in the midst of a step
 pub record HasParts {T U : Type 0} (f : Fields T U) : Type 0 where
@@ -50,9 +50,9 @@ module _ {T U : Type 0} (f : Fields T U) where
     open_ports = sound.open_ports;
   }
 
-  -- fields that agree are a domain's where what they keep is well-formed and has its entries
-  pub whole_of : HasParts f → IsWellFormed (state_of (kept_of f)) → KeepsEntries (kept_of f) → IsDomain f
-  whole_of parts well entries = record {
+  -- fields that agree are a domain's where each loan has one holder, and what they keep is well-formed and has its entries
+  pub whole_of : HasParts f → HasLoneLoans f.books → IsWellFormed (state_of (kept_of f)) → KeepsEntries (kept_of f) → IsDomain f
+  whole_of parts lone well entries = record {
     publisher_ids = parts.publisher_ids;
     subscriber_ids = parts.subscriber_ids;
     apart = parts.apart;
@@ -61,6 +61,7 @@ module _ {T U : Type 0} (f : Fields T U) where
     names = parts.names;
     counted = parts.counted;
     numbered = parts.numbered;
+    lone = lone;
     publisher_room = parts.publisher_room;
     warning_room = parts.warning_room;
     shapes = parts.shapes;

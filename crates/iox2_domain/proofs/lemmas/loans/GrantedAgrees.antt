@@ -19,7 +19,6 @@ use Rattle.iox2_store.specs.machine.WellFormed.{IsWellFormed}
 use Rattle.iox2_store.specs.Stored.{IsHeldMessage}
 use Rattle.iox2_ends.specs.LookUp.{look_up}
 use Rattle.iox2_ends.specs.Counters.{times, stands}
-use Rattle.iox2_ends.specs.Receivers.{HasReclaimed}
 use Rattle.iox2_ends.proofs.Counts.{times_push, one_if, one_if_same, one_if_other}
 use Rattle.iox2_laws.proofs.LoanLaws.{grant_loan_keeps}
 use Rattle.iox2_domain.specs.Ports.{PublisherFields}
@@ -34,7 +33,7 @@ use Rattle.iox2_domain.proofs.lemmas.fields.ConnectionEnds.{publisher-stands}
 use Rattle.iox2_domain.proofs.lemmas.slots.SlotsInUse.{its_book, slot-counted, size-free}
 use Rattle.iox2_domain.proofs.lemmas.slots.Messages.{lies_at, message_at-book, message_at-slot}
 use Rattle.iox2_domain.proofs.lemmas.loans.PublisherChanges.{KeepsSettings, changed-ids_apart, look_up-publisher, changed-linked_same, changed-books, changed-room, changed-plain, changed-open_ports, changed-entries}
-use Rattle.iox2_domain.proofs.lemmas.loans.Taken.{taken-after, CanTakeSlot, with_taken, taken_book, taken_books, begun, begun_contents, lent, next_header, taken-stands, others-stand, begun-has, others-have, taken-one_each, taken-found, taken-holders, taken-numbered, taken-entries, lent-lies, others-lie, length-with_changed, room-with_changed}
+use Rattle.iox2_domain.proofs.lemmas.loans.Taken.{taken-after, CanTakeSlot, with_taken, taken_book, taken_books, begun, begun_contents, lent, next_header, taken-stands, others-stand, begun-has, others-have, taken-one_each, taken-found, taken-holders, taken-numbered, taken-entries, lent-lies, others-lie, length-with_changed, room-with_changed, taken-lone}
 use Rattle.iox2_domain.proofs.lemmas.loans.Granted.{lender, with_granted, granted-is, taken-is, lends-granted}
 use Rattle.iox2_domain.proofs.lemmas.fields.Views.{held-before}
 
@@ -239,7 +238,7 @@ module _ {T U : Type 0} (f : Fields T U) (sound : IsDomain f) (i : ℕ) (x : Pub
 
   -- ---- the whole
 
-  module _ (reclaimed : HasReclaimed f.connections x.keys) (few : length x.loans < x.max_loaned_samples) (more : f.next_message < last_number) where
+  module _ (few : length x.loans < x.max_loaned_samples) (more : f.next_message < last_number) where
     few_numbers : length machine.loans < machine.max_loaned_samples
     few_numbers = let e = length-map x.loans (numbers_of f.books x.id) in omega arith
 
@@ -249,7 +248,7 @@ module _ {T U : Type 0} (f : Fields T U) (sound : IsDomain f) (i : ℕ) (x : Pub
         let same : has.book ≡ can.book = its_book-is x has.book refl has.stands in
         let low : slot < length (has.book).holders = rw same can.within in
         let free : holders_at has.book slot ≡ 0 = rw same can.free in
-        let fewer = size-free f sound i x at reclaimed slot low free in
+        let fewer = size-free f sound i x at slot low free in
         let long : length (has.book).holders ≡ x.slots = has.no_more (rw (sound.plain i x at).allocation refl) in
         omega arith
 
@@ -269,6 +268,7 @@ module _ {T U : Type 0} (f : Fields T U) (sound : IsDomain f) (i : ℕ) (x : Pub
       names = names-books f.books _ f.connections (taken-after f sound x slot can user_header) sound.names;
       counted = granted-counted;
       numbered = taken-numbered f sound x slot can user_header;
+      lone = taken-lone f sound x slot can user_header;
       publisher_room = changed-room mid i x new_lender at refl sound.publisher_room keeps;
       warning_room = sound.warning_room;
       shapes = granted-shapes;

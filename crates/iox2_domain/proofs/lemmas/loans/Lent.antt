@@ -23,7 +23,7 @@ use Rattle.iox2_domain.specs.Ports.{PublisherFields}
 use Rattle.iox2_domain.specs.Kept.{Lent_message, state_of}
 use Rattle.iox2_domain.specs.Fields.{Fields, kept_of, publisher_of, numbers_of, contents_at}
 use Rattle.iox2_domain.specs.Invariant.{IsDomain}
-use Rattle.iox2_domain.specs.Lending.{with_taken_slot, header_for, lending, CanLend, LoanDecided, Lends}
+use Rattle.iox2_domain.specs.Lending.{with_taken_slot, header_for, lending, CanLend, IsReclaimedIfFull, LoanDecided, Lends}
 use Rattle.iox2_domain.specs.LoanSlots.{IsLoanSlot, LiesInSlot}
 use Rattle.iox2_domain.specs.Reaches.{Reaches}
 use Rattle.iox2_domain.proofs.lemmas.fields.ConnectionEnds.{publisher-stands}
@@ -75,13 +75,13 @@ module _ {T U : Type 0} (f : Fields T U) (sound : IsDomain f) (i : ℕ) (x : Pub
       ap (λ (c : Book). length c.holders) (sym (its-book b stands))
       ∙ (its_book f sound i x at).no_more (ap is_static (sound.plain i x at).allocation)
 
-  module _ (reclaimed : HasReclaimed f.connections x.keys) (few : length x.loans < x.max_loaned_samples) (b : Book) (stands : get f.books x.book ≡ Some b) where
+  module _ (few : length x.loans < x.max_loaned_samples) (b : Book) (stands : get f.books x.book ≡ Some b) where
     few_numbers : length machine.loans < machine.max_loaned_samples
     few_numbers = let e = as_many in omega arith
 
     -- each slot has a holder
-    pub full : (user_header : U) → All (λ n. 0 < n) b.holders → GrantLoan ample_memory user_header false 1 state x.id state (Some OutOfMemory)
-    full user_header all =
+    pub full : HasReclaimed f.connections x.keys → (user_header : U) → All (λ n. 0 < n) b.holders → GrantLoan ample_memory user_header false 1 state x.id state (Some OutOfMemory)
+    full reclaimed user_header all =
         lends-full ample_memory user_header state x.id machine here few_numbers (sound.plain i x at).allocation
         (size-full f sound i x at reclaimed (subst (λ (c : Book). All (λ n. 0 < n) c.holders) (sym (its-book b stands)) all)
         ∙ ap (λ (c : Book). length c.holders) (its-book b stands) ∙ slots-are b stands)
@@ -90,7 +90,7 @@ module _ {T U : Type 0} (f : Fields T U) (sound : IsDomain f) (i : ℕ) (x : Pub
     some_room : (slot : ℕ) → slot < length b.holders → get_or b.holders slot 0 ≡ 0 → size (held state x.id machine) < x.slots
     some_room slot low free =
         let its = its-book b stands in
-        let fewer = size-free f sound i x at reclaimed slot (subst (λ (c : Book). slot < length c.holders) (sym its) low) (ap (λ (c : Book). get_or c.holders slot 0) its ∙ free) in
+        let fewer = size-free f sound i x at slot (subst (λ (c : Book). slot < length c.holders) (sym its) low) (ap (λ (c : Book). get_or c.holders slot 0) its ∙ free) in
         let same : length (its_book f sound i x at).book.holders ≡ length b.holders = ap (λ (c : Book). length c.holders) its in
         let long = slots-are b stands in
         omega arith
@@ -114,18 +114,18 @@ module _ {T U : Type 0} (f : Fields T U) (sound : IsDomain f) (i : ℕ) (x : Pub
   pub decided-limited : x.max_loaned_samples ≤ length x.loans → LoanDecided f i (Some ExceedsMaxLoans)
   decided-limited many = decided (Some ExceedsMaxLoans) (λ user_header. limited user_header many)
 
-  module _ (reclaimed : HasReclaimed f.connections x.keys) (few : length x.loans < x.max_loaned_samples) (b : Book) (stands : get f.books x.book ≡ Some b) where
-    pub decided-full : All (λ n. 0 < n) b.holders → LoanDecided f i (Some OutOfMemory)
-    decided-full all = decided (Some OutOfMemory) (λ user_header. full reclaimed few b stands user_header all)
+  module _ (few : length x.loans < x.max_loaned_samples) (b : Book) (stands : get f.books x.book ≡ Some b) where
+    pub decided-full : HasReclaimed f.connections x.keys → All (λ n. 0 < n) b.holders → LoanDecided f i (Some OutOfMemory)
+    decided-full reclaimed all = decided (Some OutOfMemory) (λ user_header. full few b stands reclaimed user_header all)
 
     pub decided-failed : (All (λ n. 0 < n) b.holders → ⊥) → f.next_message ≡ last_number → LoanDecided f i (Some InternalFailure)
-    decided-failed not_all last = decided (Some InternalFailure) (λ user_header. failed reclaimed few b stands user_header not_all last)
+    decided-failed not_all last = decided (Some InternalFailure) (λ user_header. failed few b stands user_header not_all last)
 
     pub decided-free : (All (λ n. 0 < n) b.holders → ⊥) → f.next_message < last_number → LoanDecided f i None
     decided-free not_all more = decided None (record { publisher = x; book = b; stands = at; its = stands; few = few; some_free = not_all; more = more })
 
   -- a slot is lent
-  module _ (reclaimed : HasReclaimed f.connections x.keys) (few : length x.loans < x.max_loaned_samples) (more : f.next_message < last_number)
+  module _ (few : length x.loans < x.max_loaned_samples) (more : f.next_message < last_number)
       (is_default : U → Type 0) (slot : ℕ) (new : Fields T U) (lends : Lends is_default f i x slot new) where
     abbrev user_header : U
     user_header = lends.starts.user_header
@@ -161,17 +161,17 @@ module _ {T U : Type 0} (f : Fields T U) (sound : IsDomain f) (i : ℕ) (x : Pub
 
     pub lent-reaches : Reaches f new (loan_granted user_header state x.id machine 1 machine.segments)
     lent-reaches = subst (λ (g : Fields T U). Reaches f g (loan_granted user_header state x.id machine 1 machine.segments)) (sym new-is)
-        (granted-reaches f sound i x at slot can user_header reclaimed few more)
+        (granted-reaches f sound i x at slot can user_header few more)
 
     pub lent-grants : GrantLoan ample_memory user_header false 1 state x.id (loan_granted user_header state x.id machine 1 machine.segments) None
     lent-grants =
-        lends-granted ample_memory user_header state x.id machine here (few_numbers reclaimed few lends.book lends.stood) (sound.plain i x at).allocation
-        (some_room reclaimed few lends.book lends.stood slot lends.within lends.free) more
+        lends-granted ample_memory user_header state x.id machine here (few_numbers few lends.book lends.stood) (sound.plain i x at).allocation
+        (some_room few lends.book lends.stood slot lends.within lends.free) more
 
     -- the loan lies in the slot
     pub lent-in_slot : LiesInSlot new x.id f.next_message x.book slot
     lent-in_slot = subst (λ (g : Fields T U). LiesInSlot g x.id f.next_message x.book slot) (sym new-is)
-        (lies-in-slot (with_granted f sound i x at slot can user_header) (granted-reaches f sound i x at slot can user_header reclaimed few more).agrees
+        (lies-in-slot (with_granted f sound i x at slot can user_header) (granted-reaches f sound i x at slot can user_header few more).agrees
         i (lender f sound i x at slot can user_header) (taken_book f sound x slot can user_header) slot f.next_message
         (get_or-set_same f.publishers i (Some (lender f sound i x at slot can user_header)) None (within_if_some f.publishers i x at))
         (taken-stands f sound x slot can user_header) is-loan)
@@ -185,3 +185,15 @@ module _ {T U : Type 0} (f : Fields T U) (sound : IsDomain f) (i : ℕ) (x : Pub
             (message_in-parts (taken_book f sound x slot can user_header) lies slot (Lent_message f.next_message (lent f sound x slot can user_header))
             (sym (message_at-slot (begun_contents f sound x slot can user_header) (taken_books f sound x slot can user_header) x.book slot
             (taken_book f sound x slot can user_header) (taken-stands f sound x slot can user_header)) ∙ lent-lies f sound x slot can user_header))).0
+
+-- a publisher with a free slot isn't full
+pub not-full : {T U : Type 0} (f before : Fields T U) → f ≡ before → (i : ℕ) (x : PublisherFields) → get_or f.publishers i None ≡ Some x → (b : Book) → get f.books x.book ≡ Some b
+    → (All (λ n. 0 < n) b.holders → ⊥) → IsReclaimedIfFull before i
+not-full {T} {U} f before same i x at b stands free = subst (λ (g : Fields T U). IsReclaimedIfFull g i) same (record {
+  at = λ y c there has all.
+      let both : Some x ≡ Some y = sym at ∙ there in
+      let is : x ≡ y = cc in
+      let books : Some b ≡ Some c = sym stands ∙ ap (λ (z : PublisherFields). get f.books z.book) is ∙ has in
+      let book : b ≡ c = cc in
+      absurd (free (subst (λ (d : Book). All (λ n. 0 < n) d.holders) (sym book) all));
+})

@@ -10,7 +10,7 @@ use Rattle.std.specs.List.{sum_by}
 use Rattle.slab.specs.Slab.{get, ContainsKey}
 use Rattle.iox2_store.specs.machine.Numbers.{contains}
 use Rattle.iox2_store.specs.machine.SingleCalls.{HoldsLoan}
-use Rattle.iox2_store.specs.SlotBook.{Book, holders_at}
+use Rattle.iox2_store.specs.SlotBook.{Book, IsUsedFor, holders_at}
 use Rattle.iox2_store.specs.SlotContents.{ContentState}
 use Rattle.iox2_store.specs.machine.Records.{Loan}
 use Rattle.iox2_store.specs.declared.slots.mark.SlotMark.{SlotMark}
@@ -165,6 +165,21 @@ module _ {T U : Type 0} (f : Fields T U) (sound : IsDomain f) where
         lies = lies ∙ ap Some loan.1;
         is_out = loan-found f sound.numbered x.book slot n loan.0 (found.1 ∙ ap Some loan.1);
       }
+
+  -- a live loan lies in any slot in use that has its number
+  pub live-lies : (p n : ℕ) → HoldsLoan (state_of (kept_of f)) p n → (key slot : ℕ) (b : Book) → get f.books key ≡ Some b → IsUsedFor b n slot → LiesInSlot f p n key slot
+  live-lies p n live key slot b at used =
+      let lies = loan-lies p n live in
+      let standing = sound.open_ports.books lies.0 lies.2 lies.3 in
+      let x = standing.1 in
+      let same = sound.numbered.one lies.0 key lies.1 slot n
+      (record { book = lies.2; stands = lies.3; in_use = lies.5.in_use; number = lies.5.numbered })
+      (record { book = b; stands = at; in_use = used.in_use; number = used.number_is }) in
+      let there : get f.books x.book ≡ Some lies.2 = ap (get f.books) standing.4 ∙ lies.3 in
+      let here : LiesInSlot f x.id n x.book lies.1 = lies-in-slot standing.0 x lies.2 lies.1 n standing.2 there lies.5 in
+      subst (λ (s : ℕ). LiesInSlot f p n key s) same.1
+      (subst (λ (k : ℕ). LiesInSlot f p n k lies.1) (standing.4 ∙ same.0)
+      (subst (λ (q : ℕ). LiesInSlot f q n x.book lies.1) (standing.3 ∙ lies.4) here))
 
 -- ---- what a search reads
 

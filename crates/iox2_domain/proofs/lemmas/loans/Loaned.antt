@@ -1,4 +1,4 @@
--- A loan after the returned slots were reclaimed is a loan.
+-- A loan is a loan, whether or not slots were reclaimed before it.
 use Rattle.std.proofs.Common.{◌≡◌, ◌<◌, ℕ, false, length, get_or, ap, sym, subst, ◌∙◌, Ok, Err}
 use Rattle.std.specs.declared.option.Option.{Option}
 use Rattle.std.specs.declared.option.Option.TheVariants.{None, Some}
@@ -7,7 +7,6 @@ use Rattle.iox2_store.specs.machine.Loans.{loan_granted, GrantLoan}
 use Rattle.iox2_store.specs.machine.Records.{Publisher}
 use Rattle.iox2_store.specs.machine.State.{State}
 use Rattle.iox2_store.specs.declared.errors.LoanError.{LoanError}
-use Rattle.iox2_ends.specs.Receivers.{HasReclaimed}
 use Rattle.iox2_store.specs.machine.Environments.{ample_memory}
 use Rattle.iox2_domain.specs.Ports.{PublisherFields}
 use Rattle.iox2_domain.specs.Kept.{state_of}
@@ -43,10 +42,10 @@ module _ {T U : Type 0} (is_default : U → Type 0) (f mid : Fields T U) (sound 
   may-lend free = subst (λ (o : Option PublisherFields). IsSomeAnd o (λ z. CanLend mid i)) at_mid free
 
   -- a slot is lent
-  pub loan-lent : (reclaimed : (z : PublisherFields) → get_or f.publishers i None ≡ Some z → HasReclaimed mid.connections z.keys) → LoanDecided mid i None → (loan : LoanAt) (new : Fields T U)
+  pub loan-lent : LoanDecided mid i None → (loan : LoanAt) (new : Fields T U)
       → IsSomeAnd (get_or mid.publishers i None) (λ z. Lends is_default mid i z loan.slot new)
       → IsSomeAnd (get_or f.publishers i None) (λ z. LoanReaches is_default f z (Ok loan) new)
-  loan-lent reclaimed free loan new lends =
+  loan-lent free loan new lends =
       subst (λ (o : Option PublisherFields). IsSomeAnd o (λ z. LoanReaches is_default f z (Ok loan) new)) (sym stands.1)
       (its.starts.user_header, its.starts.default, both.0, reaches-then f mid new _ _ reached both.1)
     where
@@ -76,8 +75,8 @@ module _ {T U : Type 0} (is_default : U → Type 0) (f mid : Fields T U) (sound 
       both : Step (state_of (kept_of f)) ((publisher_of f.books f.connections x).port)
       both = subst (λ (s : State T U). Step s ((publisher_of f.books f.connections x).port)) reached.state
           (subst (Step (state_of (kept_of mid))) machine-same (
-            lent-grants mid reached.agrees i x at_mid (reclaimed x stands.1) few can.more is_default loan.slot new its,
-            lent-reaches mid reached.agrees i x at_mid (reclaimed x stands.1) few can.more is_default loan.slot new its,
+            lent-grants mid reached.agrees i x at_mid few can.more is_default loan.slot new its,
+            lent-reaches mid reached.agrees i x at_mid few can.more is_default loan.slot new its,
           ))
 
   -- it is the publisher's loan, of the next message
@@ -85,19 +84,17 @@ module _ {T U : Type 0} (is_default : U → Type 0) (f mid : Fields T U) (sound 
   loan-named loan named =
       let its = subst (λ (o : Option PublisherFields). IsSomeAnd o (λ z. IsNamed mid z loan)) at_mid named in
       subst (λ (o : Option PublisherFields). IsSomeAnd o (λ z. IsNamed f z loan)) (sym stands.1)
-      (record { publisher = its.publisher; number = its.number ∙ ap (λ (s : State T U). s.next_message) reached.state })
+      (record { publisher = its.publisher; number = its.number ∙ ap (λ (s : State T U). s.next_message) reached.state; book = its.book })
 
   -- the loan lies in the slot that is lent
-  pub loan-lies : (reclaimed : (z : PublisherFields) → get_or f.publishers i None ≡ Some z → HasReclaimed mid.connections z.keys) → LoanDecided mid i None → (loan : LoanAt) (new : Fields T U)
+  pub loan-lies : LoanDecided mid i None → (loan : LoanAt) (new : Fields T U)
       → IsSomeAnd (get_or mid.publishers i None) (λ z. IsNamed mid z loan)
       → IsSomeAnd (get_or mid.publishers i None) (λ z. Lends is_default mid i z loan.slot new)
-      → (key : ℕ) × LiesInSlot new loan.publisher loan.number key loan.slot
-  loan-lies reclaimed free loan new named lends =
-      let names = subst (λ (o : Option PublisherFields). IsSomeAnd o (λ z. IsNamed mid z loan)) at_mid named in (
-        x.book,
-        rw (names.publisher, names.number)
-            (lent-in_slot mid reached.agrees i x at_mid (reclaimed x stands.1) few can.more is_default loan.slot new its),
-      )
+      → LiesInSlot new loan.publisher loan.number loan.book loan.slot
+  loan-lies free loan new named lends =
+      let names = subst (λ (o : Option PublisherFields). IsSomeAnd o (λ z. IsNamed mid z loan)) at_mid named in
+      rw (names.publisher, names.number, names.book)
+      (lent-in_slot mid reached.agrees i x at_mid few can.more is_default loan.slot new its)
     where
       its : Lends is_default mid i x loan.slot new
       its = subst (λ (o : Option PublisherFields). IsSomeAnd o (λ z. Lends is_default mid i z loan.slot new)) at_mid lends

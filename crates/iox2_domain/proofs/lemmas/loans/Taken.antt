@@ -21,9 +21,10 @@ use Rattle.iox2_ends.proofs.LookUps.{look_up-found}
 use Rattle.iox2_domain.specs.Ports.{PublisherFields}
 use Rattle.iox2_domain.specs.Kept.{KeptMessage, Lent_message, state_of, entries_of, entry_in, loan_in, is_numbered, message_numbered}
 use Rattle.iox2_domain.specs.Fields.{Fields, kept_of, is_book_of, numbers_of, message_in, message_of, contents_at}
-use Rattle.iox2_domain.specs.Invariant.{IsDomain, HasNumber, IsNumbered, holders_of}
+use Rattle.iox2_domain.specs.Invariant.{IsDomain, HasNumber, IsNumbered, holders_of, HasLoneLoans}
 use Rattle.iox2_domain.proofs.lemmas.containers.SetRecords.{set-here, set-others, IsOnly-set, look_up-set}
 use Rattle.iox2_domain.proofs.lemmas.slots.Messages.{message_in-free, message_in-from, LiesIn, ChangesSlot, lies_at, message_numbered-others, message_numbered-found, message_numbered-nothing, has_number}
+use Rattle.iox2_domain.proofs.lemmas.slots.LoneLoans.{lone-changed, lone-fewer}
 
 module _ {A : Type 0} (xs : List A) (slot : ℕ) (g : A → A) where
   abbrev changed_if : Option A → List A
@@ -306,6 +307,14 @@ module _ {T U : Type 0} (f : Fields T U) (sound : IsDomain f) (x : PublisherFiel
       | inr old ↦ let low = sound.numbered.below key k n old in omega arith
     ];
   }
+
+  -- each loan has one holder
+  pub taken-lone : HasLoneLoans taken_books
+  taken-lone = lone-changed f.books x.book can.book taken_book can.stands sound.lone (λ k before. elim (cases_eq k slot) [
+    | inl same ↦ λ _. subst (λ (j : ℕ). holders_at taken_book j ≡ 1) (sym same) (get_or-set_same (can.book).holders slot 1 0 can.within)
+    | inr away ↦ lone-fewer can.book taken_book k (slice_get-set_other (can.book).marks slot k Unwritten away)
+        (let holders : holders_at taken_book k ≡ holders_at can.book k = get_or-set_other (can.book).holders slot k 1 0 away in omega (arith, holders)) before
+  ])
 
   -- ---- what is found
 

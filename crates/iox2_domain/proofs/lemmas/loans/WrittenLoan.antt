@@ -28,6 +28,7 @@ use Rattle.iox2_domain.proofs.lemmas.slots.BookChanges.{book-after, with_book, o
 use Rattle.iox2_domain.proofs.lemmas.slots.Messages.{LiesIn, lies_at, message_in-parts, message_at-slot, message_at-book, message_numbered-found}
 use Rattle.iox2_domain.proofs.lemmas.slots.SlotChanges.{with_slot, marked, marked-keeps, renewed, slot-books, slot-numbered, slot-counted, slot-state, others-lie, slot-lies, others-found, slot-found}
 use Rattle.iox2_domain.proofs.lemmas.fields.Views.{held-before}
+use Rattle.iox2_domain.proofs.lemmas.slots.LoneLoans.{lone-marked}
 use mathlib.Core.Path.{fun_ext}
 
 -- ---- what lies in a loan's slot
@@ -197,6 +198,7 @@ module _ {T U : Type 0} (f : Fields T U) (sound : IsDomain f) (single : (f.confi
             (marked-keeps f sound key slot at.book at.stands cs at_c Written (written_content value))) sound.names;
         counted = slot-counted f sound key slot at.book at.stands cs at_c Written (written_content value);
         numbered = slot-numbered f sound key slot at.book at.stands cs at_c Written (written_content value);
+        lone = lone-marked f.books key slot n at.book Written at.stands sound.lone at.loan_slot;
         publisher_room = sound.publisher_room;
         warning_room = sound.warning_room;
         shapes = write-shapes;

@@ -82,6 +82,7 @@ module _ {T U : Type 0} (f : Fields T U) (sound : IsDomain f) (key : ℕ) (c : L
       names = names-still f.books f.connections new same sound.names;
       counted = counted-still;
       numbered = sound.numbered;
+      lone = sound.lone;
       publisher_room = sound.publisher_room;
       warning_room = sound.warning_room;
       shapes = record { at = sound.shapes.at };

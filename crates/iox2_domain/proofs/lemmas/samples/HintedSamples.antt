@@ -4,13 +4,13 @@ use Rattle.std.proofs.lemmas.Bool.{eqb-true, eq-eqb, and_from}
 use Rattle.std.proofs.lemmas.Map.Views.{Contains-from_any}
 use Rattle.slab.specs.Slab.{get}
 use Rattle.iox2_store.specs.Link.{Link}
-use Rattle.iox2_store.specs.SlotBook.{Book}
+use Rattle.iox2_store.specs.SlotBook.{Book, IsUsedFor}
 use Rattle.iox2_store.specs.machine.Numbers.{contains}
 use Rattle.iox2_store.specs.machine.SingleCalls.{HoldsSample}
 use Rattle.iox2_domain.specs.Kept.{state_of}
 use Rattle.iox2_domain.specs.Fields.{Fields, kept_of, numbers_of}
 use Rattle.iox2_domain.specs.Invariant.{IsDomain}
-use Rattle.iox2_domain.specs.SampleSlots.{IsUsedFor, LiesBorrowed}
+use Rattle.iox2_domain.specs.SampleSlots.{LiesBorrowed}
 use Rattle.iox2_domain.specs.declared.sample_slots.SampleSlot.{SampleSlot}
 use Rattle.iox2_domain.proofs.lemmas.slots.ConnectionSlots.{book-numbers}
 use Rattle.iox2_domain.proofs.lemmas.slots.NumbersInUse.{contains-map_there}

@@ -1,5 +1,5 @@
 -- A publisher that discards what a full receiver doesn't take delivers a message.
-use Rattle.std.proofs.Common.{◌≡◌, ℕ, ◌+◌, ◌||◌, Bool, true, false, List, [], ◌∷◌, map, get_or, refl, ap, sym, subst, ◌∙◌}
+use Rattle.std.proofs.Common.{◌≡◌, ℕ, ◌+◌, ◌||◌, Bool, true, false, List, [], ◌∷◌, map, get_or, refl, ap, sym, subst, ◌∙◌, ◌<◌, ◌≤◌, length, slice_set, set-set}
 use Rattle.std.specs.declared.option.Option.{Option}
 use Rattle.std.specs.declared.option.Option.TheVariants.{None, Some}
 use Rattle.std.specs.declared.time.Duration.{Duration}
@@ -9,22 +9,26 @@ use Rattle.iox2_store.specs.machine.Delivery.{PutResult, DeliveryEnd, Complete, 
 use Rattle.iox2_store.specs.Link.{Link}
 use Rattle.iox2_store.specs.machine.Mailbox.{Mailbox, has_room}
 use Rattle.iox2_store.specs.machine.Records.{Environment, BlockedSend}
-use Rattle.iox2_store.specs.SlotBook.{Book}
+use Rattle.iox2_store.specs.SlotBook.{Book, holders_at}
 use Rattle.iox2_store.specs.declared.backpressure.BackpressureStrategy.{BackpressureStrategy}
 use Rattle.iox2_store.specs.declared.backpressure.BackpressureStrategy.TheVariants.{DiscardData}
 use Rattle.iox2_store.specs.declared.service_config.ServiceConfig.{ServiceConfig}
-use Rattle.iox2_ends.specs.Counters.{with_counters}
+use Rattle.iox2_ends.specs.Counters.{GrowsAlone, with_counters, HoldsItself, times}
 use Rattle.iox2_ends.specs.Mailboxes.{mailboxes_of, sender_ends}
-use Rattle.iox2_ends.specs.Receivers.{HasReclaimed, IsReadyToDeliver, buffers_of, has_id}
+use Rattle.iox2_ends.specs.Receivers.{IsReadyToDeliver, buffers_of, has_id}
 use Rattle.iox2_ends.specs.Recounts.{Recounts}
 use Rattle.iox2_laws.proofs.Cases.{by_bool}
 use Rattle.iox2_domain.specs.Ports.{PublisherFields}
 use Rattle.iox2_domain.specs.Fields.{Fields}
 use Rattle.iox2_domain.specs.Invariant.{details_of, is_subscriber}
-use Rattle.iox2_domain.specs.Deliveries.{DeliversTo}
+use Rattle.iox2_domain.specs.Deliveries.{DeliversTo, CanSend, SendsSlot, with_loan_out, with_sent}
 use Rattle.iox2_domain.proofs.lemmas.containers.LookUps.{IsOnly-map}
 use Rattle.iox2_domain.proofs.lemmas.fields.Parts.{HasParts}
 use Rattle.iox2_domain.proofs.lemmas.slots.PublisherBooks.{sender-linked}
+use Rattle.std.proofs.lemmas.List.{get_or-set_same}
+use Rattle.iox2_ends.proofs.MailboxChanges.{within_if_some}
+use Rattle.iox2_ends.proofs.Counts.{in_range}
+use Rattle.iox2_ends.proofs.ReclaimedPuts.{own-in_use, own-still}
 
 module _ (e : Environment) (c : ServiceConfig) (p : ℕ) (buffers : ℕ → Option ℕ) (n : ℕ) where
   put-goes : (q retries : ℕ) (elapsed : Duration) (buffer : Option ℕ) (box : Mailbox) (result : PutResult) (box' : Mailbox)
@@ -60,26 +64,25 @@ never-waits e c p strategy buffers n ends boxes b boxes' discards h =
     differ took failed same = absurd cc
 
 module _ {T U : Type 0} (f : Fields T U) (parts : HasParts f) (i : ℕ) (x : PublisherFields) (stands : get_or f.publishers i None ≡ Some x) where
-  -- a publisher that reclaimed its slots may deliver
-  pub ready-to-deliver : HasReclaimed f.connections x.keys → IsReadyToDeliver x.id f.connections x.keys (map (option_map details_of) f.subscribers)
-  ready-to-deliver reclaimed = record {
+  -- a publisher may deliver
+  pub ready-to-deliver : IsReadyToDeliver x.id f.connections x.keys (map (option_map details_of) f.subscribers)
+  ready-to-deliver = record {
     linked = sender-linked f parts i x stands;
     apart = parts.apart;
     knows = parts.linked.knows;
     one_id = λ q. IsOnly-map details_of (is_subscriber q) (has_id q) (λ y. refl) f.subscribers (parts.subscriber_ids q);
-    reclaimed = reclaimed;
   }
 
 module _ {T U : Type 0} (environment : Environment) (before f : Fields T U) (same : f ≡ before) (i : ℕ) (y : PublisherFields) (stands : get_or f.publishers i None ≡ Some y) where
   -- the delivery of the publisher that stands at the place
   pub delivers-to : (b book : Book) → get f.books y.book ≡ Some b → (new : Slab Link) → book ≡ with_counters b book.holders → Recounts y.id b.holders f.connections book.holders new
-      → (slot count : ℕ)
+      → (slot count : ℕ) → GrowsAlone slot b.holders book.holders
       → ((number : ℕ → ℕ → ℕ)
       → Deliver environment f.config y.id y.strategy y.backpressure_handler (buffers_of (map (option_map details_of) f.subscribers)) (number y.id slot)
       0 no_time 0 (sender_ends f.connections y.keys) 0 false (mailboxes_of number f.connections y.id) (Complete count false) (mailboxes_of number new y.id))
       → (x : PublisherFields) → get_or before.publishers i None ≡ Some x
       → DeliversTo environment before x slot count (record f { connections = new; books = with_value f.books y.book book })
-  delivers-to b book at new is r slot count delivers x there =
+  delivers-to b book at new is r slot count alone delivers x there =
       subst (λ (h : Fields T U). DeliversTo environment h x slot count (record f { connections = new; books = with_value f.books y.book book })) same
       (subst (λ (z : PublisherFields). DeliversTo environment f z slot count (record f { connections = new; books = with_value f.books y.book book })) it (record {
         book = b;
@@ -88,8 +91,68 @@ module _ {T U : Type 0} (environment : Environment) (before f : Fields T U) (sam
         connections = new;
         delivered = ap (λ (c : Book). record f { connections = new; books = with_value f.books y.book c }) is;
         recounts = r;
+        alone = alone;
         delivers = delivers;
       }))
     where
       it : y ≡ x
       it = let both : Some y ≡ Some x = sym stands ∙ ap (λ (h : Fields T U). get_or h.publishers i None) same ∙ there in cc
+
+  -- and its end
+  pub sends-slot : (b book : Book) → get f.books y.book ≡ Some b → (new : Slab Link) → book ≡ with_counters b book.holders → Recounts y.id b.holders f.connections book.holders new
+      → (slot count : ℕ) → GrowsAlone slot b.holders book.holders
+      → ((number : ℕ → ℕ → ℕ)
+      → Deliver environment f.config y.id y.strategy y.backpressure_handler (buffers_of (map (option_map details_of) f.subscribers)) (number y.id slot)
+      0 no_time 0 (sender_ends f.connections y.keys) 0 false (mailboxes_of number f.connections y.id) (Complete count false) (mailboxes_of number new y.id))
+      → (out : PublisherFields) → out ≡ with_loan_out slot y → (sent : Book) → sent ≡ with_sent slot book
+      → (x : PublisherFields) → get_or before.publishers i None ≡ Some x
+      → SendsSlot environment before i x slot count (record f { publishers = slice_set f.publishers i (Some out); connections = new; books = with_value f.books y.book sent })
+  sends-slot b book at new is r slot count alone delivers out is_out sent is_sent x there =
+      subst (λ (z : PublisherFields). SendsSlot environment before i z slot count (record f { publishers = slice_set f.publishers i (Some out); connections = new; books = with_value f.books y.book sent })) it (record {
+        delivered = record f { connections = new; books = with_value f.books y.book book };
+        delivers = delivers-to b book at new is r slot count alone delivers y here;
+        book = book;
+        stands = get_or-set_same f.books.slots y.book (Some book) None (within_if_some f.books.slots y.book b at);
+        ended = λ j. record f { publishers = slice_set f.publishers i (Some (is_out j)); connections = new; books = twice j };
+      })
+    where
+      here : get_or before.publishers i None ≡ Some y
+      here = sym (ap (λ (h : Fields T U). get_or h.publishers i None) same) ∙ stands
+
+      it : y ≡ x
+      it = let both : Some y ≡ Some x = sym here ∙ there in cc
+
+      twice : with_value f.books y.book sent ≡ with_value (with_value f.books y.book book) y.book (with_sent slot book)
+      twice = ap (with_value f.books y.book) is_sent
+          ∙ sym (ap (λ (books : List (Option Book)). let slab : Slab Book = record f.books { slots = books } in slab) (set-set f.books.slots y.book (Some book) (Some (with_sent slot book))))
+
+module _ {T U : Type 0} (before f : Fields T U) (same : f ≡ before) (i slot : ℕ) (can : (x : PublisherFields) × (get_or before.publishers i None ≡ Some x) × CanSend before x slot)
+    (y : PublisherFields) (stands : get_or f.publishers i None ≡ Some y) where
+  sender-is : can.0 ≡ y
+  sender-is = let both : Some can.0 ≡ Some y = sym can.1 ∙ sym (ap (λ (h : Fields T U). get_or h.publishers i None) same) ∙ stands in cc
+
+  -- it stands once among its loans
+  pub sent-once : times slot y.loans ≤ 1
+  sent-once = subst (λ (z : PublisherFields). times slot z.loans ≤ 1) sender-is can.2.once
+
+  module _ (b : Book) (at : get f.books y.book ≡ Some b) where
+    book-is : can.2.book ≡ b
+    book-is =
+        let both : Some can.2.book ≡ Some b =
+        sym can.2.stands ∙ ap (λ (z : PublisherFields). get before.books z.book) sender-is ∙ sym (ap (λ (h : Fields T U). get h.books y.book) same) ∙ at in
+        cc
+
+    -- the publisher itself is the one holder of the slot
+    pub sent-alone : holders_at b slot ≡ 1
+    sent-alone = ap (λ (c : Book). holders_at c slot) (sym book-is) ∙ can.2.alone
+
+    pub sent-own : HoldsItself y.id slot b.holders f.connections.slots
+    sent-own = subst (λ (h : Fields T U). HoldsItself y.id slot b.holders h.connections.slots) (sym same)
+        (subst (λ (z : PublisherFields). HoldsItself z.id slot b.holders before.connections.slots) sender-is
+        (subst (λ (c : Book). HoldsItself (can.0).id slot c.holders before.connections.slots) book-is can.2.own))
+
+    -- so the slot is in use after the delivery
+    pub sent-in_use : (holders : List ℕ) (new : Slab Link) → Recounts y.id b.holders f.connections holders new → (slot < length holders) × (0 < get_or holders slot 0)
+    sent-in_use holders new r =
+        let some = own-in_use y.id slot holders new.slots (own-still y.id slot b.holders holders f.connections new sent-own r) in
+        (in_range holders slot some, some)

@@ -1,11 +1,11 @@
 -- A publisher's loan is published: it goes to its receivers, and is out no more.
-use Rattle.std.proofs.Common.{◌≡◌, ◌≢◌, ℕ, le_refl, ◌<◌, ◌≤◌, true, false, cond, List, [], ◌∷◌, ◌++◌, length, map, get_or, refl, ap, sym, subst, ◌∙◌, inl, inr, ⊎_elim, arith}
+use Rattle.std.proofs.Common.{◌≡◌, ◌≢◌, ℕ, le_refl, ◌<◌, ◌≤◌, true, false, cond, List, [], ◌∷◌, ◌++◌, length, map, get_or, refl, ap, sym, subst, ◌∙◌, inl, inr, ⊎_elim, arith, set-set}
 use Rattle.std.proofs.lemmas.Bool.{cases_eq, ne_eqb, eq-eqb}
 use Rattle.std.proofs.lemmas.List.{length-set}
 use Rattle.std.specs.declared.option.Option.{Option}
 use Rattle.std.specs.declared.option.Option.TheVariants.{None, Some}
 use Rattle.std.specs.Option.{MatchOption, option_map, option_and_then}
-use Rattle.slab.specs.Slab.{get}
+use Rattle.slab.specs.Slab.{get, Slab}
 use Rattle.iox2_store.specs.machine.Delivery.{Complete, Deliver, no_time}
 use Rattle.iox2_store.specs.machine.Loans.{entry_of}
 use Rattle.iox2_store.specs.SlotBook.{Book, IsInUse, holders_at}
@@ -30,8 +30,8 @@ use Rattle.iox2_laws.proofs.SendLaws.{publish_keeps}
 use Rattle.iox2_domain.specs.Ports.{PublisherFields, SubscriberFields}
 use Rattle.iox2_domain.specs.Kept.{Named, Lent_message, state_of, entries_of, is_named, entry_in, KeptMessage}
 use Rattle.iox2_domain.specs.Fields.{Fields, kept_of, publisher_of, subscriber_of, numbers_of, blocked_send}
-use Rattle.iox2_domain.specs.Invariant.{IsDomain, HasNumber, details_of, is_subscriber, holders_of}
-use Rattle.iox2_domain.specs.Deliveries.{DeliversTo, Publishes, with_sent, with_send_ended}
+use Rattle.iox2_domain.specs.Invariant.{IsDomain, HasNumber, details_of, is_subscriber, holders_of, HasLoneLoans}
+use Rattle.iox2_domain.specs.Deliveries.{DeliversTo, SendsSlot, Publishes, with_sent, with_send_ended}
 use Rattle.iox2_domain.proofs.lemmas.containers.LookUps.{look_up-map}
 use Rattle.iox2_domain.proofs.lemmas.fields.Views.{mailboxes-are, unblocked}
 use Rattle.iox2_domain.proofs.lemmas.fields.ConnectionEnds.{publisher-stands}
@@ -45,6 +45,7 @@ use Rattle.iox2_domain.proofs.lemmas.slots.Recounts.{forth}
 use Rattle.iox2_domain.proofs.lemmas.slots.RecountedState.{recounted_fields, parts-recounted, same-numbers, recounted-is, recounted-entries, recounted-keeps}
 use Rattle.iox2_domain.proofs.lemmas.sends.LoanAlone.{loan-is, loan-of, loan-slot, loan-once, loan-number}
 use Rattle.iox2_domain.proofs.lemmas.sends.SendEnded.{only-slot, sent-there, others-same, ended-entries, ended-is, ended-parts}
+use Rattle.iox2_domain.proofs.lemmas.slots.LoneLoans.{lone-sent}
 use mathlib.Core.Path.{fun_ext}
 
 -- a list with no elements
@@ -123,6 +124,12 @@ module _ {T U : Type 0} (environment : Environment) (f : Fields T U) (sound : Is
 
   parts-after : HasParts after
   parts-after = ended-parts mid parts i x here book book-stands own slot n l is_in_use lies-still is_written once
+
+  lone-after : HasLoneLoans after.books
+  lone-after =
+      subst HasLoneLoans (sym (ap (λ (books : List (Option Book)). let slab : Slab Book = record f.books { slots = books } in slab) (set-set f.books.slots x.book (Some book) (Some (with_sent slot book)))))
+      (lone-sent f.books x.book slot d.book d.holders d.stands sound.lone
+      (omega (arith, is_in_use.in_bounds, d.recounts.slots, (sound.books.books x.book d.book d.stands).aligned.marks)) d.alone.others)
 
   -- ---- the state
 
@@ -306,7 +313,7 @@ module _ {T U : Type 0} (environment : Environment) (f : Fields T U) (sound : Is
   -- the loan is published
   pub sent-publishes : Publishes environment f after x.id n l (Delivered_to count)
   sent-publishes = record {
-    agrees = whole_of after parts-after well entries-after;
+    agrees = whole_of after parts-after lone-after well entries-after;
     publishes = publishes;
     loans = ap (λ (t : State T U). t.loans) ended-state;
     entries = λ m entry e. elim (ended-entries mid parts i x here book book-stands own slot n l is_in_use lies-still is_written once m entry e) [
@@ -315,15 +322,17 @@ module _ {T U : Type 0} (environment : Environment) (f : Fields T U) (sound : Is
     ];
   }
 
-  -- ---- what the end of the send needs
-
-  pub delivered-book : (b : Book) → get g.books x.book ≡ Some b → b ≡ book
-  delivered-book b at = let both : Some b ≡ Some book = sym at ∙ ap (λ (h : Fields T U). get h.books x.book) d.delivered ∙ book-stands in cc
-
-  pub delivered-in_use : (get g.books x.book ≡ Some book) × IsInUse book slot
-  delivered-in_use = (ap (λ (h : Fields T U). get h.books x.book) d.delivered ∙ book-stands, is_in_use)
-
   -- with the fields that the code makes of those after the delivery
-  pub send-publishes : (h : Fields T U) → ((b : Book) → get g.books x.book ≡ Some b → h ≡ with_send_ended g i x slot b) → Publishes environment f h x.id n l (Delivered_to count)
-  send-publishes h is = subst (λ (k : Fields T U). Publishes environment f k x.id n l (Delivered_to count))
-      (sym (is book delivered-in_use.0 ∙ ap (λ (k : Fields T U). with_send_ended k i x slot book) d.delivered)) sent-publishes
+  ended-publishes : (h : Fields T U) (b : Book) → get g.books x.book ≡ Some b → h ≡ with_send_ended g i x slot b → Publishes environment f h x.id n l (Delivered_to count)
+  ended-publishes h b there is = subst (λ (k : Fields T U). Publishes environment f k x.id n l (Delivered_to count))
+      (sym (is ∙ ap (with_send_ended g i x slot) delivered-book ∙ ap (λ (k : Fields T U). with_send_ended k i x slot book) d.delivered)) sent-publishes
+    where
+      delivered-book : b ≡ book
+      delivered-book = let both : Some b ≡ Some book = sym there ∙ ap (λ (h : Fields T U). get h.books x.book) d.delivered ∙ book-stands in cc
+
+-- a slot that is sent publishes its loan
+pub send-publishes : {T U : Type 0} (environment : Environment) (f : Fields T U) (sound : IsDomain f) (i : ℕ) (x : PublisherFields) (here : get_or f.publishers i None ≡ Some x)
+    (slot n : ℕ) (l : Loan T U) (lies : lies_at f x.book slot ≡ Some (Lent_message n l)) (is_written : l.is_written ≡ true) (count : ℕ) (h : Fields T U)
+    → SendsSlot environment f i x slot count h → Publishes environment f h x.id n l (Delivered_to count)
+send-publishes environment f sound i x here slot n l lies is_written count h sent =
+    ended-publishes environment f sound i x here slot n l lies is_written count sent.delivered sent.delivers h sent.book sent.stands sent.ended

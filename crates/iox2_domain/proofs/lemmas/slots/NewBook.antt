@@ -1,6 +1,6 @@
 -- A book enters of which no slot is in use.
 use Rattle.std.proofs.Common.{◌≡◌, ◌≢◌, ℕ, zero, suc, ◌<◌, List, [], map, true, cond, eqb, get_or, replicate, refl, ap, sym, subst, ◌∙◌, inl, inr, ◌⊎◌, arith}
-use Rattle.std.proofs.lemmas.Bool.{cases_eq, eqb-true, ne_eqb}
+use Rattle.std.proofs.lemmas.Bool.{cases_eq, eqb-true, ne_eqb, ltb-true}
 use Rattle.std.specs.declared.option.Option.{Option}
 use Rattle.std.specs.declared.option.Option.TheVariants.{None, Some}
 use Rattle.std.specs.Option.{option_map, option_map_or}
@@ -14,13 +14,14 @@ use Rattle.iox2_ends.specs.Mailboxes.{sender_ends}
 use Rattle.iox2_domain.specs.Ports.{PublisherFields}
 use Rattle.iox2_domain.specs.Kept.{message_numbered}
 use Rattle.iox2_domain.specs.Fields.{Fields, kept_book, map_from, is_book_of, numbers_of, message_in, messages_in, contents_at, publisher_of, between_of, blocked_send}
-use Rattle.iox2_domain.specs.Invariant.{IsDomain, HasNumber, IsNumbered}
+use Rattle.iox2_domain.specs.Invariant.{IsDomain, HasNumber, IsNumbered, HasLoneLoans}
 use Rattle.iox2_domain.specs.NewPublisher.{BookEnters}
 use Rattle.iox2_domain.proofs.lemmas.containers.LookUps.{look_up-written, IsOnly-inserted}
 use Rattle.iox2_domain.proofs.lemmas.fields.ConnectionEnds.{publisher-stands}
 use Rattle.iox2_domain.proofs.lemmas.slots.MessageLists.{look_up-nothing_there, found_in, numbered-same}
 use Rattle.iox2_domain.proofs.lemmas.slots.Messages.{map_from_zero-at}
 use Rattle.iox2_domain.proofs.lemmas.slots.Renumbered.{map-alike}
+use Rattle.iox2_ends.proofs.MailboxChanges.{both-true}
 
 none_of : (n i : ℕ) → get_or {A = ℕ} (replicate n 0) i 0 ≡ 0
 none_of zero zero = refl
@@ -145,6 +146,17 @@ module _ {T U : Type 0} (f : Fields T U) (sound : IsDomain f) (slots room key : 
   numbered-still = record {
     one = λ k k' slot slot' n here there. sound.numbered.one k k' slot slot' n (had_number k slot n here) (had_number k' slot' n there);
     below = λ k slot n here. sound.numbered.below k slot n (had_number k slot n here);
+  }
+
+  pub lone-still : HasLoneLoans books
+  lone-still = record {
+    at = λ k slot b there loan. elim (was_book k b there) [
+      | inl new ↦
+          let none : holders_at b slot ≡ 0 = ap (λ (c : Book). holders_at c slot) new.1 ∙ unheld slot in
+          let some : 0 < holders_at b slot = ltb-true 0 (holders_at b slot) (both-true _ _ loan).0 in
+          absurd (omega arith)
+      | inr old ↦ sound.lone.at k slot b old.1 loan
+    ];
   }
 
   -- ---- publishers and connections look as they did

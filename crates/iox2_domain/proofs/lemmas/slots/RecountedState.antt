@@ -31,6 +31,7 @@ use Rattle.iox2_domain.proofs.lemmas.slots.BookChanges.{KeepsSlots, numbers-same
 use Rattle.iox2_domain.proofs.lemmas.fields.SameEnds.{with_connections, connections-are}
 use Rattle.iox2_domain.proofs.lemmas.slots.HeldMessages.{slot_numbered, own-in_use, lies_with, held-message-slot}
 use Rattle.iox2_domain.proofs.lemmas.slots.Recounts.{with_recounted, recounted-parts, back, forth, number-back}
+use Rattle.iox2_domain.proofs.lemmas.slots.LoneLoans.{lone-counters}
 use mathlib.Core.Path.{fun_ext}
 
 -- the publisher of a loan is that of the book in which it lies
@@ -158,6 +159,7 @@ module _ {T U : Type 0} (f : Fields T U) (sound : IsDomain f) (p key : ℕ) (b :
   pub reclaimed-reaches : Reaches f with_reclaimed (state_of (kept_of f))
   reclaimed-reaches = record {
     agrees = whole_of with_reclaimed (parts-recounted f sound p key b at mine holders new r.recounts)
+        (lone-counters f.books key b holders at sound.lone r.shrinks)
         (subst IsWellFormed (sym reclaimed-is) sound.well_formed)
         (λ q n held.
         let old = sound.entries q n (subst (λ s. IsHeldMessage s q n) reclaimed-is held) in

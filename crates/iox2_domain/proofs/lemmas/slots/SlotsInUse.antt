@@ -26,7 +26,7 @@ use Rattle.iox2_laws.proofs.Altered.{in_three, in_first, in_second, in_third}
 use Rattle.iox2_laws.proofs.MailboxLemmas.{has_numbers-contains}
 use Rattle.iox2_laws.proofs.NumberLemmas.{contains_in_append, contains_left, contains_right, contains_in_flat_map, contains-flat_map}
 use Rattle.iox2_laws.proofs.PlaceLemmas.{contains-occupants}
-use Rattle.iox2_laws.proofs.Sizes.{size_is}
+use Rattle.iox2_laws.proofs.Sizes.{size_is, size_le}
 use Rattle.iox2_domain.specs.Ports.{PublisherFields}
 use Rattle.iox2_domain.specs.Kept.{state_of}
 use Rattle.iox2_domain.specs.Fields.{Fields, kept_of, publisher_of, is_book_of, numbers_of}
@@ -137,6 +137,19 @@ module _ {T U : Type 0} (f : Fields T U) (sound : IsDomain f) where
         (record { book = its_book.book; stands = its_book.stands; in_use = held_j; number = sym (numbers-are j) ∙ same })
         (record { book = its_book.book; stands = its_book.stands; in_use = held_k; number = sym (numbers-are k) })).1
 
+    -- what it holds is in use
+    held-used : (n : ℕ) → contains (held state x.id machine) n ≡ true → contains (used (its_book.book).holders number) n ≡ true
+    held-used n e =
+        let slot = held-there n e in
+        ap (contains (used (its_book.book).holders number)) (sym slot.2) ∙ used-has (its_book.book).holders number slot.0 slot.1
+
+    -- where some slot of the book is free the publisher holds fewer different messages and loans than the book has slots
+    pub size-free : (slot : ℕ) → slot < length (its_book.book).holders → holders_at its_book.book slot ≡ 0 → size (held state x.id machine) < length (its_book.book).holders
+    size-free slot lt free =
+        let few = size_le (held state x.id machine) (used (its_book.book).holders number) (used-once (its_book.book).holders number numbers-apart) held-used in
+        let fewer = length-used_free (its_book.book).holders number slot lt free in
+        omega (arith, few, fewer)
+
     module _ (reclaimed : HasReclaimed f.connections x.keys) where
       -- no slot of it that was given back isn't reclaimed
       none_returned : (key : ℕ) (c : Link) → get f.connections key ≡ Some c → c.home.publisher ≡ x.id → c.returned ≡ []
@@ -203,16 +216,11 @@ module _ {T U : Type 0} (f : Fields T U) (sound : IsDomain f) where
             of_link key (Some c) at_c some_here = own_link key c at_c (eqb c.home.publisher x.id) refl some_here
 
       same-numbers : (n : ℕ) → contains (held state x.id machine) n ≡ contains (used (its_book.book).holders number) n
-      same-numbers n = both (contains (held state x.id machine) n) (contains (used (its_book.book).holders number) n) forth back where
+      same-numbers n = both (contains (held state x.id machine) n) (contains (used (its_book.book).holders number) n) (held-used n) back where
         both : (a b : Bool) → (a ≡ true → b ≡ true) → (b ≡ true → a ≡ true) → a ≡ b
         both true b forth back = sym (forth refl)
         both false true forth back = back refl
         both false false forth back = refl
-
-        forth : contains (held state x.id machine) n ≡ true → contains (used (its_book.book).holders number) n ≡ true
-        forth e =
-            let slot = held-there n e in
-            ap (contains (used (its_book.book).holders number)) (sym slot.2) ∙ used-has (its_book.book).holders number slot.0 slot.1
 
         back : contains (used (its_book.book).holders number) n ≡ true → contains (held state x.id machine) n ≡ true
         back e =
@@ -226,7 +234,3 @@ module _ {T U : Type 0} (f : Fields T U) (sound : IsDomain f) where
       -- where each slot of the book has a holder it holds as many as the book has slots
       pub size-full : All (λ n. 0 < n) (its_book.book).holders → size (held state x.id machine) ≡ length (its_book.book).holders
       size-full all = size-held ∙ length-used_all (its_book.book).holders number all
-
-      -- where some slot is free it holds fewer
-      pub size-free : (slot : ℕ) → slot < length (its_book.book).holders → holders_at its_book.book slot ≡ 0 → size (held state x.id machine) < length (its_book.book).holders
-      size-free slot lt free = let fewer = length-used_free (its_book.book).holders number slot lt free in omega (arith, size-held)

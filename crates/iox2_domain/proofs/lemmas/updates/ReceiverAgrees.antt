@@ -212,6 +212,7 @@ module _ {T U : Type 0} (f : Fields T U) (sound : IsDomain f) (j : ℕ) (y : Sub
     };
     counted = counted;
     numbered = sound.numbered;
+    lone = sound.lone;
     publisher_room = sound.publisher_room;
     warning_room = room;
     shapes = record { at = sound.shapes.at };

@@ -242,6 +242,7 @@ module _ {T U : Type 0} (f : Fields T U) (sound : IsDomain f) (i : ℕ) (x : Pub
     };
     counted = counted;
     numbered = sound.numbered;
+    lone = sound.lone;
     publisher_room = λ k z at_z. elim (stood k z at_z) [
       | inl here ↦ rw here.1 (let has = sound.publisher_room i x at in record { loans = has.loans; history = has.history })
       | inr old ↦ sound.publisher_room k z old

@@ -3,6 +3,7 @@ use Rattle.std.proofs.lemmas.List.{length-map}
 use Rattle.iox2_ends.specs.Mailboxes.{subscriber_of_key, sender_ends}
 use Rattle.iox2_ends.proofs.DeliverySteps.{ends-at, deliver-more, deliver-stops, IsReadyToDeliver-same}
 use Rattle.iox2_ends.proofs.Recounts.{Recounts-same, Recounts-trans}
+use Rattle.iox2_ends.proofs.ReclaimedPuts.{GrowsAlone-same, GrowsAlone-trans, own-still}
 use Rattle.std.proofs.Common.{ap}
 use Rattle.iox2_store.specs.SlotBook.{Book}
 use Rattle.iox2_ends.specs.Counters.{with_counters}
@@ -18,7 +19,7 @@ loop-place-init g c = record {
   walk = λ number how boxes' rest. rest;
   few = omega arith;
   book = refl;
-  in_use = omega arith;
+  alone = GrowsAlone-same c.args.delivery.now.slot c.args.book.now.holders;
   grows = omega arith;
 }
 
@@ -35,7 +36,7 @@ returns-then-is_blocking-clause-recounts g c = Recounts-trans c.args.delivery.no
 
 pub loop-place-preserved : goal.loop-place-preserved
 loop-place-preserved g c = record {
-  ready = IsReadyToDeliver-same c.args.delivery.now.publisher _ _ c.args.keys.now (map (option_map g.R.Receiver.details_of) c.args.receivers.now) c.loop-place.invariant.ready c.deliver_at-reception.ensures.recounts.homes c.deliver_at-reception.ensures.reclaimed;
+  ready = IsReadyToDeliver-same c.args.delivery.now.publisher _ _ c.args.keys.now (map (option_map g.R.Receiver.details_of) c.args.receivers.now) c.loop-place.invariant.ready c.deliver_at-reception.ensures.recounts.homes;
   recounts = Recounts-trans c.args.delivery.now.publisher _ _ _ _ _ _ c.loop-place.invariant.recounts c.deliver_at-reception.ensures.recounts;
   walk = λ number how boxes' rest. c.loop-place.invariant.walk number how boxes'
       (deliver-more fixed_handlers c.args.config.now c.args.delivery.now (map (option_map g.R.Receiver.details_of) c.args.receivers.now) (number c.args.delivery.now.publisher c.args.delivery.now.slot) (sender_ends c.args.connections.now c.args.keys.now) c.loop-place.place c.loop-place.count _ _ boxes' c.deliver_at-reception.result how
@@ -45,6 +46,12 @@ loop-place-preserved g c = record {
       (rw c.accepted_count-count.ensures.value at rest));
   few = omega (arith, c.accepted_count-count.ensures.few);
   book = c.deliver_at-reception.ensures.book ∙ ap (λ (b : Book). with_counters b c.deliver_at-reception.new.book.holders) c.loop-place.invariant.book;
-  in_use = omega (arith, c.deliver_at-reception.ensures.keeps, c.loop-place.invariant.in_use);
+  alone = GrowsAlone-trans c.args.delivery.now.slot _ _ _ c.loop-place.invariant.alone c.deliver_at-reception.ensures.alone;
   grows = omega (arith, c.deliver_at-reception.ensures.grows, c.loop-place.invariant.grows);
 }
+
+pub deliver_at-reception-requires-clause-own : goal.deliver_at-reception-requires-clause-own
+deliver_at-reception-requires-clause-own g c = own-still c.args.delivery.now.publisher c.args.delivery.now.slot _ _ _ _ c.requires.own c.loop-place.invariant.recounts
+
+pub returns-then-is_blocking-clause-alone : goal.returns-then-is_blocking-clause-alone
+returns-then-is_blocking-clause-alone g c = GrowsAlone-trans c.args.delivery.now.slot _ _ _ c.loop-place.invariant.alone c.deliver_at-reception.ensures.alone

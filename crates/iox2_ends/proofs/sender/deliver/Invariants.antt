@@ -4,7 +4,7 @@ use Rattle.iox2_store.specs.machine.Delivery.{DeliveryEnd}
 use Rattle.iox2_store.specs.machine.Environments.{fixed_handlers}
 use Rattle.iox2_ends.specs.Mailboxes.{mailboxes_of, sender_ends}
 use Rattle.iox2_ends.specs.Receivers.{IsReadyToDeliver}
-use Rattle.iox2_ends.specs.Counters.{with_counters}
+use Rattle.iox2_ends.specs.Counters.{GrowsAlone, with_counters}
 use Rattle.iox2_ends.specs.Recounts.{Recounts}
 use Rattle.iox2_ends.specs.Deliveries.{DeliversMessage}
 use Rattle.std.specs.Prelude.{map}
@@ -21,6 +21,6 @@ invariant-loop-place g l = record {
       → DeliversMessage fixed_handlers l.config l.delivery (map (option_map g.R.Receiver.details_of) l.receivers) (number l.delivery.publisher l.delivery.slot) 0 (sender_ends l.fn.connections l.keys) 0 (mailboxes_of number l.fn.connections l.delivery.publisher) how boxes';
   few : l.count ≤ l.place;
   book : l.book ≡ with_counters l.fn.book l.book.holders;
-  in_use : slice_index l.fn.book.holders l.delivery.slot ≤ slice_index l.book.holders l.delivery.slot;
+  alone : GrowsAlone l.delivery.slot l.fn.book.holders l.book.holders;
   grows : slice_index l.book.holders l.delivery.slot ≤ slice_index l.fn.book.holders l.delivery.slot + l.place;
 }

@@ -1,19 +1,13 @@
 use Rattle.iox2_domain.proofs.lemmas.loans.LoanCalls.{is-unwritten, can-write, write-done}
 use Rattle.iox2_messages.proofs.loan_calls.write_loan.Goals as goal
 
-pub unreachable-requires : goal.unreachable-requires
-unreachable-requires g c = let live = c.requires.live in c.in_default.ensures (live.0, live.1, live.2)
-
 pub write_slot-requires : goal.write_slot-requires
 write_slot-requires g c =
-    can-write {T = g.row.T.Denot} {U = g.row.U.Denot} c.args.state.now c.requires.agrees c.args.loan.publisher c.args.loan.number c.in-Some.at.book c.in-Some.at.slot c.in-Some.ensures
-    c.requires.single (is-unwritten c.args.state.now c.requires.agrees c.args.loan.publisher c.args.loan.number c.in-Some.at.book c.in-Some.at.slot c.in-Some.ensures c.requires.live)
-
-pub returns-clause-lies : goal.returns-clause-lies
-returns-clause-lies g c = (c.in-Some.at.book, c.in-Some.ensures)
+    can-write {T = g.row.T.Denot} {U = g.row.U.Denot} c.args.state.now c.requires.agrees c.args.loan.publisher c.args.loan.number c.find_live_loan-at.result.book c.find_live_loan-at.result.slot c.find_live_loan-at.ensures
+    c.requires.single (is-unwritten c.args.state.now c.requires.agrees c.args.loan.publisher c.args.loan.number c.find_live_loan-at.result.book c.find_live_loan-at.result.slot c.find_live_loan-at.ensures c.requires.live)
 
 pub returns-clause-writes : goal.returns-clause-writes
 returns-clause-writes g c =
-    write-done {T = g.row.T.Denot} {U = g.row.U.Denot} c.args.state.now c.requires.agrees c.args.loan.publisher c.args.loan.number c.in-Some.at.book c.in-Some.at.slot c.in-Some.ensures
-    c.requires.single (is-unwritten c.args.state.now c.requires.agrees c.args.loan.publisher c.args.loan.number c.in-Some.at.book c.in-Some.at.slot c.in-Some.ensures c.requires.live)
+    write-done {T = g.row.T.Denot} {U = g.row.U.Denot} c.args.state.now c.requires.agrees c.args.loan.publisher c.args.loan.number c.find_live_loan-at.result.book c.find_live_loan-at.result.slot c.find_live_loan-at.ensures
+    c.requires.single (is-unwritten c.args.state.now c.requires.agrees c.args.loan.publisher c.args.loan.number c.find_live_loan-at.result.book c.find_live_loan-at.result.slot c.find_live_loan-at.ensures c.requires.live)
     c.write_slot.new.state c.args.value c.write_slot.ensures

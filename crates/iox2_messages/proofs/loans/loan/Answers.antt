@@ -5,22 +5,22 @@ use Rattle.iox2_messages.proofs.loans.loan.Goals as goal
 
 pub returns-in-Some-clause-reaches : goal.returns-in-Some-clause-reaches
 returns-in-Some-clause-reaches g c =
-    loan-refused {T = g.row.T.Denot} {U = g.row.U.Denot} g.U.Default.is_default c.args.state.now c.reclaim.new.state c.requires.agrees c.args.place c.requires.stands
-    c.reclaim.ensures.reaches (ap (λ (f : Fields g.row.T.Denot g.row.U.Denot). f.publishers) c.reclaim.ensures.only) c.in-Some.refusal c.in-Some.ensures
+    loan-refused {T = g.row.T.Denot} {U = g.row.U.Denot} g.U.Default.is_default c.args.state.now c.reclaim_if_full.new.state c.requires.agrees c.args.place c.requires.stands
+    c.reclaim_if_full.ensures.reaches (ap (λ (f : Fields g.row.T.Denot g.row.U.Denot). f.publishers) c.reclaim_if_full.ensures.only) c.in-Some.refusal c.in-Some.ensures
 
 pub returns-clause-reaches : goal.returns-clause-reaches
 returns-clause-reaches g c =
-    loan-lent {T = g.row.T.Denot} {U = g.row.U.Denot} g.U.Default.is_default c.args.state.now c.reclaim.new.state c.requires.agrees c.args.place c.requires.stands
-    c.reclaim.ensures.reaches (ap (λ (f : Fields g.row.T.Denot g.row.U.Denot). f.publishers) c.reclaim.ensures.only) c.reclaim.ensures.reclaimed c.in_default.ensures
+    loan-lent {T = g.row.T.Denot} {U = g.row.U.Denot} g.U.Default.is_default c.args.state.now c.reclaim_if_full.new.state c.requires.agrees c.args.place c.requires.stands
+    c.reclaim_if_full.ensures.reaches (ap (λ (f : Fields g.row.T.Denot g.row.U.Denot). f.publishers) c.reclaim_if_full.ensures.only) c.in_default.ensures
     c.grant.result c.grant.new.state c.grant.ensures.lends
 
 pub returns-clause-named : goal.returns-clause-named
 returns-clause-named g c =
-    loan-named {T = g.row.T.Denot} {U = g.row.U.Denot} g.U.Default.is_default c.args.state.now c.reclaim.new.state c.requires.agrees c.args.place c.requires.stands
-    c.reclaim.ensures.reaches (ap (λ (f : Fields g.row.T.Denot g.row.U.Denot). f.publishers) c.reclaim.ensures.only) c.grant.result c.grant.ensures.named
+    loan-named {T = g.row.T.Denot} {U = g.row.U.Denot} g.U.Default.is_default c.args.state.now c.reclaim_if_full.new.state c.requires.agrees c.args.place c.requires.stands
+    c.reclaim_if_full.ensures.reaches (ap (λ (f : Fields g.row.T.Denot g.row.U.Denot). f.publishers) c.reclaim_if_full.ensures.only) c.grant.result c.grant.ensures.named
 
 pub returns-clause-lies : goal.returns-clause-lies
 returns-clause-lies g c =
-    loan-lies {T = g.row.T.Denot} {U = g.row.U.Denot} g.U.Default.is_default c.args.state.now c.reclaim.new.state c.requires.agrees c.args.place c.requires.stands
-    c.reclaim.ensures.reaches (ap (λ (f : Fields g.row.T.Denot g.row.U.Denot). f.publishers) c.reclaim.ensures.only) c.reclaim.ensures.reclaimed c.in_default.ensures
+    loan-lies {T = g.row.T.Denot} {U = g.row.U.Denot} g.U.Default.is_default c.args.state.now c.reclaim_if_full.new.state c.requires.agrees c.args.place c.requires.stands
+    c.reclaim_if_full.ensures.reaches (ap (λ (f : Fields g.row.T.Denot g.row.U.Denot). f.publishers) c.reclaim_if_full.ensures.only) c.in_default.ensures
     c.grant.result c.grant.new.state c.grant.ensures.named c.grant.ensures.lends

@@ -1,10 +1,8 @@
 use Rattle.std.proofs.Common.{rules, ◌≡◌, slice_index_or, None, Some, length, vec_len, true, false, refl, sym, subst, ap, ◌∙◌, arith}
 use Rattle.iox2_store.specs.declared.errors.LoanError.TheVariants.{OutOfMemory, InternalFailure, ExceedsMaxLoans}
-use Rattle.iox2_ends.specs.Receivers.{HasReclaimed}
-use Rattle.iox2_domain.specs.Ports.{PublisherFields}
 use Rattle.iox2_domain.specs.Fields.{Fields}
 use Rattle.iox2_domain.specs.Invariant.{IsDomain}
-use Rattle.iox2_domain.specs.Lending.{LoanDecided}
+use Rattle.iox2_domain.specs.Lending.{LoanDecided, IsReclaimedIfFull}
 use Rattle.iox2_domain.proofs.lemmas.fields.Parts.{parts_of}
 use Rattle.iox2_domain.proofs.lemmas.slots.PublisherBooks.{read-there, book-there}
 use Rattle.iox2_domain.proofs.lemmas.loans.Lent.{decided-limited, decided-full, decided-failed, decided-free}
@@ -21,9 +19,11 @@ returns-then-is_full g c =
     subst (λ (f : Fields g.row.T.Denot g.row.U.Denot). LoanDecided f c.args.place (Some OutOfMemory)) c.state.view_is
     (decided-full _ (subst (IsDomain {T = g.row.T.Denot} {U = g.row.U.Denot}) (sym c.state.view_is) c.requires.agrees) c.args.place _
     (read-there _ c.args.place _ _ (ap (λ (f : Fields g.row.T.Denot g.row.U.Denot). slice_index_or f.publishers c.args.place None) c.state.view_is ∙ c.requires.stands.1) c.index.ensures ∙ c.in-Some.is ∙ ap Some (sym c.publisher.view_is))
-    (subst (λ (f : Fields g.row.T.Denot g.row.U.Denot). (x : PublisherFields) → slice_index_or f.publishers c.args.place None ≡ Some x → HasReclaimed f.connections x.keys) (sym c.state.view_is) c.requires.reclaimed _
-    (read-there _ c.args.place _ _ (ap (λ (f : Fields g.row.T.Denot g.row.U.Denot). slice_index_or f.publishers c.args.place None) c.state.view_is ∙ c.requires.stands.1) c.index.ensures ∙ c.in-Some.is ∙ ap Some (sym c.publisher.view_is)))
-    (omega (arith, c.if-len-publisher.false, c.len.ensures, long)) _ c.index-2.ensures (c.if-is_full.ensures.0 refl))
+    (omega (arith, c.if-len-publisher.false, c.len.ensures, long)) _ c.index-2.ensures
+    ((subst (λ (f : Fields g.row.T.Denot g.row.U.Denot). IsReclaimedIfFull f c.args.place) (sym c.state.view_is) c.requires.reclaimed).at _ _
+    (read-there _ c.args.place _ _ (ap (λ (f : Fields g.row.T.Denot g.row.U.Denot). slice_index_or f.publishers c.args.place None) c.state.view_is ∙ c.requires.stands.1) c.index.ensures ∙ c.in-Some.is ∙ ap Some (sym c.publisher.view_is))
+    c.index-2.ensures (c.if-is_full.ensures.0 refl))
+    (c.if-is_full.ensures.0 refl))
 
 pub returns-then-state : goal.returns-then-state
 returns-then-state g c =
@@ -31,8 +31,6 @@ returns-then-state g c =
     subst (λ (f : Fields g.row.T.Denot g.row.U.Denot). LoanDecided f c.args.place (Some InternalFailure)) c.state.view_is
     (decided-failed _ (subst (IsDomain {T = g.row.T.Denot} {U = g.row.U.Denot}) (sym c.state.view_is) c.requires.agrees) c.args.place _
     (read-there _ c.args.place _ _ (ap (λ (f : Fields g.row.T.Denot g.row.U.Denot). slice_index_or f.publishers c.args.place None) c.state.view_is ∙ c.requires.stands.1) c.index.ensures ∙ c.in-Some.is ∙ ap Some (sym c.publisher.view_is))
-    (subst (λ (f : Fields g.row.T.Denot g.row.U.Denot). (x : PublisherFields) → slice_index_or f.publishers c.args.place None ≡ Some x → HasReclaimed f.connections x.keys) (sym c.state.view_is) c.requires.reclaimed _
-    (read-there _ c.args.place _ _ (ap (λ (f : Fields g.row.T.Denot g.row.U.Denot). slice_index_or f.publishers c.args.place None) c.state.view_is ∙ c.requires.stands.1) c.index.ensures ∙ c.in-Some.is ∙ ap Some (sym c.publisher.view_is)))
     (omega (arith, c.if-len-publisher.false, c.len.ensures, long)) _ c.index-2.ensures (λ all. let no : false ≡ true = c.if-is_full.ensures.1 all in cc) c.if-state.true)
 
 pub returns : goal.returns
@@ -41,8 +39,6 @@ returns g c =
     subst (λ (f : Fields g.row.T.Denot g.row.U.Denot). LoanDecided f c.args.place None) c.state.view_is
     (decided-free _ (subst (IsDomain {T = g.row.T.Denot} {U = g.row.U.Denot}) (sym c.state.view_is) c.requires.agrees) c.args.place _
     (read-there _ c.args.place _ _ (ap (λ (f : Fields g.row.T.Denot g.row.U.Denot). slice_index_or f.publishers c.args.place None) c.state.view_is ∙ c.requires.stands.1) c.index.ensures ∙ c.in-Some.is ∙ ap Some (sym c.publisher.view_is))
-    (subst (λ (f : Fields g.row.T.Denot g.row.U.Denot). (x : PublisherFields) → slice_index_or f.publishers c.args.place None ≡ Some x → HasReclaimed f.connections x.keys) (sym c.state.view_is) c.requires.reclaimed _
-    (read-there _ c.args.place _ _ (ap (λ (f : Fields g.row.T.Denot g.row.U.Denot). slice_index_or f.publishers c.args.place None) c.state.view_is ∙ c.requires.stands.1) c.index.ensures ∙ c.in-Some.is ∙ ap Some (sym c.publisher.view_is)))
     (omega (arith, c.if-len-publisher.false, c.len.ensures, long)) _ c.index-2.ensures (λ all. let no : false ≡ true = c.if-is_full.ensures.1 all in cc)
     (let bound = c.state.invariant in omega arith))
 

@@ -36,10 +36,9 @@ write_loan-requires-clause-single g c =
 
 pub returns-clause-reads : goal.returns-clause-reads
 returns-clause-reads g c =
-    let lies = c.write_loan.ensures.lies in
-    let at : LiesInSlot c.domain.inside.state c.args.self.loan.publisher c.args.self.loan.number lies.0 c.write_loan.result.slot = lies.1 in
+    let at : LiesInSlot c.domain.inside.state c.args.self.loan.publisher c.args.self.loan.number c.write_loan.result.book c.write_loan.result.slot = c.write_loan.ensures.lies in
     let single = ap (λ (k : Kept g.row.T.Denot g.row.U.Denot). (k.config).units_per_element) c.domain.view_is ∙ (single-parts c.args.domain.now c.requires.single_valued).1 in
     write-reads {T = g.row.T.Denot} {U = g.row.U.Denot} c.domain.inside.state c.write_loan.new.state c.args.self.loan.number c.args.value c.write_loan.ensures.writes
     (record { service_id = c.args.self.service_id; loan = c.write_loan.result }) (ap (λ (at : LoanAt). at.number) c.write_loan.ensures.same)
     at.loan at.is_out
-    (one-cell {T = g.row.T.Denot} {U = g.row.U.Denot} c.domain.inside.state c.domain.invariant single c.args.self.loan.publisher c.args.self.loan.number lies.0 c.write_loan.result.slot at)
+    (one-cell {T = g.row.T.Denot} {U = g.row.U.Denot} c.domain.inside.state c.domain.invariant single c.args.self.loan.publisher c.args.self.loan.number c.write_loan.result.book c.write_loan.result.slot at)
