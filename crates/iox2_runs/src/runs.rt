@@ -76,10 +76,7 @@ fn carry_out<
         Command::Discard { of } => (discards::discard(domain, table, of), Made::Nothing),
         Command::Update { of } => (updates::update(domain, table, of), Made::Nothing),
         Command::Receive { of } => samples::receive(domain, table, of),
-        Command::HasSamples { of } => (
-            questions::has_samples(domain, table, of),
-            Made::Nothing,
-        ),
+        Command::HasSamples { of } => (questions::has_samples(domain, table, of), Made::Nothing),
         Command::Read { of, at } => (samples::read(domain, table, of, at), Made::Nothing),
         Command::Release { of } => (samples::release(domain, table, of), Made::Nothing),
         Command::Nothing => (Reply::Done, Made::Nothing),
