@@ -1,8 +1,7 @@
-use Rattle.std.proofs.Common.{◌≡◌, ◌-◌, slice_set, Some, ap, sym, ◌∙◌}
+use Rattle.std.proofs.Common.{◌≡◌, slice_set, Some, ap, sym, ◌∙◌}
 use Rattle.std.specs.Prelude.{slice_index_or}
 use Rattle.std.specs.declared.option.Option.TheVariants.{None}
 use Rattle.slab.specs.Slab.{get, with_value}
-use Rattle.iox2_store.specs.SlotBook.{Book}
 use Rattle.iox2_domain.specs.Deliveries.{with_loan_out}
 use Rattle.iox2_domain.specs.Discards.{with_holder_gone, with_loan_returned}
 use Rattle.iox2_domain.specs.Fields.{Fields}
