@@ -38,5 +38,6 @@ fn return_loan<T: Drop, U: Default + Drop>(state: &mut DomainState<T, U>, place:
         unreachable!();
     };
     publisher.remove_loan(slot);
-    state.books[publisher.book].release(slot);
+    let book = &mut state.books[publisher.book];
+    book.release(slot);
 }

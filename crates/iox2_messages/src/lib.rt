@@ -1,4 +1,4 @@
-//! Messages of a domain: loans, writes, sends, receives, reads and releases.
+//! Messages of a domain: loans, writes, sends, discards, receives, questions, reads and releases.
 //!
 //! Each function works on the state of `iox2_domain`, in whose words it says what it does. That it
 //! isn't part of that crate is for the prover's time alone: two crates are proved side by side.

@@ -1,5 +1,5 @@
 -- A subscriber is asked whether samples wait, with what a run keeps.
-use Rattle.std.proofs.Common.{◌≡◌, ℕ, Bool, false, List, [], ◌∷◌, ◌++◌, map, Option, refl, sym, ap, subst, None, Some}
+use Rattle.std.proofs.Common.{◌≡◌, ℕ, Bool, false, List, map, Option, refl, sym, ap, subst}
 use Rattle.std.specs.Prelude.{slice_index_or}
 use Rattle.iox2_store.specs.machine.Environments.{fixed_handlers}
 use Rattle.iox2_store.specs.machine.Receives.{HasSamples}
@@ -12,11 +12,9 @@ use Rattle.iox2_laws.proofs.ReceiveLaws.{has_samples_advances}
 use Rattle.iox2_domain.specs.Kept.{Kept as Domain}
 use Rattle.iox2_domain.specs.Shows.{Shows}
 use Rattle.iox2_pubsub.specs.declared.subscriber.Subscriber.{Subscriber as SubscriberHandle}
-use Rattle.iox2_commands.specs.Outcomes.{Handle, Event, replied}
+use Rattle.iox2_commands.specs.Outcomes.{replied}
 use Rattle.iox2_commands.specs.Runs.{Defaults}
 use Rattle.iox2_commands.specs.Step.{after_question}
-use Rattle.iox2_runs.specs.Tables.{No_entry}
-use Rattle.iox2_runs.specs.RunSteps.{Comes}
 use Rattle.iox2_runs.specs.Carries.{entry_for, Carries}
 use Rattle.iox2_commands.specs.declared.command.Command.TheVariants.{HasSamples as AskForSamples}
 use Rattle.iox2_commands.specs.declared.reply.Reply.{Reply}

@@ -76,10 +76,7 @@ fn carry_out<
         Command::Discard { of } => (discards::discard(domain, table, of), Made::Nothing),
         Command::Update { of } => (updates::update(domain, table, of), Made::Nothing),
         Command::Receive { of } => samples::receive(domain, table, of),
-        Command::HasSamples { of } => (
-            questions::has_samples(domain, table, of),
-            Made::Nothing,
-        ),
+        Command::HasSamples { of } => (questions::has_samples(domain, table, of), Made::Nothing),
         Command::Read { of, at } => (samples::read(domain, table, of, at), Made::Nothing),
         Command::Release { of } => (samples::release(domain, table, of), Made::Nothing),
         Command::Nothing => (Reply::Done, Made::Nothing),
@@ -98,7 +95,8 @@ fn carry_out<
 /// first. Where it is refused the commands are handed back, and none was carried out.
 ///
 /// So far a publisher discards what a full receiver doesn't take, has one segment and no handlers,
-/// and a command is one of those that make ports or take a message from its loan to its release.
+/// and a command is one of those that make or update ports, take a message from its loan to its
+/// release, give a loan back unsent, or ask whether messages wait.
 pub fn run<T: Copy + Default + Drop, U: Copy + Default + Drop, F: BackpressureFn, G: DegradationFn>(
     alloc: Global,
     domain: &mut Domain<T, U, F, G>,

@@ -9,6 +9,7 @@ mod commands;
 mod deliveries;
 #[cfg(test)]
 mod discards;
+#[cfg(test)]
 mod domains;
 #[cfg(test)]
 mod fixtures;
@@ -21,6 +22,8 @@ mod payloads;
 #[cfg(test)]
 mod publishers;
 #[cfg(test)]
+mod questions;
+#[cfg(test)]
 mod runs;
 #[cfg(test)]
 mod samples;
@@ -28,3 +31,5 @@ mod samples;
 mod sends;
 #[cfg(test)]
 mod subscribers;
+#[cfg(test)]
+mod updates;

@@ -96,3 +96,53 @@ fn a_command_that_names_nothing_is_skipped(rt: HostRuntime) {
     let expected: [Reply<u64, ()>; 2] = [Reply::Done, Reply::Skipped];
     assert!(rt; replies.as_slice() == expected.as_slice());
 }
+
+const CALLS_BESIDE: [Command<u64, u8>; 12] = [
+    Command::CreateSubscriber {
+        buffer: Some(1),
+        degradation: DegradationAction::Warn,
+    },
+    Command::CreatePublisher {
+        loans: 1,
+        strategy: BackpressureStrategy::DiscardData,
+        allocation: AllocationStrategy::Static,
+        initial_max_slice_len: 1,
+        override_slots: None,
+        degradation: DegradationAction::Warn,
+        backpressure: None,
+    },
+    Command::Update { of: 0 },
+    Command::Update { of: 1 },
+    Command::LoanUninit { of: 1 },
+    Command::Discard { of: 4 },
+    Command::Discard { of: 4 },
+    Command::LoanUninit { of: 1 },
+    Command::WriteAll { of: 7, value: 5 },
+    Command::Update { of: 7 },
+    Command::Discard { of: 7 },
+    Command::HasSamples { of: 0 },
+];
+
+#[test]
+fn calls_beside_the_path_of_a_message_are_carried_out(rt: HostRuntime) {
+    let mut domain: Domain<u64, u8> = Domain::new(rt.alloc(), settings()).expect(&rt, "a domain");
+    let commands = Vec::from_array(rt.alloc(), CALLS_BESIDE).expect(&rt, "commands");
+    let outcome = replies_to_numbers(rt.alloc(), &mut domain, commands);
+    drop(domain);
+    let replies = outcome.ok().expect(&rt, "replies");
+    let expected: [Reply<u64, u8>; 12] = [
+        Reply::SubscriberMade(UniqueSubscriberId::new(1)),
+        Reply::PublisherMade(UniquePublisherId::new(2)),
+        Reply::Done,
+        Reply::Done,
+        Reply::Loaned,
+        Reply::Done,
+        Reply::Skipped,
+        Reply::Loaned,
+        Reply::Done,
+        Reply::Skipped,
+        Reply::Done,
+        Reply::Has(false),
+    ];
+    assert!(rt; replies.as_slice() == expected.as_slice());
+}

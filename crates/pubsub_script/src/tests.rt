@@ -263,6 +263,10 @@ fn a_malformed_line_is_named(rt: HostRuntime) -> Result<(), Fail> {
         b"discard 1 1".as_slice(),
         b"recv".as_slice(),
         b"recv 1 1".as_slice(),
+        b"has".as_slice(),
+        b"has 1 1".as_slice(),
+        b"update".as_slice(),
+        b"update 1 1".as_slice(),
         b"read".as_slice(),
         b"read 1 0".as_slice(),
         b"release".as_slice(),
@@ -270,10 +274,8 @@ fn a_malformed_line_is_named(rt: HostRuntime) -> Result<(), Fail> {
         // What later scripts may ask for.
         b"pub 1 retry".as_slice(),
         b"copy 1 1".as_slice(),
-        b"has 1".as_slice(),
         b"retry 1".as_slice(),
         b"giveup 1".as_slice(),
-        b"update 1".as_slice(),
         b"close 1".as_slice(),
     ] {
         let mut text = Vec::new(rt.alloc());
@@ -306,6 +308,8 @@ fn a_number_that_names_nothing_is_skipped(rt: HostRuntime) {
         b"domain 1 1 1 1 0 0 keep\nread 00000000000000000000000000001".as_slice(),
         b"domain 1 1 1 1 0 0 keep\nrelease 1".as_slice(),
         b"domain 1 1 1 1 0 0 keep\ndiscard 1".as_slice(),
+        b"domain 1 1 1 1 0 0 keep\nhas 1".as_slice(),
+        b"domain 1 1 1 1 0 0 keep\nupdate 1".as_slice(),
     ] {
         Outcome::of(rt.alloc(), text).assert(&rt, 0, b"skipped\n", b"");
     }

@@ -1,5 +1,5 @@
 use iox2_pubsub::{
-    DomainCreateError, LoanError, PublisherCreateError, ReceiveError, SendError,
+    ConnectionFailure, DomainCreateError, LoanError, PublisherCreateError, ReceiveError, SendError,
     SubscriberCreateError,
 };
 use std::io;
@@ -13,6 +13,8 @@ pub enum Failure {
     Publisher(PublisherCreateError),
     /// There is no subscriber.
     Subscriber(SubscriberCreateError),
+    /// A port isn't connected.
+    Connection(ConnectionFailure),
     /// A message isn't lent.
     Loan(LoanError),
     /// A message isn't sent.
@@ -38,6 +40,12 @@ impl From<PublisherCreateError> for Failure {
 impl From<SubscriberCreateError> for Failure {
     fn from(error: SubscriberCreateError) -> Self {
         Failure::Subscriber(error)
+    }
+}
+
+impl From<ConnectionFailure> for Failure {
+    fn from(failure: ConnectionFailure) -> Self {
+        Failure::Connection(failure)
     }
 }
 

@@ -3,9 +3,10 @@ ghost use Rattle.iox2_pubsub.specs.Live.{IsLivePublisher, IsLiveSubscriber, IsSi
 
 use crate::failure::Failure;
 use crate::reading::Reading;
-use iox2_pubsub::{Domain, Publisher, SampleMutUninit, SendOutcome, Subscriber};
+use iox2_pubsub::{Domain, Publisher, SampleMutUninit, SendOutcome, Subscriber, UpdateConnections};
 
-/// Reports a day's temperatures: some one by one, and the last two together.
+/// Connects the two ports, and reports a day's temperatures: some one by one, and the last two
+/// together.
 pub fn report_day(
     rt: &HostRuntime,
     domain: &mut Domain<Reading, ()>,
@@ -17,8 +18,11 @@ pub fn report_day(
     requires subscriber { IsLiveSubscriber domain.old subscriber.now }
     ensures { Stays domain.old domain.new }
 {
+    publisher.update_connections(domain)?;
+    subscriber.update_connections(domain)?;
     report_all(rt, domain, publisher, subscriber, &[19, 20, 22])?;
-    report_pair(rt, domain, publisher, subscriber, 23, 21)
+    report_pair(rt, domain, publisher, subscriber, 23, 21)?;
+    report_rest(rt, domain, subscriber)
 }
 
 // Reports each of the temperatures, one after the other.
@@ -86,6 +90,21 @@ fn report_pair(
     outcome?;
     show(rt, domain, subscriber)?;
     show(rt, domain, subscriber)
+}
+
+// Says so where readings wait that weren't shown.
+fn report_rest(
+    rt: &HostRuntime,
+    domain: &mut Domain<Reading, ()>,
+    subscriber: &Subscriber,
+) -> Result<(), Failure>
+    requires { IsLiveSubscriber domain.old subscriber.now }
+    ensures { Stays domain.old domain.new }
+{
+    if subscriber.has_samples(domain)? {
+        println!(rt; "more readings wait")?;
+    }
+    Ok(())
 }
 
 // Writes a reading into the loan, and sends it.

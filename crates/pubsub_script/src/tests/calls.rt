@@ -79,3 +79,103 @@ fn a_discarded_loan_frees_its_slot(rt: HostRuntime) -> Result<(), Fail> {
     plan.assert(&rt, rt.alloc());
     Ok(())
 }
+
+/// What waits is told of also where no more may be received. Publishers and samples aren't asked.
+const ASKED: &[u8] = b"\
+domain 1 1 2 1 0 0 keep
+sub 2
+pub 1 discard
+has 1
+loan 2
+write 4 1
+send 4
+has 1
+loan 2
+write 8 2
+send 8
+recv 1
+has 1
+recv 1
+has 1
+release 11
+recv 1
+read 16
+has 1
+has 2
+has 16
+";
+
+const ASKED_REPLIES: &[u8] = b"\
+ok
+ok
+false
+ok
+ok
+ok 1
+true
+ok
+ok
+ok 1
+sample
+true
+err ReceiveError::ExceedsMaxBorrows
+true
+ok
+sample
+ok 2
+false
+skipped
+skipped
+";
+
+#[test]
+fn a_subscriber_says_whether_messages_wait(rt: HostRuntime) {
+    Outcome::of(rt.alloc(), ASKED).assert(&rt, 0, ASKED_REPLIES, b"");
+}
+
+/// Ports are updated as often as is asked, and nothing else is.
+const UPDATED: &[u8] = b"\
+domain 2 1 1 1 0 0 keep
+pub 1 discard
+update 1
+sub 1
+update 3
+update 1
+update 1
+pub 1 discard
+update 3
+update 7
+loan 1
+update 10
+write 10 5
+update 10
+send 10
+recv 3
+update 15
+read 15
+";
+
+const UPDATED_REPLIES: &[u8] = b"\
+ok
+ok
+ok
+ok
+ok
+ok
+ok
+ok
+ok
+ok
+skipped
+ok
+skipped
+ok 1
+sample
+skipped
+ok 5
+";
+
+#[test]
+fn ports_are_updated_and_nothing_else_is(rt: HostRuntime) {
+    Outcome::of(rt.alloc(), UPDATED).assert(&rt, 0, UPDATED_REPLIES, b"");
+}

@@ -1,4 +1,4 @@
-use Rattle.std.proofs.Common.{Ok, None}
+use Rattle.std.proofs.Common.{None}
 use Rattle.iox2_store.specs.machine.Environments.{fixed_handlers}
 use Rattle.iox2_domain.specs.Fields.{kept_of}
 use Rattle.iox2_laws.proofs.LoanKeeping.{has_samples_loans}

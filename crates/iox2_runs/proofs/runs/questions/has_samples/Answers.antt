@@ -1,7 +1,6 @@
-use Rattle.std.proofs.Common.{refl, sym, ap, subst, ◌∙◌, None, Some}
+use Rattle.std.proofs.Common.{refl, ap, ◌∙◌, None, Some}
 use Rattle.iox2_runs.specs.Carries.{entry_for}
 use Rattle.iox2_runs.specs.declared.runs.made.Made.{Made}
-use Rattle.iox2_pubsub.specs.QuestionCalls.{Answers}
 use Rattle.iox2_runs.proofs.TableLooks.{is_subscriber_entry}
 use Rattle.iox2_runs.proofs.TableEntries.{looked, looked_past, not_subscriber}
 use Rattle.iox2_runs.proofs.LiveEntries.{live_subscriber}

@@ -1,0 +1,33 @@
+ghost use Rattle.iox2_pubsub.specs.Live.{Stays};
+
+use crate::fixtures::{Reading, Station, domain, publish};
+use iox2_pubsub::{ConnectionFailure, Domain, UpdateConnections};
+
+// Updates a port of either kind.
+fn update<P: UpdateConnections<Reading, Station>>(
+    domain: &mut Domain<Reading, Station>,
+    port: &P,
+) -> Result<(), ConnectionFailure>
+    requires { P.is_live domain.old port.now }
+    ensures { Stays domain.old domain.new }
+{
+    port.update_connections(domain)
+}
+
+#[test]
+fn ports_of_both_kinds_are_updated(rt: HostRuntime) {
+    let mut domain = domain(&rt, rt.alloc());
+    let factory = domain.publisher_builder();
+    let publisher = factory.create(&mut domain).expect(&rt, "a publisher");
+    let factory = domain.subscriber_builder();
+    let subscriber = factory.create(&mut domain).expect(&rt, "a subscriber");
+    let first = update(&mut domain, &publisher);
+    let second = update(&mut domain, &subscriber);
+    let again = update(&mut domain, &publisher);
+    let takers = publish(&mut domain, &publisher, 21);
+    publisher.disown();
+    subscriber.disown();
+    drop(domain);
+    assert!(rt; [first, second, again] == [Ok(()), Ok(()), Ok(())]);
+    assert!(rt; takers == Some(1));
+}
