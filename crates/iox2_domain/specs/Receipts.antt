@@ -34,18 +34,20 @@ module _ {T U : Type 0} where
     pub others : KeepsOtherKeys key old.connections new.connections
     pub stay : SameStands old.connections new.connections
     pub connection_is : receipt.sample.connection ≡ key
+    pub book_is : receipt.sample.book ≡ link.home.book
     pub publisher_is : receipt.publisher ≡ link.home.publisher
     pub subscriber_is : receipt.sample.subscriber ≡ link.home.subscriber
     pub number_is : receipt.sample.number ≡ numbers_of old.books link.home.publisher receipt.sample.slot
 
   -- The sample of the receipt is the subscriber q's. The connection that it names stands between the receipt's publisher and q,
-  -- and the slot that it names is borrowed there.
+  -- the book is that publisher's, and the slot that it names is borrowed there.
   pub record LiesAt (f : Fields T U) (q : ℕ) (receipt : Receipt) : Type 0 where
     pub connection : Link
     pub stands : get f.connections receipt.sample.connection ≡ Some connection
     pub publisher_is : connection.home.publisher ≡ receipt.publisher
     pub subscriber_is : connection.home.subscriber ≡ q
     pub its : receipt.sample.subscriber ≡ q
+    pub book_is : receipt.sample.book ≡ connection.home.book
     pub borrowed : Contains connection.borrowed receipt.sample.slot
 
   -- The same of what a call returns.

@@ -30,6 +30,7 @@ fn take_from<T: Drop, U: Default + Drop>(state: &mut DomainState<T, U>, key: usi
         subscriber: UniqueSubscriberId::new(home.subscriber),
         number,
         connection: key,
+        book: home.book,
         slot,
     };
     Receipt {
@@ -83,6 +84,25 @@ pub fn give_back<T: Drop, U: Default + Drop>(state: &mut DomainState<T, U>, samp
     ensures released { (publisher : ℕ) → IsTrue (is_borrowed sample.number ((state_of (kept_of state.old)).mailboxes publisher sample.subscriber))
         → Reaches state.old state.new (released (state_of (kept_of state.old)) publisher sample.subscriber sample.number) }
 {
-    let at = state.find_live_sample(&sample);
+    if state.is_at_hint(&sample) {
+        release(&mut state.connections, sample.connection, sample.slot);
+    } else {
+        search_and_give_back(state, &sample);
+    }
+}
+
+// The same, wherever the message lies.
+#[inline(never)]
+fn search_and_give_back<T: Drop, U: Default + Drop>(
+    state: &mut DomainState<T, U>,
+    sample: &SampleAt,
+)
+    requires agrees { IsDomain state.old }
+    requires live { HoldsSample (state_of (kept_of state.old)) sample.now.subscriber sample.now.number }
+    ensures stays { IsDomain state.new }
+    ensures released { (publisher : ℕ) → IsTrue (is_borrowed sample.now.number ((state_of (kept_of state.old)).mailboxes publisher sample.now.subscriber))
+        → Reaches state.old state.new (released (state_of (kept_of state.old)) publisher sample.now.subscriber sample.now.number) }
+{
+    let at = state.search_sample(sample);
     release(&mut state.connections, at.connection, at.slot);
 }

@@ -1,6 +1,5 @@
 -- Connections name the keys of books, which stay.
-use Rattle.std.proofs.Common.{◌≡◌, ℕ, refl, ap, sym, subst, ◌∙◌, inl, inr, Some}
-use Rattle.std.proofs.lemmas.Bool.{cases_eq}
+use Rattle.std.proofs.Common.{◌≡◌, ℕ, ap, subst, ◌∙◌, Some}
 use Rattle.slab.specs.Slab.{Slab, get}
 use Rattle.iox2_store.specs.Link.{Link}
 use Rattle.iox2_store.specs.SlotBook.{Book}

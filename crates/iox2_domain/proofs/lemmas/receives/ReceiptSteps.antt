@@ -65,10 +65,10 @@ module _ {T U : Type 0} (f now : Fields T U) (same : f ≡ now) (sound : IsDomai
       in_range b.holders slot (waiting-in_use now sound key book c b has.stands has.has_book has.book_is slot (rw has.stands at here))
 
   -- the first slot that waits is taken
-  pub takes-from : (receipt : Receipt) → receipt.sample.connection ≡ key → receipt.publisher ≡ c.home.publisher → receipt.sample.subscriber ≡ c.home.subscriber → slice_get b.numbers receipt.sample.slot ≡ Some receipt.sample.number → (new : Slab Link)
+  pub takes-from : (receipt : Receipt) → receipt.sample.connection ≡ key → receipt.sample.book ≡ c.home.book → receipt.publisher ≡ c.home.publisher → receipt.sample.subscriber ≡ c.home.subscriber → slice_get b.numbers receipt.sample.slot ≡ Some receipt.sample.number → (new : Slab Link)
       → BorrowsSlot f.connections key receipt.sample.slot new → SameHomes f.connections new → KeepsOtherKeys key f.connections new → SameStands f.connections new
       → TakesFrom now key receipt (record f { connections = new })
-  takes-from receipt connection publisher subscriber number new takes homes others stay = record {
+  takes-from receipt connection book_is publisher subscriber number new takes homes others stay = record {
     link = c;
     stands = has.stands;
     only = ap (λ (h : Fields T U). record h { connections = new }) same;
@@ -77,6 +77,7 @@ module _ {T U : Type 0} (f now : Fields T U) (same : f ≡ now) (sound : IsDomai
     others = subst (λ (h : Fields T U). KeepsOtherKeys key h.connections new) same others;
     stay = subst (λ (h : Fields T U). SameStands h.connections new) same stay;
     connection_is = connection;
+    book_is = book_is;
     publisher_is = publisher;
     subscriber_is = subscriber;
     number_is = sym (book-numbers now sound key book c b has.stands has.has_book has.book_is receipt.sample.slot ∙ index-got b.numbers receipt.sample.slot receipt.sample.number number);
@@ -101,7 +102,7 @@ module _ {T U : Type 0} (f : Fields T U) (sound : IsDomain f) (i : ℕ) (y : Sub
             (subst (λ (p : ℕ). TakeSample (state_of (kept_of f)) y.id (receiver f sound i y at_y) (with_all_mailboxes (state_of (kept_of f)) (mailboxes_of (numbers_of f.books) new.connections)) (Got_sample p receipt.sample.number)) (sym from.publisher_is)
             (subst (λ (n : ℕ). TakeSample (state_of (kept_of f)) y.id (receiver f sound i y at_y) (with_all_mailboxes (state_of (kept_of f)) (mailboxes_of (numbers_of f.books) new.connections)) (Got_sample (from.link).home.publisher n)) (sym from.number_is)
             (takes-message f sound i y at_y key receipt.sample.slot from.link from.stands new.connections finds from.takes))),
-        lies-there f.connections new.connections key receipt.sample.slot from.link from.stands from.homes reached.agrees.apart from.takes new y.id receipt refl from.connection_is refl from.publisher_is from.subscriber_is
+        lies-there f.connections new.connections key receipt.sample.slot from.link from.stands from.homes reached.agrees.apart from.takes new y.id receipt refl from.connection_is refl from.publisher_is from.subscriber_is from.book_is
             (found-ready f sound i y at_y key receipt.sample.slot from.link from.stands new.connections finds from.takes).0,
       )
 

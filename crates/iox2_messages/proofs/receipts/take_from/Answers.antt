@@ -19,8 +19,9 @@ returns g c =
     (has-its-book _ c.args.state.now c.args.key c.home-home.result c.index.result.now c.state.view_is c.requires.agrees c.index.ensures c.home-home.ensures.value c.index-2.result.now c.index-2.ensures)
     (record {
       publisher = c.new-2.result;
-      sample = record { subscriber = c.new.result; number = c.number-number.result; connection = c.args.key; slot = c.take-slot.result };
+      sample = record { subscriber = c.new.result; number = c.number-number.result; connection = c.args.key; book = c.home-home.result.book; slot = c.take-slot.result };
     }) refl
+    (ap (λ (h : Home). h.book) c.home-home.ensures.value)
     (c.new-2.ensures ∙ ap (λ (h : Home). h.publisher) c.home-home.ensures.value)
     (c.new.ensures ∙ ap (λ (h : Home). h.subscriber) c.home-home.ensures.value) c.number-number.ensures
     c.take-slot.new.connections c.take-slot.ensures.takes c.take-slot.ensures.homes c.take-slot.ensures.others c.take-slot.ensures.stands
