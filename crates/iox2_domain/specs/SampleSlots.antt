@@ -4,7 +4,7 @@ use Rattle.std.specs.declared.option.Option.TheVariants.{Some}
 use Rattle.slab.specs.Slab.{get}
 use Rattle.iox2_store.specs.Link.{Link}
 use Rattle.iox2_store.specs.machine.Numbers.{contains}
-use Rattle.iox2_store.specs.SlotBook.{Book, holders_at}
+use Rattle.iox2_store.specs.SlotBook.{Book}
 use Rattle.iox2_domain.specs.Fields.{Fields, numbers_of}
 use Rattle.iox2_domain.specs.declared.sample_slots.MessageSlot.{MessageSlot}
 use Rattle.iox2_domain.specs.declared.sample_slots.SampleAt.{SampleAt}
@@ -17,11 +17,6 @@ HasNoneNumbered c book number = (slot : ℕ) → Contains c.borrowed slot → sl
 -- A borrowed slot has this number.
 pub record IsNumberedSlot (c : Link) (book : Book) (number slot : ℕ) : Type 0 where
   pub borrowed : Contains c.borrowed slot
-  pub number_is : slice_index book.numbers slot ≡ number
-
--- The slot is in use and has this number.
-pub record IsUsedFor (book : Book) (number slot : ℕ) : Type 0 where
-  pub in_use : 0 < holders_at book slot
   pub number_is : slice_index book.numbers slot ≡ number
 
 -- A message with this number lies there, borrowed by the subscriber.

@@ -1,6 +1,6 @@
 //! The slots of the messages that subscribers have borrowed.
 ghost use Rattle.std.specs.Prelude.{◌<◌, ◌↔◌, ℕ, length, Contains, IsTrue, MatchOption};
-ghost use Rattle.iox2_domain.specs.SampleSlots.{HasNoneNumbered, IsNumberedSlot, IsUsedFor};
+ghost use Rattle.iox2_domain.specs.SampleSlots.{HasNoneNumbered, IsNumberedSlot};
 
 use crate::state::DomainState;
 use iox2_store::{Connection, SlotBook, UniquePublisherId, UniqueSubscriberId};
@@ -58,13 +58,6 @@ fn find_borrowed(connection: &Connection, book: &SlotBook, number: u128) -> Opti
         }
     }
     None
-}
-
-// The slot is in use and has this number.
-fn has_number(book: &SlotBook, slot: usize, number: u128) -> bool
-    ensures { IsTrue result ↔ IsUsedFor book.now number slot }
-{
-    slot < book.len() && book.holders(slot) > 0 && book.number(slot) == number
 }
 
 impl<T: Drop, U: Default + Drop> DomainState<T, U> {
@@ -130,7 +123,7 @@ impl<T: Drop, U: Default + Drop> DomainState<T, U> {
         ensures { IsTrue result ↔ HasNumber self.now.books sample.now.book sample.now.slot sample.now.number }
     {
         match self.books.get(sample.book) {
-            Some(book) => has_number(book, sample.slot, sample.number),
+            Some(book) => book.has(sample.slot, sample.number),
             None => false,
         }
     }

@@ -1,7 +1,6 @@
 //! Messages that a subscriber takes from its connections, and gives back.
-ghost use Rattle.std.specs.Prelude.{◌≡◌, ℕ, true, None, Some, slice_index_or, IsTrue, IsSomeAnd};
+ghost use Rattle.std.specs.Prelude.{◌≡◌, ◌<◌, ℕ, None, Some, length, slice_index_or, IsTrue, IsSomeAnd};
 ghost use Rattle.slab.specs.Slab.{get};
-ghost use Rattle.iox2_store.specs.Link.{can_borrow};
 ghost use Rattle.iox2_store.specs.machine.Mailbox.{is_borrowed};
 ghost use Rattle.iox2_store.specs.machine.Releases.{released};
 ghost use Rattle.iox2_store.specs.machine.SingleCalls.{HoldsSample};
@@ -10,28 +9,26 @@ ghost use Rattle.iox2_domain.specs.Kept.{state_of};
 ghost use Rattle.iox2_domain.specs.Fields.{kept_of};
 ghost use Rattle.iox2_domain.specs.Invariant.{IsDomain};
 ghost use Rattle.iox2_domain.specs.Reaches.{Reaches};
-ghost use Rattle.iox2_domain.specs.Receipts.{TakesFrom, TakesAs, ReceivesAs};
+ghost use Rattle.iox2_domain.specs.Receipts.{IsReceiptFor, TakesAs, ReceivesAs};
 
 use iox2_domain::{DomainState, Receipt, SampleAt};
-use iox2_ends::receiver::{Found, find, release, take};
+use iox2_ends::receiver::{Taken, receive, release};
 use iox2_ports::update_subscriber;
-use iox2_store::{ReceiveError, UniquePublisherId, UniqueSubscriberId};
+use iox2_store::{ReceiveError, SlotBook, UniquePublisherId, UniqueSubscriberId};
+use slab::Slab;
 
-// Borrows the message that has waited longest in a connection.
-fn take_from<T: Drop, U: Default + Drop>(state: &mut DomainState<T, U>, key: usize) -> Receipt
-    requires agrees { IsDomain state.old }
-    requires ready { IsSomeAnd (get state.old.connections key) (λ c. IsTrue (can_borrow c)) }
-    ensures { TakesFrom state.old key result state.new }
+// The receipt of a message that was taken.
+fn receipt_of(books: &Slab<SlotBook>, taken: Taken) -> Receipt
+    requires { IsSomeAnd (get books.now (taken.home).book) (λ b. taken.slot < length b.holders) }
+    ensures { IsReceiptFor books.now taken result }
 {
-    let home = state.connections[key].home();
-    let slot = take(&mut state.connections, key);
-    let number = state.books[home.book].number(slot);
+    let home = taken.home;
     let sample = SampleAt {
         subscriber: UniqueSubscriberId::new(home.subscriber),
-        number,
-        connection: key,
+        number: books[home.book].number(taken.slot),
+        connection: taken.connection,
         book: home.book,
-        slot,
+        slot: taken.slot,
     };
     Receipt {
         publisher: UniquePublisherId::new(home.publisher),
@@ -40,6 +37,7 @@ fn take_from<T: Drop, U: Default + Drop>(state: &mut DomainState<T, U>, key: usi
 }
 
 /// The subscriber at a place borrows a message, if one waits of which it may borrow one more.
+#[inline(always)]
 pub(crate) fn take_at<T: Drop, U: Default + Drop>(
     state: &mut DomainState<T, U>,
     place: usize,
@@ -51,11 +49,15 @@ pub(crate) fn take_at<T: Drop, U: Default + Drop>(
     let Some(subscriber) = &state.subscribers[place] else {
         unreachable!()
     };
-    match find(&state.connections, &subscriber.expired, &subscriber.keys) {
-        Found::Ready(key) => Ok(Some(take_from(state, key))),
-        Found::AtLimit => Err(ReceiveError::ExceedsMaxBorrows),
-        Found::Nothing => Ok(None),
-    }
+    let taken = receive(
+        &mut state.connections,
+        &subscriber.expired,
+        &subscriber.keys,
+    )?;
+    let Some(taken) = taken else {
+        return Ok(None);
+    };
+    Ok(Some(receipt_of(&state.books, taken)))
 }
 
 /// The subscriber at a place is updated, and then borrows the message that has waited longest in
@@ -63,6 +65,7 @@ pub(crate) fn take_at<T: Drop, U: Default + Drop>(
 ///
 /// `ExceedsMaxBorrows` where messages wait, but only where as many are borrowed as may be. The
 /// update stands then.
+#[inline(always)]
 pub fn receive_at<T: Drop, U: Default + Drop>(
     state: &mut DomainState<T, U>,
     place: usize,

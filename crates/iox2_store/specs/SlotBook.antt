@@ -32,6 +32,11 @@ pub record IsInUse (book : Book) (slot : ℕ) : Type 0 where
   pub in_bounds : slot < length book.holders
   pub in_use : 0 < holders_at book slot
 
+-- The slot is in use for the message with this number.
+pub record IsUsedFor (book : Book) (number slot : ℕ) : Type 0 where
+  pub in_use : 0 < holders_at book slot
+  pub number_is : slice_index book.numbers slot ≡ number
+
 -- A slot that wasn't in use has this number and header, isn't written, and has one holder. Nothing else changes.
 pub record TakesFreeSlot (old new : Book) (slot number : ℕ) (header : Header) : Type 0 where
   pub in_bounds : slot < length old.holders

@@ -49,7 +49,7 @@ impl Model for SlotBook {
 }
 
 impl SlotBook {
-    ghost use Rattle.iox2_store.specs.SlotBook.{IsAligned, IsInUse, TakesFreeSlot, holders_at, with_holders};
+    ghost use Rattle.iox2_store.specs.SlotBook.{IsAligned, IsInUse, IsUsedFor, TakesFreeSlot, holders_at, with_holders};
 
     /// The book of a new publisher, with so many slots, all of them free. Fails where memory runs
     /// out; no other call on a book takes memory.
@@ -164,6 +164,16 @@ impl SlotBook {
         ensures { slice_get self.now.marks slot ≡ Some result }
     {
         self.slots[slot].mark
+    }
+
+    /// Whether the slot is in use for the message with this number.
+    pub fn has(&self, slot: usize, number: u128) -> bool
+        ensures { IsTrue result ↔ IsUsedFor self.now number slot }
+    {
+        match self.slots.get(slot) {
+            Some(slot) => slot.holders > 0 && slot.number == number,
+            None => false,
+        }
     }
 
     /// How many holders the slot has.
