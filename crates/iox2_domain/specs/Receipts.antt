@@ -1,19 +1,19 @@
 -- What a receive comes to.
-use Rattle.std.specs.Prelude.{◌≡◌, ℕ, Contains, MatchOption}
+use Rattle.std.specs.Prelude.{◌≡◌, ℕ, slice_get, Contains, MatchOption}
 use Rattle.std.specs.declared.option.Option.{Option}
 use Rattle.std.specs.declared.option.Option.TheVariants.{None, Some}
 use Rattle.std.specs.declared.result.Result.{Result}
 use Rattle.std.specs.declared.result.Result.TheVariants.{Ok, Err}
-use Rattle.slab.specs.Slab.{get}
+use Rattle.slab.specs.Slab.{Slab, get}
 use Rattle.iox2_store.specs.Link.{Link}
 use Rattle.iox2_store.specs.machine.Records.{Environment}
+use Rattle.iox2_store.specs.SlotBook.{Book}
 use Rattle.iox2_store.specs.machine.State.{State}
 use Rattle.iox2_store.specs.machine.Receives.{ReceiveResult, Got_sample, No_sample, Receive_error, TakeSample, Receive}
 use Rattle.iox2_store.specs.declared.errors.ReceiveError.{ReceiveError}
-use Rattle.iox2_ends.specs.Homes.{SameHomes}
-use Rattle.iox2_ends.specs.Takes.{KeepsOtherKeys, SameStands, BorrowsSlot}
+use Rattle.iox2_ends.specs.declared.receiver.Taken.{Taken}
 use Rattle.iox2_domain.specs.Kept.{state_of}
-use Rattle.iox2_domain.specs.Fields.{Fields, kept_of, numbers_of}
+use Rattle.iox2_domain.specs.Fields.{Fields, kept_of}
 use Rattle.iox2_domain.specs.Reaches.{Reaches}
 use Rattle.iox2_domain.specs.declared.sample_slots.Receipt.{Receipt}
 
@@ -23,29 +23,27 @@ receive_result (Ok None) = No_sample
 receive_result (Ok (Some receipt)) = Got_sample receipt.publisher receipt.sample.number
 receive_result (Err e) = Receive_error e
 
-module _ {T U : Type 0} where
-  -- The message that waited longest in the connection at the key is borrowed, and no other field changes.
-  pub record TakesFrom (old : Fields T U) (key : ℕ) (receipt : Receipt) (new : Fields T U) : Type 0 where
-    pub link : Link
-    pub stands : get old.connections key ≡ Some link
-    pub only : new ≡ record old { connections = new.connections }
-    pub takes : BorrowsSlot old.connections key receipt.sample.slot new.connections
-    pub homes : SameHomes old.connections new.connections
-    pub others : KeepsOtherKeys key old.connections new.connections
-    pub stay : SameStands old.connections new.connections
-    pub connection_is : receipt.sample.connection ≡ key
-    pub publisher_is : receipt.publisher ≡ link.home.publisher
-    pub subscriber_is : receipt.sample.subscriber ≡ link.home.subscriber
-    pub number_is : receipt.sample.number ≡ numbers_of old.books link.home.publisher receipt.sample.slot
+-- The receipt of a message that was taken: the sample is named and lies as the message does, and has the number of its slot.
+pub record IsReceiptFor (books : Slab Book) (taken : Taken) (receipt : Receipt) : Type 0 where
+  pub book : Book
+  pub has_book : get books (taken.home).book ≡ Some book
+  pub number_is : slice_get book.numbers taken.slot ≡ Some receipt.sample.number
+  pub publisher_is : receipt.publisher ≡ (taken.home).publisher
+  pub subscriber_is : receipt.sample.subscriber ≡ (taken.home).subscriber
+  pub connection_is : receipt.sample.connection ≡ taken.connection
+  pub book_is : receipt.sample.book ≡ (taken.home).book
+  pub slot_is : receipt.sample.slot ≡ taken.slot
 
+module _ {T U : Type 0} where
   -- The sample of the receipt is the subscriber q's. The connection that it names stands between the receipt's publisher and q,
-  -- and the slot that it names is borrowed there.
+  -- the book is that publisher's, and the slot that it names is borrowed there.
   pub record LiesAt (f : Fields T U) (q : ℕ) (receipt : Receipt) : Type 0 where
     pub connection : Link
     pub stands : get f.connections receipt.sample.connection ≡ Some connection
     pub publisher_is : connection.home.publisher ≡ receipt.publisher
     pub subscriber_is : connection.home.subscriber ≡ q
     pub its : receipt.sample.subscriber ≡ q
+    pub book_is : receipt.sample.book ≡ connection.home.book
     pub borrowed : Contains connection.borrowed receipt.sample.slot
 
   -- The same of what a call returns.

@@ -6,6 +6,8 @@ use Rattle.iox2_store.specs.Link.{Link}
 use Rattle.iox2_store.specs.machine.Numbers.{contains}
 use Rattle.iox2_store.specs.SlotBook.{Book}
 use Rattle.iox2_domain.specs.Fields.{Fields, numbers_of}
+use Rattle.iox2_domain.specs.declared.sample_slots.MessageSlot.{MessageSlot}
+use Rattle.iox2_domain.specs.declared.sample_slots.SampleAt.{SampleAt}
 use Rattle.iox2_domain.specs.declared.sample_slots.SampleSlot.{SampleSlot}
 
 -- No borrowed slot has this number.
@@ -26,6 +28,15 @@ pub record LiesBorrowed {T U : Type 0} (f : Fields T U) (subscriber number : ℕ
   pub subscriber_is : connection.home.subscriber ≡ subscriber
   pub book_is : book.publisher ≡ connection.home.publisher
   pub slot_is : IsNumberedSlot connection book number at.slot
+
+-- The same of the slot alone: it lies there in some connection.
+abbrev pub LiesInSlot : {T U : Type 0} → Fields T U → (subscriber number : ℕ) → MessageSlot → Type 0
+LiesInSlot f subscriber number at =
+    (key : ℕ) × LiesBorrowed f subscriber number (record { connection = key; book = at.book; slot = at.slot })
+
+-- The sample lies where it says that it is looked for first.
+abbrev pub LiesAtHint : {T U : Type 0} → Fields T U → SampleAt → Type 0
+LiesAtHint f sample = LiesBorrowed f sample.subscriber sample.number (record { connection = sample.connection; book = sample.book; slot = sample.slot })
 
 -- The subscriber has borrowed a message with this number in the connection at the key.
 pub record BorrowsAt {T U : Type 0} (f : Fields T U) (key subscriber number : ℕ) : Type 0 where

@@ -20,6 +20,6 @@ pub use ports::{
     Port, PortAt, is_due_at, key_at, make_all_due, reserve_key_at, set_key_at, settle,
 };
 pub use publisher_state::PublisherState;
-pub use sample_slots::{Receipt, SampleAt, SampleSlot};
+pub use sample_slots::{MessageSlot, Receipt, SampleAt, SampleSlot};
 pub use state::DomainState;
 pub use subscriber_state::SubscriberState;

@@ -102,11 +102,12 @@ pub fn set_key_at<P: Port>(ports: &mut [Option<P>], place: usize, other: usize, 
 
 /// Whether a port at the place is due for an update.
 pub fn is_due_at<P: Port>(ports: &[Option<P>], place: usize) -> bool
+    requires { place < length ports.now }
     ensures { result ≡ is_due_at P.is_due ports.now place }
 {
-    match ports.get(place) {
-        Some(Some(port)) => port.is_due(),
-        _ => false,
+    match &ports[place] {
+        Some(port) => port.is_due(),
+        None => false,
     }
 }
 

@@ -1,5 +1,5 @@
 //! The slots of the messages that subscribers have borrowed.
-ghost use Rattle.std.specs.Prelude.{◌<◌, ◌↔◌, ℕ, length, Contains, IfSome, IsTrue, MatchOption};
+ghost use Rattle.std.specs.Prelude.{◌<◌, ◌↔◌, ℕ, length, Contains, IsTrue, MatchOption};
 ghost use Rattle.iox2_domain.specs.SampleSlots.{HasNoneNumbered, IsNumberedSlot};
 
 use crate::state::DomainState;
@@ -14,6 +14,8 @@ pub struct SampleAt {
     pub number: u128,
     /// The key of the connection in which it is looked for first.
     pub connection: usize,
+    /// The key of the book in which it is looked for first.
+    pub book: usize,
     /// The slot in which it is looked for first.
     pub slot: usize,
 }
@@ -36,19 +38,18 @@ pub struct SampleSlot {
     pub slot: usize,
 }
 
-// The borrowed slot with a number. The hint is tested first.
-fn find_borrowed(
-    connection: &Connection,
-    book: &SlotBook,
-    number: u128,
-    hint: usize,
-) -> Option<usize>
+/// Where a message lies: the key of its publisher's book, and its slot.
+#[derive(Clone, Copy)]
+pub struct MessageSlot {
+    pub book: usize,
+    pub slot: usize,
+}
+
+// The borrowed slot with a number.
+fn find_borrowed(connection: &Connection, book: &SlotBook, number: u128) -> Option<usize>
     requires { (slot : ℕ) → Contains connection.now.borrowed slot → slot < length book.now.holders }
     ensures { MatchOption result (HasNoneNumbered connection.now book.now number) (IsNumberedSlot connection.now book.now number) }
 {
-    if connection.is_borrowed(hint) && book.number(hint) == number {
-        return Some(hint);
-    }
     let borrowed = connection.borrowed();
     for index in 0..borrowed.len() {
         let slot = borrowed[index];
@@ -63,22 +64,25 @@ impl<T: Drop, U: Default + Drop> DomainState<T, U> {
     ghost use Rattle.iox2_store.specs.machine.SingleCalls.{HoldsSample};
     ghost use Rattle.iox2_domain.specs.Kept.{state_of};
     ghost use Rattle.iox2_domain.specs.Fields.{kept_of};
-    ghost use Rattle.iox2_domain.specs.Invariant.{IsDomain};
-    ghost use Rattle.iox2_domain.specs.SampleSlots.{BorrowsAt, LiesBorrowed};
+    ghost use Rattle.iox2_domain.specs.Invariant.{HasNumber, IsDomain};
+    ghost use Rattle.iox2_domain.specs.SampleSlots.{BorrowsAt, LiesAtHint, LiesBorrowed, LiesInSlot};
 
-    // Where the message lies that the subscriber has borrowed in the connection at the key. The
-    // sample's slot is tested first.
-    fn find_sample_at(&self, key: usize, sample: &SampleAt) -> Option<SampleSlot>
+    // Where the message lies that the subscriber has borrowed in the connection at the key.
+    fn find_sample_at(
+        &self,
+        key: usize,
+        subscriber: UniqueSubscriberId,
+        number: u128,
+    ) -> Option<SampleSlot>
         requires { IsDomain self.now }
-        ensures { MatchOption result (BorrowsAt self.now key sample.now.subscriber sample.now.number → ⊥) (LiesBorrowed self.now sample.now.subscriber sample.now.number) }
+        ensures { MatchOption result (BorrowsAt self.now key subscriber number → ⊥) (LiesBorrowed self.now subscriber number) }
     {
         let connection = self.connections.get(key)?;
         let home = connection.home();
-        if home.subscriber != sample.subscriber.value() {
+        if home.subscriber != subscriber.value() {
             return None;
         }
-        let book = &self.books[home.book];
-        let slot = find_borrowed(connection, book, sample.number, sample.slot)?;
+        let slot = find_borrowed(connection, &self.books[home.book], number)?;
         Some(SampleSlot {
             connection: key,
             book: home.book,
@@ -86,26 +90,15 @@ impl<T: Drop, U: Default + Drop> DomainState<T, U> {
         })
     }
 
-    /// Where a sample lies, and `None` where its subscriber hasn't borrowed it. Its connection and
-    /// its slot are tested first.
-    pub fn find_sample(&self, sample: &SampleAt) -> Option<SampleSlot>
-        requires { IsDomain self.now }
-        ensures { MatchOption result (HoldsSample (state_of (kept_of self.now)) sample.now.subscriber sample.now.number → ⊥) (LiesBorrowed self.now sample.now.subscriber sample.now.number) }
-    {
-        let hinted = self.find_sample_at(sample.connection, sample);
-        if hinted.is_some() {
-            return hinted;
-        }
-        self.search_connections(sample)
-    }
-
+    /// Where the message lies that the subscriber has borrowed, and `None` where it hasn't. Every
+    /// connection is gone through.
     #[inline(never)]
-    fn search_connections(&self, sample: &SampleAt) -> Option<SampleSlot>
+    pub fn find_sample(&self, subscriber: UniqueSubscriberId, number: u128) -> Option<SampleSlot>
         requires { IsDomain self.now }
-        ensures { MatchOption result (HoldsSample (state_of (kept_of self.now)) sample.now.subscriber sample.now.number → ⊥) (LiesBorrowed self.now sample.now.subscriber sample.now.number) }
+        ensures { MatchOption result (HoldsSample (state_of (kept_of self.now)) subscriber number → ⊥) (LiesBorrowed self.now subscriber number) }
     {
         for key in 0..self.connections.capacity() {
-            let found = self.find_sample_at(key, sample);
+            let found = self.find_sample_at(key, subscriber, number);
             if found.is_some() {
                 return found;
             }
@@ -113,40 +106,63 @@ impl<T: Drop, U: Default + Drop> DomainState<T, U> {
         None
     }
 
-    // Where a live sample's connection and slot say that it lies, if it lies there. No borrowed slot
-    // is gone through: no other slot in use has its number.
-    fn sample_at_hint(&self, sample: &SampleAt) -> Option<SampleSlot>
-        requires domain { IsDomain self.now }
-        requires live { HoldsSample (state_of (kept_of self.now)) sample.now.subscriber sample.now.number }
-        ensures { IfSome result (LiesBorrowed self.now sample.now.subscriber sample.now.number) }
-    {
-        let home = self.connections.get(sample.connection)?.home();
-        if home.subscriber == sample.subscriber.value()
-            && self.books[home.book].has(sample.slot, sample.number)
-        {
-            return Some(SampleSlot {
-                connection: sample.connection,
-                book: home.book,
-                slot: sample.slot,
-            });
-        }
-        None
-    }
-
-    /// Where a sample lies that is live. Its connection and its slot are tested first, by the number
-    /// alone.
-    pub fn find_live_sample(&self, sample: &SampleAt) -> SampleSlot
+    /// Where a live sample lies, whatever it says of that.
+    pub fn search_sample(&self, sample: &SampleAt) -> SampleSlot
         requires domain { IsDomain self.now }
         requires live { HoldsSample (state_of (kept_of self.now)) sample.now.subscriber sample.now.number }
         ensures { LiesBorrowed self.now sample.now.subscriber sample.now.number result }
     {
-        if let Some(at) = self.sample_at_hint(sample) {
-            return at;
-        }
-        let Some(at) = self.find_sample(sample) else {
+        let Some(at) = self.find_sample(sample.subscriber, sample.number) else {
             unreachable!()
         };
         at
+    }
+
+    // The slot that the sample names is in use and has its number. No other slot in use has it.
+    fn is_at_slot(&self, sample: &SampleAt) -> bool
+        ensures { IsTrue result ↔ HasNumber self.now.books sample.now.book sample.now.slot sample.now.number }
+    {
+        match self.books.get(sample.book) {
+            Some(book) => book.has(sample.slot, sample.number),
+            None => false,
+        }
+    }
+
+    /// Where the message of a live sample lies. The slot that the sample names is tested first, by
+    /// the number alone.
+    pub fn find_message(&self, sample: &SampleAt) -> MessageSlot
+        requires domain { IsDomain self.now }
+        requires live { HoldsSample (state_of (kept_of self.now)) sample.now.subscriber sample.now.number }
+        ensures { LiesInSlot self.now sample.now.subscriber sample.now.number result }
+    {
+        if self.is_at_slot(sample) {
+            return MessageSlot {
+                book: sample.book,
+                slot: sample.slot,
+            };
+        }
+        let at = self.search_sample(sample);
+        MessageSlot {
+            book: at.book,
+            slot: at.slot,
+        }
+    }
+
+    /// Whether a live sample lies in the connection and the slot that it names.
+    pub fn is_at_hint(&self, sample: &SampleAt) -> bool
+        requires domain { IsDomain self.now }
+        requires live { HoldsSample (state_of (kept_of self.now)) sample.now.subscriber sample.now.number }
+        ensures { IsTrue result → LiesAtHint self.now sample.now }
+    {
+        match self.connections.get(sample.connection) {
+            Some(connection) => {
+                let home = connection.home();
+                home.subscriber == sample.subscriber.value()
+                    && home.book == sample.book
+                    && self.is_at_slot(sample)
+            }
+            None => false,
+        }
     }
 
     /// Whether the subscriber has borrowed a message with this number.
@@ -154,12 +170,6 @@ impl<T: Drop, U: Default + Drop> DomainState<T, U> {
         requires { IsDomain self.now }
         ensures { IsTrue result ↔ HoldsSample (state_of (kept_of self.now)) subscriber number }
     {
-        let sample = SampleAt {
-            subscriber,
-            number,
-            connection: 0,
-            slot: 0,
-        };
-        self.find_sample(&sample).is_some()
+        self.find_sample(subscriber, number).is_some()
     }
 }

@@ -1,7 +1,7 @@
 -- A subscriber's search, seen from the machine.
-use Rattle.std.proofs.Common.{◌≡◌, ℕ, zero, suc, ◌+◌, ◌<◌, Bool, true, false, cond, not, ◌&&◌, ◌||◌, List, [], ◌∷◌, length, map, drop, Option, None, Some, get_or, refl, sym, ap, ◌∙◌, arith, eqb, ⊎_elim}
+use Rattle.std.proofs.Common.{◌≡◌, ℕ, zero, suc, ◌+◌, ◌<◌, ◌≤◌, Bool, true, false, cond, not, ◌&&◌, ◌||◌, List, [], ◌∷◌, length, map, drop, Option, None, Some, get_or, refl, sym, ap, subst, ◌∙◌, arith, eqb, ⊎_elim}
 use Rattle.std.proofs.lemmas.Bool.{eqb-true, eq-eqb, true≢false, or_cases, or_left, or_right, or_parts}
-use Rattle.std.proofs.lemmas.List.{length-map, drop_more}
+use Rattle.std.proofs.lemmas.List.{length-map, drop_all, drop_more}
 use Rattle.std.proofs.lemmas.List.Folds.{list_any-append}
 use Rattle.std.specs.Prelude.{IsTrue, IsSomeAnd}
 use Rattle.std.specs.Bool.{MatchBool}
@@ -15,11 +15,17 @@ use Rattle.iox2_store.specs.machine.Records.{Subscriber}
 use Rattle.iox2_store.specs.machine.Receives.{can_receive_of}
 use Rattle.iox2_ends.specs.Mailboxes.{mailbox_of, mailboxes_of, receiver_ends}
 use Rattle.iox2_ends.specs.Homes.{IsApart}
-use Rattle.iox2_ends.specs.Finds.{offer_of, offer_at, first_found, search, is_ready, CanTake, IsReceivers, IsReceiverLinked, FindsFor, Finds}
+use Rattle.iox2_ends.specs.Finds.{is_something, offer_of, offer_at, first_found, search, IsReceivers, IsReceiverLinked, FindsFor, Finds}
 use Rattle.iox2_ends.specs.declared.receiver.Found.{Found}
 use Rattle.iox2_ends.proofs.MailboxChanges.{mailbox-there}
 
 -- ---- one search after another
+
+-- a message may be taken
+abbrev pub is_ready : Found → Bool
+is_ready (Found.Ready key) = true
+is_ready Found.AtLimit = false
+is_ready Found.Nothing = false
 
 -- three searches may be taken together in either way
 pub first_found-assoc : (a b c : Found) → first_found (first_found a b) c ≡ first_found a (first_found b c)
@@ -46,17 +52,31 @@ first_found-nothing Found.AtLimit = refl
 first_found-nothing Found.Nothing = refl
 
 -- the search goes on behind the place i
-pub search-more : (connections : Slab Link) (keys : List (Option ℕ)) (i : ℕ) (found : Found) → i < length keys → search connections keys ≡ first_found found (search connections (drop i keys))
-    → search connections keys ≡ first_found (first_found found (offer_at connections (get_or keys i None))) (search connections (drop (i + 1) keys))
-search-more connections keys i found below e =
+-- what is found first is found
+pub something-first : (a b : Found) → is_something a ≡ true → true ≡ is_something (first_found a b)
+something-first (Found.Ready key) b e = refl
+something-first Found.AtLimit (Found.Ready key) e = refl
+something-first Found.AtLimit Found.AtLimit e = refl
+something-first Found.AtLimit Found.Nothing e = refl
+something-first Found.Nothing b e = absurd cc
+
+-- and else what is found later
+pub something-later : (a b : Found) → is_something a ≡ false → is_something b ≡ is_something (first_found a b)
+something-later (Found.Ready key) b e = absurd cc
+something-later Found.AtLimit b e = absurd cc
+something-later Found.Nothing b e = refl
+
+pub search-more : (connections : Slab Link) (keys : List (Option ℕ)) (i : ℕ) (found all : Found) → i < length keys → all ≡ first_found found (search connections (drop i keys))
+    → all ≡ first_found (first_found found (offer_at connections (get_or keys i None))) (search connections (drop (i + 1) keys))
+search-more connections keys i found all below e =
     e ∙ ap (λ (rest : List (Option ℕ)). first_found found (search connections rest)) (drop_more keys i None below)
     ∙ sym (first_found-assoc found (offer_at connections (get_or keys i None)) (search connections (drop (i + 1) keys)))
 
 -- the search goes on behind the place i with what was offered there
-pub search-step : (connections : Slab Link) (keys : List (Option ℕ)) (i : ℕ) (key : Option ℕ) (found offer next : Found) → i < length keys → search connections keys ≡ first_found found (search connections (drop i keys))
-    → get_or keys i None ≡ key → offer ≡ offer_at connections key → next ≡ first_found found offer → search connections keys ≡ first_found next (search connections (drop (i + 1) keys))
-search-step connections keys i key found offer next below so_far at is joins =
-    search-more connections keys i found below so_far
+pub search-step : (connections : Slab Link) (keys : List (Option ℕ)) (i : ℕ) (key : Option ℕ) (found offer next all : Found) → i < length keys → all ≡ first_found found (search connections (drop i keys))
+    → get_or keys i None ≡ key → offer ≡ offer_at connections key → next ≡ first_found found offer → all ≡ first_found next (search connections (drop (i + 1) keys))
+search-step connections keys i key found offer next all below so_far at is joins =
+    search-more connections keys i found all below so_far
     ∙ ap (λ (x : Found). first_found (first_found found x) (search connections (drop (i + 1) keys))) (ap (offer_at connections) at ∙ sym is)
     ∙ ap (λ (x : Found). first_found x (search connections (drop (i + 1) keys))) (sym joins)
 
@@ -84,6 +104,12 @@ key-at (key ∷ keys) (suc i) below = key-at keys i (omega arith)
 
 -- ---- what is found may be taken
 
+-- a message may be taken from the connection that was found
+abbrev pub CanTake : Slab Link → Found → Type 0
+CanTake connections (Found.Ready key) = IsSomeAnd (get connections key) (λ c. IsTrue (can_borrow c))
+CanTake connections Found.AtLimit = Unit {0}
+CanTake connections Found.Nothing = Unit {0}
+
 -- what one connection offers may be taken
 can_take-offer : (connections : Slab Link) (key : Option ℕ) → CanTake connections (offer_at connections key)
 can_take-offer connections None = tt
@@ -106,9 +132,6 @@ can_take-first connections Found.Nothing b x y = y
 can_take-search : (connections : Slab Link) (keys : List (Option ℕ)) → CanTake connections (search connections keys)
 can_take-search connections [] = tt
 can_take-search connections (key ∷ keys) = can_take-first connections (offer_at connections key) (search connections keys) (can_take-offer connections key) (can_take-search connections keys)
-
-pub can_take-found : (connections : Slab Link) (first keys : List (Option ℕ)) → CanTake connections (first_found (search connections first) (search connections keys))
-can_take-found connections first keys = can_take-first connections (search connections first) (search connections keys) (can_take-search connections first) (can_take-search connections keys)
 
 -- ---- one mailbox
 
@@ -236,4 +259,43 @@ finds-found connections expired keys = record {
       finds-both q limit connections y (λ p. mailboxes_of number connections p q) (search connections (map Some expired)) (search connections keys)
       (rw r.expired (among-search q limit connections number r.apart (map Some expired) r.kept))
       (rw r.ends (among-search q limit connections number r.apart keys r.linked));
+  looks = refl;
 }
+
+-- ---- the search in the code
+
+module _ (connections : Slab Link) (expired : List ℕ) (keys : List (Option ℕ)) where
+  -- all that is searched
+  abbrev pub whole_search : Found
+  whole_search = first_found (search connections (map Some expired)) (search connections keys)
+
+  -- a message may be taken from the connection that was found among the expired ones
+  pub expired-ready : (found : Found) (key : ℕ) → found ≡ search connections (map Some expired) → found ≡ Found.Ready key
+      → CanTake connections (Found.Ready key) × Finds connections expired keys (Found.Ready key)
+  expired-ready found key is ready = (
+    subst (CanTake connections) (sym is ∙ ready) (can_take-search connections (map Some expired)),
+    subst (Finds connections expired keys) (search-ready found _ (search connections keys) is (ap is_ready ready) ∙ ready) (finds-found connections expired keys),
+  )
+
+  -- or at a place, where none was found before
+  pub place-ready : (found offer : Found) (place key : ℕ) → place < length keys → is_ready found ≡ false → whole_search ≡ first_found found (search connections (drop place keys))
+      → offer ≡ offer_at connections (get_or keys place None) → offer ≡ Found.Ready key → CanTake connections (Found.Ready key) × Finds connections expired keys (Found.Ready key)
+  place-ready found offer place key below none whole is ready = (
+    subst (CanTake connections) (sym is ∙ ready) (can_take-offer connections (get_or keys place None)),
+    subst (Finds connections expired keys)
+        (search-step connections keys place _ found offer (Found.Ready key) whole_search below whole refl is
+        (joins-ready found key none ∙ ap (first_found found) (sym ready))) (finds-found connections expired keys),
+  )
+
+  -- what was found when all places were looked at
+  pub search-ended : (found : Found) (place : ℕ) → length keys ≤ place → whole_search ≡ first_found found (search connections (drop place keys)) → Finds connections expired keys found
+  search-ended found place past whole =
+      subst (Finds connections expired keys)
+      (whole ∙ ap (λ (rest : List (Option ℕ)). first_found found (search connections rest)) (drop_all place keys past) ∙ first_found-nothing found)
+      (finds-found connections expired keys)
+
+-- what is found where there is no connection to take from, and no limit
+pub found-nothing : (found : Found) → is_ready found ≡ false → (found ≡ Found.AtLimit → ⊥) → found ≡ Found.Nothing
+found-nothing (Found.Ready key) none other = absurd (true≢false none)
+found-nothing Found.AtLimit none other = absurd (other refl)
+found-nothing Found.Nothing none other = refl

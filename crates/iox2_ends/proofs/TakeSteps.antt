@@ -1,5 +1,5 @@
 -- A subscriber's work on one connection, seen from the machine.
-use Rattle.std.proofs.Common.{◌≡◌, ℕ, true, [], ◌∷◌, map, Some, refl, ap, sym, ◌∙◌, subst, Contains}
+use Rattle.std.proofs.Common.{◌≡◌, ℕ, true, [], ◌∷◌, map, Option, None, Some, refl, ap, sym, ◌∙◌, subst, Contains}
 use Rattle.std.proofs.lemmas.List.{map-append}
 use Rattle.std.specs.Prelude.{IsSomeAnd}
 use Rattle.slab.specs.Slab.{Slab, get, with_value}
@@ -7,12 +7,14 @@ use Rattle.iox2_store.specs.Link.{Link, IsTaken, with_returned}
 use Rattle.iox2_store.specs.machine.Numbers.{contains, IsOnce}
 use Rattle.iox2_store.specs.machine.Mailbox.{Mailbox, BorrowsFirst, with_released}
 use Rattle.iox2_ends.specs.Mailboxes.{mailbox_of, mailboxes_of, with_box}
-use Rattle.iox2_ends.specs.Homes.{IsApart, fixed_of}
-use Rattle.iox2_ends.specs.Takes.{SameStands, BorrowsSlot, ReleasesSlot}
+use Rattle.iox2_ends.specs.Homes.{IsApart, SameHomes, fixed_of}
+use Rattle.iox2_ends.specs.Takes.{KeepsOtherKeys, SameStands, BorrowsSlot, TakesSlot, ReleasesSlot}
+use Rattle.iox2_ends.specs.declared.receiver.Taken.{Taken}
 use Rattle.iox2_ends.proofs.MailboxChanges.{Updates-with_value, mailbox-there, mailboxes-changed}
 use Rattle.iox2_ends.proofs.Counts.{CountersFollow-kept}
 use Rattle.iox2_ends.proofs.DeliverySteps.{same_link}
-use Rattle.iox2_ends.proofs.Releases.{contains-from, stands_in-with_returned, mailbox-with_returned}
+use Rattle.iox2_store.proofs.LinkLemmas.{contains-from}
+use Rattle.iox2_ends.proofs.Releases.{stands_in-with_returned, mailbox-with_returned}
 
 -- the first slot is borrowed, at numbers
 borrows-first : (number : ℕ → ℕ) (c d : Link) (slot : ℕ) → IsTaken c (Some slot) d → BorrowsFirst (mailbox_of number c) (number slot) (mailbox_of number d)
@@ -54,8 +56,30 @@ pub returned-there : (slab : Slab Link) (key slot : ℕ) (c d : Link) → get sl
 returned-there slab key slot c d at returned = rw at ((Updates-with_value slab key c d at).changed ∙ ap Some returned)
 
 -- a slot that is given back stands as often as before
-pub stands-returned : (slab : Slab Link) (key slot : ℕ) (c d : Link) → IsSomeAnd (get slab key) (λ (x : Link). Contains x.borrowed slot) → get slab key ≡ Some c → d ≡ with_returned slot c → SameStands slab (with_value slab key d)
-stands-returned slab key slot c d borrowed at returned = record {
+pub stands-returned : (slab : Slab Link) (key slot : ℕ) (c d : Link) → IsSomeAnd (get slab key) (λ (x : Link). Contains x.borrowed slot) → IsSomeAnd (get slab key) (λ (x : Link). IsOnce x.borrowed) → get slab key ≡ Some c → d ≡ with_returned slot c → SameStands slab (with_value slab key d)
+stands-returned slab key slot c d borrowed once at returned = record {
   follows = λ p holders. CountersFollow-kept p holders slab.slots key c d at (ap (λ (x : Link). x.home) returned)
-      (λ n. rw returned (stands_in-with_returned n slot c (borrowed-at slab key slot c borrowed at)));
+      (λ n. rw returned (stands_in-with_returned n slot c (borrowed-at slab key slot c borrowed at) (rw at at once)));
 }
+
+-- what is taken from a connection
+pub takes-slot : (old new : Slab Link) (taken : Taken) (key : ℕ) → taken.connection ≡ key → IsSomeAnd (get old key) (λ (c : Link). taken.home ≡ c.home)
+    → IsSomeAnd (get old key) (λ (c : Link). Contains c.waiting taken.slot) → BorrowsSlot old key taken.slot new → SameHomes old new → KeepsOtherKeys key old new → SameStands old new
+    → TakesSlot old taken new
+takes-slot old new taken key from = subst (λ (k : ℕ). IsSomeAnd (get old k) (λ (c : Link). taken.home ≡ c.home)
+    → IsSomeAnd (get old k) (λ (c : Link). Contains c.waiting taken.slot) → BorrowsSlot old k taken.slot new → SameHomes old new → KeepsOtherKeys k old new → SameStands old new
+    → TakesSlot old taken new) from (λ home waited borrows homes others stay. by (get old taken.connection) refl home waited borrows homes others stay)
+  where
+    by : (o : Option Link) → get old taken.connection ≡ o → IsSomeAnd o (λ (c : Link). taken.home ≡ c.home) → IsSomeAnd o (λ (c : Link). Contains c.waiting taken.slot)
+        → BorrowsSlot old taken.connection taken.slot new → SameHomes old new → KeepsOtherKeys taken.connection old new → SameStands old new → TakesSlot old taken new
+    by None e home waited borrows homes others stay = absurd home
+    by (Some c) e home waited borrows homes others stay = record {
+      link = c;
+      stands = e;
+      home_is = home;
+      waited = waited;
+      borrows = borrows;
+      homes = homes;
+      others = others;
+      stay = stay;
+    }

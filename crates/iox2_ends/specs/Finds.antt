@@ -33,26 +33,20 @@ first_found Found.AtLimit Found.AtLimit = Found.AtLimit
 first_found Found.AtLimit Found.Nothing = Found.AtLimit
 first_found Found.Nothing later = later
 
+-- Whether this says that messages wait.
+abbrev pub is_something : Found → Bool
+is_something (Found.Ready key) = true
+is_something Found.AtLimit = true
+is_something Found.Nothing = false
+
 -- What a search through the connections at these keys finds.
 abbrev pub search : Slab Link → List (Option ℕ) → Found
 search connections [] = Found.Nothing
 search connections (key ∷ keys) = first_found (offer_at connections key) (search connections keys)
 
--- A message may be taken.
-abbrev pub is_ready : Found → Bool
-is_ready (Found.Ready key) = true
-is_ready Found.AtLimit = false
-is_ready Found.Nothing = false
-
 -- Each of these keys has a connection.
 pub record HasConnections (connections : Slab Link) (keys : List (Option ℕ)) : Type 0 where
   pub at : (i key : ℕ) → slice_index_or keys i None ≡ Some key → ContainsKey connections key
-
--- `take` may be called for the connection that was found.
-abbrev pub CanTake : Slab Link → Found → Type 0
-CanTake connections (Found.Ready key) = IsSomeAnd (get connections key) (λ c. IsTrue (can_borrow c))
-CanTake connections Found.AtLimit = Unit {0}
-CanTake connections Found.Nothing = Unit {0}
 
 -- ---- in the machine's words
 
@@ -81,7 +75,9 @@ module _ (q limit : ℕ) (connections : Slab Link) (y : Subscriber) (boxes : ℕ
   FindsFor Found.AtLimit = (has_any_data limit y boxes ≡ true) × (can_receive_of limit y boxes (connected_publishers y) ≡ false)
   FindsFor Found.Nothing = has_any_data limit y boxes ≡ false
 
--- Whatever numbers the slots have, this is what the subscriber with these keys finds.
+-- Whatever numbers the slots have, this is what the subscriber with these keys finds: what a search comes to first among
+-- the expired connections, and then by rising place.
 pub record Finds (connections : Slab Link) (expired : List ℕ) (keys : List (Option ℕ)) (found : Found) : Type 0 where
   pub finds : (q limit : ℕ) (y : Subscriber) → IsReceiver q limit connections expired keys y → (number : ℕ → ℕ → ℕ)
       → FindsFor q limit connections y (λ p. mailboxes_of number connections p q) found
+  pub looks : found ≡ first_found (search connections (map Some expired)) (search connections keys)

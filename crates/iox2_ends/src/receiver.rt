@@ -3,14 +3,27 @@ ghost use Rattle.std.specs.Prelude.{◌≡◌, Some, map, Contains, IsTrue, IsSo
 ghost use Rattle.std.specs.Option.{ForSome};
 ghost use Rattle.slab.specs.Slab.{get, ContainsKey};
 ghost use Rattle.iox2_store.specs.Link.{can_borrow, with_returned};
+ghost use Rattle.iox2_store.specs.machine.Numbers.{IsOnce};
 ghost use Rattle.iox2_ends.specs.Homes.{IsApart, SameHomes};
-ghost use Rattle.iox2_ends.specs.Finds.{offer_at, first_found, search, is_ready, HasConnections, CanTake, Finds};
-ghost use Rattle.iox2_ends.specs.Takes.{KeepsOtherKeys, SameStands, BorrowsSlot, ReleasesSlot};
+ghost use Rattle.iox2_ends.specs.Finds.{offer_at, search, is_something, Finds, HasConnections};
+ghost use Rattle.iox2_ends.specs.declared.receiver.Found.{Found};
+ghost use Rattle.iox2_ends.specs.Takes.{KeepsOtherKeys, SameStands, BorrowsSlot, ReceivesSlot, ReleasesSlot};
 
-use iox2_store::Connection;
+use iox2_store::{Connection, Home, ReceiveError};
 use slab::Slab;
 
-/// What `find` found.
+/// A message that was taken from a connection.
+#[derive(Debug, Clone, Copy, PartialEq, Eq)]
+pub struct Taken {
+    /// The key of the connection.
+    pub connection: usize,
+    /// Between which ports the connection stands.
+    pub home: Home,
+    /// The slot of the message.
+    pub slot: usize,
+}
+
+/// What one connection offers, or several.
 #[derive(Debug, Clone, Copy, PartialEq, Eq)]
 pub enum Found {
     /// A message may be taken from the connection at this key.
@@ -22,21 +35,11 @@ pub enum Found {
 }
 
 impl Found {
-    fn is_ready(self) -> bool
-        ensures { result ≡ is_ready self }
+    // Whether this says that messages wait.
+    fn is_something(self) -> bool
+        ensures { result ≡ is_something self }
     {
-        matches!(self, Found::Ready(_))
-    }
-
-    // What this search and a later one find together.
-    fn or(self, later: Found) -> Found
-        ensures { result ≡ first_found self later }
-    {
-        match (self, later) {
-            (Found::Ready(key), _) | (Found::AtLimit, Found::Ready(key)) => Found::Ready(key),
-            (Found::AtLimit, Found::AtLimit | Found::Nothing) => Found::AtLimit,
-            (Found::Nothing, later) => later,
-        }
+        !matches!(self, Found::Nothing)
     }
 }
 
@@ -58,21 +61,6 @@ fn look(connections: &Slab<Connection>, key: Option<usize>) -> Found
     }
 }
 
-fn search_keys(connections: &Slab<Connection>, keys: &[Option<usize>]) -> Found
-    requires { HasConnections connections.now keys.now }
-    ensures { result ≡ search connections.now keys.now }
-{
-    let mut found = Found::Nothing;
-    for place in 0..keys.len() {
-        match look(connections, keys[place]) {
-            Found::Ready(key) => return Found::Ready(key),
-            Found::AtLimit => found = Found::AtLimit,
-            Found::Nothing => {}
-        }
-    }
-    found
-}
-
 fn search_expired(connections: &Slab<Connection>, expired: &[usize]) -> Found
     requires { HasConnections connections.now (map Some expired.now) }
     ensures { result ≡ search connections.now (map Some expired.now) }
@@ -88,40 +76,94 @@ fn search_expired(connections: &Slab<Connection>, expired: &[usize]) -> Found
     found
 }
 
-/// Looks for a connection to take a message from: first among the expired ones, whose publishers
-/// are gone, in their order, and then by rising place. Where there is none, the result says whether
-/// a message waits all the same.
-///
-/// iceoryx2's `Receiver::receive` (`src/port/details/receiver.rs`).
-pub fn find(connections: &Slab<Connection>, expired: &[usize], keys: &[Option<usize>]) -> Found
-    requires expired { HasConnections connections.now (map Some expired.now) }
-    requires keys { HasConnections connections.now keys.now }
-    ensures finds { Finds connections.now expired.now keys.now result }
-    ensures looks { result ≡ first_found (search connections.now (map Some expired.now)) (search connections.now keys.now) }
-    ensures can_take { CanTake connections.now result }
-{
-    let found = search_expired(connections, expired);
-    if found.is_ready() {
-        return found;
-    }
-    found.or(search_keys(connections, keys))
-}
-
-/// Borrows the message that has waited longest in the connection at a key, and returns its slot.
-/// The caller knows that one waits there and that fewer than the limit are borrowed, as
-/// `Connection::can_receive` says.
-///
-/// iceoryx2's `Receiver::receive_from_connection` (`src/port/details/receiver.rs`).
-pub fn take(connections: &mut Slab<Connection>, key: usize) -> usize
+// Borrows the message that has waited longest in the connection at a key.
+//
+// iceoryx2's `Receiver::receive_from_connection` (`src/port/details/receiver.rs`).
+fn take(connections: &mut Slab<Connection>, key: usize) -> Taken
     requires ready { IsSomeAnd (get connections.old key) (λ c. IsTrue (can_borrow c)) }
     requires apart { IsApart connections.old }
-    ensures takes { BorrowsSlot connections.old key result connections.new }
-    ensures waited { IsSomeAnd (get connections.old key) (λ c. Contains c.waiting result) }
+    ensures from { result.connection ≡ key }
+    ensures home { IsSomeAnd (get connections.old key) (λ c. result.home ≡ c.home) }
+    ensures waited { IsSomeAnd (get connections.old key) (λ c. Contains c.waiting result.slot) }
+    ensures takes { BorrowsSlot connections.old key result.slot connections.new }
     ensures homes { SameHomes connections.old connections.new }
     ensures others { KeepsOtherKeys key connections.old connections.new }
     ensures stands { SameStands connections.old connections.new }
 {
-    connections[key].take().unwrap()
+    let connection = &mut connections[key];
+    Taken {
+        connection: key,
+        home: connection.home(),
+        slot: connection.take().unwrap(),
+    }
+}
+
+/// Borrows the message that has waited longest in the first connection of which one may be borrowed:
+/// first among the expired ones, whose publishers are gone, in their order, and then by rising place.
+/// `None` where no message waits.
+///
+/// `ExceedsMaxBorrows` where messages wait, but only in connections of which as many are borrowed as
+/// may be.
+///
+/// iceoryx2's `Receiver::receive` (`src/port/details/receiver.rs`).
+#[inline(always)]
+pub fn receive(
+    connections: &mut Slab<Connection>,
+    expired: &[usize],
+    keys: &[Option<usize>],
+) -> Result<Option<Taken>, ReceiveError>
+    requires expired { HasConnections connections.old (map Some expired.now) }
+    requires keys { HasConnections connections.old keys.now }
+    requires apart { IsApart connections.old }
+    ensures { ReceivesSlot connections.old expired.now keys.now result connections.new }
+{
+    let mut found = search_expired(connections, expired);
+    if let Found::Ready(key) = found {
+        return Ok(Some(take(connections, key)));
+    }
+    for place in 0..keys.len() {
+        match look(connections, keys[place]) {
+            Found::Ready(key) => return Ok(Some(take(connections, key))),
+            Found::AtLimit => found = Found::AtLimit,
+            Found::Nothing => {}
+        }
+    }
+    match found {
+        Found::AtLimit => Err(ReceiveError::ExceedsMaxBorrows),
+        _ => Ok(None),
+    }
+}
+
+// What the connections at these keys offer.
+fn search_keys(connections: &Slab<Connection>, keys: &[Option<usize>]) -> Found
+    requires { HasConnections connections.now keys.now }
+    ensures { result ≡ search connections.now keys.now }
+{
+    let mut found = Found::Nothing;
+    for index in 0..keys.len() {
+        match look(connections, keys[index]) {
+            Found::Ready(key) => return Found::Ready(key),
+            Found::AtLimit => found = Found::AtLimit,
+            Found::Nothing => {}
+        }
+    }
+    found
+}
+
+/// Whether a message waits in one of these connections, also one that may not be borrowed yet.
+///
+/// iceoryx2's `Receiver::has_samples` (`src/port/details/receiver.rs`).
+pub fn has_samples(
+    connections: &Slab<Connection>,
+    expired: &[usize],
+    keys: &[Option<usize>],
+) -> bool
+    requires expired { HasConnections connections.now (map Some expired.now) }
+    requires keys { HasConnections connections.now keys.now }
+    ensures { (found : Found) × Finds connections.now expired.now keys.now found × (result ≡ is_something found) }
+{
+    search_expired(connections, expired).is_something()
+        || search_keys(connections, keys).is_something()
 }
 
 /// Gives the message in a slot, which is borrowed from the connection at a key, back to its
@@ -130,6 +172,7 @@ pub fn take(connections: &mut Slab<Connection>, key: usize) -> usize
 /// iceoryx2's `Receiver::release_offset` (`src/port/details/receiver.rs`).
 pub fn release(connections: &mut Slab<Connection>, key: usize, slot: usize)
     requires borrowed { IsSomeAnd (get connections.old key) (λ c. Contains c.borrowed slot) }
+    requires once { IsSomeAnd (get connections.old key) (λ c. IsOnce c.borrowed) }
     requires apart { IsApart connections.old }
     ensures releases { ReleasesSlot connections.old key slot connections.new }
     ensures returned { IsSomeAnd (get connections.old key) (λ c. get connections.new key ≡ Some (with_returned slot c)) }

@@ -6,7 +6,7 @@ ghost use Rattle.iox2_domain.specs.Ports.{SubscriberFields};
 ghost use Rattle.iox2_domain.specs.Questions.{IsWhetherWaiting, AnswersAs};
 
 use iox2_domain::DomainState;
-use iox2_ends::receiver::{Found, find};
+use iox2_ends::receiver::has_samples;
 use iox2_ports::update_subscriber;
 
 /// The subscriber at a place is updated, and then asked whether any message waits for it, also one
@@ -34,8 +34,5 @@ fn has_data_at<T: Drop, U: Default + Drop>(state: &DomainState<T, U>, place: usi
     let Some(subscriber) = &state.subscribers[place] else {
         unreachable!()
     };
-    match find(&state.connections, &subscriber.expired, &subscriber.keys) {
-        Found::Ready(_) | Found::AtLimit => true,
-        Found::Nothing => false,
-    }
+    has_samples(&state.connections, &subscriber.expired, &subscriber.keys)
 }

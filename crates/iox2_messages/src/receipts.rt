@@ -1,7 +1,6 @@
 //! Messages that a subscriber takes from its connections, and gives back.
-ghost use Rattle.std.specs.Prelude.{◌≡◌, ℕ, true, None, Some, slice_index_or, IsTrue, IsSomeAnd};
+ghost use Rattle.std.specs.Prelude.{◌≡◌, ◌<◌, ℕ, None, Some, length, slice_index_or, IsTrue, IsSomeAnd};
 ghost use Rattle.slab.specs.Slab.{get};
-ghost use Rattle.iox2_store.specs.Link.{can_borrow};
 ghost use Rattle.iox2_store.specs.machine.Environments.{fixed_handlers};
 ghost use Rattle.iox2_store.specs.machine.Mailbox.{is_borrowed};
 ghost use Rattle.iox2_store.specs.machine.Releases.{released};
@@ -11,27 +10,26 @@ ghost use Rattle.iox2_domain.specs.Kept.{state_of};
 ghost use Rattle.iox2_domain.specs.Fields.{kept_of};
 ghost use Rattle.iox2_domain.specs.Invariant.{IsDomain};
 ghost use Rattle.iox2_domain.specs.Reaches.{Reaches};
-ghost use Rattle.iox2_domain.specs.Receipts.{TakesFrom, TakesAs, ReceivesAs};
+ghost use Rattle.iox2_domain.specs.Receipts.{IsReceiptFor, TakesAs, ReceivesAs};
 
 use iox2_domain::{DomainState, Receipt, SampleAt};
-use iox2_ends::receiver::{Found, find, release, take};
+use iox2_ends::receiver::{Taken, receive, release};
 use iox2_ports::update_subscriber;
-use iox2_store::{ReceiveError, UniquePublisherId, UniqueSubscriberId};
+use iox2_store::{ReceiveError, SlotBook, UniquePublisherId, UniqueSubscriberId};
+use slab::Slab;
 
-// Borrows the message that has waited longest in a connection.
-fn take_from<T: Drop, U: Default + Drop>(state: &mut DomainState<T, U>, key: usize) -> Receipt
-    requires agrees { IsDomain state.old }
-    requires ready { IsSomeAnd (get state.old.connections key) (λ c. IsTrue (can_borrow c)) }
-    ensures { TakesFrom state.old key result state.new }
+// The receipt of a message that was taken.
+fn receipt_of(books: &Slab<SlotBook>, taken: Taken) -> Receipt
+    requires { IsSomeAnd (get books.now (taken.home).book) (λ b. taken.slot < length b.holders) }
+    ensures { IsReceiptFor books.now taken result }
 {
-    let home = state.connections[key].home();
-    let slot = take(&mut state.connections, key);
-    let number = state.books[home.book].number(slot);
+    let home = taken.home;
     let sample = SampleAt {
         subscriber: UniqueSubscriberId::new(home.subscriber),
-        number,
-        connection: key,
-        slot,
+        number: books[home.book].number(taken.slot),
+        connection: taken.connection,
+        book: home.book,
+        slot: taken.slot,
     };
     Receipt {
         publisher: UniquePublisherId::new(home.publisher),
@@ -40,6 +38,7 @@ fn take_from<T: Drop, U: Default + Drop>(state: &mut DomainState<T, U>, key: usi
 }
 
 /// The subscriber at a place borrows a message, if one waits of which it may borrow one more.
+#[inline(always)]
 pub(crate) fn take_at<T: Drop, U: Default + Drop>(
     state: &mut DomainState<T, U>,
     place: usize,
@@ -51,11 +50,15 @@ pub(crate) fn take_at<T: Drop, U: Default + Drop>(
     let Some(subscriber) = &state.subscribers[place] else {
         unreachable!()
     };
-    match find(&state.connections, &subscriber.expired, &subscriber.keys) {
-        Found::Ready(key) => Ok(Some(take_from(state, key))),
-        Found::AtLimit => Err(ReceiveError::ExceedsMaxBorrows),
-        Found::Nothing => Ok(None),
-    }
+    let taken = receive(
+        &mut state.connections,
+        &subscriber.expired,
+        &subscriber.keys,
+    )?;
+    let Some(taken) = taken else {
+        return Ok(None);
+    };
+    Ok(Some(receipt_of(&state.books, taken)))
 }
 
 /// The subscriber at a place is updated, and then borrows the message that has waited longest in
@@ -63,6 +66,7 @@ pub(crate) fn take_at<T: Drop, U: Default + Drop>(
 ///
 /// `ExceedsMaxBorrows` where messages wait, but only where as many are borrowed as may be. The
 /// update stands then.
+#[inline(always)]
 pub fn receive_at<T: Drop, U: Default + Drop>(
     state: &mut DomainState<T, U>,
     place: usize,
@@ -84,6 +88,25 @@ pub fn give_back<T: Drop, U: Default + Drop>(state: &mut DomainState<T, U>, samp
     ensures released { (publisher : ℕ) → IsTrue (is_borrowed sample.number ((state_of (kept_of state.old)).mailboxes publisher sample.subscriber))
         → Reaches state.old state.new (released (state_of (kept_of state.old)) publisher sample.subscriber sample.number) }
 {
-    let at = state.find_live_sample(&sample);
+    if state.is_at_hint(&sample) {
+        release(&mut state.connections, sample.connection, sample.slot);
+    } else {
+        search_and_give_back(state, &sample);
+    }
+}
+
+// The same, wherever the message lies.
+#[inline(never)]
+fn search_and_give_back<T: Drop, U: Default + Drop>(
+    state: &mut DomainState<T, U>,
+    sample: &SampleAt,
+)
+    requires agrees { IsDomain state.old }
+    requires live { HoldsSample (state_of (kept_of state.old)) sample.now.subscriber sample.now.number }
+    ensures stays { IsDomain state.new }
+    ensures released { (publisher : ℕ) → IsTrue (is_borrowed sample.now.number ((state_of (kept_of state.old)).mailboxes publisher sample.now.subscriber))
+        → Reaches state.old state.new (released (state_of (kept_of state.old)) publisher sample.now.subscriber sample.now.number) }
+{
+    let at = state.search_sample(sample);
     release(&mut state.connections, at.connection, at.slot);
 }

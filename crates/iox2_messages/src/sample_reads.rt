@@ -19,7 +19,7 @@ pub fn sample_payload<'a, T: Drop, U: Default + Drop>(
     requires live { HoldsSample (state_of (kept_of state.now)) sample.now.subscriber sample.now.number }
     ensures { (entry : Entry T U) × (entries_of (kept_of state.now) sample.now.number ≡ Some entry) × (entry.values ≡ result.now ∷ []) }
 {
-    let at = state.find_live_sample(sample);
+    let at = state.find_message(sample);
     let Some(contents) = &state.contents[at.book] else {
         unreachable!()
     };
@@ -35,6 +35,6 @@ pub fn sample_header<'a, T: Drop, U: Default + Drop>(
     requires live { HoldsSample (state_of (kept_of state.now)) sample.now.subscriber sample.now.number }
     ensures { (entry : Entry T U) × (entries_of (kept_of state.now) sample.now.number ≡ Some entry) × (entry.header ≡ result.now) }
 {
-    let at = state.find_live_sample(sample);
+    let at = state.find_message(sample);
     state.books[at.book].header(at.slot)
 }

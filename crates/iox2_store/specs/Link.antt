@@ -1,10 +1,8 @@
 -- What a contract sees of a connection: the slots between one publisher and one subscriber.
-use Rattle.std.specs.Prelude.{◌≡◌, ℕ, ◌+◌, ◌<◌, ◌≤◌, ◌^◌, ◌==◌, Bool, true, false, not, ◌&&◌, List, [], ◌∷◌, ◌++◌, length, nat_lt, remove, take, slice_get, cond, ◌-◌}
-use Rattle.std.specs.List.{position_or_len}
-use Rattle.std.specs.Option.{option_map_or}
+use Rattle.std.specs.Prelude.{◌≡◌, ℕ, ◌+◌, ◌<◌, ◌≤◌, ◌^◌, Bool, true, false, not, ◌&&◌, List, [], ◌∷◌, ◌++◌, length, nat_lt}
 use Rattle.std.specs.declared.option.Option.{Option}
 use Rattle.std.specs.declared.option.Option.TheVariants.{None, Some}
-use Rattle.iox2_store.specs.machine.Numbers.{is_nil}
+use Rattle.iox2_store.specs.machine.Numbers.{is_nil, without}
 use Rattle.iox2_store.specs.declared.connection.Home.{Home}
 use Rattle.iox2_store.specs.declared.connection.PutOutcome.{PutOutcome}
 use Rattle.iox2_store.specs.declared.connection.PutOutcome.TheVariants.{Taken, Overwrote, Full}
@@ -53,21 +51,9 @@ IsTaken old None new = (old.waiting ≡ []) × (new ≡ old)
 IsTaken old (Some slot) new =
     (rest : List ℕ) × (old.waiting ≡ slot ∷ rest) × (new ≡ record old { waiting = rest; borrowed = old.borrowed ++ slot ∷ [] })
 
--- The list without the first position at which the slot stands.
-abbrev pub without_first : (slot : ℕ) → List ℕ → List ℕ
-without_first slot slots = remove slots (position_or_len (λ other. other == slot) slots)
-
--- The slot stands last in the list.
-abbrev pub ends_with : (slot : ℕ) → List ℕ → Bool
-ends_with slot slots = option_map_or (λ last. last == slot) (slice_get slots (length slots - 1)) false
-
--- The list without the slot: without its last if that is the slot, and else without the first position at which it stands.
-abbrev pub without_slot : (slot : ℕ) → List ℕ → List ℕ
-without_slot slot slots = cond (ends_with slot slots) (take (length slots - 1) slots) (without_first slot slots)
-
 -- A borrowed slot is given back.
 abbrev pub with_returned : (slot : ℕ) → Link → Link
-with_returned slot c = record c { borrowed = without_slot slot c.borrowed; returned = c.returned ++ slot ∷ [] }
+with_returned slot c = record c { borrowed = without slot c.borrowed; returned = c.returned ++ slot ∷ [] }
 
 -- The first slot that was given back goes, if there is one.
 abbrev pub IsReclaimed : Link → Option ℕ → Link → Type 0

@@ -1,6 +1,7 @@
 //! What lies between one publisher and one subscriber: numbers of the publisher's slots.
-ghost use Rattle.std.specs.Prelude.{◌≡◌, ◌+◌, ◌<◌, ◌≤◌, ◌==◌, ◌↔◌, length, position, Contains, IfOk, IsTrue};
-ghost use Rattle.iox2_store.specs.Link.{load, empty_link, has_slots, can_borrow, ends_with, without_slot, with_returned, IsBounded};
+ghost use Rattle.std.specs.Prelude.{◌≡◌, ◌+◌, ◌-◌, ◌<◌, ◌≤◌, ◌==◌, ◌↔◌, length, position, slice_get, Some, Contains, IfOk, IsTrue};
+ghost use Rattle.iox2_store.specs.Link.{load, empty_link, has_slots, can_borrow, with_returned, IsBounded};
+ghost use Rattle.iox2_store.specs.machine.Numbers.{without, IsOnce};
 ghost use Rattle.std.specs.Vec.{vec_capacity};
 
 use circular_buffer::HeapCircularBuffer;
@@ -43,21 +44,37 @@ fn position_of(slots: &[usize], slot: usize) -> Option<usize>
 
 /// Whether the slot stands last.
 fn is_last(slots: &[usize], slot: usize) -> bool
-    ensures { result ≡ ends_with slot slots.now }
+    ensures { IsTrue result ↔ (slice_get slots.now (length slots.now - 1) ≡ Some slot) }
 {
     slots.last().is_some_and(|last| *last == slot)
 }
 
-/// Takes a slot out. The one that stands last goes without a search and without a shift.
+/// Takes out a slot, which stands in the list once. Where it stands last, there is no search and no
+/// shift.
 fn take_out(slots: &mut Vec<usize>, slot: usize)
-    requires { Contains slots.old.items slot }
-    ensures items { slots.new.items ≡ without_slot slot slots.old.items }
+    requires stands { Contains slots.old.items slot }
+    requires once { IsOnce slots.old.items }
+    ensures items { slots.new.items ≡ without slot slots.old.items }
     ensures len { length slots.new.items + 1 ≡ length slots.old.items }
     ensures capacity { vec_capacity slots.new ≡ vec_capacity slots.old }
 {
     if is_last(slots, slot) {
         slots.pop();
-    } else if let Some(position) = position_of(slots, slot) {
+    } else {
+        search_and_take_out(slots, slot);
+    }
+}
+
+/// The same, wherever the slot stands.
+#[inline(never)]
+fn search_and_take_out(slots: &mut Vec<usize>, slot: usize)
+    requires stands { Contains slots.old.items slot }
+    requires once { IsOnce slots.old.items }
+    ensures items { slots.new.items ≡ without slot slots.old.items }
+    ensures len { length slots.new.items + 1 ≡ length slots.old.items }
+    ensures capacity { vec_capacity slots.new ≡ vec_capacity slots.old }
+{
+    if let Some(position) = position_of(slots, slot) {
         slots.remove(position);
     }
 }
@@ -159,9 +176,10 @@ impl Connection {
         Some(slot)
     }
 
-    /// Gives a borrowed slot back, for the publisher to reclaim.
+    /// Gives a slot back, which is borrowed once, for the publisher to reclaim.
     pub fn release(&mut self, slot: usize)
-        requires { Contains self.old.borrowed slot }
+        requires borrowed { Contains self.old.borrowed slot }
+        requires once { IsOnce self.old.borrowed }
         ensures releases { self.new ≡ with_returned slot self.old }
         ensures bounded { IsBounded self.new }
     {
@@ -204,6 +222,6 @@ impl Connection {
     pub fn is_borrowed(&self, slot: usize) -> bool
         ensures { IsTrue result ↔ Contains self.now.borrowed slot }
     {
-        is_last(&self.borrowed, slot) || self.borrowed.contains(&slot)
+        self.borrowed.contains(&slot)
     }
 }

@@ -1,4 +1,4 @@
-use iox2_ends::receiver::{Found, find, release, take};
+use iox2_ends::receiver::{receive, release};
 use iox2_ends::sender::{Delivery, DeliveryOutcome, ReceiverDetails, deliver, reclaim_all};
 use iox2_store::{
     BackpressureStrategy, Connection, Header, Home, ServiceConfig, SlotBook, UniqueNodeId,
@@ -54,9 +54,11 @@ fn a_message_goes_there_and_back(rt: HostRuntime) -> Result<(), Fail> {
         &keys,
         &[Some(receiver)],
     );
-    let found = find(&connections, &[], &keys);
-    assert!(rt; found == Found::Ready(key));
-    let received = take(&mut connections, key);
+    let answer = receive(&mut connections, &[], &keys).expect(&rt, "an answer");
+    let taken = answer.expect(&rt, "a message");
+    assert!(rt; taken.connection == key && taken.home == HOME);
+    let received = taken.slot;
+    assert!(rt; connections[key].borrowed() == [received].as_slice());
     assert!(rt; connections[key].is_borrowed(received));
     release(&mut connections, key, received);
     assert!(rt; slot < book.len());

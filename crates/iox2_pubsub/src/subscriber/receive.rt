@@ -25,6 +25,7 @@ impl Subscriber {
     /// aren't returned yet.
     ///
     /// iceoryx2's `Subscriber::receive` (`src/port/subscriber.rs`).
+    #[inline(always)]
     pub fn receive<T: Drop, U: Default + Drop, F: BackpressureFn, G: DegradationFn>(
         &self,
         domain: &mut Domain<T, U, F, G>,

@@ -40,13 +40,14 @@ module _ (old new : Slab Link) (key slot : ℕ) (c : Link) (at_c : get old key �
 
   -- it lies where a receipt says that names the key and the slot
   pub lies-there : {T U : Type 0} (f : Fields T U) (q : ℕ) (receipt : Receipt) → f.connections ≡ new → receipt.sample.connection ≡ key → receipt.sample.slot ≡ slot → receipt.publisher ≡ c.home.publisher
-      → receipt.sample.subscriber ≡ c.home.subscriber → c.home.subscriber ≡ q
+      → receipt.sample.subscriber ≡ c.home.subscriber → receipt.sample.book ≡ c.home.book → c.home.subscriber ≡ q
       → LiesAt f q receipt
-  lies-there f q receipt connections key_is slot_is publisher_is its subscriber_is = record {
+  lies-there f q receipt connections key_is slot_is publisher_is its book_is subscriber_is = record {
     connection = stays.0;
     stands = ap (λ (slab : Slab Link). get slab receipt.sample.connection) connections ∙ ap (get new) key_is ∙ stays.1;
     publisher_is = ap (λ (h : Home). h.publisher) stays.2 ∙ sym publisher_is;
     subscriber_is = ap (λ (h : Home). h.subscriber) stays.2 ∙ subscriber_is;
     its = its ∙ subscriber_is;
+    book_is = book_is ∙ ap (λ (h : Home). h.book) (sym stays.2);
     borrowed = subst (Contains (stays.0).borrowed) (sym slot_is) borrowed;
   }

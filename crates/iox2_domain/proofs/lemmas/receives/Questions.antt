@@ -1,5 +1,5 @@
 -- Whether messages wait: an update, and what a search finds after it.
-use Rattle.std.proofs.Common.{◌≡◌, ℕ, List, Bool, true, false, IsTrue, MatchOption, get_or, Option, Some, None, sym, subst}
+use Rattle.std.proofs.Common.{◌∙◌, ◌≡◌, ℕ, List, Bool, true, false, IsTrue, MatchOption, get_or, Option, Some, None, sym, subst}
 use Rattle.std.specs.Prelude.{IsSomeAnd}
 use Rattle.std.specs.Bool.{MatchBool}
 use Rattle.slab.specs.Slab.{get}
@@ -13,7 +13,7 @@ use Rattle.iox2_store.specs.machine.State.{State, connected_publishers}
 use Rattle.iox2_store.specs.machine.SubscriberUpdate.{UpdateSubscriber}
 use Rattle.iox2_ends.proofs.MailboxChanges.{both-true}
 use Rattle.iox2_ends.proofs.Searches.{any-contains}
-use Rattle.iox2_ends.specs.Finds.{Finds, FindsFor}
+use Rattle.iox2_ends.specs.Finds.{is_something, Finds, FindsFor}
 use Rattle.iox2_ends.specs.declared.receiver.Found.{Found}
 use Rattle.iox2_laws.proofs.NumberLemmas.{contains_left, contains_right}
 use Rattle.iox2_domain.specs.Connects.{UpdatesSubscriber}
@@ -27,12 +27,6 @@ use Rattle.iox2_domain.proofs.lemmas.fields.ConnectionEnds.{subscriber-stands}
 use Rattle.iox2_domain.proofs.lemmas.receives.Received.{receiver, found-for}
 use Rattle.iox2_domain.proofs.lemmas.receives.ReceiptSteps.{HasKeys, finds-now, same-one}
 use Rattle.iox2_domain.proofs.lemmas.receives.Reception.{updated-stands}
-
--- whether what is found waits
-abbrev pub is_something : Found → Bool
-is_something (Found.Ready key) = true
-is_something Found.AtLimit = true
-is_something Found.Nothing = false
 
 -- of a publisher from which something may be received, something waits
 may-receive-waits : (limit : ℕ) (y : Subscriber) (boxes : ℕ → Mailbox) (p : ℕ) → MayReceiveFrom limit y boxes p → has_any_data limit y boxes ≡ true
@@ -62,11 +56,12 @@ module _ {T U : Type 0} where
 
   -- the same at its place, as the code reads it
   pub answers-found : (f now : Fields T U) (place : ℕ) (z : SubscriberFields) (expired : List ℕ) (places : List (Option ℕ)) (has : HasKeys f now place z expired places) (found : Found)
-      → Finds f.connections expired places found → (y : SubscriberFields) → get_or now.subscribers place None ≡ Some y → IsWhetherWaiting now y.id (is_something found)
-  answers-found f now place z expired places has found finds y at =
-      subst (λ (w : SubscriberFields). IsWhetherWaiting now w.id (is_something found)) (same-one f now place z expired places has y at)
+      → Finds f.connections expired places found → (waits : Bool) → waits ≡ is_something found
+      → (y : SubscriberFields) → get_or now.subscribers place None ≡ Some y → IsWhetherWaiting now y.id waits
+  answers-found f now place z expired places has found finds waits is y at =
+      subst (λ (w : SubscriberFields). IsWhetherWaiting now w.id waits) (same-one f now place z expired places has y at)
       (rw (subscriber-stands now has.sound place z has.stands)
-      (found-waits now has.sound place z has.stands found (finds-now f now place z expired places has found finds)))
+      (is ∙ found-waits now has.sound place z has.stands found (finds-now f now place z expired places has found finds)))
 
   -- an update and what waits after it are an answer
   answers-after : (environment : Environment) (f mid : Fields T U) (q : ℕ) (after : State T U) → UpdateSubscriber environment (state_of (kept_of f)) q after None → Reaches f mid after

@@ -1,5 +1,5 @@
 -- Messages that are taken from connections.
-use Rattle.std.proofs.Common.{◌≡◌, ℕ, ◌<◌, List, map, length, get_or, Option, Some, None, Ok, Err, IsSomeAnd, Contains, MatchOption, refl, ap, sym, subst, ◌∙◌}
+use Rattle.std.proofs.Common.{◌≡◌, ℕ, ◌<◌, List, map, length, get_or, Option, Some, None, Result, Ok, Err, IsErrAnd, IsSomeAnd, Contains, MatchOption, refl, ap, sym, subst, ◌∙◌}
 use Rattle.std.proofs.lemmas.List.{get_or_read}
 use Rattle.std.specs.Prelude.{slice_get, is_some}
 use Rattle.slab.specs.Slab.{Slab, get, ContainsKey}
@@ -8,12 +8,14 @@ use Rattle.iox2_store.specs.machine.Receives.{ReceiveResult, Got_sample, TakeSam
 use Rattle.iox2_store.specs.SlotBook.{Book}
 use Rattle.iox2_store.specs.machine.State.{State}
 use Rattle.iox2_store.specs.declared.connection.Home.{Home}
+use Rattle.iox2_store.specs.declared.errors.ReceiveError.{ReceiveError}
 use Rattle.iox2_store.specs.declared.errors.ReceiveError.TheVariants.{ExceedsMaxBorrows}
 use Rattle.iox2_ends.specs.Finds.{Finds, IsReceivers, IsReceiverLinked, HasConnections}
 use Rattle.iox2_ends.specs.Homes.{SameHomes}
 use Rattle.iox2_ends.specs.Mailboxes.{mailboxes_of}
-use Rattle.iox2_ends.specs.Takes.{KeepsOtherKeys, SameStands, BorrowsSlot}
+use Rattle.iox2_ends.specs.Takes.{KeepsOtherKeys, SameStands, BorrowsSlot, TakesSlot}
 use Rattle.iox2_ends.specs.declared.receiver.Found.{Found}
+use Rattle.iox2_ends.specs.declared.receiver.Taken.{Taken}
 use Rattle.iox2_ends.proofs.Counts.{in_range}
 use Rattle.iox2_ends.proofs.MailboxChanges.{within_if_some}
 use Rattle.iox2_domain.specs.Ports.{SubscriberFields}
@@ -21,7 +23,7 @@ use Rattle.iox2_domain.specs.Kept.{state_of}
 use Rattle.iox2_domain.specs.Fields.{Fields, kept_of, numbers_of}
 use Rattle.iox2_domain.specs.Invariant.{IsBookOf, IsDomain}
 use Rattle.iox2_domain.specs.Reaches.{Reaches}
-use Rattle.iox2_domain.specs.Receipts.{receive_result, TakesFrom, TakesAs}
+use Rattle.iox2_domain.specs.Receipts.{receive_result, IsReceiptFor, TakesAs}
 use Rattle.iox2_domain.specs.declared.sample_slots.Receipt.{Receipt}
 use Rattle.iox2_domain.proofs.lemmas.receives.BorrowedSlots.{lies-there}
 use Rattle.iox2_domain.proofs.lemmas.fields.ConnectionEnds.{subscriber-stands}
@@ -57,30 +59,52 @@ module _ {T U : Type 0} (f now : Fields T U) (key : ℕ) (home : Home) (c : Link
       let is_one : of-book.book ≡ b = cc in
       record { stands = link-stands; has_book = has_book; book_is = ap (λ (x : Book). x.publisher) (sym is_one) ∙ of-book.is_its }
 
-module _ {T U : Type 0} (f now : Fields T U) (same : f ≡ now) (sound : IsDomain now) (key book : ℕ) (c : Link) (b : Book) (has : HasItsBook now key book c b) where
-  -- a slot that waits is within the book
-  pub waiting-within : (slot : ℕ) → IsSomeAnd (get f.connections key) (λ d. Contains d.waiting slot) → slot < length b.holders
-  waiting-within slot waits =
-      let here : IsSomeAnd (get now.connections key) (λ d. Contains d.waiting slot) = subst (λ (h : Fields T U). IsSomeAnd (get h.connections key) (λ d. Contains d.waiting slot)) same waits in
-      in_range b.holders slot (waiting-in_use now sound key book c b has.stands has.has_book has.book_is slot (rw has.stands at here))
+-- a message was taken from the connection at the key, and no other field changes
+pub record TakesFrom {T U : Type 0} (old : Fields T U) (key : ℕ) (receipt : Receipt) (new : Fields T U) : Type 0 where
+  pub link : Link
+  pub stands : get old.connections key ≡ Some link
+  pub only : new ≡ record old { connections = new.connections }
+  pub takes : BorrowsSlot old.connections key receipt.sample.slot new.connections
+  pub homes : SameHomes old.connections new.connections
+  pub others : KeepsOtherKeys key old.connections new.connections
+  pub stay : SameStands old.connections new.connections
+  pub connection_is : receipt.sample.connection ≡ key
+  pub book_is : receipt.sample.book ≡ link.home.book
+  pub publisher_is : receipt.publisher ≡ link.home.publisher
+  pub subscriber_is : receipt.sample.subscriber ≡ link.home.subscriber
+  pub number_is : receipt.sample.number ≡ numbers_of old.books link.home.publisher receipt.sample.slot
 
-  -- the first slot that waits is taken
-  pub takes-from : (receipt : Receipt) → receipt.sample.connection ≡ key → receipt.publisher ≡ c.home.publisher → receipt.sample.subscriber ≡ c.home.subscriber → slice_get b.numbers receipt.sample.slot ≡ Some receipt.sample.number → (new : Slab Link)
-      → BorrowsSlot f.connections key receipt.sample.slot new → SameHomes f.connections new → KeepsOtherKeys key f.connections new → SameStands f.connections new
-      → TakesFrom now key receipt (record f { connections = new })
-  takes-from receipt connection publisher subscriber number new takes homes others stay = record {
-    link = c;
-    stands = has.stands;
-    only = ap (λ (h : Fields T U). record h { connections = new }) same;
-    takes = subst (λ (h : Fields T U). BorrowsSlot h.connections key receipt.sample.slot new) same takes;
-    homes = subst (λ (h : Fields T U). SameHomes h.connections new) same homes;
-    others = subst (λ (h : Fields T U). KeepsOtherKeys key h.connections new) same others;
-    stay = subst (λ (h : Fields T U). SameStands h.connections new) same stay;
-    connection_is = connection;
-    publisher_is = publisher;
-    subscriber_is = subscriber;
-    number_is = sym (book-numbers now sound key book c b has.stands has.has_book has.book_is receipt.sample.slot ∙ index-got b.numbers receipt.sample.slot receipt.sample.number number);
-  }
+module _ {T U : Type 0} (f now : Fields T U) (same : f ≡ now) (sound : IsDomain now) (taken : Taken) (new : Slab Link) (takes : TakesSlot f.connections taken new) where
+  -- the slot is within the book of its publisher
+  pub taken-within : IsSomeAnd (get f.books (taken.home).book) (λ b. taken.slot < length b.holders)
+  taken-within =
+      let stands : get now.connections taken.connection ≡ Some takes.link = link-stands f now taken.connection taken.home takes.link same sound takes.stands takes.home_is in
+      let named = of-book f now taken.connection taken.home takes.link same sound takes.stands takes.home_is in
+      let there : get f.books (taken.home).book ≡ Some named.book = ap (λ (h : Fields T U). get h.books (taken.home).book) same ∙ named.stands in
+      rw there (in_range (named.book).holders taken.slot
+      (waiting-in_use now sound taken.connection (taken.home).book takes.link named.book stands named.stands named.is_its taken.slot takes.waited))
+
+  -- what is taken is what the receipt says
+  pub takes-from : (receipt : Receipt) → IsReceiptFor f.books taken receipt → TakesFrom now taken.connection receipt (record f { connections = new })
+  takes-from receipt is =
+      let has = has-its-book f now taken.connection taken.home takes.link same sound takes.stands takes.home_is is.book is.has_book in
+      let borrows : BorrowsSlot f.connections taken.connection receipt.sample.slot new = subst (λ (slot : ℕ). BorrowsSlot f.connections taken.connection slot new) (sym is.slot_is) takes.borrows in
+      record {
+        link = takes.link;
+        stands = has.stands;
+        only = ap (λ (h : Fields T U). record h { connections = new }) same;
+        takes = subst (λ (h : Fields T U). BorrowsSlot h.connections taken.connection receipt.sample.slot new) same borrows;
+        homes = subst (λ (h : Fields T U). SameHomes h.connections new) same takes.homes;
+        others = subst (λ (h : Fields T U). KeepsOtherKeys taken.connection h.connections new) same takes.others;
+        stay = subst (λ (h : Fields T U). SameStands h.connections new) same takes.stay;
+        connection_is = is.connection_is;
+        book_is = is.book_is ∙ ap (λ (h : Home). h.book) takes.home_is;
+        publisher_is = is.publisher_is ∙ ap (λ (h : Home). h.publisher) takes.home_is;
+        subscriber_is = is.subscriber_is ∙ ap (λ (h : Home). h.subscriber) takes.home_is;
+        number_is = sym (ap (numbers_of now.books (takes.link).home.publisher) is.slot_is
+            ∙ book-numbers now sound taken.connection (taken.home).book takes.link is.book has.stands has.has_book has.book_is taken.slot
+            ∙ index-got (is.book).numbers taken.slot receipt.sample.number is.number_is);
+      }
 
 -- ---- a subscriber
 
@@ -101,7 +125,7 @@ module _ {T U : Type 0} (f : Fields T U) (sound : IsDomain f) (i : ℕ) (y : Sub
             (subst (λ (p : ℕ). TakeSample (state_of (kept_of f)) y.id (receiver f sound i y at_y) (with_all_mailboxes (state_of (kept_of f)) (mailboxes_of (numbers_of f.books) new.connections)) (Got_sample p receipt.sample.number)) (sym from.publisher_is)
             (subst (λ (n : ℕ). TakeSample (state_of (kept_of f)) y.id (receiver f sound i y at_y) (with_all_mailboxes (state_of (kept_of f)) (mailboxes_of (numbers_of f.books) new.connections)) (Got_sample (from.link).home.publisher n)) (sym from.number_is)
             (takes-message f sound i y at_y key receipt.sample.slot from.link from.stands new.connections finds from.takes))),
-        lies-there f.connections new.connections key receipt.sample.slot from.link from.stands from.homes reached.agrees.apart from.takes new y.id receipt refl from.connection_is refl from.publisher_is from.subscriber_is
+        lies-there f.connections new.connections key receipt.sample.slot from.link from.stands from.homes reached.agrees.apart from.takes new y.id receipt refl from.connection_is refl from.publisher_is from.subscriber_is from.book_is
             (found-ready f sound i y at_y key receipt.sample.slot from.link from.stands new.connections finds from.takes).0,
       )
 
@@ -164,16 +188,30 @@ module _ {T U : Type 0} (f now : Fields T U) (place : ℕ) (z : SubscriberFields
   pub same-one : (y : SubscriberFields) → get_or now.subscribers place None ≡ Some y → z ≡ y
   same-one y at = let one : Some z ≡ Some y = sym has.stands ∙ at in let is : z ≡ y = cc in is
 
-  pub at-ready : (key : ℕ) (receipt : Receipt) (new : Fields T U) → Finds f.connections expired places (Found.Ready key) → TakesFrom now key receipt new
-      → (y : SubscriberFields) → get_or now.subscribers place None ≡ Some y → TakesAs now y.id (Ok (Some receipt)) new
-  at-ready key receipt new finds from y at =
-      subst (λ (w : SubscriberFields). TakesAs now w.id (Ok (Some receipt)) new) (same-one y at)
-      (takes-ready now has.sound place z has.stands key receipt new (finds-now (Found.Ready key) finds) from)
+  -- a message was taken
+  pub at-taken : (taken : Taken) (receipt : Receipt) (new : Slab Link) → Finds f.connections expired places (Found.Ready taken.connection) → TakesSlot f.connections taken new → IsReceiptFor f.books taken receipt
+      → (y : SubscriberFields) → get_or now.subscribers place None ≡ Some y → TakesAs now y.id (Ok (Some receipt)) (record f { connections = new })
+  at-taken taken receipt new finds takes is y at =
+      subst (λ (w : SubscriberFields). TakesAs now w.id (Ok (Some receipt)) (record f { connections = new })) (same-one y at)
+      (takes-ready now has.sound place z has.stands taken.connection receipt (record f { connections = new }) (finds-now (Found.Ready taken.connection) finds)
+      (takes-from f now has.same has.sound taken new takes receipt is))
 
-  pub at-nothing : Finds f.connections expired places Found.Nothing → (y : SubscriberFields) → get_or now.subscribers place None ≡ Some y → TakesAs now y.id (Ok None) now
-  at-nothing finds y at =
-      subst (λ (w : SubscriberFields). TakesAs now w.id (Ok None) now) (same-one y at) (takes-none now has.sound place z has.stands (finds-now Found.Nothing finds))
+  -- nothing was taken
+  unchanged : (new : Slab Link) → new ≡ f.connections → now ≡ record f { connections = new }
+  unchanged new stays = sym has.same ∙ ap (λ (slab : Slab Link). let g : Fields T U = record f { connections = slab } in g) (sym stays)
 
-  pub at-at_limit : Finds f.connections expired places Found.AtLimit → (y : SubscriberFields) → get_or now.subscribers place None ≡ Some y → TakesAs now y.id (Err ExceedsMaxBorrows) now
-  at-at_limit finds y at =
-      subst (λ (w : SubscriberFields). TakesAs now w.id (Err ExceedsMaxBorrows) now) (same-one y at) (takes-too_many now has.sound place z has.stands (finds-now Found.AtLimit finds))
+  pub at-nothing : (new : Slab Link) → Finds f.connections expired places Found.Nothing → new ≡ f.connections
+      → (y : SubscriberFields) → get_or now.subscribers place None ≡ Some y → TakesAs now y.id (Ok None) (record f { connections = new })
+  at-nothing new finds stays y at =
+      subst (λ (w : SubscriberFields). TakesAs now w.id (Ok None) (record f { connections = new })) (same-one y at)
+      (subst (TakesAs now z.id (Ok None)) (unchanged new stays) (takes-none now has.sound place z has.stands (finds-now Found.Nothing finds)))
+
+  -- for as many are borrowed as may be
+  pub at-error : (e : ReceiveError) (new : Slab Link) → (e ≡ ExceedsMaxBorrows) × Finds f.connections expired places Found.AtLimit × (new ≡ f.connections)
+      → (r : Result (Option Receipt) ReceiveError) → IsErrAnd r (λ e'. e' ≡ e)
+      → (y : SubscriberFields) → get_or now.subscribers place None ≡ Some y → TakesAs now y.id r (record f { connections = new })
+  at-error e new fails (Ok receipt) is y at = absurd is
+  at-error e new fails (Err e') is y at =
+      subst (λ (w : SubscriberFields). TakesAs now w.id (Err e') (record f { connections = new })) (same-one y at)
+      (subst (λ (error : ReceiveError). TakesAs now z.id (Err error) (record f { connections = new })) (sym (is ∙ fails.0))
+      (subst (TakesAs now z.id (Err ExceedsMaxBorrows)) (unchanged new fails.2) (takes-too_many now has.sound place z has.stands (finds-now Found.AtLimit fails.1))))

@@ -1,17 +1,23 @@
 -- Messages that are given back.
-use Rattle.std.proofs.Common.{◌≡◌, ℕ, true, sym, subst, ◌∙◌}
-use Rattle.slab.specs.Slab.{Slab}
+use Rattle.std.proofs.Common.{◌≡◌, ℕ, true, map, IsSomeAnd, refl, sym, subst, ◌∙◌}
+use Rattle.slab.specs.Slab.{Slab, get}
 use Rattle.iox2_store.specs.Link.{Link}
-use Rattle.iox2_store.specs.machine.Mailbox.{is_borrowed}
+use Rattle.iox2_store.specs.machine.Numbers.{IsOnce}
+use Rattle.iox2_store.specs.machine.Mailbox.{Mailbox, is_borrowed}
 use Rattle.iox2_store.specs.machine.Releases.{released}
 use Rattle.iox2_ends.specs.Homes.{SameHomes}
+use Rattle.iox2_ends.specs.Mailboxes.{mailbox_of}
 use Rattle.iox2_ends.specs.Takes.{KeepsOtherKeys, SameStands, ReleasesSlot}
+use Rattle.iox2_ends.proofs.MailboxChanges.{mailbox-there}
+use Rattle.iox2_ends.proofs.Releases.{IsOnce-map}
+use Rattle.iox2_laws.proofs.NumberLemmas.{IsOnce-right}
 use Rattle.iox2_domain.specs.Kept.{state_of}
 use Rattle.iox2_domain.specs.Fields.{Fields, kept_of, numbers_of}
 use Rattle.iox2_domain.specs.Invariant.{IsDomain}
 use Rattle.iox2_domain.specs.Reaches.{Reaches}
 use Rattle.iox2_domain.specs.SampleSlots.{LiesBorrowed}
 use Rattle.iox2_domain.specs.declared.sample_slots.SampleSlot.{SampleSlot}
+use Rattle.iox2_domain.proofs.lemmas.fields.Views.{mailboxes-are}
 use Rattle.iox2_domain.proofs.lemmas.samples.BorrowedNumbers.{lies-borrowed}
 use Rattle.iox2_domain.proofs.lemmas.slots.ConnectionSlots.{book-numbers}
 use Rattle.iox2_domain.proofs.lemmas.releases.Released.{releases-reaches}
@@ -25,6 +31,18 @@ module _ {T U : Type 0} (now : Fields T U) (sound : IsDomain now) (q n : ℕ) (a
   held-there =
       subst (λ (m : ℕ). is_borrowed m ((state_of (kept_of now)).mailboxes (lies.connection).home.publisher (lies.connection).home.subscriber) ≡ true) (sym number-there)
       (subst (λ (r : ℕ). is_borrowed n ((state_of (kept_of now)).mailboxes (lies.connection).home.publisher r) ≡ true) (sym lies.subscriber_is) (lies-borrowed now sound q n at lies))
+
+  -- no slot is borrowed there twice
+  pub borrowed-once : (f : Fields T U) → f ≡ now → IsSomeAnd (get f.connections at.connection) (λ (c : Link). IsOnce c.borrowed)
+  borrowed-once f same =
+      let p : ℕ = (lies.connection).home.publisher in
+      let r : ℕ = (lies.connection).home.subscriber in
+      let box : (state_of (kept_of now)).mailboxes p r ≡ mailbox_of (numbers_of now.books p) lies.connection =
+      mailboxes-are now p r ∙ mailbox-there (numbers_of now.books) now.connections at.connection p r lies.connection sound.apart lies.has_connection refl refl in
+      let numbers : IsOnce (map (numbers_of now.books p) (lies.connection).borrowed) =
+      subst (λ (b : Mailbox). IsOnce b.borrowed) box (IsOnce-right _ _ (sound.well_formed.mailboxes p r).within.once) in
+      subst (λ (h : Fields T U). IsSomeAnd (get h.connections at.connection) (λ (c : Link). IsOnce c.borrowed)) (sym same)
+      (rw lies.has_connection (IsOnce-map (numbers_of now.books p) (lies.connection).borrowed numbers))
 
   gives-back-here : (new : Slab Link) → ReleasesSlot now.connections at.connection at.slot new → SameHomes now.connections new → KeepsOtherKeys at.connection now.connections new
       → SameStands now.connections new → (p : ℕ) → is_borrowed n ((state_of (kept_of now)).mailboxes p q) ≡ true

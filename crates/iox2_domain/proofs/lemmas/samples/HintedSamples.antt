@@ -9,12 +9,11 @@ use Rattle.iox2_store.specs.machine.Numbers.{contains}
 use Rattle.iox2_store.specs.machine.SingleCalls.{HoldsSample}
 use Rattle.iox2_domain.specs.Kept.{state_of}
 use Rattle.iox2_domain.specs.Fields.{Fields, kept_of, numbers_of}
-use Rattle.iox2_domain.specs.Invariant.{IsDomain}
-use Rattle.iox2_domain.specs.SampleSlots.{LiesBorrowed}
+use Rattle.iox2_domain.specs.Invariant.{HasNumber, IsDomain}
+use Rattle.iox2_domain.specs.SampleSlots.{LiesBorrowed, LiesInSlot}
 use Rattle.iox2_domain.specs.declared.sample_slots.SampleSlot.{SampleSlot}
 use Rattle.iox2_domain.proofs.lemmas.slots.ConnectionSlots.{book-numbers}
 use Rattle.iox2_domain.proofs.lemmas.slots.NumbersInUse.{contains-map_there}
-use Rattle.iox2_domain.proofs.lemmas.receives.ReceiptSteps.{HasItsBook}
 use Rattle.iox2_domain.proofs.lemmas.samples.BorrowedNumbers.{live-borrows}
 use Rattle.iox2_domain.proofs.lemmas.samples.SampleEntries.{its-slot}
 
@@ -46,32 +45,27 @@ module _ {T U : Type 0} (f : Fields T U) (sound : IsDomain f) (q n : ℕ) (live 
         },
       )
 
-  -- so it lies in any slot in use that has its number, by its subscriber's connection with the slot's publisher
-  pub lies-at-hint : (key book : ℕ) (c : Link) (b : Book) → HasItsBook f key book c b → c.home.subscriber ≡ q → (slot : ℕ) → IsUsedFor b n slot
-      → LiesBorrowed f q n (record { connection = key; book = book; slot = slot })
-  lies-at-hint key book c b has mine slot used =
+  -- so it lies in any slot in use that has its number
+  pub lies-in-slot : (book slot : ℕ) → HasNumber f.books book slot n → LiesInSlot f q n (record { book = book; slot = slot })
+  lies-in-slot book slot has =
       let at = live-lies.0 in
       let lies = live-lies.1 in
-      let same = sound.numbered.one at.book book at.slot slot n (its-slot f sound q n at lies)
-      (record { book = b; stands = has.has_book; in_use = used.in_use; number = used.number_is }) in
-      let books : Some lies.book ≡ Some b = sym lies.has_book ∙ ap (get f.books) same.0 ∙ has.has_book in
-      let one_book : lies.book ≡ b = cc in
-      let publisher : c.home.publisher ≡ (lies.connection).home.publisher = sym has.book_is ∙ ap (λ (d : Book). d.publisher) (sym one_book) ∙ lies.book_is in
-      let keys : at.connection ≡ key =
-      (sound.apart.one (lies.connection).home.publisher q).one at.connection key lies.connection c lies.has_connection has.stands
+      let same = sound.numbered.one at.book book at.slot slot n (its-slot f sound q n at lies) has in
+      let there : at ≡ record { connection = at.connection; book = book; slot = slot } = λ i. record { connection = at.connection; book = same.0 i; slot = same.1 i } in
+      (at.connection, subst (LiesBorrowed f q n) there lies)
+
+  -- and that is by its subscriber's connection with the slot's publisher
+  pub lies-at-hint : (key book slot : ℕ) (c : Link) → get f.connections key ≡ Some c → c.home.subscriber ≡ q → c.home.book ≡ book → HasNumber f.books book slot n
+      → LiesBorrowed f q n (record { connection = key; book = book; slot = slot })
+  lies-at-hint key book slot c at mine book_is has =
+      let found = lies-in-slot book slot has in
+      let lies = found.1 in
+      let named = sound.names.at key c at in
+      let books : Some lies.book ≡ Some named.book = sym lies.has_book ∙ ap (get f.books) (sym book_is) ∙ named.stands in
+      let one_book : lies.book ≡ named.book = cc in
+      let publisher : c.home.publisher ≡ (lies.connection).home.publisher = sym named.is_its ∙ ap (λ (d : Book). d.publisher) (sym one_book) ∙ lies.book_is in
+      let keys : found.0 ≡ key =
+      (sound.apart.one (lies.connection).home.publisher q).one found.0 key lies.connection c lies.has_connection at
       (and_from _ _ (eq-eqb (lies.connection).home.publisher (lies.connection).home.publisher refl) (eq-eqb (lies.connection).home.subscriber q lies.subscriber_is))
       (and_from _ _ (eq-eqb c.home.publisher (lies.connection).home.publisher publisher) (eq-eqb c.home.subscriber q mine)) in
-      let links : Some lies.connection ≡ Some c = sym lies.has_connection ∙ ap (get f.connections) keys ∙ has.stands in
-      let one_link : lies.connection ≡ c = cc in
-      record {
-        connection = c;
-        book = b;
-        has_connection = has.stands;
-        has_book = has.has_book;
-        subscriber_is = mine;
-        book_is = has.book_is;
-        slot_is = record {
-          borrowed = subst (λ (d : Link). Contains d.borrowed slot) one_link (subst (Contains (lies.connection).borrowed) same.1 (lies.slot_is).borrowed);
-          number_is = used.number_is;
-        };
-      }
+      subst (λ (k : ℕ). LiesBorrowed f q n (record { connection = k; book = book; slot = slot })) keys lies

@@ -1,6 +1,6 @@
 -- The slots of a connection, in its publisher's book.
-use Rattle.std.proofs.Common.{◌≡◌, ℕ, ◌<◌, ap, ◌∙◌, arith, refl, Some, None, true, false, ◌||◌, eqb, List, [], ◌∷◌, ◌≢◌, zero, suc, map, get_or, Contains, length}
-use Rattle.std.proofs.lemmas.Bool.{eq-eqb, ne_eqb, false_from_ne_true, or_left, or_right}
+use Rattle.std.proofs.Common.{◌≡◌, ℕ, ◌<◌, ap, ◌∙◌, arith, refl, Some, None, true, false, ◌||◌, eqb, List, [], ◌∷◌, ◌≢◌, zero, suc, map, get_or, Contains, length, inl, inr}
+use Rattle.std.proofs.lemmas.Bool.{eqb-true, eq-eqb, ne_eqb, false_from_ne_true, or_cases, or_left, or_right}
 use Rattle.std.specs.Prelude.{slice_get, slice_index, IsSomeAnd}
 use Rattle.std.specs.Option.{option_map_or}
 use Rattle.slab.specs.Slab.{Slab, get}
@@ -9,19 +9,23 @@ use Rattle.iox2_store.specs.machine.Numbers.{contains}
 use Rattle.iox2_store.specs.SlotBook.{Book, holders_at}
 use Rattle.iox2_ends.specs.Counters.{times, IsCovered}
 use Rattle.iox2_ends.specs.LookUp.{look_up}
-use Rattle.iox2_ends.proofs.Counts.{one_if_same, counter_if_stands}
+use Rattle.iox2_ends.proofs.Counts.{one_if, one_if_same, times-cons, counter_if_stands}
 use Rattle.iox2_ends.proofs.LookUps.{look_up-found, look_up-nothing}
 use Rattle.iox2_ends.proofs.MailboxChanges.{within_if_some}
 use Rattle.iox2_ends.specs.Mailboxes.{is_between}
-use Rattle.iox2_ends.proofs.Releases.{contains-from, times-without_first}
+use Rattle.iox2_store.proofs.LinkLemmas.{contains-from}
 use Rattle.iox2_domain.specs.Fields.{Fields, is_book_of, numbers_of}
 use Rattle.iox2_domain.specs.Invariant.{IsDomain, holders_of}
 
 -- an element of a list stands there at least once
 pub times-some : (slot : ℕ) (slots : List ℕ) → Contains slots slot → 0 < times slot slots
-times-some slot slots has =
-    let less = times-without_first slot slot slots (contains-from slots slot has) in
-    omega (arith, less, one_if_same slot)
+times-some slot slots has = by slots (contains-from slots slot has) where
+  by : (xs : List ℕ) → contains xs slot ≡ true → 0 < times slot xs
+  by [] here = absurd cc
+  by (x ∷ xs) here = elim (or_cases (eqb x slot) (contains xs slot) here) [
+    | inl same ↦ omega (arith, times-cons slot x xs, ap (one_if slot) (eqb-true x slot same), one_if_same slot)
+    | inr later ↦ let more = by xs later in omega (arith, times-cons slot x xs, more)
+  ]
 
 module _ {T U : Type 0} (f : Fields T U) (sound : IsDomain f) (key book : ℕ) (c : Link) (b : Book) (at : get f.connections key ≡ Some c) (at_b : get f.books book ≡ Some b)
     (its : b.publisher ≡ c.home.publisher) where

@@ -5,23 +5,20 @@ use Rattle.iox2_domain.proofs.lemmas.slots.ConnectionSlots.{index-got}
 use Rattle.iox2_domain.proofs.sample_slots.find_borrowed.Goals as goal
 
 pub number-requires : goal.number-requires
-number-requires c = c.requires c.args.hint (c.is_borrowed.ensures.0 c.if-is_borrowed.true)
-
-pub number-requires-in-loop-index : goal.number-requires-in-loop-index
-number-requires-in-loop-index c =
+number-requires c =
     c.requires _ (subst (λ (slots : List ℕ). Contains slots (get_or c.borrowed-borrowed.result.now c.loop-index.index 0)) c.borrowed-borrowed.ensures
     (Contains-get_or c.borrowed-borrowed.result.now c.loop-index.index 0 c.loop-index-test.true))
 
-pub returns-then-number-2 : goal.returns-then-number-2
-returns-then-number-2 c = record {
+pub returns-then-number : goal.returns-then-number
+returns-then-number c = record {
   borrowed = subst (λ (slots : List ℕ). Contains slots (get_or c.borrowed-borrowed.result.now c.loop-index.index 0)) c.borrowed-borrowed.ensures
       (Contains-get_or c.borrowed-borrowed.result.now c.loop-index.index 0 c.loop-index-test.true);
-  number_is = index-got c.args.book.now.numbers _ _ c.number-in-loop-index.ensures ∙ c.if-number-2.true;
+  number_is = index-got c.args.book.now.numbers _ _ c.number.ensures ∙ c.if-number.true;
 }
 
 pub loop-index-preserved : goal.loop-index-preserved
 loop-index-preserved c = below_more _ _ c.loop-index.invariant (λ e.
-    c.if-number-2.false (sym (index-got c.args.book.now.numbers _ _ c.number-in-loop-index.ensures)
+    c.if-number.false (sym (index-got c.args.book.now.numbers _ _ c.number.ensures)
     ∙ ap (λ (slots : List ℕ). slice_index c.args.book.now.numbers (get_or slots c.loop-index.index 0)) c.borrowed-borrowed.ensures ∙ e))
 
 pub returns : goal.returns

@@ -8,4 +8,4 @@ pub returns-clause-returned : goal.returns-clause-returned
 returns-clause-returned c = returned-there c.args.connections.now c.args.key c.args.slot c.index_mut.result.now c.release.new.self c.index_mut.ensures.value c.release.ensures.releases
 
 pub returns-clause-stands : goal.returns-clause-stands
-returns-clause-stands c = stands-returned c.args.connections.now c.args.key c.args.slot c.index_mut.result.now c.release.new.self c.requires.borrowed c.index_mut.ensures.value c.release.ensures.releases
+returns-clause-stands c = stands-returned c.args.connections.now c.args.key c.args.slot c.index_mut.result.now c.release.new.self c.requires.borrowed c.requires.once c.index_mut.ensures.value c.release.ensures.releases

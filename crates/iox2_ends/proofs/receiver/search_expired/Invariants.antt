@@ -1,5 +1,6 @@
 use Rattle.std.proofs.Common.{◌≡◌, false, drop, map, Some}
-use Rattle.iox2_ends.specs.Finds.{first_found, search, is_ready}
+use Rattle.iox2_ends.specs.Finds.{first_found, search}
+use Rattle.iox2_ends.proofs.Searches.{is_ready}
 use Rattle.iox2_ends.proofs.receiver.search_expired.Given as goal
 
 -- no connection to take from was found so far, and what was found and the rest of the search are the whole search

@@ -2,5 +2,6 @@ use Rattle.iox2_ends.proofs.TakeSteps.{takes-taken}
 use Rattle.iox2_ends.proofs.receiver.take.Goals as goal
 
 pub returns-clause-takes : goal.returns-clause-takes
-returns-clause-takes c = takes-taken c.args.connections.now c.args.key c.unwrap.result c.index_mut.result.now c.take.new.self c.requires.apart c.index_mut.ensures.value
+returns-clause-takes c =
+    takes-taken c.args.connections.now c.args.key c.unwrap.result c.index_mut-connection.result.now c.take.new.self c.requires.apart c.index_mut-connection.ensures.value
     (rw c.unwrap.ensures at c.take.ensures.takes)

@@ -1,39 +1,23 @@
 use Rattle.iox2_domain.proofs.lemmas.slots.PublisherBooks.{read-there}
 use Rattle.iox2_domain.specs.Fields.{Fields}
 use Rattle.iox2_ends.proofs.MailboxChanges.{within_if_some}
-use Rattle.iox2_ends.specs.Finds.{Finds}
-use Rattle.iox2_ends.specs.declared.receiver.Found.{Found}
 use Rattle.std.proofs.Common.{◌≡◌, ◌∙◌, ap, sym, subst, inl, inr, None, Some, slice_index_or, rules, length, vec_len}
 use Rattle.iox2_domain.proofs.lemmas.receives.ReceiptSteps.{has-keys, connected-places}
 use Rattle.iox2_domain.proofs.lemmas.receives.Questions.{answers-found}
 use Rattle.iox2_messages.proofs.questions.has_data_at.Goals as goal
 
-pub find-requires-clause-keys : goal.find-requires-clause-keys
-find-requires-clause-keys g c =
+pub has_samples-requires-clause-keys : goal.has_samples-requires-clause-keys
+has_samples-requires-clause-keys g c =
     connected-places _ c.args.state.now c.args.place c.in-Some.subscriber c.deref.result.now c.deref-2.result.now
     (has-keys _ c.args.state.now c.args.place c.index.result.now c.in-Some.subscriber _ c.deref.result.now c.deref-2.result.now c.requires.agrees c.state.view_is c.requires.stands
     c.index.ensures c.in-Some.is c.subscriber.view_is c.deref.ensures.value c.deref-2.ensures.value)
 
-pub returns-in-Ready : goal.returns-in-Ready
-returns-in-Ready g c =
+pub returns : goal.returns
+returns g c =
     let has =
     has-keys _ c.args.state.now c.args.place c.index.result.now c.in-Some.subscriber _ c.deref.result.now c.deref-2.result.now c.requires.agrees c.state.view_is c.requires.stands
     c.index.ensures c.in-Some.is c.subscriber.view_is c.deref.ensures.value c.deref-2.ensures.value in
-    elim c.in-Ready.is [
-      | inl ready ↦
-          answers-found _ c.args.state.now c.args.place c.in-Some.subscriber c.deref.result.now c.deref-2.result.now has (Found.Ready ready.0)
-          (subst (Finds c.state.inside.connections c.deref.result.now c.deref-2.result.now) ready.1 c.find.ensures.finds)
-      | inr limit ↦
-          answers-found _ c.args.state.now c.args.place c.in-Some.subscriber c.deref.result.now c.deref-2.result.now has Found.AtLimit
-          (subst (Finds c.state.inside.connections c.deref.result.now c.deref-2.result.now) limit c.find.ensures.finds)
-    ]
-
-pub returns-in-Nothing : goal.returns-in-Nothing
-returns-in-Nothing g c =
-    answers-found _ c.args.state.now c.args.place c.in-Some.subscriber c.deref.result.now c.deref-2.result.now
-    (has-keys _ c.args.state.now c.args.place c.index.result.now c.in-Some.subscriber _ c.deref.result.now c.deref-2.result.now c.requires.agrees c.state.view_is c.requires.stands
-    c.index.ensures c.in-Some.is c.subscriber.view_is c.deref.ensures.value c.deref-2.ensures.value)
-    Found.Nothing c.in-Nothing.ensures.finds
+    answers-found _ c.args.state.now c.args.place c.in-Some.subscriber c.deref.result.now c.deref-2.result.now has c.has_samples.ensures.0 c.has_samples.ensures.1 c.has_samples.result c.has_samples.ensures.2
 
 pub index-requires : goal.index-requires
 index-requires g c =

@@ -1,36 +1,55 @@
 use Rattle.iox2_domain.proofs.lemmas.slots.PublisherBooks.{read-there}
+use Rattle.iox2_store.specs.declared.errors.ReceiveError.{ReceiveError}
+use Rattle.iox2_ends.specs.Takes.{ReceivesSlot}
+use Rattle.iox2_ends.specs.declared.receiver.Taken.{Taken}
 use Rattle.iox2_domain.specs.Fields.{Fields}
 use Rattle.iox2_ends.proofs.MailboxChanges.{within_if_some}
-use Rattle.std.proofs.Common.{◌≡◌, ◌∙◌, ap, sym, None, Some, slice_index_or, rules, length, vec_len}
-use Rattle.iox2_domain.proofs.lemmas.receives.ReceiptSteps.{has-keys, connected-places, at-ready, at-nothing, at-at_limit}
+use Rattle.std.proofs.Common.{◌≡◌, ◌∙◌, ap, sym, subst, Option, None, Some, Result, Ok, Err, slice_index_or, rules, length, vec_len}
+use Rattle.iox2_domain.proofs.lemmas.receives.ReceiptSteps.{has-keys, connected-places, taken-within, at-taken, at-nothing, at-error}
 use Rattle.iox2_messages.proofs.receipts.take_at.Goals as goal
 
-pub find-requires-clause-keys : goal.find-requires-clause-keys
-find-requires-clause-keys g c =
+pub receive-requires-clause-keys : goal.receive-requires-clause-keys
+receive-requires-clause-keys g c =
     connected-places _ c.args.state.now c.args.place c.in-Some.subscriber c.deref.result.now c.deref-2.result.now
     (has-keys _ c.args.state.now c.args.place c.index.result.now c.in-Some.subscriber _ c.deref.result.now c.deref-2.result.now c.requires.agrees c.state.view_is c.requires.stands
     c.index.ensures c.in-Some.is c.subscriber.view_is c.deref.ensures.value c.deref-2.ensures.value)
 
-pub returns-in-Ready : goal.returns-in-Ready
-returns-in-Ready g c =
-    at-ready _ c.args.state.now c.args.place c.in-Some.subscriber c.deref.result.now c.deref-2.result.now
+pub returns-in_err-taken : goal.returns-in_err-taken
+returns-in_err-taken g c =
+    let got : ReceivesSlot c.state.inside.connections c.deref.result.now c.deref-2.result.now (Err c.in_err-taken.field-0.0) c.receive.new.connections =
+    subst (λ (r : Result (Option Taken) ReceiveError). ReceivesSlot c.state.inside.connections c.deref.result.now c.deref-2.result.now r c.receive.new.connections)
+    (c.in_err-taken.was) c.receive.ensures in
+    at-error _ c.args.state.now c.args.place c.in-Some.subscriber c.deref.result.now c.deref-2.result.now
     (has-keys _ c.args.state.now c.args.place c.index.result.now c.in-Some.subscriber _ c.deref.result.now c.deref-2.result.now c.requires.agrees c.state.view_is c.requires.stands
     c.index.ensures c.in-Some.is c.subscriber.view_is c.deref.ensures.value c.deref-2.ensures.value)
-    c.in-Ready.key c.take_from.result c.take_from.new.state c.in-Ready.ensures.finds c.take_from.ensures
+    c.in_err-taken.field-0.0 c.receive.new.connections got c.from_residual.result c.from_residual.ensures.1
 
-pub returns-in-AtLimit : goal.returns-in-AtLimit
-returns-in-AtLimit g c =
-    at-at_limit _ c.args.state.now c.args.place c.in-Some.subscriber c.deref.result.now c.deref-2.result.now
-    (has-keys _ c.args.state.now c.args.place c.index.result.now c.in-Some.subscriber _ c.deref.result.now c.deref-2.result.now c.requires.agrees c.state.view_is c.requires.stands
-    c.index.ensures c.in-Some.is c.subscriber.view_is c.deref.ensures.value c.deref-2.ensures.value)
-    c.in-AtLimit.ensures.finds
-
-pub returns-in-Nothing : goal.returns-in-Nothing
-returns-in-Nothing g c =
+pub returns-in_default-taken : goal.returns-in_default-taken
+returns-in_default-taken g c =
+    let got : ReceivesSlot c.state.inside.connections c.deref.result.now c.deref-2.result.now (Ok None) c.receive.new.connections =
+    subst (λ (r : Result (Option Taken) ReceiveError). ReceivesSlot c.state.inside.connections c.deref.result.now c.deref-2.result.now r c.receive.new.connections)
+    (c.in_ok-taken.was ∙ ap (λ (o : Option Taken). Ok o) c.in_default-taken.is) c.receive.ensures in
     at-nothing _ c.args.state.now c.args.place c.in-Some.subscriber c.deref.result.now c.deref-2.result.now
     (has-keys _ c.args.state.now c.args.place c.index.result.now c.in-Some.subscriber _ c.deref.result.now c.deref-2.result.now c.requires.agrees c.state.view_is c.requires.stands
     c.index.ensures c.in-Some.is c.subscriber.view_is c.deref.ensures.value c.deref-2.ensures.value)
-    c.in-Nothing.ensures.finds
+    c.receive.new.connections got.0 got.1
+
+pub receipt_of-requires : goal.receipt_of-requires
+receipt_of-requires g c =
+    let got : ReceivesSlot c.state.inside.connections c.deref.result.now c.deref-2.result.now (Ok (Some c.in-Some-taken.taken)) c.receive.new.connections =
+    subst (λ (r : Result (Option Taken) ReceiveError). ReceivesSlot c.state.inside.connections c.deref.result.now c.deref-2.result.now r c.receive.new.connections)
+    (c.in_ok-taken.was ∙ ap (λ (o : Option Taken). Ok o) c.in-Some-taken.is) c.receive.ensures in
+    taken-within _ c.args.state.now c.state.view_is c.requires.agrees c.in-Some-taken.taken c.receive.new.connections got.1
+
+pub returns : goal.returns
+returns g c =
+    let got : ReceivesSlot c.state.inside.connections c.deref.result.now c.deref-2.result.now (Ok (Some c.in-Some-taken.taken)) c.receive.new.connections =
+    subst (λ (r : Result (Option Taken) ReceiveError). ReceivesSlot c.state.inside.connections c.deref.result.now c.deref-2.result.now r c.receive.new.connections)
+    (c.in_ok-taken.was ∙ ap (λ (o : Option Taken). Ok o) c.in-Some-taken.is) c.receive.ensures in
+    at-taken _ c.args.state.now c.args.place c.in-Some.subscriber c.deref.result.now c.deref-2.result.now
+    (has-keys _ c.args.state.now c.args.place c.index.result.now c.in-Some.subscriber _ c.deref.result.now c.deref-2.result.now c.requires.agrees c.state.view_is c.requires.stands
+    c.index.ensures c.in-Some.is c.subscriber.view_is c.deref.ensures.value c.deref-2.ensures.value)
+    c.in-Some-taken.taken c.receipt_of.result c.receive.new.connections got.0 got.1 c.receipt_of.ensures
 
 pub index-requires : goal.index-requires
 index-requires g c =
@@ -42,6 +61,3 @@ pub unreachable-requires : goal.unreachable-requires
 unreachable-requires g c =
     let there : slice_index_or c.state.inside.subscribers.items c.args.place None ≡ Some c.requires.stands.0 = ap (λ (f : Fields g.row.T.Denot g.row.U.Denot). slice_index_or f.subscribers c.args.place None) c.state.view_is ∙ c.requires.stands.1 in
     c.in_default.not-Some c.requires.stands.0 (sym (read-there _ c.args.place _ _ there c.index.ensures) ∙ there)
-
-pub take_from-requires-clause-agrees : goal.take_from-requires-clause-agrees
-take_from-requires-clause-agrees g c = c.requires.agrees

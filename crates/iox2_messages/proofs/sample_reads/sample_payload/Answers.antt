@@ -5,25 +5,25 @@ use Rattle.iox2_messages.proofs.sample_reads.sample_payload.Goals as goal
 pub index-requires : goal.index-requires
 index-requires g c =
     let long : vec_len c.state.inside.contents ≡ length c.state.inside.contents.items = search rules in
-    let within : c.find_live_sample-at.result.book < length c.state.inside.contents.items =
-    book-within _ c.args.state.now c.args.sample.now.subscriber c.args.sample.now.number c.find_live_sample-at.result
-    (record { same = c.state.view_is; sound = c.requires.agrees; lies = c.find_live_sample-at.ensures }) in
+    let within : c.find_message-at.result.book < length c.state.inside.contents.items =
+    book-within _ c.args.state.now c.args.sample.now.subscriber c.args.sample.now.number (record { connection = c.find_message-at.ensures.0; book = c.find_message-at.result.book; slot = c.find_message-at.result.slot })
+    (record { same = c.state.view_is; sound = c.requires.agrees; lies = c.find_message-at.ensures.1 }) in
     omega arith
 
 pub unreachable-requires : goal.unreachable-requires
 unreachable-requires g c =
-    no-contents _ c.args.state.now c.args.sample.now.subscriber c.args.sample.now.number c.find_live_sample-at.result
-    (record { same = c.state.view_is; sound = c.requires.agrees; lies = c.find_live_sample-at.ensures })
+    no-contents _ c.args.state.now c.args.sample.now.subscriber c.args.sample.now.number (record { connection = c.find_message-at.ensures.0; book = c.find_message-at.result.book; slot = c.find_message-at.result.slot })
+    (record { same = c.state.view_is; sound = c.requires.agrees; lies = c.find_message-at.ensures.1 })
     c.index.result.now c.index.ensures c.in_default.is
 
 pub value-requires : goal.value-requires
 value-requires g c =
-    value-there _ c.args.state.now c.args.sample.now.subscriber c.args.sample.now.number c.find_live_sample-at.result
-    (record { same = c.state.view_is; sound = c.requires.agrees; lies = c.find_live_sample-at.ensures })
+    value-there _ c.args.state.now c.args.sample.now.subscriber c.args.sample.now.number (record { connection = c.find_message-at.ensures.0; book = c.find_message-at.result.book; slot = c.find_message-at.result.slot })
+    (record { same = c.state.view_is; sound = c.requires.agrees; lies = c.find_message-at.ensures.1 })
     c.index.result.now c.index.ensures c.in-Some.contents c.in-Some.is c.requires.single
 
 pub returns : goal.returns
 returns g c =
-    value-read _ c.args.state.now c.args.sample.now.subscriber c.args.sample.now.number c.find_live_sample-at.result
-    (record { same = c.state.view_is; sound = c.requires.agrees; lies = c.find_live_sample-at.ensures })
+    value-read _ c.args.state.now c.args.sample.now.subscriber c.args.sample.now.number (record { connection = c.find_message-at.ensures.0; book = c.find_message-at.result.book; slot = c.find_message-at.result.slot })
+    (record { same = c.state.view_is; sound = c.requires.agrees; lies = c.find_message-at.ensures.1 })
     c.index.result.now c.index.ensures c.in-Some.contents c.in-Some.is c.requires.single c.value.result.now c.value.ensures

@@ -1,17 +1,11 @@
-use Rattle.std.proofs.Common.{◌≡◌, ◌==◌, Some, None, ap, sym, ◌∙◌, position, arith}
-use Rattle.std.specs.List.{position_or_len}
-use Rattle.iox2_store.proofs.LinkLemmas.{position_of_contained}
+use Rattle.std.proofs.Common.{◌≡◌, ◌-◌, Some, List, ℕ, length, take, vec_len, ap, sym, ◌∙◌, rules}
+use Rattle.std.specs.Prelude.{slice_get}
+use Rattle.iox2_store.proofs.LinkLemmas.{removed-last}
 use Rattle.iox2_store.proofs.connection.take_out.Goals as goal
 
--- a slot that stands in the list is found
-pub returns-in_default-clause-len : goal.returns-in_default-clause-len
-returns-in_default-clause-len c =
-    let found = position_of_contained c.args.slots.now.items c.args.slot c.requires in
-    let missed : Some (position_or_len (λ y. y == c.args.slot) c.args.slots.now.items) ≡ None =
-    sym found.1 ∙ ap (position (λ y. y == c.args.slot)) (sym c.deref-else-is_last.ensures.value) ∙ sym c.position_of.ensures ∙ c.in_default.is in
-    absurd cc
-
-pub returns-in_default-clause-items : goal.returns-in_default-clause-items
-returns-in_default-clause-items c =
-    let found = position_of_contained c.args.slots.now.items c.args.slot c.requires in
-    grind (arith, found)
+pub returns-then-is_last-clause-items : goal.returns-then-is_last-clause-items
+returns-then-is_last-clause-items c =
+    let long : vec_len c.args.slots.now ≡ length c.args.slots.now.items = search rules in
+    let last : slice_get c.args.slots.now.items (length c.args.slots.now.items - 1) ≡ Some c.args.slot =
+    ap (λ (xs : List ℕ). slice_get xs (length xs - 1)) (sym c.deref.ensures.value) ∙ c.is_last.ensures.0 c.if-is_last.true in
+    c.pop.ensures.rest ∙ ap (λ (n : ℕ). take (n - 1) c.args.slots.now.items) long ∙ removed-last c.args.slot c.args.slots.now.items last c.requires.once

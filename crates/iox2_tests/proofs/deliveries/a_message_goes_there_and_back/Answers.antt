@@ -1,11 +1,14 @@
-use Rattle.std.proofs.Common.{◌≡◌, ℕ, zero, suc, List, [], ◌∷◌, Option, None, Some, Bool, true, false, cond, eqb, get_or, refl, ap, ◌∙◌, inl, inr, arith}
+use Rattle.std.proofs.Common.{◌≡◌, ℕ, zero, suc, List, [], ◌∷◌, Option, None, Some, Bool, true, false, cond, eqb, get_or, Result, Ok, Err, refl, ap, sym, subst, ◌∙◌, inl, inr, arith}
 use Rattle.std.proofs.lemmas.Bool.{cases_eq}
 use Rattle.std.proofs.lemmas.List.Sums.{sum_by-cons}
 use Rattle.std.specs.List.{sum_by}
 use Rattle.slab.specs.Slab.{Slab, get, Updates}
 use Rattle.iox2_store.specs.Link.{Link, empty_link}
 use Rattle.iox2_store.specs.declared.connection.Home.{Home}
+use Rattle.iox2_store.specs.declared.errors.ReceiveError.{ReceiveError}
 use Rattle.iox2_ends.specs.Counters.{stands, IsCovered}
+use Rattle.iox2_ends.specs.Takes.{SameStands, ReceivesSlot}
+use Rattle.iox2_ends.specs.declared.receiver.Taken.{Taken}
 use Rattle.iox2_ends.proofs.Counts.{IsCovered-follows}
 use Rattle.iox2_tests.proofs.deliveries.a_message_goes_there_and_back.Goals as goal
 
@@ -31,6 +34,12 @@ covered-first old new key p home buffer limit holders empty u = record { at = λ
     | inr away ↦ ap (stands p n) (u.others i away ∙ ap (λ (xs : List (Option Link)). get_or xs i None) empty ∙ vacant i)
   ]
 
+-- each slot stands as often as before, whatever was received
+stands-received : (old new : Slab Link) (expired : List ℕ) (keys : List (Option ℕ)) (r : Result (Option Taken) ReceiveError) → ReceivesSlot old expired keys r new → SameStands old new
+stands-received old new expired keys (Ok (Some taken)) h = h.1.stay
+stands-received old new expired keys (Ok None) h = subst (SameStands old) (sym h.1) (record { follows = λ p holders. record { at = λ slot. refl } })
+stands-received old new expired keys (Err e) h = subst (SameStands old) (sym h.2) (record { follows = λ p holders. record { at = λ slot. refl } })
+
 pub deliver-outcome-requires-clause-covered : goal.deliver-outcome-requires-clause-covered
 deliver-outcome-requires-clause-covered g c =
     covered-first c.reserve.new.self _ _ _ _ 2 1 _ (ap (λ (s : Slab Link). s.slots) c.reserve.ensures.rest_kept ∙ c.new-connections.ensures.empty) (rw c.in_ok-connection.ensures at c.insert_reserved-key.ensures.updates)
@@ -42,5 +51,5 @@ reclaim_all-requires-clause-covered g c =
     (IsCovered-follows 1 _ _ _ _
     (covered-first c.reserve.new.self _ _ _ _ 2 1 _ (ap (λ (s : Slab Link). s.slots) c.reserve.ensures.rest_kept ∙ c.new-connections.ensures.empty) (rw c.in_ok-connection.ensures at c.insert_reserved-key.ensures.updates))
     c.deliver-outcome.ensures.recounts.counters)
-    (c.take-received.ensures.stands.follows 1 c.deliver-outcome.new.book.holders))
+    ((stands-received _ _ _ _ c.receive.result c.receive.ensures).follows 1 c.deliver-outcome.new.book.holders))
     (c.release.ensures.stands.follows 1 c.deliver-outcome.new.book.holders)
