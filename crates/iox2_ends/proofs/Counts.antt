@@ -26,9 +26,6 @@ one_if_same n = grind arith
 pub one_if_other : (n x : ℕ) → n ≢ x → one_if n x ≡ 0
 one_if_other n x differs = rw (ne_eqb x n (λ e. differs (sym e))) refl
 
-pub one_if-le : (n x : ℕ) → one_if n x ≤ 1
-one_if-le n x = grind arith
-
 -- a slot with a holder is within the counters
 pub in_range : (hs : List ℕ) (n : ℕ) → 0 < get_or hs n 0 → n < length hs
 in_range hs n some =
@@ -127,11 +124,3 @@ CountersFollow-trans p hs hs' hs'' ls ls' ls'' a b = record { at = λ n. omega (
 -- counters that follow still cover
 pub IsCovered-follows : (p : ℕ) (hs hs' : List ℕ) (ls ls' : List (Option Link)) → IsCovered p hs ls → CountersFollow p hs ls hs' ls' → IsCovered p hs' ls'
 IsCovered-follows p hs hs' ls ls' covered f = record { at = λ n. omega (arith, covered.at n, f.at n) }
-
--- a put takes no holder from the slot
-pub recounted-keeps : (o : PutOutcome) (slot : ℕ) (hs : List ℕ) → slot < length hs → CanLeave o hs → get_or hs slot 0 ≤ get_or (recounted o slot hs) slot 0
-recounted-keeps Taken slot hs below can = omega (arith, get_or-one_holder_more hs slot slot below)
-recounted-keeps (Overwrote oldest) slot hs below can =
-    let less = get_or-one_holder_less (one_holder_more slot hs) oldest slot (omega (arith, can, get_or-one_holder_more hs slot oldest below)) in
-    omega (arith, get_or-one_holder_more hs slot slot below, one_if_same slot, less, one_if-le slot oldest)
-recounted-keeps Full slot hs below can = omega arith

@@ -53,16 +53,6 @@ module _ {T U : Type 0} (f : Fields T U) (sound : IsDomain f) (i : ℕ) (x : Pub
       subst (λ (o : Option (List (ContentState T U))). IsSomeAnd o (λ cs. SomeAt cs slot (λ content. (f.config).units_per_element ≤ content.room))) (sym found.1 ∙ is)
       (subst (λ (o : Option (ContentState T U)). IsSomeAnd o (λ content. (f.config).units_per_element ≤ content.room)) (sym some.1) fits)
 
-  -- some slot of its book is free
-  pub never-full : CanLend f i → (b : Book) → get f.books x.book ≡ Some b → All (λ n. 0 < n) b.holders → ⊥
-  never-full can b stands =
-      let found : Some can.publisher ≡ Some x = sym can.stands ∙ at in
-      let same : can.publisher ≡ x = cc in
-      let its : get f.books x.book ≡ Some can.book = ap (λ (z : PublisherFields). get f.books z.book) (sym same) ∙ can.its in
-      let book : Some can.book ≡ Some b = sym its ∙ stands in
-      let is : can.book ≡ b = cc in
-      subst (λ (c : Book). All (λ n. 0 < n) c.holders → ⊥) is can.some_free
-
   -- it has room for a loan more
   pub loan-fits : CanLend f i → length x.loans < x.loan_room
   loan-fits can =

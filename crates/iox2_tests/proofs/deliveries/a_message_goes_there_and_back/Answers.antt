@@ -1,4 +1,4 @@
-use Rattle.std.proofs.Common.{◌≡◌, ℕ, zero, suc, List, [], ◌∷◌, Option, None, Some, Bool, true, false, cond, eqb, get_or, Result, Ok, Err, refl, ap, sym, subst, ◌∙◌, inl, inr, arith}
+use Rattle.std.proofs.Common.{Bool, Err, List, None, Ok, Option, Result, Some, [], ap, arith, cond, eqb, false, get_or, inl, inr, refl, rules, subst, suc, sym, true, zero, ℕ, ◌<◌, ◌∙◌, ◌∷◌, ◌≡◌}
 use Rattle.std.proofs.lemmas.Bool.{cases_eq}
 use Rattle.std.proofs.lemmas.List.Sums.{sum_by-cons}
 use Rattle.std.specs.List.{sum_by}
@@ -6,7 +6,7 @@ use Rattle.slab.specs.Slab.{Slab, get, Updates}
 use Rattle.iox2_store.specs.Link.{Link, empty_link}
 use Rattle.iox2_store.specs.declared.connection.Home.{Home}
 use Rattle.iox2_store.specs.declared.errors.ReceiveError.{ReceiveError}
-use Rattle.iox2_ends.specs.Counters.{stands, IsCovered}
+use Rattle.iox2_ends.specs.Counters.{stands, IsCovered, HoldsItself}
 use Rattle.iox2_ends.specs.Takes.{SameStands, ReceivesSlot}
 use Rattle.iox2_ends.specs.declared.receiver.Taken.{Taken}
 use Rattle.iox2_ends.proofs.Counts.{IsCovered-follows}
@@ -18,8 +18,8 @@ sum-zero f [] zeros = refl
 sum-zero f (x ∷ xs) zeros = sum_by-cons f x xs ∙ omega (arith, zeros zero, sum-zero f xs (λ i. zeros (suc i)))
 
 -- no slot stands in a slab that had no connection and then got an empty one
-covered-first : (old new : Slab Link) (key p : ℕ) (home : Home) (buffer limit : ℕ) (holders : List ℕ) → old.slots ≡ [] → Updates old new key (Some (empty_link home buffer limit)) → IsCovered p holders new.slots
-covered-first old new key p home buffer limit holders empty u = record { at = λ n. omega (arith, sum-zero (stands p n) new.slots (λ i. at n i)) } where
+none-stands : (old new : Slab Link) (key p : ℕ) (home : Home) (buffer limit : ℕ) → old.slots ≡ [] → Updates old new key (Some (empty_link home buffer limit)) → (n : ℕ) → sum_by (stands p n) new.slots ≡ 0
+none-stands old new key p home buffer limit empty u n = sum-zero (stands p n) new.slots (λ i. at n i) where
   vacant : (i : ℕ) → get_or {A = Option Link} [] i None ≡ None
   vacant zero = refl
   vacant (suc i) = refl
@@ -40,9 +40,21 @@ stands-received old new expired keys (Ok (Some taken)) h = h.1.stay
 stands-received old new expired keys (Ok None) h = subst (SameStands old) (sym h.1) (record { follows = λ p holders. record { at = λ slot. refl } })
 stands-received old new expired keys (Err e) h = subst (SameStands old) (sym h.2) (record { follows = λ p holders. record { at = λ slot. refl } })
 
+-- so its counters cover it
+covered-first : (old new : Slab Link) (key p : ℕ) (home : Home) (buffer limit : ℕ) (holders : List ℕ) → old.slots ≡ [] → Updates old new key (Some (empty_link home buffer limit)) → IsCovered p holders new.slots
+covered-first old new key p home buffer limit holders empty u = record { at = λ n. omega (arith, none-stands old new key p home buffer limit empty u n) }
+
+-- and its publisher itself holds a slot in use
+own-first : (old new : Slab Link) (key p n : ℕ) (home : Home) (buffer limit : ℕ) (holders : List ℕ) → old.slots ≡ [] → Updates old new key (Some (empty_link home buffer limit)) → 0 < get_or holders n 0 → HoldsItself p n holders new.slots
+own-first old new key p n home buffer limit holders empty u some = record { more = omega (arith, some, none-stands old new key p home buffer limit empty u n) }
+
 pub deliver-outcome-requires-clause-covered : goal.deliver-outcome-requires-clause-covered
 deliver-outcome-requires-clause-covered g c =
     covered-first c.reserve.new.self _ _ _ _ 2 1 _ (ap (λ (s : Slab Link). s.slots) c.reserve.ensures.rest_kept ∙ c.new-connections.ensures.empty) (rw c.in_ok-connection.ensures at c.insert_reserved-key.ensures.updates)
+
+pub deliver-outcome-requires-clause-own : goal.deliver-outcome-requires-clause-own
+deliver-outcome-requires-clause-own g c =
+    own-first c.reserve.new.self _ _ _ _ _ 2 1 _ (ap (λ (s : Slab Link). s.slots) c.reserve.ensures.rest_kept ∙ c.new-connections.ensures.empty) (rw c.in_ok-connection.ensures at c.insert_reserved-key.ensures.updates) (search rules)
 
 pub reclaim_all-requires-clause-covered : goal.reclaim_all-requires-clause-covered
 reclaim_all-requires-clause-covered g c =
