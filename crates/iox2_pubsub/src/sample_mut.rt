@@ -10,7 +10,7 @@ use iox2_messages::{loan_header, loan_value};
 use iox2_store::{BackpressureFn, DegradationFn, Header, Key};
 
 /// A loan whose payload is written. It is a value to be spent: the domain keeps the loan until its
-/// message was sent.
+/// message was sent or it was discarded.
 ///
 /// iceoryx2's `sample_mut::SampleMut` (`src/sample_mut.rs`).
 pub struct SampleMut {

@@ -10,7 +10,7 @@ use iox2_messages::{loan_cell, loan_header};
 use iox2_store::{BackpressureFn, DegradationFn, Header, Key};
 
 /// A loan whose payload isn't written. It is a value to be spent: the domain keeps the loan until
-/// its message was sent.
+/// its message was sent or it was discarded.
 ///
 /// iceoryx2's `sample_mut_uninit::SampleMutUninit` (`src/sample_mut_uninit.rs`).
 pub struct SampleMutUninit {
