@@ -1,6 +1,6 @@
 -- An update by call, seen from outside.
 use Rattle.std.proofs.Common.{◌≡◌, ℕ, get_or, ap, sym, subst, ◌∙◌, Some, None}
-use Rattle.iox2_store.specs.machine.Environments.{fixed_handlers}
+use Rattle.iox2_store.specs.machine.Records.{Environment}
 use Rattle.iox2_store.specs.machine.PublisherUpdate.{UpdatePublisher}
 use Rattle.iox2_store.specs.machine.SubscriberUpdate.{UpdateSubscriber}
 use Rattle.iox2_store.specs.machine.State.{State, Messages}
@@ -14,34 +14,34 @@ use Rattle.iox2_domain.specs.Ports.{PublisherFields, SubscriberFields}
 use Rattle.iox2_domain.specs.Shows.{Shows}
 use Rattle.iox2_domain.proofs.lemmas.fields.ReachesShows.{reaches-shows}
 
-module _ {T U : Type 0} (kept : Kept T U) (f g : Fields T U) (view : kept_of f ≡ kept) (place id : ℕ) (m : Messages T U) (s : State T U) (shown : Shows kept m s) where
+module _ {T U : Type 0} (environment : Environment) (kept : Kept T U) (f g : Fields T U) (view : kept_of f ≡ kept) (place id : ℕ) (m : Messages T U) (s : State T U) (shown : Shows kept m s) where
   here : Shows (kept_of f) m s
   here = subst (λ (k : Kept T U). Shows k m s) (sym view) shown
 
   -- a publisher's update, with the same messages
   pub publisher-update-shows : (x : PublisherFields) × (get_or f.publishers place None ≡ Some x) × (x.id ≡ id)
-      → ((x : PublisherFields) → get_or f.publishers place None ≡ Some x → UpdatesPublisher f place x g)
-      → (s' : State T U) × Shows (kept_of g) m s' × UpdatePublisher fixed_handlers s id s' None
+      → ((x : PublisherFields) → get_or f.publishers place None ≡ Some x → UpdatesPublisher environment f place x g None)
+      → (s' : State T U) × Shows (kept_of g) m s' × UpdatePublisher environment s id s' None
   publisher-update-shows found updates =
       let u = updates found.0 found.1 in
-      let step : UpdatePublisher fixed_handlers s id u.after None =
-      subst (λ (t : State T U). UpdatePublisher fixed_handlers t id u.after None) (sym here.state) (subst (λ (p : ℕ). UpdatePublisher fixed_handlers (state_of (kept_of f)) p u.after None) found.2 u.updates) in (
+      let step : UpdatePublisher environment s id u.after None =
+      subst (λ (t : State T U). UpdatePublisher environment t id u.after None) (sym here.state) (subst (λ (p : ℕ). UpdatePublisher environment (state_of (kept_of f)) p u.after None) found.2 u.updates) in (
         u.after,
-        reaches-shows f g m s u.after here u.reaches (update_publisher_advances fixed_handlers s id u.after None step).next_message
-            (λ n l at. here.unsent n l (ap (λ all. all n) (sym (update_publisher_loans fixed_handlers s id u.after None step)) ∙ at)),
+        reaches-shows f g m s u.after here u.reaches (update_publisher_advances environment s id u.after None step).next_message
+            (λ n l at. here.unsent n l (ap (λ all. all n) (sym (update_publisher_loans environment s id u.after None step)) ∙ at)),
         step,
       )
 
   -- a subscriber's update, with the same messages
   pub subscriber-update-shows : (y : SubscriberFields) × (get_or f.subscribers place None ≡ Some y) × (y.id ≡ id)
-      → ((y : SubscriberFields) → get_or f.subscribers place None ≡ Some y → UpdatesSubscriber f place y g)
-      → (s' : State T U) × Shows (kept_of g) m s' × UpdateSubscriber fixed_handlers s id s' None
+      → ((y : SubscriberFields) → get_or f.subscribers place None ≡ Some y → UpdatesSubscriber environment f place y g None)
+      → (s' : State T U) × Shows (kept_of g) m s' × UpdateSubscriber environment s id s' None
   subscriber-update-shows found updates =
       let u = updates found.0 found.1 in
-      let step : UpdateSubscriber fixed_handlers s id u.after None =
-      subst (λ (t : State T U). UpdateSubscriber fixed_handlers t id u.after None) (sym here.state) (subst (λ (q : ℕ). UpdateSubscriber fixed_handlers (state_of (kept_of f)) q u.after None) found.2 u.updates) in (
+      let step : UpdateSubscriber environment s id u.after None =
+      subst (λ (t : State T U). UpdateSubscriber environment t id u.after None) (sym here.state) (subst (λ (q : ℕ). UpdateSubscriber environment (state_of (kept_of f)) q u.after None) found.2 u.updates) in (
         u.after,
-        reaches-shows f g m s u.after here u.reaches (update_subscriber_advances fixed_handlers s id u.after None step).next_message
-            (λ n l at. here.unsent n l (ap (λ all. all n) (sym (update_subscriber_loans fixed_handlers s id u.after None step)) ∙ at)),
+        reaches-shows f g m s u.after here u.reaches (update_subscriber_advances environment s id u.after None step).next_message
+            (λ n l at. here.unsent n l (ap (λ all. all n) (sym (update_subscriber_loans environment s id u.after None step)) ∙ at)),
         step,
       )

@@ -3,7 +3,7 @@ use Rattle.std.proofs.Common.{◌≡◌, ℕ, false, List, [], ◌∷◌, ◌++�
 use Rattle.std.specs.Prelude.{slice_get, slice_set, slice_index_or}
 use Rattle.std.proofs.lemmas.Bool.{ne_eqb}
 use Rattle.iox2_store.specs.machine.Loans.{loan_discarded}
-use Rattle.iox2_store.specs.machine.Records.{Loan}
+use Rattle.iox2_store.specs.machine.Records.{Loan, Environment}
 use Rattle.iox2_store.specs.machine.State.{State, Messages}
 use Rattle.iox2_laws.proofs.PortsStay.{PortsStay, loan_discarded_stays}
 use Rattle.iox2_laws.proofs.Puts.{put_at-same, put_at-other}
@@ -29,16 +29,16 @@ use Rattle.iox2_runs.proofs.TableSteps.{table_next, others_still}
 
 -- ---- what the command comes to
 
-module _ {T U : Type 0} (defaults : Defaults T U) (Shown : Messages T U → State T U → Type 0) (m : Messages T U) (s : State T U) (handles : List Handle)
+module _ {T U : Type 0} (environment : Environment) (defaults : Defaults T U) (Shown : Messages T U → State T U → Type 0) (m : Messages T U) (s : State T U) (handles : List Handle)
     (events : List (Event T U)) (table : List TableEntry) (w : IsTable s handles events table) (default_value : T) (default_header : U)
     (is_default_value : defaults.IsDefaultValue default_value) (is_default_header : defaults.IsDefaultHeader default_header) where
-  discard_skipped : (of : ℕ) → Lacks is_loan_entry table of → Shown m s → Comes defaults Shown m s handles events (Discard of) Skipped (table ++ No_entry ∷ [])
+  discard_skipped : (of : ℕ) → Lacks is_loan_entry table of → Shown m s → Comes environment defaults Shown m s handles events (Discard of) Skipped (table ++ No_entry ∷ [])
   discard_skipped of absent shown =
-      skip_comes defaults Shown m s handles events table w default_value default_header is_default_value is_default_header (Discard of)
+      skip_comes environment defaults Shown m s handles events table w default_value default_header is_default_value is_default_header (Discard of)
       (at_none _ _ _ (lacks_loan s handles events table w of absent) refl) shown
 
   discard_comes : (of n : ℕ) (l : Loan T U) → loan_at s handles of ≡ Some (n, l) → slice_get handles of ≡ Some (Loan_handle n) → Shown m (loan_discarded s n l)
-      → Comes defaults Shown m s handles events (Discard of) Done (slice_set table of No_entry ++ No_entry ∷ [])
+      → Comes environment defaults Shown m s handles events (Discard of) Done (slice_set table of No_entry ++ No_entry ∷ [])
   discard_comes of n l found named shown =
       let s' : State T U = loan_discarded s n l in
       let stay : PortsStay s s' = loan_discarded_stays s n l in record {
@@ -59,13 +59,13 @@ module _ {T U : Type 0} (defaults : Defaults T U) (Shown : Messages T U → Stat
 
 -- ---- what the function of the command ensures
 
-module _ {T U : Type 0} (defaults : Defaults T U) (old new : Domain T U) (table table' : List Made) (of : ℕ) where
+module _ {T U : Type 0} (environment : Environment) (defaults : Defaults T U) (old new : Domain T U) (table table' : List Made) (of : ℕ) where
   -- there is no such loan
   pub discard_passed : is_loan_entry (entry_for (slice_index_or table of Nothing)) ≡ false → old ≡ new → table' ≡ table
-      → Carries defaults old new table (Discard of) Skipped table' Nothing
+      → Carries environment defaults old new table (Discard of) Skipped table' Nothing
   discard_passed other same is = λ m s handles events shown w default_value default_header is_value is_header.
-      subst (λ (t : List Made). Comes defaults (Shows new) m s handles events (Discard of) Skipped (map entry_for t ++ No_entry ∷ [])) (sym is)
-      (discard_skipped defaults (Shows new) m s handles events (map entry_for table) w default_value default_header is_value is_header of
+      subst (λ (t : List Made). Comes environment defaults (Shows new) m s handles events (Discard of) Skipped (map entry_for t ++ No_entry ∷ [])) (sym is)
+      (discard_skipped environment defaults (Shows new) m s handles events (map entry_for table) w default_value default_header is_value is_header of
       (lacks is_loan_entry refl table of other) (subst (λ (d : Domain T U). Shows d m s) same shown))
 
   -- what the loan n comes to
@@ -76,17 +76,17 @@ module _ {T U : Type 0} (defaults : Defaults T U) (old new : Domain T U) (table 
   carried : (n : ℕ) → Discards n → table' ≡ slice_set table of Nothing
       → ((s : State T U) (handles : List Handle) (events : List (Event T U)) → IsTable s handles events (map entry_for table)
       → (l : Loan T U) × (loan_at s handles of ≡ Some (n, l)) × (s.loans n ≡ Some l) × (slice_get handles of ≡ Some (Loan_handle n)))
-      → Carries defaults old new table (Discard of) Done table' Nothing
+      → Carries environment defaults old new table (Discard of) Done table' Nothing
   carried n discards is names = λ m s handles events shown w default_value default_header is_value is_header.
       let named = names s handles events w in
       let after : map entry_for table' ≡ slice_set (map entry_for table) of No_entry = ap (λ (t : List Made). map entry_for t) is ∙ entries-set table of Nothing in
-      subst (λ (ks : List TableEntry). Comes defaults (Shows new) m s handles events (Discard of) Done (ks ++ No_entry ∷ [])) (sym after)
-      (discard_comes defaults (Shows new) m s handles events (map entry_for table) w default_value default_header is_value is_header of n named.0 named.1 named.3
+      subst (λ (ks : List TableEntry). Comes environment defaults (Shows new) m s handles events (Discard of) Done (ks ++ No_entry ∷ [])) (sym after)
+      (discard_comes environment defaults (Shows new) m s handles events (map entry_for table) w default_value default_header is_value is_header of n named.0 named.1 named.3
       (discards m s named.0 shown named.2))
 
   -- an unwritten loan
   pub discard_unwritten : (h : SampleMutUninit) → slice_index_or table of Nothing ≡ Unwritten h → Discards h.loan.number → table' ≡ slice_set table of Nothing
-      → Carries defaults old new table (Discard of) Done table' Nothing
+      → Carries environment defaults old new table (Discard of) Done table' Nothing
   discard_unwritten h at discards is = carried h.loan.number discards is (λ s handles events w.
       let stand = entry-stands table of (Unwritten h) at (λ e. let clash : Unwritten h ≡ Nothing = e in cc) in
       let found = has_unwritten s handles events (map entry_for table) w of h.service_id h.loan.publisher h.loan.number stand in
@@ -95,7 +95,7 @@ module _ {T U : Type 0} (defaults : Defaults T U) (old new : Domain T U) (table 
 
   -- a written loan
   pub discard_written : (h : SampleMut) → slice_index_or table of Nothing ≡ Written h → Discards h.loan.number → table' ≡ slice_set table of Nothing
-      → Carries defaults old new table (Discard of) Done table' Nothing
+      → Carries environment defaults old new table (Discard of) Done table' Nothing
   discard_written h at discards is = carried h.loan.number discards is (λ s handles events w.
       let stand = entry-stands table of (Written h) at (λ e. let clash : Written h ≡ Nothing = e in cc) in
       let found = has_written s handles events (map entry_for table) w of h.service_id h.loan.publisher h.loan.number stand in

@@ -2,9 +2,8 @@
 use Rattle.std.proofs.Common.{◌≡◌, ℕ, false, List, map, Option, refl, ap, subst, None, Some}
 use Rattle.std.specs.Option.{option_map_or}
 use Rattle.std.specs.Prelude.{slice_index_or}
-use Rattle.iox2_store.specs.machine.Environments.{fixed_handlers}
 use Rattle.iox2_store.specs.machine.PublisherUpdate.{UpdatePublisher}
-use Rattle.iox2_store.specs.machine.Records.{Loan}
+use Rattle.iox2_store.specs.machine.Records.{Loan, Environment}
 use Rattle.iox2_store.specs.machine.State.{State, Messages}
 use Rattle.iox2_store.specs.machine.SubscriberUpdate.{UpdateSubscriber}
 use Rattle.iox2_store.specs.declared.errors.ConnectionFailure.{ConnectionFailure}
@@ -38,41 +37,41 @@ module _ {T U : Type 0} where
   replied-so s None reply is = ap (λ (r : Reply T U). replied r s) is
   replied-so s (Some e) reply is = ap (λ (r : Reply T U). replied r s) is
 
-module _ {T U : Type 0} (defaults : Defaults T U) (old new : Domain T U) (table : List Made) (of : ℕ) where
+module _ {T U : Type 0} (environment : Environment) (defaults : Defaults T U) (old new : Domain T U) (table : List Made) (of : ℕ) where
   -- there is no such port
   pub update_passed : is_publisher_entry (entry_for (slice_index_or table of Nothing)) ≡ false → is_subscriber_entry (entry_for (slice_index_or table of Nothing)) ≡ false
-      → old ≡ new → Carries defaults old new table (Update of) Skipped table Nothing
+      → old ≡ new → Carries environment defaults old new table (Update of) Skipped table Nothing
   update_passed no_publisher no_subscriber same = λ m s handles events shown w default_value default_header is_value is_header.
-      skip_comes defaults (Shows new) m s handles events (map entry_for table) w default_value default_header is_value is_header (Update of)
+      skip_comes environment defaults (Shows new) m s handles events (map entry_for table) w default_value default_header is_value is_header (Update of)
       (at_none _ _ _ (lacks_publisher s handles events (map entry_for table) w of (lacks is_publisher_entry refl table of no_publisher))
       (at_none _ _ _ (lacks_subscriber s handles events (map entry_for table) w of (lacks is_subscriber_entry refl table of no_subscriber)) refl))
       (subst (λ (d : Domain T U). Shows d m s) same shown)
 
   -- a publisher is updated, and this is replied
   pub update_of_publisher : (h : PublisherHandle) (failure : Option ConnectionFailure) (reply : Reply T U) → slice_index_or table of Nothing ≡ MadePublisher h
-      → ((m : Messages T U) (s : State T U) → Shows old m s → (s' : State T U) × Shows new m s' × UpdatePublisher fixed_handlers s h.id s' failure)
-      → reply ≡ update_reply failure → Carries defaults old new table (Update of) reply table Nothing
+      → ((m : Messages T U) (s : State T U) → Shows old m s → (s' : State T U) × Shows new m s' × UpdatePublisher environment s h.id s' failure)
+      → reply ≡ update_reply failure → Carries environment defaults old new table (Update of) reply table Nothing
   update_of_publisher h failure reply at updates is = λ m s handles events shown w default_value default_header is_value is_header.
       let updated = updates m s shown in
       let s' : State T U = updated.0 in
       let found = has_publisher s handles events (map entry_for table) w of h.service_id h.id (entry-stands table of (MadePublisher h) at (λ e. let clash : MadePublisher h ≡ Nothing = e in cc)) in
-      quiet_comes defaults (Shows new) m s handles events (map entry_for table) w default_value default_header is_value is_header (Update of) reply s'
+      quiet_comes environment defaults (Shows new) m s handles events (map entry_for table) w default_value default_header is_value is_header (Update of) reply s'
       (at_some _ _ _ (h.id, found.0) found.1 (s', failure, updated.2, replied-so s' failure reply is))
-      updated.1 (update_publisher_stays fixed_handlers s h.id s' failure updated.2)
-      (λ n _. ap (λ (f : ℕ → Option (Loan T U)). f n) (update_publisher_loans fixed_handlers s h.id s' failure updated.2))
-      (update_publisher_advances fixed_handlers s h.id s' failure updated.2).next_message
+      updated.1 (update_publisher_stays environment s h.id s' failure updated.2)
+      (λ n _. ap (λ (f : ℕ → Option (Loan T U)). f n) (update_publisher_loans environment s h.id s' failure updated.2))
+      (update_publisher_advances environment s h.id s' failure updated.2).next_message
 
   -- a subscriber is updated, and this is replied
   pub update_of_subscriber : (h : SubscriberHandle) (failure : Option ConnectionFailure) (reply : Reply T U) → slice_index_or table of Nothing ≡ MadeSubscriber h
-      → ((m : Messages T U) (s : State T U) → Shows old m s → (s' : State T U) × Shows new m s' × UpdateSubscriber fixed_handlers s h.id s' failure)
-      → reply ≡ update_reply failure → Carries defaults old new table (Update of) reply table Nothing
+      → ((m : Messages T U) (s : State T U) → Shows old m s → (s' : State T U) × Shows new m s' × UpdateSubscriber environment s h.id s' failure)
+      → reply ≡ update_reply failure → Carries environment defaults old new table (Update of) reply table Nothing
   update_of_subscriber h failure reply at updates is = λ m s handles events shown w default_value default_header is_value is_header.
       let updated = updates m s shown in
       let s' : State T U = updated.0 in
       let found = has_subscriber s handles events (map entry_for table) w of h.service_id h.id (entry-stands table of (MadeSubscriber h) at (λ e. let clash : MadeSubscriber h ≡ Nothing = e in cc)) in
-      quiet_comes defaults (Shows new) m s handles events (map entry_for table) w default_value default_header is_value is_header (Update of) reply s'
+      quiet_comes environment defaults (Shows new) m s handles events (map entry_for table) w default_value default_header is_value is_header (Update of) reply s'
       (at_none _ _ _ (lacks_publisher s handles events (map entry_for table) w of (lacks is_publisher_entry refl table of (ap (λ (v : Made). is_publisher_entry (entry_for v)) at)))
       (at_some _ _ _ (h.id, found.0) found.1 (s', failure, updated.2, replied-so s' failure reply is)))
-      updated.1 (update_subscriber_stays fixed_handlers s h.id s' failure updated.2)
-      (λ n _. ap (λ (f : ℕ → Option (Loan T U)). f n) (update_subscriber_loans fixed_handlers s h.id s' failure updated.2))
-      (update_subscriber_advances fixed_handlers s h.id s' failure updated.2).next_message
+      updated.1 (update_subscriber_stays environment s h.id s' failure updated.2)
+      (λ n _. ap (λ (f : ℕ → Option (Loan T U)). f n) (update_subscriber_loans environment s h.id s' failure updated.2))
+      (update_subscriber_advances environment s h.id s' failure updated.2).next_message

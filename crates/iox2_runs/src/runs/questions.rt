@@ -1,5 +1,6 @@
 //! Questions to subscribers.
 ghost use Rattle.iox2_runs.specs.Leaves.{Leaves};
+ghost use Rattle.iox2_store.specs.machine.Environments.{fixed_handlers};
 ghost use Rattle.iox2_runs.specs.Carries.{IsLiveTable, Carries, defaults_of};
 ghost use Rattle.iox2_commands.specs.declared.command.Command.TheVariants.{HasSamples};
 ghost use Rattle.iox2_runs.specs.declared.runs.made.Made.TheVariants.{Nothing};
@@ -17,7 +18,7 @@ pub(crate) fn has_samples<
     G: DegradationFn,
 >(domain: &mut Domain<T, U, F, G>, table: &[Made], of: usize) -> Reply<T, U>
     requires { IsLiveTable domain.old table.now }
-    ensures carries { Carries (defaults_of T.is_default U.is_default) domain.old domain.new table.now (HasSamples of) result table.now Nothing }
+    ensures carries { Carries fixed_handlers (defaults_of T.is_default U.is_default) domain.old domain.new table.now (HasSamples of) result table.now Nothing }
     ensures leaves { Leaves domain.old domain.new table.now table.now Nothing }
 {
     let Some(made) = table.get(of) else {

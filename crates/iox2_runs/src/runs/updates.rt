@@ -3,6 +3,7 @@ ghost use Rattle.std.specs.Prelude.{◌≡◌};
 ghost use Rattle.std.specs.Option.{option_map_or};
 ghost use Rattle.iox2_pubsub.specs.UpdateCalls.{failure_of};
 ghost use Rattle.iox2_runs.specs.Leaves.{Leaves};
+ghost use Rattle.iox2_store.specs.machine.Environments.{fixed_handlers};
 ghost use Rattle.iox2_runs.specs.Carries.{IsLiveTable, Carries, defaults_of};
 ghost use Rattle.iox2_commands.specs.declared.command.Command.TheVariants.{Update};
 ghost use Rattle.iox2_commands.specs.declared.reply.Reply.TheVariants.{Done, UpdateRefused};
@@ -20,7 +21,7 @@ pub(crate) fn update<T: Default + Drop, U: Default + Drop, F: BackpressureFn, G:
     of: usize,
 ) -> Reply<T, U>
     requires { IsLiveTable domain.old table.now }
-    ensures carries { Carries (defaults_of T.is_default U.is_default) domain.old domain.new table.now (Update of) result table.now Nothing }
+    ensures carries { Carries fixed_handlers (defaults_of T.is_default U.is_default) domain.old domain.new table.now (Update of) result table.now Nothing }
     ensures leaves { Leaves domain.old domain.new table.now table.now Nothing }
 {
     let Some(made) = table.get(of) else {

@@ -15,5 +15,5 @@ returns-else-is_something c = (
   _,
   finds-found c.args.connections.now c.args.expired.now c.args.keys.now,
   c.is_something-else-is_something.ensures ∙ ap is_something c.search_keys.ensures
-  ∙ something-later _ _ (ap is_something (sym c.search_expired.ensures) ∙ sym c.is_something.ensures ∙ c.if-is_something.false),
+      ∙ something-later _ _ (ap is_something (sym c.search_expired.ensures) ∙ sym c.is_something.ensures ∙ c.if-is_something.false),
 )

@@ -1,3 +1,4 @@
+use Rattle.iox2_store.specs.machine.Environments.{fixed_handlers}
 use Rattle.std.proofs.Common.{refl, sym, ap, ◌∙◌}
 use Rattle.iox2_runs.specs.Carries.{entry_for}
 use Rattle.iox2_runs.specs.declared.runs.made.Made.{Made}
@@ -20,17 +21,17 @@ discard-requires-in-Written g c =
 
 pub returns-in-Unwritten-clause-carries : goal.returns-in-Unwritten-clause-carries
 returns-in-Unwritten-clause-carries g c =
-    discard_unwritten {T = g.row.T.Denot} {U = g.row.U.Denot} _ c.args.domain.now c.discard.new.domain c.args.table.now.items c.take.new.table.items c.args.of
+    discard_unwritten {T = g.row.T.Denot} {U = g.row.U.Denot} fixed_handlers _ c.args.domain.now c.discard.new.domain c.args.table.now.items c.take.new.table.items c.args.of
     c.in-Unwritten.sample (sym c.take.ensures.made ∙ c.in-Unwritten.is) c.discard.ensures.discarded c.take.ensures.items
 
 pub returns-in-Written-clause-carries : goal.returns-in-Written-clause-carries
 returns-in-Written-clause-carries g c =
-    discard_written {T = g.row.T.Denot} {U = g.row.U.Denot} _ c.args.domain.now c.discard-in-Written.new.domain c.args.table.now.items c.take.new.table.items c.args.of
+    discard_written {T = g.row.T.Denot} {U = g.row.U.Denot} fixed_handlers _ c.args.domain.now c.discard-in-Written.new.domain c.args.table.now.items c.take.new.table.items c.args.of
     c.in-Written.sample (sym c.take.ensures.made ∙ c.in-Written.is) c.discard-in-Written.ensures.discarded c.take.ensures.items
 
 pub returns-in_default-clause-carries : goal.returns-in_default-clause-carries
 returns-in_default-clause-carries g c =
-    discard_passed {T = g.row.T.Denot} {U = g.row.U.Denot} _ c.args.domain.now c.args.domain.now c.args.table.now.items c.put.new.table.items c.args.of
+    discard_passed {T = g.row.T.Denot} {U = g.row.U.Denot} fixed_handlers _ c.args.domain.now c.args.domain.now c.args.table.now.items c.put.new.table.items c.args.of
     (ap (λ (h : Made). is_loan_entry (entry_for h)) (sym c.take.ensures.made) ∙ not_loan c.take.result c.in_default.not-Unwritten c.in_default.not-Written) refl
     (back c.args.table.now.items c.take.new.table.items c.put.new.table.items c.args.of c.take.result c.take.ensures.items (sym c.take.ensures.made) c.put.ensures.items)
 

@@ -1,3 +1,4 @@
+use Rattle.iox2_store.specs.machine.Environments.{fixed_handlers}
 use Rattle.std.proofs.Common.{refl, ap, ◌∙◌, None, Some}
 use Rattle.iox2_runs.specs.Carries.{entry_for}
 use Rattle.iox2_runs.specs.declared.runs.made.Made.{Made}
@@ -18,24 +19,24 @@ has_samples-requires g c =
 
 pub returns-in-Ok-clause-carries : goal.returns-in-Ok-clause-carries
 returns-in-Ok-clause-carries g c =
-    question_carried {T = g.row.T.Denot} {U = g.row.U.Denot} _ c.args.domain.now c.has_samples.new.domain c.args.table.now c.args.of
+    question_carried {T = g.row.T.Denot} {U = g.row.U.Denot} fixed_handlers _ c.args.domain.now c.has_samples.new.domain c.args.table.now c.args.of
     c.in-Subscriber.subscriber None (Has c.in-Ok.waits) (looked c.args.table.now c.args.of c.get.result c.in-Some.made _ c.get.ensures.lookup c.in-Some.is c.in-Subscriber.is)
     (λ m s shown. let got = c.in-Ok.ensures.answers m s shown in (got.0, got.1, (c.in-Ok.waits, got.2, refl)))
 
 pub returns-in-Err-clause-carries : goal.returns-in-Err-clause-carries
 returns-in-Err-clause-carries g c =
-    question_carried {T = g.row.T.Denot} {U = g.row.U.Denot} _ c.args.domain.now c.has_samples.new.domain c.args.table.now c.args.of
+    question_carried {T = g.row.T.Denot} {U = g.row.U.Denot} fixed_handlers _ c.args.domain.now c.has_samples.new.domain c.args.table.now c.args.of
     c.in-Subscriber.subscriber (Some c.in-Err.failure) (UpdateRefused c.in-Err.failure) (looked c.args.table.now c.args.of c.get.result c.in-Some.made _ c.get.ensures.lookup c.in-Some.is c.in-Subscriber.is)
     (λ m s shown. let got = c.in-Err.ensures.answers m s shown in (got.0, got.1, (got.2.0, got.2.1, refl)))
 
 pub returns-in_default-made-clause-carries : goal.returns-in_default-made-clause-carries
 returns-in_default-made-clause-carries g c =
-    question_passed {T = g.row.T.Denot} {U = g.row.U.Denot} _ c.args.domain.now c.args.domain.now c.args.table.now c.args.of
+    question_passed {T = g.row.T.Denot} {U = g.row.U.Denot} fixed_handlers _ c.args.domain.now c.args.domain.now c.args.table.now c.args.of
     (ap (λ (h : Made). is_subscriber_entry (entry_for h)) (looked c.args.table.now c.args.of c.get.result c.in-Some.made _ c.get.ensures.lookup c.in-Some.is refl) ∙ not_subscriber c.in-Some.made.now c.in_default-made.not-Subscriber) refl
 
 pub returns-in_default-clause-carries : goal.returns-in_default-clause-carries
 returns-in_default-clause-carries g c =
-    question_passed {T = g.row.T.Denot} {U = g.row.U.Denot} _ c.args.domain.now c.args.domain.now c.args.table.now c.args.of
+    question_passed {T = g.row.T.Denot} {U = g.row.U.Denot} fixed_handlers _ c.args.domain.now c.args.domain.now c.args.table.now c.args.of
     (ap (λ (h : Made). is_subscriber_entry (entry_for h)) (looked_past c.args.table.now c.args.of c.get.result c.get.ensures.lookup c.in_default.is)) refl
 
 pub returns-in-Ok-clause-leaves : goal.returns-in-Ok-clause-leaves

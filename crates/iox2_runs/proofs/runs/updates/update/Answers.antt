@@ -1,3 +1,4 @@
+use Rattle.iox2_store.specs.machine.Environments.{fixed_handlers}
 use Rattle.std.proofs.Common.{refl, ap, ◌∙◌}
 use Rattle.iox2_runs.specs.Carries.{entry_for}
 use Rattle.iox2_runs.specs.declared.runs.made.Made.{Made}
@@ -23,14 +24,14 @@ update_connections-requires-in-Subscriber g c =
 
 pub returns-in-Publisher-clause-carries : goal.returns-in-Publisher-clause-carries
 returns-in-Publisher-clause-carries g c =
-    update_of_publisher {T = g.row.T.Denot} {U = g.row.U.Denot} _ c.args.domain.now c.update_connections.new.domain c.args.table.now c.args.of
+    update_of_publisher {T = g.row.T.Denot} {U = g.row.U.Denot} fixed_handlers _ c.args.domain.now c.update_connections.new.domain c.args.table.now c.args.of
     c.in-Publisher.publisher (failure_of c.update_connections.result) c.update_reply.result
     (looked c.args.table.now c.args.of c.get.result c.in-Some.made _ c.get.ensures.lookup c.in-Some.is c.in-Publisher.is)
     c.update_connections.ensures.updates c.update_reply.ensures
 
 pub returns-in-Subscriber-clause-carries : goal.returns-in-Subscriber-clause-carries
 returns-in-Subscriber-clause-carries g c =
-    update_of_subscriber {T = g.row.T.Denot} {U = g.row.U.Denot} _ c.args.domain.now c.update_connections-in-Subscriber.new.domain c.args.table.now c.args.of
+    update_of_subscriber {T = g.row.T.Denot} {U = g.row.U.Denot} fixed_handlers _ c.args.domain.now c.update_connections-in-Subscriber.new.domain c.args.table.now c.args.of
     c.in-Subscriber.subscriber (failure_of c.update_connections-in-Subscriber.result) c.update_reply-in-Subscriber.result
     (looked c.args.table.now c.args.of c.get.result c.in-Some.made _ c.get.ensures.lookup c.in-Some.is c.in-Subscriber.is)
     c.update_connections-in-Subscriber.ensures.updates c.update_reply-in-Subscriber.ensures
@@ -38,14 +39,14 @@ returns-in-Subscriber-clause-carries g c =
 pub returns-in_default-made-clause-carries : goal.returns-in_default-made-clause-carries
 returns-in_default-made-clause-carries g c =
     let at = looked c.args.table.now c.args.of c.get.result c.in-Some.made _ c.get.ensures.lookup c.in-Some.is refl in
-    update_passed {T = g.row.T.Denot} {U = g.row.U.Denot} _ c.args.domain.now c.args.domain.now c.args.table.now c.args.of
+    update_passed {T = g.row.T.Denot} {U = g.row.U.Denot} fixed_handlers _ c.args.domain.now c.args.domain.now c.args.table.now c.args.of
     (ap (λ (h : Made). is_publisher_entry (entry_for h)) at ∙ not_publisher c.in-Some.made.now c.in_default-made.not-Publisher)
     (ap (λ (h : Made). is_subscriber_entry (entry_for h)) at ∙ not_subscriber c.in-Some.made.now c.in_default-made.not-Subscriber) refl
 
 pub returns-in_default-clause-carries : goal.returns-in_default-clause-carries
 returns-in_default-clause-carries g c =
     let at = looked_past c.args.table.now c.args.of c.get.result c.get.ensures.lookup c.in_default.is in
-    update_passed {T = g.row.T.Denot} {U = g.row.U.Denot} _ c.args.domain.now c.args.domain.now c.args.table.now c.args.of
+    update_passed {T = g.row.T.Denot} {U = g.row.U.Denot} fixed_handlers _ c.args.domain.now c.args.domain.now c.args.table.now c.args.of
     (ap (λ (h : Made). is_publisher_entry (entry_for h)) at) (ap (λ (h : Made). is_subscriber_entry (entry_for h)) at) refl
 
 pub returns-in-Publisher-clause-leaves : goal.returns-in-Publisher-clause-leaves

@@ -19,7 +19,7 @@ invariant_of-domain g c = (c.update_publisher.ensures c.in-Some.ensures.0 c.in-S
 
 pub returns-clause-updates : goal.returns-clause-updates
 returns-clause-updates g c = λ m s shown.
-    publisher-update-shows {T = g.row.T.Denot} {U = g.row.U.Denot} c.args.domain.now c.domain.inside.state c.update_publisher.new.state c.domain.view_is
+    publisher-update-shows {T = g.row.T.Denot} {U = g.row.U.Denot} fixed_handlers c.args.domain.now c.domain.inside.state c.update_publisher.new.state c.domain.view_is
     c.in-Some.place c.args.self.now.id m s shown c.in-Some.ensures c.update_publisher.ensures
 
 pub returns-clause-stays : goal.returns-clause-stays

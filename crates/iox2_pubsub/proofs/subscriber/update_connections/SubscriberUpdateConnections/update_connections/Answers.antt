@@ -19,7 +19,7 @@ invariant_of-domain g c = (c.update_subscriber.ensures c.in-Some.ensures.0 c.in-
 
 pub returns-clause-updates : goal.returns-clause-updates
 returns-clause-updates g c = λ m s shown.
-    subscriber-update-shows {T = g.row.T.Denot} {U = g.row.U.Denot} c.args.domain.now c.domain.inside.state c.update_subscriber.new.state c.domain.view_is
+    subscriber-update-shows {T = g.row.T.Denot} {U = g.row.U.Denot} fixed_handlers c.args.domain.now c.domain.inside.state c.update_subscriber.new.state c.domain.view_is
     c.in-Some.place c.args.self.now.id m s shown c.in-Some.ensures c.update_subscriber.ensures
 
 pub returns-clause-stays : goal.returns-clause-stays
