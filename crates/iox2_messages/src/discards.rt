@@ -12,8 +12,8 @@ ghost use Rattle.iox2_domain.specs.Ports.{PublisherFields};
 
 use iox2_domain::{DomainState, LoanAt};
 
-/// Gives a publisher's loan back unsent, written or not: it is out no more, and its slot is free. It takes
-/// no memory.
+/// Gives a publisher's loan back unsent, written or not: it is out no more, and its slot is free. It
+/// takes no memory.
 pub fn discard_loan<T: Drop, U: Default + Drop>(state: &mut DomainState<T, U>, loan: LoanAt)
     requires agrees { IsDomain state.old }
     requires live { HoldsLoan (state_of (kept_of state.old)) loan.publisher loan.number }
