@@ -6,7 +6,7 @@ use Rattle.iox2_store.specs.Link.{Link}
 use Rattle.iox2_store.specs.machine.Numbers.{contains}
 use Rattle.iox2_store.specs.SlotBook.{Book}
 use Rattle.iox2_domain.specs.Fields.{Fields, numbers_of}
-use Rattle.iox2_domain.specs.declared.sample_slots.MessageSlot.{MessageSlot}
+use Rattle.iox2_domain.specs.declared.message_slots.MessageSlot.{MessageSlot}
 use Rattle.iox2_domain.specs.declared.sample_slots.SampleAt.{SampleAt}
 use Rattle.iox2_domain.specs.declared.sample_slots.SampleSlot.{SampleSlot}
 
@@ -30,8 +30,8 @@ pub record LiesBorrowed {T U : Type 0} (f : Fields T U) (subscriber number : ℕ
   pub slot_is : IsNumberedSlot connection book number at.slot
 
 -- The same of the slot alone: it lies there in some connection.
-abbrev pub LiesInSlot : {T U : Type 0} → Fields T U → (subscriber number : ℕ) → MessageSlot → Type 0
-LiesInSlot f subscriber number at =
+abbrev pub LiesBorrowedInSlot : {T U : Type 0} → Fields T U → (subscriber number : ℕ) → MessageSlot → Type 0
+LiesBorrowedInSlot f subscriber number at =
     (key : ℕ) × LiesBorrowed f subscriber number (record { connection = key; book = at.book; slot = at.slot })
 
 -- The sample lies where it says that it is looked for first.

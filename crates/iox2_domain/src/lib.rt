@@ -6,6 +6,7 @@
 #![tactic(auto)]
 
 mod loan_slots;
+mod message_slots;
 mod open_ports;
 mod places;
 mod ports;
@@ -14,12 +15,13 @@ mod sample_slots;
 mod state;
 mod subscriber_state;
 
-pub use loan_slots::{LoanAt, LoanSlot};
+pub use loan_slots::LoanAt;
+pub use message_slots::MessageSlot;
 pub use places::{free_place, key_in, put_at_place, reserve_place};
 pub use ports::{
     Port, PortAt, is_due_at, key_at, make_all_due, reserve_key_at, set_key_at, settle,
 };
 pub use publisher_state::PublisherState;
-pub use sample_slots::{MessageSlot, Receipt, SampleAt, SampleSlot};
+pub use sample_slots::{Receipt, SampleAt, SampleSlot};
 pub use state::DomainState;
 pub use subscriber_state::SubscriberState;

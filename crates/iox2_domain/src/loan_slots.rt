@@ -3,6 +3,7 @@ ghost use Rattle.std.specs.Prelude.{IsTrue, ◌≡◌, ◌↔◌, IfSome, MatchO
 ghost use Rattle.iox2_domain.specs.Invariant.{is_lent};
 ghost use Rattle.iox2_domain.specs.LoanSlots.{IsLoanSlot, IsInNoSlot};
 
+use crate::message_slots::MessageSlot;
 use crate::state::DomainState;
 use iox2_store::{SlotBook, SlotMark, UniquePublisherId};
 
@@ -21,13 +22,6 @@ pub struct LoanAt {
     pub slot: usize,
 }
 
-/// Where a loan lies: the key of its publisher's book, and its slot.
-#[derive(Clone, Copy)]
-pub struct LoanSlot {
-    pub book: usize,
-    pub slot: usize,
-}
-
 impl<T: Drop, U: Default + Drop> DomainState<T, U> {
     ghost use Rattle.iox2_store.specs.machine.SingleCalls.{HoldsLoan};
     ghost use Rattle.iox2_domain.specs.Kept.{state_of};
@@ -37,7 +31,7 @@ impl<T: Drop, U: Default + Drop> DomainState<T, U> {
 
     /// Where a publisher's loan lies, and `None` where it isn't out.
     #[inline(never)]
-    pub fn find_loan(&self, publisher: UniquePublisherId, number: u128) -> Option<LoanSlot>
+    pub fn find_loan(&self, publisher: UniquePublisherId, number: u128) -> Option<MessageSlot>
         requires { IsDomain self.now }
         ensures { MatchOption result (HoldsLoan (state_of (kept_of self.now)) publisher number → ⊥) (λ at. LiesInSlot self.now publisher number at.book at.slot) }
     {
@@ -45,7 +39,7 @@ impl<T: Drop, U: Default + Drop> DomainState<T, U> {
         let lender = self.publishers[place].as_ref()?;
         let book = &self.books[lender.book];
         let slot = find_slot(book, &lender.loans, number)?;
-        Some(LoanSlot {
+        Some(MessageSlot {
             book: lender.book,
             slot,
         })
@@ -53,13 +47,13 @@ impl<T: Drop, U: Default + Drop> DomainState<T, U> {
 
     // Where a live loan's book and slot say that it lies, if it lies there. No loan is gone through:
     // no other slot in use has its number.
-    fn loan_at_hint(&self, loan: &LoanAt) -> Option<LoanSlot>
+    fn loan_at_hint(&self, loan: &LoanAt) -> Option<MessageSlot>
         requires domain { IsDomain self.now }
         requires live { HoldsLoan (state_of (kept_of self.now)) loan.now.publisher loan.now.number }
         ensures { IfSome result (λ at. LiesInSlot self.now loan.now.publisher loan.now.number at.book at.slot) }
     {
         if self.books.get(loan.book)?.has(loan.slot, loan.number) {
-            return Some(LoanSlot {
+            return Some(MessageSlot {
                 book: loan.book,
                 slot: loan.slot,
             });
@@ -68,7 +62,7 @@ impl<T: Drop, U: Default + Drop> DomainState<T, U> {
     }
 
     /// Where a loan lies that is live. Its book and its slot are tested first, by the number alone.
-    pub fn find_live_loan(&self, loan: &LoanAt) -> LoanSlot
+    pub fn find_live_loan(&self, loan: &LoanAt) -> MessageSlot
         requires domain { IsDomain self.now }
         requires live { HoldsLoan (state_of (kept_of self.now)) loan.now.publisher loan.now.number }
         ensures { LiesInSlot self.now loan.now.publisher loan.now.number result.book result.slot }

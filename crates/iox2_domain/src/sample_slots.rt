@@ -2,6 +2,7 @@
 ghost use Rattle.std.specs.Prelude.{◌<◌, ◌↔◌, ℕ, length, Contains, IsTrue, MatchOption};
 ghost use Rattle.iox2_domain.specs.SampleSlots.{HasNoneNumbered, IsNumberedSlot};
 
+use crate::message_slots::MessageSlot;
 use crate::state::DomainState;
 use iox2_store::{Connection, SlotBook, UniquePublisherId, UniqueSubscriberId};
 
@@ -38,13 +39,6 @@ pub struct SampleSlot {
     pub slot: usize,
 }
 
-/// Where a message lies: the key of its publisher's book, and its slot.
-#[derive(Clone, Copy)]
-pub struct MessageSlot {
-    pub book: usize,
-    pub slot: usize,
-}
-
 // The borrowed slot with a number.
 fn find_borrowed(connection: &Connection, book: &SlotBook, number: u128) -> Option<usize>
     requires { (slot : ℕ) → Contains connection.now.borrowed slot → slot < length book.now.holders }
@@ -65,7 +59,7 @@ impl<T: Drop, U: Default + Drop> DomainState<T, U> {
     ghost use Rattle.iox2_domain.specs.Kept.{state_of};
     ghost use Rattle.iox2_domain.specs.Fields.{kept_of};
     ghost use Rattle.iox2_domain.specs.Invariant.{HasNumber, IsDomain};
-    ghost use Rattle.iox2_domain.specs.SampleSlots.{BorrowsAt, LiesAtHint, LiesBorrowed, LiesInSlot};
+    ghost use Rattle.iox2_domain.specs.SampleSlots.{BorrowsAt, LiesAtHint, LiesBorrowed, LiesBorrowedInSlot};
 
     // Where the message lies that the subscriber has borrowed in the connection at the key.
     fn find_sample_at(
@@ -133,7 +127,7 @@ impl<T: Drop, U: Default + Drop> DomainState<T, U> {
     pub fn find_message(&self, sample: &SampleAt) -> MessageSlot
         requires domain { IsDomain self.now }
         requires live { HoldsSample (state_of (kept_of self.now)) sample.now.subscriber sample.now.number }
-        ensures { LiesInSlot self.now sample.now.subscriber sample.now.number result }
+        ensures { LiesBorrowedInSlot self.now sample.now.subscriber sample.now.number result }
     {
         if self.is_at_slot(sample) {
             return MessageSlot {

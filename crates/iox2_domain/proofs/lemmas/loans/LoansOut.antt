@@ -7,7 +7,7 @@ use Rattle.iox2_store.specs.machine.SingleCalls.{HoldsLoan}
 use Rattle.iox2_domain.specs.Kept.{state_of}
 use Rattle.iox2_domain.specs.Fields.{Fields, kept_of, contents_at}
 use Rattle.iox2_domain.specs.LoanSlots.{LiesInSlot}
-use Rattle.iox2_domain.specs.declared.loan_slots.LoanSlot.{LoanSlot}
+use Rattle.iox2_domain.specs.declared.message_slots.MessageSlot.{MessageSlot}
 use Rattle.iox2_domain.proofs.lemmas.slots.Messages.{message_in-parts}
 use Rattle.iox2_domain.proofs.lemmas.slots.RecountedState.{loan-publisher}
 
@@ -21,7 +21,7 @@ module _ {T U : Type 0} (f : Fields T U) (p n : ℕ) where
   )
 
   -- whether something was found says whether it is out
-  pub found-out : (o : Option LoanSlot) → MatchOption o (HoldsLoan (state_of (kept_of f)) p n → ⊥) (λ at. LiesInSlot f p n at.book at.slot)
+  pub found-out : (o : Option MessageSlot) → MatchOption o (HoldsLoan (state_of (kept_of f)) p n → ⊥) (λ at. LiesInSlot f p n at.book at.slot)
       → (r : Bool) → r ≡ is_some o → IsTrue r ↔ HoldsLoan (state_of (kept_of f)) p n
   found-out None none r is = (λ yes. absurd (true≢false (sym yes ∙ is)), λ live. absurd (none live))
   found-out (Some at) lies r is = (λ yes. lies-out at.book at.slot lies, λ live. is)

@@ -10,7 +10,7 @@ use Rattle.iox2_store.specs.machine.SingleCalls.{HoldsSample}
 use Rattle.iox2_domain.specs.Kept.{state_of}
 use Rattle.iox2_domain.specs.Fields.{Fields, kept_of, numbers_of}
 use Rattle.iox2_domain.specs.Invariant.{HasNumber, IsDomain}
-use Rattle.iox2_domain.specs.SampleSlots.{LiesBorrowed, LiesInSlot}
+use Rattle.iox2_domain.specs.SampleSlots.{LiesBorrowed, LiesBorrowedInSlot}
 use Rattle.iox2_domain.specs.declared.sample_slots.SampleSlot.{SampleSlot}
 use Rattle.iox2_domain.proofs.lemmas.slots.ConnectionSlots.{book-numbers}
 use Rattle.iox2_domain.proofs.lemmas.slots.NumbersInUse.{contains-map_there}
@@ -46,7 +46,7 @@ module _ {T U : Type 0} (f : Fields T U) (sound : IsDomain f) (q n : ℕ) (live 
       )
 
   -- so it lies in any slot in use that has its number
-  pub lies-in-slot : (book slot : ℕ) → HasNumber f.books book slot n → LiesInSlot f q n (record { book = book; slot = slot })
+  pub lies-in-slot : (book slot : ℕ) → HasNumber f.books book slot n → LiesBorrowedInSlot f q n (record { book = book; slot = slot })
   lies-in-slot book slot has =
       let at = live-lies.0 in
       let lies = live-lies.1 in
