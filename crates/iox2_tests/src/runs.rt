@@ -10,25 +10,29 @@ use crate::fixtures::settings;
 use iox2_pubsub::Domain;
 use iox2_runs::{Command, Reply, run};
 use iox2_store::{
-    AllocationStrategy, BackpressureStrategy, DegradationAction, UniquePublisherId,
-    UniqueSubscriberId,
+    AllocationStrategy, BackpressureStrategy, DegradationAction, PublisherCreateError,
+    UniquePublisherId, UniqueSubscriberId,
 };
 use std::alloc::Global;
 
+const CREATE_SUBSCRIBER: Command<u64, u8> = Command::CreateSubscriber {
+    buffer: Some(1),
+    degradation: DegradationAction::Warn,
+};
+
+const CREATE_PUBLISHER: Command<u64, u8> = Command::CreatePublisher {
+    loans: 1,
+    strategy: BackpressureStrategy::DiscardData,
+    allocation: AllocationStrategy::Static,
+    initial_max_slice_len: 1,
+    override_slots: None,
+    degradation: DegradationAction::Warn,
+    backpressure: None,
+};
+
 const COMMANDS: [Command<u64, u8>; 9] = [
-    Command::CreateSubscriber {
-        buffer: Some(1),
-        degradation: DegradationAction::Warn,
-    },
-    Command::CreatePublisher {
-        loans: 1,
-        strategy: BackpressureStrategy::DiscardData,
-        allocation: AllocationStrategy::Static,
-        initial_max_slice_len: 1,
-        override_slots: None,
-        degradation: DegradationAction::Warn,
-        backpressure: None,
-    },
+    CREATE_SUBSCRIBER,
+    CREATE_PUBLISHER,
     Command::LoanUninit { of: 1 },
     Command::WriteAll { of: 2, value: 5 },
     Command::Send { of: 2 },
@@ -98,19 +102,8 @@ fn a_command_that_names_nothing_is_skipped(rt: HostRuntime) {
 }
 
 const CALLS_BESIDE: [Command<u64, u8>; 12] = [
-    Command::CreateSubscriber {
-        buffer: Some(1),
-        degradation: DegradationAction::Warn,
-    },
-    Command::CreatePublisher {
-        loans: 1,
-        strategy: BackpressureStrategy::DiscardData,
-        allocation: AllocationStrategy::Static,
-        initial_max_slice_len: 1,
-        override_slots: None,
-        degradation: DegradationAction::Warn,
-        backpressure: None,
-    },
+    CREATE_SUBSCRIBER,
+    CREATE_PUBLISHER,
     Command::Update { of: 0 },
     Command::Update { of: 1 },
     Command::LoanUninit { of: 1 },
@@ -144,5 +137,24 @@ fn calls_beside_the_path_of_a_message_are_carried_out(rt: HostRuntime) {
         Reply::Done,
         Reply::Has(false),
     ];
+    assert!(rt; replies.as_slice() == expected.as_slice());
+}
+
+// What the first run made still counts.
+#[test]
+fn a_second_run_names_nothing_that_the_first_made(rt: HostRuntime) {
+    let mut domain: Domain<u64, u8> = Domain::new(rt.alloc(), settings()).expect(&rt, "a domain");
+    let first = Vec::from_array(rt.alloc(), [CREATE_PUBLISHER]).expect(&rt, "commands");
+    let made = replies_to_numbers(rt.alloc(), &mut domain, first);
+    let commands = [CREATE_PUBLISHER, Command::Update { of: 0 }];
+    let second = Vec::from_array(rt.alloc(), commands).expect(&rt, "commands");
+    let outcome = replies_to_numbers(rt.alloc(), &mut domain, second);
+    drop(domain);
+    let made = made.ok().expect(&rt, "replies");
+    let expected: [Reply<u64, u8>; 1] = [Reply::PublisherMade(UniquePublisherId::new(1))];
+    assert!(rt; made.as_slice() == expected.as_slice());
+    let replies = outcome.ok().expect(&rt, "replies");
+    let refusal = PublisherCreateError::ExceedsMaxSupportedPublishers;
+    let expected: [Reply<u64, u8>; 2] = [Reply::PublisherRefused(refusal), Reply::Skipped];
     assert!(rt; replies.as_slice() == expected.as_slice());
 }

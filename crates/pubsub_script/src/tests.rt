@@ -1,5 +1,7 @@
 mod arrivals;
+mod buffers;
 mod calls;
+mod neighbours;
 mod plan;
 mod ports;
 mod streams;

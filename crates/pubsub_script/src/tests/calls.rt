@@ -63,10 +63,7 @@ fn a_discarded_loan_frees_its_slot(rt: HostRuntime) -> Result<(), Fail> {
     write!(plan.text, "pub 1 discard")?;
     plan.end("ok")?;
     for value in 5..=6 {
-        let loan = plan.call("loan", 2, "ok")?;
-        write!(plan.text, "write {loan} {value}")?;
-        plan.end("ok")?;
-        plan.call("send", loan, "ok 1")?;
+        plan.send(rt.alloc(), 2, value, 1)?;
         for _ in 0..10 {
             let other = plan.call("loan", 2, "ok")?;
             plan.call("discard", other, "ok")?;

@@ -39,6 +39,22 @@ impl Plan {
         Ok(self.commands)
     }
 
+    /// Adds a message, from its loan to its send, which so many subscribers take.
+    pub(super) fn send(
+        &mut self,
+        alloc: Global,
+        publisher: usize,
+        value: usize,
+        takers: usize,
+    ) -> Result<(), Fail> {
+        let loan = self.call("loan", publisher, "ok")?;
+        write!(self.text, "write {loan} {value}")?;
+        self.end("ok")?;
+        let reply = format!(in alloc; "ok {takers}")?;
+        self.call("send", loan, &reply)?;
+        Ok(())
+    }
+
     /// Asserts that the script prints these lines, and nothing else.
     pub(super) fn assert(&self, rt: &impl Abort, alloc: Global) {
         Outcome::of(alloc, self.text.as_slice()).assert(rt, 0, self.replies.as_slice(), b"");

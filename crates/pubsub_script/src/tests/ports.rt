@@ -63,22 +63,6 @@ fn value_of(publisher: usize, index: usize) -> usize {
     publisher.saturating_mul(10).saturating_add(index)
 }
 
-/// A publisher sends a message, which so many subscribers take.
-fn send(
-    alloc: Global,
-    plan: &mut Plan,
-    publisher: usize,
-    value: usize,
-    takers: usize,
-) -> Result<(), Fail> {
-    let loan = plan.call("loan", publisher, "ok")?;
-    write!(plan.text, "write {loan} {value}")?;
-    plan.end("ok")?;
-    let reply = format!(in alloc; "ok {takers}")?;
-    plan.call("send", loan, &reply)?;
-    Ok(())
-}
-
 /// Each publisher sends its messages, the last of which finds every buffer full.
 fn send_all(alloc: Global, plan: &mut Plan, ports: Ports) -> Result<(), Fail> {
     for publisher in 1..=ports.publishers {
@@ -87,7 +71,7 @@ fn send_all(alloc: Global, plan: &mut Plan, ports: Ports) -> Result<(), Fail> {
                 Mode::Keep if index >= BUFFER => 0,
                 _ => ports.subscribers,
             };
-            send(alloc, plan, publisher, value_of(publisher, index), takers)?;
+            plan.send(alloc, publisher, value_of(publisher, index), takers)?;
         }
     }
     Ok(())
