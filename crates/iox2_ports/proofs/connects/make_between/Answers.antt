@@ -1,8 +1,9 @@
-use Rattle.std.proofs.Common.{◌∙◌, ap, sym, subst, get_or}
+use Rattle.std.proofs.Common.{◌<◌, ◌∙◌, ℕ, ap, sym, subst, get_or}
 use Rattle.std.proofs.lemmas.List.{with_items_is}
 use Rattle.std.specs.declared.option.Option.TheVariants.{None}
 use Rattle.std.specs.Prelude.{IfOk}
 use Rattle.iox2_domain.specs.Fields.{Fields}
+use Rattle.iox2_domain.specs.Invariant.{connection_count}
 use Rattle.iox2_domain.specs.Updates.{MakesConnection}
 use Rattle.iox2_domain.proofs.lemmas.updates.MadeRoom.{always, gets-sender-room, gets-receiver-room, keeps-receiver-room, makes-room}
 use Rattle.iox2_ports.proofs.connects.make_between.Goals as goal
@@ -50,3 +51,10 @@ returns-clause-made g c =
     subst (λ (f : Fields g.row.T.Denot g.row.U.Denot).
     IfOk c.make_connection.result (λ key. MakesConnection f.connections c.args.home c.args.buffer f.config.subscriber_max_borrowed_samples key c.make_connection.new.connections))
     c.state.view_is c.make_connection.ensures.made
+
+pub returns-clause-expired_room : goal.returns-clause-expired_room
+returns-clause-expired_room g c =
+    let subscribers = with_items_is c.state.inside.subscribers c.reserve_connection_at.new.subscribers (c.reserve_connection_at.auto.subscribers ∙ c.deref_mut-2.ensures.len) in
+    let counted = c.connection_count-others.ensures ∙ ap (λ (f : Fields g.row.T.Denot g.row.U.Denot). connection_count f.connections c.args.home.subscriber) c.state.view_is in
+    always c.make_connection.result (λ y at. subst (λ (n : ℕ). n < y.expired_room) counted
+    (c.in_ok-reserve_connection_at.ensures.expired_room y (sym (ap (λ zs. get_or zs c.args.subscriber_place None) subscribers) ∙ at)))
