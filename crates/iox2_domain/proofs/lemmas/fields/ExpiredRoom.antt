@@ -4,14 +4,13 @@ use Rattle.std.proofs.lemmas.Bool.{cases_eq, eq-eqb, ne_eqb}
 use Rattle.std.proofs.lemmas.List.Sums.{sum_by-cons}
 use Rattle.std.specs.List.{sum_by}
 use Rattle.std.specs.Option.{option_map}
-use Rattle.slab.specs.Slab.{Slab, get}
-use Rattle.iox2_store.specs.Link.{Link, empty_link}
+use Rattle.slab.specs.Slab.{Slab, Updates, get}
+use Rattle.iox2_store.specs.Link.{Link}
 use Rattle.iox2_store.specs.declared.connection.Home.{Home}
 use Rattle.iox2_ends.specs.Homes.{SameHomes, fixed_of}
 use Rattle.iox2_domain.specs.Ports.{SubscriberFields}
 use Rattle.iox2_domain.specs.Fields.{Fields}
 use Rattle.iox2_domain.specs.Invariant.{IsDomain, HasExpiredRoom, connection_count, one_if_receivers}
-use Rattle.iox2_domain.specs.Updates.{MakesConnection}
 use Rattle.iox2_domain.proofs.lemmas.fields.Standing.{one-subscriber}
 use Rattle.iox2_domain.proofs.lemmas.updates.MadeConnections.{sum-updated}
 
@@ -47,20 +46,20 @@ count-none connections q others = sum-alike (one_if_receivers q) refl [] connect
   by (Some c) other = rw (ne_eqb c.home.subscriber q (other c refl)) refl
 
 -- a connection that is made finds room where its subscriber had room for one key more
-pub room-made : (subscribers : List (Option SubscriberFields)) (old new : Slab Link) (home : Home) (buffer limit key : ℕ) → MakesConnection old home buffer limit key new
-    → ((i : ℕ) (y : SubscriberFields) → get_or subscribers i None ≡ Some y → y.id ≡ home.subscriber → connection_count old y.id < y.expired_room)
+pub room-made : (subscribers : List (Option SubscriberFields)) (old new : Slab Link) (key : ℕ) (c : Link) → get old key ≡ None → Updates old new key (Some c)
+    → ((i : ℕ) (y : SubscriberFields) → get_or subscribers i None ≡ Some y → y.id ≡ c.home.subscriber → connection_count old y.id < y.expired_room)
     → HasExpiredRoom subscribers old → HasExpiredRoom subscribers new
-room-made subscribers old new home buffer limit key made more room = record {
+room-made subscribers old new key c was_free made more room = record {
   at = λ i y here.
-      let sums = sum-updated (one_if_receivers y.id) refl old.slots new.slots key made.made.others in
-      let then : one_if_receivers y.id (get old key) ≡ 0 = ap (one_if_receivers y.id) made.was_free in
-      let now : one_if_receivers y.id (get new key) ≡ one_if_receivers y.id (Some (empty_link home buffer limit)) = ap (one_if_receivers y.id) made.made.changed in
-      elim (cases_eq y.id home.subscriber) [
+      let sums = sum-updated (one_if_receivers y.id) refl old.slots new.slots key made.others in
+      let then : one_if_receivers y.id (get old key) ≡ 0 = ap (one_if_receivers y.id) was_free in
+      let now : one_if_receivers y.id (get new key) ≡ one_if_receivers y.id (Some c) = ap (one_if_receivers y.id) made.changed in
+      elim (cases_eq y.id c.home.subscriber) [
         | inl its ↦
-            let one : one_if_receivers y.id (Some (empty_link home buffer limit)) ≡ 1 = rw (eq-eqb home.subscriber y.id (sym its)) refl in
+            let one : one_if_receivers y.id (Some c) ≡ 1 = rw (eq-eqb c.home.subscriber y.id (sym its)) refl in
             omega (arith, sums, then, now, one, more i y here its)
         | inr other ↦
-            let none : one_if_receivers y.id (Some (empty_link home buffer limit)) ≡ 0 = rw (ne_eqb home.subscriber y.id (λ e. other (sym e))) refl in
+            let none : one_if_receivers y.id (Some c) ≡ 0 = rw (ne_eqb c.home.subscriber y.id (λ e. other (sym e))) refl in
             omega (arith, sums, then, now, none, room.at i y here)
       ];
 }

@@ -134,7 +134,7 @@ module _ {T U : Type 0} (environment : Environment) (f : Fields T U) (sound : Is
             extends = extends-made key new made;
             grows = le_refl y.key_room;
             expired_grows = le_refl y.expired_room;
-            rooms = room-made f.subscribers f.connections new (home_of i j x y) y.buffer most key made (room-here f sound j y at_y room_expired) sound.expired_room;
+            rooms = room-made f.subscribers f.connections new key link made.was_free made.made (room-here f sound j y at_y room_expired) sound.expired_room;
             linked = linked-with new key link (receiver_linked f.connections new (extends-made key new made) y.id most y.keys (sound.linked.receivers j y at_y)) made.made.changed refl refl;
             places = places-with new key link (extends-made key new made) made.made.changed refl;
             keeps = set_place-keeps y.keys i key none;

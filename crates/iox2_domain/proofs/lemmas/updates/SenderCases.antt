@@ -118,7 +118,7 @@ module _ {T U : Type 0} (environment : Environment) (f : Fields T U) (sound : Is
           steps-connect environment f sound i j x y at_x at_y due (keys_with key) new f.warnings None (record {
             extends = extends key new made;
             grows = le_refl x.key_room;
-            rooms = room-made f.subscribers f.connections new (home_of i j x y) y.buffer most key made (room-here f sound j y at_y room_expired) sound.expired_room;
+            rooms = room-made f.subscribers f.connections new key link made.was_free made.made (room-here f sound j y at_y room_expired) sound.expired_room;
             linked = linked-with new key link (sender_linked f.connections new (extends key new made) x.id x.keys (sound.linked.senders i x at_x)) made.made.changed refl refl;
             keeps = set_place-keeps x.keys j key none;
             news = λ k c at. elim (made-news f.connections new (home_of i j x y) y.buffer most key sound.apart nobody made k c at) [
