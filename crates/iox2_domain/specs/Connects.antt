@@ -14,17 +14,18 @@ use Rattle.iox2_domain.specs.Ports.{PublisherFields, SubscriberFields}
 use Rattle.iox2_domain.specs.Kept.{state_of}
 use Rattle.iox2_domain.specs.Fields.{Fields, kept_of, publisher_of, subscriber_of}
 use Rattle.iox2_domain.specs.Invariant.{IsDomain}
-use Rattle.iox2_domain.specs.Updates.{changed_at, with_sender_room, with_receiver_room, sender_room, receiver_room, publisher_but_room, subscriber_but_room}
+use Rattle.iox2_domain.specs.Updates.{changed_at, with_sender_room, with_receiver_rooms, sender_room, receiver_room, expired_room_at, publisher_but_room, subscriber_but_room}
 use Rattle.iox2_domain.specs.Reaches.{Reaches}
 
 module _ {T U : Type 0} where
-  -- The ports at the places i and j may have got more room for keys. Nothing else changed but connections.
+  -- The ports at the places i and j may have got more room for keys, and the subscriber for expired ones. Nothing else changed but connections.
   pub record MakesRoom (f : Fields T U) (i j : ℕ) (f' : Fields T U) : Type 0 where
     pub sender : sender_room f.publishers i ≤ sender_room f'.publishers i
     pub receiver : receiver_room f.subscribers j ≤ receiver_room f'.subscribers j
+    pub expired : expired_room_at f.subscribers j ≤ expired_room_at f'.subscribers j
     pub fields : f' ≡ record f {
       publishers = changed_at (with_sender_room (sender_room f'.publishers i)) f.publishers i;
-      subscribers = changed_at (with_receiver_room (receiver_room f'.subscribers j)) f.subscribers j;
+      subscribers = changed_at (with_receiver_rooms (receiver_room f'.subscribers j) (expired_room_at f'.subscribers j)) f.subscribers j;
       connections = f'.connections;
     }
 
@@ -49,7 +50,8 @@ module _ {T U : Type 0} (environment : Environment) where
     pub agrees : IsDomain f'
     pub keys : List (Option ℕ)
     pub key_room : ℕ
-    pub fields : f' ≡ record f { subscribers = slice_set f.subscribers j (Some (record y { keys = keys; key_room = key_room })); publishers = f'.publishers; connections = f'.connections; warnings = f'.warnings }
+    pub expired_room : ℕ
+    pub fields : f' ≡ record f { subscribers = slice_set f.subscribers j (Some (record y { keys = keys; key_room = key_room; expired_room = expired_room })); publishers = f'.publishers; connections = f'.connections; warnings = f'.warnings }
     pub others : map (option_map publisher_but_room) f'.publishers ≡ map (option_map publisher_but_room) f.publishers
     pub side : ReceiverSide
     pub settled : side.is_due ≡ false
@@ -77,5 +79,6 @@ module _ {T U : Type 0} (environment : Environment) where
     pub reaches : Reaches f f' after
     pub keys : List (Option ℕ)
     pub key_room : ℕ
-    pub fields : f' ≡ record f { subscribers = slice_set f.subscribers j (Some (record y { keys = keys; key_room = key_room; is_due = false })); publishers = f'.publishers; connections = f'.connections; warnings = f'.warnings }
+    pub expired_room : ℕ
+    pub fields : f' ≡ record f { subscribers = slice_set f.subscribers j (Some (record y { keys = keys; key_room = key_room; expired_room = expired_room; is_due = false })); publishers = f'.publishers; connections = f'.connections; warnings = f'.warnings }
     pub others : map (option_map publisher_but_room) f'.publishers ≡ map (option_map publisher_but_room) f.publishers

@@ -91,6 +91,20 @@ pub record IsLinked {T U : Type 0} (f : Fields T U) : Type 0 where
   -- Slots that were given back lie where their publisher reclaims them.
   pub returned : (key : ℕ) (c : Link) → get f.connections key ≡ Some c → SenderHas f.publishers key c ⊎ (c.returned ≡ [])
 
+-- One where the connection is the subscriber q's.
+abbrev pub one_if_receivers : (q : ℕ) → Option Link → ℕ
+one_if_receivers q None = 0
+one_if_receivers q (Some c) = cond (c.home.subscriber == q) 1 0
+
+-- How many connections the subscriber q has.
+abbrev pub connection_count : Slab Link → (q : ℕ) → ℕ
+connection_count connections q = sum_by (one_if_receivers q) connections.slots
+
+-- Each subscriber's list of expired keys has room for as many keys as it has connections, so that each of them may expire
+-- with no allocation.
+pub record HasExpiredRoom (subscribers : List (Option SubscriberFields)) (connections : Slab Link) : Type 0 where
+  pub at : (i : ℕ) (y : SubscriberFields) → slice_index_or subscribers i None ≡ Some y → connection_count connections y.id ≤ y.expired_room
+
 -- ---- books
 
 -- The book is aligned, and there are contents for each of its slots.
@@ -222,6 +236,7 @@ pub record IsDomain {T U : Type 0} (f : Fields T U) : Type 0 where
   pub subscriber_ids : (q : ℕ) → IsOnly (is_subscriber q) f.subscribers
   pub apart : IsApart f.connections
   pub linked : IsLinked f
+  pub expired_room : HasExpiredRoom f.subscribers f.connections
   pub books : HasBooks f
   pub names : NamesBooks f.books f.connections
   pub counted : IsCounted f

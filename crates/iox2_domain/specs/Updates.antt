@@ -29,6 +29,10 @@ with_sender_room room x = record x { key_room = room }
 abbrev pub with_receiver_room : (room : ℕ) → SubscriberFields → SubscriberFields
 with_receiver_room room y = record y { key_room = room }
 
+-- The subscriber, with room for so many keys and so many expired ones.
+abbrev pub with_receiver_rooms : (room expired_room : ℕ) → SubscriberFields → SubscriberFields
+with_receiver_rooms room expired_room y = record y { key_room = room; expired_room = expired_room }
+
 -- How many keys the port at a place has room for, where a port has room for so many.
 abbrev pub room_at : {A : Type 0} → (A → ℕ) → List (Option A) → (at : ℕ) → ℕ
 room_at room ports at = option_map_or room (slice_index_or ports at None) 0
@@ -41,13 +45,17 @@ sender_room publishers at = room_at (λ (x : PublisherFields). x.key_room) publi
 abbrev pub receiver_room : List (Option SubscriberFields) → (at : ℕ) → ℕ
 receiver_room subscribers at = room_at (λ (y : SubscriberFields). y.key_room) subscribers at
 
+-- How many expired keys the subscriber at a place has room for.
+abbrev pub expired_room_at : List (Option SubscriberFields) → (at : ℕ) → ℕ
+expired_room_at subscribers at = room_at (λ (y : SubscriberFields). y.expired_room) subscribers at
+
 -- The publisher, whatever room it has for keys.
 abbrev pub publisher_but_room : PublisherFields → PublisherFields
 publisher_but_room x = with_sender_room 0 x
 
 -- The subscriber, whatever room it has for keys.
 abbrev pub subscriber_but_room : SubscriberFields → SubscriberFields
-subscriber_but_room y = with_receiver_room 0 y
+subscriber_but_room y = with_receiver_rooms 0 0 y
 
 -- The publisher, due no more.
 abbrev pub updated_publisher : PublisherFields → PublisherFields

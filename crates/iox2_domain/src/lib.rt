@@ -24,4 +24,4 @@ pub use ports::{
 pub use publisher_state::PublisherState;
 pub use sample_slots::{Receipt, SampleAt, SampleSlot};
 pub use state::DomainState;
-pub use subscriber_state::SubscriberState;
+pub use subscriber_state::{SubscriberState, reserve_connection_at};

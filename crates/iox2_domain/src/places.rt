@@ -95,7 +95,7 @@ impl<T: Drop, U: Default + Drop> DomainState<T, U> {
 }
 
 /// Makes room for a place, past the end of the list too.
-pub fn reserve_place<A>(places: &mut Vec<Option<A>>, place: usize) -> Result<(), AllocError>
+pub fn reserve_place<A>(places: &mut Vec<A>, place: usize) -> Result<(), AllocError>
     ensures items { places.new.items ≡ places.old.items }
     ensures grows { vec_capacity places.old ≤ vec_capacity places.new }
     ensures room { OnOk result (place < vec_capacity places.new) }

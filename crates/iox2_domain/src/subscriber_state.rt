@@ -1,5 +1,7 @@
 //! What a domain has of a subscriber.
-ghost use Rattle.std.specs.Prelude.{◌≡◌};
+ghost use Rattle.std.specs.Prelude.{◌≡◌, ◌<◌, ◌≤◌, None, Some, length, slice_index_or, OnOk};
+ghost use Rattle.iox2_domain.specs.Ports.{SubscriberFields};
+ghost use Rattle.iox2_domain.specs.Updates.{changed_at, with_receiver_rooms, receiver_room, expired_room_at};
 
 use crate::places::{key_in, put_at_place, reserve_place};
 use crate::ports::Port;
@@ -78,6 +80,40 @@ impl SubscriberState {
             expired: Vec::new(alloc),
             is_due: true,
         }
+    }
+
+    /// Makes room for the key of its connection with the publisher at a place, and for one more
+    /// expired key than so many.
+    pub fn reserve_connection(&mut self, place: usize, count: usize) -> Result<(), AllocError>
+        ensures same { self.new ≡ with_receiver_rooms self.new.key_room self.new.expired_room self.old }
+        ensures grows { self.old.key_room ≤ self.new.key_room }
+        ensures expired_grows { self.old.expired_room ≤ self.new.expired_room }
+        ensures room { OnOk result (place < self.new.key_room) }
+        ensures expired_room { OnOk result (count < self.new.expired_room) }
+    {
+        reserve_place(&mut self.keys, place)?;
+        reserve_place(&mut self.expired, count)
+    }
+}
+
+/// Makes room in the subscriber at a place for the key of its connection with the publisher at
+/// another, and for one more expired key than so many.
+pub fn reserve_connection_at(
+    subscribers: &mut [Option<SubscriberState>],
+    place: usize,
+    other: usize,
+    count: usize,
+) -> Result<(), AllocError>
+    requires stands { place < length subscribers.old }
+    ensures same { subscribers.new ≡ changed_at (with_receiver_rooms (receiver_room subscribers.new place) (expired_room_at subscribers.new place)) subscribers.old place }
+    ensures grows { receiver_room subscribers.old place ≤ receiver_room subscribers.new place }
+    ensures expired_grows { expired_room_at subscribers.old place ≤ expired_room_at subscribers.new place }
+    ensures room { OnOk result ((y : SubscriberFields) → slice_index_or subscribers.new place None ≡ Some y → other < y.key_room) }
+    ensures expired_room { OnOk result ((y : SubscriberFields) → slice_index_or subscribers.new place None ≡ Some y → count < y.expired_room) }
+{
+    match &mut subscribers[place] {
+        Some(subscriber) => subscriber.reserve_connection(other, count),
+        None => Ok(()),
     }
 }
 

@@ -1,15 +1,17 @@
 //! Ports get their connections, one place after the other.
-ghost use Rattle.std.specs.Prelude.{◌≡◌, ◌<◌, false, Some, None, length, slice_index_or, IfOk, OnOk, OnErr};
+ghost use Rattle.std.specs.Prelude.{◌≡◌, ◌<◌, cond, false, Some, None, length, slice_index_or, IfOk, OnOk, OnErr};
+ghost use Rattle.slab.specs.Slab.{get};
 ghost use Rattle.iox2_store.specs.machine.Environments.{fixed_handlers};
 ghost use Rattle.iox2_store.specs.declared.warning.Warning.TheVariants.{ConnectionNotMade};
 ghost use Rattle.iox2_domain.specs.Ports.{PublisherFields, SubscriberFields};
 ghost use Rattle.iox2_domain.specs.Updates.{MakesConnection, StandApart, home_of};
-ghost use Rattle.iox2_domain.specs.Invariant.{IsDomain};
+ghost use Rattle.iox2_domain.specs.Invariant.{IsDomain, connection_count, one_if_receivers};
 ghost use Rattle.iox2_domain.specs.Connects.{MakesRoom, ConnectsSender, ConnectsReceiver};
 
 use crate::warnings::warn;
 use iox2_domain::{
-    DomainState, PublisherState, SubscriberState, key_at, reserve_key_at, set_key_at,
+    DomainState, PublisherState, SubscriberState, key_at, reserve_connection_at, reserve_key_at,
+    set_key_at,
 };
 use iox2_store::{Connection, Home, UniquePublisherId, UniqueSubscriberId, Warning};
 use slab::Slab;
@@ -84,8 +86,31 @@ fn ports_at<T: Drop, U: Default + Drop>(
     )
 }
 
+// How many connections the subscriber has.
+fn connection_count(connections: &Slab<Connection>, subscriber: u128) -> usize
+    ensures { result ≡ connection_count connections.now subscriber }
+{
+    let mut count = 0;
+    for key in 0..connections.capacity() {
+        if is_subscribers(connections, key, subscriber) {
+            count += 1;
+        }
+    }
+    count
+}
+
+// Whether a connection of the subscriber stands at the key.
+fn is_subscribers(connections: &Slab<Connection>, key: usize, subscriber: u128) -> bool
+    ensures { one_if_receivers subscriber (get connections.now key) ≡ cond result 1 0 }
+{
+    match connections.get(key) {
+        Some(connection) => connection.home().subscriber == subscriber,
+        None => false,
+    }
+}
+
 // Makes a connection in which no slot stands, with room for its key in the ports at these places,
-// and returns its key.
+// also where it is to expire, and returns its key.
 fn make_between<T: Drop, U: Default + Drop>(
     state: &mut DomainState<T, U>,
     publisher_place: usize,
@@ -99,11 +124,18 @@ fn make_between<T: Drop, U: Default + Drop>(
     ensures grows { MakesRoom state.old publisher_place subscriber_place state.new }
     ensures sender_room { OnOk result ((x : PublisherFields) → slice_index_or state.new.publishers publisher_place None ≡ Some x → subscriber_place < x.key_room) }
     ensures receiver_room { OnOk result ((y : SubscriberFields) → slice_index_or state.new.subscribers subscriber_place None ≡ Some y → publisher_place < y.key_room) }
+    ensures expired_room { OnOk result ((y : SubscriberFields) → slice_index_or state.new.subscribers subscriber_place None ≡ Some y → connection_count (state.old).connections home.subscriber < y.expired_room) }
     ensures made { IfOk result (λ key. MakesConnection (state.old).connections home buffer (state.old).config.subscriber_max_borrowed_samples key (state.new).connections) }
     ensures refused { OnErr result ((state.new).connections ≡ record (state.old).connections { capacity = (state.new).connections.capacity }) }
 {
+    let others = connection_count(&state.connections, home.subscriber);
     reserve_key_at(&mut state.publishers, publisher_place, subscriber_place)?;
-    reserve_key_at(&mut state.subscribers, subscriber_place, publisher_place)?;
+    reserve_connection_at(
+        &mut state.subscribers,
+        subscriber_place,
+        publisher_place,
+        others,
+    )?;
     let limit = state.config.subscriber_max_borrowed_samples;
     make_connection(state.alloc, &mut state.connections, home, buffer, limit)
 }

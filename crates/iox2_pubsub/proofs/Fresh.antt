@@ -98,6 +98,7 @@ module _ {T U : Type 0} (config : ServiceConfig) (v c v' c' : ℕ) where
     subscriber_ids = λ q. none_only _;
     apart = record { one = λ p q. none_only _ };
     linked = linked;
+    expired_room = record { at = λ i y at. absurd (nothing_at i y at) };
     books = has_books;
     names = record { at = λ key c at. absurd (nothing_at key c at) };
     counted = record { at = λ p slot. refl };

@@ -7,3 +7,4 @@ pub mod SameEnds
 pub mod Standing
 pub mod OpenPorts
 pub mod NamedBooks
+pub mod ExpiredRoom

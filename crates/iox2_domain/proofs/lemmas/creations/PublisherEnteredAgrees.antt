@@ -254,6 +254,7 @@ module _ {T U : Type 0} (f : Fields T U) (place loans loan_room key_room key : â
     subscriber_ids = enters.sound.subscriber_ids;
     apart = enters.sound.apart;
     linked = linked;
+    expired_room = enters.sound.expired_room;
     books = has_books;
     names = names-books f.books books f.connections
         (Î» k b at. (b, still_book f enters.sound slots units key books contents enters.book k b at, refl)) enters.sound.names;

@@ -55,6 +55,7 @@ module _ {T U : Type 0} (f : Fields T U) where
     subscriber_ids = sound.subscriber_ids;
     apart = sound.apart;
     linked = linked sound.linked;
+    expired_room = sound.expired_room;
     books = books sound.books;
     names = names-books f.books _ f.connections (λ k b at. (b, at, refl)) sound.names;
     counted = record { at = sound.counted.at };

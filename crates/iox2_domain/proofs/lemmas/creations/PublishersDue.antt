@@ -140,6 +140,7 @@ module _ {T U : Type 0} (f : Fields T U) where
     subscriber_ids = sound.subscriber_ids;
     apart = sound.apart;
     linked = linked-due sound.linked;
+    expired_room = sound.expired_room;
     books = books-due sound.books;
     names = sound.names;
     counted = counted-due sound.counted;

@@ -14,11 +14,12 @@ use Rattle.iox2_ends.specs.declared.sender.ReceiverDetails.{ReceiverDetails}
 use Rattle.iox2_domain.specs.Ports.{SubscriberFields}
 use Rattle.iox2_domain.specs.Kept.{state_of}
 use Rattle.iox2_domain.specs.Fields.{Fields, kept_of}
-use Rattle.iox2_domain.specs.Invariant.{IsDomain, IsLinked, HasBooks, HasOnlyOpenPorts, SenderHas, ReceiverHas, details_of}
+use Rattle.iox2_domain.specs.Invariant.{IsDomain, IsLinked, HasExpiredRoom, HasBooks, HasOnlyOpenPorts, SenderHas, ReceiverHas, details_of}
 use Rattle.iox2_domain.proofs.lemmas.containers.LookUps.{map-at, viewed}
 use Rattle.iox2_domain.specs.Placed.{placed}
 use Rattle.iox2_domain.proofs.lemmas.fields.Views.{held-before}
 use Rattle.iox2_domain.proofs.lemmas.fields.ConnectionEnds.{subscriber-known}
+use Rattle.iox2_domain.proofs.lemmas.fields.ExpiredRoom.{count-none}
 use Rattle.iox2_domain.proofs.lemmas.containers.Placed.{placed-here}
 use Rattle.iox2_domain.proofs.lemmas.creations.SubscriberEntered.{with_entered_subscriber, newcomer, ids_apart, stood, still}
 
@@ -87,6 +88,16 @@ module _ {T U : Type 0} (f : Fields T U) (sound : IsDomain f) (warnings : Buffer
       | inr old ↦ sound.linked.knows.at key i c d at_c (map-at details_of f.subscribers i ∙ ap (option_map details_of) old ∙ ap Some (sym there.2)) same
     ]
 
+  expired_room-entered : HasExpiredRoom (placed f.subscribers place new) f.connections
+  expired_room-entered = record {
+    at = λ i y at. elim (was i y at) [
+      | inl e ↦ rw e (let none = count-none f.connections f.next_port (λ key c at_c same.
+          let low : c.home.subscriber < f.next_port = subscriber-known f sound key c at_c in
+          absurd (omega arith)) in omega arith)
+      | inr old ↦ sound.expired_room.at i y old
+    ];
+  }
+
   books : HasBooks after
   books = record {
     one_each = sound.books.one_each;
@@ -125,6 +136,7 @@ module _ {T U : Type 0} (f : Fields T U) (sound : IsDomain f) (warnings : Buffer
     subscriber_ids = ids_apart f sound warnings place asked key_room expired_room free;
     apart = sound.apart;
     linked = linked;
+    expired_room = expired_room-entered;
     books = books;
     names = sound.names;
     counted = record { at = sound.counted.at };

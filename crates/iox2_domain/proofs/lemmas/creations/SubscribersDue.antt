@@ -124,6 +124,7 @@ module _ {T U : Type 0} (f : Fields T U) where
     subscriber_ids = λ q. IsOnly-map subscriber_due (is_subscriber q) (is_subscriber q) (λ y. refl) f.subscribers (sound.subscriber_ids q);
     apart = sound.apart;
     linked = linked-due sound.linked;
+    expired_room = record { at = λ i y at. let was = was_there i y at in rw was.2 (sound.expired_room.at i was.0 was.1) };
     books = books-due sound.books;
     names = sound.names;
     counted = record { at = sound.counted.at };

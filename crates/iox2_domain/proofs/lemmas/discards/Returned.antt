@@ -283,6 +283,7 @@ module _ {T U : Type 0} (f : Fields T U) (sound : IsDomain f) (i : ℕ) (x : Pub
     subscriber_ids = parts.subscriber_ids;
     apart = parts.apart;
     linked = changed-linked_same between i x (with_loan_out slot x) here refl (linked-book f x.book b given at keeps_slots parts.linked) keeps.key_room refl;
+    expired_room = parts.expired_room;
     books = changed-books between i x (with_loan_out slot x) here refl (books-changed f x.book b given at keeps_slots parts.books aligned) keeps;
     names = names-books f.books _ f.connections (book-after f x.book b given at keeps_slots) parts.names;
     counted = counted;

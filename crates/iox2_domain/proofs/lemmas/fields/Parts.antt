@@ -9,7 +9,7 @@ use Rattle.iox2_domain.specs.Ports.{PublisherFields, SubscriberFields}
 use Rattle.iox2_domain.specs.Kept.{state_of}
 use Rattle.iox2_domain.specs.Fields.{Fields, kept_of}
 use Rattle.iox2_domain.specs.Shows.{KeepsEntries}
-use Rattle.iox2_domain.specs.Invariant.{IsDomain, HasLoneLoans, IsLinked, HasBooks, NamesBooks, IsCounted, IsNumbered, HasPublisherRoom, HasShapes, IsSupportedConfig, IsPlain, IsPlainSubscriber, HasOnlyOpenPorts, is_publisher, is_subscriber}
+use Rattle.iox2_domain.specs.Invariant.{IsDomain, HasLoneLoans, IsLinked, HasExpiredRoom, HasBooks, NamesBooks, IsCounted, IsNumbered, HasPublisherRoom, HasShapes, IsSupportedConfig, IsPlain, IsPlainSubscriber, HasOnlyOpenPorts, is_publisher, is_subscriber}
 
 -- the fields agree with one another, in the midst of a step
 pub record HasParts {T U : Type 0} (f : Fields T U) : Type 0 where
@@ -17,6 +17,7 @@ pub record HasParts {T U : Type 0} (f : Fields T U) : Type 0 where
   pub subscriber_ids : (q : ℕ) → IsOnly (is_subscriber q) f.subscribers
   pub apart : IsApart f.connections
   pub linked : IsLinked f
+  pub expired_room : HasExpiredRoom f.subscribers f.connections
   pub books : HasBooks f
   pub names : NamesBooks f.books f.connections
   pub counted : IsCounted f
@@ -37,6 +38,7 @@ module _ {T U : Type 0} (f : Fields T U) where
     subscriber_ids = sound.subscriber_ids;
     apart = sound.apart;
     linked = sound.linked;
+    expired_room = sound.expired_room;
     books = sound.books;
     names = sound.names;
     counted = sound.counted;
@@ -57,6 +59,7 @@ module _ {T U : Type 0} (f : Fields T U) where
     subscriber_ids = parts.subscriber_ids;
     apart = parts.apart;
     linked = parts.linked;
+    expired_room = parts.expired_room;
     books = parts.books;
     names = parts.names;
     counted = parts.counted;

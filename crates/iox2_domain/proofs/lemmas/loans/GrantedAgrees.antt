@@ -264,6 +264,7 @@ module _ {T U : Type 0} (f : Fields T U) (sound : IsDomain f) (i : ℕ) (x : Pub
       subscriber_ids = sound.subscriber_ids;
       apart = sound.apart;
       linked = changed-linked_same mid i x new_lender at refl linked keeps.key_room refl;
+      expired_room = sound.expired_room;
       books = changed-books mid i x new_lender at refl taken-books keeps;
       names = names-books f.books _ f.connections (taken-after f sound x slot can user_header) sound.names;
       counted = granted-counted;

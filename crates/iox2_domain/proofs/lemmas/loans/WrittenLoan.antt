@@ -192,6 +192,7 @@ module _ {T U : Type 0} (f : Fields T U) (sound : IsDomain f) (single : (f.confi
         subscriber_ids = sound.subscriber_ids;
         apart = sound.apart;
         linked = linked;
+        expired_room = sound.expired_room;
         books = slot-books f sound key slot at.book at.stands cs at_c Written (written_content value) (λ c. refl);
         names = names-books f.books _ f.connections
             (book-after f key at.book (marked f sound key slot at.book at.stands cs at_c Written (written_content value)) at.stands

@@ -83,4 +83,4 @@ module _ {T U : Type 0} where
   answers-at environment f mid place waits update answer y at =
       let u = update y at in
       answers-after environment f mid y.id u.after u.updates u.reaches waits
-      (answer (record y { keys = u.keys; key_room = u.key_room; is_due = false }) (updated-stands environment f mid place y None u at))
+      (answer (record y { keys = u.keys; key_room = u.key_room; expired_room = u.expired_room; is_due = false }) (updated-stands environment f mid place y None u at))

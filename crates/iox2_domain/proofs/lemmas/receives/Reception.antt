@@ -25,10 +25,10 @@ use Rattle.iox2_domain.proofs.lemmas.fields.ReachesShows.{reaches-then}
 module _ {T U : Type 0} where
   -- the subscriber still stands at its place after its update
   pub updated-stands : (environment : Environment) (f mid : Fields T U) (place : ℕ) (y : SubscriberFields) (failure : Option ConnectionFailure) (u : UpdatesSubscriber environment f place y mid failure) → get_or f.subscribers place None ≡ Some y
-      → get_or mid.subscribers place None ≡ Some (record y { keys = u.keys; key_room = u.key_room; is_due = false })
+      → get_or mid.subscribers place None ≡ Some (record y { keys = u.keys; key_room = u.key_room; expired_room = u.expired_room; is_due = false })
   updated-stands environment f mid place y failure u at =
       ap (λ (h : Fields T U). get_or h.subscribers place None) u.fields
-      ∙ get_or-set_same f.subscribers place (Some (record y { keys = u.keys; key_room = u.key_room; is_due = false })) None (within_if_some f.subscribers place y at)
+      ∙ get_or-set_same f.subscribers place (Some (record y { keys = u.keys; key_room = u.key_room; expired_room = u.expired_room; is_due = false })) None (within_if_some f.subscribers place y at)
 
   -- an update and what is taken after it are a receive
   pub receives-after : (environment : Environment) (f mid new : Fields T U) (q : ℕ) (after : State T U) → UpdateSubscriber environment (state_of (kept_of f)) q after None → Reaches f mid after
@@ -52,7 +52,7 @@ module _ {T U : Type 0} where
       → (y : SubscriberFields) → get_or f.subscribers place None ≡ Some y → ReceivesAs environment f y.id result new
   receives-at environment f mid new place result update take y at =
       let u = update y at in
-      receives-after environment f mid new y.id u.after u.updates u.reaches result (take (record y { keys = u.keys; key_room = u.key_room; is_due = false }) (updated-stands environment f mid place y None u at))
+      receives-after environment f mid new y.id u.after u.updates u.reaches result (take (record y { keys = u.keys; key_room = u.key_room; expired_room = u.expired_room; is_due = false }) (updated-stands environment f mid place y None u at))
 
   -- a message that was received is borrowed
   pub received-borrowed : (environment : Environment) (s : State T U) (q p n : ℕ) (s' : State T U) → Receive environment s q s' (Got_sample p n) → is_borrowed n (s'.mailboxes p q) ≡ true

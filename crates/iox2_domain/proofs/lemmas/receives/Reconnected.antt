@@ -18,6 +18,7 @@ use Rattle.iox2_domain.specs.Fields.{Fields, kept_of, numbers_of}
 use Rattle.iox2_domain.specs.Invariant.{IsDomain, HasBooks, IsCounted, SenderHas, own_holders}
 use Rattle.iox2_domain.specs.Reaches.{Reaches}
 use Rattle.iox2_store.specs.Stored.{IsHeldMessage, In_history, In_mailbox, In_blocked_send}
+use Rattle.iox2_domain.proofs.lemmas.fields.ExpiredRoom.{room-still}
 use Rattle.iox2_domain.proofs.lemmas.fields.NamedBooks.{names-still}
 use Rattle.iox2_domain.proofs.lemmas.fields.SameEnds.{with_connections, connections-are, sender-same, linked-still, open_ports-still}
 use Rattle.iox2_domain.proofs.lemmas.receives.SenderEnds.{sender-has}
@@ -78,6 +79,7 @@ module _ {T U : Type 0} (f : Fields T U) (sound : IsDomain f) (key : ℕ) (c : L
       subscriber_ids = sound.subscriber_ids;
       apart = IsApart-same f.connections new sound.apart same;
       linked = linked-still f new same sound.linked still-returned;
+      expired_room = room-still f.subscribers f.connections new same sound.expired_room;
       books = books-still;
       names = names-still f.books f.connections new same sound.names;
       counted = counted-still;

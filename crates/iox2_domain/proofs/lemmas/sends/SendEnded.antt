@@ -289,6 +289,7 @@ module _ {T U : Type 0} (f : Fields T U) (parts : HasParts f) (i : ℕ) (x : Pub
     subscriber_ids = parts.subscriber_ids;
     apart = parts.apart;
     linked = changed-linked_same between i x (with_loan_out slot x) here refl (linked-book f x.book b (with_sent slot b) at (sent-keeps b slot) parts.linked) keeps.key_room refl;
+    expired_room = parts.expired_room;
     books = changed-books between i x (with_loan_out slot x) here refl (books-changed f x.book b (with_sent slot b) at (sent-keeps b slot) parts.books aligned) keeps;
     names = names-books f.books _ f.connections (book-after f x.book b (with_sent slot b) at (sent-keeps b slot)) parts.names;
     counted = ended-counted;

@@ -20,6 +20,7 @@ use Rattle.iox2_domain.specs.Ports.{PublisherFields}
 use Rattle.iox2_domain.specs.Kept.{KeptMessage}
 use Rattle.iox2_domain.specs.Fields.{Fields, message_in, contents_at, is_book_of}
 use Rattle.iox2_domain.specs.Invariant.{IsCounted, IsNumbered, HasNumber, HasBooks, HasShapes, SenderHas, is_publisher, own_holders, holders_of, is_loan_in}
+use Rattle.iox2_domain.proofs.lemmas.fields.ExpiredRoom.{room-still}
 use Rattle.iox2_domain.proofs.lemmas.fields.NamedBooks.{names-books, names-still}
 use Rattle.iox2_domain.proofs.lemmas.slots.Messages.{message_in-parts, message_in-from, lies_at, message_at-book, message_at-slot}
 use Rattle.iox2_domain.proofs.lemmas.fields.Parts.{HasParts}
@@ -240,6 +241,7 @@ module _ {T U : Type 0} (f : Fields T U) (parts : HasParts f) (p key : ℕ) (b :
     subscriber_ids = parts.subscriber_ids;
     apart = IsApart-same f.connections new parts.apart r.homes;
     linked = linked-book between key b counted_book at keeps (linked-still f new r.homes parts.linked returned-still);
+    expired_room = room-still f.subscribers f.connections new r.homes parts.expired_room;
     books = books-changed between key b counted_book at keeps books-between aligned;
     names = names-books f.books _ new (book-after between key b counted_book at keeps) (names-still f.books f.connections new r.homes parts.names);
     counted = recounted-counted;

@@ -1,4 +1,4 @@
--- Two ports get more room for the keys of their connections, which no state shows.
+-- Two ports get more room for the keys of their connections, and of expired ones, which no state shows.
 use Rattle.std.proofs.Common.{◌≡◌, ◌≤◌, ℕ, List, map, get_or, slice_set, refl, ap, sym, subst, ◌∙◌}
 use Rattle.std.proofs.lemmas.List.{map-set, set-set, set-get_or}
 use Rattle.std.specs.declared.option.Option.{Option}
@@ -16,7 +16,7 @@ use Rattle.iox2_domain.specs.Ports.{PublisherFields, SubscriberFields}
 use Rattle.iox2_domain.specs.Kept.{state_of}
 use Rattle.iox2_domain.specs.Fields.{Fields, kept_of, publisher_of, subscriber_of}
 use Rattle.iox2_domain.specs.Invariant.{IsDomain}
-use Rattle.iox2_domain.specs.Updates.{with_sender_room, with_receiver_room, publisher_but_room, subscriber_but_room}
+use Rattle.iox2_domain.specs.Updates.{with_sender_room, with_receiver_rooms, publisher_but_room, subscriber_but_room}
 use Rattle.iox2_domain.specs.Connects.{ConnectsSender, ConnectsReceiver}
 use Rattle.iox2_domain.proofs.lemmas.containers.LookUps.{map-at}
 use Rattle.iox2_domain.proofs.lemmas.updates.SenderChanges.{fits-grown}
@@ -32,15 +32,15 @@ same-shown g xs i x z at same =
     ∙ ap (slice_set (map (option_map g) xs) i) (ap Some same ∙ sym (map-at g xs i ∙ ap (option_map g) at))
     ∙ set-get_or (map (option_map g) xs) i None
 
-module _ {T U : Type 0} (f : Fields T U) (i j : ℕ) (x : PublisherFields) (y : SubscriberFields) (n m : ℕ) where
+module _ {T U : Type 0} (f : Fields T U) (i j : ℕ) (x : PublisherFields) (y : SubscriberFields) (n m e : ℕ) where
   -- the fields with that room
   abbrev pub grown : Fields T U
   grown = record f {
     publishers = slice_set f.publishers i (Some (with_sender_room n x));
-    subscribers = slice_set f.subscribers j (Some (with_receiver_room m y));
+    subscribers = slice_set f.subscribers j (Some (with_receiver_rooms m e y));
   }
 
-  module _ (sound : IsDomain f) (at_x : get_or f.publishers i None ≡ Some x) (at_y : get_or f.subscribers j None ≡ Some y) (more_x : x.key_room ≤ n) (more_y : y.key_room ≤ m) where
+  module _ (sound : IsDomain f) (at_x : get_or f.publishers i None ≡ Some x) (at_y : get_or f.subscribers j None ≡ Some y) (more_x : x.key_room ≤ n) (more_y : y.key_room ≤ m) (more_e : y.expired_room ≤ e) where
     -- the publisher's room alone
     abbrev sender : Fields T U
     sender = record f { publishers = slice_set f.publishers i (Some (with_sender_room n x)) }
@@ -48,8 +48,8 @@ module _ {T U : Type 0} (f : Fields T U) (i j : ℕ) (x : PublisherFields) (y : 
     shown_publishers : map (option_map (publisher_of f.books f.connections)) (slice_set f.publishers i (Some (with_sender_room n x))) ≡ map (option_map (publisher_of f.books f.connections)) f.publishers
     shown_publishers = same-shown (publisher_of f.books f.connections) f.publishers i x (with_sender_room n x) at_x refl
 
-    shown_subscribers : map (option_map (subscriber_of f.books f.connections)) (slice_set f.subscribers j (Some (with_receiver_room m y))) ≡ map (option_map (subscriber_of f.books f.connections)) f.subscribers
-    shown_subscribers = same-shown (subscriber_of f.books f.connections) f.subscribers j y (with_receiver_room m y) at_y refl
+    shown_subscribers : map (option_map (subscriber_of f.books f.connections)) (slice_set f.subscribers j (Some (with_receiver_rooms m e y))) ≡ map (option_map (subscriber_of f.books f.connections)) f.subscribers
+    shown_subscribers = same-shown (subscriber_of f.books f.connections) f.subscribers j y (with_receiver_rooms m e y) at_y refl
 
     sender-state : state_of (kept_of sender) ≡ state_of (kept_of f)
     sender-state = λ k. state_of (record (kept_of f) { publishers = shown_publishers k })
@@ -66,7 +66,7 @@ module _ {T U : Type 0} (f : Fields T U) (i j : ℕ) (x : PublisherFields) (y : 
     -- the fields agree
     pub grown-sound : IsDomain grown
     grown-sound =
-        receiver-agrees sender sender-sound j y at_y y.keys m y.is_due f.connections f.warnings (receiver_fits-grown sender sender-sound j y at_y f.connections.capacity m more_y) sound.warning_room
+        receiver-agrees sender sender-sound j y at_y y.keys m e y.is_due f.connections f.warnings (receiver_fits-grown sender sender-sound j y at_y f.connections.capacity m e more_y more_e) sound.warning_room
         (subst IsWellFormed (sym grown-state) sound.well_formed)
 
     abbrev P : Publisher
@@ -84,7 +84,7 @@ module _ {T U : Type 0} (f : Fields T U) (i j : ℕ) (x : PublisherFields) (y : 
       fields = step.fields
           ∙ ap (λ (xs : List (Option PublisherFields)). record f { publishers = xs; subscribers = f'.subscribers; connections = f'.connections; warnings = f'.warnings })
           (set-set f.publishers i (Some (with_sender_room n x)) (Some (record x { keys = step.keys; key_room = step.key_room })));
-      others = step.others ∙ same-shown subscriber_but_room f.subscribers j y (with_receiver_room m y) at_y refl;
+      others = step.others ∙ same-shown subscriber_but_room f.subscribers j y (with_receiver_rooms m e y) at_y refl;
       side = step.side;
       steps = subst (λ (s : State T U). UpdateSenderPlace environment (f.config).service_id x.id P.degradation_handler P.history (receiving_buffer s) (has_receiver_end s x.id)
           j (occupant s.subscriber_places j) (sender_side s x.id P) step.side failure) grown-state step.steps;
@@ -92,14 +92,15 @@ module _ {T U : Type 0} (f : Fields T U) (i j : ℕ) (x : PublisherFields) (y : 
     }
 
     -- and a subscriber
-    pub receiver-from : (environment : Environment) (f' : Fields T U) (failure : Option ConnectionFailure) → ConnectsReceiver environment grown j i (with_receiver_room m y) f' failure → ConnectsReceiver environment f j i y f' failure
+    pub receiver-from : (environment : Environment) (f' : Fields T U) (failure : Option ConnectionFailure) → ConnectsReceiver environment grown j i (with_receiver_rooms m e y) f' failure → ConnectsReceiver environment f j i y f' failure
     receiver-from environment f' failure step = record {
       agrees = step.agrees;
       keys = step.keys;
       key_room = step.key_room;
+      expired_room = step.expired_room;
       fields = step.fields
           ∙ ap (λ (ys : List (Option SubscriberFields)). record f { subscribers = ys; publishers = f'.publishers; connections = f'.connections; warnings = f'.warnings })
-          (set-set f.subscribers j (Some (with_receiver_room m y)) (Some (record y { keys = step.keys; key_room = step.key_room })));
+          (set-set f.subscribers j (Some (with_receiver_rooms m e y)) (Some (record y { keys = step.keys; key_room = step.key_room; expired_room = step.expired_room })));
       others = step.others ∙ same-shown publisher_but_room f.publishers i x (with_sender_room n x) at_x refl;
       side = step.side;
       settled = step.settled;

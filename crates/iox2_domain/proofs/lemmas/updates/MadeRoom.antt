@@ -11,7 +11,7 @@ use Rattle.slab.specs.Slab.{Slab}
 use Rattle.iox2_store.specs.Link.{Link}
 use Rattle.iox2_domain.specs.Ports.{PublisherFields, SubscriberFields}
 use Rattle.iox2_domain.specs.Fields.{Fields}
-use Rattle.iox2_domain.specs.Updates.{changed_at, with_sender_room, with_receiver_room, sender_room, receiver_room}
+use Rattle.iox2_domain.specs.Updates.{changed_at, with_sender_room, with_receiver_rooms, sender_room, receiver_room, expired_room_at}
 use Rattle.iox2_domain.specs.Connects.{MakesRoom}
 
 -- what holds in any case holds of an `Ok`
@@ -24,10 +24,11 @@ pub record GetsSenderRoom (xs new : List (Option PublisherFields)) (at : ℕ) : 
   pub same : new ≡ changed_at (with_sender_room (sender_room new at)) xs at
   pub grows : sender_room xs at ≤ sender_room new at
 
--- the subscriber at a place of the list ys got more room for keys, and nothing else changed
+-- the subscriber at a place of the list ys got more room for keys and for expired ones, and nothing else changed
 pub record GetsReceiverRoom (ys new : List (Option SubscriberFields)) (at : ℕ) : Type 0 where
-  pub same : new ≡ changed_at (with_receiver_room (receiver_room new at)) ys at
+  pub same : new ≡ changed_at (with_receiver_rooms (receiver_room new at) (expired_room_at new at)) ys at
   pub grows : receiver_room ys at ≤ receiver_room new at
+  pub expired_grows : expired_room_at ys at ≤ expired_room_at new at
 
 -- also where both lists have another name
 pub gets-sender-room : (xs new xs' new' : List (Option PublisherFields)) (at : ℕ) → xs' ≡ xs → new ≡ new' → GetsSenderRoom xs' new' at → GetsSenderRoom xs new at
@@ -41,8 +42,9 @@ pub keeps-receiver-room : (ys : List (Option SubscriberFields)) (at : ℕ) → G
 keeps-receiver-room ys at = record {
   same = sym (ap (slice_set ys at) (by (get_or ys at None)) ∙ set-get_or ys at None);
   grows = le_refl (receiver_room ys at);
+  expired_grows = le_refl (expired_room_at ys at);
 } where
-  by : (o : Option SubscriberFields) → option_map (with_receiver_room (option_map_or (λ (y : SubscriberFields). y.key_room) o 0)) o ≡ o
+  by : (o : Option SubscriberFields) → option_map (with_receiver_rooms (option_map_or (λ (y : SubscriberFields). y.key_room) o 0) (option_map_or (λ (y : SubscriberFields). y.expired_room) o 0)) o ≡ o
   by None = refl
   by (Some y) = refl
 
@@ -54,5 +56,6 @@ makes-room old inside viewed i j xs ys connections sender receiver =
     subst (λ (f : Fields _ _). MakesRoom f i j (record inside { publishers = xs; subscribers = ys; connections = connections })) viewed (record {
       sender = sender.grows;
       receiver = receiver.grows;
+      expired = receiver.expired_grows;
       fields = λ k. record inside { publishers = sender.same k; subscribers = receiver.same k; connections = connections };
     })

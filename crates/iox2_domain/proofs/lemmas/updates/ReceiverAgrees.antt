@@ -27,15 +27,15 @@ use Rattle.iox2_domain.proofs.lemmas.updates.ReceiverChanges.{FitsReceiver, IsNe
 use Rattle.iox2_domain.proofs.lemmas.fields.Standing.{one-publisher, one-subscriber}
 
 module _ {T U : Type 0} (f : Fields T U) (sound : IsDomain f) (j : ℕ) (y : SubscriberFields) (at : get_or f.subscribers j None ≡ Some y)
-    (keys : List (Option ℕ)) (key_room : ℕ) (is_due : Bool) (connections : Slab Link) (warnings : Buffer Warning) (fits : FitsReceiver f j y keys key_room connections) where
+    (keys : List (Option ℕ)) (key_room expired_room : ℕ) (is_due : Bool) (connections : Slab Link) (warnings : Buffer Warning) (fits : FitsReceiver f j y keys key_room expired_room connections) where
   abbrev changed : SubscriberFields
-  changed = with_keys y keys key_room is_due
+  changed = with_keys y keys key_room expired_room is_due
 
   abbrev subscribers : List (Option SubscriberFields)
   subscribers = slice_set f.subscribers j (Some changed)
 
   abbrev after : Fields T U
-  after = with_receiver f j y keys key_room is_due connections warnings
+  after = with_receiver f j y keys key_room expired_room is_due connections warnings
 
   abbrev New : (key : ℕ) → Link → Type 0
   New key c = IsNewOfReceiver f j y keys key_room key c
@@ -202,6 +202,12 @@ module _ {T U : Type 0} (f : Fields T U) (sound : IsDomain f) (j : ℕ) (y : Sub
     subscriber_ids = λ q. changed-only f.subscribers j y changed at (is_subscriber q) refl (sound.subscriber_ids q);
     apart = fits.extends.apart;
     linked = linked;
+    expired_room = record {
+      at = λ k z at_z. elim (stood k z at_z) [
+        | inl here ↦ rw here.1 (let was_enough = fits.rooms.at j y at in let grows = fits.expired_grows in omega arith)
+        | inr old ↦ fits.rooms.at k z old
+      ];
+    };
     books = books;
     names = record {
       at = λ key c at_c. elim (fits.news key c at_c) [
@@ -226,5 +232,5 @@ module _ {T U : Type 0} (f : Fields T U) (sound : IsDomain f) (j : ℕ) (y : Sub
     well_formed = well;
     entries = λ p n held. sound.entries p n (held-before (state_of (kept_of f)) (state_of (kept_of after)) p n
         (λ q. ap (λ (boxes : ℕ → ℕ → Mailbox). boxes p q) (mailboxes-same f sound connections fits.extends))
-        (λ w at_w. (w, ap (λ (s : State T U). s.publishers p) (sym (receiver-is f sound j y at keys key_room is_due connections warnings fits)) ∙ at_w, record { history = refl; blocked = refl })) held);
+        (λ w at_w. (w, ap (λ (s : State T U). s.publishers p) (sym (receiver-is f sound j y at keys key_room expired_room is_due connections warnings fits)) ∙ at_w, record { history = refl; blocked = refl })) held);
   }

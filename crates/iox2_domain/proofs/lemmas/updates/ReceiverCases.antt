@@ -19,9 +19,10 @@ use Rattle.iox2_ends.specs.Mailboxes.{is_between, receiver_ends, subscriber_of_k
 use Rattle.iox2_domain.specs.Ports.{PublisherFields, SubscriberFields}
 use Rattle.iox2_domain.specs.Kept.{state_of}
 use Rattle.iox2_domain.specs.Fields.{Fields, kept_of, publisher_of, subscriber_of}
-use Rattle.iox2_domain.specs.Invariant.{IsDomain}
+use Rattle.iox2_domain.specs.Invariant.{IsDomain, connection_count}
 use Rattle.iox2_domain.specs.Updates.{MakesConnection, home_of}
 use Rattle.iox2_domain.specs.Connects.{ConnectsReceiver}
+use Rattle.iox2_domain.proofs.lemmas.fields.ExpiredRoom.{room-made, room-here}
 use Rattle.iox2_domain.proofs.lemmas.fields.ConnectionEnds.{publisher-stands, subscriber-stands, occupant-sender_ends}
 use Rattle.iox2_domain.proofs.lemmas.updates.Extensions.{Extends, receiver_linked, receiver_ends-same}
 use Rattle.iox2_domain.proofs.lemmas.containers.ConnectionKeys.{map-set_place, set_place-here, set_place-keeps, set_place-stood}
@@ -104,6 +105,8 @@ module _ {T U : Type 0} (environment : Environment) (f : Fields T U) (sound : Is
         steps-connect environment f sound i j x y at_x at_y due (keys_with key) f.connections f.warnings None (record {
           extends = extends;
           grows = le_refl y.key_room;
+          expired_grows = le_refl y.expired_room;
+          rooms = sound.expired_room;
           linked = linked-with f.connections key joined.0 (sound.linked.receivers j y at_y) own.stands own.subscriber (sound.linked.limits key joined.0 own.stands);
           places = places-with f.connections key joined.0 extends own.stands own.publisher_place;
           keeps = set_place-keeps y.keys i key none;
@@ -124,12 +127,14 @@ module _ {T U : Type 0} (environment : Environment) (f : Fields T U) (sound : Is
       extends-made key new made = made-extends f.connections new (home_of i j x y) y.buffer most key sound.apart nobody made
 
       -- a connection is made
-      pub makes-connection : j < x.key_room → i < y.key_room → (key : ℕ) (new : Slab Link) → MakesConnection f.connections (home_of i j x y) y.buffer (f.config).subscriber_max_borrowed_samples key new
+      pub makes-connection : j < x.key_room → i < y.key_room → connection_count f.connections y.id < y.expired_room → (key : ℕ) (new : Slab Link) → MakesConnection f.connections (home_of i j x y) y.buffer (f.config).subscriber_max_borrowed_samples key new
           → ConnectsReceiver environment f j i y (connected_receiver f j y (set_place y.keys i (Some key)) new f.warnings) None
-      makes-connection room_x room key new made =
+      makes-connection room_x room room_expired key new made =
           steps-connect environment f sound i j x y at_x at_y due (keys_with key) new f.warnings None (record {
             extends = extends-made key new made;
             grows = le_refl y.key_room;
+            expired_grows = le_refl y.expired_room;
+            rooms = room-made f.subscribers f.connections new key link made.was_free made.made (room-here f sound j y at_y room_expired) sound.expired_room;
             linked = linked-with new key link (receiver_linked f.connections new (extends-made key new made) y.id most y.keys (sound.linked.receivers j y at_y)) made.made.changed refl refl;
             places = places-with new key link (extends-made key new made) made.made.changed refl;
             keeps = set_place-keeps y.keys i key none;

@@ -11,8 +11,8 @@ use Rattle.iox2_store.specs.declared.degradation.DegradationAction.{DegradationA
 use Rattle.iox2_store.specs.declared.warning.Warning.{Warning}
 use Rattle.iox2_domain.specs.Ports.{PublisherFields, SubscriberFields}
 use Rattle.iox2_domain.specs.Fields.{Fields}
-use Rattle.iox2_domain.specs.Invariant.{IsDomain}
-use Rattle.iox2_domain.specs.Updates.{changed_at, with_receiver_key, with_sender_room, with_receiver_room, sender_key, receiver_key, sender_room, receiver_room, home_of, MakesConnection, StandApart}
+use Rattle.iox2_domain.specs.Invariant.{IsDomain, connection_count}
+use Rattle.iox2_domain.specs.Updates.{changed_at, with_receiver_key, with_sender_room, with_receiver_rooms, sender_key, receiver_key, sender_room, receiver_room, expired_room_at, home_of, MakesConnection, StandApart}
 use Rattle.iox2_domain.specs.Connects.{ConnectsReceiver, MakesRoom}
 use Rattle.iox2_domain.proofs.lemmas.containers.ChangedRecords.{changed-here}
 use Rattle.iox2_domain.proofs.lemmas.updates.Grown.{grown, grown-sound, receiver-from}
@@ -65,8 +65,11 @@ module _ {T U : Type 0} (environment : Environment) (f : Fields T U) (sound : Is
       abbrev m : ℕ
       m = receiver_room mid.subscribers j
 
+      abbrev e : ℕ
+      e = expired_room_at mid.subscribers j
+
       abbrev g : Fields T U
-      g = grown f i j x y n m
+      g = grown f i j x y n m e
 
       more_x : x.key_room ≤ n
       more_x = subst (λ (k : ℕ). k ≤ n) (ap (λ o. option_map_or (λ (z : PublisherFields). z.key_room) o 0) apart.publisher_stands) rooms.sender
@@ -74,19 +77,22 @@ module _ {T U : Type 0} (environment : Environment) (f : Fields T U) (sound : Is
       more_y : y.key_room ≤ m
       more_y = subst (λ (k : ℕ). k ≤ m) (ap (λ o. option_map_or (λ (z : SubscriberFields). z.key_room) o 0) at_y) rooms.receiver
 
+      more_e : y.expired_room ≤ e
+      more_e = subst (λ (k : ℕ). k ≤ e) (ap (λ o. option_map_or (λ (z : SubscriberFields). z.expired_room) o 0) at_y) rooms.expired
+
       sound-grown : IsDomain g
-      sound-grown = grown-sound f i j x y n m sound apart.publisher_stands at_y more_x more_y
+      sound-grown = grown-sound f i j x y n m e sound apart.publisher_stands at_y more_x more_y more_e
 
       here_x : get_or g.publishers i None ≡ Some (with_sender_room n x)
       here_x = changed-here f.publishers i x (with_sender_room n x) apart.publisher_stands
 
-      here_y : get_or g.subscribers j None ≡ Some (with_receiver_room m y)
-      here_y = changed-here f.subscribers j y (with_receiver_room m y) at_y
+      here_y : get_or g.subscribers j None ≡ Some (with_receiver_rooms m e y)
+      here_y = changed-here f.subscribers j y (with_receiver_rooms m e y) at_y
 
       mid-is : mid ≡ record g { connections = mid.connections }
       mid-is = rooms.fields ∙ (λ k. record f {
         publishers = slice_set f.publishers i (option_map (with_sender_room n) (apart.publisher_stands k));
-        subscribers = slice_set f.subscribers j (option_map (with_receiver_room m) (at_y k));
+        subscribers = slice_set f.subscribers j (option_map (with_receiver_rooms m e) (at_y k));
         connections = mid.connections;
       })
 
@@ -105,18 +111,21 @@ module _ {T U : Type 0} (environment : Environment) (f : Fields T U) (sound : Is
       -- a new one is made
       pub makes-as : ((z : PublisherFields) → get_or mid.publishers i None ≡ Some z → j < z.key_room)
           → ((z : SubscriberFields) → get_or mid.subscribers j None ≡ Some z → i < z.key_room)
+          → ((z : SubscriberFields) → get_or mid.subscribers j None ≡ Some z → connection_count f.connections home.subscriber < z.expired_room)
           → (key : ℕ) → MakesConnection f.connections home size (f.config).subscriber_max_borrowed_samples key mid.connections
           → (f' : Fields T U) → f' ≡ record mid { subscribers = changed_at (with_receiver_key i key) mid.subscribers j } → ConnectsReceiver environment f j i y f' None
-      makes-as room_x room_y key made f' is =
-          receiver-from f i j x y n m sound apart.publisher_stands at_y more_x more_y environment f' None
-          (subst (λ (h : Fields T U). ConnectsReceiver environment g j i (with_receiver_room m y) h None) (sym after)
-          (makes-connection environment g sound-grown i j (with_sender_room n x) (with_receiver_room m y) here_x here_y due no_key no_key_x
+      makes-as room_x room_y room_expired key made f' is =
+          receiver-from f i j x y n m e sound apart.publisher_stands at_y more_x more_y more_e environment f' None
+          (subst (λ (h : Fields T U). ConnectsReceiver environment g j i (with_receiver_rooms m e y) h None) (sym after)
+          (makes-connection environment g sound-grown i j (with_sender_room n x) (with_receiver_rooms m e y) here_x here_y due no_key no_key_x
           (room_x (with_sender_room n x) (ap (λ (h : Fields T U). get_or h.publishers i None) mid-is ∙ here_x))
-          (room_y (with_receiver_room m y) (ap (λ (h : Fields T U). get_or h.subscribers j None) mid-is ∙ here_y)) key mid.connections
+          (room_y (with_receiver_rooms m e y) (ap (λ (h : Fields T U). get_or h.subscribers j None) mid-is ∙ here_y))
+          (subst (λ (h : Home). connection_count f.connections h.subscriber < e) home-is (room_expired (with_receiver_rooms m e y) (ap (λ (h : Fields T U). get_or h.subscribers j None) mid-is ∙ here_y)))
+          key mid.connections
           (subst (λ (h : Home). MakesConnection f.connections h y.buffer (f.config).subscriber_max_borrowed_samples key mid.connections) home-is
           (subst (λ k. MakesConnection f.connections home k (f.config).subscriber_max_borrowed_samples key mid.connections) size-is made))))
         where
-          after : f' ≡ record g { subscribers = slice_set g.subscribers j (Some (with_receiver_key i key (with_receiver_room m y))); connections = mid.connections }
+          after : f' ≡ record g { subscribers = slice_set g.subscribers j (Some (with_receiver_key i key (with_receiver_rooms m e y))); connections = mid.connections }
           after = is
               ∙ (λ k. record (mid-is k) { subscribers = changed_at (with_receiver_key i key) ((mid-is k).subscribers) j })
               ∙ ap (λ o. record g { subscribers = slice_set g.subscribers j (option_map (with_receiver_key i key) o); connections = mid.connections }) here_y
@@ -128,10 +137,10 @@ module _ {T U : Type 0} (environment : Environment) (f : Fields T U) (sound : Is
           → warnings ≡ buffer (warnings_after home.publisher home.subscriber action f.warnings.items) warning_limit
           → (f' : Fields T U) → f' ≡ record mid { warnings = warnings } → ConnectsReceiver environment f j i y f' (failure_of action)
       misses-as may action answers warnings same warned_is f' is =
-          receiver-from f i j x y n m sound apart.publisher_stands at_y more_x more_y environment f' (failure_of action)
-          (subst (λ (h : Fields T U). ConnectsReceiver environment g j i (with_receiver_room m y) h (failure_of action))
+          receiver-from f i j x y n m e sound apart.publisher_stands at_y more_x more_y more_e environment f' (failure_of action)
+          (subst (λ (h : Fields T U). ConnectsReceiver environment g j i (with_receiver_rooms m e y) h (failure_of action))
           (sym (is ∙ (λ k. record (mid-is k) { warnings = told k }) ∙ (λ k. record g { connections = same k; warnings = buffer (warnings_after x.id y.id action f.warnings.items) warning_limit })))
-          (misses-connection environment g sound-grown i j (with_sender_room n x) (with_receiver_room m y) here_x here_y due no_key no_key_x may action answers mid.connections.capacity))
+          (misses-connection environment g sound-grown i j (with_sender_room n x) (with_receiver_rooms m e y) here_x here_y due no_key no_key_x may action answers mid.connections.capacity))
         where
           told : warnings ≡ buffer (warnings_after x.id y.id action f.warnings.items) warning_limit
           told = warned_is ∙ ap (λ (h : Home). buffer (warnings_after h.publisher h.subscriber action f.warnings.items) warning_limit) home-is

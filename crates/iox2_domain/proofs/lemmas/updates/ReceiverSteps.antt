@@ -64,13 +64,14 @@ module _ {T U : Type 0} (environment : Environment) (f : Fields T U) (sound : Is
   present = subscriber-stands f sound j y at_y
 
   -- the machine's step is done where the fields change so
-  pub steps-connect : (keys : List (Option ℕ)) (connections : Slab Link) (warnings : Buffer Warning) (failure : Option ConnectionFailure) → FitsReceiver f j y keys y.key_room connections
+  pub steps-connect : (keys : List (Option ℕ)) (connections : Slab Link) (warnings : Buffer Warning) (failure : Option ConnectionFailure) → FitsReceiver f j y keys y.key_room y.expired_room connections
       → warnings.capacity ≡ warning_limit → StepsReceiver f environment i y (receiver_side_with f y keys connections warnings) failure
       → ConnectsReceiver environment f j i y (connected_receiver f j y keys connections warnings) failure
   steps-connect keys connections warnings failure fits room step = record {
-    agrees = receiver-agrees f sound j y at_y keys y.key_room y.is_due connections warnings fits room (rw state well);
+    agrees = receiver-agrees f sound j y at_y keys y.key_room y.expired_room y.is_due connections warnings fits room (rw state well);
     keys = keys;
     key_room = y.key_room;
+    expired_room = y.expired_room;
     fields = refl;
     others = refl;
     side = receiver_side_with f y keys connections warnings;
@@ -80,7 +81,7 @@ module _ {T U : Type 0} (environment : Environment) (f : Fields T U) (sound : Is
   } where
     state : state_of (kept_of (connected_receiver f j y keys connections warnings)) ≡ with_receiver_side s y.id Q (receiver_side_with f y keys connections warnings)
     state =
-        receiver-is f sound j y at_y keys y.key_room y.is_due connections warnings fits
+        receiver-is f sound j y at_y keys y.key_room y.expired_room y.is_due connections warnings fits
         ∙ (λ k. record s {
           subscribers = put_at s.subscribers y.id (Some (record Q { ends = receiver_ends connections keys; is_due = due k }));
           mailboxes = λ p. put_at-own (s.mailboxes p) y.id k;

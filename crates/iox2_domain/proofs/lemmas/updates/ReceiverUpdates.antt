@@ -37,7 +37,8 @@ pub record WalksReceiver {T U : Type 0} (environment : Environment) (f : Fields 
   pub agrees : IsDomain f'
   pub keys : List (Option ℕ)
   pub key_room : ℕ
-  pub fields : f' ≡ record f { subscribers = slice_set f.subscribers j (Some (record y { keys = keys; key_room = key_room; is_due = false })); publishers = f'.publishers; connections = f'.connections; warnings = f'.warnings }
+  pub expired_room : ℕ
+  pub fields : f' ≡ record f { subscribers = slice_set f.subscribers j (Some (record y { keys = keys; key_room = key_room; expired_room = expired_room; is_due = false })); publishers = f'.publishers; connections = f'.connections; warnings = f'.warnings }
   pub others : map (option_map publisher_but_room) f'.publishers ≡ map (option_map publisher_but_room) f.publishers
   pub side : ReceiverSide
   pub settled : side.is_due ≡ false
@@ -69,16 +70,17 @@ module _ {T U : Type 0} (environment : Environment) (f : Fields T U) (sound : Is
 
   settled-is : state_of (kept_of settled) ≡ with_receiver_side s y.id Q (receiver_side s y.id Q)
   settled-is =
-      receiver-is f sound j y at y.keys y.key_room false f.connections f.warnings (receiver_fits-same f sound j y at f.connections.capacity)
+      receiver-is f sound j y at y.keys y.key_room y.expired_room false f.connections f.warnings (receiver_fits-same f sound j y at f.connections.capacity)
       ∙ (λ k. record s { subscribers = put_at s.subscribers y.id (Some (record Q { is_due = false })); mailboxes = λ p. put_at-own (s.mailboxes p) y.id k })
 
   -- the walk begins where the subscriber is due no more
   pub walk-begins : WalksReceiver environment f j y 0 settled None
   walk-begins = record {
-    agrees = receiver-agrees f sound j y at y.keys y.key_room false f.connections f.warnings (receiver_fits-same f sound j y at f.connections.capacity) sound.warning_room
+    agrees = receiver-agrees f sound j y at y.keys y.key_room y.expired_room false f.connections f.warnings (receiver_fits-same f sound j y at f.connections.capacity) sound.warning_room
         (rw settled-is (with_receiver_side_keeps s sound.well_formed y.id Q (receiver_side s y.id Q) present (receiver_side_begins s sound.well_formed y.id Q present)));
     keys = y.keys;
     key_room = y.key_room;
+    expired_room = y.expired_room;
     fields = refl;
     others = refl;
     side = receiver_side s y.id Q;
@@ -99,7 +101,7 @@ module _ {T U : Type 0} (environment : Environment) (f : Fields T U) (sound : Is
   module _ (i : ℕ) (f' : Fields T U) (failure : Option ConnectionFailure) (walks : WalksReceiver environment f j y i f' failure) where
     -- the subscriber on its way
     abbrev pub walking : SubscriberFields
-    walking = record y { keys = walks.keys; key_room = walks.key_room; is_due = false }
+    walking = record y { keys = walks.keys; key_room = walks.key_room; expired_room = walks.expired_room; is_due = false }
 
     pub walking-stands : get_or f'.subscribers j None ≡ Some walking
     walking-stands = ap (λ (g : Fields T U). get_or g.subscribers j None) walks.fields ∙ changed-here f.subscribers j y walking at
@@ -118,10 +120,11 @@ module _ {T U : Type 0} (environment : Environment) (f : Fields T U) (sound : Is
       agrees = step.agrees;
       keys = step.keys;
       key_room = step.key_room;
+      expired_room = step.expired_room;
       fields = step.fields
-          ∙ (λ k. record (walks.fields k) { subscribers = slice_set ((walks.fields k).subscribers) j (Some (record y { keys = step.keys; key_room = step.key_room; is_due = false })); publishers = f''.publishers; connections = f''.connections; warnings = f''.warnings })
+          ∙ (λ k. record (walks.fields k) { subscribers = slice_set ((walks.fields k).subscribers) j (Some (record y { keys = step.keys; key_room = step.key_room; expired_room = step.expired_room; is_due = false })); publishers = f''.publishers; connections = f''.connections; warnings = f''.warnings })
           ∙ ap (λ (ys : List (Option SubscriberFields)). record f { subscribers = ys; publishers = f''.publishers; connections = f''.connections; warnings = f''.warnings })
-          (set-set f.subscribers j (Some walking) (Some (record y { keys = step.keys; key_room = step.key_room; is_due = false })));
+          (set-set f.subscribers j (Some walking) (Some (record y { keys = step.keys; key_room = step.key_room; expired_room = step.expired_room; is_due = false })));
       others = step.others ∙ walks.others;
       side = step.side;
       settled = step.settled;
@@ -147,6 +150,7 @@ module _ {T U : Type 0} (environment : Environment) (f : Fields T U) (sound : Is
       reaches = record { agrees = walks.agrees; state = walks.state; entries = same-entries };
       keys = walks.keys;
       key_room = walks.key_room;
+      expired_room = walks.expired_room;
       fields = walks.fields;
       others = walks.others;
     }
@@ -159,6 +163,7 @@ module _ {T U : Type 0} (environment : Environment) (f : Fields T U) (sound : Is
     reaches = record { agrees = sound; state = refl; entries = λ n entry e. e };
     keys = y.keys;
     key_room = y.key_room;
+    expired_room = y.expired_room;
     others = refl;
     fields = sym (ap (λ (ys : List (Option SubscriberFields)). record f { subscribers = ys })
         (ap (slice_set f.subscribers j) (ap (λ b. Some (record y { is_due = b })) (sym due) ∙ sym at) ∙ set-get_or f.subscribers j None));
@@ -174,4 +179,4 @@ walking-publishers environment f j y i f' failure walks =
     sym (length-map f'.publishers (option_map publisher_but_room)) ∙ ap length walks.others ∙ length-map f.publishers (option_map publisher_but_room)
 
 pub walking-subscribers : {T U : Type 0} (environment : Environment) (f : Fields T U) (j : ℕ) (y : SubscriberFields) (i : ℕ) (f' : Fields T U) (failure : Option ConnectionFailure) → WalksReceiver environment f j y i f' failure → length f'.subscribers ≡ length f.subscribers
-walking-subscribers environment f j y i f' failure walks = ap (λ g. length g.subscribers) walks.fields ∙ length-set f.subscribers j (Some (record y { keys = walks.keys; key_room = walks.key_room; is_due = false }))
+walking-subscribers environment f j y i f' failure walks = ap (λ g. length g.subscribers) walks.fields ∙ length-set f.subscribers j (Some (record y { keys = walks.keys; key_room = walks.key_room; expired_room = walks.expired_room; is_due = false }))

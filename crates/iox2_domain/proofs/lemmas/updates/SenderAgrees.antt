@@ -232,6 +232,7 @@ module _ {T U : Type 0} (f : Fields T U) (sound : IsDomain f) (i : ℕ) (x : Pub
     subscriber_ids = sound.subscriber_ids;
     apart = fits.extends.apart;
     linked = linked;
+    expired_room = fits.rooms;
     books = books;
     names = record {
       at = λ key c at_c. elim (fits.news key c at_c) [

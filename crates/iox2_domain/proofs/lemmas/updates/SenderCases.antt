@@ -19,9 +19,10 @@ use Rattle.iox2_ends.specs.Mailboxes.{is_between, sender_ends, subscriber_of_key
 use Rattle.iox2_domain.specs.Ports.{PublisherFields, SubscriberFields}
 use Rattle.iox2_domain.specs.Kept.{state_of}
 use Rattle.iox2_domain.specs.Fields.{Fields, kept_of, publisher_of, subscriber_of}
-use Rattle.iox2_domain.specs.Invariant.{IsDomain}
+use Rattle.iox2_domain.specs.Invariant.{IsDomain, connection_count}
 use Rattle.iox2_domain.specs.Updates.{MakesConnection, home_of}
 use Rattle.iox2_domain.specs.Connects.{ConnectsSender}
+use Rattle.iox2_domain.proofs.lemmas.fields.ExpiredRoom.{room-made, room-here}
 use Rattle.iox2_domain.proofs.lemmas.fields.ConnectionEnds.{publisher-stands, subscriber-stands, occupant-sender_ends}
 use Rattle.iox2_domain.proofs.lemmas.updates.Extensions.{Extends, sender_linked, sender_ends-same}
 use Rattle.iox2_domain.proofs.lemmas.containers.ConnectionKeys.{map-set_place, set_place-here, set_place-keeps, set_place-stood}
@@ -88,6 +89,7 @@ module _ {T U : Type 0} (environment : Environment) (f : Fields T U) (sound : Is
         steps-connect environment f sound i j x y at_x at_y due (keys_with key) f.connections f.warnings None (record {
           extends = (fits-same f sound i x at_x f.connections.capacity).extends;
           grows = le_refl x.key_room;
+          rooms = sound.expired_room;
           linked = linked-with f.connections key joined.0 (sound.linked.senders i x at_x) own.stands own.publisher own.subscriber_place;
           keeps = set_place-keeps x.keys j key none;
           news = λ k c there. inl there;
@@ -110,12 +112,13 @@ module _ {T U : Type 0} (environment : Environment) (f : Fields T U) (sound : Is
       extends key new made = made-extends f.connections new (home_of i j x y) y.buffer most key sound.apart nobody made
 
       -- a connection is made
-      pub makes-connection : j < x.key_room → i < y.key_room → (key : ℕ) (new : Slab Link) → MakesConnection f.connections (home_of i j x y) y.buffer (f.config).subscriber_max_borrowed_samples key new
+      pub makes-connection : j < x.key_room → i < y.key_room → connection_count f.connections y.id < y.expired_room → (key : ℕ) (new : Slab Link) → MakesConnection f.connections (home_of i j x y) y.buffer (f.config).subscriber_max_borrowed_samples key new
           → ConnectsSender environment f i j x (connected_sender f i x (set_place x.keys j (Some key)) new f.warnings) None
-      makes-connection room room_y key new made =
+      makes-connection room room_y room_expired key new made =
           steps-connect environment f sound i j x y at_x at_y due (keys_with key) new f.warnings None (record {
             extends = extends key new made;
             grows = le_refl x.key_room;
+            rooms = room-made f.subscribers f.connections new key link made.was_free made.made (room-here f sound j y at_y room_expired) sound.expired_room;
             linked = linked-with new key link (sender_linked f.connections new (extends key new made) x.id x.keys (sound.linked.senders i x at_x)) made.made.changed refl refl;
             keeps = set_place-keeps x.keys j key none;
             news = λ k c at. elim (made-news f.connections new (home_of i j x y) y.buffer most key sound.apart nobody made k c at) [

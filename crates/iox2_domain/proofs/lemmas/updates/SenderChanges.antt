@@ -16,7 +16,7 @@ use Rattle.iox2_ends.specs.Mailboxes.{sender_ends, receiver_ends}
 use Rattle.iox2_domain.specs.Ports.{PublisherFields, SubscriberFields}
 use Rattle.iox2_domain.specs.Kept.{Named, state_of, port_named, ids, is_named}
 use Rattle.iox2_domain.specs.Fields.{Fields, kept_of, publisher_of, subscriber_of, numbers_of, blocked_send}
-use Rattle.iox2_domain.specs.Invariant.{IsDomain, is_publisher}
+use Rattle.iox2_domain.specs.Invariant.{IsDomain, HasExpiredRoom, is_publisher}
 use Rattle.iox2_domain.proofs.lemmas.containers.LookUps.{IsOnly-map, map-at}
 use Rattle.iox2_domain.proofs.lemmas.fields.Views.{mailboxes-are, nothing-blocked}
 use Rattle.iox2_domain.proofs.lemmas.containers.ChangedRecords.{changed-ids, changed-ports, map-agrees}
@@ -50,6 +50,7 @@ pub record IsNewOfSender {T U : Type 0} (f : Fields T U) (i : ℕ) (x : Publishe
 pub record FitsSender {T U : Type 0} (f : Fields T U) (i : ℕ) (x : PublisherFields) (keys : List (Option ℕ)) (key_room : ℕ) (connections : Slab Link) : Type 0 where
   pub extends : Extends f.connections connections
   pub grows : x.key_room ≤ key_room
+  pub rooms : HasExpiredRoom f.subscribers connections
   pub linked : IsSenderLinked x.id connections keys
   pub keeps : (place key : ℕ) → get_or x.keys place None ≡ Some key → get_or keys place None ≡ Some key
   pub news : (key : ℕ) (c : Link) → get connections key ≡ Some c → (get f.connections key ≡ Some c) ⊎ IsNewOfSender f i x keys key_room key c
@@ -136,6 +137,7 @@ module _ {T U : Type 0} (f : Fields T U) (sound : IsDomain f) (i : ℕ) (x : Pub
   pub fits-grown : (n key_room : ℕ) → x.key_room ≤ key_room → FitsSender f i x x.keys key_room (record f.connections { capacity = n })
   fits-grown n key_room grows = record {
     grows = grows;
+    rooms = record { at = sound.expired_room.at };
     extends = record { apart = record { one = sound.apart.one }; sums = λ p slot. refl; boxes = λ number p q. refl; grows = λ key c at. at };
     linked = record { at = (sound.linked.senders i x at).at };
     keeps = λ place key at. at;

@@ -88,5 +88,5 @@ returns g c = λ x at due.
     ∙ c.set_key_at-2.ensures
     ∙ ap (λ zs. changed_at (with_sender_key c.args.subscriber_place c.in-Ok.key) zs c.args.publisher_place) (c.deref_mut-2.ensures.value ∙ ap (λ (f : Fields g.row.T.Denot g.row.U.Denot). f.publishers) c.state-2.view_is) in
     makes-as fixed_handlers old c.requires.agrees c.args.publisher_place c.args.subscriber_place x at due none nobody _ _ c.ports_at-buffer.ensures mid c.make_between.ensures.grows
-    c.in-Ok.ensures.sender_room c.in-Ok.ensures.receiver_room c.in-Ok.key c.in-Ok.ensures.made
+    c.in-Ok.ensures.sender_room c.in-Ok.ensures.receiver_room c.in-Ok.ensures.expired_room c.in-Ok.key c.in-Ok.ensures.made
     _ (λ k. record (c.state-2.view_is k) { publishers = written k })

@@ -36,8 +36,8 @@ pub returns-clause-stands : goal.returns-clause-stands
 returns-clause-stands g c =
     let entered = c.in_ok-id.ensures.step in
     let updated = c.update_subscriber.ensures entered.1 entered.2 in (
-      record entered.1 { keys = updated.keys; key_room = updated.key_room; is_due = false },
+      record entered.1 { keys = updated.keys; key_room = updated.key_room; expired_room = updated.expired_room; is_due = false },
       ap (λ (f : Fields g.row.T.Denot g.row.U.Denot). get_or f.subscribers c.in_ok-place.place None) updated.fields
-          ∙ get_or-set_same c.admit_subscriber.new.state.subscribers c.in_ok-place.place (Some (record entered.1 { keys = updated.keys; key_room = updated.key_room; is_due = false })) None (within_if_some c.admit_subscriber.new.state.subscribers c.in_ok-place.place entered.1 entered.2),
+          ∙ get_or-set_same c.admit_subscriber.new.state.subscribers c.in_ok-place.place (Some (record entered.1 { keys = updated.keys; key_room = updated.key_room; expired_room = updated.expired_room; is_due = false })) None (within_if_some c.admit_subscriber.new.state.subscribers c.in_ok-place.place entered.1 entered.2),
       entered.3 ∙ sym c.in_ok-id.ensures.id,
     )

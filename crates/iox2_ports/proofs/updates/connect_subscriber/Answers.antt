@@ -45,7 +45,7 @@ loop-other-preserved g c = λ y at.
     let size : vec_len c.state.inside.publishers ≡ length c.state.inside.publishers.items = search rules in
     let same : length c.state.inside.publishers.items ≡ length old.publishers = ap (λ (f : Fields g.row.T.Denot g.row.U.Denot). length f.publishers) c.state.view_is in
     walk-more fixed_handlers old c.requires.agrees c.args.place y at c.loop-other.other c.loop-other.state None walks (omega arith) c.connect_receiver.new.state None
-    (c.connect_receiver.ensures (record y { keys = walks.keys; key_room = walks.key_room; is_due = false }) (walking-stands fixed_handlers old c.requires.agrees c.args.place y at c.loop-other.other c.loop-other.state None walks) refl)
+    (c.connect_receiver.ensures (record y { keys = walks.keys; key_room = walks.key_room; expired_room = walks.expired_room; is_due = false }) (walking-stands fixed_handlers old c.requires.agrees c.args.place y at c.loop-other.other c.loop-other.state None walks) refl)
 
 pub returns : goal.returns
 returns g c = λ y at.
