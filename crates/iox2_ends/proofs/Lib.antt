@@ -5,6 +5,7 @@ pub mod DeliverySteps
 pub mod Releases
 pub mod TakeSteps
 pub mod Searches
+pub mod Histories
 pub mod Recounts
 pub mod ReclaimSteps
 pub mod AnyEnvironment
