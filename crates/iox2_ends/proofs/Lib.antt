@@ -10,3 +10,4 @@ pub mod Recounts
 pub mod ReclaimSteps
 pub mod AnyEnvironment
 pub mod ReclaimedPuts
+pub mod Empties

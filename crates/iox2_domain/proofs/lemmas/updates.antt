@@ -9,6 +9,7 @@ pub mod SenderActions
 pub mod SenderSteps
 pub mod SenderCases
 pub mod SenderOutcomes
+pub mod HistoryBounds
 pub mod SenderWalk
 pub mod SenderUpdates
 pub mod ReceiverChanges
