@@ -186,7 +186,8 @@ pub(crate) fn connect_sender<T: Drop, U: Default + Drop>(
     requires agrees { IsDomain state.old }
     requires publisher { publisher_place < length state.old.publishers }
     requires subscriber { subscriber_place < length state.old.subscribers }
-    ensures { (x : PublisherFields) → slice_index_or state.old.publishers publisher_place None ≡ Some x → x.is_due ≡ false
+    requires settled { (x : PublisherFields) → slice_index_or state.old.publishers publisher_place None ≡ Some x → x.is_due ≡ false }
+    ensures { (x : PublisherFields) → slice_index_or state.old.publishers publisher_place None ≡ Some x
         → ConnectsSender fixed_handlers state.old publisher_place subscriber_place x state.new None }
 {
     if let Some(key) = make_sender_end(state, publisher_place, subscriber_place) {

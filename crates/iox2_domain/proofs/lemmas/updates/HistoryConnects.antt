@@ -5,7 +5,7 @@ use Rattle.std.specs.declared.option.Option.{Option}
 use Rattle.std.specs.declared.option.Option.TheVariants.{None, Some}
 use Rattle.std.specs.Option.{option_map}
 use Rattle.iox2_domain.specs.Updates.{subscriber_but_room}
-use Rattle.slab.specs.Slab.{Slab, get, with_value}
+use Rattle.slab.specs.Slab.{Slab, get, with_value, ContainsKey}
 use Rattle.iox2_store.specs.Link.{Link, load}
 use Rattle.iox2_store.specs.SlotBook.{Book, holders_at}
 use Rattle.iox2_store.specs.machine.Mailbox.{Mailbox, with_waiting}
@@ -115,6 +115,62 @@ module _ {T U : Type 0} (before f : Fields T U) (same : f ≡ before) (sound : I
           (set-set f.books.slots x.book (Some (with_counters b b1.holders)) (Some (with_counters b b2.holders))
           ∙ ap (λ (d : Book). slice_set f.books.slots x.book (Some d)) book2)
 
+-- with the end that a call of it names
+module _ {T U : Type 0} (before f : Fields T U) (same : f ≡ before) (agrees : IsDomain before) (i key : ℕ) (end : HasNewEnd before i key)
+    (x : PublisherFields) (here : get_or f.publishers i None ≡ Some x)
+    (b : Book) (at : get f.books x.book ≡ Some b) (b1 : Book) (is1 : b1 ≡ with_counters b b1.holders) (new : Slab Link) (r : Reclaims x.id b.holders f.connections b1.holders new) where
+  sound : IsDomain f
+  sound = subst (IsDomain {T = T} {U = U}) (sym same) agrees
+
+  publisher-is : (e : HasNewEnd before i key) → e.publisher ≡ x
+  publisher-is e = let both : Some e.publisher ≡ Some x = sym e.stands ∙ sym (ap (λ (h : Fields T U). get_or h.publishers i None) same) ∙ here in cc
+
+  there : get f.connections key ≡ Some end.link
+  there = ap (λ (h : Fields T U). get h.connections key) same ∙ end.connected
+
+  its : (end.link).home.publisher ≡ x.id
+  its = end.is_its ∙ ap (λ (z : PublisherFields). z.id) (publisher-is end)
+
+  link-there : get new key ≡ Some end.link
+  link-there = new-there before f same sound i x here key end.link there its end.empty b at b1 is1 new r
+
+  -- the connection is there
+  pub end-there : ContainsKey new key
+  end-there = rw link-there refl
+
+  link-is : (c : Link) → get new key ≡ Some c → c ≡ end.link
+  link-is c at_c = let both : Some c ≡ Some end.link = sym at_c ∙ link-there in cc
+
+  -- no slot stands in it
+  pub end-empty : (c : Link) → get new key ≡ Some c → load c ≡ 0
+  end-empty c at_c = ap load (link-is c at_c) ∙ end.empty
+
+  pub end-in_use : (slot : ℕ) → 0 < times slot (x.history).items → 0 < holders_at b1 slot
+  end-in_use = new-in_use before f same sound i x here key end.link there its end.empty b at b1 is1 new r
+
+  pub end-fits : HasReclaimed new x.keys → length x.keys < 2 ^ 63 → (slot : ℕ) → holders_at b1 slot + times slot (x.history).items < 2 ^ 64
+  end-fits = new-fits before f same sound i x here key end.link there its end.empty b at b1 is1 new r
+
+  -- the history waits there
+  pub end-handed : (c : Link) → get new key ≡ Some c → (d : Link) → d ≡ record c { waiting = last_n c.buffer (x.history).items } → (b2 : Book) → b2 ≡ with_counters b1 b2.holders
+      → length b2.holders ≡ length b1.holders → ((slot : ℕ) → holders_at b2 slot ≡ holders_at b1 slot + times slot (last_n c.buffer (x.history).items))
+      → (e : HasNewEnd before i key) → HandsOut before e.publisher e.link (record f { connections = with_value new key d; books = with_value f.books x.book b2 })
+  end-handed c at_c d is_d b2 is2 long counters e =
+      subst (λ (z : PublisherFields). HandsOut before z e.link after) (sym (publisher-is e))
+      (subst (λ (k : Link). HandsOut before x k after) (sym one)
+      (subst (λ (k : Link). HandsOut before x end.link (record f { connections = with_value new key k; books = with_value f.books x.book b2 })) (sym d-is)
+      (reclaimed-hands-out before f same sound i x here key end.link there its end.empty b at b1 is1 new r b2 is2 long (λ slot. counters slot ∙ ap (λ (k : Link). holders_at b1 slot + times slot (last_n k.buffer (x.history).items)) (link-is c at_c))
+      (subst (λ (z : PublisherFields). IsWellFormed (with_history_waiting before z end.link)) (publisher-is end) end.well_formed))))
+    where
+      after : Fields T U
+      after = record f { connections = with_value new key d; books = with_value f.books x.book b2 }
+
+      one : e.link ≡ end.link
+      one = let both : Some e.link ≡ Some end.link = sym e.connected ∙ end.connected in cc
+
+      d-is : d ≡ record end.link { waiting = last_n (end.link).buffer (x.history).items }
+      d-is = is_d ∙ ap (λ (k : Link). let filled : Link = record k { waiting = last_n k.buffer (x.history).items } in filled) (link-is c at_c)
+
 -- ---- the machine's step
 
 module _ {T U : Type 0} (environment : Environment) (f : Fields T U) (sound : IsDomain f) (i j : ℕ) (x : PublisherFields) (at : get_or f.publishers i None ≡ Some x)
@@ -193,8 +249,9 @@ module _ {T U : Type 0} (environment : Environment) (f : Fields T U) (sound : Is
   }
 
   -- and then the machine's step is done
-  pub connects-with-history : (f2 : Fields T U) → HandsOut f1 keyed made.link f2 → ConnectsSender environment f i j x f2 None
-  connects-with-history f2 out = record {
+  pub connects-with-history : (f2 : Fields T U) → ((end : HasNewEnd f1 i key) → HandsOut f1 end.publisher end.link f2) → ConnectsSender environment f i j x f2 None
+  unfolding new-end
+  connects-with-history f2 hands = record {
     agrees = out.agrees;
     keys = made.keys;
     key_room = made.key_room;
@@ -206,5 +263,8 @@ module _ {T U : Type 0} (environment : Environment) (f : Fields T U) (sound : Is
     state = out.state ∙ waits-is;
     entries = λ n entry e. sym (ap (λ (h : Fields T U). entries_of (kept_of h) n) made.fields) ∙ out.entries n entry e;
   } where
+    out : HandsOut f1 keyed made.link f2
+    out = hands new-end
+
     warnings-same : f2.warnings ≡ f.warnings
     warnings-same = ap (λ (h : Fields T U). h.warnings) out.fields ∙ ap (λ (h : Fields T U). h.warnings) made.fields

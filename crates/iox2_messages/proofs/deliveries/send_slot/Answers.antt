@@ -49,18 +49,3 @@ pub remove_loan-requires : goal.remove_loan-requires
 remove_loan-requires g c = sent-once _ _ c.state.view_is c.args.place c.args.slot c.requires.can _
     (read-there _ c.args.place _ _ (ap (λ (f : Fields g.row.T.Denot g.row.U.Denot). slice_index_or f.publishers c.args.place None) c.state.view_is ∙ c.requires.can.1) c.index_mut.ensures.value ∙ c.in-Some.is)
 
-pub release-requires : goal.release-requires
-release-requires g c =
-    let used = sent-in_use _ _ c.state.view_is c.args.place c.args.slot c.requires.can _
-    (read-there _ c.args.place _ _ (ap (λ (f : Fields g.row.T.Denot g.row.U.Denot). slice_index_or f.publishers c.args.place None) c.state.view_is ∙ c.requires.can.1) c.index_mut.ensures.value ∙ c.in-Some.is ∙ ap Some (sym c.publisher.view_is))
-    _ c.index_mut-book.ensures.value _ _ (rw c.value.ensures at c.deliver-outcome.ensures.recounts) in
-    rw c.set_mark.ensures (record { in_bounds = used.0; in_use = used.1 })
-
-pub returns : goal.returns
-returns g c =
-    let delivers = c.in-Complete.ensures.delivers in
-    sends-slot fixed_handlers _ _ c.state.view_is c.args.place _ (read-there _ c.args.place _ _ (ap (λ (f : Fields g.row.T.Denot g.row.U.Denot). slice_index_or f.publishers c.args.place None) c.state.view_is ∙ c.requires.can.1) c.index_mut.ensures.value ∙ c.in-Some.is ∙ ap Some (sym c.publisher.view_is)) _ _ c.index_mut-book.ensures.value _ c.deliver-outcome.ensures.book
-    (rw c.value.ensures at c.deliver-outcome.ensures.recounts) c.args.slot c.in-Complete.count c.deliver-outcome.ensures.alone
-    (rw (c.value.ensures, c.deref.ensures.value, c.deref-2.ensures.value) at delivers)
-    _ (c.remove_loan.ensures ∙ ap (with_loan_out c.args.slot) (sym c.publisher.view_is))
-    _ (c.release.ensures.released ∙ ap (λ (z : Book). with_holders z c.args.slot (holders_at z c.args.slot - 1)) c.set_mark.ensures)
