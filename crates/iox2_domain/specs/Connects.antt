@@ -1,17 +1,19 @@
 -- An update of a port, and a step of it at one place of the other side.
-use Rattle.std.specs.Prelude.{◌≡◌, ◌≤◌, ℕ, false, List, map, slice_set}
+use Rattle.std.specs.Prelude.{◌≡◌, ◌≤◌, ℕ, false, List, [], map, slice_set}
 use Rattle.std.specs.declared.option.Option.{Option}
-use Rattle.std.specs.declared.option.Option.TheVariants.{Some}
+use Rattle.std.specs.declared.option.Option.TheVariants.{None, Some}
 use Rattle.std.specs.Option.{option_map}
+use Rattle.slab.specs.Slab.{get}
+use Rattle.iox2_store.specs.Link.{Link, load}
 use Rattle.iox2_store.specs.machine.Limits.{expired_limit}
 use Rattle.iox2_store.specs.machine.Places.{occupant}
-use Rattle.iox2_store.specs.machine.PublisherUpdate.{SenderSide, UpdateSenderPlace, sender_side, with_sender_side, UpdatePublisher}
-use Rattle.iox2_store.specs.machine.Records.{Environment}
+use Rattle.iox2_store.specs.machine.PublisherUpdate.{SenderSide, UpdateSenderPlace, connected, sender_side, with_sender_side, UpdatePublisher}
+use Rattle.iox2_store.specs.machine.Records.{Entry, Environment}
 use Rattle.iox2_store.specs.machine.SubscriberUpdate.{ReceiverSide, ConnectAtPlace, receiver_side, with_receiver_side, UpdateSubscriber}
 use Rattle.iox2_store.specs.machine.State.{State, receiving_buffer, has_receiver_end, has_sender_end}
 use Rattle.iox2_store.specs.declared.errors.ConnectionFailure.{ConnectionFailure}
 use Rattle.iox2_domain.specs.Ports.{PublisherFields, SubscriberFields}
-use Rattle.iox2_domain.specs.Kept.{state_of}
+use Rattle.iox2_domain.specs.Kept.{state_of, entries_of}
 use Rattle.iox2_domain.specs.Fields.{Fields, kept_of, publisher_of, subscriber_of}
 use Rattle.iox2_domain.specs.Invariant.{IsDomain}
 use Rattle.iox2_domain.specs.Updates.{changed_at, with_sender_room, with_receiver_rooms, sender_room, receiver_room, expired_room_at, publisher_but_room, subscriber_but_room}
@@ -30,19 +32,40 @@ module _ {T U : Type 0} where
     }
 
 module _ {T U : Type 0} (environment : Environment) where
+  -- The publisher x at the place i, which isn't due, has got its end at the subscriber's place j, through the connection at
+  -- the key, in which no slot stands. The machine lets the last of the history wait there. Nothing changed but its keys,
+  -- connections and the room for keys.
+  pub record MakesSenderEnd (f : Fields T U) (i j : ℕ) (x : PublisherFields) (key : ℕ) (f' : Fields T U) : Type 0 where
+    pub agrees : IsDomain f'
+    pub keys : List (Option ℕ)
+    pub key_room : ℕ
+    pub fields : f' ≡ record f { publishers = slice_set f.publishers i (Some (record x { keys = keys; key_room = key_room })); subscribers = f'.subscribers; connections = f'.connections }
+    pub others : map (option_map subscriber_but_room) f'.subscribers ≡ map (option_map subscriber_but_room) f.subscribers
+    pub link : Link
+    pub stands : get f'.connections key ≡ Some link
+    pub is_its : link.home.publisher ≡ x.id
+    pub empty : load link ≡ 0
+    pub steps : UpdateSenderPlace environment (f.config).service_id x.id (publisher_of f.books f.connections x).port.degradation_handler
+        (publisher_of f.books f.connections x).port.history (receiving_buffer (state_of (kept_of f))) (has_receiver_end (state_of (kept_of f)) x.id)
+        j (occupant (state_of (kept_of f)).subscriber_places j) (sender_side (state_of (kept_of f)) x.id (publisher_of f.books f.connections x).port)
+        (connected (publisher_of f.books f.connections x).port.history (sender_side (state_of (kept_of f)) x.id (publisher_of f.books f.connections x).port) j link.home.subscriber link.buffer) None
+    pub state : state_of (kept_of f') ≡ with_sender_side (state_of (kept_of f)) x.id (publisher_of f.books f.connections x).port
+        (connected [] (sender_side (state_of (kept_of f)) x.id (publisher_of f.books f.connections x).port) j link.home.subscriber link.buffer)
+
   -- The publisher x at the place i, which isn't due, has done the machine's step at the subscriber's place j, with this failure
-  -- if any, and nothing changed but its keys, connections, warnings and the room for keys.
+  -- if any, and nothing changed but its keys, connections, counters of slots, warnings and the room for keys.
   pub record ConnectsSender (f : Fields T U) (i j : ℕ) (x : PublisherFields) (f' : Fields T U) (failure : Option ConnectionFailure) : Type 0 where
     pub agrees : IsDomain f'
     pub keys : List (Option ℕ)
     pub key_room : ℕ
-    pub fields : f' ≡ record f { publishers = slice_set f.publishers i (Some (record x { keys = keys; key_room = key_room })); subscribers = f'.subscribers; connections = f'.connections; warnings = f'.warnings }
+    pub fields : f' ≡ record f { publishers = slice_set f.publishers i (Some (record x { keys = keys; key_room = key_room })); subscribers = f'.subscribers; connections = f'.connections; books = f'.books; warnings = f'.warnings }
     pub others : map (option_map subscriber_but_room) f'.subscribers ≡ map (option_map subscriber_but_room) f.subscribers
     pub side : SenderSide
     pub steps : UpdateSenderPlace environment (f.config).service_id x.id (publisher_of f.books f.connections x).port.degradation_handler
         (publisher_of f.books f.connections x).port.history (receiving_buffer (state_of (kept_of f))) (has_receiver_end (state_of (kept_of f)) x.id)
         j (occupant (state_of (kept_of f)).subscriber_places j) (sender_side (state_of (kept_of f)) x.id (publisher_of f.books f.connections x).port) side failure
     pub state : state_of (kept_of f') ≡ with_sender_side (state_of (kept_of f)) x.id (publisher_of f.books f.connections x).port side
+    pub entries : (n : ℕ) (entry : Entry T U) → entries_of (kept_of f') n ≡ Some entry → entries_of (kept_of f) n ≡ Some entry
 
   -- The subscriber y at the place j, which isn't due, has done the machine's step at the publisher's place i, with this failure
   -- if any, and nothing changed but its keys, connections, warnings and the room for keys.
@@ -61,14 +84,14 @@ module _ {T U : Type 0} (environment : Environment) where
     pub state : state_of (kept_of f') ≡ with_receiver_side (state_of (kept_of f)) y.id (subscriber_of f.books f.connections y).port side
 
   -- The publisher x at the place i is updated, with this failure if any, and nothing changed but its keys, its mark,
-  -- connections, warnings and the room for keys.
+  -- connections, counters of slots, warnings and the room for keys.
   pub record UpdatesPublisher (f : Fields T U) (i : ℕ) (x : PublisherFields) (f' : Fields T U) (failure : Option ConnectionFailure) : Type 0 where
     pub after : State T U
     pub updates : UpdatePublisher environment (state_of (kept_of f)) x.id after failure
     pub reaches : Reaches f f' after
     pub keys : List (Option ℕ)
     pub key_room : ℕ
-    pub fields : f' ≡ record f { publishers = slice_set f.publishers i (Some (record x { keys = keys; key_room = key_room; is_due = false })); subscribers = f'.subscribers; connections = f'.connections; warnings = f'.warnings }
+    pub fields : f' ≡ record f { publishers = slice_set f.publishers i (Some (record x { keys = keys; key_room = key_room; is_due = false })); subscribers = f'.subscribers; connections = f'.connections; books = f'.books; warnings = f'.warnings }
     pub others : map (option_map subscriber_but_room) f'.subscribers ≡ map (option_map subscriber_but_room) f.subscribers
 
   -- The subscriber y at the place j is updated, with this failure if any, and nothing changed but its keys, its mark,

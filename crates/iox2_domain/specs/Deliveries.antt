@@ -1,8 +1,10 @@
 -- A publisher's message is delivered, and its send ends.
-use Rattle.std.specs.Prelude.{◌≡◌, ◌⊎◌, ℕ, ◌-◌, ◌≤◌, false, List, map, slice_index, slice_set}
+use Rattle.std.specs.Prelude.{◌≡◌, ◌⊎◌, ℕ, ◌≤◌, false, cond, List, [], ◌∷◌, ◌++◌, length, map, nat_lt, slice_get, slice_set}
+use Rattle.std.specs.declared.option.Option.{Option}
 use Rattle.std.specs.declared.option.Option.TheVariants.{None, Some}
 use Rattle.std.specs.Option.{option_map}
 use Rattle.slab.specs.Slab.{Slab, get, with_value}
+use Rattle.circular_buffer.specs.Buffer.{Buffer, buffer, keep_last}
 use Rattle.iox2_store.specs.machine.Delivery.{Complete, Deliver, no_time}
 use Rattle.iox2_store.specs.Link.{Link}
 use Rattle.iox2_store.specs.machine.Loans.{entry_of}
@@ -11,7 +13,7 @@ use Rattle.iox2_store.specs.machine.Records.{Entry, Loan, Environment}
 use Rattle.iox2_store.specs.machine.Sends.{SendResult, Publish}
 use Rattle.iox2_store.specs.SlotBook.{Book, holders_at}
 use Rattle.iox2_store.specs.declared.slots.mark.SlotMark.TheVariants.{Sent}
-use Rattle.iox2_ends.specs.Counters.{HoldsItself, GrowsAlone, times, with_counters}
+use Rattle.iox2_ends.specs.Counters.{HoldsItself, GrowsAlone, times, with_counters, one_holder_less}
 use Rattle.iox2_ends.specs.Mailboxes.{mailboxes_of, sender_ends}
 use Rattle.iox2_ends.specs.Receivers.{buffers_of}
 use Rattle.iox2_ends.specs.Recounts.{Recounts}
@@ -38,15 +40,34 @@ pub record DeliversTo {T U : Type 0} (environment : Environment) (old : Fields T
 abbrev pub with_loan_out : (slot : ℕ) → PublisherFields → PublisherFields
 with_loan_out slot x = record x { loans = without slot x.loans }
 
--- The book with the slot's message sent, and one holder less of it.
-abbrev pub with_sent : (slot : ℕ) → Book → Book
-with_sent slot book = record book { marks = slice_set book.marks slot Sent; holders = slice_set book.holders slot (slice_index book.holders slot - 1) }
+-- The publisher without the loan in the slot, which stands last in its history. For a moment this may have one slot more
+-- than fits.
+abbrev pub with_remembered : (slot : ℕ) → PublisherFields → PublisherFields
+with_remembered slot x = record (with_loan_out slot x) { history = buffer (x.history.items ++ slot ∷ []) x.history.capacity }
 
--- The fields after the publisher x, which stands at that place, has sent the loan in the slot of its book.
+-- The history with the slot as its last, without its oldest where there would be more slots than fit.
+abbrev pub pushed : Buffer ℕ → (slot : ℕ) → Buffer ℕ
+pushed history slot = buffer (keep_last history.capacity (history.items ++ slot ∷ [])) history.capacity
+
+-- The slot that leaves the history for this one, if any. It is this one itself where no history is kept.
+abbrev pub leaving : Buffer ℕ → (slot : ℕ) → Option ℕ
+leaving history slot = cond (nat_lt (length history.items) history.capacity) None (slice_get (history.items ++ slot ∷ []) 0)
+
+-- The book with the slot's message sent.
+abbrev pub with_sent : (slot : ℕ) → Book → Book
+with_sent slot book = record book { marks = slice_set book.marks slot Sent }
+
+-- The book with one holder less of the slot that left, if one did.
+abbrev pub with_left : Option ℕ → Book → Book
+with_left None book = book
+with_left (Some oldest) book = with_counters book (one_holder_less oldest book.holders)
+
+-- The fields after the publisher x, which stands at that place, has sent the loan in the slot of its book. The loan's one
+-- holder is the history now.
 abbrev pub with_send_ended : {T U : Type 0} → Fields T U → (place : ℕ) → PublisherFields → (slot : ℕ) → Book → Fields T U
 with_send_ended f place x slot book = record f {
-  publishers = slice_set f.publishers place (Some (with_loan_out slot x));
-  books = with_value f.books x.book (with_sent slot book);
+  publishers = slice_set f.publishers place (Some (record (with_loan_out slot x) { history = pushed x.history slot }));
+  books = with_value f.books x.book (with_left (leaving x.history slot) (with_sent slot book));
 }
 
 -- The slot is a loan of the publisher x: it stands once among its loans, and the publisher itself is its one holder.

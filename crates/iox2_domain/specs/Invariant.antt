@@ -198,7 +198,6 @@ pub record HasShapes {T U : Type 0} (f : Fields T U) : Type 0 where
 -- The settings that a domain may have.
 pub record IsSupportedConfig (c : ServiceConfig) : Type 0 where
   pub single_values : c.variant ≡ FixedSize
-  pub no_history : c.history_size ≡ 0
 
 -- The publisher discards what a full receiver doesn't take, has one segment, of single values, and no handlers, and no
 -- delivery of it is blocked.

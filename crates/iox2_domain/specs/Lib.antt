@@ -15,6 +15,7 @@ pub mod NewPublisher
 pub mod SubscriberEntry
 pub mod LoanSlots
 pub mod Connects
+pub mod Histories
 pub mod LoanCalls
 pub mod Deliveries
 pub mod SentLoans

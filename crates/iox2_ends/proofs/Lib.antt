@@ -5,7 +5,9 @@ pub mod DeliverySteps
 pub mod Releases
 pub mod TakeSteps
 pub mod Searches
+pub mod Histories
 pub mod Recounts
 pub mod ReclaimSteps
 pub mod AnyEnvironment
 pub mod ReclaimedPuts
+pub mod Empties

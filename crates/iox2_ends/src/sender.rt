@@ -1,17 +1,20 @@
 //! A publisher's end: its messages go to the connections at its places.
-ghost use Rattle.std.specs.Prelude.{◌≡◌, ℕ, ◌+◌, ◌≤◌, ◌<◌, ◌^◌, [], None, length, slice_index, slice_index_or, IsSomeAnd, map};
+ghost use Rattle.std.specs.Prelude.{◌≡◌, ℕ, ◌+◌, ◌≤◌, ◌<◌, ◌^◌, [], ◌∷◌, ◌++◌, None, length, slice_index, slice_index_or, IsSomeAnd, map};
 ghost use Rattle.std.specs.Option.{option_map};
+ghost use Rattle.iox2_store.specs.Link.{load};
 ghost use Rattle.iox2_store.specs.SlotBook.{holders_at, IsInUse};
+ghost use Rattle.iox2_store.specs.machine.Numbers.{last_n};
 ghost use Rattle.iox2_store.specs.machine.Delivery.{is_blocking, accepted_count};
 ghost use Rattle.iox2_store.specs.machine.Environments.{fixed_handlers};
 ghost use Rattle.slab.specs.Slab.{get};
 ghost use Rattle.iox2_ends.specs.Homes.{IsApart, IsSenderLinked};
 ghost use Rattle.iox2_ends.specs.Receivers.{is_open_at, HasReclaimed, IsReadyToDeliver};
-ghost use Rattle.iox2_ends.specs.Counters.{IsCovered, HoldsItself, GrowsAlone, recounted, CanLeave, with_counters};
+ghost use Rattle.iox2_ends.specs.Counters.{times, IsCovered, HoldsItself, GrowsAlone, recounted, CanLeave, with_counters, one_holder_more};
 ghost use Rattle.iox2_ends.specs.Recounts.{Recounts, returned_count};
 ghost use Rattle.iox2_ends.specs.Reclaims.{IsHeld, Reclaims, ReclaimsFrom};
 ghost use Rattle.iox2_ends.specs.Deliveries.{result_of, result_of_put, PutsSlot, DeliversSlot};
 
+use circular_buffer::HeapCircularBuffer;
 use iox2_store::{BackpressureStrategy, Connection, PutOutcome, ServiceConfig, SlotBook};
 use slab::Slab;
 
@@ -265,6 +268,45 @@ pub fn reclaim_all(
     for index in 0..keys.len() {
         if let Some(key) = keys[index] {
             reclaim_at(publisher, connections, book, key);
+        }
+    }
+}
+
+// Puts a slot into a connection with room for it, which is one holder more.
+fn put_in_room(connection: &mut Connection, book: &mut SlotBook, slot: usize)
+    requires room { length connection.old.waiting < connection.old.buffer }
+    requires alone { load connection.old ≡ length connection.old.waiting }
+    requires in_use { 0 < holders_at book.old slot }
+    requires fits { holders_at book.old slot + 1 < 2 ^ 64 }
+    ensures connection { connection.new ≡ record connection.old { waiting = connection.old.waiting ++ slot ∷ [] } }
+    ensures book { book.new ≡ with_counters book.old (one_holder_more slot book.old.holders) }
+{
+    if let PutOutcome::Taken = connection.put(slot, false) {
+        book.hold(slot);
+    }
+}
+
+/// Puts the last messages of a publisher's history into a connection in which no slot stands: as
+/// many as may wait there, the oldest first. Each of them has one holder more.
+///
+/// iceoryx2's `PublisherSharedState::deliver_sample_history` (`src/port/publisher.rs`).
+pub fn deliver_history(
+    history: &HeapCircularBuffer<usize>,
+    connection: &mut Connection,
+    book: &mut SlotBook,
+)
+    requires empty { load connection.old ≡ 0 }
+    requires in_use { (slot : ℕ) → 0 < times slot history.now.items → 0 < holders_at book.old slot }
+    requires fits { (slot : ℕ) → holders_at book.old slot + times slot history.now.items < 2 ^ 64 }
+    ensures connection { connection.new ≡ record connection.old { waiting = last_n connection.old.buffer history.now.items } }
+    ensures book { book.new ≡ with_counters book.old book.new.holders }
+    ensures slots { length book.new.holders ≡ length book.old.holders }
+    ensures counters { (slot : ℕ) → holders_at book.new slot ≡ holders_at book.old slot + times slot (last_n connection.old.buffer history.now.items) }
+{
+    let first = history.len().saturating_sub(connection.buffer());
+    for index in first..history.len() {
+        if let Some(slot) = history.get(index) {
+            put_in_room(connection, book, *slot);
         }
     }
 }

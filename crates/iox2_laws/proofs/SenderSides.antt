@@ -3,7 +3,7 @@ use Rattle.std.proofs.Common.{◌≡◌, ℕ, ◌≤◌, ◌<◌, Bool, true, fa
 use Rattle.std.proofs.lemmas.Bool.{eqb-false, eq-eqb, ne_eqb}
 use Rattle.std.proofs.lemmas.Option.{none-some, same_Some, cond_some, option_and_then_some}
 use Rattle.iox2_store.specs.machine.Limits.{buffer_limit}
-use Rattle.iox2_store.specs.machine.Numbers.{put_at, contains, last_n}
+use Rattle.iox2_store.specs.machine.Numbers.{put_at, contains, last_n, IsOnce}
 use Rattle.iox2_store.specs.machine.Places.{occupant, set_place, is_port}
 use Rattle.iox2_store.specs.machine.Mailbox.{Mailbox, numbers_in, has_numbers, has_borrows, waiting_count, waiting_dropped, with_waiting, IsWithin}
 use Rattle.iox2_store.specs.machine.Records.{Publisher, Subscriber, Environment}
@@ -164,19 +164,19 @@ module _ {T U : Type 0} where
     nothing_after side place None e = e
     nothing_after side place (Some q) e = end_set side.ends place None
 
-    -- An end to the open subscriber at a place is made where none stood.
-    connected_keeps : (side : SenderSide) (place q buffer : ℕ) → place < length s.subscriber_places → occupant s.subscriber_places place ≡ Some q
+    -- An end to the open subscriber at a place is made where none stood, and messages of the history wait there.
+    pub connected_with_keeps : (ns : List ℕ) → IsOnce ns → ((n : ℕ) → contains ns n ≡ true → contains x.history n ≡ true)
+        → (side : SenderSide) (place q buffer : ℕ) → place < length s.subscriber_places → occupant s.subscriber_places place ≡ Some q
         → receiving_buffer s q ≡ Some buffer → occupant side.ends place ≡ None
-        → SideKeeps side → SideKeeps (connected x.history side place q buffer)
-    connected_keeps side place q buffer low at opened free k =
+        → SideKeeps side → SideKeeps (connected ns side place q buffer)
+    connected_with_keeps ns once of_history side place q buffer low at opened free k =
         let found : (y : Subscriber) × (s.subscribers q ≡ Some y) × (y.buffer ≡ buffer) = buffer_of s q buffer opened in
-        let u : PublisherIsWellFormed s p x = w.publishers p x present in
         let v : SubscriberIsWellFormed s q found.0 = w.subscribers q found.0 found.1 in
         let nowhere : (i : ℕ) → occupant side.ends i ≡ Some q → ⊥ = λ i h.
         let same : i ≡ place = sym (k.ends_stand i q found.0 h found.1) ∙ place_is s w q place found.0 found.1 at in
         none-some q (sym free ∙ ap (occupant side.ends) (sym same) ∙ h) in
         let empty : has_numbers (side.mailboxes q) ≡ false = not_true _ (λ h. let l : LeadsTo side.ends q = k.sender_end q h in nowhere l.0 l.1) in
-        let new : Mailbox = with_waiting (last_n buffer x.history) (side.mailboxes q) in
+        let new : Mailbox = with_waiting (last_n buffer ns) (side.mailboxes q) in
         record {
           ends_bound = length-set_place_le side.ends place (Some q) (omega (arith, (w.subscriber_places).bound)) k.ends_bound;
           ends_apart = injective_set side.ends place q k.ends_apart (λ i h. absurd (nowhere i h));
@@ -189,11 +189,11 @@ module _ {T U : Type 0} where
               (λ old. k.ends_stand i r y old.1 e)
               (found_set side.ends place (Some q) i r h);
           within = λ r. at_each side.mailboxes q new (λ _. KeepsLimits s) r
-              (λ _. IsWithin-history _ _ buffer x.history (side.mailboxes q) (subst (λ b. b ≤ buffer_limit s.config) found.2 v.buffer_bound) u.history_once empty)
+              (λ _. IsWithin-history _ _ buffer ns (side.mailboxes q) (subst (λ b. b ≤ buffer_limit s.config) found.2 v.buffer_bound) once empty)
               (λ _. k.within r);
           room = λ r. at_each side.mailboxes q new (FitsBuffer s) r
               (λ _ y e. subst (λ b. waiting_count new ≤ b) (sym found.2 ∙ ap (λ (z : Subscriber). z.buffer) (same_Some found.0 y (sym found.1 ∙ e)))
-              (waiting_count-history buffer x.history (side.mailboxes q)))
+              (waiting_count-history buffer ns (side.mailboxes q)))
               (λ _. k.room r);
           known = λ r. at_each side.mailboxes q new (λ i box. has_numbers box ≡ true → i < s.next_port) r (λ _ _. v.is_known) (λ _. k.known r);
           sender_end = λ r. at_each side.mailboxes q new (λ i box. has_numbers box ≡ true → LeadsTo (set_place side.ends place (Some q)) i) r
@@ -201,12 +201,18 @@ module _ {T U : Type 0} where
               (λ _ h. let l : LeadsTo side.ends r = k.sender_end r h in
               (l.0, end_stays side.ends place l.0 r (Some q) (λ same. none-some r (sym free ∙ ap (occupant side.ends) (sym same) ∙ l.1)) l.1));
           borrows = λ r. at_each side.mailboxes q new (λ i box. has_borrows box ≡ true → has_borrows (s.mailboxes p i) ≡ true) r
-              (λ _ h. k.borrows q (sym (has_borrows-history (last_n buffer x.history) (side.mailboxes q)) ∙ h)) (λ _. k.borrows r);
+              (λ _ h. k.borrows q (sym (has_borrows-history (last_n buffer ns) (side.mailboxes q)) ∙ h)) (λ _. k.borrows r);
           borrowed = λ r. at_each side.mailboxes q new (λ i box. has_borrows (s.mailboxes p i) ≡ true → has_borrows box ≡ true) r
-              (λ _ h. has_borrows-history (last_n buffer x.history) (side.mailboxes q) ∙ k.borrowed q h) (λ _. k.borrowed r);
+              (λ _ h. has_borrows-history (last_n buffer ns) (side.mailboxes q) ∙ k.borrowed q h) (λ _. k.borrowed r);
           comes_from = λ r. at_each side.mailboxes q new (ComesFrom s p x) r
-              (λ _ n h. inr (contains_in_history buffer x.history (side.mailboxes q) n empty h)) (λ _. k.comes_from r);
+              (λ _ n h. inr (of_history n (contains_in_history buffer ns (side.mailboxes q) n empty h))) (λ _. k.comes_from r);
         }
+
+    -- those of the whole history
+    connected_keeps : (side : SenderSide) (place q buffer : ℕ) → place < length s.subscriber_places → occupant s.subscriber_places place ≡ Some q
+        → receiving_buffer s q ≡ Some buffer → occupant side.ends place ≡ None
+        → SideKeeps side → SideKeeps (connected x.history side place q buffer)
+    connected_keeps = let u : PublisherIsWellFormed s p x = w.publishers p x present in connected_with_keeps x.history u.history_once (λ n h. h)
 
     module _ (environment : Environment) where
       abbrev Does : SenderAction → (place : ℕ) → SenderSide → SenderSide → Option ConnectionFailure → Type 0

@@ -42,6 +42,8 @@ pub(crate) fn send_slot<T: Drop, U: Default + Drop>(
     };
     publisher.remove_loan(slot);
     book.set_mark(slot, SlotMark::Sent);
-    book.release(slot);
+    if let Some(oldest) = publisher.history.push_back(slot) {
+        book.release(oldest);
+    }
     count
 }

@@ -1,18 +1,20 @@
 //! Ports get their connections, one place after the other.
-ghost use Rattle.std.specs.Prelude.{◌≡◌, ◌<◌, cond, false, Some, None, length, slice_index_or, IfOk, OnOk, OnErr};
+ghost use Rattle.std.specs.Prelude.{◌≡◌, ◌<◌, cond, false, Some, None, length, slice_index_or, IfOk, OnOk, OnErr, MatchOption};
 ghost use Rattle.slab.specs.Slab.{get};
 ghost use Rattle.iox2_store.specs.machine.Environments.{fixed_handlers};
 ghost use Rattle.iox2_store.specs.declared.warning.Warning.TheVariants.{ConnectionNotMade};
 ghost use Rattle.iox2_domain.specs.Ports.{PublisherFields, SubscriberFields};
 ghost use Rattle.iox2_domain.specs.Updates.{MakesConnection, StandApart, home_of};
 ghost use Rattle.iox2_domain.specs.Invariant.{IsDomain, connection_count, one_if_receivers};
-ghost use Rattle.iox2_domain.specs.Connects.{MakesRoom, ConnectsSender, ConnectsReceiver};
+ghost use Rattle.iox2_domain.specs.Connects.{MakesRoom, MakesSenderEnd, ConnectsSender, ConnectsReceiver};
+ghost use Rattle.iox2_domain.specs.Histories.{HasNewEnd, HandsOut};
 
 use crate::warnings::warn;
 use iox2_domain::{
     DomainState, PublisherState, SubscriberState, key_at, reserve_connection_at, reserve_key_at,
     set_key_at,
 };
+use iox2_ends::sender::{deliver_history, reclaim_all};
 use iox2_store::{Connection, Home, UniquePublisherId, UniqueSubscriberId, Warning};
 use slab::Slab;
 use std::alloc::{AllocError, Global};
@@ -140,21 +142,23 @@ fn make_between<T: Drop, U: Default + Drop>(
     make_connection(state.alloc, &mut state.connections, home, buffer, limit)
 }
 
-/// The publisher at a place that isn't due gets its connection with the subscriber at another.
-/// One that it has stays. Where memory for a new one is refused, that is a warning.
-pub(crate) fn connect_sender<T: Drop, U: Default + Drop>(
+// The publisher at a place that isn't due gets its connection with the subscriber at another.
+// Returns the key of one that it gets, in which no slot stands. One that it has stays. Where memory
+// for a new one is refused, that is a warning.
+fn make_sender_end<T: Drop, U: Default + Drop>(
     state: &mut DomainState<T, U>,
     publisher_place: usize,
     subscriber_place: usize,
-)
+) -> Option<usize>
     requires agrees { IsDomain state.old }
     requires publisher { publisher_place < length state.old.publishers }
     requires subscriber { subscriber_place < length state.old.subscribers }
     ensures { (x : PublisherFields) → slice_index_or state.old.publishers publisher_place None ≡ Some x → x.is_due ≡ false
-        → ConnectsSender fixed_handlers state.old publisher_place subscriber_place x state.new None }
+        → MatchOption result (ConnectsSender fixed_handlers state.old publisher_place subscriber_place x state.new None)
+        (λ key. MakesSenderEnd fixed_handlers state.old publisher_place subscriber_place x key state.new) }
 {
     if key_at(&state.publishers, publisher_place, subscriber_place).is_some() {
-        return;
+        return None;
     }
     if let Some(key) = key_at(&state.subscribers, subscriber_place, publisher_place) {
         set_key_at(
@@ -163,12 +167,12 @@ pub(crate) fn connect_sender<T: Drop, U: Default + Drop>(
             subscriber_place,
             key,
         );
-        return;
+        return Some(key);
     }
     let (home, buffer) = ports_at(state, publisher_place, subscriber_place);
     let Ok(key) = make_between(state, publisher_place, subscriber_place, home, buffer) else {
         warn(&mut state.warnings, not_made(home));
-        return;
+        return None;
     };
     set_key_at(
         &mut state.publishers,
@@ -176,6 +180,51 @@ pub(crate) fn connect_sender<T: Drop, U: Default + Drop>(
         subscriber_place,
         key,
     );
+    Some(key)
+}
+
+// Puts the last messages of the history of the publisher at a place into its connection at a key, in
+// which no slot stands. What was given back is reclaimed first.
+fn hand_out_history<T: Drop, U: Default + Drop>(
+    state: &mut DomainState<T, U>,
+    publisher_place: usize,
+    key: usize,
+)
+    requires agrees { IsDomain state.old }
+    requires new_end { HasNewEnd state.old publisher_place key }
+    ensures { (end : HasNewEnd state.old publisher_place key) → HandsOut state.old end.publisher end.link state.new }
+{
+    let Some(publisher) = &state.publishers[publisher_place] else {
+        unreachable!();
+    };
+    let book = &mut state.books[publisher.book];
+    reclaim_all(
+        publisher.id.value(),
+        &mut state.connections,
+        book,
+        &publisher.keys,
+    );
+    deliver_history(&publisher.history, &mut state.connections[key], book);
+}
+
+/// The publisher at a place that isn't due gets its connection with the subscriber at another, in
+/// which the last messages of its history wait, as many as fit. One that it has stays as it is.
+/// Where memory for a new one is refused, that is a warning.
+pub(crate) fn connect_sender<T: Drop, U: Default + Drop>(
+    state: &mut DomainState<T, U>,
+    publisher_place: usize,
+    subscriber_place: usize,
+)
+    requires agrees { IsDomain state.old }
+    requires publisher { publisher_place < length state.old.publishers }
+    requires subscriber { subscriber_place < length state.old.subscribers }
+    requires settled { (x : PublisherFields) → slice_index_or state.old.publishers publisher_place None ≡ Some x → x.is_due ≡ false }
+    ensures { (x : PublisherFields) → slice_index_or state.old.publishers publisher_place None ≡ Some x
+        → ConnectsSender fixed_handlers state.old publisher_place subscriber_place x state.new None }
+{
+    if let Some(key) = make_sender_end(state, publisher_place, subscriber_place) {
+        hand_out_history(state, publisher_place, key);
+    }
 }
 
 /// The subscriber at a place that isn't due gets its connection with the publisher at another.

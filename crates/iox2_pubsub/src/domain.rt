@@ -37,12 +37,11 @@ impl<T, U, F, G> Model for Domain<T, U, F, G> {
 
 impl<T: Drop, U: Default + Drop> Domain<T, U> {
     /// A domain with these settings and no port, as in `Domain::new(alloc, ServiceConfig::new(7))`.
-    /// So far it takes single values and no history.
+    /// So far it takes single values.
     ///
     /// Fails with `DomainCreateError::OutOfMemory` where memory is refused.
     pub fn new(alloc: Global, config: ServiceConfig) -> Result<Self, DomainCreateError>
         requires fixed_size { config.variant ≡ FixedSize }
-        requires no_history { config.history_size ≡ 0 }
         ensures fresh { IfOk result (λ d. Shows d no_messages (fresh config)) }
         ensures settings { IfOk result (λ d. d.config ≡ config) }
         ensures single_valued { IfOk result (λ d. config.units_per_element ≡ 1 → IsSingleValued d) }

@@ -146,6 +146,13 @@ impl Connection {
         self.home
     }
 
+    /// How many slots may wait.
+    pub fn buffer(&self) -> usize
+        ensures { result ≡ self.now.buffer }
+    {
+        self.waiting.capacity()
+    }
+
     /// Puts a slot behind those that wait. Where there is no room, the oldest of them goes if
     /// `overflow` is set, and else nothing changes.
     pub fn put(&mut self, slot: usize, overflow: bool) -> PutOutcome

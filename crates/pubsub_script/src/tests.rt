@@ -1,6 +1,7 @@
 mod arrivals;
 mod buffers;
 mod calls;
+mod histories;
 mod neighbours;
 mod plan;
 mod ports;
@@ -213,9 +214,8 @@ fn the_first_line_is_a_domain_line(rt: HostRuntime) {
         b"domain 1 1 1 -1 0 0 keep\n".as_slice(),
         b"domain 1 1 1 1 0 18446744073709551616 keep\n".as_slice(),
         b"domain 1 1 1 1 0 0 k\xC3ep\n".as_slice(),
+        b"domain 1 1 1 1 x 0 keep\n".as_slice(),
         b"\nsub x\n".as_slice(),
-        // What later scripts may ask for.
-        b"domain 1 1 1 1 1 0 keep\n".as_slice(),
     ] {
         Outcome::of(rt.alloc(), text).assert(&rt, 2, b"", b"line 1: bad command\n");
     }

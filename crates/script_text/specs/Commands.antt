@@ -11,9 +11,9 @@ use Rattle.iox2_store.specs.declared.degradation.DegradationAction.TheVariants.{
 use Rattle.iox2_commands.specs.declared.command.Command.{Command}
 use Rattle.iox2_commands.specs.declared.command.Command.TheVariants as command
 
--- The settings that a domain line names: single values and no history.
-abbrev pub script_config : (publishers subscribers buffer borrowed expired : ℕ) (overflow : Bool) → ServiceConfig
-script_config publishers subscribers buffer borrowed expired overflow = record {
+-- The settings that a domain line names, for single values.
+abbrev pub script_config : (publishers subscribers buffer borrowed history expired : ℕ) (overflow : Bool) → ServiceConfig
+script_config publishers subscribers buffer borrowed history expired overflow = record {
   service_id = 1;
   node_id = 1;
   variant = FixedSize;
@@ -22,7 +22,7 @@ script_config publishers subscribers buffer borrowed expired overflow = record {
   max_subscribers = subscribers;
   subscriber_max_buffer_size = buffer;
   subscriber_max_borrowed_samples = borrowed;
-  history_size = 0;
+  history_size = history;
   enable_safe_overflow = overflow;
   subscriber_expired_connection_buffer = expired;
   publisher_max_loaned_samples = 1;
@@ -47,18 +47,18 @@ abbrev pub IsMode : List ℕ → (overflow : Bool) → Type 0
 IsMode word true = word ≡ codes "overflow"
 IsMode word false = word ≡ codes "keep"
 
--- `domain P S B R H E overflow` or `.. keep`, where H is 0, names the settings with P, S, B, R and E.
+-- `domain P S B R H E overflow` or `.. keep` names the settings with P, S, B, R, H and E.
 pub record IsDomainLine (words : Words) (config : ServiceConfig) : Type 0 where
   pub form : HasForm words (codes "domain") 8
   pub publishers : IsNumber (words.word 1)
   pub subscribers : IsNumber (words.word 2)
   pub buffer : IsNumber (words.word 3)
   pub borrowed : IsNumber (words.word 4)
-  pub history : IsNumberAt words 5 0
+  pub history : IsNumber (words.word 5)
   pub expired : IsNumber (words.word 6)
   pub overflow : Bool
   pub mode : IsMode (words.word 7) overflow
-  pub settings : config ≡ script_config (value_of (words.word 1)) (value_of (words.word 2)) (value_of (words.word 3)) (value_of (words.word 4)) (value_of (words.word 6)) overflow
+  pub settings : config ≡ script_config (value_of (words.word 1)) (value_of (words.word 2)) (value_of (words.word 3)) (value_of (words.word 4)) (value_of (words.word 5)) (value_of (words.word 6)) overflow
 
 -- What the words of a line after the first ask for.
 abbrev pub IsCommandLine : Words → Command ℕ ℕ → Type 0

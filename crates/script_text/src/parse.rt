@@ -74,8 +74,8 @@ fn command_of(line: &[u8]) -> Option<Command<u64, u64>>
 /// The settings that a domain line names: `domain P S B R H E overflow` or `.. keep`.
 ///
 /// `P` and `S` are the greatest numbers of publishers and subscribers, `B` is the greatest buffer,
-/// `R` the greatest number of borrowed samples, and `E` the room for departed publishers. `H`, the
-/// history size, is 0.
+/// `R` the greatest number of borrowed samples, `H` the history size, and `E` the room for departed
+/// publishers.
 fn parse_domain(words: &[&str]) -> Option<ServiceConfig>
     ensures reads { IfSome result (IsDomainLine (words_in words.now)) }
     ensures refuses { IfNone result ((config : ServiceConfig) → ¬ IsDomainLine (words_in words.now) config) }
@@ -93,15 +93,13 @@ fn parse_domain(words: &[&str]) -> Option<ServiceConfig>
     else {
         return None;
     };
-    if parse_size(history)? != 0 {
-        return None;
-    }
     Some(ServiceConfig {
         node_id: 1,
         max_publishers: parse_size(publishers)?,
         max_subscribers: parse_size(subscribers)?,
         subscriber_max_buffer_size: parse_size(buffer)?,
         subscriber_max_borrowed_samples: parse_size(borrowed)?,
+        history_size: parse_size(history)?,
         enable_safe_overflow: parse_mode(mode)?,
         subscriber_expired_connection_buffer: parse_size(expired)?,
         publisher_max_loaned_samples: 1,

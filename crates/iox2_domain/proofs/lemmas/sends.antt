@@ -3,5 +3,7 @@ pub mod LoanAlone
 pub mod DeliverySteps
 pub mod SentSlots
 pub mod SendEnded
+pub mod HistoryLeft
+pub mod Trimmed
 pub mod Published
 pub mod SendSteps

@@ -9,7 +9,10 @@ pub mod SenderActions
 pub mod SenderSteps
 pub mod SenderCases
 pub mod SenderOutcomes
+pub mod HistoryBounds
+pub mod HistoryHanded
 pub mod SenderWalk
+pub mod HistoryConnects
 pub mod SenderUpdates
 pub mod ReceiverChanges
 pub mod ReceiverAgrees

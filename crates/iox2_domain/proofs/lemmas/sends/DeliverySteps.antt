@@ -1,9 +1,10 @@
 -- A publisher that discards what a full receiver doesn't take delivers a message.
-use Rattle.std.proofs.Common.{◌≡◌, ℕ, ◌+◌, ◌||◌, Bool, true, false, List, [], ◌∷◌, map, get_or, refl, ap, sym, subst, ◌∙◌, ◌<◌, ◌≤◌, length, slice_set, set-set}
+use Rattle.std.proofs.Common.{◌≡◌, ℕ, ◌+◌, ◌||◌, Bool, true, false, List, [], ◌∷◌, ◌++◌, cond, arith, map, get_or, refl, ap, sym, subst, ◌∙◌, ◌<◌, ◌≤◌, length, slice_set, set-set}
 use Rattle.std.specs.declared.option.Option.{Option}
 use Rattle.std.specs.declared.option.Option.TheVariants.{None, Some}
 use Rattle.std.specs.declared.time.Duration.{Duration}
 use Rattle.std.specs.Option.{option_map}
+use Rattle.std.specs.Prelude.{slice_get, nat_lt}
 use Rattle.slab.specs.Slab.{Slab, get, with_value}
 use Rattle.iox2_store.specs.machine.Delivery.{PutResult, DeliveryEnd, Complete, Suspended, Put, PutAtEnd, Deliver, is_blocking, is_failed, accepted_count, no_time}
 use Rattle.iox2_store.specs.Link.{Link}
@@ -20,14 +21,17 @@ use Rattle.iox2_ends.specs.Recounts.{Recounts}
 use Rattle.iox2_laws.proofs.Cases.{by_bool}
 use Rattle.iox2_domain.specs.Ports.{PublisherFields}
 use Rattle.iox2_domain.specs.Fields.{Fields}
-use Rattle.iox2_domain.specs.Invariant.{details_of, is_subscriber}
-use Rattle.iox2_domain.specs.Deliveries.{DeliversTo, CanSend, SendsSlot, with_loan_out, with_sent}
+use Rattle.iox2_domain.specs.Invariant.{IsDomain, IsCounted, details_of, is_subscriber, holders_of}
+use Rattle.iox2_domain.specs.Deliveries.{DeliversTo, CanSend, SendsSlot, with_loan_out, with_sent, with_left, pushed, leaving}
 use Rattle.iox2_domain.proofs.lemmas.containers.LookUps.{IsOnly-map}
-use Rattle.iox2_domain.proofs.lemmas.fields.Parts.{HasParts}
-use Rattle.iox2_domain.proofs.lemmas.slots.PublisherBooks.{sender-linked}
+use Rattle.iox2_domain.proofs.lemmas.fields.Parts.{HasParts, parts_of}
+use Rattle.iox2_domain.proofs.lemmas.slots.PublisherBooks.{sender-linked, book-own}
+use Rattle.iox2_domain.proofs.lemmas.slots.BookChanges.{holders-here}
+use Rattle.iox2_domain.proofs.lemmas.slots.HeldMessages.{own-in_use as held-itself}
+use Rattle.iox2_domain.proofs.lemmas.slots.RecountedState.{recounted_fields, parts-recounted}
 use Rattle.std.proofs.lemmas.List.{get_or-set_same}
 use Rattle.iox2_ends.proofs.MailboxChanges.{within_if_some}
-use Rattle.iox2_ends.proofs.Counts.{in_range}
+use Rattle.iox2_ends.proofs.Counts.{in_range, times-cons, one_if_same}
 use Rattle.iox2_ends.proofs.ReclaimedPuts.{own-in_use, own-still}
 
 module _ (e : Environment) (c : ServiceConfig) (p : ℕ) (buffers : ℕ → Option ℕ) (n : ℕ) where
@@ -104,7 +108,7 @@ module _ {T U : Type 0} (environment : Environment) (before f : Fields T U) (sam
       → ((number : ℕ → ℕ → ℕ)
       → Deliver environment f.config y.id y.strategy y.backpressure_handler (buffers_of (map (option_map details_of) f.subscribers)) (number y.id slot)
       0 no_time 0 (sender_ends f.connections y.keys) 0 false (mailboxes_of number f.connections y.id) (Complete count false) (mailboxes_of number new y.id))
-      → (out : PublisherFields) → out ≡ with_loan_out slot y → (sent : Book) → sent ≡ with_sent slot book
+      → (out : PublisherFields) → out ≡ record (with_loan_out slot y) { history = pushed y.history slot } → (sent : Book) → sent ≡ with_left (leaving y.history slot) (with_sent slot book)
       → (x : PublisherFields) → get_or before.publishers i None ≡ Some x
       → SendsSlot environment before i x slot count (record f { publishers = slice_set f.publishers i (Some out); connections = new; books = with_value f.books y.book sent })
   sends-slot b book at new is r slot count alone delivers out is_out sent is_sent x there =
@@ -122,9 +126,9 @@ module _ {T U : Type 0} (environment : Environment) (before f : Fields T U) (sam
       it : y ≡ x
       it = let both : Some y ≡ Some x = sym here ∙ there in cc
 
-      twice : with_value f.books y.book sent ≡ with_value (with_value f.books y.book book) y.book (with_sent slot book)
+      twice : with_value f.books y.book sent ≡ with_value (with_value f.books y.book book) y.book (with_left (leaving y.history slot) (with_sent slot book))
       twice = ap (with_value f.books y.book) is_sent
-          ∙ sym (ap (λ (books : List (Option Book)). let slab : Slab Book = record f.books { slots = books } in slab) (set-set f.books.slots y.book (Some book) (Some (with_sent slot book))))
+          ∙ sym (ap (λ (books : List (Option Book)). let slab : Slab Book = record f.books { slots = books } in slab) (set-set f.books.slots y.book (Some book) (Some (with_left (leaving y.history slot) (with_sent slot book)))))
 
 module _ {T U : Type 0} (before f : Fields T U) (same : f ≡ before) (i slot : ℕ) (can : (x : PublisherFields) × (get_or before.publishers i None ≡ Some x) × CanSend before x slot)
     (y : PublisherFields) (stands : get_or f.publishers i None ≡ Some y) where
@@ -156,3 +160,41 @@ module _ {T U : Type 0} (before f : Fields T U) (same : f ≡ before) (i slot : 
     sent-in_use holders new r =
         let some = own-in_use y.id slot holders new.slots (own-still y.id slot b.holders holders f.connections new sent-own r) in
         (in_range holders slot some, some)
+
+    -- what leaves the history for it is in use then too
+    pub leaves-in_use : IsDomain before → (holders : List ℕ) (new : Slab Link) → Recounts y.id b.holders f.connections holders new → (oldest : ℕ) → leaving y.history slot ≡ Some oldest
+        → (oldest < length holders) × (0 < get_or holders oldest 0)
+    leaves-in_use sound holders new r oldest leaves = (in_range holders oldest used, used) where
+      here : IsDomain f
+      here = subst (IsDomain {T = T} {U = U}) (sym same) sound
+
+      mine : b.publisher ≡ y.id
+      mine = book-own f (parts_of f here) i y stands b at
+
+      counted : IsCounted (recounted_fields f here y.id y.book b at mine holders new r)
+      counted = (parts-recounted f here y.id y.book b at mine holders new r).counted
+
+      remembered : 0 < times oldest y.history.items → 0 < get_or holders oldest 0
+      remembered some =
+          let held : 0 < holders_of (recounted_fields f here y.id y.book b at mine holders new r).books y.id oldest =
+          held-itself (recounted_fields f here y.id y.book b at mine holders new r) counted here.publisher_ids i oldest y stands (omega (arith, some)) in
+          let now : holders_of (recounted_fields f here y.id y.book b at mine holders new r).books y.id oldest ≡ get_or holders oldest 0 =
+          holders-here f y.book b (with_counters b holders) at (record { publisher = refl; numbers = refl; slots = r.slots }) here.books.one_each y.id oldest mine in
+          omega (arith, held, now)
+
+      by : (items : List ℕ) → y.history.items ≡ items → slice_get (items ++ slot ∷ []) 0 ≡ Some oldest → 0 < get_or holders oldest 0
+      by [] e first =
+          let is : Some slot ≡ Some oldest = first in
+          let it_is : slot ≡ oldest = cc in
+          subst (λ (k : ℕ). 0 < get_or holders k 0) it_is (sent-in_use holders new r).1
+      by (o ∷ os) e first =
+          let is : Some o ≡ Some oldest = first in
+          let it_is : o ≡ oldest = cc in
+          remembered (subst (λ (k : ℕ). 0 < times k y.history.items) it_is (let all = ap (times o) e in omega (arith, all, times-cons o o os, one_if_same o)))
+
+      some-leaves : (t : Bool) → cond t None (slice_get (y.history.items ++ slot ∷ []) 0) ≡ Some oldest → slice_get (y.history.items ++ slot ∷ []) 0 ≡ Some oldest
+      some-leaves true e = absurd cc
+      some-leaves false e = e
+
+      used : 0 < get_or holders oldest 0
+      used = by y.history.items refl (some-leaves (nat_lt (length y.history.items) y.history.capacity) leaves)

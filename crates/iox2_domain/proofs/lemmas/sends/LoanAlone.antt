@@ -36,7 +36,7 @@ absent-times number n slot is (x ∷ xs) absent =
     ]
 
 -- a slot stands once at most among slots with different numbers
-once-times : (number : ℕ → ℕ) (slot : ℕ) (slots : List ℕ) → IsOnce (map number slots) → times slot slots ≤ 1
+pub once-times : (number : ℕ → ℕ) (slot : ℕ) (slots : List ℕ) → IsOnce (map number slots) → times slot slots ≤ 1
 once-times number slot [] once = omega arith
 once-times number slot (x ∷ xs) once = elim (cases_eq slot x) [
   | inl same ↦

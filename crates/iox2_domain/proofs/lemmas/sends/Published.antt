@@ -1,7 +1,9 @@
 -- A publisher's loan is published: it goes to its receivers, and is out no more.
-use Rattle.std.proofs.Common.{◌≡◌, ◌≢◌, ℕ, le_refl, ◌<◌, ◌≤◌, true, false, cond, List, [], ◌∷◌, ◌++◌, length, map, get_or, refl, ap, sym, subst, ◌∙◌, inl, inr, ⊎_elim, arith, set-set}
+use Rattle.std.proofs.Common.{◌≡◌, ◌≢◌, ℕ, le_refl, ◌<◌, ◌≤◌, ◌||◌, true, false, cond, List, [], ◌∷◌, ◌++◌, length, map, get_or, refl, ap, sym, subst, ◌∙◌, inl, inr, ⊎_elim, arith, set-set}
 use Rattle.std.proofs.lemmas.Bool.{cases_eq, ne_eqb, eq-eqb}
-use Rattle.std.proofs.lemmas.List.{length-set}
+use Rattle.std.proofs.lemmas.List.{length-map}
+use Rattle.std.proofs.lemmas.Option.{same_Some}
+use Rattle.std.specs.Prelude.{slice_get}
 use Rattle.std.specs.declared.option.Option.{Option}
 use Rattle.std.specs.declared.option.Option.TheVariants.{None, Some}
 use Rattle.std.specs.Option.{MatchOption, option_map, option_and_then}
@@ -17,21 +19,22 @@ use Rattle.iox2_store.specs.Stored.{IsHeldMessage, In_history, In_mailbox, In_bl
 use Rattle.iox2_store.specs.machine.State.{State, receiving_buffer}
 use Rattle.iox2_store.specs.machine.WellFormed.{IsWellFormed}
 use Rattle.iox2_ends.specs.Counters.{times, with_counters}
-use Rattle.iox2_ends.specs.LookUp.{look_up}
+use Rattle.iox2_ends.specs.LookUp.{look_up, IsOnly}
+use Rattle.iox2_ends.proofs.LookUps.{look_up-found}
 use Rattle.iox2_ends.specs.Mailboxes.{mailboxes_of}
 use Rattle.iox2_ends.specs.Receivers.{buffers_of, buffer_if_open, has_id}
 use Rattle.iox2_ends.proofs.MailboxChanges.{others-stay}
 use Rattle.iox2_laws.proofs.Altered.{same_state}
 use Rattle.iox2_laws.proofs.DeliveryLaws.{Delivered, deliver_is}
 use Rattle.iox2_laws.proofs.MailboxLemmas.{contains_in_appended}
-use Rattle.iox2_laws.proofs.NumberLemmas.{length-last_n}
+use Rattle.iox2_laws.proofs.NumberLemmas.{contains_in_append, contains_in_last_n}
 use Rattle.iox2_laws.proofs.Puts.{put_at-same, put_at-other, at_each, found_put}
 use Rattle.iox2_laws.proofs.SendLaws.{publish_keeps}
 use Rattle.iox2_domain.specs.Ports.{PublisherFields, SubscriberFields}
-use Rattle.iox2_domain.specs.Kept.{Named, Lent_message, state_of, entries_of, is_named, entry_in, KeptMessage}
+use Rattle.iox2_domain.specs.Kept.{Named, Lent_message, Sent_message, state_of, entries_of, is_named, entry_in, KeptMessage}
 use Rattle.iox2_domain.specs.Fields.{Fields, kept_of, publisher_of, subscriber_of, numbers_of, blocked_send}
-use Rattle.iox2_domain.specs.Invariant.{IsDomain, HasNumber, details_of, is_subscriber, holders_of, HasLoneLoans}
-use Rattle.iox2_domain.specs.Deliveries.{DeliversTo, SendsSlot, Publishes, with_sent, with_send_ended}
+use Rattle.iox2_domain.specs.Invariant.{IsDomain, HasNumber, details_of, is_publisher, is_subscriber, holders_of, HasLoneLoans}
+use Rattle.iox2_domain.specs.Deliveries.{DeliversTo, SendsSlot, Publishes, with_loan_out, with_remembered, pushed, leaving, with_sent, with_left, with_send_ended}
 use Rattle.iox2_domain.proofs.lemmas.containers.LookUps.{look_up-map}
 use Rattle.iox2_domain.proofs.lemmas.fields.Views.{mailboxes-are, unblocked}
 use Rattle.iox2_domain.proofs.lemmas.fields.ConnectionEnds.{publisher-stands}
@@ -41,21 +44,27 @@ use Rattle.iox2_domain.proofs.lemmas.slots.BookChanges.{KeepsSlots, book-here, h
 use Rattle.iox2_domain.proofs.lemmas.fields.SameEnds.{with_connections, same-subscriber_of_key}
 use Rattle.iox2_domain.proofs.lemmas.slots.HeldMessages.{own-in_use, held-message-slot}
 use Rattle.iox2_domain.proofs.lemmas.slots.PublisherBooks.{book-own}
-use Rattle.iox2_domain.proofs.lemmas.slots.Recounts.{forth}
+use Rattle.iox2_domain.proofs.lemmas.slots.Recounts.{back, forth}
 use Rattle.iox2_domain.proofs.lemmas.slots.RecountedState.{recounted_fields, parts-recounted, same-numbers, recounted-is, recounted-entries, recounted-keeps}
 use Rattle.iox2_domain.proofs.lemmas.sends.LoanAlone.{loan-is, loan-of, loan-slot, loan-once, loan-number}
-use Rattle.iox2_domain.proofs.lemmas.sends.SendEnded.{only-slot, sent-there, others-same, ended-entries, ended-is, ended-parts}
+use Rattle.iox2_domain.proofs.lemmas.sends.SendEnded.{ended, lies-sent, others-lie, only-slot, sent-there, others-same, ended-entries, ended-is, ended-parts}
+use Rattle.iox2_domain.proofs.lemmas.sends.Trimmed.{Trims, trims}
+use Rattle.iox2_domain.proofs.lemmas.slots.NumbersInUse.{contains-map}
+use Rattle.iox2_domain.proofs.lemmas.loans.PublisherChanges.{changed-here}
 use Rattle.iox2_domain.proofs.lemmas.slots.LoneLoans.{lone-sent}
 use mathlib.Core.Path.{fun_ext}
-
--- a list with no elements
-nil-of : {A : Type 0} (xs : List A) → length xs ≤ 0 → xs ≡ []
-nil-of [] le = refl
-nil-of (x ∷ xs) le = absurd (omega arith)
 
 -- a fact of what stands there
 pub match-some : {A : Type 0} (o : Option A) (a : A) (P : Type 0) (Q : A → Type 0) → o ≡ Some a → Q a → MatchOption o P Q
 match-some o a P Q e q = subst (λ v. MatchOption v P Q) (sym e) q
+
+-- a publisher that stands somewhere is in the state, where ids are apart
+named : {T U : Type 0} (f : Fields T U) → ((p : ℕ) → IsOnly (is_publisher p) f.publishers) → (i : ℕ) (x : PublisherFields) → get_or f.publishers i None ≡ Some x
+    → (state_of (kept_of f)).publishers x.id ≡ Some ((publisher_of f.books f.connections x).port)
+named f ids i x at =
+    ap (option_map (λ (z : Named Publisher). z.port))
+    (look_up-map (is_named x.id) (publisher_of f.books f.connections) f.publishers
+    ∙ ap (option_map (publisher_of f.books f.connections)) (look_up-found (is_publisher x.id) f.publishers i x (ids x.id) at (eq-eqb x.id x.id refl)))
 
 module _ {T U : Type 0} (f : Fields T U) where
   -- the machine's buffers are those that the delivery sees
@@ -118,18 +127,33 @@ module _ {T U : Type 0} (environment : Environment) (f : Fields T U) (sound : Is
   lies-still = forth f (parts_of f sound) x.id x.book d.book d.stands own d.holders d.connections d.recounts x.book slot n (Lent_message n l)
       (record { book = book; stands = book-stands; in_use = in_use; number = number }) lies
 
+  -- the publisher and the fields where the history has the message, which may be one too many
+  abbrev remembering : PublisherFields
+  remembering = with_remembered slot x
+
+  abbrev remembered : Fields T U
+  remembered = ended mid parts i x here book book-stands own slot n l is_in_use lies-still is_written once
+
+  parts-remembered : HasParts remembered
+  parts-remembered = ended-parts mid parts i x here book book-stands own slot n l is_in_use lies-still is_written once
+
+  low : slot < length book.marks
+  low = omega (arith, is_in_use.in_bounds, d.recounts.slots, (sound.books.books x.book d.book d.stands).aligned.marks)
+
+  lone-remembered : HasLoneLoans remembered.books
+  lone-remembered =
+      subst HasLoneLoans (sym (ap (λ (books : List (Option Book)). let slab : Slab Book = record f.books { slots = books } in slab) (set-set f.books.slots x.book (Some book) (Some (with_sent slot book)))))
+      (lone-sent f.books x.book slot d.book d.holders d.stands sound.lone low d.alone.others)
+
+  stands-remembered : get_or remembered.publishers i None ≡ Some remembering
+  stands-remembered = changed-here mid i x remembering here refl
+
+  book-remembered : get remembered.books x.book ≡ Some (with_sent slot book)
+  book-remembered = book-here mid x.book book (with_sent slot book) book-stands (record { publisher = refl; numbers = refl; slots = refl })
+
   -- the fields after the send
   abbrev after : Fields T U
   after = with_send_ended mid i x slot book
-
-  parts-after : HasParts after
-  parts-after = ended-parts mid parts i x here book book-stands own slot n l is_in_use lies-still is_written once
-
-  lone-after : HasLoneLoans after.books
-  lone-after =
-      subst HasLoneLoans (sym (ap (λ (books : List (Option Book)). let slab : Slab Book = record f.books { slots = books } in slab) (set-set f.books.slots x.book (Some book) (Some (with_sent slot book)))))
-      (lone-sent f.books x.book slot d.book d.holders d.stands sound.lone
-      (omega (arith, is_in_use.in_bounds, d.recounts.slots, (sound.books.books x.book d.book d.stands).aligned.marks)) d.alone.others)
 
   -- ---- the state
 
@@ -159,28 +183,101 @@ module _ {T U : Type 0} (environment : Environment) (f : Fields T U) (sound : Is
     blocked = option_map (blocked_send (numbers-are t x.id) (map (same-subscriber_of_key f.connections d.connections d.recounts.homes t) x.keys)) x.blocked;
   }
 
-  -- the publisher without the loan
-  abbrev sender : Publisher
-  sender = record port { loans = without n port.loans }
+  -- the publisher without the loan, which its history has
+  abbrev rememberer : Publisher
+  rememberer = record port { loans = without n port.loans; history = port.history ++ n ∷ [] }
 
-  after-is : state_of (kept_of after) ≡ record s { mailboxes = boxes; publishers = put_at s.publishers x.id (Some sender); loans = put_at s.loans n None }
-  after-is =
+  remembered-is : state_of (kept_of remembered) ≡ record s { mailboxes = boxes; publishers = put_at s.publishers x.id (Some rememberer); loans = put_at s.loans n None }
+  remembered-is =
       ended-is mid parts i x here book book-stands own slot n l is_in_use lies-still is_written once
       (λ r some is. loan-slot f sound i x here slot n l lies r some (sym (ap (λ (numbers : ℕ → ℕ → ℕ). numbers x.id r) numbers-are) ∙ is))
       (ap (λ (numbers : ℕ → ℕ → ℕ). numbers x.id slot) numbers-are ∙ loan-number f sound i x here slot n l lies)
       ∙ ap (λ (numbers : ℕ → ℕ). record (state_of (kept_of mid)) {
-        publishers = put_at (state_of (kept_of mid)).publishers x.id (Some (record (publisher_of mid.books mid.connections x).port { loans = without n (map numbers x.loans) }));
+        publishers = put_at (state_of (kept_of mid)).publishers x.id
+            (Some (record (publisher_of mid.books mid.connections x).port { loans = without n (map numbers x.loans); history = map numbers (x.history).items ++ n ∷ [] }));
         loans = put_at (state_of (kept_of mid)).loans n None;
       }) (ap (λ (numbers : ℕ → ℕ → ℕ). numbers x.id) numbers-are)
       ∙ ap (λ (y : Publisher). record (state_of (kept_of mid)) {
-        publishers = put_at (state_of (kept_of mid)).publishers x.id (Some (record y { loans = without n port.loans }));
+        publishers = put_at (state_of (kept_of mid)).publishers x.id (Some (record y { loans = without n port.loans; history = port.history ++ n ∷ [] }));
         loans = put_at (state_of (kept_of mid)).loans n None;
       }) port-is
-      ∙ ap (λ (t : State T U). record t { publishers = put_at t.publishers x.id (Some sender); loans = put_at t.loans n None }) mid-is
+      ∙ ap (λ (t : State T U). record t { publishers = put_at t.publishers x.id (Some rememberer); loans = put_at t.loans n None }) mid-is
 
-  -- no history is kept
-  no-history : port.history ≡ []
-  no-history = nil-of port.history (let bound = (sound.well_formed.publishers x.id port stands).history_bound in omega (arith, bound, sound.supported.no_history))
+  -- ---- the history is trimmed
+
+  -- what leaves the history is no loan
+  leaves-sent : (oldest m : ℕ) (k : Loan T U) → slice_get ((x.history).items ++ slot ∷ []) 0 ≡ Some oldest → lies_at remembered x.book oldest ≡ Some (Lent_message m k) → ⊥
+  leaves-sent oldest m k first lying = elim (cases_eq oldest slot) [
+    | inl same ↦
+        absurd (let is : Lent_message m k ≡ Sent_message n (entry_of l) = lies-sent mid parts i x here book book-stands own slot n l is_in_use lies-still is_written once (Lent_message m k)
+        (sym (ap (λ j. lies_at remembered x.book j) same) ∙ lying) in cc)
+    | inr away ↦ absurd (by (x.history).items refl away)
+  ]
+    where
+      in-history : contains (x.history).items oldest ≡ true → ⊥
+      in-history is =
+          let in_mid : lies_at mid x.book oldest ≡ Some (Lent_message m k) =
+          sym (others-lie mid parts i x here book book-stands own slot n l is_in_use lies-still is_written once x.book oldest (λ both. apart both.1)) ∙ lying in
+          let lay : lies_at f x.book oldest ≡ Some (Lent_message m k) = back f (parts_of f sound) x.id x.book d.book d.stands own d.holders d.connections d.recounts x.book oldest (Lent_message m k) in_mid in
+          let out = (sound.well_formed.loans m k (loan-is f sound i x here oldest m k lay)).is_out port (ap s.publishers (loan-of f sound i x here oldest m k lay) ∙ stands) in
+          let there : contains port.history m ≡ true =
+          ap (contains port.history) (sym (loan-number f sound i x here oldest m k lay)) ∙ contains-map (numbers_of f.books x.id) (x.history).items oldest is in
+          absurd (let no : true ≡ false = sym there ∙ out.1 in cc)
+        where
+          apart : oldest ≡ slot → ⊥
+          apart same = elim (cases_eq oldest slot) [ inl e ↦ clash e | inr away ↦ away same ] where
+            clash : oldest ≡ slot → ⊥
+            clash e = absurd (let is : Lent_message m k ≡ Sent_message n (entry_of l) = lies-sent mid parts i x here book book-stands own slot n l is_in_use lies-still is_written once (Lent_message m k)
+                (sym (ap (λ j. lies_at remembered x.book j) e) ∙ lying) in cc)
+
+      by : (items : List ℕ) → (x.history).items ≡ items → oldest ≢ slot → ⊥
+      by [] e away = away (let is : Some slot ≡ Some oldest = sym (ap (λ (xs : List ℕ). slice_get (xs ++ slot ∷ []) 0) e) ∙ first in cc)
+      by (o ∷ os) e away =
+          let is : Some o ≡ Some oldest = sym (ap (λ (xs : List ℕ). slice_get (xs ++ slot ∷ []) 0) e) ∙ first in
+          let same : o ≡ oldest = cc in
+          in-history (ap (λ (xs : List ℕ). contains xs oldest) e ∙ ap (λ t. t || contains os oldest) (eq-eqb o oldest same))
+
+  room : (x.history).capacity ≡ (f.config).history_size
+  room = (sound.publisher_room i x here).history
+
+  fits-history : length (x.history).items ≤ (x.history).capacity
+  fits-history =
+      let bound : length port.history ≤ (f.config).history_size = (sound.well_formed.publishers x.id port stands).history_bound in
+      let size : length port.history ≡ length (x.history).items = length-map (x.history).items (numbers_of f.books x.id) in
+      omega (arith, bound, size, room)
+
+  rememberer-is : (publisher_of remembered.books remembered.connections remembering).port ≡ rememberer
+  rememberer-is = same_Some _ _ (sym (named remembered parts-remembered.publisher_ids i remembering stands-remembered) ∙ ap (λ (t : State T U). t.publishers x.id) remembered-is ∙ put_at-same s.publishers x.id (Some rememberer))
+
+  trim : Trims remembered after x.id (x.history).capacity (publisher_of remembered.books remembered.connections remembering).port
+  trim = trims remembered parts-remembered i remembering stands-remembered (with_sent slot book) book-remembered own lone-remembered
+      (named remembered parts-remembered.publisher_ids i remembering stands-remembered)
+      (x.history).items slot (x.history).capacity refl fits-history leaves-sent after
+      (λ t. record mid {
+        publishers = sym (set-set mid.publishers i (Some remembering) (Some (record (with_loan_out slot x) { history = pushed x.history slot }))) t;
+        books = record mid.books { slots = sym (set-set mid.books.slots x.book (Some (with_sent slot book)) (Some (with_left (leaving x.history slot) (with_sent slot book)))) t };
+      })
+
+  parts-after : HasParts after
+  parts-after = trim.parts
+
+  lone-after : HasLoneLoans after.books
+  lone-after = trim.lone
+
+  -- the publisher after the send
+  abbrev sender : Publisher
+  sender = record port { loans = without n port.loans; history = last_n (f.config).history_size (port.history ++ n ∷ []) }
+
+  twice : (q : ℕ) → put_at (put_at s.publishers x.id (Some rememberer)) x.id (Some sender) q ≡ put_at s.publishers x.id (Some sender) q
+  twice q = at_each s.publishers x.id (Some sender) (λ j o. put_at (put_at s.publishers x.id (Some rememberer)) x.id (Some sender) j ≡ o) q
+      (λ _. put_at-same (put_at s.publishers x.id (Some rememberer)) x.id (Some sender))
+      (λ apart. put_at-other (put_at s.publishers x.id (Some rememberer)) x.id (Some sender) q apart ∙ put_at-other s.publishers x.id (Some rememberer) q apart)
+
+  after-is : state_of (kept_of after) ≡ record s { mailboxes = boxes; publishers = put_at s.publishers x.id (Some sender); loans = put_at s.loans n None }
+  after-is =
+      trim.state
+      ∙ (λ t. record (remembered-is t) { publishers = put_at (remembered-is t).publishers x.id (Some (record (rememberer-is t) { history = last_n (room t) (rememberer-is t).history })) })
+      ∙ ap (λ (ps : ℕ → Option Publisher). record s { mailboxes = boxes; publishers = ps; loans = put_at s.loans n None }) (fun_ext twice)
 
   -- what publishing and ending make of the publisher
   abbrev with_message : Publisher → Publisher
@@ -190,10 +287,7 @@ module _ {T U : Type 0} (environment : Environment) (f : Fields T U) (sound : Is
   without_loan y = record y { loans = without n y.loans; blocked = None }
 
   sender-is : without_loan (with_message port) ≡ sender
-  sender-is = (λ t. record port { loans = without n port.loans; history = last_n (f.config).history_size (port.history ++ n ∷ []); blocked = sym (unblocked f.books f.connections x (sound.plain i x here)) t }) ∙ ap (λ (ns : List ℕ). record port { loans = without n port.loans; history = ns })
-      (nil-of (last_n (f.config).history_size (port.history ++ n ∷ []))
-      (let few = length-last_n (f.config).history_size (port.history ++ n ∷ []) in omega (arith, few, sound.supported.no_history))
-      ∙ sym no-history)
+  sender-is = λ t. record sender { blocked = sym (unblocked f.books f.connections x (sound.plain i x here)) t }
 
   publishers-are : (q : ℕ) → put_at s.publishers x.id (Some sender) q ≡ (send_ended (with_mailboxes (published s x.id n) x.id (boxes x.id)) x.id n).publishers q
   publishers-are q =
@@ -244,12 +338,19 @@ module _ {T U : Type 0} (environment : Environment) (f : Fields T U) (sound : Is
   -- ---- entries
 
   -- who holds another message afterwards held it after the delivery
-  held-mid : (q m : ℕ) → IsHeldMessage (record s { mailboxes = boxes; publishers = put_at s.publishers x.id (Some sender); loans = put_at s.loans n None }) q m
+  held-mid : (q m : ℕ) → m ≢ n → IsHeldMessage (record s { mailboxes = boxes; publishers = put_at s.publishers x.id (Some sender); loans = put_at s.loans n None }) q m
       → IsHeldMessage (record s { mailboxes = boxes }) q m
-  held-mid q m (In_history y at is) = found_put s.publishers x.id sender (λ j z. contains z.history m ≡ true → IsHeldMessage (record s { mailboxes = boxes }) j m) q y at
-      (λ _ h. In_history port stands h) (λ _ there h. In_history y there h) is
-  held-mid q m (In_mailbox r is) = In_mailbox r is
-  held-mid q m (In_blocked_send y b at waits is) = found_put s.publishers x.id sender (λ j z. z.blocked ≡ Some b → IsHeldMessage (record s { mailboxes = boxes }) j m) q y at
+  held-mid q m away (In_history y at is) = found_put s.publishers x.id sender (λ j z. contains z.history m ≡ true → IsHeldMessage (record s { mailboxes = boxes }) j m) q y at
+      (λ _ h. In_history port stands (⊎_elim (λ old. old) (λ new. absurd (away (alone new))) (contains_in_append port.history (n ∷ []) m (contains_in_last_n (f.config).history_size (port.history ++ n ∷ []) m h))))
+      (λ _ there h. In_history y there h) is
+    where
+      alone : contains (n ∷ []) m ≡ true → m ≡ n
+      alone h = elim (cases_eq n m) [
+        | inl same ↦ sym same
+        | inr differs ↦ absurd (let no : false ≡ true = sym (ap (λ t. t || false) (ne_eqb n m differs)) ∙ h in cc)
+      ]
+  held-mid q m away (In_mailbox r is) = In_mailbox r is
+  held-mid q m away (In_blocked_send y b at waits is) = found_put s.publishers x.id sender (λ j z. z.blocked ≡ Some b → IsHeldMessage (record s { mailboxes = boxes }) j m) q y at
       (λ _ h. In_blocked_send port b stands h is) (λ _ there h. In_blocked_send y b there h is) waits
 
   delivered : Delivered (receiving_buffer s) n port.ends port.ends (s.mailboxes x.id) (Complete count false) (boxes x.id)
@@ -279,32 +380,30 @@ module _ {T U : Type 0} (environment : Environment) (f : Fields T U) (sound : Is
 
     sent : m ≡ n → (entry : Entry T U) × (entries_of (kept_of after) m ≡ Some entry) × ((entry.header).publisher_id ≡ q)
     sent same =
-        let has : HasNumber after.books lying.0 lying.1 n = subst (HasNumber after.books lying.0 lying.1) same lying.2 in
+        let was = trim.numbers lying.0 lying.1 m lying.2 in
+        let has : HasNumber remembered.books lying.0 lying.1 n = subst (HasNumber remembered.books lying.0 lying.1) same was.0 in
         let at_slot = only-slot mid parts i x here book book-stands own slot n l is_in_use lies-still is_written once lying.0 lying.1 has in
-        let stands_now : get after.books x.book ≡ Some (with_sent slot book) =
-        book-here mid x.book book (with_sent slot book) book-stands (record { publisher = refl; numbers = refl; slots = long }) in
-        let both : Some (with_sent slot book) ≡ Some (lying.2).book = sym stands_now ∙ ap (get after.books) (sym at_slot.0) ∙ (lying.2).stands in
-        let is_book : with_sent slot book ≡ (lying.2).book = cc in
-        let some : 0 < holders_at (with_sent slot book) slot =
-        subst (λ (c : Book). 0 < holders_at c slot) (sym is_book) (subst (λ (k : ℕ). 0 < holders_at (lying.2).book k) at_slot.1 (lying.2).in_use) in
-        let found : entries_of (kept_of after) n ≡ Some (entry_of l) =
-        entry-found after parts-after.numbered x.book slot n (entry_of l) (sent-there mid parts i x here book book-stands own slot n l is_in_use lies-still is_written once some) in (
+        let both : Some (with_sent slot book) ≡ Some (was.0).book = sym book-remembered ∙ ap (get remembered.books) (sym at_slot.0) ∙ (was.0).stands in
+        let is_book : with_sent slot book ≡ (was.0).book = cc in
+        let found : entries_of (kept_of remembered) n ≡ Some (entry_of l) =
+        entry-found remembered parts-remembered.numbered x.book slot n (entry_of l) (sent-there mid parts i x here book book-stands own slot n l is_in_use lies-still is_written once in_use) in (
           entry_of l,
-          ap (entries_of (kept_of after)) same ∙ found,
+          trim.keeps q m (entry_of l) is (ap (entries_of (kept_of remembered)) same ∙ found),
           (sound.well_formed.loans n l (loan-is f sound i x here slot n l lies)).origin ∙ loan-of f sound i x here slot n l lies
-              ∙ sym own ∙ ap (λ (c : Book). c.publisher) is_book ∙ lying.3,
+              ∙ sym own ∙ ap (λ (c : Book). c.publisher) is_book ∙ was.1 ∙ lying.3,
         )
-      where
-        long : length (with_sent slot book).holders ≡ length book.holders
-        long = length-set book.holders slot _
 
     others : m ≢ n → (entry : Entry T U) × (entries_of (kept_of after) m ≡ Some entry) × ((entry.header).publisher_id ≡ q)
     others away =
-        let in_mid : IsHeldMessage (record s { mailboxes = boxes }) q m = held-mid q m (subst (λ t. IsHeldMessage t q m) after-is is) in
+        let in_mid : IsHeldMessage (record s { mailboxes = boxes }) q m = held-mid q m away (subst (λ t. IsHeldMessage t q m) after-is is) in
         let old = sound.entries q m (held-before-send q m away in_mid) in
         let kept : entries_of (kept_of mid) m ≡ Some old.0 =
         recounted-keeps f sound x.id x.book d.book d.stands own d.holders d.connections d.recounts q m old.0 (subst (λ t. IsHeldMessage t q m) (sym mid-is) in_mid) old.1 in
-        (old.0, ap found_entry (others-same mid parts i x here book book-stands own slot n l is_in_use lies-still is_written once m away) ∙ kept, old.2)
+        (
+          old.0,
+          trim.keeps q m old.0 is (ap found_entry (others-same mid parts i x here book book-stands own slot n l is_in_use lies-still is_written once m away) ∙ kept),
+          old.2,
+        )
       where
         found_entry : Option (KeptMessage T U) → Option (Entry T U)
         found_entry None = None
@@ -316,7 +415,7 @@ module _ {T U : Type 0} (environment : Environment) (f : Fields T U) (sound : Is
     agrees = whole_of after parts-after lone-after well entries-after;
     publishes = publishes;
     loans = ap (λ (t : State T U). t.loans) ended-state;
-    entries = λ m entry e. elim (ended-entries mid parts i x here book book-stands own slot n l is_in_use lies-still is_written once m entry e) [
+    entries = λ m entry e. elim (ended-entries mid parts i x here book book-stands own slot n l is_in_use lies-still is_written once m entry (trim.entries m entry e)) [
       | inl new ↦ inl new
       | inr old ↦ inr (recounted-entries f sound x.id x.book d.book d.stands own d.holders d.connections d.recounts m entry old)
     ];

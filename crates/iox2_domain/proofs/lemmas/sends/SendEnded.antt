@@ -1,13 +1,13 @@
--- The send of a loan has ended: its slot has a message, and one holder less.
-use Rattle.std.proofs.Common.{◌≡◌, ◌≢◌, ℕ, ◌+◌, ◌<◌, Bool, true, false, cond, eqb, suc, List, [], ◌∷◌, length, map, get_or, refl, ap, sym, subst, ◌∙◌, inl, inr, ◌⊎◌, arith}
+-- The send of a loan has ended: its slot has a message, which the history holds in place of the user.
+use Rattle.std.proofs.Common.{◌≡◌, ◌≢◌, ℕ, ◌+◌, ◌<◌, Bool, true, false, cond, eqb, suc, List, [], ◌∷◌, ◌++◌, length, map, get_or, refl, ap, sym, subst, ◌∙◌, inl, inr, ◌⊎◌, arith}
 use Rattle.std.proofs.lemmas.Bool.{cases_eq, ne_eqb, eq-eqb}
-use Rattle.std.proofs.lemmas.List.{length-set}
-use Rattle.std.specs.Prelude.{slice_index}
+use Rattle.std.proofs.lemmas.List.{length-set, map-append}
+use Rattle.std.specs.Prelude.{slice_index, slice_set}
 use Rattle.std.specs.declared.option.Option.{Option}
 use Rattle.std.specs.declared.option.Option.TheVariants.{None, Some}
 use Rattle.std.specs.Option.{option_map, option_map_or}
 use Rattle.std.specs.List.{sum_by}
-use Rattle.slab.specs.Slab.{get}
+use Rattle.slab.specs.Slab.{get, with_value}
 use Rattle.iox2_store.specs.machine.Loans.{entry_of}
 use Rattle.iox2_store.specs.SlotBook.{Book, IsAligned, IsInUse, holders_at}
 use Rattle.iox2_store.specs.machine.Numbers.{put_at, without}
@@ -15,20 +15,20 @@ use Rattle.iox2_store.specs.machine.Records.{Entry, Loan, Publisher}
 use Rattle.iox2_store.specs.machine.State.{State}
 use Rattle.iox2_ends.specs.LookUp.{look_up}
 use Rattle.iox2_ends.specs.Counters.{times, stands}
-use Rattle.iox2_ends.proofs.Counts.{one_if, one_if_same, one_if_other}
+use Rattle.iox2_ends.proofs.Counts.{one_if, one_if_same, one_if_other, times_push}
 use Rattle.iox2_ends.proofs.LookUps.{look_up-found}
 use Rattle.iox2_ends.specs.Mailboxes.{sender_ends}
 use Rattle.iox2_domain.specs.Ports.{PublisherFields}
 use Rattle.iox2_domain.specs.Kept.{KeptMessage, Lent_message, Sent_message, state_of, entries_of, is_numbered, message_numbered, loan_in, entry_in}
 use Rattle.iox2_domain.specs.Fields.{Fields, kept_of, publisher_of, numbers_of, is_book_of, message_in, contents_at, blocked_send}
 use Rattle.iox2_domain.specs.Invariant.{IsCounted, IsNumbered, HasNumber, HasShape, HasShapes, is_publisher, own_holders, holders_of, is_loan_in}
-use Rattle.iox2_domain.specs.Deliveries.{with_loan_out, with_sent, with_send_ended}
+use Rattle.iox2_domain.specs.Deliveries.{with_remembered, with_sent}
 use Rattle.iox2_domain.proofs.lemmas.fields.NamedBooks.{names-books}
 use Rattle.iox2_domain.proofs.lemmas.slots.Messages.{lies_at, message_at-book, message_at-slot, has_number, loan-there, entry-there, ChangesSlot, message_numbered-others}
 use Rattle.iox2_domain.proofs.lemmas.fields.Parts.{HasParts}
 use Rattle.iox2_domain.proofs.lemmas.slots.BookChanges.{book-after, with_book, book-here, book-others, book-was, holders-here, other-book, numbers-same, book-state, books-changed, linked-book, open_ports-book}
 use Rattle.iox2_domain.proofs.lemmas.loans.PublisherChanges.{KeepsSettings, changed-ids_apart, changed-is, changed-linked_same, changed-books, changed-room, changed-plain, changed-open_ports, changed-own}
-use Rattle.iox2_domain.proofs.lemmas.sends.SentSlots.{times-without, map-without, sent-keeps, sent-holders, sent-in_use, sent-others, LiesWritten, written-loan, sent-lies, sent-is, values-of}
+use Rattle.iox2_domain.proofs.lemmas.sends.SentSlots.{times-without, map-without, sent-keeps, sent-others, LiesWritten, written-loan, sent-lies, sent-is, values-of}
 use mathlib.Core.Path.{fun_ext}
 
 module _ {T U : Type 0} (f : Fields T U) (parts : HasParts f) (i : ℕ) (x : PublisherFields) (here : get_or f.publishers i None ≡ Some x)
@@ -36,13 +36,13 @@ module _ {T U : Type 0} (f : Fields T U) (parts : HasParts f) (i : ℕ) (x : Pub
     (lies : lies_at f x.book slot ≡ Some (Lent_message n l)) (is_written : l.is_written ≡ true) (once : times slot x.loans ≡ 1) where
   -- the fields afterwards
   abbrev pub ended : Fields T U
-  ended = with_send_ended f i x slot b
+  ended = record f { publishers = slice_set f.publishers i (Some (with_remembered slot x)); books = with_value f.books x.book (with_sent slot b) }
 
   -- with the book alone changed
   abbrev between : Fields T U
   between = with_book f x.book (with_sent slot b)
 
-  keeps : KeepsSettings x (with_loan_out slot x)
+  keeps : KeepsSettings x (with_remembered slot x)
   keeps = record {
     id = refl;
     book = refl;
@@ -67,7 +67,7 @@ module _ {T U : Type 0} (f : Fields T U) (parts : HasParts f) (i : ℕ) (x : Pub
     | inl is ↦ record {
       book = b;
       stands = ap (get f.books) is.0 ∙ at;
-      in_use = sent-in_use b slot in_use.in_use s (subst (λ (c : Book). 0 < holders_at c s) is.1 has.in_use);
+      in_use = subst (λ (c : Book). 0 < holders_at c s) is.1 has.in_use;
       number = ap (λ (c : Book). slice_index c.numbers s) (sym is.1) ∙ has.number;
     }
     | inr away ↦ record { book = has.book; stands = away.1; in_use = has.in_use; number = has.number }
@@ -99,7 +99,8 @@ module _ {T U : Type 0} (f : Fields T U) (parts : HasParts f) (i : ℕ) (x : Pub
   pub sent-there : 0 < holders_at (with_sent slot b) slot → lies_at ended x.book slot ≡ Some (Sent_message n (entry_of l))
   sent-there some = here-now slot ∙ sent-lies b slot (contents_at f.contents x.book) n l written low some
 
-  others-lie : (k s : ℕ) → ((k ≡ x.book) × (s ≡ slot) → ⊥) → lies_at ended k s ≡ lies_at f k s
+  -- in each other slot lies what lay there
+  pub others-lie : (k s : ℕ) → ((k ≡ x.book) × (s ≡ slot) → ⊥) → lies_at ended k s ≡ lies_at f k s
   others-lie k s away = elim (cases_eq k x.book) [
     | inl same ↦
         ap (λ j. lies_at ended j s) same ∙ here-now s
@@ -174,20 +175,20 @@ module _ {T U : Type 0} (f : Fields T U) (parts : HasParts f) (i : ℕ) (x : Pub
       eqb-is a c h = grind arith
     by m false e = ap found_loan (others-same m (λ same. let yes : eqb m n ≡ true = eq-eqb m n same in let no : true ≡ false = sym yes ∙ e in absurd cc))
 
-  -- the numbers of its publisher's loans are without its own
+  -- the numbers of its publisher's loans are without its own, which is the last of the history
   pub ended-is : ((s : ℕ) → 0 < times s x.loans → numbers_of f.books x.id s ≡ n → s ≡ slot) → numbers_of f.books x.id slot ≡ n
       → state_of (kept_of ended) ≡ record (state_of (kept_of f)) {
         publishers = put_at (state_of (kept_of f)).publishers x.id
-            (Some (record (publisher_of f.books f.connections x).port { loans = without n (map (numbers_of f.books x.id) x.loans) }));
+            (Some (record (publisher_of f.books f.connections x).port { loans = without n (map (numbers_of f.books x.id) x.loans); history = map (numbers_of f.books x.id) (x.history).items ++ n ∷ [] }));
         loans = put_at (state_of (kept_of f)).loans n None;
       }
   ended-is only is =
-      changed-is between i x (with_loan_out slot x) here refl parts.publisher_ids
+      changed-is between i x (with_remembered slot x) here refl parts.publisher_ids
       ∙ ap (λ (s : State T U). record s {
-        publishers = put_at s.publishers x.id (Some ((publisher_of between.books f.connections (with_loan_out slot x)).port));
+        publishers = put_at s.publishers x.id (Some ((publisher_of between.books f.connections (with_remembered slot x)).port));
       }) (book-state f x.book b (with_sent slot b) at (sent-keeps b slot) parts.books.one_each)
       ∙ ap (λ (loans : ℕ → Option (Loan T U)). record (state_of (kept_of f)) {
-        publishers = put_at (state_of (kept_of f)).publishers x.id (Some ((publisher_of between.books f.connections (with_loan_out slot x)).port));
+        publishers = put_at (state_of (kept_of f)).publishers x.id (Some ((publisher_of between.books f.connections (with_remembered slot x)).port));
         loans = loans;
       }) ended-loans
       ∙ ap (λ (y : Publisher). record (state_of (kept_of f)) {
@@ -195,15 +196,18 @@ module _ {T U : Type 0} (f : Fields T U) (parts : HasParts f) (i : ℕ) (x : Pub
         loans = put_at (state_of (kept_of f)).loans n None;
       }) port
     where
-      port : (publisher_of between.books f.connections (with_loan_out slot x)).port
-          ≡ record (publisher_of f.books f.connections x).port { loans = without n (map (numbers_of f.books x.id) x.loans) }
+      remembered : map (numbers_of f.books x.id) ((x.history).items ++ slot ∷ []) ≡ map (numbers_of f.books x.id) (x.history).items ++ n ∷ []
+      remembered = map-append (numbers_of f.books x.id) (x.history).items (slot ∷ []) ∙ ap (λ (m : ℕ). map (numbers_of f.books x.id) (x.history).items ++ m ∷ []) is
+
+      port : (publisher_of between.books f.connections (with_remembered slot x)).port
+          ≡ record (publisher_of f.books f.connections x).port { loans = without n (map (numbers_of f.books x.id) x.loans); history = map (numbers_of f.books x.id) (x.history).items ++ n ∷ [] }
       port =
-          (λ t. record (publisher_of f.books f.connections (with_loan_out slot x)).port {
+          (λ t. record (publisher_of f.books f.connections (with_remembered slot x)).port {
             loans = map (numbers-same f x.book b (with_sent slot b) at (sent-keeps b slot) parts.books.one_each t x.id) (without slot x.loans);
-            history = map (numbers-same f x.book b (with_sent slot b) at (sent-keeps b slot) parts.books.one_each t x.id) (x.history).items;
+            history = map (numbers-same f x.book b (with_sent slot b) at (sent-keeps b slot) parts.books.one_each t x.id) ((x.history).items ++ slot ∷ []);
             blocked = option_map (blocked_send (numbers-same f x.book b (with_sent slot b) at (sent-keeps b slot) parts.books.one_each t x.id) (sender_ends f.connections x.keys)) x.blocked;
           })
-          ∙ ap (λ ns. record (publisher_of f.books f.connections x).port { loans = ns }) (map-without (numbers_of f.books x.id) slot n is x.loans only)
+          ∙ (λ t. record (publisher_of f.books f.connections x).port { loans = map-without (numbers_of f.books x.id) slot n is x.loans only t; history = remembered t })
 
   -- ---- the parts
 
@@ -222,10 +226,10 @@ module _ {T U : Type 0} (f : Fields T U) (parts : HasParts f) (i : ℕ) (x : Pub
         ap (λ o. option_map_or (λ (c : Book). holders_at c s) o 0) (look_up-found (is_book_of x.id) f.books.slots x.book b (parts.books.one_each x.id) at (eq-eqb b.publisher x.id mine)) in
         let has : own_holders f x.id s ≡ times s x.loans + times s (x.history).items =
         ap (λ o. own s o (look_up (is_book_of x.id) f.books.slots)) (look_up-found (is_publisher x.id) f.publishers i x (parts.publisher_ids x.id) here (eq-eqb x.id x.id refl)) in
-        let left : own_holders ended x.id s ≡ times s (without slot x.loans) + times s (x.history).items =
-        changed-own between i x (with_loan_out slot x) here refl parts.publisher_ids x.id s
-        ∙ ap (λ t. cond t (times s (without slot x.loans) + times s (x.history).items) (own_holders between x.id s)) (eq-eqb x.id x.id refl) in
-        omega (arith, now, then, has, left, parts.counted.at x.id s, sent-holders b slot s in_use.in_use, fewer s)
+        let left : own_holders ended x.id s ≡ times s (without slot x.loans) + times s ((x.history).items ++ slot ∷ []) =
+        changed-own between i x (with_remembered slot x) here refl parts.publisher_ids x.id s
+        ∙ ap (λ t. cond t (times s (without slot x.loans) + times s ((x.history).items ++ slot ∷ [])) (own_holders between x.id s)) (eq-eqb x.id x.id refl) in
+        omega (arith, now, then, has, left, parts.counted.at x.id s, times_push s (x.history).items slot, fewer s)
       where
         fewer : (s : ℕ) → times s (without slot x.loans) + one_if s slot ≡ times s x.loans
         fewer s = elim (cases_eq s slot) [
@@ -245,8 +249,8 @@ module _ {T U : Type 0} (f : Fields T U) (parts : HasParts f) (i : ℕ) (x : Pub
         other-book f x.book b (with_sent slot b) at (sent-keeps b slot) parts.books.one_each p (ne_eqb b.publisher p (λ same. away (sym same ∙ mine))) in
         let now : holders_of ended.books p s ≡ holders_of f.books p s = ap (λ o. option_map_or (λ (c : Book). holders_at c s) o 0) book in
         let left : own_holders ended p s ≡ own_holders between p s =
-        changed-own between i x (with_loan_out slot x) here refl parts.publisher_ids p s
-        ∙ ap (λ t. cond t (times s (without slot x.loans) + times s (x.history).items) (own_holders between p s)) (ne_eqb x.id p (λ same. away (sym same))) in
+        changed-own between i x (with_remembered slot x) here refl parts.publisher_ids p s
+        ∙ ap (λ t. cond t (times s (without slot x.loans) + times s ((x.history).items ++ slot ∷ [])) (own_holders between p s)) (ne_eqb x.id p (λ same. away (sym same))) in
         let same : own_holders between p s ≡ own_holders f p s = ap (own s (look_up (is_publisher p) f.publishers)) book in
         omega (arith, now, left, same, parts.counted.at p s)
 
@@ -285,30 +289,29 @@ module _ {T U : Type 0} (f : Fields T U) (parts : HasParts f) (i : ℕ) (x : Pub
   -- the fields agree with one another
   pub ended-parts : HasParts ended
   ended-parts = record {
-    publisher_ids = changed-ids_apart f i x (with_loan_out slot x) here refl parts.publisher_ids;
+    publisher_ids = changed-ids_apart f i x (with_remembered slot x) here refl parts.publisher_ids;
     subscriber_ids = parts.subscriber_ids;
     apart = parts.apart;
-    linked = changed-linked_same between i x (with_loan_out slot x) here refl (linked-book f x.book b (with_sent slot b) at (sent-keeps b slot) parts.linked) keeps.key_room refl;
+    linked = changed-linked_same between i x (with_remembered slot x) here refl (linked-book f x.book b (with_sent slot b) at (sent-keeps b slot) parts.linked) keeps.key_room refl;
     expired_room = parts.expired_room;
-    books = changed-books between i x (with_loan_out slot x) here refl (books-changed f x.book b (with_sent slot b) at (sent-keeps b slot) parts.books aligned) keeps;
+    books = changed-books between i x (with_remembered slot x) here refl (books-changed f x.book b (with_sent slot b) at (sent-keeps b slot) parts.books aligned) keeps;
     names = names-books f.books _ f.connections (book-after f x.book b (with_sent slot b) at (sent-keeps b slot)) parts.names;
     counted = ended-counted;
     numbered = ended-numbered;
-    publisher_room = changed-room f i x (with_loan_out slot x) here refl parts.publisher_room keeps;
+    publisher_room = changed-room f i x (with_remembered slot x) here refl parts.publisher_room keeps;
     warning_room = parts.warning_room;
     shapes = ended-shapes;
     supported = parts.supported;
-    plain = changed-plain f i x (with_loan_out slot x) here refl parts.plain keeps;
+    plain = changed-plain f i x (with_remembered slot x) here refl parts.plain keeps;
     plain_subscribers = parts.plain_subscribers;
-    open_ports = changed-open_ports between i x (with_loan_out slot x) here refl (open_ports-book f x.book b (with_sent slot b) at (sent-keeps b slot) parts.open_ports) refl;
+    open_ports = changed-open_ports between i x (with_remembered slot x) here refl (open_ports-book f x.book b (with_sent slot b) at (sent-keeps b slot) parts.open_ports) refl;
   }
     where
       aligned : IsAligned (with_sent slot b)
       aligned =
           let old : IsAligned b = (parts.books.books x.book b at).aligned in
-          let long : length (with_sent slot b).holders ≡ length b.holders = length-set b.holders slot _ in
           record {
-            numbers = old.numbers ∙ sym long;
-            headers = old.headers ∙ sym long;
-            marks = length-set b.marks slot _ ∙ old.marks ∙ sym long;
+            numbers = old.numbers;
+            headers = old.headers;
+            marks = length-set b.marks slot _ ∙ old.marks;
           }

@@ -90,21 +90,14 @@ values-of (v ∷ vs) = ap (λ ws. v ∷ ws) (values-of vs)
 module _ (b : Book) (slot : ℕ) where
   -- the slots keep their numbers
   pub sent-keeps : KeepsSlots b (with_sent slot b)
-  sent-keeps = record { publisher = refl; numbers = refl; slots = length-set b.holders slot _ }
-
-  pub sent-holders : (s : ℕ) → 0 < holders_at b slot → holders_at (with_sent slot b) s + one_if s slot ≡ holders_at b s
-  sent-holders s in_use = get_or-one_holder_less b.holders slot s in_use
-
-  -- a slot that is in use was so before
-  pub sent-in_use : 0 < holders_at b slot → (s : ℕ) → 0 < holders_at (with_sent slot b) s → 0 < holders_at b s
-  sent-in_use in_use s some = omega (arith, sent-holders s in_use, some)
+  sent-keeps = record { publisher = refl; numbers = refl; slots = refl }
 
 module _ {T U : Type 0} (b : Book) (slot : ℕ) (contents : List (ContentState T U)) where
   -- in each other slot lies what lay there
   pub sent-others : (s : ℕ) → s ≢ slot → message_in (with_sent slot b) contents s ≡ message_in b contents s
-  sent-others s away = both (get_or-set_other b.holders slot s _ 0 away) (slice_get-set_other b.marks slot s Sent away) where
-    both : holders_at (with_sent slot b) s ≡ holders_at b s → slice_get (with_sent slot b).marks s ≡ slice_get b.marks s → message_in (with_sent slot b) contents s ≡ message_in b contents s
-    both holders marks = rw (holders, marks) refl
+  sent-others s away = by (slice_get-set_other b.marks slot s Sent away) where
+    by : slice_get (with_sent slot b).marks s ≡ slice_get b.marks s → message_in (with_sent slot b) contents s ≡ message_in b contents s
+    by marks = rw marks refl
 
   -- a written loan has these parts
   pub record LiesWritten (n : ℕ) (l : Loan T U) : Type 0 where

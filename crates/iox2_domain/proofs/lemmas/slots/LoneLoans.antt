@@ -69,5 +69,5 @@ lone-sent books key slot b holders at lone low fewer =
           let no : false ≡ true = sym (ap (λ o. option_map_or is_lent o false) (ap (slice_get (with_sent slot (with_counters b holders)).marks) same ∙ slice_get-set_same b.marks slot Sent low)) ∙ lent in
           absurd cc
       | inr away ↦ lone-fewer b (with_sent slot (with_counters b holders)) s (slice_get-set_other b.marks slot s Sent away)
-          (let same : holders_at (with_sent slot (with_counters b holders)) s ≡ holders_at (with_counters b holders) s = get_or-set_other holders slot s _ 0 away in omega (arith, same, fewer s away)) before
+          (fewer s away) before
     ])

@@ -1,12 +1,12 @@
 -- Two ports get more room for the keys of their connections, and of expired ones, which no state shows.
-use Rattle.std.proofs.Common.{◌≡◌, ◌≤◌, ℕ, List, map, get_or, slice_set, refl, ap, sym, subst, ◌∙◌}
+use Rattle.std.proofs.Common.{◌≡◌, ◌≤◌, ℕ, List, [], map, get_or, slice_set, refl, ap, sym, subst, ◌∙◌}
 use Rattle.std.proofs.lemmas.List.{map-set, set-set, set-get_or}
 use Rattle.std.specs.declared.option.Option.{Option}
 use Rattle.std.specs.declared.option.Option.TheVariants.{None, Some}
 use Rattle.std.specs.Option.{option_map}
 use Rattle.iox2_store.specs.machine.Limits.{expired_limit}
 use Rattle.iox2_store.specs.machine.Places.{occupant}
-use Rattle.iox2_store.specs.machine.PublisherUpdate.{UpdateSenderPlace, sender_side, with_sender_side}
+use Rattle.iox2_store.specs.machine.PublisherUpdate.{UpdateSenderPlace, connected, sender_side, with_sender_side}
 use Rattle.iox2_store.specs.machine.SubscriberUpdate.{ConnectAtPlace, receiver_side, with_receiver_side}
 use Rattle.iox2_store.specs.machine.Records.{Publisher, Subscriber, Environment}
 use Rattle.iox2_store.specs.machine.State.{State, receiving_buffer, has_receiver_end, has_sender_end}
@@ -17,7 +17,7 @@ use Rattle.iox2_domain.specs.Kept.{state_of}
 use Rattle.iox2_domain.specs.Fields.{Fields, kept_of, publisher_of, subscriber_of}
 use Rattle.iox2_domain.specs.Invariant.{IsDomain}
 use Rattle.iox2_domain.specs.Updates.{with_sender_room, with_receiver_rooms, publisher_but_room, subscriber_but_room}
-use Rattle.iox2_domain.specs.Connects.{ConnectsSender, ConnectsReceiver}
+use Rattle.iox2_domain.specs.Connects.{ConnectsSender, MakesSenderEnd, ConnectsReceiver}
 use Rattle.iox2_domain.proofs.lemmas.containers.LookUps.{map-at}
 use Rattle.iox2_domain.proofs.lemmas.updates.SenderChanges.{fits-grown}
 use Rattle.iox2_domain.proofs.lemmas.updates.SenderAgrees.{sender-agrees}
@@ -82,13 +82,33 @@ module _ {T U : Type 0} (f : Fields T U) (i j : ℕ) (x : PublisherFields) (y : 
       keys = step.keys;
       key_room = step.key_room;
       fields = step.fields
-          ∙ ap (λ (xs : List (Option PublisherFields)). record f { publishers = xs; subscribers = f'.subscribers; connections = f'.connections; warnings = f'.warnings })
+          ∙ ap (λ (xs : List (Option PublisherFields)). record f { publishers = xs; subscribers = f'.subscribers; connections = f'.connections; books = f'.books; warnings = f'.warnings })
           (set-set f.publishers i (Some (with_sender_room n x)) (Some (record x { keys = step.keys; key_room = step.key_room })));
       others = step.others ∙ same-shown subscriber_but_room f.subscribers j y (with_receiver_rooms m e y) at_y refl;
       side = step.side;
       steps = subst (λ (s : State T U). UpdateSenderPlace environment (f.config).service_id x.id P.degradation_handler P.history (receiving_buffer s) (has_receiver_end s x.id)
           j (occupant s.subscriber_places j) (sender_side s x.id P) step.side failure) grown-state step.steps;
       state = step.state ∙ ap (λ (s : State T U). with_sender_side s x.id P step.side) grown-state;
+      entries = step.entries;
+    }
+
+    -- an end that it gets from there it gets from here
+    pub end-from : (environment : Environment) (key : ℕ) (f' : Fields T U) → MakesSenderEnd environment grown i j (with_sender_room n x) key f' → MakesSenderEnd environment f i j x key f'
+    end-from environment key f' step = record {
+      agrees = step.agrees;
+      keys = step.keys;
+      key_room = step.key_room;
+      fields = step.fields
+          ∙ ap (λ (xs : List (Option PublisherFields)). record f { publishers = xs; subscribers = f'.subscribers; connections = f'.connections })
+          (set-set f.publishers i (Some (with_sender_room n x)) (Some (record x { keys = step.keys; key_room = step.key_room })));
+      others = step.others ∙ same-shown subscriber_but_room f.subscribers j y (with_receiver_rooms m e y) at_y refl;
+      link = step.link;
+      stands = step.stands;
+      is_its = step.is_its;
+      empty = step.empty;
+      steps = subst (λ (s : State T U). UpdateSenderPlace environment (f.config).service_id x.id P.degradation_handler P.history (receiving_buffer s) (has_receiver_end s x.id)
+          j (occupant s.subscriber_places j) (sender_side s x.id P) (connected P.history (sender_side s x.id P) j (step.link).home.subscriber (step.link).buffer) None) grown-state step.steps;
+      state = step.state ∙ ap (λ (s : State T U). with_sender_side s x.id P (connected [] (sender_side s x.id P) j (step.link).home.subscriber (step.link).buffer)) grown-state;
     }
 
     -- and a subscriber

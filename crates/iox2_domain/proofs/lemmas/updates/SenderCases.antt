@@ -1,5 +1,8 @@
 -- What a publisher's update comes to at one subscriber's place.
-use Rattle.std.proofs.Common.{◌≡◌, ◌<◌, ℕ, le_refl, false, List, get_or, slice_set, refl, ap, sym, subst, ◌∙◌, inl, inr}
+use Rattle.std.proofs.lemmas.Bool.{eq-eqb, and_from}
+use Rattle.iox2_domain.proofs.lemmas.containers.LookUps.{map-at}
+use Rattle.iox2_domain.proofs.lemmas.fields.Views.{mailboxes-are}
+use Rattle.std.proofs.Common.{◌≡◌, ◌<◌, ℕ, le_refl, false, List, [], ◌∷◌, length, map, arith, get_or, slice_set, refl, ap, sym, subst, ◌∙◌, inl, inr}
 use Rattle.std.proofs.lemmas.List.{set-get_or}
 use Rattle.std.specs.declared.option.Option.{Option}
 use Rattle.std.specs.declared.option.Option.TheVariants.{None, Some}
@@ -8,28 +11,30 @@ use Rattle.slab.specs.Slab.{Slab, get}
 use Rattle.circular_buffer.specs.Buffer.{buffer}
 use Rattle.iox2_store.specs.machine.Connections.{DegradationAnswers, failure_of, warnings_after}
 use Rattle.iox2_store.specs.machine.Limits.{warning_limit}
-use Rattle.iox2_store.specs.Link.{Link, empty_link}
+use Rattle.iox2_store.specs.Link.{Link, empty_link, load}
+use Rattle.iox2_store.specs.machine.Mailbox.{Mailbox}
 use Rattle.iox2_store.specs.machine.Places.{occupant, set_place, is_port}
 use Rattle.iox2_store.specs.machine.Records.{Publisher, Subscriber, Environment}
 use Rattle.iox2_store.specs.machine.State.{State, has_receiver_end}
 use Rattle.iox2_store.specs.declared.degradation.DegradationAction.{DegradationAction}
 use Rattle.iox2_ends.specs.LookUp.{look_up}
 use Rattle.iox2_ends.specs.Homes.{IsSenderLinked}
-use Rattle.iox2_ends.specs.Mailboxes.{is_between, sender_ends, subscriber_of_key, publisher_of_key}
+use Rattle.iox2_ends.proofs.LookUps.{look_up-found}
+use Rattle.iox2_ends.specs.Mailboxes.{mailbox_of, mailbox_if_any, is_between, sender_ends, subscriber_of_key, publisher_of_key}
 use Rattle.iox2_domain.specs.Ports.{PublisherFields, SubscriberFields}
 use Rattle.iox2_domain.specs.Kept.{state_of}
-use Rattle.iox2_domain.specs.Fields.{Fields, kept_of, publisher_of, subscriber_of}
-use Rattle.iox2_domain.specs.Invariant.{IsDomain, connection_count}
+use Rattle.iox2_domain.specs.Fields.{Fields, kept_of, publisher_of, subscriber_of, numbers_of}
+use Rattle.iox2_domain.specs.Invariant.{IsDomain, SenderHas, details_of, connection_count}
 use Rattle.iox2_domain.specs.Updates.{MakesConnection, home_of}
-use Rattle.iox2_domain.specs.Connects.{ConnectsSender}
+use Rattle.iox2_domain.specs.Connects.{ConnectsSender, MakesSenderEnd}
 use Rattle.iox2_domain.proofs.lemmas.fields.ExpiredRoom.{room-made, room-here}
 use Rattle.iox2_domain.proofs.lemmas.fields.ConnectionEnds.{publisher-stands, subscriber-stands, occupant-sender_ends}
 use Rattle.iox2_domain.proofs.lemmas.updates.Extensions.{Extends, sender_linked, sender_ends-same}
 use Rattle.iox2_domain.proofs.lemmas.containers.ConnectionKeys.{map-set_place, set_place-here, set_place-keeps, set_place-stood}
 use Rattle.iox2_domain.proofs.lemmas.updates.MadeConnections.{made-extends, made-news}
 use Rattle.iox2_domain.proofs.lemmas.updates.SenderChanges.{fits-same}
-use Rattle.iox2_domain.proofs.lemmas.updates.SenderSteps.{connected_sender, steps-connect, keeps-end, makes-end, no_end, connects}
-use Rattle.iox2_domain.proofs.lemmas.fields.Standing.{publisher-place, occupant-receiver_ends, sender-joins, receiver-joins, no-connection}
+use Rattle.iox2_domain.proofs.lemmas.updates.SenderSteps.{connected_sender, steps-connect, keeps-end, makes-end, no_end, no-numbers, makes-empty}
+use Rattle.iox2_domain.proofs.lemmas.fields.Standing.{one-publisher, publisher-place, occupant-receiver_ends, sender-joins, receiver-joins, no-connection}
 
 module _ {T U : Type 0} (environment : Environment) (f : Fields T U) (sound : IsDomain f) (i j : ℕ) (x : PublisherFields) (y : SubscriberFields)
     (at_x : get_or f.publishers i None ≡ Some x) (at_y : get_or f.subscribers j None ≡ Some y) (due : x.is_due ≡ false) where
@@ -81,20 +86,49 @@ module _ {T U : Type 0} (environment : Environment) (f : Fields T U) (sound : Is
       ];
     }
 
+    details-at : (z : SubscriberFields) → get_or f.subscribers j None ≡ Some z → get_or (map (option_map details_of) f.subscribers) j None ≡ Some (details_of z)
+    details-at z at_z = map-at details_of f.subscribers j ∙ ap (option_map details_of) at_z
+
+    nil-map : (number : ℕ → ℕ) (xs : List ℕ) → map number xs ≡ [] → length xs ≡ 0
+    nil-map number [] e = refl
+    nil-map number (n ∷ ns) e = absurd cc
+
+    -- no slot stands in a connection of which the publisher doesn't know
+    nobody-in : (key : ℕ) (c : Link) → get f.connections key ≡ Some c → c.home.publisher ≡ x.id → c.home.subscriber ≡ y.id → c.home.subscriber_place ≡ j → load c ≡ 0
+    nobody-in key c at its to place =
+        let box : s.mailboxes x.id y.id ≡ mailbox_of (numbers_of f.books x.id) c =
+        mailboxes-are f x.id y.id ∙ ap (mailbox_if_any (numbers_of f.books x.id)) (look_up-found (is_between x.id y.id) f.connections.slots key c (sound.apart.one x.id y.id) at (and_from _ _ (eq-eqb c.home.publisher x.id its) (eq-eqb c.home.subscriber y.id to))) in
+        let none_in = no-numbers environment f sound i j x y at_x at_y due none in
+        let waits : length c.waiting ≡ 0 = nil-map (numbers_of f.books x.id) c.waiting (ap (λ (m : Mailbox). m.waiting) (sym box) ∙ none_in.0) in
+        let lent : length c.borrowed ≡ 0 = nil-map (numbers_of f.books x.id) c.borrowed (ap (λ (m : Mailbox). m.borrowed) (sym box) ∙ none_in.1) in
+        let back : length c.returned ≡ 0 = elim (sound.linked.returned key c at) [
+          | inl has ↦ absurd (unknown has)
+          | inr none ↦ ap (length {A = ℕ}) none
+        ] in
+        omega (arith, waits, lent, back)
+      where
+        unknown : SenderHas f.publishers key c → ⊥
+        unknown has =
+            let here : c.home.publisher_place ≡ i = one-publisher f sound c.home.publisher_place i has.publisher x has.stands at_x (has.is_its ∙ its) in
+            let same : Some has.publisher ≡ Some x = sym has.stands ∙ ap (λ (n : ℕ). get_or f.publishers n None) here ∙ at_x in
+            let is : has.publisher ≡ x = cc in
+            absurd (let no : None ≡ Some key = sym none ∙ ap (λ (n : ℕ). get_or x.keys n None) (sym place) ∙ ap (λ (z : PublisherFields). get_or z.keys c.home.subscriber_place None) (sym is) ∙ has.has in cc)
+
     -- the publisher joins the subscriber's connection
-    pub joins-connection : (key : ℕ) → get_or y.keys i None ≡ Some key → ConnectsSender environment f i j x (connected_sender f i x (set_place x.keys j (Some key)) f.connections f.warnings) None
+    pub joins-connection : (key : ℕ) → get_or y.keys i None ≡ Some key → MakesSenderEnd environment f i j x key (connected_sender f i x (set_place x.keys j (Some key)) f.connections f.warnings)
     joins-connection key at =
         let joined = receiver-joins f sound i j x y at_x at_y key at in
         let own = joined.1 in
-        steps-connect environment f sound i j x y at_x at_y due (keys_with key) f.connections f.warnings None (record {
+        makes-empty environment f sound i j x y at_x at_y due none (keys_with key) f.connections (record {
           extends = (fits-same f sound i x at_x f.connections.capacity).extends;
           grows = le_refl x.key_room;
           rooms = sound.expired_room;
           linked = linked-with f.connections key joined.0 (sound.linked.senders i x at_x) own.stands own.publisher own.subscriber_place;
           keeps = set_place-keeps x.keys j key none;
           news = λ k c there. inl there;
-        }) sound.warning_room
-        (connects environment f sound i j x y at_x at_y due none (keys_with key) f.connections (leads f.connections key joined.0 refl own.stands own.subscriber))
+        }) (leads f.connections key joined.0 refl own.stands own.subscriber) key joined.0 own.stands own.publisher own.subscriber
+        (sound.linked.knows.at key j joined.0 (details_of y) own.stands (details-at y at_y) (sym own.subscriber)).1
+        (nobody-in key joined.0 own.stands own.publisher own.subscriber own.subscriber_place)
 
     -- ---- nobody has an end
 
@@ -113,9 +147,9 @@ module _ {T U : Type 0} (environment : Environment) (f : Fields T U) (sound : Is
 
       -- a connection is made
       pub makes-connection : j < x.key_room → i < y.key_room → connection_count f.connections y.id < y.expired_room → (key : ℕ) (new : Slab Link) → MakesConnection f.connections (home_of i j x y) y.buffer (f.config).subscriber_max_borrowed_samples key new
-          → ConnectsSender environment f i j x (connected_sender f i x (set_place x.keys j (Some key)) new f.warnings) None
+          → MakesSenderEnd environment f i j x key (connected_sender f i x (set_place x.keys j (Some key)) new f.warnings)
       makes-connection room room_y room_expired key new made =
-          steps-connect environment f sound i j x y at_x at_y due (keys_with key) new f.warnings None (record {
+          makes-empty environment f sound i j x y at_x at_y due none (keys_with key) new (record {
             extends = extends key new made;
             grows = le_refl x.key_room;
             rooms = room-made f.subscribers f.connections new key link made.was_free made.made (room-here f sound j y at_y room_expired) sound.expired_room;
@@ -137,9 +171,8 @@ module _ {T U : Type 0} (environment : Environment) (f : Fields T U) (sound : Is
                 buffer = refl;
               }))
             ];
-          }) sound.warning_room
-          (connects environment f sound i j x y at_x at_y due none (keys_with key) new
-          (leads new key link (sender_ends-same f.connections new (extends key new made) x.id x.keys (sound.linked.senders i x at_x)) made.made.changed refl))
+          }) (leads new key link (sender_ends-same f.connections new (extends key new made) x.id x.keys (sound.linked.senders i x at_x)) made.made.changed refl)
+          key link made.made.changed refl refl refl refl
 
       no_receiver : has_receiver_end s x.id y.id ≡ false
       no_receiver =

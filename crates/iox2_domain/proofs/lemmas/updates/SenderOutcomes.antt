@@ -16,9 +16,9 @@ use Rattle.iox2_domain.specs.Ports.{PublisherFields, SubscriberFields}
 use Rattle.iox2_domain.specs.Fields.{Fields}
 use Rattle.iox2_domain.specs.Invariant.{IsDomain, connection_count}
 use Rattle.iox2_domain.specs.Updates.{changed_at, with_sender_key, with_sender_room, with_receiver_rooms, sender_key, receiver_key, sender_room, receiver_room, expired_room_at, home_of, MakesConnection, StandApart}
-use Rattle.iox2_domain.specs.Connects.{ConnectsSender, MakesRoom}
+use Rattle.iox2_domain.specs.Connects.{ConnectsSender, MakesSenderEnd, MakesRoom}
 use Rattle.iox2_domain.proofs.lemmas.containers.ChangedRecords.{changed-here}
-use Rattle.iox2_domain.proofs.lemmas.updates.Grown.{grown, grown-sound, sender-from}
+use Rattle.iox2_domain.proofs.lemmas.updates.Grown.{grown, grown-sound, sender-from, end-from}
 use Rattle.iox2_domain.proofs.lemmas.fields.Standing.{sender-room as joined-room}
 use Rattle.iox2_domain.proofs.lemmas.updates.SenderCases.{keeps-connection, joins-connection, makes-connection, misses-connection}
 
@@ -61,10 +61,10 @@ module _ {T U : Type 0} (environment : Environment) (f : Fields T U) (sound : Is
 
     -- it joins the subscriber's
     pub joins-as : j < length f.subscribers → (key : ℕ) → receiver_key f.subscribers j i ≡ Some key
-        → (f' : Fields T U) → f' ≡ record f { publishers = changed_at (with_sender_key j key) f.publishers i } → ConnectsSender environment f i j x f' None
+        → (f' : Fields T U) → f' ≡ record f { publishers = changed_at (with_sender_key j key) f.publishers i } → MakesSenderEnd environment f i j x key f'
     joins-as low key at f' is =
         let there = sound.open_ports.subscribers j low in
-        subst (λ (h : Fields T U). ConnectsSender environment f i j x h None) (sym (is ∙ ap (λ o. record f { publishers = slice_set f.publishers i (option_map (with_sender_key j key) o) }) at_x))
+        subst (λ (h : Fields T U). MakesSenderEnd environment f i j x key h) (sym (is ∙ ap (λ o. record f { publishers = slice_set f.publishers i (option_map (with_sender_key j key) o) }) at_x))
         (joins-connection environment f sound i j x there.0 at_x there.1 due no_key key (sym (other-key there.0 there.1) ∙ at))
 
     -- no connection is there, and both ports get room for one
@@ -124,10 +124,10 @@ module _ {T U : Type 0} (environment : Environment) (f : Fields T U) (sound : Is
           → ((z : SubscriberFields) → get_or mid.subscribers j None ≡ Some z → i < z.key_room)
           → ((z : SubscriberFields) → get_or mid.subscribers j None ≡ Some z → connection_count f.connections home.subscriber < z.expired_room)
           → (key : ℕ) → MakesConnection f.connections home size (f.config).subscriber_max_borrowed_samples key mid.connections
-          → (f' : Fields T U) → f' ≡ record mid { publishers = changed_at (with_sender_key j key) mid.publishers i } → ConnectsSender environment f i j x f' None
+          → (f' : Fields T U) → f' ≡ record mid { publishers = changed_at (with_sender_key j key) mid.publishers i } → MakesSenderEnd environment f i j x key f'
       makes-as room_x room_y room_expired key made f' is =
-          sender-from f i j x y n m e sound at_x apart.subscriber_stands more_x more_y more_e environment f' None
-          (subst (λ (h : Fields T U). ConnectsSender environment g i j (with_sender_room n x) h None) (sym after)
+          end-from f i j x y n m e sound at_x apart.subscriber_stands more_x more_y more_e environment key f'
+          (subst (λ (h : Fields T U). MakesSenderEnd environment g i j (with_sender_room n x) key h) (sym after)
           (makes-connection environment g sound-grown i j (with_sender_room n x) (with_receiver_rooms m e y) here_x here_y due no_key no_key_y
           (room_x (with_sender_room n x) (ap (λ (h : Fields T U). get_or h.publishers i None) mid-is ∙ here_x))
           (room_y (with_receiver_rooms m e y) (ap (λ (h : Fields T U). get_or h.subscribers j None) mid-is ∙ here_y))

@@ -1,32 +1,32 @@
 -- A publisher's update at one subscriber's place.
-use Rattle.std.proofs.Common.{◌≡◌, ℕ, ◌≤◌, ◌-◌, List, [], ◌∷◌, true, false, Bool, cond, length, get_or, slice_set, refl, ap, sym, ◌∙◌, inl, arith}
-use Rattle.std.proofs.lemmas.List.{nil_from_length, drop_all}
+use Rattle.std.proofs.Common.{◌≡◌, ℕ, ◌-◌, List, [], ◌∷◌, true, false, not, ◌&&◌, Bool, cond, get_or, slice_set, refl, ap, sym, subst, ◌∙◌, inl, arith}
+use Rattle.std.proofs.lemmas.List.{drop_all}
 use Rattle.std.specs.declared.option.Option.{Option}
 use Rattle.std.specs.declared.option.Option.TheVariants.{None, Some}
 use Rattle.std.specs.Option.{option_and_then}
-use Rattle.slab.specs.Slab.{Slab}
+use Rattle.slab.specs.Slab.{Slab, get}
 use Rattle.circular_buffer.specs.Buffer.{Buffer}
 use Rattle.iox2_store.specs.machine.Limits.{warning_limit}
-use Rattle.iox2_store.specs.Link.{Link}
+use Rattle.iox2_store.specs.Link.{Link, load}
 use Rattle.iox2_store.specs.machine.Mailbox.{Mailbox, has_numbers, with_waiting}
-use Rattle.iox2_store.specs.machine.Numbers.{put_at, last_n}
+use Rattle.iox2_store.specs.machine.Numbers.{put_at, last_n, is_nil}
 use Rattle.iox2_store.specs.machine.Places.{occupant, set_place}
 use Rattle.iox2_store.specs.machine.Records.{Publisher, Subscriber, Environment}
 use Rattle.iox2_store.specs.machine.State.{State, receiving_buffer, has_receiver_end}
-use Rattle.iox2_store.specs.machine.PublisherUpdate.{SenderSide, UpdateSenderPlace, ConnectSender, sender_side, with_sender_side}
+use Rattle.iox2_store.specs.machine.PublisherUpdate.{SenderSide, UpdateSenderPlace, ConnectSender, connected, sender_side, with_sender_side}
 use Rattle.iox2_store.specs.machine.WellFormed.{LeadsTo, IsWellFormed}
 use Rattle.iox2_store.specs.declared.errors.ConnectionFailure.{ConnectionFailure}
 use Rattle.iox2_store.specs.declared.warning.Warning.{Warning}
 use Rattle.iox2_ends.specs.Mailboxes.{sender_ends, subscriber_of_key}
 use Rattle.iox2_ends.proofs.MailboxChanges.{put_at-own}
 use Rattle.iox2_laws.proofs.PlaceLemmas.{occupied_within}
-use Rattle.iox2_laws.proofs.SenderSides.{sender_side_begins, performed_keeps}
+use Rattle.iox2_laws.proofs.SenderSides.{sender_side_begins, performed_keeps, connected_with_keeps}
 use Rattle.iox2_laws.proofs.PublisherUpdates.{with_sender_side_keeps}
 use Rattle.iox2_domain.specs.Ports.{PublisherFields, SubscriberFields}
 use Rattle.iox2_domain.specs.Kept.{state_of}
 use Rattle.iox2_domain.specs.Fields.{Fields, kept_of, publisher_of, subscriber_of}
 use Rattle.iox2_domain.specs.Invariant.{IsDomain}
-use Rattle.iox2_domain.specs.Connects.{ConnectsSender}
+use Rattle.iox2_domain.specs.Connects.{ConnectsSender, MakesSenderEnd}
 use Rattle.iox2_domain.proofs.lemmas.fields.Views.{unblocked}
 use Rattle.iox2_domain.proofs.lemmas.fields.ConnectionEnds.{publisher-stands, subscriber-stands, occupant-sender_ends}
 use Rattle.iox2_domain.proofs.lemmas.updates.SenderChanges.{FitsSender, sender-is}
@@ -80,6 +80,7 @@ module _ {T U : Type 0} (environment : Environment) (f : Fields T U) (sound : Is
     side = side_with f x keys connections warnings;
     steps = step;
     state = state;
+    entries = λ n entry e. e;
   } where
     after : SenderSide
     after = side_with f x keys connections warnings
@@ -131,19 +132,21 @@ module _ {T U : Type 0} (environment : Environment) (f : Fields T U) (sound : Is
 
   -- ---- the mailbox
 
-  no_history : P.history ≡ []
-  no_history =
-      let bound : length P.history ≤ (f.config).history_size = (sound.well_formed.publishers x.id P present).history_bound in
-      nil_from_length P.history (omega (arith, sound.supported.no_history))
+  nothing : (ns : List ℕ) → is_nil ns ≡ true → ns ≡ []
+  nothing [] e = refl
+  nothing (n ∷ ns) e = absurd cc
 
-  empty : (box : Mailbox) → has_numbers box ≡ false → box.waiting ≡ []
-  empty box none = by box.waiting refl where
-    by : (ns : List ℕ) → box.waiting ≡ ns → ns ≡ []
-    by [] e = refl
-    by (n ∷ ns) e = absurd (let some : has_numbers box ≡ true = rw e refl in cc)
+  -- a mailbox without numbers
+  empty : (box : Mailbox) → has_numbers box ≡ false → (box.waiting ≡ []) × (box.borrowed ≡ [])
+  empty box none = by (is_nil box.waiting) (is_nil box.borrowed) refl refl none where
+    by : (a b : Bool) → is_nil box.waiting ≡ a → is_nil box.borrowed ≡ b → not (a && b) ≡ false → (box.waiting ≡ []) × (box.borrowed ≡ [])
+    by true true e h none = (nothing box.waiting e, nothing box.borrowed h)
+    by true false e h none = absurd cc
+    by false b e h none = absurd cc
 
-  nothing_waits : get_or x.keys j None ≡ None → (s.mailboxes x.id y.id).waiting ≡ []
-  nothing_waits none = empty (s.mailboxes x.id y.id) (by (has_numbers (s.mailboxes x.id y.id)) refl) where
+  -- without an end there is nothing in the mailbox
+  pub no-numbers : get_or x.keys j None ≡ None → (s.mailboxes x.id y.id).waiting ≡ [] × (s.mailboxes x.id y.id).borrowed ≡ []
+  no-numbers none = empty (s.mailboxes x.id y.id) (by (has_numbers (s.mailboxes x.id y.id)) refl) where
     by : (b : Bool) → has_numbers (s.mailboxes x.id y.id) ≡ b → b ≡ false
     by false e = refl
     by true e =
@@ -155,15 +158,54 @@ module _ {T U : Type 0} (environment : Environment) (f : Fields T U) (sound : Is
   last_of_none : (n : ℕ) → last_n {X = ℕ} n [] ≡ []
   last_of_none n = drop_all (0 - n) [] (omega arith)
 
-  -- the history adds nothing to it
-  same_mailboxes : get_or x.keys j None ≡ None → s.mailboxes x.id ≡ put_at (s.mailboxes x.id) y.id (with_waiting (last_n y.buffer P.history) (s.mailboxes x.id y.id))
+  -- no message adds nothing to it
+  same_mailboxes : get_or x.keys j None ≡ None → s.mailboxes x.id ≡ put_at (s.mailboxes x.id) y.id (with_waiting (last_n y.buffer []) (s.mailboxes x.id y.id))
   same_mailboxes none =
       put_at-own (s.mailboxes x.id) y.id
-      ∙ ap (λ (ns : List ℕ). put_at (s.mailboxes x.id) y.id (with_waiting ns (s.mailboxes x.id y.id))) (nothing_waits none ∙ sym (ap (last_n y.buffer) no_history ∙ last_of_none y.buffer))
+      ∙ ap (λ (ns : List ℕ). put_at (s.mailboxes x.id) y.id (with_waiting ns (s.mailboxes x.id y.id))) ((no-numbers none).0 ∙ sym (last_of_none y.buffer))
 
-  -- an end is made where the keys lead to it
-  pub connects : get_or x.keys j None ≡ None → (keys : List (Option ℕ)) (connections : Slab Link) → sender_ends connections keys ≡ set_place P.ends j (Some y.id)
-      → Step (side_with f x keys connections f.warnings) None
-  connects none keys connections leads =
-      makes-end (no_end none) (side_with f x keys connections f.warnings) None
-      (inl (λ k. record { ends = leads k; mailboxes = same_mailboxes none k; warnings = f.warnings.items }, refl))
+  -- an end is made where the keys lead to it, and nothing waits there yet
+  pub makes-empty : get_or x.keys j None ≡ None → (keys : List (Option ℕ)) (connections : Slab Link) → FitsSender f i x keys x.key_room connections
+      → sender_ends connections keys ≡ set_place P.ends j (Some y.id)
+      → (key : ℕ) (c : Link) → get connections key ≡ Some c → c.home.publisher ≡ x.id → c.home.subscriber ≡ y.id → c.buffer ≡ y.buffer → load c ≡ 0
+      → MakesSenderEnd environment f i j x key (connected_sender f i x keys connections f.warnings)
+  makes-empty none keys connections fits leads key c at its to size nobody = record {
+    agrees = sender-agrees f sound i x at_x keys x.key_room x.is_due connections f.warnings fits sound.warning_room (rw state well);
+    keys = keys;
+    key_room = x.key_room;
+    fields = refl;
+    others = refl;
+    link = c;
+    stands = at;
+    is_its = its;
+    empty = nobody;
+    steps = subst (λ (q : ℕ). Step (connected P.history (sender_side s x.id P) j q c.buffer) None) (sym to)
+        (subst (λ (n : ℕ). Step (connected P.history (sender_side s x.id P) j y.id n) None) (sym size)
+        (makes-end (no_end none) (connected P.history (sender_side s x.id P) j y.id y.buffer) None (inl (refl, refl))));
+    state = subst (λ (q : ℕ). state_of (kept_of after) ≡ with_sender_side s x.id P (connected [] (sender_side s x.id P) j q c.buffer)) (sym to)
+        (subst (λ (n : ℕ). state_of (kept_of after) ≡ with_sender_side s x.id P (connected [] (sender_side s x.id P) j y.id n)) (sym size) state);
+  } where
+    after : Fields T U
+    after = connected_sender f i x keys connections f.warnings
+
+    bare : SenderSide
+    bare = connected [] (sender_side s x.id P) j y.id y.buffer
+
+    side-is : side_with f x keys connections f.warnings ≡ bare
+    side-is = λ k. record { ends = leads k; mailboxes = same_mailboxes none k; warnings = f.warnings.items }
+
+    state : state_of (kept_of (connected_sender f i x keys connections f.warnings)) ≡ with_sender_side s x.id P (connected [] (sender_side s x.id P) j y.id y.buffer)
+    state =
+        sender-is f sound i x at_x keys x.key_room x.is_due connections f.warnings fits
+        ∙ (λ k. record s {
+          publishers = put_at s.publishers x.id (Some (record P { ends = sender_ends connections keys; is_due = due k }));
+          mailboxes = put_at-own s.mailboxes x.id k;
+          warnings = f.warnings.items;
+        })
+        ∙ ap (with_sender_side s x.id P) side-is
+
+    well : IsWellFormed (with_sender_side s x.id P (connected [] (sender_side s x.id P) j y.id y.buffer))
+    well = with_sender_side_keeps s sound.well_formed x.id P present (unblocked f.books f.connections x (sound.plain i x at_x)) (connected [] (sender_side s x.id P) j y.id y.buffer)
+        (connected_with_keeps s sound.well_formed x.id P present [] tt (λ n no. absurd cc) (sender_side s x.id P) j y.id y.buffer
+        (occupied_within s.subscriber_places j y.id (subscriber-listed f sound j y at_y)) (subscriber-listed f sound j y at_y) open_buffer (no_end none)
+        (sender_side_begins s sound.well_formed x.id P present))

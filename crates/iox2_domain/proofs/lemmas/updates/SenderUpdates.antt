@@ -35,7 +35,7 @@ pub record WalksSender {T U : Type 0} (environment : Environment) (f : Fields T 
   pub agrees : IsDomain f'
   pub keys : List (Option ℕ)
   pub key_room : ℕ
-  pub fields : f' ≡ record f { publishers = slice_set f.publishers i (Some (record x { keys = keys; key_room = key_room; is_due = false })); subscribers = f'.subscribers; connections = f'.connections; warnings = f'.warnings }
+  pub fields : f' ≡ record f { publishers = slice_set f.publishers i (Some (record x { keys = keys; key_room = key_room; is_due = false })); subscribers = f'.subscribers; connections = f'.connections; books = f'.books; warnings = f'.warnings }
   pub others : map (option_map subscriber_but_room) f'.subscribers ≡ map (option_map subscriber_but_room) f.subscribers
   pub side : SenderSide
   pub state : state_of (kept_of f') ≡ with_sender_side (state_of (kept_of f)) x.id (publisher_of f.books f.connections x).port side
@@ -45,6 +45,7 @@ pub record WalksSender {T U : Type 0} (environment : Environment) (f : Fields T 
       → ForEachPlace (UpdateSenderPlace environment (f.config).service_id x.id (publisher_of f.books f.connections x).port.degradation_handler (publisher_of f.books f.connections x).port.history
       (receiving_buffer (state_of (kept_of f))) (has_receiver_end (state_of (kept_of f)) x.id)) 0 (state_of (kept_of f)).subscriber_places
       (sender_side (state_of (kept_of f)) x.id (publisher_of f.books f.connections x).port) end (first_failure failure later)
+  pub entries : (n : ℕ) (entry : Entry T U) → entries_of (kept_of f') n ≡ Some entry → entries_of (kept_of f) n ≡ Some entry
 
 module _ {T U : Type 0} (environment : Environment) (f : Fields T U) (sound : IsDomain f) (i : ℕ) (x : PublisherFields) (at : get_or f.publishers i None ≡ Some x) where
   abbrev s : State T U
@@ -81,6 +82,7 @@ module _ {T U : Type 0} (environment : Environment) (f : Fields T U) (sound : Is
     side = sender_side s x.id P;
     state = settled-is;
     walk = λ end later rest. rest;
+    entries = λ n entry e. e;
   }
 
   listed : length s.subscriber_places ≡ length f.subscribers
@@ -111,14 +113,15 @@ module _ {T U : Type 0} (environment : Environment) (f : Fields T U) (sound : Is
       keys = step.keys;
       key_room = step.key_room;
       fields = step.fields
-          ∙ (λ k. record (walks.fields k) { publishers = slice_set ((walks.fields k).publishers) i (Some (record x { keys = step.keys; key_room = step.key_room; is_due = false })); subscribers = f''.subscribers; connections = f''.connections; warnings = f''.warnings })
-          ∙ ap (λ (xs : List (Option PublisherFields)). record f { publishers = xs; subscribers = f''.subscribers; connections = f''.connections; warnings = f''.warnings })
+          ∙ (λ k. record (walks.fields k) { publishers = slice_set ((walks.fields k).publishers) i (Some (record x { keys = step.keys; key_room = step.key_room; is_due = false })); subscribers = f''.subscribers; connections = f''.connections; books = f''.books; warnings = f''.warnings })
+          ∙ ap (λ (xs : List (Option PublisherFields)). record f { publishers = xs; subscribers = f''.subscribers; connections = f''.connections; books = f''.books; warnings = f''.warnings })
           (set-set f.publishers i (Some walking) (Some (record x { keys = step.keys; key_room = step.key_room; is_due = false })));
       others = step.others ∙ walks.others;
       side = step.side;
       state = step.state ∙ (λ k. with_sender_side (walks.state k) x.id (port-is k) step.side) ∙ state-again environment s x.id P present walks.side step.side;
       walk = λ end later rest. subst (Whole end) (sym (first_failure-assoc failure first later))
           (walks.walk end (first_failure first later) (walk-goes-on environment s x.id P present j walks.side step.side end first later (omega (arith, listed)) machine rest));
+      entries = λ n entry e. walks.entries n entry (step.entries n entry e);
     } where
       machine : AtPlace environment s x.id P present j (occupant s.subscriber_places j) walks.side step.side first
       machine = step-again environment s x.id P present walks.side j step.side first
@@ -127,15 +130,12 @@ module _ {T U : Type 0} (environment : Environment) (f : Fields T U) (sound : Is
           (subst (λ (t : State T U). UpdateSenderPlace environment (t.config).service_id x.id (publisher_of f'.books f'.connections walking).port.degradation_handler (publisher_of f'.books f'.connections walking).port.history
           (receiving_buffer t) (has_receiver_end t x.id) j (occupant t.subscriber_places j) (sender_side t x.id (publisher_of f'.books f'.connections walking).port) step.side first) walks.state step.steps))
 
-    same-entries : (n : ℕ) (entry : Entry T U) → entries_of (kept_of f') n ≡ Some entry → entries_of (kept_of f) n ≡ Some entry
-    same-entries n entry at_entry = sym (ap (λ (g : Fields T U). entries_of (kept_of g) n) walks.fields) ∙ at_entry
-
     -- the publisher is updated where the walk is over
     pub walk-updates : x.is_due ≡ true → length f.subscribers ≤ j → UpdatesPublisher environment f i x f' failure
     walk-updates due past = record {
       after = with_sender_side s x.id P walks.side;
       updates = due-updates environment s x.id P present due walks.side failure (subst (Whole walks.side) (first_failure-none failure) (walks.walk walks.side None (walk-ends environment s x.id P present j walks.side (omega (arith, listed)))));
-      reaches = record { agrees = walks.agrees; state = walks.state; entries = same-entries };
+      reaches = record { agrees = walks.agrees; state = walks.state; entries = walks.entries };
       keys = walks.keys;
       key_room = walks.key_room;
       fields = walks.fields;

@@ -1,92 +1,22 @@
-use Rattle.std.proofs.Common.{◌≡◌, ◌∙◌, true, false, ap, sym, is_some}
-use Rattle.std.proofs.lemmas.List.{with_items_is}
-use Rattle.std.specs.declared.option.Option.TheVariants.{None, Some}
-use Rattle.circular_buffer.specs.Buffer.{buffer}
 use Rattle.iox2_store.specs.machine.Environments.{fixed_handlers}
-use Rattle.iox2_store.specs.machine.Limits.{warning_limit}
-use Rattle.iox2_store.specs.machine.State.{warned}
-use Rattle.iox2_store.specs.declared.degradation.DegradationAction.TheVariants.{Warn}
-use Rattle.iox2_store.specs.declared.warning.Warning.TheVariants.{ConnectionNotMade}
-use Rattle.iox2_domain.specs.Fields.{Fields}
-use Rattle.iox2_domain.specs.Updates.{sender_key, receiver_key, changed_at, with_sender_key}
-use Rattle.iox2_domain.proofs.lemmas.fields.Standing.{some-buffer}
-use Rattle.iox2_domain.proofs.lemmas.updates.SenderOutcomes.{answers-warn, joins-room, keeps-as, joins-as, makes-as, misses-as}
+use Rattle.iox2_domain.proofs.lemmas.updates.HistoryConnects.{new-end, connects-with-history}
 use Rattle.iox2_ports.proofs.connects.connect_sender.Goals as goal
 
-pub returns-then-is_some : goal.returns-then-is_some
-returns-then-is_some g c = λ x at due.
-    let old = c.args.state.now in
-    let same : c.deref.result.now ≡ old.publishers = c.deref.ensures.value ∙ ap (λ (f : Fields g.row.T.Denot g.row.U.Denot). f.publishers) c.state.view_is in
-    let some : is_some (sender_key old.publishers c.args.publisher_place c.args.subscriber_place) ≡ true =
-    ap (λ xs. is_some (sender_key xs c.args.publisher_place c.args.subscriber_place)) (sym same) ∙ ap is_some (sym c.key_at.ensures) ∙ sym c.is_some.ensures ∙ c.if-is_some.true in
-    keeps-as fixed_handlers old c.requires.agrees c.args.publisher_place c.args.subscriber_place x at due c.requires.subscriber some
+pub hand_out_history-requires-clause-agrees : goal.hand_out_history-requires-clause-agrees
+hand_out_history-requires-clause-agrees g c =
+    let there = c.requires.agrees.open_ports.publishers c.args.publisher_place c.requires.publisher in
+    (c.in-Some.ensures there.0 there.1 (c.requires.settled there.0 there.1)).agrees
 
-pub set_key_at-requires-clause-room : goal.set_key_at-requires-clause-room
-set_key_at-requires-clause-room g c = λ x at.
-    let old = c.args.state.now in
-    let same : c.deref_mut.result.now ≡ old.publishers = c.deref_mut.ensures.value ∙ ap (λ (f : Fields g.row.T.Denot g.row.U.Denot). f.publishers) c.state.view_is in
-    let subscribers : c.state.inside.subscribers.items ≡ old.subscribers = ap (λ (f : Fields g.row.T.Denot g.row.U.Denot). f.subscribers) c.state.view_is in
-    let key : receiver_key old.subscribers c.args.subscriber_place c.args.publisher_place ≡ Some c.in-Some.key =
-    ap (λ zs. receiver_key zs c.args.subscriber_place c.args.publisher_place) (sym (c.deref-2.ensures.value ∙ subscribers)) ∙ sym c.key_at-2.ensures ∙ c.in-Some.is in
-    joins-room old c.requires.agrees c.args.publisher_place c.args.subscriber_place x (rw same at at) c.requires.subscriber c.in-Some.key key
-
-pub set_key_at-requires-2-clause-room : goal.set_key_at-requires-2-clause-room
-set_key_at-requires-2-clause-room g c = λ x at.
-    let same : c.deref_mut-2.result.now ≡ c.make_between.new.state.publishers = c.deref_mut-2.ensures.value ∙ ap (λ (f : Fields g.row.T.Denot g.row.U.Denot). f.publishers) c.state-2.view_is in
-    c.in-Ok.ensures.sender_room x (rw same at at)
-
-pub make_between-requires-clause-buffer : goal.make_between-requires-clause-buffer
-make_between-requires-clause-buffer g c =
-    let apart = c.ports_at-buffer.ensures in
-    rw apart.buffer_is (some-buffer c.args.state.now c.requires.agrees c.args.subscriber_place apart.subscriber apart.subscriber_stands)
+pub hand_out_history-requires-clause-new_end : goal.hand_out_history-requires-clause-new_end
+hand_out_history-requires-clause-new_end g c =
+    let there = c.requires.agrees.open_ports.publishers c.args.publisher_place c.requires.publisher in
+    new-end fixed_handlers c.args.state.now c.requires.agrees c.args.publisher_place c.args.subscriber_place there.0 there.1 c.requires.subscriber c.in-Some.key c.make_sender_end.new.state
+    (c.in-Some.ensures there.0 there.1 (c.requires.settled there.0 there.1))
 
 pub returns-in-Some : goal.returns-in-Some
-returns-in-Some g c = λ x at due.
-    let old = c.args.state.now in
-    let viewed = c.state.view_is in
-    let publishers : c.state.inside.publishers.items ≡ old.publishers = ap (λ (f : Fields g.row.T.Denot g.row.U.Denot). f.publishers) viewed in
-    let subscribers : c.state.inside.subscribers.items ≡ old.subscribers = ap (λ (f : Fields g.row.T.Denot g.row.U.Denot). f.subscribers) viewed in
-    let none : is_some (sender_key old.publishers c.args.publisher_place c.args.subscriber_place) ≡ false =
-    ap (λ xs. is_some (sender_key xs c.args.publisher_place c.args.subscriber_place)) (sym (c.deref.ensures.value ∙ publishers)) ∙ ap is_some (sym c.key_at.ensures) ∙ sym c.is_some.ensures ∙ c.if-is_some.false in
-    let key : receiver_key old.subscribers c.args.subscriber_place c.args.publisher_place ≡ Some c.in-Some.key =
-    ap (λ ys. receiver_key ys c.args.subscriber_place c.args.publisher_place) (sym (c.deref-2.ensures.value ∙ subscribers)) ∙ sym c.key_at-2.ensures ∙ c.in-Some.is in
-    let written : _ ≡ changed_at (with_sender_key c.args.subscriber_place c.in-Some.key) old.publishers c.args.publisher_place =
-    with_items_is c.state.inside.publishers c.set_key_at.new.ports (c.set_key_at.auto.ports ∙ c.deref_mut.ensures.len)
-    ∙ c.set_key_at.ensures ∙ ap (λ xs. changed_at (with_sender_key c.args.subscriber_place c.in-Some.key) xs c.args.publisher_place) (c.deref_mut.ensures.value ∙ publishers) in
-    joins-as fixed_handlers old c.requires.agrees c.args.publisher_place c.args.subscriber_place x at due none c.requires.subscriber c.in-Some.key key _ (λ k. record (viewed k) { publishers = written k })
+returns-in-Some g c = λ x at.
+    connects-with-history fixed_handlers c.args.state.now c.requires.agrees c.args.publisher_place c.args.subscriber_place x at c.requires.subscriber c.in-Some.key c.make_sender_end.new.state
+    (c.in-Some.ensures x at (c.requires.settled x at)) c.hand_out_history.new.state c.hand_out_history.ensures
 
-pub returns-in_default-make_between : goal.returns-in_default-make_between
-returns-in_default-make_between g c = λ x at due.
-    let old = c.args.state.now in
-    let viewed = c.state.view_is in
-    let publishers : c.state.inside.publishers.items ≡ old.publishers = ap (λ (f : Fields g.row.T.Denot g.row.U.Denot). f.publishers) viewed in
-    let subscribers : c.state.inside.subscribers.items ≡ old.subscribers = ap (λ (f : Fields g.row.T.Denot g.row.U.Denot). f.subscribers) viewed in
-    let none : is_some (sender_key old.publishers c.args.publisher_place c.args.subscriber_place) ≡ false =
-    ap (λ xs. is_some (sender_key xs c.args.publisher_place c.args.subscriber_place)) (sym (c.deref.ensures.value ∙ publishers)) ∙ ap is_some (sym c.key_at.ensures) ∙ sym c.is_some.ensures ∙ c.if-is_some.false in
-    let nobody : receiver_key old.subscribers c.args.subscriber_place c.args.publisher_place ≡ None =
-    ap (λ ys. receiver_key ys c.args.subscriber_place c.args.publisher_place) (sym (c.deref-2.ensures.value ∙ subscribers)) ∙ sym c.key_at-2.ensures ∙ c.in_default.is in
-    let mid = c.make_between.new.state in
-    misses-as fixed_handlers old c.requires.agrees c.args.publisher_place c.args.subscriber_place x at due none nobody _ _ c.ports_at-buffer.ensures mid c.make_between.ensures.grows tt Warn
-    (answers-warn fixed_handlers x.id x.degradation_handler _ (c.requires.agrees.plain c.args.publisher_place x at).degradation) c.warn.new.warnings
-    c.in_default-make_between.ensures.refused
-    (c.warn.ensures ∙ (λ k. buffer (warned (c.state-2.view_is k).warnings.items (c.not_made.ensures k)) warning_limit) ∙ ap (λ (f : Fields g.row.T.Denot g.row.U.Denot). buffer (warned f.warnings.items (ConnectionNotMade c.ports_at-buffer.result.0.publisher c.ports_at-buffer.result.0.subscriber)) warning_limit) c.make_between.ensures.grows.fields)
-    _ (λ k. record (c.state-2.view_is k) { warnings = c.warn.new.warnings })
-
-pub returns : goal.returns
-returns g c = λ x at due.
-    let old = c.args.state.now in
-    let viewed = c.state.view_is in
-    let publishers : c.state.inside.publishers.items ≡ old.publishers = ap (λ (f : Fields g.row.T.Denot g.row.U.Denot). f.publishers) viewed in
-    let subscribers : c.state.inside.subscribers.items ≡ old.subscribers = ap (λ (f : Fields g.row.T.Denot g.row.U.Denot). f.subscribers) viewed in
-    let none : is_some (sender_key old.publishers c.args.publisher_place c.args.subscriber_place) ≡ false =
-    ap (λ xs. is_some (sender_key xs c.args.publisher_place c.args.subscriber_place)) (sym (c.deref.ensures.value ∙ publishers)) ∙ ap is_some (sym c.key_at.ensures) ∙ sym c.is_some.ensures ∙ c.if-is_some.false in
-    let nobody : receiver_key old.subscribers c.args.subscriber_place c.args.publisher_place ≡ None =
-    ap (λ ys. receiver_key ys c.args.subscriber_place c.args.publisher_place) (sym (c.deref-2.ensures.value ∙ subscribers)) ∙ sym c.key_at-2.ensures ∙ c.in_default.is in
-    let mid = c.make_between.new.state in
-    let written : _ ≡ changed_at (with_sender_key c.args.subscriber_place c.in-Ok.key) mid.publishers c.args.publisher_place =
-    with_items_is c.state-2.inside.publishers c.set_key_at-2.new.ports (c.set_key_at-2.auto.ports ∙ c.deref_mut-2.ensures.len)
-    ∙ c.set_key_at-2.ensures
-    ∙ ap (λ zs. changed_at (with_sender_key c.args.subscriber_place c.in-Ok.key) zs c.args.publisher_place) (c.deref_mut-2.ensures.value ∙ ap (λ (f : Fields g.row.T.Denot g.row.U.Denot). f.publishers) c.state-2.view_is) in
-    makes-as fixed_handlers old c.requires.agrees c.args.publisher_place c.args.subscriber_place x at due none nobody _ _ c.ports_at-buffer.ensures mid c.make_between.ensures.grows
-    c.in-Ok.ensures.sender_room c.in-Ok.ensures.receiver_room c.in-Ok.ensures.expired_room c.in-Ok.key c.in-Ok.ensures.made
-    _ (λ k. record (c.state-2.view_is k) { publishers = written k })
+pub returns-in_default : goal.returns-in_default
+returns-in_default g c = λ x at. c.in_default.ensures x at (c.requires.settled x at)

@@ -1,7 +1,8 @@
 use Rattle.std.proofs.Common.{rules, ◌≡◌, ◌∙◌, length, true, false, ap, sym, subst, arith, vec_len, refl, slice_set}
 use Rattle.std.proofs.lemmas.List.{with_items_is}
-use Rattle.std.specs.declared.option.Option.TheVariants.{None}
-use Rattle.std.specs.Option.{option_map}
+use Rattle.std.specs.declared.option.Option.TheVariants.{None, Some}
+use Rattle.iox2_domain.specs.Ports.{PublisherFields}
+use Rattle.std.specs.Option.{option_map, option_map_or}
 use Rattle.iox2_store.specs.machine.Environments.{fixed_handlers}
 use Rattle.iox2_domain.specs.Fields.{Fields}
 use Rattle.iox2_domain.specs.Updates.{changed_at, updated_publisher}
@@ -38,6 +39,13 @@ connect_sender-requires-clause-subscriber g c =
     let walking = walking-subscribers fixed_handlers c.args.state.now c.args.place there.0 _ _ None (c.loop-other.invariant there.0 there.1) in
     omega arith
 
+pub connect_sender-requires-clause-settled : goal.connect_sender-requires-clause-settled
+connect_sender-requires-clause-settled g c = λ z at_z.
+    let old = c.args.state.now in
+    let there = c.requires.agrees.open_ports.publishers c.args.place c.requires.stands in
+    let stands = walking-stands fixed_handlers old c.requires.agrees c.args.place there.0 there.1 c.loop-other.other c.loop-other.state None (c.loop-other.invariant there.0 there.1) in
+    ap (λ o. option_map_or (λ (w : PublisherFields). w.is_due) o false) (sym at_z ∙ stands)
+
 pub loop-other-preserved : goal.loop-other-preserved
 loop-other-preserved g c = λ x at.
     let old = c.args.state.now in
@@ -45,7 +53,7 @@ loop-other-preserved g c = λ x at.
     let size : vec_len c.state.inside.subscribers ≡ length c.state.inside.subscribers.items = search rules in
     let same : length c.state.inside.subscribers.items ≡ length old.subscribers = ap (λ (f : Fields g.row.T.Denot g.row.U.Denot). length f.subscribers) c.state.view_is in
     walk-more fixed_handlers old c.requires.agrees c.args.place x at c.loop-other.other c.loop-other.state None walks (omega arith) c.connect_sender.new.state None
-    (c.connect_sender.ensures (record x { keys = walks.keys; key_room = walks.key_room; is_due = false }) (walking-stands fixed_handlers old c.requires.agrees c.args.place x at c.loop-other.other c.loop-other.state None walks) refl)
+    (c.connect_sender.ensures (record x { keys = walks.keys; key_room = walks.key_room; is_due = false }) (walking-stands fixed_handlers old c.requires.agrees c.args.place x at c.loop-other.other c.loop-other.state None walks))
 
 pub returns : goal.returns
 returns g c = λ x at.

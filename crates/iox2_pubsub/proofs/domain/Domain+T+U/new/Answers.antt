@@ -20,5 +20,4 @@ pub invariant_of-result : goal.invariant_of-result
 invariant_of-result g c =
     new_is_domain {T = g.row.T.Denot} {U = g.row.U.Denot} c.args.config c.in-Ok.state c.in-Ok.ensures (record {
       single_values = c.requires.fixed_size;
-      no_history = c.requires.no_history;
     })
