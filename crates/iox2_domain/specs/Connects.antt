@@ -20,7 +20,8 @@ use Rattle.iox2_domain.specs.Updates.{changed_at, with_sender_room, with_receive
 use Rattle.iox2_domain.specs.Reaches.{Reaches}
 
 module _ {T U : Type 0} where
-  -- The ports at the places i and j may have got more room for keys, and the subscriber for expired ones. Nothing else changed but connections.
+  -- The ports at the places i and j may have got more room for keys, and the subscriber for expired ones. Nothing else
+  -- changed but connections.
   pub record MakesRoom (f : Fields T U) (i j : ℕ) (f' : Fields T U) : Type 0 where
     pub sender : sender_room f.publishers i ≤ sender_room f'.publishers i
     pub receiver : receiver_room f.subscribers j ≤ receiver_room f'.subscribers j
