@@ -55,7 +55,6 @@ pub mod ExistCalls
 pub mod ExistRuns
 pub mod WorkedRunDomains
 pub mod WorkedRunsOfFilling
-pub mod WorkedRunsOfHistories
 pub mod WorkedRunsOfBlockedSends
 pub mod WorkedRunsOfFailedSends
 pub mod WorkedRunsOfSlots
