@@ -14,6 +14,8 @@ mod domains;
 #[cfg(test)]
 mod fixtures;
 #[cfg(test)]
+mod histories;
+#[cfg(test)]
 mod laws;
 #[cfg(test)]
 mod loans;

@@ -214,28 +214,22 @@ module _ {T U : Type 0} (environment : Environment) (f : Fields T U) (sound : Is
     | inr away ↦ absurd (by (x.history).items refl away)
   ]
     where
-      in-history : contains (x.history).items oldest ≡ true → ⊥
-      in-history is =
+      in-history : oldest ≢ slot → contains (x.history).items oldest ≡ true → ⊥
+      in-history away is =
           let in_mid : lies_at mid x.book oldest ≡ Some (Lent_message m k) =
-          sym (others-lie mid parts i x here book book-stands own slot n l is_in_use lies-still is_written once x.book oldest (λ both. apart both.1)) ∙ lying in
+          sym (others-lie mid parts i x here book book-stands own slot n l is_in_use lies-still is_written once x.book oldest (λ both. away both.1)) ∙ lying in
           let lay : lies_at f x.book oldest ≡ Some (Lent_message m k) = back f (parts_of f sound) x.id x.book d.book d.stands own d.holders d.connections d.recounts x.book oldest (Lent_message m k) in_mid in
           let out = (sound.well_formed.loans m k (loan-is f sound i x here oldest m k lay)).is_out port (ap s.publishers (loan-of f sound i x here oldest m k lay) ∙ stands) in
           let there : contains port.history m ≡ true =
           ap (contains port.history) (sym (loan-number f sound i x here oldest m k lay)) ∙ contains-map (numbers_of f.books x.id) (x.history).items oldest is in
           absurd (let no : true ≡ false = sym there ∙ out.1 in cc)
-        where
-          apart : oldest ≡ slot → ⊥
-          apart same = elim (cases_eq oldest slot) [ inl e ↦ clash e | inr away ↦ away same ] where
-            clash : oldest ≡ slot → ⊥
-            clash e = absurd (let is : Lent_message m k ≡ Sent_message n (entry_of l) = lies-sent mid parts i x here book book-stands own slot n l is_in_use lies-still is_written once (Lent_message m k)
-                (sym (ap (λ j. lies_at remembered x.book j) e) ∙ lying) in cc)
 
       by : (items : List ℕ) → (x.history).items ≡ items → oldest ≢ slot → ⊥
       by [] e away = away (let is : Some slot ≡ Some oldest = sym (ap (λ (xs : List ℕ). slice_get (xs ++ slot ∷ []) 0) e) ∙ first in cc)
       by (o ∷ os) e away =
           let is : Some o ≡ Some oldest = sym (ap (λ (xs : List ℕ). slice_get (xs ++ slot ∷ []) 0) e) ∙ first in
           let same : o ≡ oldest = cc in
-          in-history (ap (λ (xs : List ℕ). contains xs oldest) e ∙ ap (λ t. t || contains os oldest) (eq-eqb o oldest same))
+          in-history away (ap (λ (xs : List ℕ). contains xs oldest) e ∙ ap (λ t. t || contains os oldest) (eq-eqb o oldest same))
 
   room : (x.history).capacity ≡ (f.config).history_size
   room = (sound.publisher_room i x here).history
@@ -398,8 +392,7 @@ module _ {T U : Type 0} (environment : Environment) (f : Fields T U) (sound : Is
         let in_mid : IsHeldMessage (record s { mailboxes = boxes }) q m = held-mid q m away (subst (λ t. IsHeldMessage t q m) after-is is) in
         let old = sound.entries q m (held-before-send q m away in_mid) in
         let kept : entries_of (kept_of mid) m ≡ Some old.0 =
-        recounted-keeps f sound x.id x.book d.book d.stands own d.holders d.connections d.recounts q m old.0 (subst (λ t. IsHeldMessage t q m) (sym mid-is) in_mid) old.1 in
-        (
+        recounted-keeps f sound x.id x.book d.book d.stands own d.holders d.connections d.recounts q m old.0 (subst (λ t. IsHeldMessage t q m) (sym mid-is) in_mid) old.1 in (
           old.0,
           trim.keeps q m old.0 is (ap found_entry (others-same mid parts i x here book book-stands own slot n l is_in_use lies-still is_written once m away) ∙ kept),
           old.2,

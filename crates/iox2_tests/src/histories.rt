@@ -1,0 +1,69 @@
+ghost use Rattle.iox2_pubsub.specs.Live.{IsLiveSubscriber, IsSingleValued, Stays};
+
+use crate::fixtures::{Reading, Station, publish, settings};
+use iox2_pubsub::{Domain, Subscriber};
+use iox2_store::ServiceConfig;
+use std::alloc::Global;
+use std::process::Abort;
+
+// A domain in which a publisher remembers so many messages.
+fn remembering(rt: &impl Abort, alloc: Global, history_size: usize) -> Domain<Reading, Station>
+    ensures { IsSingleValued result }
+{
+    let config = ServiceConfig {
+        history_size,
+        ..settings()
+    };
+    Domain::new(alloc, config).expect(rt, "a domain")
+}
+
+// Reads and releases what the subscriber receives next.
+fn next_reading(
+    rt: &impl Abort,
+    domain: &mut Domain<Reading, Station>,
+    subscriber: &Subscriber,
+) -> Option<u64>
+    requires single_valued { IsSingleValued domain.old }
+    requires live { IsLiveSubscriber domain.old subscriber.now }
+    ensures { Stays domain.old domain.new }
+{
+    let sample = subscriber.receive(domain).expect(rt, "an answer")?;
+    let celsius = sample.payload(domain).celsius;
+    sample.release(domain);
+    Some(celsius)
+}
+
+// What a subscriber reads that comes when a publisher has sent 21, 22 and 23.
+fn late_readings(
+    rt: &impl Abort,
+    alloc: Global,
+    history_size: usize,
+    buffer: usize,
+) -> [Option<u64>; 3] {
+    let mut domain = remembering(rt, alloc, history_size);
+    let factory = domain.publisher_builder();
+    let publisher = factory.create(&mut domain).expect(rt, "a publisher");
+    publish(&mut domain, &publisher, 21);
+    publish(&mut domain, &publisher, 22);
+    publish(&mut domain, &publisher, 23);
+    let factory = domain.subscriber_builder().buffer_size(buffer);
+    let subscriber = factory.create(&mut domain).expect(rt, "a subscriber");
+    publish(&mut domain, &publisher, 24);
+    publisher.disown();
+    let first = next_reading(rt, &mut domain, &subscriber);
+    let second = next_reading(rt, &mut domain, &subscriber);
+    let third = next_reading(rt, &mut domain, &subscriber);
+    subscriber.disown();
+    drop(domain);
+    [first, second, third]
+}
+
+#[test]
+fn a_late_subscriber_gets_as_much_of_the_history_as_fits(rt: HostRuntime) {
+    let without = late_readings(&rt, rt.alloc(), 0, 2);
+    let smaller = late_readings(&rt, rt.alloc(), 1, 2);
+    let larger = late_readings(&rt, rt.alloc(), 3, 1);
+    assert!(rt; without == [Some(24), None, None]);
+    assert!(rt; smaller == [Some(23), Some(24), None]);
+    assert!(rt; larger == [Some(23), None, None]);
+}
