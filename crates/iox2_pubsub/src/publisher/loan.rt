@@ -24,6 +24,7 @@ impl Publisher {
     /// left. Nothing changes then.
     ///
     /// iceoryx2's `Publisher::loan_uninit` (`src/port/publisher.rs`).
+    #[inline(always)]
     pub fn loan_uninit<T: Drop, U: Default + Drop, F: BackpressureFn, G: DegradationFn>(
         &self,
         domain: &mut Domain<T, U, F, G>,
