@@ -48,7 +48,7 @@ returns-clause-stays g c =
     let step = returns-clause-lends g c it.0 it.1 it.2 in
     loan-stays {T = g.row.T.Denot} {U = g.row.U.Denot} c.args.domain.now _ it.0 it.1 it.2 g.U.Default.is_default c.args.self.now.id (Ok c.in_ok-loan.loan) step.0 step.1 step.2
 
-pub find_live_publisher-requires : goal.find_live_publisher-requires
-find_live_publisher-requires g c = λ none.
+pub find_live_publisher-place-requires : goal.find_live_publisher-place-requires
+find_live_publisher-place-requires g c = λ none.
     publisher-missing {T = g.row.T.Denot} {U = g.row.U.Denot} c.domain.inside.state c.args.domain.now c.domain.view_is c.args.self.now
     none c.requires.live
