@@ -30,7 +30,6 @@ impl<T: Drop, U: Default + Drop> DomainState<T, U> {
     ghost use Rattle.iox2_domain.specs.LoanSlots.{LiesInSlot};
 
     /// Where a publisher's loan lies, and `None` where it isn't out.
-    #[inline(never)]
     pub fn find_loan(&self, publisher: UniquePublisherId, number: u128) -> Option<MessageSlot>
         requires { IsDomain self.now }
         ensures { MatchOption result (HoldsLoan (state_of (kept_of self.now)) publisher number → ⊥) (λ at. LiesInSlot self.now publisher number at.book at.slot) }
@@ -70,6 +69,16 @@ impl<T: Drop, U: Default + Drop> DomainState<T, U> {
         if let Some(at) = self.loan_at_hint(loan) {
             return at;
         }
+        self.search_loan(loan)
+    }
+
+    // The same, wherever it lies.
+    #[inline(never)]
+    fn search_loan(&self, loan: &LoanAt) -> MessageSlot
+        requires domain { IsDomain self.now }
+        requires live { HoldsLoan (state_of (kept_of self.now)) loan.now.publisher loan.now.number }
+        ensures { LiesInSlot self.now loan.now.publisher loan.now.number result.book result.slot }
+    {
         let Some(at) = self.find_loan(loan.publisher, loan.number) else {
             unreachable!()
         };

@@ -61,6 +61,20 @@ fn find_place<P: Port>(ports: &[Option<P>], id: u128, hint: usize) -> Option<usi
     search_places(ports, id)
 }
 
+// The place of a port that stands.
+fn find_live_place<P: Port>(ports: &[Option<P>], id: u128, hint: usize) -> usize
+    requires { look_up (λ x. P.number x == id) ports.now ≡ None → ⊥ }
+    ensures { IsSomeAnd (slice_index_or ports.now result None) (λ x. P.number x ≡ id) }
+{
+    if stands_at(ports, hint, id) {
+        return hint;
+    }
+    let Some(place) = search_places(ports, id) else {
+        unreachable!()
+    };
+    place
+}
+
 #[inline(never)]
 fn search_places<P: Port>(ports: &[Option<P>], id: u128) -> Option<usize>
     ensures { MatchOption result (look_up (λ x. P.number x == id) ports.now ≡ None) (λ i. IsSomeAnd (slice_index_or ports.now i None) (λ x. P.number x ≡ id)) }
@@ -83,6 +97,22 @@ impl<T: Drop, U: Default + Drop> DomainState<T, U> {
         ensures { MatchOption result (look_up (is_publisher id) self.now.publishers ≡ None) (λ i. (x : PublisherFields) × (slice_index_or self.now.publishers i None ≡ Some x) × (x.id ≡ id)) }
     {
         find_place(&self.publishers, id.value(), hint)
+    }
+
+    /// The place of a publisher that stands. It is looked for at the hint first.
+    pub fn find_live_publisher(&self, id: UniquePublisherId, hint: usize) -> usize
+        requires { look_up (is_publisher id) self.now.publishers ≡ None → ⊥ }
+        ensures { (x : PublisherFields) × (slice_index_or self.now.publishers result None ≡ Some x) × (x.id ≡ id) }
+    {
+        find_live_place(&self.publishers, id.value(), hint)
+    }
+
+    /// The place of a subscriber that stands. It is looked for at the hint first.
+    pub fn find_live_subscriber(&self, id: UniqueSubscriberId, hint: usize) -> usize
+        requires { look_up (is_subscriber id) self.now.subscribers ≡ None → ⊥ }
+        ensures { (y : SubscriberFields) × (slice_index_or self.now.subscribers result None ≡ Some y) × (y.id ≡ id) }
+    {
+        find_live_place(&self.subscribers, id.value(), hint)
     }
 
     /// The place of the subscriber with an id, and `None` where there is none. It is looked for at

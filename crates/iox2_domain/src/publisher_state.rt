@@ -119,7 +119,9 @@ impl PublisherState {
         ensures { self.new ≡ lending slot self.old }
     {
         self.loans.push_reserved(slot);
-        self.longest_granted = self.longest_granted.max(1);
+        if self.longest_granted == 0 {
+            self.longest_granted = 1;
+        }
     }
 
     /// The loan in a slot is out no more.

@@ -1,5 +1,5 @@
 //! The slots of the messages that subscribers have borrowed.
-ghost use Rattle.std.specs.Prelude.{◌<◌, ◌↔◌, ℕ, length, Contains, IsTrue, MatchOption};
+ghost use Rattle.std.specs.Prelude.{◌≡◌, ◌<◌, ◌↔◌, ℕ, length, Contains, IsTrue, MatchOption};
 ghost use Rattle.iox2_domain.specs.SampleSlots.{HasNoneNumbered, IsNumberedSlot};
 
 use crate::message_slots::MessageSlot;
@@ -54,6 +54,32 @@ fn find_borrowed(connection: &Connection, book: &SlotBook, number: u128) -> Opti
     None
 }
 
+// The connection is the subscriber's, and the book that the sample names is its publisher's.
+fn is_named(connection: &Connection, sample: &SampleAt) -> bool
+    ensures { IsTrue result ↔ ((connection.now.home.subscriber ≡ sample.now.subscriber) × (connection.now.home.book ≡ sample.now.book)) }
+{
+    let home = connection.home();
+    home.subscriber == sample.subscriber.value() && home.book == sample.book
+}
+
+// Whether the slot is the one that was borrowed last.
+fn was_borrowed_last(connection: &Connection, slot: usize) -> bool
+    ensures { IsTrue result → Contains connection.now.borrowed slot }
+{
+    connection
+        .borrowed()
+        .last()
+        .is_some_and(|last| *last == slot)
+}
+
+// Whether the slot is the one that was borrowed last, and has the number.
+fn is_last_numbered(connection: &Connection, book: &SlotBook, slot: usize, number: u128) -> bool
+    requires { (slot : ℕ) → Contains connection.now.borrowed slot → slot < length book.now.holders }
+    ensures { IsTrue result → IsNumberedSlot connection.now book.now number slot }
+{
+    was_borrowed_last(connection, slot) && book.number(slot) == number
+}
+
 impl<T: Drop, U: Default + Drop> DomainState<T, U> {
     ghost use Rattle.iox2_store.specs.machine.SingleCalls.{HoldsSample};
     ghost use Rattle.iox2_domain.specs.Kept.{state_of};
@@ -100,8 +126,8 @@ impl<T: Drop, U: Default + Drop> DomainState<T, U> {
         None
     }
 
-    /// Where a live sample lies, whatever it says of that.
-    pub fn search_sample(&self, sample: &SampleAt) -> SampleSlot
+    // Where a live sample lies, whatever it says of that.
+    fn search_sample(&self, sample: &SampleAt) -> SampleSlot
         requires domain { IsDomain self.now }
         requires live { HoldsSample (state_of (kept_of self.now)) sample.now.subscriber sample.now.number }
         ensures { LiesBorrowed self.now sample.now.subscriber sample.now.number result }
@@ -142,21 +168,52 @@ impl<T: Drop, U: Default + Drop> DomainState<T, U> {
         }
     }
 
-    /// Whether a live sample lies in the connection and the slot that it names.
-    pub fn is_at_hint(&self, sample: &SampleAt) -> bool
+    /// Whether a sample lies in the connection and the slot that it names, and was borrowed last
+    /// there. No holders are counted for that.
+    pub fn is_last_at_hint(&self, sample: &SampleAt) -> bool
+        requires { IsDomain self.now }
+        ensures { IsTrue result → LiesAtHint self.now sample.now }
+    {
+        match self.connections.get(sample.connection) {
+            Some(connection) => {
+                is_named(connection, sample)
+                    && is_last_numbered(
+                        connection,
+                        &self.books[sample.book],
+                        sample.slot,
+                        sample.number,
+                    )
+            }
+            None => false,
+        }
+    }
+
+    // Whether a live sample lies in the connection and the slot that it names.
+    fn is_at_hint(&self, sample: &SampleAt) -> bool
         requires domain { IsDomain self.now }
         requires live { HoldsSample (state_of (kept_of self.now)) sample.now.subscriber sample.now.number }
         ensures { IsTrue result → LiesAtHint self.now sample.now }
     {
         match self.connections.get(sample.connection) {
-            Some(connection) => {
-                let home = connection.home();
-                home.subscriber == sample.subscriber.value()
-                    && home.book == sample.book
-                    && self.is_at_slot(sample)
-            }
+            Some(connection) => is_named(connection, sample) && self.is_at_slot(sample),
             None => false,
         }
+    }
+
+    /// Where a live sample lies. The connection and the slot that it names are tested first.
+    pub fn find_live_sample(&self, sample: &SampleAt) -> SampleSlot
+        requires domain { IsDomain self.now }
+        requires live { HoldsSample (state_of (kept_of self.now)) sample.now.subscriber sample.now.number }
+        ensures { LiesBorrowed self.now sample.now.subscriber sample.now.number result }
+    {
+        if self.is_at_hint(sample) {
+            return SampleSlot {
+                connection: sample.connection,
+                book: sample.book,
+                slot: sample.slot,
+            };
+        }
+        self.search_sample(sample)
     }
 
     /// Whether the subscriber has borrowed a message with this number.

@@ -28,6 +28,7 @@ fn start<T: Drop, U: Default + Drop>(contents: &mut Option<Contents<T, U>>, slot
 /// `ExceedsMaxLoans` where as many loans are out as the publisher may have, then `OutOfMemory`
 /// where each of its slots is in use, then `InternalFailure` where no message number is left.
 /// Nothing changes then that can be seen.
+#[inline(always)]
 pub fn loan<T: Drop, U: Default + Drop>(
     state: &mut DomainState<T, U>,
     place: usize,
@@ -72,6 +73,7 @@ fn loan_refusal<T: Drop, U: Default + Drop>(
 }
 
 // The publisher at a place lends a slot that is free, for the next message.
+#[inline(always)]
 fn grant<T: Drop, U: Default + Drop>(state: &mut DomainState<T, U>, place: usize) -> LoanAt
     requires agrees { IsDomain state.old }
     requires can { CanLend state.old place }

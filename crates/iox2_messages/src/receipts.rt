@@ -88,25 +88,22 @@ pub fn give_back<T: Drop, U: Default + Drop>(state: &mut DomainState<T, U>, samp
     ensures released { (publisher : ℕ) → IsTrue (is_borrowed sample.number ((state_of (kept_of state.old)).mailboxes publisher sample.subscriber))
         → Reaches state.old state.new (released (state_of (kept_of state.old)) publisher sample.subscriber sample.number) }
 {
-    if state.is_at_hint(&sample) {
+    if state.is_last_at_hint(&sample) {
         release(&mut state.connections, sample.connection, sample.slot);
     } else {
-        search_and_give_back(state, &sample);
+        search_and_give_back(state, sample);
     }
 }
 
-// The same, wherever the message lies.
+// The same, wherever the message lies, and whatever was borrowed after it.
 #[inline(never)]
-fn search_and_give_back<T: Drop, U: Default + Drop>(
-    state: &mut DomainState<T, U>,
-    sample: &SampleAt,
-)
+fn search_and_give_back<T: Drop, U: Default + Drop>(state: &mut DomainState<T, U>, sample: SampleAt)
     requires agrees { IsDomain state.old }
-    requires live { HoldsSample (state_of (kept_of state.old)) sample.now.subscriber sample.now.number }
+    requires live { HoldsSample (state_of (kept_of state.old)) sample.subscriber sample.number }
     ensures stays { IsDomain state.new }
-    ensures released { (publisher : ℕ) → IsTrue (is_borrowed sample.now.number ((state_of (kept_of state.old)).mailboxes publisher sample.now.subscriber))
-        → Reaches state.old state.new (released (state_of (kept_of state.old)) publisher sample.now.subscriber sample.now.number) }
+    ensures released { (publisher : ℕ) → IsTrue (is_borrowed sample.number ((state_of (kept_of state.old)).mailboxes publisher sample.subscriber))
+        → Reaches state.old state.new (released (state_of (kept_of state.old)) publisher sample.subscriber sample.number) }
 {
-    let at = state.search_sample(sample);
+    let at = state.find_live_sample(&sample);
     release(&mut state.connections, at.connection, at.slot);
 }

@@ -27,13 +27,20 @@ fn is_ready<T: Drop, U: Default + Drop>(state: &DomainState<T, U>, loan: &LoanAt
     }
 }
 
+// Where a loan may be sent: the place of its publisher, which is due for no update, and its slot.
+#[derive(Clone, Copy)]
+struct ReadyLoan {
+    place: usize,
+    slot: usize,
+}
+
 // Updates the publisher of a loan, where it is due, and finds where both are.
 #[inline(never)]
 fn update_and_find<T: Drop, U: Default + Drop>(
     state: &mut DomainState<T, U>,
     publisher: UniquePublisherId,
     number: u128,
-) -> LoanAt
+) -> ReadyLoan
     requires agrees { IsDomain state.old }
     requires live { HoldsWritten (state_of (kept_of state.old)) publisher number }
     ensures { IsReadyToSend fixed_handlers state.old state.new publisher number result.place result.slot }
@@ -45,23 +52,23 @@ fn update_and_find<T: Drop, U: Default + Drop>(
     let Some(at) = state.find_loan(publisher, number) else {
         unreachable!()
     };
-    LoanAt {
-        publisher,
-        number,
+    ReadyLoan {
         place,
-        book: at.book,
         slot: at.slot,
     }
 }
 
 // The loan at its publisher's place, which is updated where it is due, and in its slot.
-fn prepare<T: Drop, U: Default + Drop>(state: &mut DomainState<T, U>, loan: LoanAt) -> LoanAt
+fn prepare<T: Drop, U: Default + Drop>(state: &mut DomainState<T, U>, loan: LoanAt) -> ReadyLoan
     requires agrees { IsDomain state.old }
     requires live { HoldsWritten (state_of (kept_of state.old)) loan.publisher loan.number }
     ensures { IsReadyToSend fixed_handlers state.old state.new loan.publisher loan.number result.place result.slot }
 {
     if is_ready(state, &loan) {
-        return loan;
+        return ReadyLoan {
+            place: loan.place,
+            slot: loan.slot,
+        };
     }
     update_and_find(state, loan.publisher, loan.number)
 }
@@ -76,6 +83,6 @@ pub fn send_loan<T: Drop, U: Default + Drop>(state: &mut DomainState<T, U>, loan
     requires live { HoldsWritten (state_of (kept_of state.old)) loan.publisher loan.number }
     ensures { SendsLoan fixed_handlers state.old state.new loan.number (Delivered_to result) }
 {
-    let loan = prepare(state, loan);
-    send_slot(state, loan.place, loan.slot)
+    let ready = prepare(state, loan);
+    send_slot(state, ready.place, ready.slot)
 }

@@ -24,6 +24,7 @@ impl Publisher {
     /// left. Nothing changes then.
     ///
     /// iceoryx2's `Publisher::loan_uninit` (`src/port/publisher.rs`).
+    #[inline(always)]
     pub fn loan_uninit<T: Drop, U: Default + Drop, F: BackpressureFn, G: DegradationFn>(
         &self,
         domain: &mut Domain<T, U, F, G>,
@@ -37,9 +38,7 @@ impl Publisher {
         ensures publisher { IfOk result (λ loan. loan.loan.publisher ≡ self.now.id) }
         ensures stays { Stays domain.old domain.new }
     {
-        let Some(place) = domain.state.find_publisher(self.id, self.place) else {
-            unreachable!();
-        };
+        let place = domain.state.find_live_publisher(self.id, self.place);
         let loan = loan(&mut domain.state, place)?;
         Ok(SampleMutUninit {
             service_id: self.service_id,

@@ -39,9 +39,7 @@ impl Subscriber {
         ensures subscriber { IfOk result (λ sample. IfSome sample (λ it. it.sample.subscriber ≡ self.now.id)) }
         ensures stays { Stays domain.old domain.new }
     {
-        let Some(place) = domain.state.find_subscriber(self.id, self.place) else {
-            unreachable!()
-        };
+        let place = domain.state.find_live_subscriber(self.id, self.place);
         let receipt = receive_at(&mut domain.state, place)?;
         let Some(receipt) = receipt else {
             return Ok(None);

@@ -7,29 +7,29 @@ use Rattle.iox2_pubsub.proofs.publisher.Publisher.loan_uninit.Goals as goal
 
 pub returns-in_err-loan-clause-lends : goal.returns-in_err-loan-clause-lends
 returns-in_err-loan-clause-lends g c = λ m s shown.
-    err-shown {T = g.row.T.Denot} {U = g.row.U.Denot} g.U.Default.is_default c.domain.inside.state c.loan.new.state c.in-Some.place c.args.self.now.id c.loan.result
-    c.in-Some.ensures c.loan.ensures.reaches _ c.in_err-loan.field-0.0 c.in_err-loan.was c.from_residual.result c.from_residual.ensures.1 c.args.domain.now c.domain.view_is m s shown
+    err-shown {T = g.row.T.Denot} {U = g.row.U.Denot} g.U.Default.is_default c.domain.inside.state c.loan.new.state c.find_live_publisher-place.result c.args.self.now.id c.loan.result
+    c.find_live_publisher-place.ensures c.loan.ensures.reaches _ c.in_err-loan.field-0.0 c.in_err-loan.was c.from_residual.result c.from_residual.ensures.1 c.args.domain.now c.domain.view_is m s shown
 
 pub returns-clause-lends : goal.returns-clause-lends
 returns-clause-lends g c = λ m s shown.
-    ok-shown {T = g.row.T.Denot} {U = g.row.U.Denot} g.U.Default.is_default c.domain.inside.state c.loan.new.state c.in-Some.place c.args.self.now.id c.loan.result
-    c.in-Some.ensures c.loan.ensures.reaches _ c.in_ok-loan.loan c.in_ok-loan.loan c.in_ok-loan.was c.args.domain.now c.domain.view_is m s shown
+    ok-shown {T = g.row.T.Denot} {U = g.row.U.Denot} g.U.Default.is_default c.domain.inside.state c.loan.new.state c.find_live_publisher-place.result c.args.self.now.id c.loan.result
+    c.find_live_publisher-place.ensures c.loan.ensures.reaches _ c.in_ok-loan.loan c.in_ok-loan.loan c.in_ok-loan.was c.args.domain.now c.domain.view_is m s shown
 
 pub returns-clause-live : goal.returns-clause-live
 returns-clause-live g c =
-    ok-live {T = g.row.T.Denot} {U = g.row.U.Denot} g.U.Default.is_default c.domain.inside.state c.loan.new.state c.in-Some.place c.args.self.now.id c.loan.result
-    c.in-Some.ensures c.loan.ensures.reaches (record { service_id = c.args.self.now.service_id; loan = c.in_ok-loan.loan }) c.in_ok-loan.was c.in_ok-loan.ensures.named
+    ok-live {T = g.row.T.Denot} {U = g.row.U.Denot} g.U.Default.is_default c.domain.inside.state c.loan.new.state c.find_live_publisher-place.result c.args.self.now.id c.loan.result
+    c.find_live_publisher-place.ensures c.loan.ensures.reaches (record { service_id = c.args.self.now.service_id; loan = c.in_ok-loan.loan }) c.in_ok-loan.was c.in_ok-loan.ensures.named
     c.args.domain.now c.domain.view_is (publisher-parts c.args.domain.now _ c.requires.live).1
 
 pub returns-clause-number : goal.returns-clause-number
 returns-clause-number g c =
-    ok-number {T = g.row.T.Denot} {U = g.row.U.Denot} g.U.Default.is_default c.domain.inside.state c.loan.new.state c.in-Some.place c.args.self.now.id c.loan.result
-    c.in-Some.ensures c.loan.ensures.reaches c.in_ok-loan.loan c.in_ok-loan.ensures.named ∙ ap (λ (k : Kept g.row.T.Denot g.row.U.Denot). k.next_message) c.domain.view_is
+    ok-number {T = g.row.T.Denot} {U = g.row.U.Denot} g.U.Default.is_default c.domain.inside.state c.loan.new.state c.find_live_publisher-place.result c.args.self.now.id c.loan.result
+    c.find_live_publisher-place.ensures c.loan.ensures.reaches c.in_ok-loan.loan c.in_ok-loan.ensures.named ∙ ap (λ (k : Kept g.row.T.Denot g.row.U.Denot). k.next_message) c.domain.view_is
 
 pub returns-clause-publisher : goal.returns-clause-publisher
 returns-clause-publisher g c =
-    ok-publisher {T = g.row.T.Denot} {U = g.row.U.Denot} g.U.Default.is_default c.domain.inside.state c.loan.new.state c.in-Some.place c.args.self.now.id c.loan.result
-    c.in-Some.ensures c.loan.ensures.reaches c.in_ok-loan.loan c.in_ok-loan.ensures.named
+    ok-publisher {T = g.row.T.Denot} {U = g.row.U.Denot} g.U.Default.is_default c.domain.inside.state c.loan.new.state c.find_live_publisher-place.result c.args.self.now.id c.loan.result
+    c.find_live_publisher-place.ensures c.loan.ensures.reaches c.in_ok-loan.loan c.in_ok-loan.ensures.named
 
 pub returns-clause-new : goal.returns-clause-new
 returns-clause-new g c =
@@ -48,7 +48,7 @@ returns-clause-stays g c =
     let step = returns-clause-lends g c it.0 it.1 it.2 in
     loan-stays {T = g.row.T.Denot} {U = g.row.U.Denot} c.args.domain.now _ it.0 it.1 it.2 g.U.Default.is_default c.args.self.now.id (Ok c.in_ok-loan.loan) step.0 step.1 step.2
 
-pub unreachable-requires : goal.unreachable-requires
-unreachable-requires g c =
+pub find_live_publisher-place-requires : goal.find_live_publisher-place-requires
+find_live_publisher-place-requires g c = λ none.
     publisher-missing {T = g.row.T.Denot} {U = g.row.U.Denot} c.domain.inside.state c.args.domain.now c.domain.view_is c.args.self.now
-    c.in_default.ensures c.requires.live
+    none c.requires.live

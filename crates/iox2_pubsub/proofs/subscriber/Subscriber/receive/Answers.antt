@@ -12,52 +12,52 @@ use Rattle.iox2_pubsub.proofs.subscriber.Subscriber.receive.Goals as goal
 pub returns-in_err-receipt-clause-receives : goal.returns-in_err-receipt-clause-receives
 returns-in_err-receipt-clause-receives g c =
     error-shows {T = g.row.T.Denot} {U = g.row.U.Denot} fixed_handlers c.args.domain.now c.domain.inside.state c.receive_at.new.state c.domain.view_is c.args.self.now.id c.in_err-receipt.field-0.0
-    (reception-at {T = g.row.T.Denot} {U = g.row.U.Denot} fixed_handlers c.domain.inside.state c.receive_at.new.state c.in-Some.place c.args.self.now.id c.receive_at.result (Err c.in_err-receipt.field-0.0)
-    c.in-Some.ensures c.in_err-receipt.was c.receive_at.ensures) c.from_residual.result c.from_residual.ensures.1
+    (reception-at {T = g.row.T.Denot} {U = g.row.U.Denot} fixed_handlers c.domain.inside.state c.receive_at.new.state c.find_live_subscriber-place.result c.args.self.now.id c.receive_at.result (Err c.in_err-receipt.field-0.0)
+    c.find_live_subscriber-place.ensures c.in_err-receipt.was c.receive_at.ensures) c.from_residual.result c.from_residual.ensures.1
 
-pub returns-in_default-receipt-clause-receives : goal.returns-in_default-receipt-clause-receives
-returns-in_default-receipt-clause-receives g c =
+pub returns-in_default-clause-receives : goal.returns-in_default-clause-receives
+returns-in_default-clause-receives g c =
     reception-shows {T = g.row.T.Denot} {U = g.row.U.Denot} fixed_handlers c.args.domain.now c.domain.inside.state c.receive_at.new.state c.domain.view_is c.args.self.now.id (Ok None)
-    (reception-at {T = g.row.T.Denot} {U = g.row.U.Denot} fixed_handlers c.domain.inside.state c.receive_at.new.state c.in-Some.place c.args.self.now.id c.receive_at.result (Ok None)
-    c.in-Some.ensures (c.in_ok-receipt.was ∙ ap (λ (o : Option Receipt). Ok o) c.in_default-receipt.is) c.receive_at.ensures)
+    (reception-at {T = g.row.T.Denot} {U = g.row.U.Denot} fixed_handlers c.domain.inside.state c.receive_at.new.state c.find_live_subscriber-place.result c.args.self.now.id c.receive_at.result (Ok None)
+    c.find_live_subscriber-place.ensures (c.in_ok-receipt.was ∙ ap (λ (o : Option Receipt). Ok o) c.in_default.is) c.receive_at.ensures)
 
 pub returns-clause-receives : goal.returns-clause-receives
 returns-clause-receives g c =
-    let receipt = c.in-Some-receipt.receipt in
+    let receipt = c.in-Some.receipt in
     reception-shows {T = g.row.T.Denot} {U = g.row.U.Denot} fixed_handlers c.args.domain.now c.domain.inside.state c.receive_at.new.state c.domain.view_is c.args.self.now.id (Ok (Some receipt))
-    (reception-at {T = g.row.T.Denot} {U = g.row.U.Denot} fixed_handlers c.domain.inside.state c.receive_at.new.state c.in-Some.place c.args.self.now.id c.receive_at.result (Ok (Some receipt))
-    c.in-Some.ensures (c.in_ok-receipt.was ∙ ap (λ (o : Option Receipt). Ok o) c.in-Some-receipt.is) c.receive_at.ensures)
+    (reception-at {T = g.row.T.Denot} {U = g.row.U.Denot} fixed_handlers c.domain.inside.state c.receive_at.new.state c.find_live_subscriber-place.result c.args.self.now.id c.receive_at.result (Ok (Some receipt))
+    c.find_live_subscriber-place.ensures (c.in_ok-receipt.was ∙ ap (λ (o : Option Receipt). Ok o) c.in-Some.is) c.receive_at.ensures)
 
 pub returns-clause-live : goal.returns-clause-live
 returns-clause-live g c =
-    let receipt = c.in-Some-receipt.receipt in
+    let receipt = c.in-Some.receipt in
     reception-live {T = g.row.T.Denot} {U = g.row.U.Denot} fixed_handlers c.args.domain.now c.domain.inside.state c.receive_at.new.state c.domain.view_is c.args.self.now
     (record { service_id = c.args.self.now.service_id; origin = receipt.publisher; sample = receipt.sample }) receipt
-    (reception-at {T = g.row.T.Denot} {U = g.row.U.Denot} fixed_handlers c.domain.inside.state c.receive_at.new.state c.in-Some.place c.args.self.now.id c.receive_at.result (Ok (Some receipt))
-    c.in-Some.ensures (c.in_ok-receipt.was ∙ ap (λ (o : Option Receipt). Ok o) c.in-Some-receipt.is) c.receive_at.ensures) refl refl refl c.requires
+    (reception-at {T = g.row.T.Denot} {U = g.row.U.Denot} fixed_handlers c.domain.inside.state c.receive_at.new.state c.find_live_subscriber-place.result c.args.self.now.id c.receive_at.result (Ok (Some receipt))
+    c.find_live_subscriber-place.ensures (c.in_ok-receipt.was ∙ ap (λ (o : Option Receipt). Ok o) c.in-Some.is) c.receive_at.ensures) refl refl refl c.requires
 
 pub returns-clause-origin : goal.returns-clause-origin
 returns-clause-origin g c =
-    let receipt = c.in-Some-receipt.receipt in
+    let receipt = c.in-Some.receipt in
     reception-origin {T = g.row.T.Denot} {U = g.row.U.Denot} fixed_handlers c.args.domain.now c.domain.inside.state c.receive_at.new.state c.domain.view_is c.args.self.now
     (record { service_id = c.args.self.now.service_id; origin = receipt.publisher; sample = receipt.sample }) receipt
-    (reception-at {T = g.row.T.Denot} {U = g.row.U.Denot} fixed_handlers c.domain.inside.state c.receive_at.new.state c.in-Some.place c.args.self.now.id c.receive_at.result (Ok (Some receipt))
-    c.in-Some.ensures (c.in_ok-receipt.was ∙ ap (λ (o : Option Receipt). Ok o) c.in-Some-receipt.is) c.receive_at.ensures) refl refl
+    (reception-at {T = g.row.T.Denot} {U = g.row.U.Denot} fixed_handlers c.domain.inside.state c.receive_at.new.state c.find_live_subscriber-place.result c.args.self.now.id c.receive_at.result (Ok (Some receipt))
+    c.find_live_subscriber-place.ensures (c.in_ok-receipt.was ∙ ap (λ (o : Option Receipt). Ok o) c.in-Some.is) c.receive_at.ensures) refl refl
 
 pub returns-clause-subscriber : goal.returns-clause-subscriber
 returns-clause-subscriber g c =
     let receives =
-    reception-at {T = g.row.T.Denot} {U = g.row.U.Denot} fixed_handlers c.domain.inside.state c.receive_at.new.state c.in-Some.place c.args.self.now.id c.receive_at.result (Ok (Some c.in-Some-receipt.receipt))
-    c.in-Some.ensures (c.in_ok-receipt.was ∙ ap (λ (o : Option Receipt). Ok o) c.in-Some-receipt.is) c.receive_at.ensures in
+    reception-at {T = g.row.T.Denot} {U = g.row.U.Denot} fixed_handlers c.domain.inside.state c.receive_at.new.state c.find_live_subscriber-place.result c.args.self.now.id c.receive_at.result (Ok (Some c.in-Some.receipt))
+    c.find_live_subscriber-place.ensures (c.in_ok-receipt.was ∙ ap (λ (o : Option Receipt). Ok o) c.in-Some.is) c.receive_at.ensures in
     (receives.3).its
 
 pub returns-clause-new : goal.returns-clause-new
 returns-clause-new g c =
     let it = always-shown {T = g.row.T.Denot} {U = g.row.U.Denot} c.domain.inside.state c.args.domain.now c.domain.invariant c.domain.view_is in
     let step = returns-clause-receives g c it.0 it.1 it.2 in
-    subst (λ (q : ℕ). IsNewIn c.args.domain.now (A_sample q c.in-Some-receipt.receipt.sample.number)) (sym (returns-clause-subscriber g c))
-    (received-is-new {T = g.row.T.Denot} {U = g.row.U.Denot} c.args.domain.now (kept_of c.receive_at.new.state) it.0 it.1 it.2 fixed_handlers c.in-Some-receipt.receipt.publisher c.args.self.now.id
-    c.in-Some-receipt.receipt.sample.number step.0 step.1 step.2)
+    subst (λ (q : ℕ). IsNewIn c.args.domain.now (A_sample q c.in-Some.receipt.sample.number)) (sym (returns-clause-subscriber g c))
+    (received-is-new {T = g.row.T.Denot} {U = g.row.U.Denot} c.args.domain.now (kept_of c.receive_at.new.state) it.0 it.1 it.2 fixed_handlers c.in-Some.receipt.publisher c.args.self.now.id
+    c.in-Some.receipt.sample.number step.0 step.1 step.2)
 
 pub returns-in_err-receipt-clause-stays : goal.returns-in_err-receipt-clause-stays
 returns-in_err-receipt-clause-stays g c =
@@ -65,19 +65,19 @@ returns-in_err-receipt-clause-stays g c =
     let step = returns-in_err-receipt-clause-receives g c it.0 it.1 it.2 in
     receive-stays {T = g.row.T.Denot} {U = g.row.U.Denot} c.args.domain.now _ it.0 it.1 it.2 fixed_handlers c.args.self.now.id (received_result c.from_residual.result) step.0 step.1 step.2
 
-pub returns-in_default-receipt-clause-stays : goal.returns-in_default-receipt-clause-stays
-returns-in_default-receipt-clause-stays g c =
+pub returns-in_default-clause-stays : goal.returns-in_default-clause-stays
+returns-in_default-clause-stays g c =
     let it = always-shown {T = g.row.T.Denot} {U = g.row.U.Denot} c.domain.inside.state c.args.domain.now c.domain.invariant c.domain.view_is in
-    let step = returns-in_default-receipt-clause-receives g c it.0 it.1 it.2 in
+    let step = returns-in_default-clause-receives g c it.0 it.1 it.2 in
     receive-stays {T = g.row.T.Denot} {U = g.row.U.Denot} c.args.domain.now _ it.0 it.1 it.2 fixed_handlers c.args.self.now.id No_sample step.0 step.1 step.2
 
 pub returns-clause-stays : goal.returns-clause-stays
 returns-clause-stays g c =
     let it = always-shown {T = g.row.T.Denot} {U = g.row.U.Denot} c.domain.inside.state c.args.domain.now c.domain.invariant c.domain.view_is in
     let step = returns-clause-receives g c it.0 it.1 it.2 in
-    receive-stays {T = g.row.T.Denot} {U = g.row.U.Denot} c.args.domain.now _ it.0 it.1 it.2 fixed_handlers c.args.self.now.id (Got_sample c.in-Some-receipt.receipt.publisher c.in-Some-receipt.receipt.sample.number) step.0 step.1 step.2
+    receive-stays {T = g.row.T.Denot} {U = g.row.U.Denot} c.args.domain.now _ it.0 it.1 it.2 fixed_handlers c.args.self.now.id (Got_sample c.in-Some.receipt.publisher c.in-Some.receipt.sample.number) step.0 step.1 step.2
 
-pub unreachable-requires : goal.unreachable-requires
-unreachable-requires g c =
+pub find_live_subscriber-place-requires : goal.find_live_subscriber-place-requires
+find_live_subscriber-place-requires g c = λ none.
     subscriber-missing {T = g.row.T.Denot} {U = g.row.U.Denot} c.domain.inside.state c.args.domain.now c.domain.view_is c.args.self.now
-    c.in_default.ensures c.requires
+    none c.requires
