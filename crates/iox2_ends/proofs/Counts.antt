@@ -115,9 +115,6 @@ length-recounted Taken slot hs = length-set hs slot _
 length-recounted (Overwrote oldest) slot hs = length-set (one_holder_more slot hs) oldest _ ∙ length-set hs slot _
 length-recounted Full slot hs = refl
 
-pub CountersFollow-same : (p : ℕ) (hs : List ℕ) (ls : List (Option Link)) → CountersFollow p hs ls hs ls
-CountersFollow-same p hs ls = record { at = λ n. refl }
-
 pub CountersFollow-trans : (p : ℕ) (hs hs' hs'' : List ℕ) (ls ls' ls'' : List (Option Link)) → CountersFollow p hs ls hs' ls' → CountersFollow p hs' ls' hs'' ls'' → CountersFollow p hs ls hs'' ls''
 CountersFollow-trans p hs hs' hs'' ls ls' ls'' a b = record { at = λ n. omega (arith, a.at n, b.at n) }
 

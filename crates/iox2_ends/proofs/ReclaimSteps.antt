@@ -1,5 +1,5 @@
 -- A publisher's reclaims, one after the other.
-use Rattle.std.proofs.Common.{◌≡◌, ℕ, ◌+◌, ◌<◌, List, [], ◌∷◌, length, Option, None, Some, get_or, refl, ap, sym, ◌∙◌, inl, inr, arith}
+use Rattle.std.proofs.Common.{◌≡◌, ℕ, ◌+◌, ◌<◌, List, length, Option, None, Some, get_or, refl, ap, sym, ◌∙◌, inl, inr, arith}
 use Rattle.std.proofs.lemmas.Bool.{cases_eq}
 use Rattle.std.proofs.lemmas.List.{length-set}
 use Rattle.std.specs.Prelude.{IsSomeAnd}
@@ -15,7 +15,7 @@ use Rattle.iox2_ends.specs.Recounts.{returned_count}
 use Rattle.iox2_ends.specs.Reclaims.{IsHeld, Reclaims, ReclaimsFrom}
 use Rattle.iox2_ends.proofs.MailboxChanges.{Updates-with_value, SameHomes-updated, KeepsOthers-updated, IsApart-same, mailbox-there, mailboxes-changed, put_at-own}
 use Rattle.iox2_ends.proofs.Counts.{one_if_same, times-cons, get_or-one_holder_less, CountersFollow-changed, IsCovered-follows}
-use Rattle.iox2_ends.proofs.Recounts.{returned-updated, Recounts-same, Recounts-trans}
+use Rattle.iox2_ends.proofs.Recounts.{returned-updated, Recounts-trans}
 use Rattle.iox2_ends.proofs.DeliverySteps.{there, IsSenderLinked-same}
 
 -- a connection that stands at the key is its publisher's
@@ -97,13 +97,6 @@ reclaims-at p hs hs' slab key c d apart own at r = record {
 
 -- ---- many reclaims
 
-pub Reclaims-same : (p : ℕ) (hs : List ℕ) (slab : Slab Link) → Reclaims p hs slab hs slab
-Reclaims-same p hs slab = record {
-  mailboxes = λ number. refl;
-  recounts = Recounts-same p hs slab;
-  shrinks = λ n. omega arith;
-}
-
 pub Reclaims-trans : (p : ℕ) (hs hs' hs'' : List ℕ) (a b c : Slab Link) → Reclaims p hs a hs' b → Reclaims p hs' b hs'' c → Reclaims p hs a hs'' c
 Reclaims-trans p hs hs' hs'' a b c x y = record {
   mailboxes = λ number. y.mailboxes number ∙ x.mailboxes number;
@@ -114,13 +107,6 @@ Reclaims-trans p hs hs' hs'' a b c x y = record {
 -- the key at a publisher's place leads to its own connection
 pub own-linked : (p : ℕ) (slab : Slab Link) (keys : List (Option ℕ)) (i key : ℕ) → IsSenderLinked p slab keys → get_or keys i None ≡ Some key → IsSomeAnd (get slab key) (λ (c : Link). c.home.publisher ≡ p)
 own-linked p slab keys i key l at = let c = there p slab keys i key l at in rw c.1 c.2.publisher
-
--- a connection from which all was reclaimed has nothing given back
-pub returned-none : (slab : Slab Link) (key : ℕ) (c : Link) → returned_count slab key ≡ 0 → get slab key ≡ Some c → c.returned ≡ []
-returned-none slab key c none at = by c.returned (sym (reclaimed-count slab key c at) ∙ none) where
-  by : (xs : List ℕ) → length xs ≡ 0 → xs ≡ []
-  by [] e = refl
-  by (x ∷ xs) e = absurd (omega arith)
 
 -- ---- by rising place
 

@@ -4,7 +4,6 @@ use Rattle.std.proofs.lemmas.Bool.{cases_eq, eqb-true}
 use Rattle.std.specs.declared.option.Option.{Option}
 use Rattle.std.specs.declared.option.Option.TheVariants.{None, Some}
 use Rattle.std.specs.Option.{option_map, option_map_or}
-use Rattle.std.specs.List.{sum_by}
 use Rattle.slab.specs.Slab.{get}
 use Rattle.circular_buffer.specs.Buffer.{Buffer}
 use Rattle.iox2_store.specs.Link.{Link}
@@ -12,7 +11,7 @@ use Rattle.iox2_store.specs.SlotBook.{Book}
 use Rattle.iox2_store.specs.machine.Numbers.{put_at}
 use Rattle.iox2_store.specs.machine.Records.{Publisher}
 use Rattle.iox2_ends.specs.LookUp.{look_up, IsOnly}
-use Rattle.iox2_ends.specs.Counters.{times, stands}
+use Rattle.iox2_ends.specs.Counters.{times}
 use Rattle.iox2_ends.specs.Homes.{IsSenderLinked}
 use Rattle.std.proofs.lemmas.List.{get_or-set_same, get_or-set_other, length-set}
 use Rattle.iox2_ends.proofs.MailboxChanges.{within_if_some}
@@ -20,7 +19,7 @@ use Rattle.iox2_ends.proofs.LookUps.{look_up-changed, look_up-found}
 use Rattle.iox2_domain.specs.Ports.{PublisherFields}
 use Rattle.iox2_domain.specs.Kept.{Named, state_of, port_named, ids, is_named}
 use Rattle.iox2_domain.specs.Fields.{Fields, kept_of, publisher_of, is_book_of, numbers_of}
-use Rattle.iox2_domain.specs.Invariant.{IsLinked, HasOnlyOpenPorts, HasBook, HasBooks, IsCounted, HasPublisherRoom, IsPlain, SenderHas, ReceiverHas, is_publisher, own_holders, is_loan_in}
+use Rattle.iox2_domain.specs.Invariant.{IsLinked, HasOnlyOpenPorts, HasBook, HasBooks, HasPublisherRoom, IsPlain, SenderHas, ReceiverHas, is_publisher, own_holders, is_loan_in}
 use Rattle.iox2_domain.specs.Shows.{KeepsEntries}
 use Rattle.iox2_domain.proofs.lemmas.containers.LookUps.{look_up-map}
 use Rattle.iox2_domain.proofs.lemmas.fields.Views.{KeepsHeld, held-before}
@@ -309,20 +308,6 @@ module _ {T U : Type 0} (f : Fields T U) (i : ℕ) (x y : PublisherFields) (at :
     by : (b : Bool) (o : Option PublisherFields) → own p slot (cond b (Some y) o) ≡ cond b (times slot y.loans + times slot (y.history).items) (own p slot o)
     by true o = refl
     by false o = refl
-
-  -- where it has its slots as often as before, the counters are right
-  pub changed-counted : ((q : ℕ) → IsOnly (is_publisher q) f.publishers) → IsCounted f
-      → ((slot : ℕ) → times slot y.loans + times slot (y.history).items ≡ times slot x.loans + times slot (x.history).items)
-      → IsCounted (with_publisher f i y)
-  changed-counted only counted same = record { at = λ p slot. counted.at p slot ∙ ap (λ n. n + sum_by (stands p slot) f.connections.slots) (sym (own-same p slot)) } where
-    by : (p slot : ℕ) (b : Bool) → eqb x.id p ≡ b → own p slot (cond b (Some y) (look_up (is_publisher p) f.publishers)) ≡ own_holders f p slot
-    by p slot true e =
-        let here : look_up (is_publisher p) f.publishers ≡ Some x = look_up-found (is_publisher p) f.publishers i x (only p) at e in
-        same slot ∙ sym (ap (own p slot) here)
-    by p slot false e = refl
-
-    own-same : (p slot : ℕ) → own_holders (with_publisher f i y) p slot ≡ own_holders f p slot
-    own-same p slot = ap (own p slot) (look_up-publisher only p) ∙ by p slot (eqb x.id p) refl
 
   -- with its old history and its old blocked delivery it holds what it held
   pub changed-entries : ((q : ℕ) → IsOnly (is_publisher q) f.publishers) → KeepsEntries (kept_of f) → y.history ≡ x.history

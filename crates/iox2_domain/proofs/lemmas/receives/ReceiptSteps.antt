@@ -1,7 +1,7 @@
 -- Messages that are taken from connections.
-use Rattle.std.proofs.Common.{◌≡◌, ℕ, ◌<◌, List, map, length, get_or, Option, Some, None, Result, Ok, Err, IsErrAnd, IsSomeAnd, Contains, MatchOption, refl, ap, sym, subst, ◌∙◌}
+use Rattle.std.proofs.Common.{◌≡◌, ℕ, ◌<◌, List, length, get_or, Option, Some, None, Result, Ok, Err, IsErrAnd, IsSomeAnd, MatchOption, refl, ap, sym, subst, ◌∙◌}
 use Rattle.std.proofs.lemmas.List.{get_or_read}
-use Rattle.std.specs.Prelude.{slice_get, is_some}
+use Rattle.std.specs.Prelude.{is_some}
 use Rattle.slab.specs.Slab.{Slab, get, ContainsKey}
 use Rattle.iox2_store.specs.Link.{Link}
 use Rattle.iox2_store.specs.machine.Receives.{ReceiveResult, Got_sample, TakeSample}
@@ -172,11 +172,6 @@ module _ {T U : Type 0} (f now : Fields T U) (place : ℕ) (z : SubscriberFields
   connected-places =
       subst (HasConnections f.connections) (sym has.places_is)
       (keys-connected (now.config).subscriber_max_borrowed_samples z.id z.keys ((has.sound).linked.receivers place z has.stands))
-
-  pub connected-expired : HasConnections f.connections (map Some expired)
-  connected-expired =
-      subst (λ (keys : List ℕ). HasConnections f.connections (map Some keys)) (sym has.expired_is)
-      (keys-connected (now.config).subscriber_max_borrowed_samples z.id (map Some z.expired) ((has.sound).linked.expired place z has.stands))
 
   pub finds-now : (found : Found) → Finds f.connections expired places found → Finds now.connections z.expired z.keys found
   finds-now found finds =

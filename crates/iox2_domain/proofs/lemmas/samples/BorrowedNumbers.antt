@@ -1,5 +1,5 @@
 -- Whether a subscriber has borrowed a number.
-use Rattle.std.proofs.Common.{◌≡◌, ◌≢◌, ◌↔◌, ℕ, ◌<◌, Bool, true, false, map, length, refl, ap, sym, subst, ◌∙◌, Option, Some, None, is_some, IsTrue, MatchOption, Contains}
+use Rattle.std.proofs.Common.{◌≡◌, ◌↔◌, ℕ, ◌<◌, Bool, true, false, map, length, refl, ap, sym, subst, ◌∙◌, Option, Some, None, is_some, IsTrue, MatchOption, Contains}
 use Rattle.std.proofs.lemmas.Bool.{true≢false, eqb-true}
 use Rattle.iox2_store.specs.Link.{Link}
 use Rattle.iox2_store.specs.machine.Numbers.{contains}
@@ -32,10 +32,6 @@ module _ {T U : Type 0} (f : Fields T U) (sound : IsDomain f) (key book : ℕ) (
         let one : Some c ≡ Some borrows.connection = sym has.stands ∙ borrows.stands in
         let same : c ≡ borrows.connection = cc in
         same
-
-    -- the connection is another subscriber's
-    pub not-its : c.home.subscriber ≢ q → BorrowsAt f key q n → ⊥
-    not-its other borrows = other (ap (λ (d : Link). d.home.subscriber) (same-link borrows) ∙ borrows.subscriber_is)
 
     -- no borrowed slot has the number
     pub none-borrows : HasNoneNumbered c b n → BorrowsAt f key q n → ⊥

@@ -1,7 +1,6 @@
 -- A loan becomes a message: what lies in its slot, and in all others.
 use Rattle.std.proofs.Common.{◌≡◌, ◌≢◌, ℕ, ◌+◌, ◌<◌, Bool, true, false, cond, not, eqb, List, [], ◌∷◌, length, map, refl, ap, sym, ◌∙◌, inl, inr, arith}
 use Rattle.std.proofs.lemmas.Bool.{cases_eq, ne_eqb, eq-eqb}
-use Rattle.std.proofs.lemmas.List.{length-set, get_or-set_other}
 use Rattle.std.specs.declared.option.Option.{Option}
 use Rattle.std.specs.declared.option.Option.TheVariants.{Some}
 use Rattle.std.specs.List.{filter_map}
@@ -16,7 +15,7 @@ use Rattle.iox2_store.specs.declared.header.Header.{Header}
 use Rattle.iox2_store.specs.declared.slots.mark.SlotMark.{SlotMark}
 use Rattle.iox2_store.specs.declared.slots.mark.SlotMark.TheVariants.{Unwritten, Written, Sent}
 use Rattle.iox2_ends.specs.Counters.{times}
-use Rattle.iox2_ends.proofs.Counts.{one_if, times-cons, one_if_same, one_if_other, get_or-one_holder_less}
+use Rattle.iox2_ends.proofs.Counts.{one_if, times-cons, one_if_same, one_if_other}
 use Rattle.iox2_domain.specs.Kept.{KeptMessage, Lent_message, Sent_message}
 use Rattle.iox2_domain.specs.Fields.{message_of, message_in}
 use Rattle.iox2_domain.specs.Deliveries.{with_sent}

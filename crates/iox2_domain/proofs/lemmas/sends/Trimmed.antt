@@ -1,5 +1,5 @@
 -- A history that is one message too long loses its oldest.
-use Rattle.std.proofs.Common.{◌≡◌, ℕ, suc, ◌+◌, ◌-◌, ◌<◌, ◌≤◌, Bool, true, false, cond, List, [], ◌∷◌, ◌++◌, length, drop, map, get_or, refl, ap, sym, subst, ◌∙◌, arith}
+use Rattle.std.proofs.Common.{◌≡◌, ℕ, ◌+◌, ◌-◌, ◌<◌, ◌≤◌, Bool, true, false, cond, List, [], ◌∷◌, ◌++◌, length, drop, map, get_or, refl, ap, sym, subst, ◌∙◌, arith}
 use Rattle.std.proofs.lemmas.Bool.{ltb-true, ltb-false}
 use Rattle.std.proofs.lemmas.List.{set-get_or, length-append, length-map}
 use Rattle.std.specs.Prelude.{slice_set, slice_get, nat_lt}
@@ -7,10 +7,9 @@ use Rattle.std.specs.declared.option.Option.{Option}
 use Rattle.std.specs.declared.option.Option.TheVariants.{None, Some}
 use Rattle.slab.specs.Slab.{Slab, get, with_value}
 use Rattle.circular_buffer.specs.Buffer.{Buffer, buffer, keep_last}
-use Rattle.iox2_store.specs.SlotBook.{Book, holders_at}
+use Rattle.iox2_store.specs.SlotBook.{Book}
 use Rattle.iox2_store.specs.machine.Numbers.{put_at, last_n}
 use Rattle.iox2_store.specs.machine.Records.{Entry, Loan, Publisher}
-use Rattle.iox2_store.specs.machine.State.{State}
 use Rattle.iox2_store.specs.Stored.{IsHeldMessage}
 use Rattle.iox2_ends.proofs.MailboxChanges.{put_at-own}
 use Rattle.iox2_domain.specs.Ports.{PublisherFields}

@@ -1,18 +1,16 @@
 -- The slots of a connection, in its publisher's book.
-use Rattle.std.proofs.Common.{◌≡◌, ℕ, ◌<◌, ap, ◌∙◌, arith, refl, Some, None, true, false, ◌||◌, eqb, List, [], ◌∷◌, ◌≢◌, zero, suc, map, get_or, Contains, length, inl, inr}
-use Rattle.std.proofs.lemmas.Bool.{eqb-true, eq-eqb, ne_eqb, false_from_ne_true, or_cases, or_left, or_right}
-use Rattle.std.specs.Prelude.{slice_get, slice_index, IsSomeAnd}
+use Rattle.std.proofs.Common.{◌≡◌, ℕ, ◌<◌, ap, ◌∙◌, arith, refl, Some, true, false, ◌||◌, eqb, List, [], ◌∷◌, ◌≢◌, zero, suc, map, get_or, Contains, length, inl, inr}
+use Rattle.std.proofs.lemmas.Bool.{eqb-true, eq-eqb, ne_eqb, or_cases, or_left, or_right}
+use Rattle.std.specs.Prelude.{slice_get, slice_index}
 use Rattle.std.specs.Option.{option_map_or}
-use Rattle.slab.specs.Slab.{Slab, get}
+use Rattle.slab.specs.Slab.{get}
 use Rattle.iox2_store.specs.Link.{Link}
 use Rattle.iox2_store.specs.machine.Numbers.{contains}
 use Rattle.iox2_store.specs.SlotBook.{Book, holders_at}
 use Rattle.iox2_ends.specs.Counters.{times, IsCovered}
 use Rattle.iox2_ends.specs.LookUp.{look_up}
 use Rattle.iox2_ends.proofs.Counts.{one_if, one_if_same, times-cons, counter_if_stands}
-use Rattle.iox2_ends.proofs.LookUps.{look_up-found, look_up-nothing}
-use Rattle.iox2_ends.proofs.MailboxChanges.{within_if_some}
-use Rattle.iox2_ends.specs.Mailboxes.{is_between}
+use Rattle.iox2_ends.proofs.LookUps.{look_up-found}
 use Rattle.iox2_store.proofs.LinkLemmas.{contains-from}
 use Rattle.iox2_domain.specs.Fields.{Fields, is_book_of, numbers_of}
 use Rattle.iox2_domain.specs.Invariant.{IsDomain, holders_of}
@@ -55,13 +53,6 @@ module _ {T U : Type 0} (f : Fields T U) (sound : IsDomain f) (key book : ℕ) (
   borrowed-in_use slot has =
       let some = times-some slot c.borrowed has in
       counter_if_stands c.home.publisher b.holders f.connections.slots key slot c book-covers at refl (omega (arith, some))
-
--- where no key has a connection between the two, none is found
-pub between-nowhere : (p q : ℕ) (connections : Slab Link) → ((k : ℕ) → k < length connections.slots → IsSomeAnd (get connections k) (λ c. is_between p q c ≡ true) → ⊥)
-    → look_up (is_between p q) connections.slots ≡ None
-between-nowhere p q connections none =
-    look_up-nothing (is_between p q) connections.slots (λ i c at. false_from_ne_true (is_between p q c) (λ is.
-    none i (within_if_some connections.slots i c at) (rw at is)))
 
 -- what is got at an index
 pub index-got : (xs : List ℕ) (i x : ℕ) → slice_get xs i ≡ Some x → slice_index xs i ≡ x

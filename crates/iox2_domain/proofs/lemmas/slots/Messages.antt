@@ -324,12 +324,6 @@ module _ {T U : Type 0} (f : Fields T U) where
   entry-found numbered key slot n entry at =
       ap (option_and_then entry_in) (message_numbered-found f.contents f.books f.next_message numbered n key slot (Sent_message n entry) at (eq-eqb n n refl))
 
-  -- a number lies in one slot
-  pub one-slot : IsNumbered f.next_message f.books → (n key key' slot slot' : ℕ) (m m' : KeptMessage T U) → lies_at key slot ≡ Some m → is_numbered n m ≡ true
-      → lies_at key' slot' ≡ Some m' → is_numbered n m' ≡ true → (key ≡ key') × (slot ≡ slot')
-  one-slot numbered n key key' slot slot' m m' at is at' is' =
-      numbered.one key key' slot slot' n (has_number f.contents f.books key slot n m at is) (has_number f.contents f.books key' slot' n m' at' is')
-
 module _ {T U : Type 0} (f g : Fields T U) (key slot k : ℕ) where
   -- only the slot changes, and only the number k lies or lay in it
   pub record ChangesSlot : Type 0 where

@@ -1,6 +1,6 @@
 -- The last messages of a publisher's history wait in a connection in which no slot stood.
-use Rattle.std.proofs.Common.{◌≡◌, ◌≢◌, ℕ, zero, suc, ◌+◌, ◌-◌, ◌<◌, ◌≤◌, Bool, true, false, ◌&&◌, List, [], ◌∷◌, ◌++◌, length, drop, map, get_or, refl, ap, sym, subst, ◌∙◌, inl, inr, arith}
-use Rattle.std.proofs.lemmas.Bool.{cases_eq, eq-eqb, ne_eqb, lt-ltb}
+use Rattle.std.proofs.Common.{◌≡◌, ℕ, zero, suc, ◌+◌, ◌-◌, ◌<◌, ◌≤◌, true, false, ◌&&◌, List, [], ◌∷◌, length, drop, map, get_or, refl, ap, sym, subst, ◌∙◌, inl, inr, arith}
+use Rattle.std.proofs.lemmas.Bool.{cases_eq, eq-eqb, lt-ltb}
 use Rattle.std.proofs.lemmas.List.{length-map, drop-map}
 use Rattle.std.specs.Prelude.{slice_get, nat_lt}
 use Rattle.std.specs.declared.option.Option.{Option}
@@ -26,7 +26,7 @@ use Rattle.iox2_ends.proofs.MailboxChanges.{Updates-with_value, SameHomes-update
 use Rattle.iox2_laws.proofs.NumberLemmas.{contains_in_append, contains_in_last_n}
 use Rattle.iox2_laws.proofs.Puts.{at_each}
 use Rattle.iox2_domain.specs.Ports.{PublisherFields}
-use Rattle.iox2_domain.specs.Kept.{Sent_message, KeptMessage, state_of, entries_of}
+use Rattle.iox2_domain.specs.Kept.{Sent_message, state_of}
 use Rattle.iox2_domain.specs.Fields.{Fields, kept_of, publisher_of, numbers_of, contents_at, message_of}
 use Rattle.iox2_domain.specs.Invariant.{IsDomain, HasLoneLoans, HasNumber, is_lent, is_loan_in}
 use Rattle.iox2_domain.specs.Histories.{with_history_waiting, HandsOut}

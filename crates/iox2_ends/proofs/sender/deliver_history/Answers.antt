@@ -1,6 +1,6 @@
-use Rattle.std.proofs.Common.{sym, ◌∙◌, ap, refl, arith}
+use Rattle.std.proofs.Common.{sym, ◌∙◌, ap, arith}
 use Rattle.std.specs.Option.{option_copied}
-use Rattle.iox2_ends.proofs.Histories.{next-in_use, next-fits, next-put, stands-below, hands-out-all}
+use Rattle.iox2_ends.proofs.Histories.{next-in_use, next-fits, next-put, stands-below}
 use Rattle.iox2_ends.proofs.sender.deliver_history.Goals as goal
 use Rattle.iox2_ends.proofs.sender.deliver_history.Goals.{in-Some, in_default}
 

@@ -1,4 +1,3 @@
-use Rattle.iox2_ends.specs.Counters.{with_counters}
 use Rattle.iox2_ends.proofs.Histories.{HandsOutFrom}
 use Rattle.iox2_ends.proofs.sender.deliver_history.Given as goal
 
