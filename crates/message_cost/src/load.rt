@@ -24,7 +24,6 @@ impl Load {
     pub fn config(&self) -> Option<ServiceConfig>
         ensures variant { IfSome result (λ config. config.variant ≡ TypeVariant.FixedSize) }
         ensures units { IfSome result (λ config. config.units_per_element ≡ 1) }
-        ensures no_history { IfSome result (λ config. config.history_size ≡ 0) }
     {
         Some(ServiceConfig {
             max_publishers: self.idle_publishers.checked_add(1)?,

@@ -1,7 +1,7 @@
 use Rattle.iox2_domain.proofs.lemmas.slots.PublisherBooks.{read-there}
 use Rattle.iox2_domain.specs.Fields.{Fields}
 use Rattle.iox2_ends.proofs.MailboxChanges.{within_if_some}
-use Rattle.std.proofs.Common.{◌≡◌, ◌∙◌, ap, sym, subst, inl, inr, None, Some, slice_index_or, rules, length, vec_len}
+use Rattle.std.proofs.Common.{◌≡◌, ◌∙◌, ap, sym, None, Some, slice_index_or, rules, length, vec_len}
 use Rattle.iox2_domain.proofs.lemmas.receives.ReceiptSteps.{has-keys, connected-places}
 use Rattle.iox2_domain.proofs.lemmas.receives.Questions.{answers-found}
 use Rattle.iox2_messages.proofs.questions.has_data_at.Goals as goal

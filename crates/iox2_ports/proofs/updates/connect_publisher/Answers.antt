@@ -1,6 +1,6 @@
-use Rattle.std.proofs.Common.{rules, ◌≡◌, ◌∙◌, length, true, false, ap, sym, subst, arith, vec_len, refl, slice_set}
+use Rattle.std.proofs.Common.{rules, ◌≡◌, ◌∙◌, length, true, false, ap, sym, subst, arith, vec_len, slice_set}
 use Rattle.std.proofs.lemmas.List.{with_items_is}
-use Rattle.std.specs.declared.option.Option.TheVariants.{None, Some}
+use Rattle.std.specs.declared.option.Option.TheVariants.{None}
 use Rattle.iox2_domain.specs.Ports.{PublisherFields}
 use Rattle.std.specs.Option.{option_map, option_map_or}
 use Rattle.iox2_store.specs.machine.Environments.{fixed_handlers}

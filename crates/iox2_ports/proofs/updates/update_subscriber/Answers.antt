@@ -1,4 +1,4 @@
-use Rattle.std.proofs.Common.{◌≡◌, ◌∙◌, true, false, ap, sym}
+use Rattle.std.proofs.Common.{◌≡◌, ◌∙◌, false, ap, sym}
 use Rattle.iox2_store.specs.machine.Environments.{fixed_handlers}
 use Rattle.iox2_domain.specs.Fields.{Fields}
 use Rattle.iox2_domain.specs.Updates.{is_subscriber_due}
