@@ -10,3 +10,5 @@ pub mod discards
 pub mod receives
 pub mod samples
 pub mod releases
+pub mod closes
+pub mod receivers

@@ -5,18 +5,16 @@ use Rattle.std.specs.declared.option.Option.TheVariants.{None, Some}
 use Rattle.std.specs.Option.{option_map}
 use Rattle.slab.specs.Slab.{get}
 use Rattle.iox2_store.specs.Link.{Link, load}
-use Rattle.iox2_store.specs.machine.Limits.{expired_limit}
 use Rattle.iox2_store.specs.machine.Places.{occupant}
 use Rattle.iox2_store.specs.machine.PublisherUpdate.{SenderSide, UpdateSenderPlace, connected, sender_side, with_sender_side, UpdatePublisher}
 use Rattle.iox2_store.specs.machine.Records.{Entry, Environment}
-use Rattle.iox2_store.specs.machine.SubscriberUpdate.{ReceiverSide, ConnectAtPlace, receiver_side, with_receiver_side, UpdateSubscriber}
-use Rattle.iox2_store.specs.machine.State.{State, receiving_buffer, has_receiver_end, has_sender_end}
+use Rattle.iox2_store.specs.machine.State.{State, receiving_buffer, has_receiver_end}
 use Rattle.iox2_store.specs.declared.errors.ConnectionFailure.{ConnectionFailure}
-use Rattle.iox2_domain.specs.Ports.{PublisherFields, SubscriberFields}
+use Rattle.iox2_domain.specs.Ports.{PublisherFields}
 use Rattle.iox2_domain.specs.Kept.{state_of, entries_of}
-use Rattle.iox2_domain.specs.Fields.{Fields, kept_of, publisher_of, subscriber_of}
+use Rattle.iox2_domain.specs.Fields.{Fields, kept_of, publisher_of}
 use Rattle.iox2_domain.specs.Invariant.{IsDomain}
-use Rattle.iox2_domain.specs.Updates.{changed_at, with_sender_room, with_receiver_rooms, sender_room, receiver_room, expired_room_at, publisher_but_room, subscriber_but_room}
+use Rattle.iox2_domain.specs.Updates.{changed_at, with_sender_room, with_receiver_rooms, sender_room, receiver_room, expired_room_at, subscriber_but_room}
 use Rattle.iox2_domain.specs.Reaches.{Reaches}
 
 module _ {T U : Type 0} where
@@ -68,22 +66,6 @@ module _ {T U : Type 0} (environment : Environment) where
     pub state : state_of (kept_of f') ≡ with_sender_side (state_of (kept_of f)) x.id (publisher_of f.books f.connections x).port side
     pub entries : (n : ℕ) (entry : Entry T U) → entries_of (kept_of f') n ≡ Some entry → entries_of (kept_of f) n ≡ Some entry
 
-  -- The subscriber y at the place j, which isn't due, has done the machine's step at the publisher's place i, with this failure
-  -- if any, and nothing changed but its keys, connections, warnings and the room for keys.
-  pub record ConnectsReceiver (f : Fields T U) (j i : ℕ) (y : SubscriberFields) (f' : Fields T U) (failure : Option ConnectionFailure) : Type 0 where
-    pub agrees : IsDomain f'
-    pub keys : List (Option ℕ)
-    pub key_room : ℕ
-    pub expired_room : ℕ
-    pub fields : f' ≡ record f { subscribers = slice_set f.subscribers j (Some (record y { keys = keys; key_room = key_room; expired_room = expired_room })); publishers = f'.publishers; connections = f'.connections; warnings = f'.warnings }
-    pub others : map (option_map publisher_but_room) f'.publishers ≡ map (option_map publisher_but_room) f.publishers
-    pub side : ReceiverSide
-    pub settled : side.is_due ≡ false
-    pub steps : ConnectAtPlace environment (f.config).service_id y.id (subscriber_of f.books f.connections y).port.degradation_handler
-        (expired_limit f.config) (λ p. has_sender_end (state_of (kept_of f)) p y.id)
-        i (occupant (state_of (kept_of f)).publisher_places i) (receiver_side (state_of (kept_of f)) y.id (subscriber_of f.books f.connections y).port) side failure
-    pub state : state_of (kept_of f') ≡ with_receiver_side (state_of (kept_of f)) y.id (subscriber_of f.books f.connections y).port side
-
   -- The publisher x at the place i is updated, with this failure if any, and nothing changed but its keys, its mark,
   -- connections, counters of slots, warnings and the room for keys.
   pub record UpdatesPublisher (f : Fields T U) (i : ℕ) (x : PublisherFields) (f' : Fields T U) (failure : Option ConnectionFailure) : Type 0 where
@@ -94,15 +76,3 @@ module _ {T U : Type 0} (environment : Environment) where
     pub key_room : ℕ
     pub fields : f' ≡ record f { publishers = slice_set f.publishers i (Some (record x { keys = keys; key_room = key_room; is_due = false })); subscribers = f'.subscribers; connections = f'.connections; books = f'.books; warnings = f'.warnings }
     pub others : map (option_map subscriber_but_room) f'.subscribers ≡ map (option_map subscriber_but_room) f.subscribers
-
-  -- The subscriber y at the place j is updated, with this failure if any, and nothing changed but its keys, its mark,
-  -- connections, warnings and the room for keys.
-  pub record UpdatesSubscriber (f : Fields T U) (j : ℕ) (y : SubscriberFields) (f' : Fields T U) (failure : Option ConnectionFailure) : Type 0 where
-    pub after : State T U
-    pub updates : UpdateSubscriber environment (state_of (kept_of f)) y.id after failure
-    pub reaches : Reaches f f' after
-    pub keys : List (Option ℕ)
-    pub key_room : ℕ
-    pub expired_room : ℕ
-    pub fields : f' ≡ record f { subscribers = slice_set f.subscribers j (Some (record y { keys = keys; key_room = key_room; expired_room = expired_room; is_due = false })); publishers = f'.publishers; connections = f'.connections; warnings = f'.warnings }
-    pub others : map (option_map publisher_but_room) f'.publishers ≡ map (option_map publisher_but_room) f.publishers

@@ -1,5 +1,5 @@
 -- What always holds of the fields of a domain.
-use Rattle.std.specs.Prelude.{◌≡◌, ◌⊎◌, ℕ, Bool, true, false, ◌+◌, ◌*◌, ◌<◌, ◌≤◌, ◌==◌, ◌&&◌, cond, List, [], length, map, nat_lt, sum_by, slice_get, slice_index, slice_index_or, Contains, IsSomeAnd}
+use Rattle.std.specs.Prelude.{◌≡◌, ◌≢◌, ◌⊎◌, ℕ, Bool, true, false, ◌+◌, ◌*◌, ◌<◌, ◌≤◌, ◌==◌, ◌&&◌, cond, List, [], length, map, nat_lt, sum_by, slice_get, slice_index, slice_index_or, Contains, IsSomeAnd}
 use Rattle.std.specs.List.{All}
 use Rattle.std.specs.declared.option.Option.{Option}
 use Rattle.std.specs.declared.option.Option.TheVariants.{None, Some}
@@ -139,6 +139,37 @@ pub record IsBookOf (books : Slab Book) (publisher key : ℕ) : Type 0 where
 pub record NamesBooks (books : Slab Book) (connections : Slab Link) : Type 0 where
   pub at : (key : ℕ) (c : Link) → get connections key ≡ Some c → IsBookOf books c.home.publisher c.home.book
 
+-- The publisher p stands, and its book is the one at the key.
+pub record IsOwned (publishers : List (Option PublisherFields)) (key p : ℕ) : Type 0 where
+  pub place : ℕ
+  pub publisher : PublisherFields
+  pub stands : slice_index_or publishers place None ≡ Some publisher
+  pub is_its : publisher.id ≡ p
+  pub has : publisher.book ≡ key
+
+-- The publisher p was there, and is gone.
+pub record IsGone (next_port : ℕ) (publishers : List (Option PublisherFields)) (p : ℕ) : Type 0 where
+  pub known : p < next_port
+  pub absent : (i : ℕ) (x : PublisherFields) → slice_index_or publishers i None ≡ Some x → x.id ≢ p
+
+-- Some slot of the book has a holder.
+pub record IsUsed (b : Book) : Type 0 where
+  pub slot : ℕ
+  pub in_use : 0 < holders_at b slot
+
+-- The book's publisher is gone, and a slot of it has a holder still.
+abbrev pub IsLeft : (next_port : ℕ) → List (Option PublisherFields) → Book → Type 0
+IsLeft next_port publishers b = IsGone next_port publishers b.publisher × IsUsed b
+
+-- Each book is of a publisher that stands, or is left of one that is gone.
+pub record KeepsBooks (next_port : ℕ) (publishers : List (Option PublisherFields)) (books : Slab Book) : Type 0 where
+  pub at : (key : ℕ) (b : Book) → get books key ≡ Some b → IsOwned publishers key b.publisher ⊎ IsLeft next_port publishers b
+
+-- Each book but the one at this key, which may have no holder any more.
+pub record KeepsBooksBut (next_port : ℕ) (publishers : List (Option PublisherFields)) (books : Slab Book) (spared : ℕ) : Type 0 where
+  pub own : (b : Book) → get books spared ≡ Some b → IsOwned publishers spared b.publisher ⊎ IsGone next_port publishers b.publisher
+  pub others : (key : ℕ) (b : Book) → key ≢ spared → get books key ≡ Some b → IsOwned publishers key b.publisher ⊎ IsLeft next_port publishers b
+
 -- ---- slots
 
 -- How many holders the slot of the publisher p has, by its book.
@@ -213,24 +244,51 @@ pub record IsPlain (x : PublisherFields) : Type 0 where
 pub record IsPlainSubscriber (y : SubscriberFields) : Type 0 where
   pub degradation : y.degradation_handler ≡ Fixed Warn
 
--- No port was closed: each place is taken, each subscriber is open, and the ports of each connection and each book stand
--- at their places.
-pub record HasOnlyOpenPorts {T U : Type 0} (f : Fields T U) : Type 0 where
-  pub publishers : (i : ℕ) → i < length f.publishers → (x : PublisherFields) × (slice_index_or f.publishers i None ≡ Some x)
-  pub subscribers : (i : ℕ) → i < length f.subscribers → (y : SubscriberFields) × (slice_index_or f.subscribers i None ≡ Some y)
-  pub are_open : (i : ℕ) (y : SubscriberFields) → slice_index_or f.subscribers i None ≡ Some y → (y.is_open ≡ true) × (y.expired ≡ [])
-  pub senders : (key : ℕ) (c : Link) → get f.connections key ≡ Some c
-      → (x : PublisherFields) × (slice_index_or f.publishers c.home.publisher_place None ≡ Some x) × (x.id ≡ c.home.publisher)
-  pub receivers : (key : ℕ) (c : Link) → get f.connections key ≡ Some c
-      → (y : SubscriberFields) × (slice_index_or f.subscribers c.home.subscriber_place None ≡ Some y) × (y.id ≡ c.home.subscriber)
-  pub books : (key : ℕ) (b : Book) → get f.books key ≡ Some b
-      → (i : ℕ) × (x : PublisherFields) × (slice_index_or f.publishers i None ≡ Some x) × (x.id ≡ b.publisher) × (x.book ≡ key)
-
 -- ---- the whole
+
+-- The fields agree with one another, in the midst of a step.
+pub record HasParts {T U : Type 0} (f : Fields T U) : Type 0 where
+  pub publisher_ids : (p : ℕ) → IsOnly (is_publisher p) f.publishers
+  pub subscriber_ids : (q : ℕ) → IsOnly (is_subscriber q) f.subscribers
+  pub apart : IsApart f.connections
+  pub linked : IsLinked f
+  pub expired_room : HasExpiredRoom f.subscribers f.connections
+  pub books : HasBooks f
+  pub names : NamesBooks f.books f.connections
+  pub counted : IsCounted f
+  pub numbered : IsNumbered f.next_message f.books
+  pub publisher_room : (i : ℕ) (x : PublisherFields) → slice_index_or f.publishers i None ≡ Some x → HasPublisherRoom f.config x
+  pub warning_room : (f.warnings).capacity ≡ warning_limit
+  pub shapes : HasShapes f
+  pub supported : IsSupportedConfig f.config
+  pub plain : (i : ℕ) (x : PublisherFields) → slice_index_or f.publishers i None ≡ Some x → IsPlain x
+  pub plain_subscribers : (i : ℕ) (y : SubscriberFields) → slice_index_or f.subscribers i None ≡ Some y → IsPlainSubscriber y
 
 -- The fields agree with one another, and what they keep is a well-formed state with an entry for each message that
 -- somebody holds.
 pub record IsDomain {T U : Type 0} (f : Fields T U) : Type 0 where
+  pub publisher_ids : (p : ℕ) → IsOnly (is_publisher p) f.publishers
+  pub subscriber_ids : (q : ℕ) → IsOnly (is_subscriber q) f.subscribers
+  pub apart : IsApart f.connections
+  pub linked : IsLinked f
+  pub expired_room : HasExpiredRoom f.subscribers f.connections
+  pub books : HasBooks f
+  pub names : NamesBooks f.books f.connections
+  pub kept_books : KeepsBooks f.next_port f.publishers f.books
+  pub counted : IsCounted f
+  pub numbered : IsNumbered f.next_message f.books
+  pub lone : HasLoneLoans f.books
+  pub publisher_room : (i : ℕ) (x : PublisherFields) → slice_index_or f.publishers i None ≡ Some x → HasPublisherRoom f.config x
+  pub warning_room : (f.warnings).capacity ≡ warning_limit
+  pub shapes : HasShapes f
+  pub supported : IsSupportedConfig f.config
+  pub plain : (i : ℕ) (x : PublisherFields) → slice_index_or f.publishers i None ≡ Some x → IsPlain x
+  pub plain_subscribers : (i : ℕ) (y : SubscriberFields) → slice_index_or f.subscribers i None ≡ Some y → IsPlainSubscriber y
+  pub well_formed : IsWellFormed (state_of (kept_of f))
+  pub entries : KeepsEntries (kept_of f)
+
+-- The same but for the book at the key, whose publisher is gone, and of which no slot may have a holder any more.
+pub record IsSoundBut {T U : Type 0} (key : ℕ) (f : Fields T U) : Type 0 where
   pub publisher_ids : (p : ℕ) → IsOnly (is_publisher p) f.publishers
   pub subscriber_ids : (q : ℕ) → IsOnly (is_subscriber q) f.subscribers
   pub apart : IsApart f.connections
@@ -247,6 +305,7 @@ pub record IsDomain {T U : Type 0} (f : Fields T U) : Type 0 where
   pub supported : IsSupportedConfig f.config
   pub plain : (i : ℕ) (x : PublisherFields) → slice_index_or f.publishers i None ≡ Some x → IsPlain x
   pub plain_subscribers : (i : ℕ) (y : SubscriberFields) → slice_index_or f.subscribers i None ≡ Some y → IsPlainSubscriber y
-  pub open_ports : HasOnlyOpenPorts f
+  pub kept_books : (k : ℕ) (b : Book) → k ≢ key → get f.books k ≡ Some b → IsOwned f.publishers k b.publisher ⊎ IsLeft f.next_port f.publishers b
+  pub left_book : (b : Book) → get f.books key ≡ Some b → IsGone f.next_port f.publishers b.publisher
   pub well_formed : IsWellFormed (state_of (kept_of f))
   pub entries : KeepsEntries (kept_of f)

@@ -20,6 +20,18 @@ pub record IsLoanSlot (book : Book) (slot number : ℕ) : Type 0 where
 abbrev pub IsInNoSlot : Book → (slots : List ℕ) → (number : ℕ) → Type 0
 IsInNoSlot book slots number = (i : ℕ) → i < length slots → IsLoanSlot book (slice_index slots i) number → ⊥
 
+-- A loan with this number lies in no slot of the book.
+abbrev pub HasNoLoan : Book → (number : ℕ) → Type 0
+HasNoLoan book number = (slot : ℕ) → IsLoanSlot book slot number → ⊥
+
+-- The book at the key is this publisher's, and in a slot of it lies the loan with this number.
+pub record LendsAt {T U : Type 0} (f : Fields T U) (key publisher number : ℕ) : Type 0 where
+  pub book : Book
+  pub stands : get f.books key ≡ Some book
+  pub is_its : book.publisher ≡ publisher
+  pub slot : ℕ
+  pub loan_slot : IsLoanSlot book slot number
+
 -- In this slot of the book at the key lies the publisher's loan with this number, which is out.
 pub record LiesInSlot {T U : Type 0} (f : Fields T U) (publisher number key slot : ℕ) : Type 0 where
   pub book : Book

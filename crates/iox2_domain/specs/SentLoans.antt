@@ -1,14 +1,18 @@
 -- A loan is sent.
 use Rattle.std.specs.Prelude.{◌≡◌, ◌⊎◌, ℕ, slice_index_or}
 use Rattle.std.specs.declared.option.Option.TheVariants.{None, Some}
+use Rattle.std.specs.declared.result.Result.{Result}
+use Rattle.std.specs.declared.result.Result.TheVariants.{Ok, Err}
 use Rattle.iox2_store.specs.machine.Loans.{entry_of}
 use Rattle.iox2_store.specs.machine.Numbers.{put_at}
 use Rattle.iox2_store.specs.machine.Records.{Entry, Loan, Environment}
-use Rattle.iox2_store.specs.machine.Sends.{SendResult, Send}
+use Rattle.iox2_store.specs.machine.Sends.{SendResult, Send, Delivered_to, Send_error}
+use Rattle.iox2_store.specs.declared.errors.SendError.{SendError}
+use Rattle.iox2_ends.specs.LookUp.{look_up}
 use Rattle.iox2_domain.specs.Kept.{state_of, entries_of}
 use Rattle.iox2_domain.specs.Fields.{Fields, kept_of}
 use Rattle.iox2_domain.specs.Connects.{UpdatesPublisher}
-use Rattle.iox2_domain.specs.Invariant.{IsDomain}
+use Rattle.iox2_domain.specs.Invariant.{IsDomain, is_publisher}
 use Rattle.iox2_domain.specs.LoanSlots.{LiesInSlot}
 use Rattle.iox2_domain.specs.Ports.{PublisherFields}
 
@@ -21,6 +25,16 @@ pub record IsReadyToSend {T U : Type 0} (environment : Environment) (old new : F
   pub key : ℕ
   pub lies : LiesInSlot new p n key slot
 
+-- The publisher p is gone, and nothing was changed.
+pub record IsLeftLoan {T U : Type 0} (old new : Fields T U) (p : ℕ) : Type 0 where
+  pub is_gone : look_up (is_publisher p) old.publishers ≡ None
+  pub same : new ≡ old
+
+-- The machine's result of a send: the number of those that took the message, or an error.
+abbrev pub send_result : Result ℕ SendError → SendResult
+send_result (Ok count) = Delivered_to count
+send_result (Err error) = Send_error error
+
 -- The loan n was sent, with this result, and it is out no more. Its entry may be newly kept, and no other is.
 pub record SendsLoan {T U : Type 0} (environment : Environment) (old new : Fields T U) (n : ℕ) (result : SendResult) : Type 0 where
   pub loan : Loan T U
@@ -30,3 +44,5 @@ pub record SendsLoan {T U : Type 0} (environment : Environment) (old new : Field
   pub loans : (state_of (kept_of new)).loans ≡ put_at (state_of (kept_of old)).loans n None
   pub entries : (m : ℕ) (entry : Entry T U) → entries_of (kept_of new) m ≡ Some entry
       → ((m ≡ n) × (entry ≡ entry_of loan)) ⊎ (entries_of (kept_of old) m ≡ Some entry)
+  -- After an error no entry is newly kept.
+  pub lost : (error : SendError) → result ≡ Send_error error → (m : ℕ) (entry : Entry T U) → entries_of (kept_of new) m ≡ Some entry → entries_of (kept_of old) m ≡ Some entry

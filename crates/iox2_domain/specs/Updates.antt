@@ -1,12 +1,13 @@
 -- What an update changes of a port and of a domain's fields.
-use Rattle.std.specs.Prelude.{◌≡◌, ℕ, Bool, false, List, slice_index_or, slice_set}
+use Rattle.std.specs.Prelude.{◌≡◌, ℕ, Bool, false, cond, List, slice_index_or, slice_set}
 use Rattle.std.specs.declared.option.Option.{Option}
 use Rattle.std.specs.declared.option.Option.TheVariants.{None, Some}
 use Rattle.std.specs.Option.{option_map, option_map_or, option_and_then}
 use Rattle.slab.specs.Slab.{Slab, Updates, get}
 use Rattle.iox2_store.specs.Link.{Link, empty_link}
-use Rattle.iox2_store.specs.machine.Places.{set_place}
+use Rattle.iox2_store.specs.machine.Places.{set_place, is_port}
 use Rattle.iox2_store.specs.declared.connection.Home.{Home}
+use Rattle.iox2_ends.specs.Mailboxes.{publisher_of_key}
 use Rattle.iox2_domain.specs.Ports.{PublisherFields, SubscriberFields}
 
 -- The list with the record at the place changed so, if there is one.
@@ -20,6 +21,14 @@ with_sender_key place key x = record x { keys = set_place x.keys place (Some key
 -- The subscriber, with the key of its connection at a publisher's place.
 abbrev pub with_receiver_key : (place key : ℕ) → SubscriberFields → SubscriberFields
 with_receiver_key place key y = record y { keys = set_place y.keys place (Some key) }
+
+-- The publisher, with no key at a subscriber's place.
+abbrev pub without_sender_key : (place : ℕ) → PublisherFields → PublisherFields
+without_sender_key place x = record x { keys = slice_set x.keys place None }
+
+-- The subscriber, with no key at a publisher's place.
+abbrev pub without_receiver_key : (place : ℕ) → SubscriberFields → SubscriberFields
+without_receiver_key place y = record y { keys = slice_set y.keys place None }
 
 -- The publisher, with room for so many keys.
 abbrev pub with_sender_room : (room : ℕ) → PublisherFields → PublisherFields
@@ -76,6 +85,14 @@ sender_key publishers at place = key_at (λ (x : PublisherFields). x.keys) publi
 -- The key of the subscriber's connection at a publisher's place.
 abbrev pub receiver_key : List (Option SubscriberFields) → (at place : ℕ) → Option ℕ
 receiver_key subscribers at place = key_at (λ (y : SubscriberFields). y.keys) subscribers at place
+
+-- An open subscriber stands at the place.
+abbrev pub is_open_subscriber : List (Option SubscriberFields) → (place : ℕ) → Bool
+is_open_subscriber subscribers place = option_map_or (λ (y : SubscriberFields). y.is_open) (slice_index_or subscribers place None) false
+
+-- The key, where it leads to a connection of the publisher p.
+abbrev pub key_from : Slab Link → (p : ℕ) → Option ℕ → Option ℕ
+key_from connections p key = cond (is_port (publisher_of_key connections key) p) key None
 
 -- A connection in which no slot stands was made at a key that was free.
 pub record MakesConnection (old : Slab Link) (home : Home) (buffer limit key : ℕ) (new : Slab Link) : Type 0 where

@@ -5,6 +5,7 @@
 //! `iox2_pubsub` keeps the state in its `Domain`, behind the handles of ports and messages.
 #![tactic(auto)]
 
+mod left_books;
 mod loan_slots;
 mod message_slots;
 mod open_ports;
@@ -17,11 +18,14 @@ mod subscriber_state;
 
 pub use loan_slots::LoanAt;
 pub use message_slots::MessageSlot;
-pub use places::{free_place, key_in, put_at_place, reserve_place};
+pub use places::{free_place, key_in, put_at_place, reserve_place, stands_at};
 pub use ports::{
-    Port, PortAt, is_due_at, key_at, make_all_due, reserve_key_at, set_key_at, settle,
+    Port, PortAt, clear_key_at, is_due_at, key_at, make_all_due, make_due, reserve_key_at,
+    set_key_at, settle,
 };
 pub use publisher_state::PublisherState;
 pub use sample_slots::{Receipt, SampleAt, SampleSlot};
 pub use state::DomainState;
-pub use subscriber_state::{SubscriberState, reserve_connection_at};
+pub use subscriber_state::{
+    SubscriberState, expire_at, forget_at, is_open_at, replace_expired_at, reserve_connection_at,
+};

@@ -1,7 +1,7 @@
 //! The slots in which loans lie.
 ghost use Rattle.std.specs.Prelude.{IsTrue, ◌≡◌, ◌↔◌, IfSome, MatchOption};
 ghost use Rattle.iox2_domain.specs.Invariant.{is_lent};
-ghost use Rattle.iox2_domain.specs.LoanSlots.{IsLoanSlot, IsInNoSlot};
+ghost use Rattle.iox2_domain.specs.LoanSlots.{IsLoanSlot, IsInNoSlot, HasNoLoan};
 
 use crate::message_slots::MessageSlot;
 use crate::state::DomainState;
@@ -27,14 +27,16 @@ impl<T: Drop, U: Default + Drop> DomainState<T, U> {
     ghost use Rattle.iox2_domain.specs.Kept.{state_of};
     ghost use Rattle.iox2_domain.specs.Fields.{kept_of};
     ghost use Rattle.iox2_domain.specs.Invariant.{IsDomain};
-    ghost use Rattle.iox2_domain.specs.LoanSlots.{LiesInSlot};
+    ghost use Rattle.iox2_domain.specs.LoanSlots.{LendsAt, LiesInSlot};
 
     /// Where a publisher's loan lies, and `None` where it isn't out.
     pub fn find_loan(&self, publisher: UniquePublisherId, number: u128) -> Option<MessageSlot>
         requires { IsDomain self.now }
         ensures { MatchOption result (HoldsLoan (state_of (kept_of self.now)) publisher number → ⊥) (λ at. LiesInSlot self.now publisher number at.book at.slot) }
     {
-        let place = self.find_publisher(publisher, 0)?;
+        let Some(place) = self.find_publisher(publisher, 0) else {
+            return self.find_left_loan(publisher, number);
+        };
         let lender = self.publishers[place].as_ref()?;
         let book = &self.books[lender.book];
         let slot = find_slot(book, &lender.loans, number)?;
@@ -42,6 +44,39 @@ impl<T: Drop, U: Default + Drop> DomainState<T, U> {
             book: lender.book,
             slot,
         })
+    }
+
+    // The same, whether the publisher stands or is gone. Every book is gone through.
+    #[inline(never)]
+    fn find_left_loan(&self, publisher: UniquePublisherId, number: u128) -> Option<MessageSlot>
+        requires { IsDomain self.now }
+        ensures { MatchOption result (HoldsLoan (state_of (kept_of self.now)) publisher number → ⊥) (λ at. LiesInSlot self.now publisher number at.book at.slot) }
+    {
+        for key in 0..self.books.capacity() {
+            let found = self.find_loan_in(key, publisher, number);
+            if found.is_some() {
+                return found;
+            }
+        }
+        None
+    }
+
+    // Where the publisher's loan lies in the book at the key, if that is the publisher's and has it.
+    fn find_loan_in(
+        &self,
+        key: usize,
+        publisher: UniquePublisherId,
+        number: u128,
+    ) -> Option<MessageSlot>
+        requires { IsDomain self.now }
+        ensures { MatchOption result (LendsAt self.now key publisher number → ⊥) (λ at. LiesInSlot self.now publisher number at.book at.slot) }
+    {
+        let book = self.books.get(key)?;
+        if book.publisher() != publisher {
+            return None;
+        }
+        let slot = find_loan_slot(book, number)?;
+        Some(MessageSlot { book: key, slot })
     }
 
     // Where a live loan's book and slot say that it lies, if it lies there. No loan is gone through:
@@ -100,6 +135,18 @@ fn find_slot(book: &SlotBook, loans: &[usize], number: u128) -> Option<usize>
 {
     for index in 0..loans.len() {
         let slot = loans[index];
+        if is_loan_slot(book, slot, number) {
+            return Some(slot);
+        }
+    }
+    None
+}
+
+// The slot of the book in which a loan with this number lies.
+fn find_loan_slot(book: &SlotBook, number: u128) -> Option<usize>
+    ensures { MatchOption result (HasNoLoan book.now number) (λ slot. IsLoanSlot book.now slot number) }
+{
+    for slot in 0..book.len() {
         if is_loan_slot(book, slot, number) {
             return Some(slot);
         }

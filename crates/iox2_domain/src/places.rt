@@ -1,5 +1,5 @@
 //! The places of a domain's ports.
-ghost use Rattle.std.specs.Prelude.{◌≡◌, ◌==◌, ◌<◌, ◌≤◌, ◌↔◌, cond, nat_lt, slice_index_or, vec_capacity, IsTrue, IsSomeAnd, MatchOption, OnOk};
+ghost use Rattle.std.specs.Prelude.{◌≡◌, ◌==◌, ◌<◌, ◌≤◌, ◌↔◌, cond, nat_lt, slice_index_or, slice_set, vec_capacity, IsTrue, IsSomeAnd, MatchOption, OnOk};
 ghost use Rattle.iox2_ends.specs.LookUp.{look_up};
 ghost use Rattle.iox2_domain.specs.Placed.{placed, lowest_empty};
 
@@ -39,8 +39,8 @@ pub fn put_at_place<P: Drop>(places: &mut Vec<Option<P>>, place: usize, value: P
     places[place] = Some(value);
 }
 
-// This port stands at the place.
-fn stands_at<P: Port>(ports: &[Option<P>], place: usize, id: u128) -> bool
+/// Whether the port with this id stands at the place.
+pub fn stands_at<P: Port>(ports: &[Option<P>], place: usize, id: u128) -> bool
     ensures { IsTrue result ↔ IsSomeAnd (slice_index_or ports.now place None) (λ x. P.number x ≡ id) }
 {
     if place >= ports.len() {
@@ -147,5 +147,15 @@ pub fn key_in(keys: &[Option<usize>], place: usize) -> Option<usize>
     match keys.get(place) {
         Some(key) => *key,
         None => None,
+    }
+}
+
+/// No key at a place any more.
+pub fn clear_in(keys: &mut Vec<Option<usize>>, place: usize)
+    ensures items { keys.new.items ≡ slice_set keys.old.items place None }
+    ensures capacity { vec_capacity keys.new ≡ vec_capacity keys.old }
+{
+    if place < keys.len() {
+        keys[place] = None;
     }
 }

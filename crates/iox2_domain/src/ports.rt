@@ -29,6 +29,8 @@ pub trait Port {
 
     ghost with_key: { (place key : ℕ) → Self → Self };
 
+    ghost without_key: { (place : ℕ) → Self → Self };
+
     ghost with_room: { (room : ℕ) → Self → Self };
 
     ghost with_due: { (due : Bool) → Self → Self };
@@ -51,6 +53,10 @@ pub trait Port {
     fn set_key(&mut self, place: usize, key: usize)
         requires { place < key_room self.old }
         ensures { self.new ≡ with_key place key self.old };
+
+    /// It has no key at a place of the other side any more.
+    fn clear_key(&mut self, place: usize)
+        ensures { self.new ≡ without_key place self.old };
 
     /// Whether it is due for an update.
     fn is_due(&self) -> bool
@@ -100,6 +106,16 @@ pub fn set_key_at<P: Port>(ports: &mut [Option<P>], place: usize, other: usize, 
     }
 }
 
+/// The port at a place has no key at another of the other side any more.
+pub fn clear_key_at<P: Port>(ports: &mut [Option<P>], place: usize, other: usize)
+    requires { place < length ports.old }
+    ensures { ports.new ≡ changed_at (P.without_key other) ports.old place }
+{
+    if let Some(port) = &mut ports[place] {
+        port.clear_key(other);
+    }
+}
+
 /// Whether a port at the place is due for an update.
 pub fn is_due_at<P: Port>(ports: &[Option<P>], place: usize) -> bool
     requires { place < length ports.now }
@@ -117,6 +133,14 @@ pub fn settle<P: Port>(ports: &mut [Option<P>], place: usize)
     ensures { ports.new ≡ changed_at (P.with_due false) ports.old place }
 {
     set_due(&mut ports[place], false);
+}
+
+/// The port at the place is due for an update.
+pub fn make_due<P: Port>(ports: &mut [Option<P>], place: usize)
+    requires { place < length ports.old }
+    ensures { ports.new ≡ changed_at (P.with_due true) ports.old place }
+{
+    set_due(&mut ports[place], true);
 }
 
 /// Each port is due for an update.

@@ -3,7 +3,7 @@ ghost use Rattle.std.specs.Prelude.{◌≡◌, ◌<◌, ◌≤◌, [], length, v
 ghost use Rattle.iox2_store.specs.machine.Numbers.{without};
 ghost use Rattle.iox2_ends.specs.Counters.{times};
 
-use crate::places::{key_in, put_at_place, reserve_place};
+use crate::places::{clear_in, key_in, put_at_place, reserve_place};
 use crate::ports::Port;
 use circular_buffer::HeapCircularBuffer;
 use iox2_store::{AllocationStrategy, BackpressureStrategy, ServiceConfig, UniquePublisherId};
@@ -147,7 +147,7 @@ fn remove_slot(slots: &mut Vec<usize>, slot: usize)
 }
 
 impl Port for PublisherState {
-    ghost use Rattle.iox2_domain.specs.Updates.{with_sender_key, with_sender_room};
+    ghost use Rattle.iox2_domain.specs.Updates.{with_sender_key, with_sender_room, without_sender_key};
 
     ghost number = { λ x. x.id };
 
@@ -158,6 +158,8 @@ impl Port for PublisherState {
     ghost is_due = { λ x. x.is_due };
 
     ghost with_key = { with_sender_key };
+
+    ghost without_key = { without_sender_key };
 
     ghost with_room = { with_sender_room };
 
@@ -177,6 +179,10 @@ impl Port for PublisherState {
 
     fn set_key(&mut self, place: usize, key: usize) {
         put_at_place(&mut self.keys, place, key);
+    }
+
+    fn clear_key(&mut self, place: usize) {
+        clear_in(&mut self.keys, place);
     }
 
     fn is_due(&self) -> bool {

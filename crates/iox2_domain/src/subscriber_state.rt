@@ -1,9 +1,12 @@
 //! What a domain has of a subscriber.
-ghost use Rattle.std.specs.Prelude.{◌≡◌, ◌<◌, ◌≤◌, None, Some, length, slice_index_or, OnOk};
+ghost use Rattle.std.specs.Prelude.{◌≡◌, ◌<◌, ◌≤◌, ℕ, None, Some, length, map, slice_index_or, vec_capacity, OnOk};
+ghost use Rattle.iox2_store.specs.machine.Numbers.{without};
+ghost use Rattle.iox2_domain.specs.Departures.{forgotten, other_key};
 ghost use Rattle.iox2_domain.specs.Ports.{SubscriberFields};
-ghost use Rattle.iox2_domain.specs.Updates.{changed_at, with_receiver_rooms, receiver_room, expired_room_at};
+ghost use Rattle.iox2_domain.specs.ReceiverSteps.{with_expired, replacing_expired};
+ghost use Rattle.iox2_domain.specs.Updates.{changed_at, is_open_subscriber, with_receiver_rooms, receiver_room, expired_room_at};
 
-use crate::places::{key_in, put_at_place, reserve_place};
+use crate::places::{clear_in, key_in, put_at_place, reserve_place};
 use crate::ports::Port;
 use iox2_ends::sender::{Receiver, ReceiverDetails};
 use iox2_store::UniqueSubscriberId;
@@ -65,6 +68,7 @@ impl Receiver for SubscriberState {
 }
 
 impl SubscriberState {
+    ghost use Rattle.iox2_domain.specs.Departures.{forgotten};
     ghost use Rattle.iox2_domain.specs.Ports.{entering};
 
     /// A subscriber that enters at a place.
@@ -94,6 +98,109 @@ impl SubscriberState {
         reserve_place(&mut self.keys, place)?;
         reserve_place(&mut self.expired, count)
     }
+
+    /// Forgets the connection at a key, which it has for a publisher's place or among the expired
+    /// ones.
+    pub fn forget(&mut self, place: usize, key: usize)
+        requires { (i : ℕ) → slice_index_or self.old.keys i None ≡ Some key → i ≡ place }
+        ensures { self.new ≡ forgotten key self.old }
+    {
+        clear_key(&mut self.keys, place, key);
+        remove_key(&mut self.expired, key);
+    }
+}
+
+// The key at a place goes, if it is this one.
+fn clear_key(keys: &mut [Option<usize>], place: usize, key: usize)
+    requires { (i : ℕ) → slice_index_or keys.old i None ≡ Some key → i ≡ place }
+    ensures { keys.new ≡ map (other_key key) keys.old }
+{
+    if key_in(keys, place) == Some(key) {
+        keys[place] = None;
+    }
+}
+
+// The key goes from a list.
+fn remove_key(keys: &mut Vec<usize>, key: usize)
+    ensures items { keys.new.items ≡ without key keys.old.items }
+    ensures capacity { vec_capacity keys.new ≡ vec_capacity keys.old }
+{
+    keys.retain(|other| *other != key);
+}
+
+/// The subscriber at a place forgets the connection at a key, which it has for a publisher's place
+/// or among the expired ones.
+pub fn forget_at(
+    subscribers: &mut [Option<SubscriberState>],
+    place: usize,
+    other: usize,
+    key: usize,
+)
+    requires stands { place < length subscribers.old }
+    requires only { (y : SubscriberFields) → slice_index_or subscribers.old place None ≡ Some y → (i : ℕ) → slice_index_or y.keys i None ≡ Some key → i ≡ other }
+    ensures { subscribers.new ≡ changed_at (forgotten key) subscribers.old place }
+{
+    if let Some(subscriber) = &mut subscribers[place] {
+        subscriber.forget(other, key);
+    }
+}
+
+impl SubscriberState {
+    ghost use Rattle.iox2_domain.specs.ReceiverSteps.{with_expired, without_expired};
+
+    /// Keeps the key of its connection with the publisher at a place among the expired ones.
+    pub fn expire(&mut self, place: usize, key: usize)
+        requires within { place < length self.old.keys }
+        requires room { length self.old.expired < self.old.expired_room }
+        ensures { self.new ≡ with_expired place key self.old }
+    {
+        self.keys[place] = None;
+        self.expired.push_reserved(key);
+    }
+
+    /// Forgets an expired key.
+    fn forget_expired(&mut self, key: usize)
+        ensures { self.new ≡ without_expired key self.old }
+    {
+        self.expired.retain(|other| *other != key);
+    }
+}
+
+/// The subscriber at a place keeps the key of its connection with the publisher at another among
+/// the expired ones.
+pub fn expire_at(
+    subscribers: &mut [Option<SubscriberState>],
+    place: usize,
+    other: usize,
+    key: usize,
+)
+    requires stands { place < length subscribers.old }
+    requires within { (y : SubscriberFields) → slice_index_or subscribers.old place None ≡ Some y → other < length y.keys }
+    requires room { (y : SubscriberFields) → slice_index_or subscribers.old place None ≡ Some y → length y.expired < y.expired_room }
+    ensures { subscribers.new ≡ changed_at (with_expired other key) subscribers.old place }
+{
+    if let Some(subscriber) = &mut subscribers[place] {
+        subscriber.expire(other, key);
+    }
+}
+
+/// The same, and an expired key goes in its place.
+pub fn replace_expired_at(
+    subscribers: &mut [Option<SubscriberState>],
+    place: usize,
+    other: usize,
+    key: usize,
+    first: usize,
+)
+    requires stands { place < length subscribers.old }
+    requires within { (y : SubscriberFields) → slice_index_or subscribers.old place None ≡ Some y → other < length y.keys }
+    requires room { (y : SubscriberFields) → slice_index_or subscribers.old place None ≡ Some y → length y.expired < y.expired_room }
+    ensures { subscribers.new ≡ changed_at (replacing_expired other key first) subscribers.old place }
+{
+    if let Some(subscriber) = &mut subscribers[place] {
+        subscriber.forget_expired(first);
+        subscriber.expire(other, key);
+    }
 }
 
 /// Makes room in the subscriber at a place for the key of its connection with the publisher at
@@ -117,8 +224,19 @@ pub fn reserve_connection_at(
     }
 }
 
+/// Whether an open subscriber stands at the place.
+pub fn is_open_at(subscribers: &[Option<SubscriberState>], place: usize) -> bool
+    requires { place < length subscribers.now }
+    ensures { result ≡ is_open_subscriber subscribers.now place }
+{
+    match &subscribers[place] {
+        Some(subscriber) => subscriber.is_open,
+        None => false,
+    }
+}
+
 impl Port for SubscriberState {
-    ghost use Rattle.iox2_domain.specs.Updates.{with_receiver_key, with_receiver_room};
+    ghost use Rattle.iox2_domain.specs.Updates.{with_receiver_key, with_receiver_room, without_receiver_key};
 
     ghost number = { λ y. y.id };
 
@@ -129,6 +247,8 @@ impl Port for SubscriberState {
     ghost is_due = { λ y. y.is_due };
 
     ghost with_key = { with_receiver_key };
+
+    ghost without_key = { without_receiver_key };
 
     ghost with_room = { with_receiver_room };
 
@@ -148,6 +268,10 @@ impl Port for SubscriberState {
 
     fn set_key(&mut self, place: usize, key: usize) {
         put_at_place(&mut self.keys, place, key);
+    }
+
+    fn clear_key(&mut self, place: usize) {
+        clear_in(&mut self.keys, place);
     }
 
     fn is_due(&self) -> bool {

@@ -4,6 +4,7 @@ pub mod Counts
 pub mod DeliverySteps
 pub mod Releases
 pub mod TakeSteps
+pub mod LetGo
 pub mod Searches
 pub mod Histories
 pub mod Recounts
@@ -11,3 +12,5 @@ pub mod ReclaimSteps
 pub mod AnyEnvironment
 pub mod ReclaimedPuts
 pub mod Empties
+pub mod DropSteps
+pub mod Leaves

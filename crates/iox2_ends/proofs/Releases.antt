@@ -47,7 +47,7 @@ map-without number slot (x ∷ xs) h once = by (eqb x slot) refl (λ r. map-with
       rw (e, apart) (ap (λ r. number x ∷ r) (later rest))
 
 -- the slot stands once less in the list
-times-without : (n slot : ℕ) (xs : List ℕ) → contains xs slot ≡ true → IsOnce xs → times n (without slot xs) + one_if n slot ≡ times n xs
+pub times-without : (n slot : ℕ) (xs : List ℕ) → contains xs slot ≡ true → IsOnce xs → times n (without slot xs) + one_if n slot ≡ times n xs
 times-without n slot [] h once = absurd (true≢false (sym h))
 times-without n slot (x ∷ xs) h once = by (eqb x slot) refl (λ r. times-without n slot xs r once.1) where
   by : (b : Bool) → eqb x slot ≡ b → (contains xs slot ≡ true → times n (without slot xs) + one_if n slot ≡ times n xs) → times n (without slot (x ∷ xs)) + one_if n slot ≡ times n (x ∷ xs)

@@ -8,7 +8,7 @@ use Rattle.iox2_store.specs.machine.Numbers.{contains, IsOnce}
 use Rattle.iox2_store.specs.machine.Mailbox.{Mailbox, BorrowsFirst, with_released}
 use Rattle.iox2_ends.specs.Mailboxes.{mailbox_of, mailboxes_of, with_box}
 use Rattle.iox2_ends.specs.Homes.{IsApart, SameHomes, fixed_of}
-use Rattle.iox2_ends.specs.Takes.{KeepsOtherKeys, SameStands, BorrowsSlot, TakesSlot, ReleasesSlot}
+use Rattle.iox2_ends.specs.Takes.{KeepsOtherKeys, KeepsReturned, SameStands, BorrowsSlot, TakesSlot, ReleasesSlot}
 use Rattle.iox2_ends.specs.declared.receiver.Taken.{Taken}
 use Rattle.iox2_ends.proofs.MailboxChanges.{Updates-with_value, mailbox-there, mailboxes-changed}
 use Rattle.iox2_ends.proofs.Counts.{CountersFollow-kept}
@@ -32,6 +32,15 @@ takes-taken slab key slot c d apart at taken = record { takes = λ b at_b number
       rw (mailbox-there number slab key b.home.publisher b.home.subscriber b apart at_b refl refl) (borrows-first (number b.home.publisher) b d slot t),
       mailboxes-changed number slab (with_value slab key d) key b d apart at_b (ap fixed_of t.2) (Updates-with_value slab key b d at_b),
     )
+
+-- what was given back there stays
+pub keeps-returned : (slab : Slab Link) (key slot : ℕ) (c d : Link) → get slab key ≡ Some c → IsTaken c (Some slot) d → KeepsReturned key slab (with_value slab key d)
+keeps-returned slab key slot c d at taken = record {
+  at = λ a b at_a at_b.
+      let now : Some d ≡ Some b = sym (Updates-with_value slab key c d at).changed ∙ at_b in
+      let is : d ≡ b = cc in
+      ap (λ (x : Link). x.returned) (sym is ∙ taken.2) ∙ ap (λ (x : Link). x.returned) (same_link slab key c a at at_a);
+}
 
 -- a slot that is borrowed from the connection at the key
 pub borrowed-at : (slab : Slab Link) (key slot : ℕ) (c : Link) → IsSomeAnd (get slab key) (λ (x : Link). Contains x.borrowed slot) → get slab key ≡ Some c → contains c.borrowed slot ≡ true
@@ -64,16 +73,16 @@ stands-returned slab key slot c d borrowed once at returned = record {
 
 -- what is taken from a connection
 pub takes-slot : (old new : Slab Link) (taken : Taken) (key : ℕ) → taken.connection ≡ key → IsSomeAnd (get old key) (λ (c : Link). taken.home ≡ c.home)
-    → IsSomeAnd (get old key) (λ (c : Link). Contains c.waiting taken.slot) → BorrowsSlot old key taken.slot new → SameHomes old new → KeepsOtherKeys key old new → SameStands old new
+    → IsSomeAnd (get old key) (λ (c : Link). Contains c.waiting taken.slot) → BorrowsSlot old key taken.slot new → SameHomes old new → KeepsOtherKeys key old new → KeepsReturned key old new → SameStands old new
     → TakesSlot old taken new
 takes-slot old new taken key from = subst (λ (k : ℕ). IsSomeAnd (get old k) (λ (c : Link). taken.home ≡ c.home)
-    → IsSomeAnd (get old k) (λ (c : Link). Contains c.waiting taken.slot) → BorrowsSlot old k taken.slot new → SameHomes old new → KeepsOtherKeys k old new → SameStands old new
-    → TakesSlot old taken new) from (λ home waited borrows homes others stay. by (get old taken.connection) refl home waited borrows homes others stay)
+    → IsSomeAnd (get old k) (λ (c : Link). Contains c.waiting taken.slot) → BorrowsSlot old k taken.slot new → SameHomes old new → KeepsOtherKeys k old new → KeepsReturned k old new → SameStands old new
+    → TakesSlot old taken new) from (λ home waited borrows homes others returned stay. by (get old taken.connection) refl home waited borrows homes others returned stay)
   where
     by : (o : Option Link) → get old taken.connection ≡ o → IsSomeAnd o (λ (c : Link). taken.home ≡ c.home) → IsSomeAnd o (λ (c : Link). Contains c.waiting taken.slot)
-        → BorrowsSlot old taken.connection taken.slot new → SameHomes old new → KeepsOtherKeys taken.connection old new → SameStands old new → TakesSlot old taken new
-    by None e home waited borrows homes others stay = absurd home
-    by (Some c) e home waited borrows homes others stay = record {
+        → BorrowsSlot old taken.connection taken.slot new → SameHomes old new → KeepsOtherKeys taken.connection old new → KeepsReturned taken.connection old new → SameStands old new → TakesSlot old taken new
+    by None e home waited borrows homes others returned stay = absurd home
+    by (Some c) e home waited borrows homes others returned stay = record {
       link = c;
       stands = e;
       home_is = home;
@@ -81,5 +90,6 @@ takes-slot old new taken key from = subst (λ (k : ℕ). IsSomeAnd (get old k) (
       borrows = borrows;
       homes = homes;
       others = others;
+      returned = returned;
       stay = stay;
     }

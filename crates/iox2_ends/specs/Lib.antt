@@ -8,3 +8,6 @@ pub mod Takes
 pub mod Finds
 pub mod Recounts
 pub mod Reclaims
+pub mod Drops
+pub mod Leaves
+pub mod Retires

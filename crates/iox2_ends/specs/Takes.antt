@@ -21,6 +21,10 @@ use Rattle.iox2_ends.specs.declared.receiver.Taken.{Taken}
 pub record KeepsOtherKeys (key : ℕ) (old new : Slab Link) : Type 0 where
   pub others : (other : ℕ) → other ≢ key → get new other ≡ get old other
 
+-- What was given back in the connection at the key and isn't reclaimed yet stays.
+pub record KeepsReturned (key : ℕ) (old new : Slab Link) : Type 0 where
+  pub at : (c d : Link) → get old key ≡ Some c → get new key ≡ Some d → d.returned ≡ c.returned
+
 -- Each slot stands as often as before, so that no counter changes.
 pub record SameStands (old new : Slab Link) : Type 0 where
   pub follows : (p : ℕ) (holders : List ℕ) → CountersFollow p holders old.slots holders new.slots
@@ -40,6 +44,7 @@ pub record TakesSlot (old : Slab Link) (taken : Taken) (new : Slab Link) : Type 
   pub borrows : BorrowsSlot old taken.connection taken.slot new
   pub homes : SameHomes old new
   pub others : KeepsOtherKeys taken.connection old new
+  pub returned : KeepsReturned taken.connection old new
   pub stay : SameStands old new
 
 -- A subscriber with these keys receives: it takes a message from the connection that is found, or nothing changes.

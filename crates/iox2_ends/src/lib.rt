@@ -2,5 +2,8 @@
 //! from those at its own.
 #![tactic(auto)]
 
+pub mod drops;
+pub mod leaving;
 pub mod receiver;
+pub mod retirement;
 pub mod sender;

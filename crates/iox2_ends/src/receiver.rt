@@ -2,14 +2,17 @@
 ghost use Rattle.std.specs.Prelude.{◌≡◌, Some, map, Contains, IsTrue, IsSomeAnd};
 ghost use Rattle.std.specs.Option.{ForSome};
 ghost use Rattle.slab.specs.Slab.{get, ContainsKey};
-ghost use Rattle.iox2_store.specs.Link.{can_borrow, with_returned};
+ghost use Rattle.iox2_store.specs.Link.{can_borrow, with_returned, without_borrowed};
 ghost use Rattle.iox2_store.specs.machine.Numbers.{IsOnce};
+ghost use Rattle.iox2_store.specs.SlotBook.{IsInUse};
+ghost use Rattle.iox2_ends.specs.Counters.{one_holder_less, with_counters};
+ghost use Rattle.iox2_ends.specs.Recounts.{Recounts};
 ghost use Rattle.iox2_ends.specs.Homes.{IsApart, SameHomes};
 ghost use Rattle.iox2_ends.specs.Finds.{offer_at, search, is_something, Finds, HasConnections};
 ghost use Rattle.iox2_ends.specs.declared.receiver.Found.{Found};
-ghost use Rattle.iox2_ends.specs.Takes.{KeepsOtherKeys, SameStands, BorrowsSlot, ReceivesSlot, ReleasesSlot};
+ghost use Rattle.iox2_ends.specs.Takes.{KeepsOtherKeys, KeepsReturned, SameStands, BorrowsSlot, ReceivesSlot, ReleasesSlot};
 
-use iox2_store::{Connection, Home, ReceiveError};
+use iox2_store::{Connection, Home, ReceiveError, SlotBook};
 use slab::Slab;
 
 /// A message that was taken from a connection.
@@ -88,6 +91,7 @@ fn take(connections: &mut Slab<Connection>, key: usize) -> Taken
     ensures takes { BorrowsSlot connections.old key result.slot connections.new }
     ensures homes { SameHomes connections.old connections.new }
     ensures others { KeepsOtherKeys key connections.old connections.new }
+    ensures returned { KeepsReturned key connections.old connections.new }
     ensures stands { SameStands connections.old connections.new }
 {
     let connection = &mut connections[key];
@@ -181,4 +185,24 @@ pub fn release(connections: &mut Slab<Connection>, key: usize, slot: usize)
     ensures stands { SameStands connections.old connections.new }
 {
     connections[key].release(slot);
+}
+
+/// Gives the message in a slot, which is borrowed from the connection at a key, back to the book of
+/// its publisher, which is gone. The slot has one holder less at once.
+///
+/// iceoryx2's `Receiver::release_offset` (`src/port/details/receiver.rs`), where the segment of the
+/// publisher goes with its last message.
+pub fn let_go(connections: &mut Slab<Connection>, book: &mut SlotBook, key: usize, slot: usize)
+    requires borrowed { IsSomeAnd (get connections.old key) (λ c. Contains c.borrowed slot) }
+    requires once { IsSomeAnd (get connections.old key) (λ c. IsOnce c.borrowed) }
+    requires apart { IsApart connections.old }
+    requires in_use { IsInUse book.old slot }
+    ensures releases { ReleasesSlot connections.old key slot connections.new }
+    ensures book { book.new ≡ with_counters book.old (one_holder_less slot book.old.holders) }
+    ensures recounts { IsSomeAnd (get connections.old key) (λ c. Recounts c.home.publisher book.old.holders connections.old (one_holder_less slot book.old.holders) connections.new) }
+    ensures left { IsSomeAnd (get connections.old key) (λ c. get connections.new key ≡ Some (without_borrowed slot c)) }
+    ensures others { KeepsOtherKeys key connections.old connections.new }
+{
+    connections[key].let_go(slot);
+    book.release(slot);
 }

@@ -12,8 +12,10 @@ ghost use Rattle.iox2_ends.specs.Receivers.{is_open_at, HasReclaimed, IsReadyToD
 ghost use Rattle.iox2_ends.specs.Counters.{times, IsCovered, HoldsItself, GrowsAlone, recounted, CanLeave, with_counters, one_holder_more};
 ghost use Rattle.iox2_ends.specs.Recounts.{Recounts, returned_count};
 ghost use Rattle.iox2_ends.specs.Reclaims.{IsHeld, Reclaims, ReclaimsFrom};
+ghost use Rattle.iox2_ends.specs.Drops.{DropsAll, RemovesConnection};
 ghost use Rattle.iox2_ends.specs.Deliveries.{result_of, result_of_put, PutsSlot, DeliversSlot};
 
+use crate::drops;
 use circular_buffer::HeapCircularBuffer;
 use iox2_store::{BackpressureStrategy, Connection, PutOutcome, ServiceConfig, SlotBook};
 use slab::Slab;
@@ -225,7 +227,7 @@ pub fn deliver<R: Receiver>(
 }
 
 // Reclaims all slots that were given back in a connection.
-fn reclaim_from(connection: &mut Connection, book: &mut SlotBook)
+pub(crate) fn reclaim_from(connection: &mut Connection, book: &mut SlotBook)
     requires { IsHeld book.old.holders connection.old }
     ensures book { book.new ≡ with_counters book.old book.new.holders }
     ensures reclaims { ReclaimsFrom book.old.holders connection.old book.new.holders connection.new }
@@ -270,6 +272,48 @@ pub fn reclaim_all(
             reclaim_at(publisher, connections, book, key);
         }
     }
+}
+
+/// What waits in the publisher's connection at a key is lost, and what was given back there is
+/// reclaimed: each of these slots has one holder less. What is borrowed stays.
+///
+/// iceoryx2's `Sender::remove_connection` (`src/port/details/sender.rs`) reclaims them so.
+pub fn drop_all(
+    publisher: u128,
+    connections: &mut Slab<Connection>,
+    book: &mut SlotBook,
+    key: usize,
+)
+    requires own { IsSomeAnd (get connections.old key) (λ c. c.home.publisher ≡ publisher) }
+    requires apart { IsApart connections.old }
+    requires covered { IsCovered publisher book.old.holders connections.old.slots }
+    ensures book { book.new ≡ with_counters book.old book.new.holders }
+    ensures drops { DropsAll publisher book.old.holders connections.old key book.new.holders connections.new }
+{
+    let emptied = &mut connections[key];
+    drops::drop_waiting(emptied, book);
+    reclaim_from(emptied, book);
+}
+
+/// Takes out the publisher's connection at a key, of which nothing is borrowed. Each slot that stood
+/// there has one holder less.
+///
+/// iceoryx2's `Sender::remove_connection` (`src/port/details/sender.rs`).
+pub fn remove_connection(
+    publisher: u128,
+    connections: &mut Slab<Connection>,
+    book: &mut SlotBook,
+    key: usize,
+)
+    requires own { IsSomeAnd (get connections.old key) (λ c. c.home.publisher ≡ publisher) }
+    requires unused { IsSomeAnd (get connections.old key) (λ c. c.borrowed ≡ []) }
+    requires apart { IsApart connections.old }
+    requires covered { IsCovered publisher book.old.holders connections.old.slots }
+    ensures book { book.new ≡ with_counters book.old book.new.holders }
+    ensures removes { RemovesConnection publisher book.old.holders connections.old key book.new.holders connections.new }
+{
+    drop_all(publisher, connections, book, key);
+    connections.remove(key);
 }
 
 // Puts a slot into a connection with room for it, which is one holder more.

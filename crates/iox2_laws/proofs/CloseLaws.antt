@@ -396,11 +396,14 @@ module _ {T U : Type 0} where
             | false ↦ refl
           ]
 
+  -- The state after a subscriber was closed and has forgotten what departed, before it goes if it has borrowed nothing.
+  pub closed_nearly : (s : State T U) → IsWellFormed s → (q : ℕ) (y : Subscriber) → s.subscribers q ≡ Some y → IsNearlyWellFormed (subscriber_pruned (subscriber_shut s q y) q) q
+  closed_nearly s w q y here =
+      subst (λ t. IsNearlyWellFormed t q) (shut_then_pruned s q y) (publishers_due_nearly (shut_and_pruned s q y) q (shut_and_pruned_nearly s w q y here))
+
   -- A subscriber that is closed leaves the state well-formed.
   pub subscriber_closed_keeps : (s : State T U) → IsWellFormed s → (q : ℕ) (y : Subscriber) → s.subscribers q ≡ Some y → IsWellFormed (subscriber_closed s q y)
-  subscriber_closed_keeps s w q y here =
-      freed_if_unused_keeps (subscriber_pruned (subscriber_shut s q y) q) q
-      (subst (λ t. IsNearlyWellFormed t q) (shut_then_pruned s q y) (publishers_due_nearly (shut_and_pruned s q y) q (shut_and_pruned_nearly s w q y here)))
+  subscriber_closed_keeps s w q y here = freed_if_unused_keeps (subscriber_pruned (subscriber_shut s q y) q) q (closed_nearly s w q y here)
 
   -- A subscriber that is closed lets no counter fall.
   pub subscriber_closed_advances : (s : State T U) (q : ℕ) (y : Subscriber) → Advances s (subscriber_closed s q y)

@@ -50,7 +50,7 @@ placed (Some x) place e = (x, refl, same_Some x.place place e)
 
 -- ---- what becomes of a departed publisher
 
-first_is : (boxes : ℕ → Mailbox) (ps : List ℕ) (p : ℕ) → first_without_borrows boxes ps ≡ Some p → (contains ps p ≡ true) × (has_borrows (boxes p) ≡ false)
+pub first_is : (boxes : ℕ → Mailbox) (ps : List ℕ) (p : ℕ) → first_without_borrows boxes ps ≡ Some p → (contains ps p ≡ true) × (has_borrows (boxes p) ≡ false)
 first_is boxes [] p e = absurd (none-some p e)
 first_is boxes (k ∷ ps) p e =
     elim (has_borrows (boxes k)) as (λ b. has_borrows (boxes k) ≡ b → cond b (first_without_borrows boxes ps) (Some k) ≡ Some p
@@ -61,7 +61,7 @@ first_is boxes (k ∷ ps) p e =
     ] refl e
 
 -- What holds of each retirement that may be chosen holds of the chosen one.
-by_retirement : (limit : ℕ) (boxes : ℕ → Mailbox) (expired : List ℕ) (old : ℕ) (R : Retirement → Type 0)
+pub by_retirement : (limit : ℕ) (boxes : ℕ → Mailbox) (expired : List ℕ) (old : ℕ) (R : Retirement → Type 0)
     → (length expired < limit → R Keep_expired)
     → ((first : ℕ) → contains expired first ≡ true → has_borrows (boxes first) ≡ false → R (Evict first))
     → (has_borrows (boxes old) ≡ false → R Discard_data)
@@ -237,7 +237,7 @@ module _ {T U : Type 0} where
             (knows r h);
       }
 
-  kept_expired_keeps : (s : State T U) (q : ℕ) (side : ReceiverSide) (place old : ℕ) → ReceiverSideIsWellFormed s q side
+  pub kept_expired_keeps : (s : State T U) (q : ℕ) (side : ReceiverSide) (place old : ℕ) → ReceiverSideIsWellFormed s q side
       → occupant side.ends place ≡ Some old → s.publishers old ≡ None → length side.expired < expired_limit s.config
       → ReceiverSideIsWellFormed s q (with_end (after_retirement q side old Keep_expired) place None)
   kept_expired_keeps s q side place old b here gone room =
@@ -251,7 +251,7 @@ module _ {T U : Type 0} where
       (λ r h. ⊎_elim (λ k. inl (contains_left side.expired (old ∷ []) r k))
       (or_another side.ends (side.expired ++ old ∷ []) old r (last_there side.expired old)) (b.knows r h))
 
-  evicted_keeps : (s : State T U) (q : ℕ) (side : ReceiverSide) (place old : ℕ) → ReceiverSideIsWellFormed s q side
+  pub evicted_keeps : (s : State T U) (q : ℕ) (side : ReceiverSide) (place old : ℕ) → ReceiverSideIsWellFormed s q side
       → occupant side.ends place ≡ Some old → s.publishers old ≡ None
       → (first : ℕ) → contains side.expired first ≡ true → has_borrows (side.mailboxes first) ≡ false
       → ReceiverSideIsWellFormed s q (with_end (after_retirement q side old (Evict first)) place None)
@@ -282,7 +282,7 @@ module _ {T U : Type 0} where
       (λ k. inl (contains_left (without first side.expired) (old ∷ []) r (contains-without_other first r side.expired apart k)))
       (or_another side.ends expired old r (last_there (without first side.expired) old)) (b.knows r h)))
 
-  discarded_keeps : (s : State T U) (q : ℕ) (side : ReceiverSide) (place old : ℕ) → ReceiverSideIsWellFormed s q side
+  pub discarded_keeps : (s : State T U) (q : ℕ) (side : ReceiverSide) (place old : ℕ) → ReceiverSideIsWellFormed s q side
       → occupant side.ends place ≡ Some old → s.publishers old ≡ None → has_borrows (side.mailboxes old) ≡ false
       → ReceiverSideIsWellFormed s q (with_end (after_retirement q side old Discard_data) place None)
   discarded_keeps s q side place old b here gone unborrowed =

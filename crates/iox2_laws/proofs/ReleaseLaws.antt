@@ -329,7 +329,7 @@ module _ {T U : Type 0} where
   }
 
   -- The state after a release, before a closed subscriber that has borrowed nothing more goes.
-  released_nearly : (s : State T U) → IsWellFormed s → (p q n : ℕ)
+  pub released_nearly : (s : State T U) → IsWellFormed s → (p q n : ℕ)
       → IsNearlyWellFormed (with_receivers s (subscribers_after_release s p q n) (mailboxes_after_release s p q n) s.warnings) q
   released_nearly s w p q n = record {
     rest = receivers_agree s (subscribers_after_release s p q n) (mailboxes_after_release s p q n) s.warnings w (released_agrees s w p q n);

@@ -30,7 +30,7 @@ end_stays ends place i r end apart h =
     occupant-set_place ends place end i ∙ rw other h
 
 -- the end that was set
-end_set : (ends : List (Option ℕ)) (place : ℕ) (end : Option ℕ) → occupant (set_place ends place end) place ≡ end
+pub end_set : (ends : List (Option ℕ)) (place : ℕ) (end : Option ℕ) → occupant (set_place ends place end) place ≡ end
 end_set ends place end = occupant-set_place ends place end place ∙ rw (eq-eqb place place refl) refl
 
 module _ {T U : Type 0} where
@@ -131,7 +131,7 @@ module _ {T U : Type 0} where
     }
 
     -- what waits for a receiver is lost, and its end stays
-    dropped_keeps : (side : SenderSide) (place q : ℕ) → occupant side.ends place ≡ Some q → SideKeeps side → SideKeeps (dropped side q)
+    pub dropped_keeps : (side : SenderSide) (place q : ℕ) → occupant side.ends place ≡ Some q → SideKeeps side → SideKeeps (dropped side q)
     dropped_keeps side place q e k =
         waiting_lost side.ends side.ends side.mailboxes q k k.ends_bound k.ends_apart (λ i r h. h) (λ r _ l. l) (λ _. (place, e))
 
@@ -143,12 +143,10 @@ module _ {T U : Type 0} where
         (w.mailboxes p q).receiver_end (k.borrows q h) in
         apart (subst (λ i. occupant s.subscriber_places i ≡ Some q) (k.ends_stand place q r.0 e r.1) (stands_at s w q r.0 r.1))
 
-    -- the end at a place goes, and nothing stands there afterwards
-    disconnected_keeps : (side : SenderSide) (place : ℕ) (end : Option ℕ) → place < length s.subscriber_places → occupant side.ends place ≡ end
-        → ((q : ℕ) → end ≡ Some q → occupant s.subscriber_places place ≡ Some q → ⊥)
-        → SideKeeps side → SideKeeps (disconnected side place end)
-    disconnected_keeps side place None low e apart k = k
-    disconnected_keeps side place (Some q) low e apart k =
+    -- the end at a place goes, where nothing is borrowed through it
+    pub unused_keeps : (side : SenderSide) (place q : ℕ) → place < length s.subscriber_places → occupant side.ends place ≡ Some q
+        → (has_borrows (side.mailboxes q) ≡ true → ⊥) → SideKeeps side → SideKeeps (disconnected side place (Some q))
+    unused_keeps side place q low e unused k =
         waiting_lost side.ends (set_place side.ends place None) side.mailboxes q k
         (length-set_place_le side.ends place None (omega (arith, (w.subscriber_places).bound)) k.ends_bound)
         (injective_removed side.ends place k.ends_apart)
@@ -158,7 +156,14 @@ module _ {T U : Type 0} where
           end_stays side.ends place l.0 r None
               (λ same. eqb-false r q other (same_Some r q (sym l.1 ∙ ap (occupant side.ends) same ∙ e))) l.1,
         ))
-        (λ h. absurd (borrows_nothing side place q k e (apart q refl) h))
+        (λ h. absurd (unused h))
+
+    -- the end at a place goes, and nothing stands there afterwards
+    disconnected_keeps : (side : SenderSide) (place : ℕ) (end : Option ℕ) → place < length s.subscriber_places → occupant side.ends place ≡ end
+        → ((q : ℕ) → end ≡ Some q → occupant s.subscriber_places place ≡ Some q → ⊥)
+        → SideKeeps side → SideKeeps (disconnected side place end)
+    disconnected_keeps side place None low e apart k = k
+    disconnected_keeps side place (Some q) low e apart k = unused_keeps side place q low e (borrows_nothing side place q k e (apart q refl)) k
 
     nothing_after : (side : SenderSide) (place : ℕ) (end : Option ℕ) → occupant side.ends place ≡ end → occupant (disconnected side place end).ends place ≡ None
     nothing_after side place None e = e

@@ -12,18 +12,18 @@ ghost use Rattle.iox2_domain.specs.Ports.{PublisherFields};
 
 use iox2_domain::{DomainState, LoanAt};
 
-/// Gives a publisher's loan back unsent, written or not: it is out no more, and its slot is free. It
-/// takes no memory.
+/// Gives a publisher's loan back unsent, written or not: it is out no more, and its slot is free. If
+/// the publisher is gone, its book goes with the last holder of a slot. It takes no memory.
 pub fn discard_loan<T: Drop, U: Default + Drop>(state: &mut DomainState<T, U>, loan: LoanAt)
     requires agrees { IsDomain state.old }
     requires live { HoldsLoan (state_of (kept_of state.old)) loan.publisher loan.number }
     ensures { DiscardsLoan state.old state.new loan.number }
 {
-    let Some(place) = state.find_publisher(loan.publisher, loan.place) else {
-        unreachable!()
-    };
     let at = state.find_live_loan(&loan);
-    return_loan(state, place, at.slot);
+    match state.find_publisher(loan.publisher, loan.place) {
+        Some(place) => return_loan(state, place, at.slot),
+        None => state.let_go(at.book, at.slot),
+    }
 }
 
 // The loan in a slot of the publisher at a place is out no more, and the slot has one holder less.

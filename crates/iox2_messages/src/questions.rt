@@ -8,19 +8,22 @@ ghost use Rattle.iox2_domain.specs.Questions.{IsWhetherWaiting, AnswersAs};
 use iox2_domain::DomainState;
 use iox2_ends::receiver::has_samples;
 use iox2_ports::update_subscriber;
+use iox2_store::ConnectionFailure;
 
 /// The subscriber at a place is updated, and then asked whether any message waits for it, also one
-/// that it may not borrow yet.
+/// that it may not borrow yet. Where the update fails, that is the answer, and the update stands.
 pub fn has_samples_at<T: Drop, U: Default + Drop>(
     state: &mut DomainState<T, U>,
     place: usize,
-) -> bool
+) -> Result<bool, ConnectionFailure>
     requires agrees { IsDomain state.old }
     requires stands { (y : SubscriberFields) × (slice_index_or state.old.subscribers place None ≡ Some y) }
     ensures { (y : SubscriberFields) → slice_index_or state.old.subscribers place None ≡ Some y → AnswersAs fixed_handlers state.old y.id result state.new }
 {
-    update_subscriber(state, place);
-    has_data_at(state, place)
+    match update_subscriber(state, place) {
+        Some(failure) => Err(failure),
+        None => Ok(has_data_at(state, place)),
+    }
 }
 
 // Whether any message waits for the subscriber at a place.

@@ -1,21 +1,23 @@
 //! Messages that a subscriber takes from its connections, and gives back.
-ghost use Rattle.std.specs.Prelude.{◌≡◌, ◌<◌, ℕ, None, Some, length, slice_index_or, IsTrue, IsSomeAnd};
+ghost use Rattle.std.specs.Prelude.{◌≡◌, ◌<◌, ℕ, None, Some, length, slice_index_or, Contains, IsTrue, IsSomeAnd};
 ghost use Rattle.slab.specs.Slab.{get};
 ghost use Rattle.iox2_store.specs.machine.Environments.{fixed_handlers};
 ghost use Rattle.iox2_store.specs.machine.Mailbox.{is_borrowed};
-ghost use Rattle.iox2_store.specs.machine.Releases.{released};
+ghost use Rattle.iox2_store.specs.machine.Releases.{released, subscriber_pruned, unborrowed};
 ghost use Rattle.iox2_store.specs.machine.SingleCalls.{HoldsSample};
 ghost use Rattle.iox2_domain.specs.Ports.{SubscriberFields};
 ghost use Rattle.iox2_domain.specs.Kept.{state_of};
-ghost use Rattle.iox2_domain.specs.Fields.{kept_of};
+ghost use Rattle.iox2_domain.specs.Fields.{kept_of, numbers_of};
 ghost use Rattle.iox2_domain.specs.Invariant.{IsDomain};
 ghost use Rattle.iox2_domain.specs.Reaches.{Reaches};
+ghost use Rattle.iox2_domain.specs.Midway.{IsMidway};
 ghost use Rattle.iox2_domain.specs.Receipts.{IsReceiptFor, TakesAs, ReceivesAs};
+ghost use Rattle.iox2_domain.specs.SampleSlots.{LiesBorrowed};
 
-use iox2_domain::{DomainState, Receipt, SampleAt};
-use iox2_ends::receiver::{Taken, receive, release};
-use iox2_ports::update_subscriber;
-use iox2_store::{ReceiveError, SlotBook, UniquePublisherId, UniqueSubscriberId};
+use iox2_domain::{DomainState, Receipt, SampleAt, SampleSlot, stands_at};
+use iox2_ends::receiver::{Taken, let_go, receive, release};
+use iox2_ports::{forget_if_empty, free_book_if_unused, leave_if_unused, update_subscriber};
+use iox2_store::{Home, ReceiveError, SlotBook, UniquePublisherId, UniqueSubscriberId};
 use slab::Slab;
 
 // The receipt of a message that was taken.
@@ -64,8 +66,8 @@ pub(crate) fn take_at<T: Drop, U: Default + Drop>(
 /// The subscriber at a place is updated, and then borrows the message that has waited longest in
 /// some connection. `None` where no message waits. The message lies where the receipt says.
 ///
-/// `ExceedsMaxBorrows` where messages wait, but only where as many are borrowed as may be. The
-/// update stands then.
+/// `ExceedsMaxBorrows` where messages wait, but only where as many are borrowed as may be, and
+/// `ConnectionFailure` where the update fails. The update stands then.
 #[inline(always)]
 pub fn receive_at<T: Drop, U: Default + Drop>(
     state: &mut DomainState<T, U>,
@@ -75,12 +77,57 @@ pub fn receive_at<T: Drop, U: Default + Drop>(
     requires stands { (y : SubscriberFields) × (slice_index_or state.old.subscribers place None ≡ Some y) }
     ensures { (y : SubscriberFields) → slice_index_or state.old.subscribers place None ≡ Some y → ReceivesAs fixed_handlers state.old y.id result state.new }
 {
-    update_subscriber(state, place);
-    take_at(state, place)
+    match update_subscriber(state, place) {
+        Some(failure) => Err(ReceiveError::ConnectionFailure(failure)),
+        None => take_at(state, place),
+    }
+}
+
+// Where a live sample lies. It is mostly the one that was borrowed last.
+fn sample_slot<T: Drop, U: Default + Drop>(
+    state: &DomainState<T, U>,
+    sample: &SampleAt,
+) -> SampleSlot
+    requires agrees { IsDomain state.now }
+    requires live { HoldsSample (state_of (kept_of state.now)) sample.now.subscriber sample.now.number }
+    ensures { LiesBorrowed state.now sample.now.subscriber sample.now.number result }
+{
+    if state.is_last_at_hint(sample) {
+        return SampleSlot {
+            connection: sample.connection,
+            book: sample.book,
+            slot: sample.slot,
+        };
+    }
+    state.find_live_sample(sample)
+}
+
+// The slot that is borrowed in a connection is given back to its publisher. Where that is gone, it
+// has one holder less at once, and the subscriber forgets the publisher with its last message.
+fn hand_back<T: Drop, U: Default + Drop>(state: &mut DomainState<T, U>, at: SampleSlot, home: Home)
+    requires agrees { IsDomain state.old }
+    requires borrowed { IsSomeAnd (get state.old.connections at.connection) (λ c. (c.home ≡ home) × Contains c.borrowed at.slot) }
+    ensures midway { IsMidway state.old state.new (subscriber_pruned (unborrowed (state_of (kept_of state.old)) home.publisher home.subscriber (numbers_of state.old.books home.publisher at.slot)) home.subscriber) home.book }
+    ensures stands { (y : SubscriberFields) × (slice_index_or state.new.subscribers home.subscriber_place None ≡ Some y) × (y.id ≡ home.subscriber) }
+{
+    if stands_at(&state.publishers, home.publisher_place, home.publisher) {
+        release(&mut state.connections, at.connection, at.slot);
+    } else {
+        let_go(
+            &mut state.connections,
+            &mut state.books[home.book],
+            at.connection,
+            at.slot,
+        );
+        forget_if_empty(state, at.connection, home);
+    }
 }
 
 /// The subscriber gives back a message that it has borrowed. Its slot is free again once the
-/// publisher reclaims it and nobody else holds it.
+/// publisher reclaims it and nobody else holds it. A publisher that is gone is forgotten with its
+/// last message, and a subscriber that was closed leaves with the last one that it has borrowed.
+///
+/// iceoryx2's `Sample`'s drop (`src/sample.rs`).
 pub fn give_back<T: Drop, U: Default + Drop>(state: &mut DomainState<T, U>, sample: SampleAt)
     requires agrees { IsDomain state.old }
     requires live { HoldsSample (state_of (kept_of state.old)) sample.subscriber sample.number }
@@ -88,22 +135,9 @@ pub fn give_back<T: Drop, U: Default + Drop>(state: &mut DomainState<T, U>, samp
     ensures released { (publisher : ℕ) → IsTrue (is_borrowed sample.number ((state_of (kept_of state.old)).mailboxes publisher sample.subscriber))
         → Reaches state.old state.new (released (state_of (kept_of state.old)) publisher sample.subscriber sample.number) }
 {
-    if state.is_last_at_hint(&sample) {
-        release(&mut state.connections, sample.connection, sample.slot);
-    } else {
-        search_and_give_back(state, sample);
-    }
-}
-
-// The same, wherever the message lies, and whatever was borrowed after it.
-#[inline(never)]
-fn search_and_give_back<T: Drop, U: Default + Drop>(state: &mut DomainState<T, U>, sample: SampleAt)
-    requires agrees { IsDomain state.old }
-    requires live { HoldsSample (state_of (kept_of state.old)) sample.subscriber sample.number }
-    ensures stays { IsDomain state.new }
-    ensures released { (publisher : ℕ) → IsTrue (is_borrowed sample.number ((state_of (kept_of state.old)).mailboxes publisher sample.subscriber))
-        → Reaches state.old state.new (released (state_of (kept_of state.old)) publisher sample.subscriber sample.number) }
-{
-    let at = state.find_live_sample(&sample);
-    release(&mut state.connections, at.connection, at.slot);
+    let at = sample_slot(state, &sample);
+    let home = state.connections[at.connection].home();
+    hand_back(state, at, home);
+    leave_if_unused(state, home.subscriber_place);
+    free_book_if_unused(state, home.book);
 }

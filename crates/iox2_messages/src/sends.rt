@@ -1,17 +1,17 @@
 //! A loan is sent.
-ghost use Rattle.std.specs.Prelude.{◌≡◌, IsTrue};
+ghost use Rattle.std.specs.Prelude.{◌≡◌, IsTrue, IsOk, MatchOption};
 ghost use Rattle.iox2_store.specs.machine.Environments.{fixed_handlers};
-ghost use Rattle.iox2_store.specs.machine.Sends.{Delivered_to};
+ghost use Rattle.iox2_store.specs.machine.SingleCalls.{HoldsPublisher};
 ghost use Rattle.iox2_domain.specs.Kept.{state_of};
 ghost use Rattle.iox2_domain.specs.Fields.{kept_of};
 ghost use Rattle.iox2_domain.specs.Invariant.{IsDomain};
 ghost use Rattle.iox2_domain.specs.LoanCalls.{HoldsWritten};
-ghost use Rattle.iox2_domain.specs.SentLoans.{IsReadyToSend, SendsLoan};
+ghost use Rattle.iox2_domain.specs.SentLoans.{IsLeftLoan, IsReadyToSend, SendsLoan, send_result};
 
 use crate::deliveries::send_slot;
 use iox2_domain::{DomainState, LoanAt};
 use iox2_ports::update_publisher;
-use iox2_store::UniquePublisherId;
+use iox2_store::{SendError, UniquePublisherId};
 
 // Whether the loan lies where its handle says, and its publisher is due for no update.
 fn is_ready<T: Drop, U: Default + Drop>(state: &DomainState<T, U>, loan: &LoanAt) -> bool
@@ -34,55 +34,67 @@ struct ReadyLoan {
     slot: usize,
 }
 
-// Updates the publisher of a loan, where it is due, and finds where both are.
+// Updates the publisher of a loan, where it is due, and finds where both are. `None` where the
+// publisher is gone.
 #[inline(never)]
 fn update_and_find<T: Drop, U: Default + Drop>(
     state: &mut DomainState<T, U>,
     publisher: UniquePublisherId,
     number: u128,
-) -> ReadyLoan
+) -> Option<ReadyLoan>
     requires agrees { IsDomain state.old }
     requires live { HoldsWritten (state_of (kept_of state.old)) publisher number }
-    ensures { IsReadyToSend fixed_handlers state.old state.new publisher number result.place result.slot }
+    ensures { MatchOption result (IsLeftLoan state.old state.new publisher) (λ ready. IsReadyToSend fixed_handlers state.old state.new publisher number ready.place ready.slot) }
 {
-    let Some(place) = state.find_publisher(publisher, 0) else {
-        unreachable!()
-    };
+    let place = state.find_publisher(publisher, 0)?;
     update_publisher(state, place);
     let Some(at) = state.find_loan(publisher, number) else {
         unreachable!()
     };
-    ReadyLoan {
+    Some(ReadyLoan {
         place,
         slot: at.slot,
-    }
+    })
 }
 
-// The loan at its publisher's place, which is updated where it is due, and in its slot.
-fn prepare<T: Drop, U: Default + Drop>(state: &mut DomainState<T, U>, loan: LoanAt) -> ReadyLoan
+// The loan at its publisher's place, which is updated where it is due, and in its slot. `None` where
+// the publisher is gone.
+fn prepare<T: Drop, U: Default + Drop>(
+    state: &mut DomainState<T, U>,
+    loan: &LoanAt,
+) -> Option<ReadyLoan>
     requires agrees { IsDomain state.old }
-    requires live { HoldsWritten (state_of (kept_of state.old)) loan.publisher loan.number }
-    ensures { IsReadyToSend fixed_handlers state.old state.new loan.publisher loan.number result.place result.slot }
+    requires live { HoldsWritten (state_of (kept_of state.old)) loan.now.publisher loan.now.number }
+    ensures { MatchOption result (IsLeftLoan state.old state.new loan.now.publisher) (λ ready. IsReadyToSend fixed_handlers state.old state.new loan.now.publisher loan.now.number ready.place ready.slot) }
 {
-    if is_ready(state, &loan) {
-        return ReadyLoan {
+    if is_ready(state, loan) {
+        return Some(ReadyLoan {
             place: loan.place,
             slot: loan.slot,
-        };
+        });
     }
     update_and_find(state, loan.publisher, loan.number)
 }
 
 /// Sends a publisher's written loan to its receivers, and returns how many took it. The
 /// publisher's connections are updated first. Where memory for a connection is refused, that is a
-/// warning. The loan is out no more afterwards.
+/// warning. Of a publisher that is gone the loan is lost, which is an error. The loan is out no more
+/// afterwards.
 ///
 /// iceoryx2's `PublisherSharedState::send_sample` (`src/port/publisher.rs`).
-pub fn send_loan<T: Drop, U: Default + Drop>(state: &mut DomainState<T, U>, loan: LoanAt) -> usize
+pub fn send_loan<T: Drop, U: Default + Drop>(
+    state: &mut DomainState<T, U>,
+    loan: LoanAt,
+) -> Result<usize, SendError>
     requires agrees { IsDomain state.old }
     requires live { HoldsWritten (state_of (kept_of state.old)) loan.publisher loan.number }
-    ensures { SendsLoan fixed_handlers state.old state.new loan.number (Delivered_to result) }
+    ensures sends { SendsLoan fixed_handlers state.old state.new loan.number (send_result result) }
+    ensures ok { HoldsPublisher (state_of (kept_of state.old)) loan.publisher → IsOk result }
 {
-    let ready = prepare(state, loan);
-    send_slot(state, ready.place, ready.slot)
+    let Some(ready) = prepare(state, &loan) else {
+        let at = state.find_live_loan(&loan);
+        state.let_go(at.book, at.slot);
+        return Err(SendError::ConnectionBrokenSinceSenderNoLongerExists);
+    };
+    Ok(send_slot(state, ready.place, ready.slot))
 }

@@ -1,25 +1,27 @@
 //! Ports get their connections, one place after the other.
-ghost use Rattle.std.specs.Prelude.{◌≡◌, ◌<◌, cond, false, Some, None, length, slice_index_or, IfOk, OnOk, OnErr, MatchOption};
+ghost use Rattle.std.specs.Prelude.{◌≡◌, ℕ, ◌<◌, cond, true, false, Some, None, length, slice_index_or, [], IsSomeAnd, IfOk, OnOk, OnErr, MatchOption};
 ghost use Rattle.slab.specs.Slab.{get};
+ghost use Rattle.iox2_store.specs.Link.{Link};
 ghost use Rattle.iox2_store.specs.machine.Environments.{fixed_handlers};
 ghost use Rattle.iox2_store.specs.declared.warning.Warning.TheVariants.{ConnectionNotMade};
 ghost use Rattle.iox2_domain.specs.Ports.{PublisherFields, SubscriberFields};
-ghost use Rattle.iox2_domain.specs.Updates.{MakesConnection, StandApart, home_of};
-ghost use Rattle.iox2_domain.specs.Invariant.{IsDomain, connection_count, one_if_receivers};
-ghost use Rattle.iox2_domain.specs.Connects.{MakesRoom, MakesSenderEnd, ConnectsSender, ConnectsReceiver};
+ghost use Rattle.iox2_domain.specs.Updates.{MakesConnection, StandApart, home_of, is_open_subscriber, key_from, sender_key};
+ghost use Rattle.iox2_domain.specs.Invariant.{IsDomain, ReceiverHas, connection_count, one_if_receivers};
+ghost use Rattle.iox2_domain.specs.Connects.{MakesRoom, MakesSenderEnd, ConnectsSender};
+ghost use Rattle.iox2_domain.specs.Drops.{HasEnd, LosesSenderEnd, LosesWaiting};
 ghost use Rattle.iox2_domain.specs.Histories.{HasNewEnd, HandsOut};
 
 use crate::warnings::warn;
 use iox2_domain::{
-    DomainState, PublisherState, SubscriberState, key_at, reserve_connection_at, reserve_key_at,
-    set_key_at,
+    DomainState, PublisherState, SubscriberState, clear_key_at, is_open_at, key_at,
+    reserve_connection_at, reserve_key_at, set_key_at, stands_at,
 };
-use iox2_ends::sender::{deliver_history, reclaim_all};
+use iox2_ends::sender::{deliver_history, drop_all, reclaim_all, remove_connection};
 use iox2_store::{Connection, Home, UniquePublisherId, UniqueSubscriberId, Warning};
 use slab::Slab;
 use std::alloc::{AllocError, Global};
 
-fn home_of(
+pub(crate) fn home_of(
     publisher_place: usize,
     subscriber_place: usize,
     publisher: &PublisherState,
@@ -37,7 +39,7 @@ fn home_of(
 }
 
 // That the connection which was to stand there wasn't made.
-fn not_made(home: Home) -> Warning
+pub(crate) fn not_made(home: Home) -> Warning
     ensures { result ≡ ConnectionNotMade home.publisher home.subscriber }
 {
     Warning::ConnectionNotMade {
@@ -71,9 +73,8 @@ fn ports_at<T: Drop, U: Default + Drop>(
     publisher_place: usize,
     subscriber_place: usize,
 ) -> (Home, usize)
-    requires agrees { IsDomain state.now }
-    requires publisher { publisher_place < length state.now.publishers }
-    requires subscriber { subscriber_place < length state.now.subscribers }
+    requires publisher { (x : PublisherFields) × (slice_index_or state.now.publishers publisher_place None ≡ Some x) }
+    requires subscriber { (y : SubscriberFields) × (slice_index_or state.now.subscribers subscriber_place None ≡ Some y) }
     ensures { StandApart state.now.publishers state.now.subscribers publisher_place subscriber_place result.0 result.1 }
 {
     let (Some(publisher), Some(subscriber)) = (
@@ -113,7 +114,7 @@ fn is_subscribers(connections: &Slab<Connection>, key: usize, subscriber: u128) 
 
 // Makes a connection in which no slot stands, with room for its key in the ports at these places,
 // also where it is to expire, and returns its key.
-fn make_between<T: Drop, U: Default + Drop>(
+pub(crate) fn make_between<T: Drop, U: Default + Drop>(
     state: &mut DomainState<T, U>,
     publisher_place: usize,
     subscriber_place: usize,
@@ -142,25 +143,38 @@ fn make_between<T: Drop, U: Default + Drop>(
     make_connection(state.alloc, &mut state.connections, home, buffer, limit)
 }
 
-// The publisher at a place that isn't due gets its connection with the subscriber at another.
-// Returns the key of one that it gets, in which no slot stands. One that it has stays. Where memory
-// for a new one is refused, that is a warning.
+// The key, where it leads to a connection of the publisher.
+fn key_from(connections: &Slab<Connection>, publisher: u128, key: Option<usize>) -> Option<usize>
+    ensures { result ≡ key_from connections.now publisher key }
+{
+    let found = key?;
+    match connections.get(found) {
+        Some(connection) if connection.home().publisher == publisher => Some(found),
+        _ => None,
+    }
+}
+
+// The publisher at a place that isn't due gets its end at the place of an open subscriber, where it
+// has none. Returns the key of its connection, in which no slot stands: the one that the subscriber
+// has with this very publisher, or a new one. Where memory for a new one is refused, that is a
+// warning.
 fn make_sender_end<T: Drop, U: Default + Drop>(
     state: &mut DomainState<T, U>,
     publisher_place: usize,
     subscriber_place: usize,
 ) -> Option<usize>
     requires agrees { IsDomain state.old }
-    requires publisher { publisher_place < length state.old.publishers }
+    requires publisher { (x : PublisherFields) × (slice_index_or state.old.publishers publisher_place None ≡ Some x) }
     requires subscriber { subscriber_place < length state.old.subscribers }
+    requires opened { is_open_subscriber state.old.subscribers subscriber_place ≡ true }
+    requires none { sender_key state.old.publishers publisher_place subscriber_place ≡ None }
     ensures { (x : PublisherFields) → slice_index_or state.old.publishers publisher_place None ≡ Some x → x.is_due ≡ false
         → MatchOption result (ConnectsSender fixed_handlers state.old publisher_place subscriber_place x state.new None)
         (λ key. MakesSenderEnd fixed_handlers state.old publisher_place subscriber_place x key state.new) }
 {
-    if key_at(&state.publishers, publisher_place, subscriber_place).is_some() {
-        return None;
-    }
-    if let Some(key) = key_at(&state.subscribers, subscriber_place, publisher_place) {
+    let (home, buffer) = ports_at(state, publisher_place, subscriber_place);
+    let other = key_at(&state.subscribers, subscriber_place, publisher_place);
+    if let Some(key) = key_from(&state.connections, home.publisher, other) {
         set_key_at(
             &mut state.publishers,
             publisher_place,
@@ -169,7 +183,6 @@ fn make_sender_end<T: Drop, U: Default + Drop>(
         );
         return Some(key);
     }
-    let (home, buffer) = ports_at(state, publisher_place, subscriber_place);
     let Ok(key) = make_between(state, publisher_place, subscriber_place, home, buffer) else {
         warn(&mut state.warnings, not_made(home));
         return None;
@@ -207,60 +220,97 @@ fn hand_out_history<T: Drop, U: Default + Drop>(
     deliver_history(&publisher.history, &mut state.connections[key], book);
 }
 
-/// The publisher at a place that isn't due gets its connection with the subscriber at another, in
-/// which the last messages of its history wait, as many as fit. One that it has stays as it is.
-/// Where memory for a new one is refused, that is a warning.
-pub(crate) fn connect_sender<T: Drop, U: Default + Drop>(
+// The publisher at a place that isn't due, with no end at a subscriber's place, gets one if an open
+// subscriber stands there. The last messages of its history wait in it, as many as fit. Where memory
+// for a connection is refused, that is a warning.
+fn connect_sender<T: Drop, U: Default + Drop>(
     state: &mut DomainState<T, U>,
     publisher_place: usize,
     subscriber_place: usize,
 )
     requires agrees { IsDomain state.old }
-    requires publisher { publisher_place < length state.old.publishers }
+    requires publisher { (x : PublisherFields) × (slice_index_or state.old.publishers publisher_place None ≡ Some x) }
     requires subscriber { subscriber_place < length state.old.subscribers }
     requires settled { (x : PublisherFields) → slice_index_or state.old.publishers publisher_place None ≡ Some x → x.is_due ≡ false }
+    requires none { sender_key state.old.publishers publisher_place subscriber_place ≡ None }
     ensures { (x : PublisherFields) → slice_index_or state.old.publishers publisher_place None ≡ Some x
         → ConnectsSender fixed_handlers state.old publisher_place subscriber_place x state.new None }
 {
+    if !is_open_at(&state.subscribers, subscriber_place) {
+        return;
+    }
     if let Some(key) = make_sender_end(state, publisher_place, subscriber_place) {
         hand_out_history(state, publisher_place, key);
     }
 }
 
-/// The subscriber at a place that isn't due gets its connection with the publisher at another.
-/// One that it has stays. Where memory for a new one is refused, that is a warning.
-pub(crate) fn connect_receiver<T: Drop, U: Default + Drop>(
+// What waits in the connection at a key, an end of the publisher at a place, is lost.
+fn drop_waiting_at<T: Drop, U: Default + Drop>(
     state: &mut DomainState<T, U>,
-    subscriber_place: usize,
     publisher_place: usize,
+    key: usize,
 )
     requires agrees { IsDomain state.old }
-    requires publisher { publisher_place < length state.old.publishers }
-    requires subscriber { subscriber_place < length state.old.subscribers }
-    ensures { (y : SubscriberFields) → slice_index_or state.old.subscribers subscriber_place None ≡ Some y → y.is_due ≡ false
-        → ConnectsReceiver fixed_handlers state.old subscriber_place publisher_place y state.new None }
+    requires end { (subscriber_place : ℕ) × HasEnd state.old publisher_place subscriber_place key }
+    ensures { (x : PublisherFields) → slice_index_or state.old.publishers publisher_place None ≡ Some x
+        → (c : Link) → get state.old.connections key ≡ Some c → LosesWaiting state.old x c state.new }
 {
-    if key_at(&state.subscribers, subscriber_place, publisher_place).is_some() {
-        return;
-    }
-    if let Some(key) = key_at(&state.publishers, publisher_place, subscriber_place) {
-        set_key_at(
-            &mut state.subscribers,
-            subscriber_place,
-            publisher_place,
-            key,
-        );
-        return;
-    }
-    let (home, buffer) = ports_at(state, publisher_place, subscriber_place);
-    let Ok(key) = make_between(state, publisher_place, subscriber_place, home, buffer) else {
-        warn(&mut state.warnings, not_made(home));
+    let Some(publisher) = &state.publishers[publisher_place] else {
+        unreachable!();
+    };
+    let book = &mut state.books[publisher.book];
+    drop_all(publisher.id.value(), &mut state.connections, book, key);
+}
+
+// The publisher at a place loses its end at a subscriber's place, of which nothing is borrowed and
+// which no subscriber has. The connection goes, and what waited there is lost.
+fn disconnect_sender<T: Drop, U: Default + Drop>(
+    state: &mut DomainState<T, U>,
+    publisher_place: usize,
+    subscriber_place: usize,
+    key: usize,
+)
+    requires agrees { IsDomain state.old }
+    requires subscriber { subscriber_place < length state.old.subscribers }
+    requires end { HasEnd state.old publisher_place subscriber_place key }
+    requires unused { IsSomeAnd (get state.old.connections key) (λ c. c.borrowed ≡ []) }
+    requires alone { (c : Link) → get state.old.connections key ≡ Some c → ReceiverHas state.old.subscribers key c → ⊥ }
+    ensures { (x : PublisherFields) → slice_index_or state.old.publishers publisher_place None ≡ Some x
+        → LosesSenderEnd state.old publisher_place subscriber_place x state.new }
+{
+    let Some(publisher) = &state.publishers[publisher_place] else {
+        unreachable!();
+    };
+    let book = &mut state.books[publisher.book];
+    remove_connection(publisher.id.value(), &mut state.connections, book, key);
+    clear_key_at(&mut state.publishers, publisher_place, subscriber_place);
+}
+
+/// What the update of the publisher at a place, which isn't due, does at a subscriber's place. An end
+/// to the subscriber that stands there stays; where it is closed, what waits for it is lost. Any
+/// other end goes, and one to an open subscriber is made, in which the last messages of the history
+/// wait. Where memory for one is refused, that is a warning.
+pub(crate) fn update_sender_place<T: Drop, U: Default + Drop>(
+    state: &mut DomainState<T, U>,
+    publisher_place: usize,
+    subscriber_place: usize,
+)
+    requires agrees { IsDomain state.old }
+    requires publisher { (x : PublisherFields) × (slice_index_or state.old.publishers publisher_place None ≡ Some x) }
+    requires subscriber { subscriber_place < length state.old.subscribers }
+    requires settled { (x : PublisherFields) → slice_index_or state.old.publishers publisher_place None ≡ Some x → x.is_due ≡ false }
+    ensures { (x : PublisherFields) → slice_index_or state.old.publishers publisher_place None ≡ Some x
+        → ConnectsSender fixed_handlers state.old publisher_place subscriber_place x state.new None }
+{
+    let Some(key) = key_at(&state.publishers, publisher_place, subscriber_place) else {
+        connect_sender(state, publisher_place, subscriber_place);
         return;
     };
-    set_key_at(
-        &mut state.subscribers,
-        subscriber_place,
-        publisher_place,
-        key,
-    );
+    let subscriber = state.connections[key].home().subscriber;
+    if !stands_at(&state.subscribers, subscriber_place, subscriber) {
+        disconnect_sender(state, publisher_place, subscriber_place, key);
+        connect_sender(state, publisher_place, subscriber_place);
+    } else if !is_open_at(&state.subscribers, subscriber_place) {
+        drop_waiting_at(state, publisher_place, key);
+    }
 }

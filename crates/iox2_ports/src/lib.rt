@@ -1,16 +1,25 @@
-//! Ports enter a domain, and get their connections.
+//! Ports enter a domain, get their connections, and leave it.
 //!
 //! Each function works on the state of `iox2_domain`, in whose words it says what it does. That it
 //! isn't part of that crate is for the prover's time alone: two crates are proved side by side.
 #![tactic(auto)]
 
 mod connects;
+mod departures;
+mod publisher_closes;
 mod publisher_entry;
+mod receiver_updates;
+mod retirements;
 mod segments;
+mod subscriber_closes;
 mod subscriber_entry;
 mod updates;
 mod warnings;
 
+pub use departures::{forget_if_empty, free_book_if_unused, leave_if_unused};
+pub use publisher_closes::close_publisher;
 pub use publisher_entry::create_publisher;
+pub use receiver_updates::update_subscriber;
+pub use subscriber_closes::close_subscriber;
 pub use subscriber_entry::create_subscriber;
-pub use updates::{update_publisher, update_subscriber};
+pub use updates::update_publisher;

@@ -1,5 +1,5 @@
 //! A subscriber enters a domain.
-ghost use Rattle.std.specs.Prelude.{◌≡◌, cond, nat_lt, slice_index_or, IfOk, MatchResult};
+ghost use Rattle.std.specs.Prelude.{◌≡◌, None, Some, cond, nat_lt, slice_index_or, IfOk, MatchResult};
 ghost use Rattle.circular_buffer.specs.Buffer.{buffer};
 ghost use Rattle.iox2_store.specs.machine.Limits.{warning_limit};
 ghost use Rattle.iox2_store.specs.machine.Environments.{fixed_handlers};
@@ -12,13 +12,15 @@ ghost use Rattle.iox2_domain.specs.Kept.{state_of};
 ghost use Rattle.iox2_domain.specs.Fields.{kept_of};
 ghost use Rattle.iox2_domain.specs.Invariant.{IsDomain};
 ghost use Rattle.iox2_domain.specs.Reaches.{Reaches};
-ghost use Rattle.iox2_domain.specs.SubscriberEntry.{asked_for, place_for_subscriber};
+ghost use Rattle.iox2_domain.specs.SubscriberEntry.{FirstUpdates, asked_for, failure_warned, place_for_subscriber};
 
-use crate::updates::update_subscriber;
+use crate::receiver_updates::update_subscriber;
 use crate::warnings::warn;
 use circular_buffer::HeapCircularBuffer;
 use iox2_domain::{DomainState, PortAt, SubscriberState, free_place, make_all_due, put_at_place};
-use iox2_store::{ServiceConfig, SubscriberCreateError, UniqueSubscriberId, Warning};
+use iox2_store::{
+    ConnectionFailure, ServiceConfig, SubscriberCreateError, UniqueSubscriberId, Warning,
+};
 
 // It is warned where the setting for expired publishers is too small for what may be borrowed.
 fn warn_of_expired_buffer(
@@ -32,6 +34,40 @@ fn warn_of_expired_buffer(
     if config.subscriber_expired_connection_buffer < config.subscriber_max_borrowed_samples {
         warn(warnings, Warning::ExpiredBufferRaised { subscriber });
     }
+}
+
+// It is warned where the first update of a new subscriber failed.
+fn warn_of_failure(
+    warnings: &mut HeapCircularBuffer<Warning>,
+    subscriber: UniqueSubscriberId,
+    failure: Option<ConnectionFailure>,
+)
+    requires { warnings.old.capacity ≡ warning_limit }
+    ensures { warnings.new ≡ buffer (failure_warned subscriber failure warnings.old.items) warning_limit }
+{
+    if let Some(failure) = failure {
+        warn(
+            warnings,
+            Warning::SubscriberPartlyConnected {
+                subscriber,
+                failure,
+            },
+        );
+    }
+}
+
+// The new subscriber at a place is updated for the first time, and it is warned where that fails.
+fn update_first<T: Drop, U: Default + Drop>(
+    state: &mut DomainState<T, U>,
+    place: usize,
+    subscriber: UniqueSubscriberId,
+)
+    requires agrees { IsDomain state.old }
+    requires stands { (y : SubscriberFields) × (slice_index_or state.old.subscribers place None ≡ Some y) × (y.id ≡ subscriber) }
+    ensures { (y : SubscriberFields) → slice_index_or state.old.subscribers place None ≡ Some y → FirstUpdates fixed_handlers state.old place y state.new }
+{
+    let failure = update_subscriber(state, place);
+    warn_of_failure(&mut state.warnings, subscriber, failure);
 }
 
 /// The place for a subscriber that asks for a buffer of that size, or why it is refused.
@@ -82,7 +118,8 @@ pub(crate) fn admit_subscriber<T: Drop, U: Default + Drop>(
 }
 
 /// Makes a subscriber with a buffer of that size, at least 1, and connects it with the publishers
-/// that there are. Returns its id, which was the next, and its place.
+/// that there are. Returns its id, which was the next, and its place. A failure of its first update
+/// is a warning.
 ///
 /// `UnableToCreatePortTag` where no id is left, then
 /// `BufferSizeExceedsMaxSupportedBufferSizeOfService`, then `ExceedsMaxSupportedSubscribers`
@@ -101,6 +138,6 @@ pub fn create_subscriber<T: Drop, U: Default + Drop>(
 {
     let place = place_for_subscriber(state, asked)?;
     let id = admit_subscriber(state, place, asked)?;
-    update_subscriber(state, place);
+    update_first(state, place, id);
     Ok(PortAt { id, place })
 }

@@ -2,15 +2,19 @@
 use Rattle.std.proofs.Common.{◌≡◌, ℕ, ◌<◌, List, true, false, sym, ap, subst, ◌∙◌, Option, None, Some, Result, Ok, Err, inl, inr, arith}
 use Rattle.std.specs.Prelude.{◌≢◌}
 use Rattle.std.proofs.lemmas.Bool.{cases_eq, ne_eqb, true≢false}
-use Rattle.iox2_store.specs.machine.Environments.{ample_memory}
-use Rattle.iox2_store.specs.machine.Loans.{written}
+use Rattle.iox2_store.specs.machine.Environments.{ample_memory, fixed_handlers}
+use Rattle.iox2_store.specs.machine.Loans.{written, entry_of}
 use Rattle.iox2_store.specs.machine.Mailbox.{is_borrowed}
 use Rattle.iox2_store.specs.machine.Numbers.{put_at, contains}
 use Rattle.iox2_store.specs.machine.Ports.{CreatePublisher, CreateSubscriber}
 use Rattle.iox2_store.specs.machine.Receives.{ReceiveResult, Got_sample, No_sample, Receive_error, Receive}
 use Rattle.iox2_store.specs.machine.Records.{Entry, Loan, PublisherSettings, SubscriberSettings, Environment}
 use Rattle.iox2_store.specs.machine.Releases.{released}
-use Rattle.iox2_store.specs.machine.Sends.{SendResult, Blocked_send, Send}
+use Rattle.iox2_store.specs.machine.Sends.{SendResult, Delivered_to, Blocked_send, Send_error, Send}
+use Rattle.iox2_store.specs.declared.errors.SendError.{SendError}
+use Rattle.iox2_pubsub.specs.SendCalls.{Sends, messages_after}
+use Rattle.iox2_pubsub.specs.declared.send_outcome.SendOutcome.{SendOutcome}
+use Rattle.iox2_pubsub.specs.declared.send_outcome.SendOutcome.TheVariants.{Delivered}
 use Rattle.iox2_store.specs.Stored.{In_mailbox}
 use Rattle.iox2_store.specs.machine.State.{State, Messages, with_loan}
 use Rattle.iox2_store.specs.declared.errors.LoanError.{LoanError}
@@ -132,6 +136,23 @@ module _ {T U : Type 0} (old new : Kept T U) (m : Messages T U) (s : State T U) 
       sent : (k : ℕ) (other : Entry T U) → m k ≡ Some other → put_at m n (Some entry) k ≡ Some other
       sent k other at = put_at-other m n (Some entry) k (ne_eqb k n (λ e.
           let clash : None ≡ Some other = sym (shown.unsent n l out) ∙ ap m (sym e) ∙ at in absurd cc)) ∙ at
+
+  -- a loan is lost at a send
+  pub lost-stays : (environment : Environment) (n : ℕ) (l : Loan T U) (result : SendResult) (s' : State T U) → Shows new m s' → Send environment s n l s' result → (result ≡ Blocked_send → ⊥)
+      → StaysBut (A_loan n) old new
+  lost-stays environment n l result s' shown' h free =
+      let stay : PortsStay s s' = send_stays environment s n l s' result h free in
+      let loans : s'.loans ≡ put_at s.loans n None = send_loans environment s n l s' result h in
+      stays-between (A_loan n) old new m m s s' shown shown' (λ k entry at. at) stay.remain
+      (λ k loan at other. ap (λ (f : ℕ → Option (Loan T U)). f k) loans ∙ put_at-other s.loans n None k (ne_eqb k n other) ∙ at)
+      (λ i j k at _. same_borrowed s s' stay i j k ∙ at)
+
+  -- a send that may fail
+  pub sent-stays : (n : ℕ) (l : Loan T U) → s.loans n ≡ Some l → (result : Result SendOutcome SendError) (s' : State T U) → Shows new (messages_after m n l result) s'
+      → Sends s n l result s' → StaysBut (A_loan n) old new
+  sent-stays n l out (Ok (Delivered count)) s' shown' h =
+      send-stays fixed_handlers n l out (Delivered_to count) (entry_of l) s' shown' h (λ e. let clash : Delivered_to count ≡ Blocked_send = e in cc)
+  sent-stays n l out (Err error) s' shown' h = lost-stays fixed_handlers n l (Send_error error) s' shown' h (λ e. let clash : Send_error error ≡ Blocked_send = e in cc)
 
   -- it is out no more
   pub send-spends : (environment : Environment) (key : Key) (l : Loan T U) (result : SendResult) (m' : Messages T U) (s' : State T U) → Shows new m' s'

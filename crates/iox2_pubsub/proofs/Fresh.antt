@@ -1,5 +1,5 @@
 -- A new domain.
-use Rattle.std.proofs.Common.{◌≡◌, ℕ, zero, suc, List, [], Bool, refl, sym, subst, slice_index_or, arith}
+use Rattle.std.proofs.Common.{◌≡◌, ℕ, zero, suc, List, [], Bool, refl, sym, subst, slice_index_or}
 use Rattle.std.specs.declared.option.Option.{Option}
 use Rattle.std.specs.declared.option.Option.TheVariants.{None, Some}
 use Rattle.slab.specs.Slab.{Slab}
@@ -12,7 +12,7 @@ use Rattle.iox2_store.specs.declared.service_config.ServiceConfig.{ServiceConfig
 use Rattle.iox2_ends.specs.LookUp.{IsOnly}
 use Rattle.iox2_laws.proofs.Enough.{fresh_is_well_formed}
 use Rattle.iox2_domain.specs.Fields.{Fields, kept_of}
-use Rattle.iox2_domain.specs.Invariant.{IsDomain, IsLinked, HasBooks, IsNumbered, IsSupportedConfig, HasOnlyOpenPorts}
+use Rattle.iox2_domain.specs.Invariant.{IsDomain, IsLinked, HasBooks, IsNumbered, IsSupportedConfig}
 use Rattle.iox2_domain.specs.FreshFields.{IsFresh}
 use Rattle.iox2_store.specs.Stored.{In_history, In_mailbox, In_blocked_send}
 use Rattle.iox2_domain.specs.Shows.{Shows, KeepsEntries}
@@ -82,16 +82,6 @@ module _ {T U : Type 0} (config : ServiceConfig) (v c v' c' : ℕ) where
     no_others = λ key at. refl;
   }
 
-  open_ports : HasOnlyOpenPorts empty_fields
-  open_ports = record {
-    publishers = λ i lt. absurd (omega arith);
-    subscribers = λ i lt. absurd (omega arith);
-    are_open = λ i y at. absurd (nothing_at i y at);
-    senders = λ key d at. absurd (nothing_at key d at);
-    receivers = λ key d at. absurd (nothing_at key d at);
-    books = λ key b at. absurd (nothing_at key b at);
-  }
-
   is_domain : IsSupportedConfig config → IsDomain empty_fields
   is_domain supported = record {
     publisher_ids = λ p. none_only _;
@@ -101,6 +91,7 @@ module _ {T U : Type 0} (config : ServiceConfig) (v c v' c' : ℕ) where
     expired_room = record { at = λ i y at. absurd (nothing_at i y at) };
     books = has_books;
     names = record { at = λ key c at. absurd (nothing_at key c at) };
+    kept_books = record { at = λ key b at. absurd (nothing_at key b at) };
     counted = record { at = λ p slot. refl };
     numbered = numbered v' c';
     lone = record { at = λ key slot b at _. absurd (nothing_at key b at) };
@@ -110,7 +101,6 @@ module _ {T U : Type 0} (config : ServiceConfig) (v c v' c' : ℕ) where
     supported = supported;
     plain = λ i x at. absurd (nothing_at i x at);
     plain_subscribers = λ i y at. absurd (nothing_at i y at);
-    open_ports = open_ports;
     well_formed = fresh_is_well_formed config;
     entries = keeps_entries;
   }

@@ -1,12 +1,13 @@
 -- A send of a loan, seen from outside.
 use Rattle.std.proofs.Common.{◌≡◌, ℕ, ◌<◌, eqb, refl, ap, sym, subst, ◌∙◌, inl, inr, arith, true, false, Bool}
-use Rattle.std.proofs.lemmas.Bool.{eqb-true, cases_eq}
+use Rattle.std.proofs.lemmas.Bool.{eqb-true, cases_eq, ne_eqb}
 use Rattle.std.specs.declared.option.Option.{Option}
 use Rattle.std.specs.declared.option.Option.TheVariants.{None, Some}
 use Rattle.iox2_store.specs.machine.Loans.{entry_of}
 use Rattle.iox2_store.specs.machine.Numbers.{put_at}
 use Rattle.iox2_store.specs.machine.Records.{Entry, Loan, Environment}
-use Rattle.iox2_store.specs.machine.Sends.{SendResult, Send}
+use Rattle.iox2_store.specs.machine.Sends.{SendResult, Send, Send_error}
+use Rattle.iox2_store.specs.declared.errors.SendError.{SendError}
 use Rattle.iox2_store.specs.machine.State.{State, Messages}
 use Rattle.iox2_laws.proofs.Puts.{put_at-same, put_at-other}
 use Rattle.iox2_laws.proofs.SendLaws.{send_advances}
@@ -14,6 +15,10 @@ use Rattle.iox2_domain.specs.Fields.{Fields, kept_of}
 use Rattle.iox2_domain.specs.Kept.{state_of}
 use Rattle.iox2_domain.specs.SentLoans.{SendsLoan}
 use Rattle.iox2_domain.specs.Shows.{Shows}
+use Rattle.std.specs.declared.result.Result.{Result}
+use Rattle.std.specs.declared.result.Result.TheVariants.{Ok, Err}
+use Rattle.iox2_pubsub.specs.SendCalls.{messages_after, result_of_send}
+use Rattle.iox2_pubsub.specs.declared.send_outcome.SendOutcome.{SendOutcome}
 
 module _ {T U : Type 0} (environment : Environment) (f g : Fields T U) (n : ℕ) (result : SendResult) (sends : SendsLoan environment f g n result) (m : Messages T U) (s : State T U) (l : Loan T U)
     (shown : Shows (kept_of f) m s) (out : s.loans n ≡ Some l) where
@@ -37,6 +42,25 @@ module _ {T U : Type 0} (environment : Environment) (f g : Fields T U) (n : ℕ)
     by : (t : Bool) → eqb k n ≡ t → t ≡ false
     by true e = absurd (away (eqb-true k n e))
     by false e = refl
+
+  -- what the domain shows after an error
+  pub lost-shown : (error : SendError) → result ≡ Send_error error → Shows (kept_of g) m (state_of (kept_of g))
+  lost-shown error failed = record {
+    state = refl;
+    well_formed = sends.agrees.well_formed;
+    entries = λ k entry e. shown.entries k entry (sends.lost error failed k entry e);
+    complete = sends.agrees.entries;
+    below = λ k le.
+        let rises = (send_advances environment s n l (state_of (kept_of g)) result machine-sends).next_message in
+        shown.below k (omega arith);
+    unsent = λ k loan e. still k loan e;
+  } where
+    still : (k : ℕ) (loan : Loan T U) → (state_of (kept_of g)).loans k ≡ Some loan → m k ≡ None
+    still k loan e = elim (cases_eq k n) [
+      | inl same ↦ ap m same ∙ shown.unsent n l out
+      | inr away ↦ shown.unsent k loan (ap (λ (t : State T U). t.loans k) shown.state
+          ∙ sym (ap (λ (loans : ℕ → Option (Loan T U)). loans k) sends.loans ∙ put_at-other (state_of (kept_of f)).loans n None k (ne_eqb k n away)) ∙ e)
+    ]
 
   -- what the domain shows afterwards
   pub send-shown : Shows (kept_of g) messages (state_of (kept_of g))
@@ -67,3 +91,8 @@ module _ {T U : Type 0} (environment : Environment) (f g : Fields T U) (n : ℕ)
         by : (t : Bool) → eqb k n ≡ t → t ≡ false
         by true e = absurd (away (eqb-true k n e))
         by false e = refl
+
+  -- either way
+  pub sent-shown : (outcome : Result SendOutcome SendError) → result ≡ result_of_send outcome → Shows (kept_of g) (messages_after m n l outcome) (state_of (kept_of g))
+  sent-shown (Ok delivered) is = send-shown
+  sent-shown (Err error) is = lost-shown error is

@@ -1,5 +1,5 @@
 -- An update by call, seen from outside.
-use Rattle.std.proofs.Common.{◌≡◌, ℕ, get_or, ap, sym, subst, ◌∙◌, Some, None}
+use Rattle.std.proofs.Common.{◌≡◌, ℕ, get_or, ap, sym, subst, ◌∙◌, Option, Some, None}
 use Rattle.iox2_store.specs.machine.Records.{Environment}
 use Rattle.iox2_store.specs.machine.PublisherUpdate.{UpdatePublisher}
 use Rattle.iox2_store.specs.machine.SubscriberUpdate.{UpdateSubscriber}
@@ -7,12 +7,15 @@ use Rattle.iox2_store.specs.machine.State.{State, Messages}
 use Rattle.iox2_laws.proofs.LoanKeeping.{update_publisher_loans, update_subscriber_loans}
 use Rattle.iox2_laws.proofs.PublisherUpdates.{update_publisher_advances}
 use Rattle.iox2_laws.proofs.SubscriberUpdates.{update_subscriber_advances}
-use Rattle.iox2_domain.specs.Connects.{UpdatesPublisher, UpdatesSubscriber}
+use Rattle.iox2_domain.specs.Connects.{UpdatesPublisher}
+use Rattle.iox2_domain.specs.ReceiverSteps.{UpdatesReceiver}
 use Rattle.iox2_domain.specs.Fields.{Fields, kept_of}
 use Rattle.iox2_domain.specs.Kept.{Kept, state_of}
 use Rattle.iox2_domain.specs.Ports.{PublisherFields, SubscriberFields}
 use Rattle.iox2_domain.specs.Shows.{Shows}
+use Rattle.iox2_store.specs.declared.errors.ConnectionFailure.{ConnectionFailure}
 use Rattle.iox2_domain.proofs.lemmas.fields.ReachesShows.{reaches-shows}
+use Rattle.iox2_domain.proofs.lemmas.receives.Reception.{updated-reaches}
 
 module _ {T U : Type 0} (environment : Environment) (kept : Kept T U) (f g : Fields T U) (view : kept_of f ≡ kept) (place id : ℕ) (m : Messages T U) (s : State T U) (shown : Shows kept m s) where
   here : Shows (kept_of f) m s
@@ -33,15 +36,16 @@ module _ {T U : Type 0} (environment : Environment) (kept : Kept T U) (f g : Fie
       )
 
   -- a subscriber's update, with the same messages
-  pub subscriber-update-shows : (y : SubscriberFields) × (get_or f.subscribers place None ≡ Some y) × (y.id ≡ id)
-      → ((y : SubscriberFields) → get_or f.subscribers place None ≡ Some y → UpdatesSubscriber environment f place y g None)
-      → (s' : State T U) × Shows (kept_of g) m s' × UpdateSubscriber environment s id s' None
-  subscriber-update-shows found updates =
+  pub subscriber-update-shows : (failure : Option ConnectionFailure) → (y : SubscriberFields) × (get_or f.subscribers place None ≡ Some y) × (y.id ≡ id)
+      → ((y : SubscriberFields) → get_or f.subscribers place None ≡ Some y → UpdatesReceiver environment f place y g failure)
+      → (s' : State T U) × Shows (kept_of g) m s' × UpdateSubscriber environment s id s' failure
+  subscriber-update-shows failure found updates =
       let u = updates found.0 found.1 in
-      let step : UpdateSubscriber environment s id u.after None =
-      subst (λ (t : State T U). UpdateSubscriber environment t id u.after None) (sym here.state) (subst (λ (q : ℕ). UpdateSubscriber environment (state_of (kept_of f)) q u.after None) found.2 u.updates) in (
-        u.after,
-        reaches-shows f g m s u.after here u.reaches (update_subscriber_advances environment s id u.after None step).next_message
-            (λ n l at. here.unsent n l (ap (λ all. all n) (sym (update_subscriber_loans environment s id u.after None step)) ∙ at)),
+      let after : State T U = state_of (kept_of g) in
+      let step : UpdateSubscriber environment s id after failure =
+      subst (λ (t : State T U). UpdateSubscriber environment t id after failure) (sym here.state) (subst (λ (q : ℕ). UpdateSubscriber environment (state_of (kept_of f)) q after failure) found.2 u.updates) in (
+        after,
+        reaches-shows f g m s after here (updated-reaches environment f g place found.0 failure u) (update_subscriber_advances environment s id after failure step).next_message
+            (λ n l at. here.unsent n l (ap (λ all. all n) (sym (update_subscriber_loans environment s id after failure step)) ∙ at)),
         step,
       )

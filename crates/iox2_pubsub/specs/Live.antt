@@ -82,6 +82,10 @@ module _ {T U : Type 0} (domain : Kept T U) where
     pub live : IsLoanKey (written_key loan)
     pub written : HasMark loan.loan.number true
 
+  -- The publisher that lent the loan wasn't closed.
+  abbrev pub HasItsPublisher : SampleMut → Type 0
+  HasItsPublisher loan = HoldsPublisher (state_of domain) loan.loan.publisher
+
   -- The sample's message is borrowed by its subscriber.
   abbrev pub IsLiveSample : Sample → Type 0
   IsLiveSample sample = IsSampleKey (sample_key sample)

@@ -1,14 +1,11 @@
 -- What asking for samples returns.
 use Rattle.std.specs.Prelude.{ℕ, Bool}
-use Rattle.std.specs.declared.option.Option.TheVariants.{None, Some}
 use Rattle.std.specs.declared.result.Result.{Result}
-use Rattle.std.specs.declared.result.Result.TheVariants.{Ok, Err}
 use Rattle.iox2_store.specs.machine.Environments.{fixed_handlers}
-use Rattle.iox2_store.specs.machine.Receives.{HasSamples}
 use Rattle.iox2_store.specs.machine.State.{State}
 use Rattle.iox2_store.specs.declared.errors.ConnectionFailure.{ConnectionFailure}
+use Rattle.iox2_domain.specs.Questions.{IsAnswer}
 
 -- The subscriber q was asked whether any message waits, with this answer or the failure of its update.
 abbrev pub Answers : {T U : Type 0} → State T U → (q : ℕ) → Result Bool ConnectionFailure → State T U → Type 0
-Answers s q (Ok waits) s' = HasSamples fixed_handlers s q s' None waits
-Answers s q (Err failure) s' = (waits : Bool) × HasSamples fixed_handlers s q s' (Some failure) waits
+Answers s q result s' = IsAnswer fixed_handlers s q result s'

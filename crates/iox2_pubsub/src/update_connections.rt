@@ -1,5 +1,5 @@
 //! Updates of a port's connections, by call.
-ghost use Rattle.std.specs.Prelude.{◌≡◌, IsOk};
+ghost use Rattle.std.specs.Prelude.{◌≡◌};
 
 use crate::domain::Domain;
 use iox2_store::{BackpressureFn, ConnectionFailure, DegradationFn};
@@ -26,14 +26,14 @@ pub trait UpdateConnections<T: Drop, U: Default + Drop> {
     /// Makes the port's connections with the ports of the other side that came since its last
     /// update. Where none came it does nothing.
     ///
-    /// No failure is returned yet. Where memory for a connection is refused, that is a warning of
-    /// the domain.
+    /// Fails where there is no room to keep the connection of a publisher that departed: then it
+    /// stays, the rest of the update is done, and the port is due again. Where memory for a
+    /// connection is refused, that is a warning of the domain.
     fn update_connections<F: BackpressureFn, G: DegradationFn>(
         &self,
         domain: &mut Domain<T, U, F, G>,
     ) -> Result<(), ConnectionFailure>
         requires { is_live domain.old self.now }
-        ensures ok { IsOk result }
         ensures updates { (m : Messages T U) (s : State T U) → Shows domain.old m s
             → (s' : State T U) × Shows domain.new m s' × updates s self.now s' (failure_of result) }
         ensures stays { Stays domain.old domain.new };

@@ -1,5 +1,5 @@
 -- What a connection's calls are to the lists of its slots.
-use Rattle.std.proofs.Common.{◌≡◌, ℕ, zero, suc, ◌+◌, ◌<◌, ◌==◌, Bool, List, [], ◌∷◌, ◌++◌, ◌-◌, true, false, cond, length, drop, take, refl, Option, Some, None, get_or, arith, ap, sym, subst, ◌∙◌, inl, inr, eqb, eq-eqb, Contains, lt-ltb, position, ⊎_elim}
+use Rattle.std.proofs.Common.{◌≡◌, ℕ, zero, suc, ◌+◌, ◌<◌, ◌==◌, Bool, List, [], ◌∷◌, ◌++◌, ◌-◌, true, false, length, drop, take, refl, Option, Some, None, get_or, arith, ap, sym, subst, ◌∙◌, inl, inr, eqb, eq-eqb, Contains, lt-ltb, position, ⊎_elim}
 use Rattle.std.proofs.Math.Seq.{take-suc, take-length}
 use Rattle.std.proofs.lemmas.Bool.{cases_lt, eqb-true, false≢true, ne_eqb, or_cases, or_left, or_right, or_parts}
 use Rattle.std.proofs.lemmas.Option.{slice_get_within, get_or_from_slice_get}
@@ -7,7 +7,7 @@ use Rattle.std.proofs.lemmas.List.Sums.{fails_before_first}
 use Rattle.std.proofs.lemmas.List.{length-append}
 use Rattle.std.specs.List.{position_or_len}
 use Rattle.std.specs.Prelude.{remove, slice_get}
-use Rattle.iox2_store.specs.Link.{Link, IsPut, IsTaken, IsReclaimed}
+use Rattle.iox2_store.specs.Link.{Link, IsPut, IsTaken, IsDropped, IsReclaimed}
 use Rattle.iox2_store.specs.machine.Numbers.{contains, without, IsOnce}
 use Rattle.iox2_store.specs.declared.connection.PutOutcome.TheVariants.{Overwrote}
 
@@ -26,6 +26,11 @@ position_of_contained xs x at =
 pub taken_first : (c d : Link) (xs : List ℕ) (slot : ℕ) → c.waiting ≡ xs → Some slot ≡ slice_get xs 0 → d ≡ record c { waiting = drop 1 xs; borrowed = c.borrowed ++ slot ∷ [] } → IsTaken c (Some slot) d
 taken_first c d [] slot w e f = absurd (let g : Some slot ≡ None = e in cc)
 taken_first c d (x ∷ xs) slot w e f = let g : Some slot ≡ Some x = e in let h : slot ≡ x = cc in (xs, w ∙ ap (λ (y : ℕ). y ∷ xs) (sym h), f)
+
+-- the first waiting slot of a ring went
+pub dropped_first : (c d : Link) (xs : List ℕ) (o : Option ℕ) → c.waiting ≡ xs → o ≡ slice_get xs 0 → d ≡ record c { waiting = drop 1 xs } → IsDropped c o d
+dropped_first c d [] o r e f = rw e (r, f ∙ ap (λ (ys : List ℕ). let l : Link = record c { waiting = ys } in l) (sym r))
+dropped_first c d (x ∷ xs) o r e f = rw e (xs, r, f)
 
 -- the first slot that was given back went
 pub reclaimed_first : (c d : Link) (xs : List ℕ) (o : Option ℕ) → c.returned ≡ xs → o ≡ slice_get xs 0 → d ≡ record c { returned = drop 1 xs } → IsReclaimed c o d

@@ -30,6 +30,10 @@ load c = length c.waiting + length c.borrowed + length c.returned
 abbrev pub has_slots : Link → Bool
 has_slots c = not (is_nil c.waiting)
 
+-- Some slot is borrowed.
+abbrev pub has_borrowed_slots : Link → Bool
+has_borrowed_slots c = not (is_nil c.borrowed)
+
 -- Some slot waits, and fewer than the limit are borrowed.
 abbrev pub can_borrow : Link → Bool
 can_borrow c = has_slots c && nat_lt (length c.borrowed) c.limit
@@ -51,9 +55,22 @@ IsTaken old None new = (old.waiting ≡ []) × (new ≡ old)
 IsTaken old (Some slot) new =
     (rest : List ℕ) × (old.waiting ≡ slot ∷ rest) × (new ≡ record old { waiting = rest; borrowed = old.borrowed ++ slot ∷ [] })
 
+-- The first slot that waits goes, if there is one.
+abbrev pub IsDropped : Link → Option ℕ → Link → Type 0
+IsDropped old None new = (old.waiting ≡ []) × (new ≡ old)
+IsDropped old (Some slot) new = (rest : List ℕ) × (old.waiting ≡ slot ∷ rest) × (new ≡ record old { waiting = rest })
+
+-- Nothing but what is borrowed stands in the connection.
+abbrev pub borrowed_alone : Link → Link
+borrowed_alone c = record c { waiting = []; returned = [] }
+
 -- A borrowed slot is given back.
 abbrev pub with_returned : (slot : ℕ) → Link → Link
 with_returned slot c = record c { borrowed = without slot c.borrowed; returned = c.returned ++ slot ∷ [] }
+
+-- A borrowed slot goes, and isn't given back.
+abbrev pub without_borrowed : (slot : ℕ) → Link → Link
+without_borrowed slot c = record c { borrowed = without slot c.borrowed }
 
 -- The first slot that was given back goes, if there is one.
 abbrev pub IsReclaimed : Link → Option ℕ → Link → Type 0

@@ -1,6 +1,6 @@
 //! What lies between one publisher and one subscriber: numbers of the publisher's slots.
 ghost use Rattle.std.specs.Prelude.{◌≡◌, ◌+◌, ◌-◌, ◌<◌, ◌≤◌, ◌==◌, ◌↔◌, length, position, slice_get, Some, Contains, IfOk, IsTrue};
-ghost use Rattle.iox2_store.specs.Link.{load, empty_link, has_slots, can_borrow, with_returned, IsBounded};
+ghost use Rattle.iox2_store.specs.Link.{load, empty_link, has_slots, has_borrowed_slots, can_borrow, with_returned, without_borrowed, IsBounded};
 ghost use Rattle.iox2_store.specs.machine.Numbers.{without, IsOnce};
 ghost use Rattle.std.specs.Vec.{vec_capacity};
 
@@ -107,7 +107,7 @@ impl Model for Connection {
 }
 
 impl Connection {
-    ghost use Rattle.iox2_store.specs.Link.{IsPut, IsTaken, IsReclaimed};
+    ghost use Rattle.iox2_store.specs.Link.{IsPut, IsTaken, IsDropped, IsReclaimed};
 
     /// A connection in which no slot stands. At most `buffer` slots wait there and at most `limit`
     /// are borrowed.
@@ -183,6 +183,14 @@ impl Connection {
         Some(slot)
     }
 
+    /// Lets the slot go that has waited longest. `None` if none waits.
+    pub fn drop_first(&mut self) -> Option<usize>
+        ensures drops { IsDropped self.old result self.new }
+        ensures bounded { IsBounded self.new }
+    {
+        self.waiting.pop_front()
+    }
+
     /// Gives a slot back, which is borrowed once, for the publisher to reclaim.
     pub fn release(&mut self, slot: usize)
         requires borrowed { Contains self.old.borrowed slot }
@@ -194,6 +202,16 @@ impl Connection {
         if self.returned.try_push_back(slot).is_err() {
             unreachable!();
         }
+    }
+
+    /// Takes out a slot, which is borrowed once. It isn't given back.
+    pub fn let_go(&mut self, slot: usize)
+        requires borrowed { Contains self.old.borrowed slot }
+        requires once { IsOnce self.old.borrowed }
+        ensures goes { self.new ≡ without_borrowed slot self.old }
+        ensures bounded { IsBounded self.new }
+    {
+        take_out(&mut self.borrowed, slot);
     }
 
     /// Reclaims the slot that was given back first. `None` if there is none.
@@ -209,6 +227,20 @@ impl Connection {
         ensures { result ≡ has_slots self.now }
     {
         !self.waiting.is_empty()
+    }
+
+    /// Whether some slot is borrowed.
+    pub fn has_borrowed(&self) -> bool
+        ensures { result ≡ has_borrowed_slots self.now }
+    {
+        !self.borrowed.is_empty()
+    }
+
+    /// Whether no slot stands in the connection.
+    pub fn is_empty(&self) -> bool
+        ensures { IsTrue result ↔ (load self.now ≡ 0) }
+    {
+        self.waiting.is_empty() && self.borrowed.is_empty() && self.returned.is_empty()
     }
 
     /// Whether `take` may be called and finds a slot.

@@ -58,6 +58,20 @@ fn a_borrowed_slot_goes_back(rt: HostRuntime) {
 }
 
 #[test]
+fn waiting_slots_go(rt: HostRuntime) {
+    let mut connection = connection(&rt, rt.alloc());
+    connection.put(7, false);
+    connection.put(8, false);
+    let unused = connection.has_borrowed();
+    let taken = connection.take();
+    let gone = [connection.drop_first(), connection.drop_first()];
+    let left = [connection.has_data(), connection.has_borrowed()];
+    drop(connection);
+    assert!(rt; !unused && taken == Some(7));
+    assert!(rt; gone == [Some(8), None] && left == [false, true]);
+}
+
+#[test]
 fn a_full_connection_overwrites_or_refuses(rt: HostRuntime) {
     let mut connection = connection(&rt, rt.alloc());
     let put = [

@@ -6,3 +6,4 @@ pub mod MapSteps
 pub mod Placed
 pub mod FreePlaces
 pub mod ConnectionKeys
+pub mod ForgottenKeys

@@ -11,3 +11,4 @@ pub mod PublisherAdmitted
 pub mod PublisherEntries
 pub mod PublisherCreations
 pub mod SubscribersDue
+pub mod FirstUpdates

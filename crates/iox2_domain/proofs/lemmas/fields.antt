@@ -3,8 +3,11 @@ pub mod Views
 pub mod Parts
 pub mod ReachesShows
 pub mod ConnectionEnds
+pub mod SubscriberSet
 pub mod SameEnds
 pub mod Standing
 pub mod OpenPorts
 pub mod NamedBooks
+pub mod KeptBooks
 pub mod ExpiredRoom
+pub mod RemovedConnections

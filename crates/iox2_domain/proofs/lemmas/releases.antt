@@ -1,4 +1,17 @@
 -- A borrowed message is given back.
-pub mod NobodyGoes
+pub mod Pruning
+pub mod OrphanRemoved
+pub mod Forgotten
+pub mod ForgottenEnds
+pub mod Departed
+pub mod Forgets
 pub mod Released
+pub mod LetGo
+pub mod HandedBack
+pub mod Drops
+pub mod Unshared
+pub mod Left
+pub mod Idle
+pub mod Leaving
 pub mod GivenBack
+pub mod BookFreed

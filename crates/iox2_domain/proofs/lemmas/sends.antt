@@ -1,5 +1,6 @@
 -- A loan is sent, and its message is delivered.
 pub mod LoanAlone
+pub mod MarkedLoans
 pub mod DeliverySteps
 pub mod SentSlots
 pub mod SendEnded

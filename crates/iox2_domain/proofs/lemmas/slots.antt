@@ -3,6 +3,10 @@ pub mod Messages
 pub mod HeldMessages
 pub mod MessageLists
 pub mod BookChanges
+pub mod BookGone
+pub mod HolderGone
+pub mod LeftConnections
+pub mod SettledBooks
 pub mod LoneLoans
 pub mod SlotChanges
 pub mod ConnectionSlots
@@ -12,5 +16,7 @@ pub mod NumbersInUse
 pub mod SlotsInUse
 pub mod Renumbered
 pub mod Recounts
+pub mod RecountedFields
+pub mod RecountedSound
 pub mod RecountedState
 pub mod ReclaimSteps

@@ -5,6 +5,9 @@ pub mod MadeRoom
 pub mod Grown
 pub mod SenderChanges
 pub mod SenderAgrees
+pub mod SenderLeft
+pub mod WaitingDropped
+pub mod SenderDisconnects
 pub mod SenderActions
 pub mod SenderSteps
 pub mod SenderCases
@@ -12,13 +15,10 @@ pub mod SenderOutcomes
 pub mod HistoryBounds
 pub mod HistoryHanded
 pub mod SenderWalk
+pub mod SenderPlaces
+pub mod DropCalls
+pub mod PlaceCalls
 pub mod HistoryConnects
 pub mod SenderUpdates
 pub mod ReceiverChanges
-pub mod ReceiverAgrees
 pub mod ReceiverActions
-pub mod ReceiverSteps
-pub mod ReceiverCases
-pub mod ReceiverOutcomes
-pub mod ReceiverWalk
-pub mod ReceiverUpdates

@@ -1,5 +1,7 @@
 //! A message is sent.
-ghost use Rattle.std.specs.Prelude.{◌≡◌};
+ghost use Rattle.std.specs.Prelude.{◌≡◌, IsOk};
+ghost use Rattle.iox2_domain.specs.SentLoans.{send_result};
+ghost use Rattle.iox2_pubsub.specs.SendCalls.{result_of_send};
 
 use crate::domain::Domain;
 use crate::sample_mut::SampleMut;
@@ -8,22 +10,21 @@ use iox2_messages::send_loan;
 use iox2_store::{BackpressureFn, DegradationFn, SendError};
 
 impl SampleMut {
-    ghost use Rattle.std.specs.Prelude.{Some, IsOk};
-    ghost use Rattle.iox2_store.specs.machine.Loans.{entry_of};
-    ghost use Rattle.iox2_store.specs.machine.Numbers.{put_at};
+    ghost use Rattle.std.specs.Prelude.{Some};
     ghost use Rattle.iox2_store.specs.machine.Records.{Loan};
     ghost use Rattle.iox2_store.specs.machine.State.{State, Messages};
-    ghost use Rattle.iox2_pubsub.specs.Live.{IsLoanKey, IsWrittenLoan, StaysBut, written_key, written_loan};
-    ghost use Rattle.iox2_pubsub.specs.SendCalls.{Sends};
+    ghost use Rattle.iox2_pubsub.specs.Live.{HasItsPublisher, IsLoanKey, IsWrittenLoan, StaysBut, written_key, written_loan};
+    ghost use Rattle.iox2_pubsub.specs.SendCalls.{Sends, messages_after};
     ghost use Rattle.iox2_domain.specs.Shows.{Shows};
 
     /// Sends the message to every subscriber that is open. One whose buffer is full doesn't get it.
     /// Returns how many subscribers took it.
     ///
-    /// No error is returned by a publisher without handlers that wasn't closed. The loan is out no
-    /// more; its slot is free again when every subscriber that took the message has released it.
-    /// Memory is asked for only where the publisher gets a connection with a new subscriber: where
-    /// it is refused, that subscriber doesn't get the message, and the domain keeps a warning.
+    /// No error is returned by a publisher without handlers that wasn't closed. The loan of one that
+    /// is gone is lost, and the error says so. The loan is out no more; its slot is free again when
+    /// every subscriber that took the message has released it. Memory is asked for only where the
+    /// publisher gets a connection with a new subscriber: where it is refused, that subscriber
+    /// doesn't get the message, and the domain keeps a warning.
     ///
     /// iceoryx2's `SampleMut::send` (`src/sample_mut.rs`).
     pub fn send<T: Drop, U: Default + Drop, F: BackpressureFn, G: DegradationFn>(
@@ -31,9 +32,9 @@ impl SampleMut {
         domain: &mut Domain<T, U, F, G>,
     ) -> Result<SendOutcome, SendError>
         requires { IsWrittenLoan domain.old self }
-        ensures ok { IsOk result }
+        ensures ok { HasItsPublisher domain.old self → IsOk result }
         ensures sent { (m : Messages T U) (s : State T U) (l : Loan T U) → Shows domain.old m s → s.loans self.loan.number ≡ Some l
-            → (s' : State T U) × Shows domain.new (put_at m self.loan.number (Some (entry_of l))) s' × Sends s self.loan.number l result s' }
+            → (s' : State T U) × Shows domain.new (messages_after m self.loan.number l result) s' × Sends s self.loan.number l result s' }
         ensures spent { IsLoanKey domain.new (written_key self) → ⊥ }
         ensures stays { StaysBut (written_loan self) domain.old domain.new }
     {
@@ -41,7 +42,17 @@ impl SampleMut {
             service_id: _,
             loan,
         } = self;
-        let count = send_loan(&mut domain.state, loan);
-        Ok(SendOutcome::Delivered(count))
+        outcome_of(send_loan(&mut domain.state, loan))
+    }
+}
+
+// What came of a send that so many subscribers took, or that failed.
+fn outcome_of(sent: Result<usize, SendError>) -> Result<SendOutcome, SendError>
+    ensures same { result_of_send result ≡ send_result sent }
+    ensures ok { IsOk sent → IsOk result }
+{
+    match sent {
+        Ok(count) => Ok(SendOutcome::Delivered(count)),
+        Err(error) => Err(error),
     }
 }

@@ -1,5 +1,5 @@
 //! A subscriber is asked whether messages wait.
-ghost use Rattle.std.specs.Prelude.{◌≡◌, IsOk};
+ghost use Rattle.std.specs.Prelude.{◌≡◌};
 
 use crate::domain::Domain;
 use crate::subscriber::Subscriber;
@@ -15,8 +15,8 @@ impl Subscriber {
     /// Updates the subscriber's connections and says whether any message waits for it, also one
     /// that it can't receive before it has released another.
     ///
-    /// No failure is returned yet. Where memory for a connection is refused, that is a warning of
-    /// the domain.
+    /// Fails where the update does, as `UpdateConnections::update_connections` says. Where memory for
+    /// a connection is refused, that is a warning of the domain.
     ///
     /// iceoryx2's `Subscriber::has_samples` (`src/port/subscriber.rs`).
     pub fn has_samples<T: Drop, U: Default + Drop, F: BackpressureFn, G: DegradationFn>(
@@ -24,7 +24,6 @@ impl Subscriber {
         domain: &mut Domain<T, U, F, G>,
     ) -> Result<bool, ConnectionFailure>
         requires { IsLiveSubscriber domain.old self.now }
-        ensures ok { IsOk result }
         ensures answers { (m : Messages T U) (s : State T U) → Shows domain.old m s
             → (s' : State T U) × Shows domain.new m s' × Answers s self.now.id result s' }
         ensures stays { Stays domain.old domain.new }
@@ -32,6 +31,6 @@ impl Subscriber {
         let Some(place) = domain.state.find_subscriber(self.id, self.place) else {
             unreachable!()
         };
-        Ok(has_samples_at(&mut domain.state, place))
+        has_samples_at(&mut domain.state, place)
     }
 }

@@ -1,4 +1,6 @@
 //! A subscriber updates its connections.
+ghost use Rattle.std.specs.Prelude.{◌≡◌};
+ghost use Rattle.iox2_pubsub.specs.UpdateCalls.{failure_of};
 
 use crate::domain::Domain;
 use crate::subscriber::Subscriber;
@@ -25,7 +27,16 @@ impl<T: Drop, U: Default + Drop> UpdateConnections<T, U> for Subscriber {
         let Some(place) = domain.state.find_subscriber(self.id, self.place) else {
             unreachable!()
         };
-        update_subscriber(&mut domain.state, place);
-        Ok(())
+        outcome_of(update_subscriber(&mut domain.state, place))
+    }
+}
+
+// What an update with this failure, if any, returns.
+fn outcome_of(failure: Option<ConnectionFailure>) -> Result<(), ConnectionFailure>
+    ensures { failure_of result ≡ failure }
+{
+    match failure {
+        Some(failure) => Err(failure),
+        None => Ok(()),
     }
 }

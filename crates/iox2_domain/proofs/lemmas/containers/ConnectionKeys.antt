@@ -1,5 +1,5 @@
 -- A key is set at a place.
-use Rattle.std.proofs.Common.{◌≡◌, ◌≢◌, ℕ, zero, suc, List, [], ◌∷◌, map, ◌⊎◌, get_or, refl, ap, sym, ◌∙◌, inl, inr}
+use Rattle.std.proofs.Common.{◌≡◌, ◌≢◌, ◌<◌, ℕ, zero, suc, List, [], ◌∷◌, length, map, ◌⊎◌, get_or, slice_set, refl, ap, sym, ◌∙◌, inl, inr, arith}
 use Rattle.std.proofs.lemmas.Bool.{cases_eq}
 use Rattle.std.specs.declared.option.Option.{Option}
 use Rattle.std.specs.declared.option.Option.TheVariants.{None, Some}
@@ -59,3 +59,9 @@ set_place-stood xs place key i k at = elim (cases_eq i place) [
       inl (here, is)
   | inr away ↦ inr (sym (set_place-others xs place (Some key) i away) ∙ at)
 ]
+
+-- a place within the list is written
+pub set_place-within : (xs : List (Option ℕ)) (place : ℕ) (x : Option ℕ) → place < length xs → slice_set xs place x ≡ set_place xs place x
+set_place-within [] place x low = absurd (omega arith)
+set_place-within (y ∷ ys) zero x low = refl
+set_place-within (y ∷ ys) (suc place) x low = ap (λ zs. y ∷ zs) (set_place-within ys place x (omega arith))

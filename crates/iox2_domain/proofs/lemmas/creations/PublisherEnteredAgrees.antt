@@ -23,10 +23,11 @@ use Rattle.iox2_ends.specs.Homes.{IsSenderLinked}
 use Rattle.iox2_domain.specs.Ports.{PublisherFields}
 use Rattle.iox2_domain.specs.Kept.{state_of, entries_of, entry_in, KeptMessage}
 use Rattle.iox2_domain.specs.Fields.{Fields, kept_of, is_book_of, message_in, contents_at}
-use Rattle.iox2_domain.specs.Invariant.{IsDomain, IsBook, IsLinked, HasBook, HasBooks, HasShape, IsCounted, HasOnlyOpenPorts, SenderHas, ReceiverHas, HasPublisherRoom, is_publisher, is_loan_in, holders_of, own_holders}
+use Rattle.iox2_domain.specs.Invariant.{IsDomain, IsBook, IsLinked, HasBook, HasBooks, KeepsBooks, HasShape, IsCounted, SenderHas, ReceiverHas, HasPublisherRoom, is_publisher, is_loan_in, holders_of, own_holders}
 use Rattle.iox2_domain.specs.Placed.{placed}
 use Rattle.iox2_domain.specs.NewPublisher.{plain_publisher}
 use Rattle.iox2_store.specs.Stored.{IsHeldMessage, In_history, In_mailbox, In_blocked_send}
+use Rattle.iox2_domain.proofs.lemmas.fields.KeptBooks.{StoodOrEnters, kept-publishers}
 use Rattle.iox2_domain.proofs.lemmas.fields.NamedBooks.{names-books}
 use Rattle.iox2_domain.proofs.lemmas.containers.Placed.{placed-here}
 use Rattle.iox2_domain.proofs.lemmas.slots.NewBook.{sender_before, no_book, books-apart, book-found, unheld, was_book, away_from, still_book, nothing_in, contents-same, messages-same, numbered-still, lone-still}
@@ -199,21 +200,25 @@ module _ {T U : Type 0} (f : Fields T U) (place loans loan_room key_room key : �
   filled (y ∷ xs) (suc place) zero x le lt = inl (omega arith)
   filled (y ∷ xs) (suc place) (suc i) x le lt = elim (filled xs place i x (omega arith) (omega arith)) [ inl below ↦ inl (omega arith) | inr here ↦ inr (ap suc here) ]
 
-  open_ports : place ≤ length f.publishers → HasOnlyOpenPorts after
-  open_ports le = record {
-    publishers = λ i lt. elim (filled f.publishers place i new le lt) [
-      | inl below ↦ let old = enters.sound.open_ports.publishers i below in (old.0, stands_still i old.0 old.1)
-      | inr here ↦ (new, rw here (placed-here new f.publishers place))
+  -- each book is somebody's, or left
+  kept_books : KeepsBooks after.next_port after.publishers books
+  kept_books = record {
+    at = λ k b at. elim (was_book f enters.sound slots units key books contents enters.book k b at) [
+      | inl e ↦ inl (record {
+        place = place;
+        publisher = new;
+        stands = placed-here new f.publishers place;
+        is_its = sym (ap (λ (b : Book). b.publisher) e.1 ∙ enters.book.is_its);
+        has = sym e.0;
+      })
+      | inr old ↦ (kept-publishers f.next_port after.next_port f.publishers after.publishers (omega arith) (λ i x there. (x, stands_still i x there, refl, refl)) entered f.books enters.sound.kept_books).at k b old.1
     ];
-    subscribers = enters.sound.open_ports.subscribers;
-    are_open = enters.sound.open_ports.are_open;
-    senders = λ k c at. let has = enters.sound.open_ports.senders k c at in (has.0, stands_still c.home.publisher_place has.0 has.1, has.2);
-    receivers = enters.sound.open_ports.receivers;
-    books = λ k b at. elim (was_book f enters.sound slots units key books contents enters.book k b at) [
-      | inl e ↦ (place, new, placed-here new f.publishers place, sym (ap (λ (b : Book). b.publisher) e.1 ∙ enters.book.is_its), sym e.0)
-      | inr old ↦ let has = enters.sound.open_ports.books k b old.1 in (has.0, has.1, stands_still has.0 has.1 has.2, has.3, has.4)
-    ];
-  }
+  } where
+    entered : StoodOrEnters f.next_port f.publishers after.publishers
+    entered i y there = elim (was i y there) [
+      | inl e ↦ inr (let next : y.id ≡ f.next_port = ap (λ (z : PublisherFields). z.id) e.1 in omega arith)
+      | inr old ↦ inl (y, old, refl)
+    ]
 
   -- what the new publisher's id has of messages nobody held before, for it has none
   held_by : (p : ℕ) (y : Publisher) (b : Bool) → cond b (Some (new_publisher (state_of (kept_of f)) (plain_publisher loans) place)) ((state_of (kept_of f)).publishers p) ≡ Some y
@@ -258,6 +263,7 @@ module _ {T U : Type 0} (f : Fields T U) (place loans loan_room key_room key : �
     books = has_books;
     names = names-books f.books books f.connections
         (λ k b at. (b, still_book f enters.sound slots units key books contents enters.book k b at, refl)) enters.sound.names;
+    kept_books = kept_books;
     counted = counted;
     numbered = numbered-still f enters.sound slots units key books contents enters.book;
     lone = lone-still f enters.sound slots units key books contents enters.book;
@@ -267,7 +273,6 @@ module _ {T U : Type 0} (f : Fields T U) (place loans loan_room key_room key : �
     supported = enters.sound.supported;
     plain = λ i x at. elim (was i x at) [ inl e ↦ rw e.1 (record { strategy = refl; backpressure = refl; degradation = refl; unblocked = refl; allocation = refl; length = refl }) | inr old ↦ enters.sound.plain i x old ];
     plain_subscribers = enters.sound.plain_subscribers;
-    open_ports = open_ports low;
     well_formed = well;
     entries = λ p n held. let has = enters.sound.entries p n (held_still p n held) in (has.0, entries_same n ∙ has.1, has.2);
   }

@@ -16,7 +16,7 @@ use Rattle.iox2_store.specs.declared.errors.PublisherCreateError.TheVariants.{Un
 use Rattle.iox2_domain.specs.Ports.{PublisherFields}
 use Rattle.iox2_domain.specs.Kept.{state_of}
 use Rattle.iox2_domain.specs.Fields.{Fields, kept_of}
-use Rattle.iox2_domain.specs.Invariant.{IsDomain, IsLinked, HasBooks, HasNumber, IsNumbered, HasOnlyOpenPorts, HasPublisherRoom}
+use Rattle.iox2_domain.specs.Invariant.{IsDomain, IsLinked, HasBooks, HasNumber, IsNumbered, HasPublisherRoom}
 use Rattle.iox2_domain.specs.NewPublisher.{BookEnters, entering_publisher, plain_publisher, subscriber_due, place_for_publisher}
 use Rattle.iox2_domain.specs.Placed.{placed, lowest_empty}
 use Rattle.iox2_domain.specs.Reaches.{Reaches}
@@ -58,6 +58,7 @@ module _ {T U : Type 0} (f : Fields T U) where
     expired_room = sound.expired_room;
     books = books sound.books;
     names = names-books f.books _ f.connections (λ k b at. (b, at, refl)) sound.names;
+    kept_books = record { at = sound.kept_books.at };
     counted = record { at = sound.counted.at };
     numbered = numbered sound.numbered;
     lone = record { at = sound.lone.at };
@@ -67,7 +68,6 @@ module _ {T U : Type 0} (f : Fields T U) where
     supported = sound.supported;
     plain = sound.plain;
     plain_subscribers = sound.plain_subscribers;
-    open_ports = open_ports sound.open_ports;
     well_formed = sound.well_formed;
     entries = sound.entries;
   } where
@@ -103,9 +103,6 @@ module _ {T U : Type 0} (f : Fields T U) where
       one = λ k k' slot slot' n here there. i.one k k' slot slot' n (had k slot n here) (had k' slot' n there);
       below = λ k slot n here. i.below k slot n (had k slot n here);
     }
-
-    open_ports : HasOnlyOpenPorts f → HasOnlyOpenPorts (with_room capacity)
-    open_ports o = record { publishers = o.publishers; subscribers = o.subscribers; are_open = o.are_open; senders = o.senders; receivers = o.receivers; books = o.books }
 
   -- the same is kept where there is only more room
   pub room-reaches : (before new : Fields T U) (capacity : ℕ) → before ≡ f → IsDomain f → new ≡ record before { books = record (before.books) { capacity = capacity } }

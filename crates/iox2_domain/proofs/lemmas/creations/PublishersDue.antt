@@ -1,5 +1,5 @@
 -- Every publisher becomes due for an update.
-use Rattle.std.proofs.Common.{◌≡◌, ℕ, List, [], ◌∷◌, map, Bool, true, false, cond, eqb, ◌+◌, get_or, refl, ap, sym, ◌∙◌, inl, inr, ◌⊎◌, length, suc}
+use Rattle.std.proofs.Common.{◌≡◌, ℕ, List, [], ◌∷◌, map, Bool, true, false, cond, eqb, ◌+◌, get_or, refl, ap, sym, ◌∙◌, inl, inr, ◌⊎◌, length, suc, arith}
 use Rattle.std.specs.declared.option.Option.{Option}
 use Rattle.std.specs.declared.option.Option.TheVariants.{None, Some}
 use Rattle.std.specs.Option.{option_map, option_map_or}
@@ -7,15 +7,18 @@ use Rattle.std.specs.List.{sum_by}
 use Rattle.iox2_store.specs.Link.{Link}
 use Rattle.iox2_store.specs.machine.Records.{Publisher}
 use Rattle.iox2_store.specs.machine.State.{publishers_due}
+use Rattle.iox2_store.specs.Stored.{IsHeldMessage}
 use Rattle.iox2_ends.specs.LookUp.{look_up}
 use Rattle.iox2_ends.specs.Counters.{times, stands}
 use Rattle.iox2_laws.proofs.PortChanges.{publishers_due_keeps}
 use Rattle.iox2_domain.specs.Ports.{PublisherFields, due}
 use Rattle.iox2_domain.specs.Kept.{Named, state_of, port_named, ids, is_named}
 use Rattle.iox2_domain.specs.Fields.{Fields, kept_of, publisher_of, is_book_of}
-use Rattle.iox2_domain.specs.Invariant.{IsDomain, IsLinked, HasOnlyOpenPorts, HasBooks, IsCounted, SenderHas, ReceiverHas, is_publisher, own_holders, is_loan_in}
+use Rattle.iox2_domain.specs.Invariant.{IsDomain, IsLinked, HasBooks, KeepsBooks, IsCounted, SenderHas, ReceiverHas, is_publisher, own_holders, is_loan_in, HasParts}
 use Rattle.iox2_domain.proofs.lemmas.containers.LookUps.{look_up-map, map-at, viewed, IsOnly-map}
+use Rattle.iox2_domain.proofs.lemmas.fields.Parts.{parts_of, whole_of}
 use Rattle.iox2_domain.proofs.lemmas.fields.Views.{KeepsHeld, held-before}
+use Rattle.iox2_domain.proofs.lemmas.fields.KeptBooks.{kept-publishers}
 use mathlib.Core.Path.{fun_ext}
 
 -- the fields with every publisher due
@@ -55,7 +58,7 @@ module _ {T U : Type 0} (f : Fields T U) where
     all : (state_of (kept_of (with_publishers_due f))).publishers ≡ (publishers_due (state_of (kept_of f))).publishers
     all = fun_ext (λ p. named-due p f.publishers)
 
-  is_due : (i : ℕ) (x : PublisherFields) → get_or (map (option_map due) f.publishers) i None ≡ Some x
+  pub is_due : (i : ℕ) (x : PublisherFields) → get_or (map (option_map due) f.publishers) i None ≡ Some x
       → (y : PublisherFields) × (get_or f.publishers i None ≡ Some y) × (x ≡ due y)
   is_due i x at = viewed due f.publishers i x at
 
@@ -123,44 +126,50 @@ module _ {T U : Type 0} (f : Fields T U) where
   stands-due : (i : ℕ) (x : PublisherFields) → get_or f.publishers i None ≡ Some x → get_or (map (option_map due) f.publishers) i None ≡ Some (due x)
   stands-due i x at = map-at due f.publishers i ∙ ap (option_map due) at
 
-  open_ports-due : HasOnlyOpenPorts f → HasOnlyOpenPorts (with_publishers_due f)
-  open_ports-due open_ports = record {
-    publishers = λ i lt. let old = open_ports.publishers i (rw (sym (length-due f.publishers)) lt) in (due old.0, stands-due i old.0 old.1);
-    subscribers = open_ports.subscribers;
-    are_open = open_ports.are_open;
-    senders = λ key c at. let has = open_ports.senders key c at in (due has.0, stands-due c.home.publisher_place has.0 has.1, has.2);
-    receivers = open_ports.receivers;
-    books = λ key b at. let has = open_ports.books key b at in (has.0, due has.1, stands-due has.0 has.1 has.2, has.3, has.4);
+  -- the fields still agree with one another
+  pub publishers_due-consistent : HasParts f → HasParts (with_publishers_due f)
+  publishers_due-consistent parts = record {
+    publisher_ids = λ p. IsOnly-map due (is_publisher p) (is_publisher p) (λ x. refl) f.publishers (parts.publisher_ids p);
+    subscriber_ids = parts.subscriber_ids;
+    apart = parts.apart;
+    linked = linked-due parts.linked;
+    expired_room = parts.expired_room;
+    books = books-due parts.books;
+    names = parts.names;
+    counted = counted-due parts.counted;
+    numbered = parts.numbered;
+    publisher_room = λ i x at. let was = is_due i x at in let has = parts.publisher_room i was.0 was.1 in
+        rw was.2 (record { loans = has.loans; history = has.history });
+    warning_room = parts.warning_room;
+    shapes = record { at = parts.shapes.at };
+    supported = parts.supported;
+    plain = λ i x at. let was = is_due i x at in let has = parts.plain i was.0 was.1 in
+        rw was.2 (record { strategy = has.strategy; backpressure = has.backpressure; degradation = has.degradation; unblocked = has.unblocked; allocation = has.allocation; length = has.length });
+    plain_subscribers = parts.plain_subscribers;
   }
+
+  -- whoever holds a message then held it before
+  pub held-due : (p n : ℕ) → IsHeldMessage (state_of (kept_of (with_publishers_due f))) p n → IsHeldMessage (state_of (kept_of f)) p n
+  held-due p n held =
+      held-before (state_of (kept_of f)) (state_of (kept_of (with_publishers_due f))) p n (λ q. refl)
+      (λ y at. was p y (port_named p (kept_of f).publishers) refl (sym (named-due p f.publishers) ∙ at)) held
+    where
+      was : (p : ℕ) (y : Publisher) (o : Option Publisher) → (state_of (kept_of f)).publishers p ≡ o → option_map due_publisher o ≡ Some y
+          → (x : Publisher) × ((state_of (kept_of f)).publishers p ≡ Some x) × KeepsHeld x y
+      was p y None e at = absurd cc
+      was p y (Some x) e at = let same : Some (due_publisher x) ≡ Some y = at in let is : due_publisher x ≡ y = cc in
+          (x, e, record { history = ap (λ (z : Publisher). z.history) is; blocked = ap (λ (z : Publisher). z.blocked) is })
+
+  -- each book is somebody's still, or left
+  pub kept-due : KeepsBooks f.next_port f.publishers f.books → KeepsBooks f.next_port (map (option_map due) f.publishers) f.books
+  kept-due = kept-publishers f.next_port f.next_port f.publishers (map (option_map due) f.publishers) (omega arith)
+      (λ i x at. (due x, stands-due i x at, refl, refl))
+      (λ i y at. let was = is_due i y at in inl (was.0, was.1, ap (λ (z : PublisherFields). z.id) was.2)) f.books
 
   -- the invariant is kept
   pub publishers_due-agree : IsDomain f → IsDomain (with_publishers_due f)
-  publishers_due-agree sound = record {
-    publisher_ids = λ p. IsOnly-map due (is_publisher p) (is_publisher p) (λ x. refl) f.publishers (sound.publisher_ids p);
-    subscriber_ids = sound.subscriber_ids;
-    apart = sound.apart;
-    linked = linked-due sound.linked;
-    expired_room = sound.expired_room;
-    books = books-due sound.books;
-    names = sound.names;
-    counted = counted-due sound.counted;
-    numbered = sound.numbered;
-    lone = sound.lone;
-    publisher_room = λ i x at. let was = is_due i x at in let has = sound.publisher_room i was.0 was.1 in
-        rw was.2 (record { loans = has.loans; history = has.history });
-    warning_room = sound.warning_room;
-    shapes = record { at = sound.shapes.at };
-    supported = sound.supported;
-    plain = λ i x at. let was = is_due i x at in let has = sound.plain i was.0 was.1 in
-        rw was.2 (record { strategy = has.strategy; backpressure = has.backpressure; degradation = has.degradation; unblocked = has.unblocked; allocation = has.allocation; length = has.length });
-    plain_subscribers = sound.plain_subscribers;
-    open_ports = open_ports-due sound.open_ports;
-    well_formed = rw publishers_due-are (publishers_due_keeps (state_of (kept_of f)) sound.well_formed);
-    entries = λ p n held. sound.entries p n (held-before (state_of (kept_of f)) (state_of (kept_of (with_publishers_due f))) p n (λ q. refl)
-        (λ y at. was p y (port_named p (kept_of f).publishers) refl (sym (named-due p f.publishers) ∙ at)) held);
-  } where
-    was : (p : ℕ) (y : Publisher) (o : Option Publisher) → (state_of (kept_of f)).publishers p ≡ o → option_map due_publisher o ≡ Some y
-        → (x : Publisher) × ((state_of (kept_of f)).publishers p ≡ Some x) × KeepsHeld x y
-    was p y None e at = absurd cc
-    was p y (Some x) e at = let same : Some (due_publisher x) ≡ Some y = at in let is : due_publisher x ≡ y = cc in
-        (x, e, record { history = ap (λ (z : Publisher). z.history) is; blocked = ap (λ (z : Publisher). z.blocked) is })
+  publishers_due-agree sound =
+      whole_of (with_publishers_due f) (publishers_due-consistent (parts_of f sound)) sound.lone
+      (kept-due sound.kept_books)
+      (rw publishers_due-are (publishers_due_keeps (state_of (kept_of f)) sound.well_formed))
+      (λ p n held. sound.entries p n (held-due p n held))

@@ -1,5 +1,5 @@
 -- A domain's fields agree with a new subscriber among them.
-use Rattle.std.proofs.Common.{◌≡◌, ℕ, zero, suc, ◌<◌, [], get_or, refl, ap, sym, subst, ◌∙◌, inl, inr, ◌⊎◌, arith, List, ◌≤◌, length, ◌∷◌}
+use Rattle.std.proofs.Common.{◌≡◌, ℕ, zero, suc, ◌<◌, [], get_or, refl, ap, sym, subst, ◌∙◌, inl, inr, ◌⊎◌, arith, List, ◌≤◌, length, ◌∷◌, ◌+◌}
 use Rattle.std.specs.declared.option.Option.{Option}
 use Rattle.std.specs.declared.option.Option.TheVariants.{None, Some}
 use Rattle.std.specs.Option.{option_map}
@@ -14,13 +14,13 @@ use Rattle.iox2_ends.specs.declared.sender.ReceiverDetails.{ReceiverDetails}
 use Rattle.iox2_domain.specs.Ports.{SubscriberFields}
 use Rattle.iox2_domain.specs.Kept.{state_of}
 use Rattle.iox2_domain.specs.Fields.{Fields, kept_of}
-use Rattle.iox2_domain.specs.Invariant.{IsDomain, IsLinked, HasExpiredRoom, HasBooks, HasOnlyOpenPorts, SenderHas, ReceiverHas, details_of}
+use Rattle.iox2_domain.specs.Invariant.{IsDomain, IsLinked, HasExpiredRoom, HasBooks, SenderHas, ReceiverHas, details_of}
 use Rattle.iox2_domain.proofs.lemmas.containers.LookUps.{map-at, viewed}
 use Rattle.iox2_domain.specs.Placed.{placed}
 use Rattle.iox2_domain.proofs.lemmas.fields.Views.{held-before}
+use Rattle.iox2_domain.proofs.lemmas.fields.KeptBooks.{kept-publishers}
 use Rattle.iox2_domain.proofs.lemmas.fields.ConnectionEnds.{subscriber-known}
 use Rattle.iox2_domain.proofs.lemmas.fields.ExpiredRoom.{count-none}
-use Rattle.iox2_domain.proofs.lemmas.containers.Placed.{placed-here}
 use Rattle.iox2_domain.proofs.lemmas.creations.SubscriberEntered.{with_entered_subscriber, newcomer, ids_apart, stood, still}
 
 nothing_at : {A : Type 0} (i : ℕ) (x : A) → get_or {A = Option A} [] i None ≡ Some x → ⊥
@@ -115,20 +115,6 @@ module _ {T U : Type 0} (f : Fields T U) (sound : IsDomain f) (warnings : Buffer
   filled (x ∷ xs) (suc place) zero y le lt = inl (omega arith)
   filled (x ∷ xs) (suc place) (suc i) y le lt = elim (filled xs place i y (omega arith) (omega arith)) [ inl below ↦ inl (omega arith) | inr here ↦ inr (ap suc here) ]
 
-  open_ports : place ≤ length f.subscribers → HasOnlyOpenPorts after
-  open_ports le = record {
-    publishers = sound.open_ports.publishers;
-    subscribers = λ i lt. elim (filled f.subscribers place i new le lt) [
-      | inl below ↦ let old = sound.open_ports.subscribers i below in (old.0, still f sound warnings place asked key_room expired_room free i old.0 old.1)
-      | inr here ↦ (new, rw here (placed-here new f.subscribers place))
-    ];
-    are_open = λ i y at. elim (was i y at) [ inl e ↦ rw e (refl, refl) | inr old ↦ sound.open_ports.are_open i y old ];
-    senders = sound.open_ports.senders;
-    receivers = λ key c at. let has = sound.open_ports.receivers key c at in
-        (has.0, still f sound warnings place asked key_room expired_room free c.home.subscriber_place has.0 has.1, has.2);
-    books = sound.open_ports.books;
-  }
-
   -- the invariant is kept
   pub entered-agrees : warnings.capacity ≡ warning_limit → place ≤ length f.subscribers → IsWellFormed (state_of (kept_of after)) → IsDomain after
   entered-agrees room low well = record {
@@ -139,6 +125,8 @@ module _ {T U : Type 0} (f : Fields T U) (sound : IsDomain f) (warnings : Buffer
     expired_room = expired_room-entered;
     books = books;
     names = sound.names;
+    kept_books = kept-publishers f.next_port (f.next_port + 1) f.publishers f.publishers (omega arith)
+        (λ i x at. (x, at, refl, refl)) (λ i y at. inl (y, at, refl)) f.books sound.kept_books;
     counted = record { at = sound.counted.at };
     numbered = sound.numbered;
     lone = sound.lone;
@@ -148,7 +136,6 @@ module _ {T U : Type 0} (f : Fields T U) (sound : IsDomain f) (warnings : Buffer
     supported = sound.supported;
     plain = sound.plain;
     plain_subscribers = λ i y at. elim (was i y at) [ inl e ↦ rw e (record { degradation = refl }) | inr old ↦ sound.plain_subscribers i y old ];
-    open_ports = open_ports low;
     well_formed = well;
     entries = λ p n held. sound.entries p n (held-before (state_of (kept_of f)) (state_of (kept_of after)) p n (λ q. refl) (λ y at. (y, at, record { history = refl; blocked = refl })) held);
   }

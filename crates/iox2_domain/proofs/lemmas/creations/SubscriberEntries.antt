@@ -10,10 +10,9 @@ use Rattle.std.specs.Option.{option_map}
 use Rattle.circular_buffer.specs.Buffer.{Buffer, buffer}
 use Rattle.iox2_store.specs.machine.Limits.{buffer_limit, warning_limit, last_number}
 use Rattle.iox2_store.specs.machine.Places.{lowest_free}
-use Rattle.iox2_store.specs.machine.Ports.{buffer_for, with_buffer_warning, with_new_subscriber, CreateSubscriber, MakeSubscriber}
+use Rattle.iox2_store.specs.machine.Ports.{buffer_for, with_buffer_warning, with_new_subscriber, CreateSubscriber, FirstSubscriberUpdate, MakeSubscriber}
 use Rattle.iox2_store.specs.machine.Records.{Subscriber, Environment}
 use Rattle.iox2_store.specs.machine.State.{State}
-use Rattle.iox2_store.specs.machine.SubscriberUpdate.{UpdateSubscriber}
 use Rattle.iox2_store.specs.declared.errors.SubscriberCreateError.{SubscriberCreateError}
 use Rattle.iox2_store.specs.declared.errors.SubscriberCreateError.TheVariants.{UnableToCreatePortTag, BufferSizeExceedsMaxSupportedBufferSizeOfService, ExceedsMaxSupportedSubscribers}
 use Rattle.iox2_store.specs.declared.warning.Warning.{Warning}
@@ -23,8 +22,7 @@ use Rattle.iox2_domain.specs.Fields.{Fields, kept_of, subscriber_of}
 use Rattle.iox2_domain.specs.Invariant.{IsDomain}
 use Rattle.iox2_domain.specs.Placed.{placed, lowest_empty}
 use Rattle.iox2_domain.specs.Reaches.{Reaches}
-use Rattle.iox2_domain.specs.Connects.{UpdatesSubscriber}
-use Rattle.iox2_domain.specs.SubscriberEntry.{asked_for, place_for_subscriber}
+use Rattle.iox2_domain.specs.SubscriberEntry.{FirstUpdates, asked_for, place_for_subscriber}
 use Rattle.iox2_domain.proofs.lemmas.creations.SubscriberAdmitted.{with_admitted, admitted-is, admitted-agrees}
 use Rattle.iox2_domain.proofs.lemmas.containers.Placed.{placed-here}
 use Rattle.iox2_domain.proofs.lemmas.fields.ReachesShows.{reaches-then}
@@ -142,15 +140,15 @@ module _ {T U : Type 0} (f : Fields T U) (asked : ℕ) where
   -- a subscriber that has entered, after its first update
   pub created-reaches : (environment : Environment) (mid new : Fields T U) (place : ℕ) → place_for_subscriber f asked ≡ Ok place
       → Reaches f mid (with_new_subscriber shown (asked_for asked) place) × (z : SubscriberFields) × (get_or mid.subscribers place None ≡ Some z) × (z.id ≡ f.next_port)
-      → ((y : SubscriberFields) → get_or mid.subscribers place None ≡ Some y → UpdatesSubscriber environment mid place y new None)
+      → ((y : SubscriberFields) → get_or mid.subscribers place None ≡ Some y → FirstUpdates environment mid place y new)
       → (s' : State T U) × CreateSubscriber environment shown (asked_for asked) s' None × Reaches f new s'
   created-reaches environment mid new place h entered updates =
       let updated = updates entered.1 entered.2 in
-      let first : UpdateSubscriber environment (with_new_subscriber shown (asked_for asked) place) f.next_port updated.after None =
-      subst (λ (q : ℕ). UpdateSubscriber environment (with_new_subscriber shown (asked_for asked) place) q updated.after None) entered.3
-      (subst (λ (s : State T U). UpdateSubscriber environment s entered.1.id updated.after None) entered.0.state updated.updates) in (
+      let first : FirstSubscriberUpdate environment (with_new_subscriber shown (asked_for asked) place) f.next_port updated.after =
+      subst (λ (q : ℕ). FirstSubscriberUpdate environment (with_new_subscriber shown (asked_for asked) place) q updated.after) entered.3
+      (subst (λ (s : State T U). FirstSubscriberUpdate environment s entered.1.id updated.after) entered.0.state updated.updates) in (
         updated.after,
-        created-made environment place updated.after None h (updated.after, None, first, refl),
+        created-made environment place updated.after None h first,
         reaches-then f mid new (with_new_subscriber shown (asked_for asked) place) updated.after entered.0 updated.reaches,
       )
 

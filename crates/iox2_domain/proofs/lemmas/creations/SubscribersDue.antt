@@ -14,7 +14,7 @@ use Rattle.iox2_domain.specs.Ports.{SubscriberFields}
 use Rattle.iox2_domain.specs.NewPublisher.{subscriber_due}
 use Rattle.iox2_domain.specs.Kept.{Named, state_of, port_named, ids, is_named}
 use Rattle.iox2_domain.specs.Fields.{Fields, kept_of, subscriber_of}
-use Rattle.iox2_domain.specs.Invariant.{IsDomain, IsLinked, HasOnlyOpenPorts, HasBooks, SenderHas, ReceiverHas, is_subscriber, details_of}
+use Rattle.iox2_domain.specs.Invariant.{IsDomain, IsLinked, HasBooks, SenderHas, ReceiverHas, is_subscriber, details_of}
 use Rattle.iox2_domain.proofs.lemmas.containers.LookUps.{map-at, viewed, IsOnly-map}
 use Rattle.iox2_domain.proofs.lemmas.fields.Views.{held-before}
 use mathlib.Core.Path.{fun_ext}
@@ -107,16 +107,6 @@ module _ {T U : Type 0} (f : Fields T U) where
   length-due [] = refl
   length-due (y ∷ ys) = ap suc (length-due ys)
 
-  open_ports-due : HasOnlyOpenPorts f → HasOnlyOpenPorts (with_subscribers_due f)
-  open_ports-due open_ports = record {
-    publishers = open_ports.publishers;
-    subscribers = λ i lt. let old = open_ports.subscribers i (rw (sym (length-due f.subscribers)) lt) in (subscriber_due old.0, stands-due i old.0 old.1);
-    are_open = λ i y at. let was = was_there i y at in rw was.2 (open_ports.are_open i was.0 was.1);
-    senders = open_ports.senders;
-    receivers = λ key c at. let has = open_ports.receivers key c at in (subscriber_due has.0, stands-due c.home.subscriber_place has.0 has.1, has.2);
-    books = open_ports.books;
-  }
-
   -- the invariant is kept
   pub subscribers_due-agree : IsDomain f → IsDomain (with_subscribers_due f)
   subscribers_due-agree sound = record {
@@ -126,6 +116,7 @@ module _ {T U : Type 0} (f : Fields T U) where
     linked = linked-due sound.linked;
     expired_room = record { at = λ i y at. let was = was_there i y at in rw was.2 (sound.expired_room.at i was.0 was.1) };
     books = books-due sound.books;
+    kept_books = sound.kept_books;
     names = sound.names;
     counted = record { at = sound.counted.at };
     numbered = sound.numbered;
@@ -136,7 +127,6 @@ module _ {T U : Type 0} (f : Fields T U) where
     supported = sound.supported;
     plain = sound.plain;
     plain_subscribers = λ i y at. let was = was_there i y at in rw was.2 (record { degradation = (sound.plain_subscribers i was.0 was.1).degradation });
-    open_ports = open_ports-due sound.open_ports;
     well_formed = rw subscribers_due-are (subscribers_due_keeps (state_of (kept_of f)) sound.well_formed);
     entries = λ p n held. sound.entries p n (held-before (state_of (kept_of f)) (state_of (kept_of (with_subscribers_due f))) p n (λ q. refl)
         (λ y at. (y, at, record { history = refl; blocked = refl })) held);

@@ -1,34 +1,14 @@
 -- What always holds of a domain's fields, apart from what they keep.
-use Rattle.std.specs.Prelude.{◌≡◌, ℕ, slice_index_or}
-use Rattle.std.specs.declared.option.Option.TheVariants.{None, Some}
-use Rattle.iox2_store.specs.machine.Limits.{warning_limit}
+use Rattle.std.proofs.Common.{◌≡◌, ◌≢◌, ◌⊎◌, ℕ, inr, refl}
+use Rattle.std.specs.declared.option.Option.TheVariants.{Some}
+use Rattle.slab.specs.Slab.{get}
+use Rattle.iox2_store.specs.SlotBook.{Book}
 use Rattle.iox2_store.specs.machine.WellFormed.{IsWellFormed}
-use Rattle.iox2_ends.specs.LookUp.{IsOnly}
-use Rattle.iox2_ends.specs.Homes.{IsApart}
-use Rattle.iox2_domain.specs.Ports.{PublisherFields, SubscriberFields}
 use Rattle.iox2_domain.specs.Kept.{state_of}
 use Rattle.iox2_domain.specs.Fields.{Fields, kept_of}
 use Rattle.iox2_domain.specs.Shows.{KeepsEntries}
-use Rattle.iox2_domain.specs.Invariant.{IsDomain, HasLoneLoans, IsLinked, HasExpiredRoom, HasBooks, NamesBooks, IsCounted, IsNumbered, HasPublisherRoom, HasShapes, IsSupportedConfig, IsPlain, IsPlainSubscriber, HasOnlyOpenPorts, is_publisher, is_subscriber}
-
--- the fields agree with one another, in the midst of a step
-pub record HasParts {T U : Type 0} (f : Fields T U) : Type 0 where
-  pub publisher_ids : (p : ℕ) → IsOnly (is_publisher p) f.publishers
-  pub subscriber_ids : (q : ℕ) → IsOnly (is_subscriber q) f.subscribers
-  pub apart : IsApart f.connections
-  pub linked : IsLinked f
-  pub expired_room : HasExpiredRoom f.subscribers f.connections
-  pub books : HasBooks f
-  pub names : NamesBooks f.books f.connections
-  pub counted : IsCounted f
-  pub numbered : IsNumbered f.next_message f.books
-  pub publisher_room : (i : ℕ) (x : PublisherFields) → slice_index_or f.publishers i None ≡ Some x → HasPublisherRoom f.config x
-  pub warning_room : (f.warnings).capacity ≡ warning_limit
-  pub shapes : HasShapes f
-  pub supported : IsSupportedConfig f.config
-  pub plain : (i : ℕ) (x : PublisherFields) → slice_index_or f.publishers i None ≡ Some x → IsPlain x
-  pub plain_subscribers : (i : ℕ) (y : SubscriberFields) → slice_index_or f.subscribers i None ≡ Some y → IsPlainSubscriber y
-  pub open_ports : HasOnlyOpenPorts f
+use Rattle.iox2_domain.specs.Invariant.{IsDomain, IsSoundBut, HasParts, HasLoneLoans, KeepsBooks, IsOwned, IsLeft, IsGone}
+use Rattle.iox2_domain.specs.Midway.{IsMidway}
 
 module _ {T U : Type 0} (f : Fields T U) where
   -- a domain's fields agree
@@ -49,12 +29,12 @@ module _ {T U : Type 0} (f : Fields T U) where
     supported = sound.supported;
     plain = sound.plain;
     plain_subscribers = sound.plain_subscribers;
-    open_ports = sound.open_ports;
   }
 
-  -- fields that agree are a domain's where each loan has one holder, and what they keep is well-formed and has its entries
-  pub whole_of : HasParts f → HasLoneLoans f.books → IsWellFormed (state_of (kept_of f)) → KeepsEntries (kept_of f) → IsDomain f
-  whole_of parts lone well entries = record {
+  -- fields that agree are a domain's where each loan has one holder, each book is somebody's or left, and what they keep is
+  -- well-formed and has its entries
+  pub whole_of : HasParts f → HasLoneLoans f.books → KeepsBooks f.next_port f.publishers f.books → IsWellFormed (state_of (kept_of f)) → KeepsEntries (kept_of f) → IsDomain f
+  whole_of parts lone kept well entries = record {
     publisher_ids = parts.publisher_ids;
     subscriber_ids = parts.subscriber_ids;
     apart = parts.apart;
@@ -62,6 +42,7 @@ module _ {T U : Type 0} (f : Fields T U) where
     expired_room = parts.expired_room;
     books = parts.books;
     names = parts.names;
+    kept_books = kept;
     counted = parts.counted;
     numbered = parts.numbered;
     lone = lone;
@@ -71,7 +52,62 @@ module _ {T U : Type 0} (f : Fields T U) where
     supported = parts.supported;
     plain = parts.plain;
     plain_subscribers = parts.plain_subscribers;
-    open_ports = parts.open_ports;
     well_formed = well;
     entries = entries;
+  }
+
+  -- and they are so but for one book where the others are
+  pub but-of : (key : ℕ) → HasParts f → HasLoneLoans f.books → ((k : ℕ) (b : Book) → k ≢ key → get f.books k ≡ Some b → IsOwned f.publishers k b.publisher ⊎ IsLeft f.next_port f.publishers b)
+      → ((b : Book) → get f.books key ≡ Some b → IsGone f.next_port f.publishers b.publisher) → IsWellFormed (state_of (kept_of f)) → KeepsEntries (kept_of f) → IsSoundBut key f
+  but-of key parts lone kept left well entries = record {
+    publisher_ids = parts.publisher_ids;
+    subscriber_ids = parts.subscriber_ids;
+    apart = parts.apart;
+    linked = parts.linked;
+    expired_room = parts.expired_room;
+    books = parts.books;
+    names = parts.names;
+    counted = parts.counted;
+    numbered = parts.numbered;
+    publisher_room = parts.publisher_room;
+    warning_room = parts.warning_room;
+    shapes = parts.shapes;
+    supported = parts.supported;
+    plain = parts.plain;
+    plain_subscribers = parts.plain_subscribers;
+    lone = lone;
+    kept_books = kept;
+    left_book = left;
+    well_formed = well;
+    entries = entries;
+  }
+
+  pub parts_but : (key : ℕ) → IsSoundBut key f → HasParts f
+  parts_but key sound = record {
+    publisher_ids = sound.publisher_ids;
+    subscriber_ids = sound.subscriber_ids;
+    apart = sound.apart;
+    linked = sound.linked;
+    expired_room = sound.expired_room;
+    books = sound.books;
+    names = sound.names;
+    counted = sound.counted;
+    numbered = sound.numbered;
+    publisher_room = sound.publisher_room;
+    warning_room = sound.warning_room;
+    shapes = sound.shapes;
+    supported = sound.supported;
+    plain = sound.plain;
+    plain_subscribers = sound.plain_subscribers;
+  }
+
+  -- it is a step midway, at which nothing is done yet
+  pub midway-but : (key : ℕ) → IsSoundBut key f → IsMidway f f (state_of (kept_of f)) key
+  midway-but key sound = record {
+    consistent = parts_but key sound;
+    lone = sound.lone;
+    kept_books = record { own = λ b at. inr (sound.left_book b at); others = λ k b away at. sound.kept_books k b away at };
+    state = refl;
+    entries = λ n entry e. e;
+    complete = sound.entries;
   }

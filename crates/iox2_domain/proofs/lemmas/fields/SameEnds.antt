@@ -12,7 +12,7 @@ use Rattle.iox2_ends.specs.Mailboxes.{mailboxes_of, subscriber_of_key, publisher
 use Rattle.iox2_ends.proofs.MailboxChanges.{was}
 use Rattle.iox2_domain.specs.Kept.{state_of, port_named, ids}
 use Rattle.iox2_domain.specs.Fields.{Fields, kept_of, publisher_of, subscriber_of, numbers_of, blocked_send}
-use Rattle.iox2_domain.specs.Invariant.{IsLinked, HasOnlyOpenPorts, SenderHas, ReceiverHas}
+use Rattle.iox2_domain.specs.Invariant.{IsLinked, SenderHas, ReceiverHas}
 use Rattle.iox2_domain.proofs.lemmas.fields.Views.{mailboxes-are}
 use mathlib.Core.Path.{fun_ext}
 
@@ -151,16 +151,3 @@ module _ {T U : Type 0} (f : Fields T U) (new : Slab Link) (same : SameHomes f.c
         → SenderHas f.publishers key d ⊎ ReceiverHas f.subscribers key d
     by key c d fixed (inl has) = inl (sender-same key c d fixed has)
     by key c d fixed (inr has) = inr (receiver-same key c d fixed has)
-
-  -- the ports of each connection still stand
-  pub open_ports-still : HasOnlyOpenPorts f → HasOnlyOpenPorts with_connections
-  open_ports-still open_ports = record {
-    publishers = open_ports.publishers;
-    subscribers = open_ports.subscribers;
-    are_open = open_ports.are_open;
-    senders = λ key d at. let b = was f.connections new key d same at in let has = open_ports.senders key b.0 b.1 in
-        (has.0, ap (λ (t : Home × ℕ × ℕ). get_or f.publishers t.0.publisher_place None) (sym b.2) ∙ has.1, has.2 ∙ ap (λ (t : Home × ℕ × ℕ). t.0.publisher) b.2);
-    receivers = λ key d at. let b = was f.connections new key d same at in let has = open_ports.receivers key b.0 b.1 in
-        (has.0, ap (λ (t : Home × ℕ × ℕ). get_or f.subscribers t.0.subscriber_place None) (sym b.2) ∙ has.1, has.2 ∙ ap (λ (t : Home × ℕ × ℕ). t.0.subscriber) b.2);
-    books = open_ports.books;
-  }

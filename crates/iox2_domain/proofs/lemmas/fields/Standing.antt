@@ -1,16 +1,17 @@
 -- Where ports stand, and to whom their connections lead.
-use Rattle.std.proofs.Common.{◌≡◌, ℕ, zero, suc, List, [], ◌∷◌, map, true, false, Bool, ◌&&◌, get_or, refl, ap, sym, ◌∙◌, ◌⊎◌, inl, inr, subst}
+use Rattle.std.proofs.Common.{◌≡◌, ℕ, zero, suc, List, [], ◌∷◌, map, length, true, false, Bool, ◌&&◌, cond, get_or, refl, ap, sym, ◌∙◌, ◌⊎◌, inl, inr, subst}
 use Rattle.std.proofs.lemmas.Bool.{eq-eqb, eqb-true}
-use Rattle.std.proofs.lemmas.Option.{same_Some}
+use Rattle.std.proofs.lemmas.List.{length-map}
+use Rattle.std.proofs.lemmas.Option.{same_Some, none-some}
 use Rattle.std.specs.Prelude.{Contains, ◌<◌}
 use Rattle.std.proofs.Common.{arith}
 use Rattle.std.proofs.lemmas.List.Elements.{at_from_Contains}
 use Rattle.std.specs.declared.option.Option.{Option}
 use Rattle.std.specs.declared.option.Option.TheVariants.{None, Some}
 use Rattle.std.specs.Option.{option_map, IsSomeAnd}
-use Rattle.slab.specs.Slab.{get}
+use Rattle.slab.specs.Slab.{Slab, get}
 use Rattle.iox2_store.specs.Link.{Link}
-use Rattle.iox2_store.specs.machine.Places.{occupant}
+use Rattle.iox2_store.specs.machine.Places.{occupant, is_port}
 use Rattle.iox2_store.specs.machine.Records.{Publisher, Subscriber}
 use Rattle.iox2_store.specs.machine.WellFormed.{publisher_place, subscriber_place}
 use Rattle.iox2_ends.specs.LookUp.{look_up}
@@ -18,10 +19,13 @@ use Rattle.iox2_ends.specs.Homes.{IsSenders}
 use Rattle.iox2_ends.specs.Finds.{IsReceivers}
 use Rattle.iox2_ends.specs.Mailboxes.{is_between, publisher_of_key, receiver_ends}
 use Rattle.iox2_ends.proofs.LookUps.{look_up-nothing}
+use Rattle.iox2_ends.proofs.Searches.{key-at}
+use Rattle.iox2_laws.proofs.PlaceLemmas.{contains-occupants}
 use Rattle.iox2_domain.specs.Ports.{PublisherFields, SubscriberFields}
 use Rattle.iox2_domain.specs.Kept.{Named, state_of, ids}
 use Rattle.iox2_domain.specs.Fields.{Fields, kept_of, publisher_of, subscriber_of}
-use Rattle.iox2_domain.specs.Invariant.{IsDomain, SenderHas, ReceiverHas}
+use Rattle.iox2_domain.specs.Invariant.{IsDomain, SenderHas, ReceiverHas, details_of}
+use Rattle.iox2_domain.specs.Updates.{key_from}
 use Rattle.iox2_domain.proofs.lemmas.containers.LookUps.{map-at}
 use Rattle.iox2_domain.proofs.lemmas.fields.ConnectionEnds.{publisher-stands, subscriber-stands}
 
@@ -39,10 +43,26 @@ occupant-receiver_ends connections [] (suc i) = refl
 occupant-receiver_ends connections (key ∷ keys) zero = refl
 occupant-receiver_ends connections (key ∷ keys) (suc i) = occupant-receiver_ends connections keys i
 
+-- a key that leads to a connection of the publisher
+pub key-from : (connections : Slab Link) (p key : ℕ) (c : Link) → get connections key ≡ Some c → c.home.publisher ≡ p → key_from connections p (Some key) ≡ Some key
+key-from connections p key c at its =
+    ap (λ o. cond (is_port (option_map (λ (d : Link). d.home.publisher) o) p) (Some key) None) at
+    ∙ ap (λ b. cond b (Some key) None) (eq-eqb c.home.publisher p its)
+
 -- what holds of some value holds of the one that is there
 pub some_is : {A : Type 0} (P : A → Type 0) (o : Option A) → IsSomeAnd o P → (x : A) × (o ≡ Some x) × P x
 some_is P None h = absurd h
 some_is P (Some x) h = (x, refl, h)
+
+-- the machine has as many places
+pub place-within : {T U : Type 0} (f : Fields T U) (j : ℕ) → j < length f.subscribers → j < length (state_of (kept_of f)).subscriber_places
+place-within f j low =
+    omega (
+      arith,
+      low,
+      length-map (map (option_map (subscriber_of f.books f.connections)) f.subscribers) (option_map (λ (n : Named Subscriber). n.id)),
+      length-map f.subscribers (option_map (subscriber_of f.books f.connections)),
+    )
 
 module _ {T U : Type 0} (f : Fields T U) (sound : IsDomain f) where
   -- ---- places
@@ -95,92 +115,87 @@ module _ {T U : Type 0} (f : Fields T U) (sound : IsDomain f) where
     same-subscriber : (k : ℕ) (z : SubscriberFields) → get_or f.subscribers k None ≡ Some z → k ≡ j → z ≡ y
     same-subscriber k z at_z here = let e : Some z ≡ Some y = sym at_z ∙ ap (λ (n : ℕ). get_or f.subscribers n None) here ∙ at_y in cc
 
-    -- the publisher's key at the subscriber's place
-    pub sender-joins : (key : ℕ) → get_or x.keys j None ≡ Some key → (c : Link) × Joins key c
-    sender-joins key at =
-        let own = some_is (IsSenders x.id j) (get f.connections key) ((sound.linked.senders i x at_x).at j key at) in
-        let c = own.0 in
-        let has = sound.open_ports.receivers key c own.1 in
-        let from = sound.open_ports.senders key c own.1 in
-        let is : has.0 ≡ y = same-subscriber c.home.subscriber_place has.0 has.1 own.2.place in (
-          c,
-          record {
-            stands = own.1;
-            publisher = own.2.publisher;
-            subscriber = sym has.2 ∙ ap (λ (z : SubscriberFields). z.id) is;
-            publisher_place = one-publisher c.home.publisher_place i from.0 x from.1 at_x (from.2 ∙ own.2.publisher);
-            subscriber_place = own.2.place;
-          },
-        )
+    -- ---- whoever stood here before
 
-    -- the subscriber's key at the publisher's place
-    pub receiver-joins : (key : ℕ) → get_or y.keys i None ≡ Some key → (c : Link) × Joins key c
-    receiver-joins key at =
-        let own = some_is (IsReceivers y.id (f.config).subscriber_max_borrowed_samples) (get f.connections key) ((sound.linked.receivers j y at_y).at i key at) in
-        let c = own.0 in
-        let place = sound.linked.receiver_places j i key y c at_y at own.1 in
-        let from = sound.open_ports.senders key c own.1 in
-        let has = sound.open_ports.receivers key c own.1 in
-        let is : from.0 ≡ x = same-publisher c.home.publisher_place from.0 from.1 place in (
-          c,
-          record {
-            stands = own.1;
-            publisher = sym from.2 ∙ ap (λ (z : PublisherFields). z.id) is;
-            subscriber = own.2.subscriber;
-            publisher_place = place;
-            subscriber_place = one-subscriber c.home.subscriber_place j has.0 y has.1 at_y (has.2 ∙ own.2.subscriber);
-          },
-        )
+    -- the publisher's connection, where it leads to this subscriber
+    pub sender-joined : (key : ℕ) (c : Link) → get_or x.keys j None ≡ Some key → get f.connections key ≡ Some c → c.home.subscriber ≡ y.id → Joins key c
+    sender-joined key c has at to =
+        let own = some_is (IsSenders x.id j) (get f.connections key) ((sound.linked.senders i x at_x).at j key has) in
+        let both : Some own.0 ≡ Some c = sym own.1 ∙ at in
+        let is : own.0 ≡ c = cc in
+        let its : IsSenders x.id j c = subst (IsSenders x.id j) is own.2 in
+        record {
+          stands = at;
+          publisher = its.publisher;
+          subscriber = to;
+          publisher_place = sym (sound.linked.knows_publishers key i c x at at_x (sym its.publisher));
+          subscriber_place = its.place;
+        }
 
-    -- where neither has a key there is no connection
-    pub no-connection : get_or x.keys j None ≡ None → get_or y.keys i None ≡ None → look_up (is_between x.id y.id) f.connections.slots ≡ None
-    no-connection none_x none_y = look_up-nothing (is_between x.id y.id) f.connections.slots (λ key c at. by key c at (is_between x.id y.id c) refl) where
-      both : (a b : Bool) → (a && b) ≡ true → (a ≡ true) × (b ≡ true)
-      both true b e = (refl, e)
-      both false b e = absurd cc
+    known-place : (key : ℕ) (c : Link) → get f.connections key ≡ Some c → c.home.subscriber ≡ y.id → c.home.subscriber_place ≡ j
+    known-place key c at to = sym (sound.linked.knows.at key j c (details_of y) at (map-at details_of f.subscribers j ∙ ap (option_map details_of) at_y) (sym to)).0
 
-      clash : {A : Type 0} (o : Option A) (v : A) → o ≡ None → o ≡ Some v → ⊥
-      clash o v none some = let no : None ≡ Some v = sym none ∙ some in cc
+    -- the subscriber's connection, where it comes from this publisher
+    pub receiver-joined : (key : ℕ) (c : Link) → get_or y.keys i None ≡ Some key → get f.connections key ≡ Some c → c.home.publisher ≡ x.id → Joins key c
+    receiver-joined key c has at from =
+        let own = some_is (IsReceivers y.id (f.config).subscriber_max_borrowed_samples) (get f.connections key) ((sound.linked.receivers j y at_y).at i key has) in
+        let both : Some own.0 ≡ Some c = sym own.1 ∙ at in
+        let is : own.0 ≡ c = cc in
+        let its : c.home.subscriber ≡ y.id = sym (ap (λ (d : Link). d.home.subscriber) is) ∙ own.2.subscriber in
+        record {
+          stands = at;
+          publisher = from;
+          subscriber = its;
+          publisher_place = sound.linked.receiver_places j i key y c at_y has at;
+          subscriber_place = known-place key c at its;
+        }
+
+    -- an expired connection isn't a publisher's that is there
+    not-expired : (key : ℕ) (c : Link) → get f.connections key ≡ Some c → c.home.publisher ≡ x.id → Contains y.expired key → ⊥
+    not-expired key c at from among =
+        let there = at_from_Contains y.expired key among in
+        let named : get_or (map Some y.expired) there.0 None ≡ Some key = key-at y.expired there.0 there.1 ∙ ap Some (there.2 0) in
+        let leads : occupant (receiver_ends f.connections (map Some y.expired)) there.0 ≡ Some x.id =
+        occupant-receiver_ends f.connections (map Some y.expired) there.0 ∙ ap (publisher_of_key f.connections) named
+        ∙ ap (option_map (λ (d : Link). d.home.publisher)) at ∙ ap Some from in
+        let gone : (state_of (kept_of f)).publishers x.id ≡ None =
+        (sound.well_formed.subscribers y.id _ (subscriber-stands f sound j y at_y)).expired_gone x.id
+        (contains-occupants (receiver_ends f.connections (map Some y.expired)) x.id (there.0, leads)) in
+        none-some _ (sym gone ∙ publisher-stands f sound i x at_x)
+
+    -- where neither has a key of theirs there is no connection
+    pub not-joined : get_or x.keys j None ≡ None → key_from f.connections x.id (get_or y.keys i None) ≡ None → look_up (is_between x.id y.id) f.connections.slots ≡ None
+    not-joined none_x none_y = look_up-nothing (is_between x.id y.id) f.connections.slots (λ key c at. by key c at (is_between x.id y.id c) refl) where
+      parts_of_and : (a b : Bool) → (a && b) ≡ true → (a ≡ true) × (b ≡ true)
+      parts_of_and true b e = (refl, e)
+      parts_of_and false b e = absurd cc
 
       ends : (key : ℕ) (c : Link) → get f.connections key ≡ Some c → c.home.publisher ≡ x.id → c.home.subscriber ≡ y.id → SenderHas f.publishers key c ⊎ ReceiverHas f.subscribers key c → ⊥
       ends key c at p q (inl has) =
-          let to = sound.open_ports.receivers key c at in
-          let place : c.home.subscriber_place ≡ j = one-subscriber c.home.subscriber_place j to.0 y to.1 at_y (to.2 ∙ q) in
           let here : c.home.publisher_place ≡ i = one-publisher c.home.publisher_place i has.publisher x has.stands at_x (has.is_its ∙ p) in
           let is : has.publisher ≡ x = same-publisher c.home.publisher_place has.publisher has.stands here in
-          clash (get_or x.keys j None) key none_x
-          (ap (λ (z : PublisherFields). get_or z.keys j None) (sym is) ∙ ap (λ (n : ℕ). get_or has.publisher.keys n None) (sym place) ∙ has.has)
+          none-some key
+          (sym none_x ∙ ap (λ (z : PublisherFields). get_or z.keys j None) (sym is) ∙ ap (λ (n : ℕ). get_or has.publisher.keys n None) (sym (known-place key c at q)) ∙ has.has)
       ends key c at p q (inr has) =
-          let from = sound.open_ports.senders key c at in
-          let place : c.home.publisher_place ≡ i = one-publisher c.home.publisher_place i from.0 x from.1 at_x (from.2 ∙ p) in
-          let here : c.home.subscriber_place ≡ j = one-subscriber c.home.subscriber_place j has.subscriber y has.stands at_y (has.is_its ∙ q) in
-          let is : has.subscriber ≡ y = same-subscriber c.home.subscriber_place has.subscriber has.stands here in
+          let place : c.home.publisher_place ≡ i = sym (sound.linked.knows_publishers key i c x at at_x (sym p)) in
+          let is : has.subscriber ≡ y = same-subscriber c.home.subscriber_place has.subscriber has.stands (known-place key c at q) in
           kept has.has is place
         where
           kept : (get_or has.subscriber.keys c.home.publisher_place None ≡ Some key) ⊎ Contains has.subscriber.expired key → has.subscriber ≡ y → c.home.publisher_place ≡ i → ⊥
-          kept (inl here) is place =
-              clash (get_or y.keys i None) key none_y
-              (ap (λ (z : SubscriberFields). get_or z.keys i None) (sym is) ∙ ap (λ (n : ℕ). get_or has.subscriber.keys n None) (sym place) ∙ here)
-          kept (inr among) is place =
-              let none : has.subscriber.expired ≡ [] = (sound.open_ports.are_open c.home.subscriber_place has.subscriber has.stands).1 in
-              nobody (subst (λ (keys : List ℕ). Contains keys key) none among)
-            where
-              nobody : Contains [] key → ⊥
-              nobody h = let there = at_from_Contains [] key h in let low : there.0 < 0 = there.1 in absurd (omega arith)
+          kept (inl there) is place =
+              let named : get_or y.keys i None ≡ Some key =
+              ap (λ (z : SubscriberFields). get_or z.keys i None) (sym is) ∙ ap (λ (n : ℕ). get_or has.subscriber.keys n None) (sym place) ∙ there in
+              none-some key (sym none_y ∙ ap (key_from f.connections x.id) named ∙ key-from f.connections x.id key c at p)
+          kept (inr among) is place = not-expired key c at p (subst (λ (z : SubscriberFields). Contains z.expired key) is among)
 
       by : (key : ℕ) (c : Link) → get f.connections key ≡ Some c → (b : Bool) → is_between x.id y.id c ≡ b → b ≡ false
       by key c at true e =
-          let parts = both _ _ e in
+          let parts = parts_of_and _ _ e in
           absurd (ends key c at (eqb-true c.home.publisher x.id parts.0) (eqb-true c.home.subscriber y.id parts.1) (sound.linked.ends key c at))
       by key c at false e = refl
 
-    -- the ports of a connection that one of them has have room for its key
-    pub sender-room : (key : ℕ) → get_or y.keys i None ≡ Some key → j < x.key_room
-    sender-room key at =
-        let joined = receiver-joins key at in
-        subst (λ (n : ℕ). n < x.key_room) joined.1.subscriber_place (sound.linked.sender_rooms key i joined.0 x joined.1.stands at_x (sym joined.1.publisher))
-
-    pub receiver-room : (key : ℕ) → get_or x.keys j None ≡ Some key → i < y.key_room
-    receiver-room key at =
-        let joined = sender-joins key at in
-        subst (λ (n : ℕ). n < y.key_room) joined.1.publisher_place (sound.linked.receiver_rooms key j joined.0 y joined.1.stands at_y (sym joined.1.subscriber))
+    -- there is room for the key of a connection that the subscriber has
+    pub joined-room : (key : ℕ) (c : Link) → get_or y.keys i None ≡ Some key → get f.connections key ≡ Some c → c.home.publisher ≡ x.id → j < x.key_room
+    joined-room key c has at from =
+        let joined = receiver-joined key c has at from in
+        subst (λ (n : ℕ). n < x.key_room) joined.subscriber_place (sound.linked.sender_rooms key i c x at at_x (sym from))

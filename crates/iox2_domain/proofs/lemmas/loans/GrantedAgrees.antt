@@ -25,14 +25,17 @@ use Rattle.iox2_domain.specs.Ports.{PublisherFields}
 use Rattle.iox2_domain.specs.Kept.{KeptMessage, Lent_message, state_of}
 use Rattle.iox2_store.specs.machine.Environments.{ample_memory}
 use Rattle.iox2_domain.specs.Fields.{Fields, kept_of, publisher_of, numbers_of, is_book_of}
-use Rattle.iox2_domain.specs.Invariant.{IsDomain, IsLinked, IsBook, HasBook, HasBooks, IsCounted, HasShape, HasShapes, HasOnlyOpenPorts, is_publisher, own_holders, holders_of, is_loan_in}
+use Rattle.iox2_domain.specs.Invariant.{IsDomain, IsOwned, IsLinked, IsBook, HasBook, HasBooks, IsCounted, HasShape, HasShapes, is_publisher, own_holders, holders_of, is_loan_in}
 use Rattle.iox2_domain.specs.Reaches.{Reaches}
 use Rattle.iox2_domain.specs.Shows.{KeepsEntries}
 use Rattle.iox2_domain.proofs.lemmas.fields.NamedBooks.{names-books}
+use Rattle.iox2_domain.proofs.lemmas.fields.Parts.{parts_of}
+use Rattle.iox2_domain.proofs.lemmas.slots.PublisherBooks.{book-owned}
+use Rattle.iox2_domain.proofs.lemmas.fields.KeptBooks.{kept-own}
 use Rattle.iox2_domain.proofs.lemmas.fields.ConnectionEnds.{publisher-stands}
 use Rattle.iox2_domain.proofs.lemmas.slots.SlotsInUse.{its_book, slot-counted, size-free}
 use Rattle.iox2_domain.proofs.lemmas.slots.Messages.{lies_at, message_at-book, message_at-slot}
-use Rattle.iox2_domain.proofs.lemmas.loans.PublisherChanges.{KeepsSettings, changed-ids_apart, look_up-publisher, changed-linked_same, changed-books, changed-room, changed-plain, changed-open_ports, changed-entries}
+use Rattle.iox2_domain.proofs.lemmas.loans.PublisherChanges.{KeepsSettings, changed-ids_apart, look_up-publisher, changed-linked_same, changed-books, changed-room, changed-plain, changed-kept_books, changed-entries}
 use Rattle.iox2_domain.proofs.lemmas.loans.Taken.{taken-after, CanTakeSlot, with_taken, taken_book, taken_books, begun, begun_contents, lent, next_header, taken-stands, others-stand, begun-has, others-have, taken-one_each, taken-found, taken-holders, taken-numbered, taken-entries, lent-lies, others-lie, length-with_changed, room-with_changed, taken-lone}
 use Rattle.iox2_domain.proofs.lemmas.loans.Granted.{lender, with_granted, granted-is, taken-is, lends-granted}
 use Rattle.iox2_domain.proofs.lemmas.fields.Views.{held-before}
@@ -267,6 +270,8 @@ module _ {T U : Type 0} (f : Fields T U) (sound : IsDomain f) (i : ℕ) (x : Pub
       expired_room = sound.expired_room;
       books = changed-books mid i x new_lender at refl taken-books keeps;
       names = names-books f.books _ f.connections (taken-after f sound x slot can user_header) sound.names;
+      kept_books = changed-kept_books mid i x new_lender at refl (taken_books f sound x slot can user_header) refl
+          (kept-own f.next_port f.publishers f.books x.book can.book new_book can.stands refl (subst (IsOwned f.publishers x.book) (sym can.its) (book-owned f (parts_of f sound) i x at)) sound.kept_books);
       counted = granted-counted;
       numbered = taken-numbered f sound x slot can user_header;
       lone = taken-lone f sound x slot can user_header;
@@ -276,7 +281,6 @@ module _ {T U : Type 0} (f : Fields T U) (sound : IsDomain f) (i : ℕ) (x : Pub
       supported = sound.supported;
       plain = changed-plain mid i x new_lender at refl sound.plain keeps;
       plain_subscribers = sound.plain_subscribers;
-      open_ports = changed-open_ports mid i x new_lender at refl open_ports refl;
       well_formed = rw (granted-is f sound i x at slot can user_header) granted-well_formed;
       entries = changed-entries mid i x new_lender at refl sound.publisher_ids taken-keeps_entries refl refl;
     } where
@@ -293,22 +297,6 @@ module _ {T U : Type 0} (f : Fields T U) (sound : IsDomain f) (i : ℕ) (x : Pub
         receiver_rooms = sound.linked.receiver_rooms;
         limits = sound.linked.limits;
         returned = sound.linked.returned;
-      }
-
-      open_ports : HasOnlyOpenPorts mid
-      open_ports = record {
-        publishers = sound.open_ports.publishers;
-        subscribers = sound.open_ports.subscribers;
-        are_open = sound.open_ports.are_open;
-        senders = sound.open_ports.senders;
-        receivers = sound.open_ports.receivers;
-        books = λ key b there. elim (cases_eq key x.book) [
-          | inr away ↦ sound.open_ports.books key b (sym (others-stand f sound x slot can user_header key away) ∙ there)
-          | inl here ↦
-              let found : Some new_book ≡ Some b = sym (taken-stands f sound x slot can user_header) ∙ sym (ap (get (taken_books f sound x slot can user_header)) here) ∙ there in
-              let is : new_book ≡ b = cc in
-              (i, x, at, sym can.its ∙ ap (λ (z : Book). z.publisher) is, sym here)
-        ];
       }
 
     -- the loan's step

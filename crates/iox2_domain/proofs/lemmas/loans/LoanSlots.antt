@@ -1,6 +1,6 @@
 -- Where the loans of a publisher lie.
-use Rattle.std.proofs.Common.{◌≡◌, ℕ, zero, suc, ◌+◌, ◌<◌, List, [], ◌∷◌, length, map, true, false, cond, get_or, refl, ap, sym, subst, ◌∙◌, arith, inl, inr}
-use Rattle.std.proofs.lemmas.Bool.{eq-eqb}
+use Rattle.std.proofs.Common.{◌≡◌, ℕ, zero, suc, ◌+◌, ◌<◌, List, [], ◌∷◌, length, map, Bool, MatchOption, not, eqb, true, false, cond, get_or, refl, ap, sym, subst, ◌∙◌, arith, inl, inr}
+use Rattle.std.proofs.lemmas.Bool.{eq-eqb, eqb-true, true≢false}
 use Rattle.std.specs.Prelude.{slice_get, slice_index, is_some}
 use Rattle.std.proofs.lemmas.List.{get_or_default}
 use Rattle.std.specs.declared.option.Option.{Option}
@@ -19,12 +19,14 @@ use Rattle.iox2_ends.specs.LookUp.{look_up}
 use Rattle.iox2_ends.specs.Counters.{times, stands}
 use Rattle.iox2_ends.proofs.Counts.{one_if, one_if_same, times-cons}
 use Rattle.iox2_laws.proofs.NumberLemmas.{contains_in_cons}
-use Rattle.iox2_ends.proofs.LookUps.{look_up-found, look_up-none}
+use Rattle.iox2_ends.proofs.LookUps.{look_up-found}
+use Rattle.iox2_ends.proofs.MailboxChanges.{within_if_some}
+use Rattle.iox2_domain.specs.declared.message_slots.MessageSlot.{MessageSlot}
 use Rattle.iox2_domain.specs.Ports.{PublisherFields}
 use Rattle.iox2_domain.specs.Kept.{KeptMessage, Lent_message, Sent_message, state_of}
 use Rattle.iox2_domain.specs.Fields.{Fields, kept_of, publisher_of, numbers_of, is_book_of, message_of, message_in, contents_at}
 use Rattle.iox2_domain.specs.Invariant.{IsDomain, is_publisher, is_lent, holders_of, own_holders, is_loan_in}
-use Rattle.iox2_domain.specs.LoanSlots.{IsLoanSlot, IsInNoSlot, LiesInSlot}
+use Rattle.iox2_domain.specs.LoanSlots.{IsLoanSlot, IsInNoSlot, HasNoLoan, LendsAt, LiesInSlot}
 use Rattle.iox2_domain.proofs.lemmas.fields.ConnectionEnds.{publisher-stands}
 use Rattle.iox2_domain.proofs.lemmas.slots.Messages.{LiesIn, message_in-parts, held-message, message_at-book, message_at-slot, in_use_within, loan-there, loan-found}
 
@@ -121,14 +123,11 @@ module _ {T U : Type 0} (f : Fields T U) (sound : IsDomain f) where
       let parts = loan-lent book.0 (contents_at f.contents there.0) there.1 n live.0 (message_in-parts book.0 (contents_at f.contents there.0) there.1 (Lent_message n live.0) book.2) in
       (there.0, there.1, book.0, book.1, parts.1 ∙ live.2, parts.0)
 
-  -- a publisher that is gone has no loan out
-  pub no-publisher-no-loan : (p n : ℕ) → look_up (is_publisher p) f.publishers ≡ None → HoldsLoan (state_of (kept_of f)) p n → ⊥
-  no-publisher-no-loan p n none live =
+  -- a loan that is out lies in the book of its publisher, whether that stands or is gone
+  pub lent-nowhere : (p n : ℕ) → ((key : ℕ) → key < length f.books.slots → LendsAt f key p n → ⊥) → HoldsLoan (state_of (kept_of f)) p n → ⊥
+  lent-nowhere p n none live =
       let lies = loan-lies p n live in
-      let has = sound.open_ports.books lies.0 lies.2 lies.3 in
-      let no : is_publisher p has.1 ≡ false = look_up-none (is_publisher p) f.publishers none has.0 has.1 has.2 in
-      let yes : is_publisher p has.1 ≡ true = eq-eqb (has.1).id p (has.3 ∙ lies.4) in
-      cc
+      none lies.0 (within_if_some f.books.slots lies.0 lies.2 lies.3) (record { book = lies.2; stands = lies.3; is_its = lies.4; slot = lies.1; loan_slot = lies.5 })
 
   -- a loan that is out lies in a slot among its publisher's loans
   pub no-slot-no-loan : (i : ℕ) (x : PublisherFields) (b : Book) (n : ℕ) → get_or f.publishers i None ≡ Some x → get f.books x.book ≡ Some b → IsInNoSlot b x.loans n
@@ -148,38 +147,62 @@ module _ {T U : Type 0} (f : Fields T U) (sound : IsDomain f) where
       let book : lies.2 ≡ b = cc in
       none there.0 there.1 (subst (λ (k : ℕ). IsLoanSlot b k n) same.1 (subst (λ (c : Book). IsLoanSlot c lies.1 n) book lies.5))
 
-  -- a slot of a publisher in which a loan lies
-  pub lies-in-slot : (i : ℕ) (x : PublisherFields) (b : Book) (slot n : ℕ) → get_or f.publishers i None ≡ Some x → get f.books x.book ≡ Some b → IsLoanSlot b slot n
-      → LiesInSlot f x.id n x.book slot
-  lies-in-slot i x b slot n at here is =
-      let found = held-message f.contents f.books x.book slot n (λ c at_c. sound.books.books x.book c at_c)
+  -- a slot of a book in which a loan lies
+  pub lies-in-book : (key slot n : ℕ) (b : Book) → get f.books key ≡ Some b → IsLoanSlot b slot n → LiesInSlot f b.publisher n key slot
+  lies-in-book key slot n b here is =
+      let found = held-message f.contents f.books key slot n (λ c at_c. sound.books.books key c at_c)
       (record { book = b; stands = here; in_use = is.in_use; number = is.numbered }) in
-      let lies : message_in b (contents_at f.contents x.book) slot ≡ Some found.0 = sym (message_at-slot f.contents f.books x.book slot b here) ∙ found.1 in
-      let loan = lent-loan b (contents_at f.contents x.book) slot n found.0 (message_in-parts b (contents_at f.contents x.book) slot found.0 lies) is in
+      let lies : message_in b (contents_at f.contents key) slot ≡ Some found.0 = sym (message_at-slot f.contents f.books key slot b here) ∙ found.1 in
+      let loan = lent-loan b (contents_at f.contents key) slot n found.0 (message_in-parts b (contents_at f.contents key) slot found.0 lies) is in
       record {
         book = b;
         stands = here;
-        is_its = book-its i x b at here;
+        is_its = refl;
         loan_slot = is;
         loan = loan.0;
         lies = lies ∙ ap Some loan.1;
-        is_out = loan-found f sound.numbered x.book slot n loan.0 (found.1 ∙ ap Some loan.1);
+        is_out = loan-found f sound.numbered key slot n loan.0 (found.1 ∙ ap Some loan.1);
       }
+
+  -- a slot of a publisher that stands, in which a loan lies
+  pub lies-in-slot : (i : ℕ) (x : PublisherFields) (b : Book) (slot n : ℕ) → get_or f.publishers i None ≡ Some x → get f.books x.book ≡ Some b → IsLoanSlot b slot n
+      → LiesInSlot f x.id n x.book slot
+  lies-in-slot i x b slot n at here is = subst (λ (q : ℕ). LiesInSlot f q n x.book slot) (book-its i x b at here) (lies-in-book x.book slot n b here is)
 
   -- a live loan lies in any slot in use that has its number
   pub live-lies : (p n : ℕ) → HoldsLoan (state_of (kept_of f)) p n → (key slot : ℕ) (b : Book) → get f.books key ≡ Some b → IsUsedFor b n slot → LiesInSlot f p n key slot
   live-lies p n live key slot b at used =
       let lies = loan-lies p n live in
-      let standing = sound.open_ports.books lies.0 lies.2 lies.3 in
-      let x = standing.1 in
       let same = sound.numbered.one lies.0 key lies.1 slot n
       (record { book = lies.2; stands = lies.3; in_use = lies.5.in_use; number = lies.5.numbered })
       (record { book = b; stands = at; in_use = used.in_use; number = used.number_is }) in
-      let there : get f.books x.book ≡ Some lies.2 = ap (get f.books) standing.4 ∙ lies.3 in
-      let here : LiesInSlot f x.id n x.book lies.1 = lies-in-slot standing.0 x lies.2 lies.1 n standing.2 there lies.5 in
       subst (λ (s : ℕ). LiesInSlot f p n key s) same.1
-      (subst (λ (k : ℕ). LiesInSlot f p n k lies.1) (standing.4 ∙ same.0)
-      (subst (λ (q : ℕ). LiesInSlot f q n x.book lies.1) (standing.3 ∙ lies.4) here))
+      (subst (λ (k : ℕ). LiesInSlot f p n k lies.1) same.0
+      (subst (λ (q : ℕ). LiesInSlot f q n lies.0 lies.1) lies.4 (lies-in-book lies.0 lies.1 n lies.2 lies.3 lies.5)))
+
+-- what doesn't differ is the same
+pub equal-unless : (a b : ℕ) (differ : Bool) → differ ≡ not (eqb a b) → differ ≡ false → a ≡ b
+equal-unless a b differ is none = by (eqb a b) refl (sym is ∙ none) where
+  by : (same : Bool) → eqb a b ≡ same → not same ≡ false → a ≡ b
+  by true e h = eqb-true a b e
+  by false e h = absurd cc
+
+-- where nothing was found in a book, the loan doesn't lie there
+pub not-lent-there : {T U : Type 0} (f : Fields T U) (key p n : ℕ) (o : Option MessageSlot) → MatchOption o (LendsAt f key p n → ⊥) (λ at. LiesInSlot f p n at.book at.slot)
+    → (r : Bool) → r ≡ is_some o → r ≡ false → LendsAt f key p n → ⊥
+not-lent-there f key p n None none r is missed = none
+not-lent-there f key p n (Some at) lies r is missed = absurd (true≢false (sym is ∙ missed))
+
+-- nor does it lie in a book that is another's, or has no loan with its number
+pub none-lent-there : {T U : Type 0} (f : Fields T U) (key p n : ℕ) (b : Book) → get f.books key ≡ Some b → (b.publisher ≡ p → HasNoLoan b n) → LendsAt f key p n → ⊥
+none-lent-there f key p n b at none lends =
+    let both : Some b ≡ Some lends.book = sym at ∙ lends.stands in
+    let is : b ≡ lends.book = cc in
+    none (ap (λ (c : Book). c.publisher) is ∙ lends.is_its) lends.slot (subst (λ (c : Book). IsLoanSlot c lends.slot n) (sym is) lends.loan_slot)
+
+-- nor where no book is
+pub no-book-lends : {T U : Type 0} (f : Fields T U) (key p n : ℕ) → get f.books key ≡ None → LendsAt f key p n → ⊥
+no-book-lends f key p n none lends = let no : None ≡ Some lends.book = sym none ∙ lends.stands in absurd cc
 
 -- ---- what a search reads
 

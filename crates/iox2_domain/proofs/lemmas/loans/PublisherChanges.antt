@@ -4,7 +4,7 @@ use Rattle.std.proofs.lemmas.Bool.{cases_eq, eqb-true}
 use Rattle.std.specs.declared.option.Option.{Option}
 use Rattle.std.specs.declared.option.Option.TheVariants.{None, Some}
 use Rattle.std.specs.Option.{option_map, option_map_or}
-use Rattle.slab.specs.Slab.{get}
+use Rattle.slab.specs.Slab.{Slab, get}
 use Rattle.circular_buffer.specs.Buffer.{Buffer}
 use Rattle.iox2_store.specs.Link.{Link}
 use Rattle.iox2_store.specs.SlotBook.{Book}
@@ -13,15 +13,16 @@ use Rattle.iox2_store.specs.machine.Records.{Publisher}
 use Rattle.iox2_ends.specs.LookUp.{look_up, IsOnly}
 use Rattle.iox2_ends.specs.Counters.{times}
 use Rattle.iox2_ends.specs.Homes.{IsSenderLinked}
-use Rattle.std.proofs.lemmas.List.{get_or-set_same, get_or-set_other, length-set}
+use Rattle.std.proofs.lemmas.List.{get_or-set_same, get_or-set_other}
 use Rattle.iox2_ends.proofs.MailboxChanges.{within_if_some}
 use Rattle.iox2_ends.proofs.LookUps.{look_up-changed, look_up-found}
 use Rattle.iox2_domain.specs.Ports.{PublisherFields}
 use Rattle.iox2_domain.specs.Kept.{Named, state_of, port_named, ids, is_named}
 use Rattle.iox2_domain.specs.Fields.{Fields, kept_of, publisher_of, is_book_of, numbers_of}
-use Rattle.iox2_domain.specs.Invariant.{IsLinked, HasOnlyOpenPorts, HasBook, HasBooks, HasPublisherRoom, IsPlain, SenderHas, ReceiverHas, is_publisher, own_holders, is_loan_in}
+use Rattle.iox2_domain.specs.Invariant.{IsLinked, HasBook, HasBooks, KeepsBooks, HasPublisherRoom, IsPlain, SenderHas, ReceiverHas, is_publisher, own_holders, is_loan_in}
 use Rattle.iox2_domain.specs.Shows.{KeepsEntries}
 use Rattle.iox2_domain.proofs.lemmas.containers.LookUps.{look_up-map}
+use Rattle.iox2_domain.proofs.lemmas.fields.KeptBooks.{StayWithBooks, StoodOrEnters, kept-publishers}
 use Rattle.iox2_domain.proofs.lemmas.fields.Views.{KeepsHeld, held-before}
 use mathlib.Core.Path.{fun_ext}
 
@@ -271,28 +272,19 @@ module _ {T U : Type 0} (f : Fields T U) (i : ℕ) (x y : PublisherFields) (at :
     | inr away ↦ plain k z away.1
   ]
 
-  -- nobody is closed by it
-  pub changed-open_ports : HasOnlyOpenPorts f → y.book ≡ x.book → HasOnlyOpenPorts (with_publisher f i y)
-  changed-open_ports open_ports book = record {
-    publishers = λ k lt.
-        let old = open_ports.publishers k (subst (λ (n : ℕ). k < n) (length-set f.publishers i (Some y)) lt) in
-        let now = changed-stands k old.0 old.1 in
-        (now.0, now.1);
-    subscribers = open_ports.subscribers;
-    are_open = open_ports.are_open;
-    senders = λ key c at_c.
-        let old = open_ports.senders key c at_c in
-        let now = changed-stands c.home.publisher_place old.0 old.1 in
-        (now.0, now.1, now.2 ∙ old.2);
-    receivers = open_ports.receivers;
-    books = λ key b at_b. moved key b (open_ports.books key b at_b);
-  } where
-    moved : (key : ℕ) (b : Book) → (k : ℕ) × (z : PublisherFields) × (get_or f.publishers k None ≡ Some z) × (z.id ≡ b.publisher) × (z.book ≡ key)
-        → (k : ℕ) × (z : PublisherFields) × (get_or (slice_set f.publishers i (Some y)) k None ≡ Some z) × (z.id ≡ b.publisher) × (z.book ≡ key)
-    moved key b old = elim (changed-still old.0 old.1 old.2) [
-      | inl is ↦
-          (i, y, changed-here, id ∙ sym (ap (λ (w : PublisherFields). w.id) is.1) ∙ old.3, book ∙ sym (ap (λ (w : PublisherFields). w.book) is.1) ∙ old.4)
-      | inr away ↦ (old.0, old.1, away.1, old.3, old.4)
+  -- each book is somebody's still, or left
+  pub changed-kept_books : (books : Slab Book) → y.book ≡ x.book → KeepsBooks f.next_port f.publishers books → KeepsBooks f.next_port (slice_set f.publishers i (Some y)) books
+  changed-kept_books books book = kept-publishers f.next_port f.next_port f.publishers (slice_set f.publishers i (Some y)) (omega arith) stay stood books where
+    stay : StayWithBooks f.publishers (slice_set f.publishers i (Some y))
+    stay k z there = elim (changed-still k z there) [
+      | inl is ↦ (y, rw is.0 changed-here, id ∙ sym (ap (λ (w : PublisherFields). w.id) is.1), book ∙ sym (ap (λ (w : PublisherFields). w.book) is.1))
+      | inr away ↦ (z, away.1, refl, refl)
+    ]
+
+    stood : StoodOrEnters f.next_port f.publishers (slice_set f.publishers i (Some y))
+    stood k z here = elim (changed-was k z here) [
+      | inl is ↦ inl (x, rw is.0 at, ap (λ (w : PublisherFields). w.id) is.1 ∙ id)
+      | inr away ↦ inl (z, away.1, refl)
     ]
 
   -- what the publisher itself has of the slot, or what is out of one that is gone

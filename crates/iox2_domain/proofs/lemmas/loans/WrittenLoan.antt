@@ -19,12 +19,13 @@ use Rattle.iox2_store.specs.declared.slots.mark.SlotMark.TheVariants.{Unwritten,
 use Rattle.iox2_laws.proofs.LoanLaws.{loan_written_keeps}
 use Rattle.iox2_domain.specs.Kept.{KeptMessage, Lent_message, Sent_message, header_of, state_of, entries_of, loan_in, entry_in, message_numbered}
 use Rattle.iox2_domain.specs.Fields.{Fields, kept_of, message_of, message_in}
-use Rattle.iox2_domain.specs.Invariant.{IsDomain, IsLinked, HasOnlyOpenPorts, HasShape, HasShapes}
+use Rattle.iox2_domain.specs.Invariant.{IsDomain, IsLinked, HasShape, HasShapes}
 use Rattle.iox2_domain.specs.LoanSlots.{LiesInSlot}
 use Rattle.iox2_domain.specs.Reaches.{Reaches}
 use Rattle.iox2_domain.specs.Shows.{KeepsEntries}
+use Rattle.iox2_domain.proofs.lemmas.fields.KeptBooks.{kept-used}
 use Rattle.iox2_domain.proofs.lemmas.fields.NamedBooks.{names-books}
-use Rattle.iox2_domain.proofs.lemmas.slots.BookChanges.{book-after, with_book, open_ports-book}
+use Rattle.iox2_domain.proofs.lemmas.slots.BookChanges.{book-after}
 use Rattle.iox2_domain.proofs.lemmas.slots.Messages.{LiesIn, lies_at, message_in-parts, message_at-slot, message_at-book, message_numbered-found}
 use Rattle.iox2_domain.proofs.lemmas.slots.SlotChanges.{with_slot, marked, marked-keeps, renewed, slot-books, slot-numbered, slot-counted, slot-state, others-lie, slot-lies, others-found, slot-found}
 use Rattle.iox2_domain.proofs.lemmas.fields.Views.{held-before}
@@ -197,7 +198,8 @@ module _ {T U : Type 0} (f : Fields T U) (sound : IsDomain f) (single : (f.confi
         names = names-books f.books _ f.connections
             (book-after f key at.book (marked f sound key slot at.book at.stands cs at_c Written (written_content value)) at.stands
             (marked-keeps f sound key slot at.book at.stands cs at_c Written (written_content value))) sound.names;
-        counted = slot-counted f sound key slot at.book at.stands cs at_c Written (written_content value);
+        kept_books = kept-used f.next_port f.publishers f.books key at.book (marked f sound key slot at.book at.stands cs at_c Written (written_content value)) at.stands refl refl sound.kept_books;
+        counted = slot-counted f sound key slot at.book at.stands cs at_c Written (written_content value) refl (at.loan_slot).lent;
         numbered = slot-numbered f sound key slot at.book at.stands cs at_c Written (written_content value);
         lone = lone-marked f.books key slot n at.book Written at.stands sound.lone at.loan_slot;
         publisher_room = sound.publisher_room;
@@ -206,7 +208,6 @@ module _ {T U : Type 0} (f : Fields T U) (sound : IsDomain f) (single : (f.confi
         supported = sound.supported;
         plain = sound.plain;
         plain_subscribers = sound.plain_subscribers;
-        open_ports = open_ports;
         well_formed = rw write-is (loan_written_keeps state sound.well_formed n at.loan at.is_out value);
         entries = write-keeps_entries;
       } where
@@ -223,20 +224,6 @@ module _ {T U : Type 0} (f : Fields T U) (sound : IsDomain f) (single : (f.confi
           receiver_rooms = sound.linked.receiver_rooms;
           limits = sound.linked.limits;
           returned = sound.linked.returned;
-        }
-
-        opened : HasOnlyOpenPorts (with_book f key (marked f sound key slot at.book at.stands cs at_c Written (written_content value)))
-        opened = open_ports-book f key at.book (marked f sound key slot at.book at.stands cs at_c Written (written_content value)) at.stands
-            (marked-keeps f sound key slot at.book at.stands cs at_c Written (written_content value)) sound.open_ports
-
-        open_ports : HasOnlyOpenPorts with_write
-        open_ports = record {
-          publishers = sound.open_ports.publishers;
-          subscribers = sound.open_ports.subscribers;
-          are_open = sound.open_ports.are_open;
-          senders = sound.open_ports.senders;
-          receivers = sound.open_ports.receivers;
-          books = opened.books;
         }
 
       -- the step

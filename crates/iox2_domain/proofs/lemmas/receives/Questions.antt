@@ -1,5 +1,5 @@
 -- Whether messages wait: an update, and what a search finds after it.
-use Rattle.std.proofs.Common.{◌∙◌, ◌≡◌, ℕ, List, Bool, true, false, IsTrue, MatchOption, get_or, Option, Some, None, sym, subst}
+use Rattle.std.proofs.Common.{◌∙◌, ◌≡◌, ℕ, List, Bool, true, false, IsTrue, MatchOption, get_or, Option, Some, None, Ok, Err, refl, sym, subst}
 use Rattle.std.specs.Prelude.{IsSomeAnd}
 use Rattle.std.specs.Bool.{MatchBool}
 use Rattle.slab.specs.Slab.{get}
@@ -16,8 +16,9 @@ use Rattle.iox2_ends.proofs.Searches.{any-contains}
 use Rattle.iox2_ends.specs.Finds.{is_something, Finds, FindsFor}
 use Rattle.iox2_ends.specs.declared.receiver.Found.{Found}
 use Rattle.iox2_laws.proofs.NumberLemmas.{contains_left, contains_right}
-use Rattle.iox2_domain.specs.Connects.{UpdatesSubscriber}
-use Rattle.iox2_domain.specs.Fields.{Fields, kept_of}
+use Rattle.iox2_domain.specs.ReceiverSteps.{UpdatesReceiver}
+use Rattle.iox2_store.specs.declared.errors.ConnectionFailure.{ConnectionFailure}
+use Rattle.iox2_domain.specs.Fields.{Fields, kept_of, subscriber_of}
 use Rattle.iox2_domain.specs.Invariant.{IsDomain}
 use Rattle.iox2_domain.specs.Kept.{state_of}
 use Rattle.iox2_domain.specs.Ports.{SubscriberFields}
@@ -26,7 +27,7 @@ use Rattle.iox2_domain.specs.Reaches.{Reaches}
 use Rattle.iox2_domain.proofs.lemmas.fields.ConnectionEnds.{subscriber-stands}
 use Rattle.iox2_domain.proofs.lemmas.receives.Received.{receiver, found-for}
 use Rattle.iox2_domain.proofs.lemmas.receives.ReceiptSteps.{HasKeys, finds-now, same-one}
-use Rattle.iox2_domain.proofs.lemmas.receives.Reception.{updated-stands}
+use Rattle.iox2_domain.proofs.lemmas.receives.Reception.{updated, updated-stands, updated-reaches}
 
 -- of a publisher from which something may be received, something waits
 may-receive-waits : (limit : ℕ) (y : Subscriber) (boxes : ℕ → Mailbox) (p : ℕ) → MayReceiveFrom limit y boxes p → has_any_data limit y boxes ≡ true
@@ -65,7 +66,7 @@ module _ {T U : Type 0} where
 
   -- an update and what waits after it are an answer
   answers-after : (environment : Environment) (f mid : Fields T U) (q : ℕ) (after : State T U) → UpdateSubscriber environment (state_of (kept_of f)) q after None → Reaches f mid after
-      → (waits : Bool) → IsWhetherWaiting mid q waits → AnswersAs environment f q waits mid
+      → (waits : Bool) → IsWhetherWaiting mid q waits → AnswersAs environment f q (Ok waits) mid
   answers-after environment f mid q after updates reached waits is = (
     after,
     reached,
@@ -76,11 +77,25 @@ module _ {T U : Type 0} where
   )
 
   -- the same at a subscriber's place
-  pub answers-at : (environment : Environment) (f mid : Fields T U) (place : ℕ) (waits : Bool)
-      → ((y : SubscriberFields) → get_or f.subscribers place None ≡ Some y → UpdatesSubscriber environment f place y mid None)
+  pub answers-at : (environment : Environment) (f mid : Fields T U) (place : ℕ) (failure : Option ConnectionFailure) → failure ≡ None → (waits : Bool)
+      → ((y : SubscriberFields) → get_or f.subscribers place None ≡ Some y → UpdatesReceiver environment f place y mid failure)
       → ((y : SubscriberFields) → get_or mid.subscribers place None ≡ Some y → IsWhetherWaiting mid y.id waits)
-      → (y : SubscriberFields) → get_or f.subscribers place None ≡ Some y → AnswersAs environment f y.id waits mid
-  answers-at environment f mid place waits update answer y at =
-      let u = update y at in
-      answers-after environment f mid y.id u.after u.updates u.reaches waits
-      (answer (record y { keys = u.keys; key_room = u.key_room; expired_room = u.expired_room; is_due = false }) (updated-stands environment f mid place y None u at))
+      → (y : SubscriberFields) → get_or f.subscribers place None ≡ Some y → AnswersAs environment f y.id (Ok waits) mid
+  answers-at environment f mid place failure is waits update answer y at =
+      let u = subst (UpdatesReceiver environment f place y mid) is (update y at) in
+      answers-after environment f mid y.id (state_of (kept_of mid)) u.updates (updated-reaches environment f mid place y None u) waits
+      (answer (updated environment f mid place y None u) (updated-stands environment f mid place y None u at))
+
+  -- an update that fails is the answer
+  pub answers-failed : (environment : Environment) (f mid : Fields T U) (place : ℕ) (failure : Option ConnectionFailure) (e : ConnectionFailure) → failure ≡ Some e
+      → ((y : SubscriberFields) → get_or f.subscribers place None ≡ Some y → UpdatesReceiver environment f place y mid failure)
+      → (y : SubscriberFields) → get_or f.subscribers place None ≡ Some y → AnswersAs environment f y.id (Err e) mid
+  answers-failed environment f mid place failure e is update y at =
+      let u = subst (UpdatesReceiver environment f place y mid) is (update y at) in
+      let z = updated environment f mid place y (Some e) u in
+      let shown : (state_of (kept_of mid)).subscribers y.id ≡ Some ((subscriber_of mid.books mid.connections z).port) =
+      subscriber-stands mid u.changes.agrees place z (updated-stands environment f mid place y (Some e) u at) in (
+        state_of (kept_of mid),
+        updated-reaches environment f mid place y (Some e) u,
+        (has_any_data (f.config).subscriber_max_borrowed_samples ((subscriber_of mid.books mid.connections z).port) (λ p. (state_of (kept_of mid)).mailboxes p y.id), (u.updates, rw shown refl)),
+      )

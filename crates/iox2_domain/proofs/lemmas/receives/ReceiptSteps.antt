@@ -1,5 +1,5 @@
 -- Messages that are taken from connections.
-use Rattle.std.proofs.Common.{◌≡◌, ℕ, ◌<◌, List, length, get_or, Option, Some, None, Result, Ok, Err, IsErrAnd, IsSomeAnd, MatchOption, refl, ap, sym, subst, ◌∙◌}
+use Rattle.std.proofs.Common.{◌≡◌, ℕ, ◌<◌, List, length, map, get_or, Option, Some, None, Result, Ok, Err, IsErrAnd, IsSomeAnd, MatchOption, refl, ap, sym, subst, ◌∙◌}
 use Rattle.std.proofs.lemmas.List.{get_or_read}
 use Rattle.std.specs.Prelude.{is_some}
 use Rattle.slab.specs.Slab.{Slab, get, ContainsKey}
@@ -13,7 +13,7 @@ use Rattle.iox2_store.specs.declared.errors.ReceiveError.TheVariants.{ExceedsMax
 use Rattle.iox2_ends.specs.Finds.{Finds, IsReceivers, IsReceiverLinked, HasConnections}
 use Rattle.iox2_ends.specs.Homes.{SameHomes}
 use Rattle.iox2_ends.specs.Mailboxes.{mailboxes_of}
-use Rattle.iox2_ends.specs.Takes.{KeepsOtherKeys, SameStands, BorrowsSlot, TakesSlot}
+use Rattle.iox2_ends.specs.Takes.{KeepsOtherKeys, KeepsReturned, SameStands, BorrowsSlot, TakesSlot}
 use Rattle.iox2_ends.specs.declared.receiver.Found.{Found}
 use Rattle.iox2_ends.specs.declared.receiver.Taken.{Taken}
 use Rattle.iox2_ends.proofs.Counts.{in_range}
@@ -67,6 +67,7 @@ pub record TakesFrom {T U : Type 0} (old : Fields T U) (key : ℕ) (receipt : Re
   pub takes : BorrowsSlot old.connections key receipt.sample.slot new.connections
   pub homes : SameHomes old.connections new.connections
   pub others : KeepsOtherKeys key old.connections new.connections
+  pub returned : KeepsReturned key old.connections new.connections
   pub stay : SameStands old.connections new.connections
   pub connection_is : receipt.sample.connection ≡ key
   pub book_is : receipt.sample.book ≡ link.home.book
@@ -96,6 +97,7 @@ module _ {T U : Type 0} (f now : Fields T U) (same : f ≡ now) (sound : IsDomai
         takes = subst (λ (h : Fields T U). BorrowsSlot h.connections taken.connection receipt.sample.slot new) same borrows;
         homes = subst (λ (h : Fields T U). SameHomes h.connections new) same takes.homes;
         others = subst (λ (h : Fields T U). KeepsOtherKeys taken.connection h.connections new) same takes.others;
+        returned = subst (λ (h : Fields T U). KeepsReturned taken.connection h.connections new) same takes.returned;
         stay = subst (λ (h : Fields T U). SameStands h.connections new) same takes.stay;
         connection_is = is.connection_is;
         book_is = is.book_is ∙ ap (λ (h : Home). h.book) takes.home_is;
@@ -118,7 +120,7 @@ module _ {T U : Type 0} (f : Fields T U) (sound : IsDomain f) (i : ℕ) (y : Sub
   takes-ready key receipt new finds from =
       let reached : Reaches f new (with_all_mailboxes (state_of (kept_of f)) (mailboxes_of (numbers_of f.books) new.connections)) =
       subst (λ (h : Fields T U). Reaches f h (with_all_mailboxes (state_of (kept_of f)) (mailboxes_of (numbers_of f.books) new.connections))) (sym from.only)
-      (takes-reaches f sound i y at_y key receipt.sample.slot from.link from.stands new.connections finds from.takes from.homes from.others from.stay) in (
+      (takes-reaches f sound i y at_y key receipt.sample.slot from.link from.stands new.connections finds from.takes from.homes from.others from.returned from.stay) in (
         with_all_mailboxes (state_of (kept_of f)) (mailboxes_of (numbers_of f.books) new.connections),
         reached,
         its-result (with_all_mailboxes (state_of (kept_of f)) (mailboxes_of (numbers_of f.books) new.connections)) (Got_sample receipt.publisher receipt.sample.number)
@@ -172,6 +174,11 @@ module _ {T U : Type 0} (f now : Fields T U) (place : ℕ) (z : SubscriberFields
   connected-places =
       subst (HasConnections f.connections) (sym has.places_is)
       (keys-connected (now.config).subscriber_max_borrowed_samples z.id z.keys ((has.sound).linked.receivers place z has.stands))
+
+  pub connected-expired : HasConnections f.connections (map Some expired)
+  connected-expired =
+      subst (λ (keys : List ℕ). HasConnections f.connections (map Some keys)) (sym has.expired_is)
+      (keys-connected (now.config).subscriber_max_borrowed_samples z.id (map Some z.expired) ((has.sound).linked.expired place z has.stands))
 
   pub finds-now : (found : Found) → Finds f.connections expired places found → Finds now.connections z.expired z.keys found
   finds-now found finds =

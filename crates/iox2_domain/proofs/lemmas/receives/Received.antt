@@ -1,20 +1,20 @@
 -- A subscriber receives at its place, after its update.
-use Rattle.std.proofs.Common.{◌≡◌, ℕ, true, get_or, refl, ap, sym, subst, ◌∙◌, Some, None}
+use Rattle.std.proofs.Common.{◌≡◌, ℕ, true, get_or, refl, ap, sym, subst, Some, None}
 use Rattle.std.specs.Prelude.{IsSomeAnd}
 use Rattle.slab.specs.Slab.{Slab, get}
 use Rattle.iox2_store.specs.Link.{Link}
 use Rattle.iox2_store.specs.machine.Numbers.{contains}
-use Rattle.iox2_store.specs.machine.Mailbox.{Mailbox, BorrowsFirst, numbers_in, has_numbers}
+use Rattle.iox2_store.specs.machine.Mailbox.{Mailbox, BorrowsFirst, numbers_in}
 use Rattle.iox2_store.specs.machine.Records.{Subscriber}
 use Rattle.iox2_store.specs.machine.State.{State, with_mailbox}
 use Rattle.iox2_store.specs.machine.Receives.{Got_sample, No_sample, Receive_error, TakeSample, MayReceiveFrom}
 use Rattle.iox2_store.specs.declared.errors.ReceiveError.TheVariants.{ExceedsMaxBorrows}
 use Rattle.iox2_ends.specs.Homes.{SameHomes}
 use Rattle.iox2_ends.specs.Mailboxes.{mailboxes_of, with_box}
-use Rattle.iox2_ends.specs.Takes.{KeepsOtherKeys, SameStands, BorrowsSlot}
+use Rattle.iox2_ends.specs.Takes.{KeepsOtherKeys, KeepsReturned, SameStands, BorrowsSlot}
 use Rattle.iox2_ends.specs.Finds.{Finds, FindsFor}
 use Rattle.iox2_ends.specs.declared.receiver.Found.{Found}
-use Rattle.iox2_laws.proofs.MailboxLemmas.{contains_in_borrowed, has_numbers-borrowed}
+use Rattle.iox2_laws.proofs.MailboxLemmas.{contains_in_borrowed}
 use Rattle.iox2_laws.proofs.ReceiveLaws.{take_sample_keeps}
 use Rattle.iox2_laws.proofs.ReleaseLaws.{at_each_mailbox}
 use Rattle.iox2_domain.specs.Ports.{SubscriberFields}
@@ -23,7 +23,7 @@ use Rattle.iox2_domain.specs.Fields.{Fields, kept_of, numbers_of, subscriber_of}
 use Rattle.iox2_domain.specs.Invariant.{IsDomain}
 use Rattle.iox2_domain.specs.Reaches.{Reaches}
 use Rattle.iox2_domain.proofs.lemmas.fields.ConnectionEnds.{subscriber-stands}
-use Rattle.iox2_domain.proofs.lemmas.receives.Reconnected.{with_all_mailboxes, reconnected-reaches}
+use Rattle.iox2_domain.proofs.lemmas.receives.Reconnected.{with_all_mailboxes, returned-still, reconnected-reaches}
 use Rattle.iox2_domain.proofs.lemmas.fields.SameEnds.{with_connections}
 use Rattle.iox2_domain.proofs.lemmas.fields.Views.{mailboxes-are}
 use mathlib.Core.Path.{fun_ext}
@@ -81,13 +81,11 @@ module _ {T U : Type 0} (f : Fields T U) (sound : IsDomain f) (i : ℕ) (y : Sub
     takes-message = (found-ready.1, borrows.0, borrows.1, borrows.2)
 
     -- the fields with what was taken
-    pub takes-reaches : (same : SameHomes f.connections new) → KeepsOtherKeys key f.connections new → SameStands f.connections new
+    pub takes-reaches : (same : SameHomes f.connections new) → KeepsOtherKeys key f.connections new → KeepsReturned key f.connections new → SameStands f.connections new
         → Reaches f (with_connections f new same) (with_all_mailboxes (state_of (kept_of f)) (mailboxes_of (numbers_of f.books) new))
-    takes-reaches same others stay =
-        reconnected-reaches f sound key c at_c
-        (ap (λ (q : ℕ). has_numbers ((state_of (kept_of f)).mailboxes c.home.publisher q)) found-ready.0
-        ∙ (has_numbers-borrowed number_taken ((state_of (kept_of f)).mailboxes c.home.publisher y.id) borrows.0 borrows.1).0)
-        new same others stay
+    takes-reaches same others keeps stay =
+        reconnected-reaches f sound key c at_c new same others stay
+        (returned-still f key c at_c new same keeps (sound.linked.returned key c at_c))
         (take_sample_keeps (state_of (kept_of f)) sound.well_formed y.id receiver _ (Got_sample c.home.publisher number_taken) (subscriber-stands f sound i y at_y) takes-message)
         (λ p q n. subst (λ (boxes : ℕ → ℕ → Mailbox). contains (numbers_in (boxes p q)) n ≡ true → contains (numbers_in ((state_of (kept_of f)).mailboxes p q)) n ≡ true)
         (sym (ap (λ (s : State T U). s.mailboxes) borrows.2))

@@ -1,5 +1,5 @@
 -- A receive: an update, and what is taken after it.
-use Rattle.std.proofs.Common.{◌≡◌, ℕ, Bool, true, false, cond, [], ◌∷◌, eqb, get_or, refl, ap, subst, ◌∙◌, Option, Some, None, Result, MatchOption}
+use Rattle.std.proofs.Common.{◌≡◌, ℕ, Bool, true, false, cond, [], ◌∷◌, eqb, get_or, refl, ap, subst, ◌∙◌, Option, Some, None, Result, Err, MatchOption}
 use Rattle.std.proofs.lemmas.Bool.{eq-eqb, or_left}
 use Rattle.std.proofs.lemmas.List.{get_or-set_same}
 use Rattle.iox2_store.specs.machine.Mailbox.{Mailbox, is_borrowed}
@@ -13,7 +13,7 @@ use Rattle.iox2_store.specs.declared.errors.ReceiveError.{ReceiveError}
 use Rattle.iox2_store.specs.declared.errors.ReceiveError.TheVariants.{ConnectionFailure as CouldNotConnect}
 use Rattle.iox2_laws.proofs.NumberLemmas.{contains_right}
 use Rattle.iox2_ends.proofs.MailboxChanges.{within_if_some}
-use Rattle.iox2_domain.specs.Connects.{UpdatesSubscriber}
+use Rattle.iox2_domain.specs.ReceiverSteps.{UpdatesReceiver}
 use Rattle.iox2_domain.specs.Ports.{SubscriberFields}
 use Rattle.iox2_domain.specs.Kept.{state_of}
 use Rattle.iox2_domain.specs.Fields.{Fields, kept_of}
@@ -23,12 +23,21 @@ use Rattle.iox2_domain.specs.declared.sample_slots.Receipt.{Receipt}
 use Rattle.iox2_domain.proofs.lemmas.fields.ReachesShows.{reaches-then}
 
 module _ {T U : Type 0} where
-  -- the subscriber still stands at its place after its update
-  pub updated-stands : (environment : Environment) (f mid : Fields T U) (place : ℕ) (y : SubscriberFields) (failure : Option ConnectionFailure) (u : UpdatesSubscriber environment f place y mid failure) → get_or f.subscribers place None ≡ Some y
-      → get_or mid.subscribers place None ≡ Some (record y { keys = u.keys; key_room = u.key_room; expired_room = u.expired_room; is_due = false })
+  -- the subscriber after its update
+  abbrev pub updated : (environment : Environment) (f mid : Fields T U) (place : ℕ) (y : SubscriberFields) (failure : Option ConnectionFailure) → UpdatesReceiver environment f place y mid failure → SubscriberFields
+  updated environment f mid place y failure u =
+      record y { keys = u.changes.keys; key_room = u.changes.key_room; expired = u.changes.expired; expired_room = u.changes.expired_room; is_due = u.side.is_due }
+
+  -- it still stands at its place
+  pub updated-stands : (environment : Environment) (f mid : Fields T U) (place : ℕ) (y : SubscriberFields) (failure : Option ConnectionFailure) (u : UpdatesReceiver environment f place y mid failure) → get_or f.subscribers place None ≡ Some y
+      → get_or mid.subscribers place None ≡ Some (updated environment f mid place y failure u)
   updated-stands environment f mid place y failure u at =
-      ap (λ (h : Fields T U). get_or h.subscribers place None) u.fields
-      ∙ get_or-set_same f.subscribers place (Some (record y { keys = u.keys; key_room = u.key_room; expired_room = u.expired_room; is_due = false })) None (within_if_some f.subscribers place y at)
+      ap (λ (h : Fields T U). get_or h.subscribers place None) u.changes.fields
+      ∙ get_or-set_same f.subscribers place (Some (updated environment f mid place y failure u)) None (within_if_some f.subscribers place y at)
+
+  -- what the update comes to
+  pub updated-reaches : (environment : Environment) (f mid : Fields T U) (place : ℕ) (y : SubscriberFields) (failure : Option ConnectionFailure) → UpdatesReceiver environment f place y mid failure → Reaches f mid (state_of (kept_of mid))
+  updated-reaches environment f mid place y failure u = record { agrees = u.changes.agrees; state = refl; entries = u.changes.entries }
 
   -- an update and what is taken after it are a receive
   pub receives-after : (environment : Environment) (f mid new : Fields T U) (q : ℕ) (after : State T U) → UpdateSubscriber environment (state_of (kept_of f)) q after None → Reaches f mid after
@@ -46,13 +55,26 @@ module _ {T U : Type 0} where
   )
 
   -- the same at a subscriber's place
-  pub receives-at : (environment : Environment) (f mid new : Fields T U) (place : ℕ) (result : Result (Option Receipt) ReceiveError)
-      → ((y : SubscriberFields) → get_or f.subscribers place None ≡ Some y → UpdatesSubscriber environment f place y mid None)
+  pub receives-at : (environment : Environment) (f mid new : Fields T U) (place : ℕ) (failure : Option ConnectionFailure) → failure ≡ None → (result : Result (Option Receipt) ReceiveError)
+      → ((y : SubscriberFields) → get_or f.subscribers place None ≡ Some y → UpdatesReceiver environment f place y mid failure)
       → ((y : SubscriberFields) → get_or mid.subscribers place None ≡ Some y → TakesAs mid y.id result new)
       → (y : SubscriberFields) → get_or f.subscribers place None ≡ Some y → ReceivesAs environment f y.id result new
-  receives-at environment f mid new place result update take y at =
-      let u = update y at in
-      receives-after environment f mid new y.id u.after u.updates u.reaches result (take (record y { keys = u.keys; key_room = u.key_room; expired_room = u.expired_room; is_due = false }) (updated-stands environment f mid place y None u at))
+  receives-at environment f mid new place failure is result update take y at =
+      let u = subst (UpdatesReceiver environment f place y mid) is (update y at) in
+      receives-after environment f mid new y.id (state_of (kept_of mid)) u.updates (updated-reaches environment f mid place y None u) result
+      (take (updated environment f mid place y None u) (updated-stands environment f mid place y None u at))
+
+  -- an update that fails is what the receive comes to
+  pub receives-failed : (environment : Environment) (f mid : Fields T U) (place : ℕ) (failure : Option ConnectionFailure) (e : ConnectionFailure) → failure ≡ Some e
+      → ((y : SubscriberFields) → get_or f.subscribers place None ≡ Some y → UpdatesReceiver environment f place y mid failure)
+      → (y : SubscriberFields) → get_or f.subscribers place None ≡ Some y → ReceivesAs environment f y.id (Err (CouldNotConnect e)) mid
+  receives-failed environment f mid place failure e is update y at =
+      let u = subst (UpdatesReceiver environment f place y mid) is (update y at) in (
+        state_of (kept_of mid),
+        updated-reaches environment f mid place y (Some e) u,
+        (state_of (kept_of mid), Some e, u.updates, (refl, refl)),
+        tt,
+      )
 
   -- a message that was received is borrowed
   pub received-borrowed : (environment : Environment) (s : State T U) (q p n : ℕ) (s' : State T U) → Receive environment s q s' (Got_sample p n) → is_borrowed n (s'.mailboxes p q) ≡ true

@@ -26,21 +26,20 @@ module _ {T U : Type 0} (f : Fields T U) (sound : IsDomain f) (q n : ℕ) (live 
   live-lies =
       let there = live-borrows f sound q n live in
       let borrows = there.2 in
-      let sender = sound.open_ports.senders there.0 borrows.connection borrows.stands in
-      let has = sound.books.publishers (borrows.connection).home.publisher_place sender.0 sender.1 in
-      let its : (has.book).publisher ≡ (borrows.connection).home.publisher = has.is_its ∙ sender.2 in
+      let key : ℕ = (borrows.connection).home.book in
+      let has = sound.names.at there.0 borrows.connection borrows.stands in
       let slot = contains-map_there (numbers_of f.books (borrows.connection).home.publisher) (borrows.connection).borrowed n borrows.is_borrowed in (
-        record { connection = there.0; book = (sender.0).book; slot = slot.0 },
+        record { connection = there.0; book = key; slot = slot.0 },
         record {
           connection = borrows.connection;
           book = has.book;
           has_connection = borrows.stands;
           has_book = has.stands;
           subscriber_is = borrows.subscriber_is;
-          book_is = its;
+          book_is = has.is_its;
           slot_is = record {
             borrowed = contained (borrows.connection).borrowed slot.0 slot.1;
-            number_is = sym (book-numbers f sound there.0 (sender.0).book borrows.connection has.book borrows.stands has.stands its slot.0) ∙ slot.2;
+            number_is = sym (book-numbers f sound there.0 key borrows.connection has.book borrows.stands has.stands has.is_its slot.0) ∙ slot.2;
           };
         },
       )

@@ -22,14 +22,13 @@ use Rattle.iox2_ends.proofs.LookUps.{look_up-found}
 use Rattle.iox2_domain.specs.Ports.{PublisherFields}
 use Rattle.iox2_domain.specs.Kept.{KeptMessage, Lent_message, Sent_message, state_of, entries_of}
 use Rattle.iox2_domain.specs.Fields.{Fields, kept_of, publisher_of, numbers_of, is_book_of, message_in, contents_at, blocked_send}
-use Rattle.iox2_domain.specs.Invariant.{IsCounted, IsNumbered, HasNumber, HasShapes, HasLoneLoans, is_publisher, own_holders, holders_of, is_loan_in}
+use Rattle.iox2_domain.specs.Invariant.{IsCounted, IsNumbered, HasNumber, HasShapes, HasLoneLoans, is_publisher, own_holders, holders_of, is_loan_in, HasParts}
 use Rattle.iox2_domain.proofs.lemmas.fields.NamedBooks.{names-books}
-use Rattle.iox2_domain.proofs.lemmas.fields.Parts.{HasParts}
 use Rattle.iox2_domain.proofs.lemmas.slots.Messages.{message_in-parts, message_in-from, lies_at, message_at-book, message_at-slot, has_number, loan-there, loan-found, entry-there, entry-found}
-use Rattle.iox2_domain.proofs.lemmas.slots.BookChanges.{KeepsSlots, with_book, book-here, book-others, book-was, book-after, holders-here, other-book, numbers-same, book-state, books-changed, linked-book, open_ports-book}
+use Rattle.iox2_domain.proofs.lemmas.slots.BookChanges.{KeepsSlots, with_book, book-here, book-others, book-was, book-after, holders-here, other-book, numbers-same, book-state, books-changed, linked-book}
 use Rattle.iox2_domain.proofs.lemmas.slots.HeldMessages.{own-in_use, held-message-slot}
 use Rattle.iox2_domain.proofs.lemmas.slots.LoneLoans.{lone-counters}
-use Rattle.iox2_domain.proofs.lemmas.loans.PublisherChanges.{KeepsSettings, changed-ids_apart, changed-is, changed-linked_same, changed-books, changed-room, changed-plain, changed-open_ports, changed-own}
+use Rattle.iox2_domain.proofs.lemmas.loans.PublisherChanges.{KeepsSettings, changed-ids_apart, changed-is, changed-linked_same, changed-books, changed-room, changed-plain, changed-own}
 use mathlib.Core.Path.{fun_ext}
 
 module _ {T U : Type 0} (f : Fields T U) (parts : HasParts f) (i : ℕ) (x : PublisherFields) (here : get_or f.publishers i None ≡ Some x)
@@ -252,7 +251,6 @@ module _ {T U : Type 0} (f : Fields T U) (parts : HasParts f) (i : ℕ) (x : Pub
     supported = parts.supported;
     plain = changed-plain f i x shorter here refl parts.plain settings;
     plain_subscribers = parts.plain_subscribers;
-    open_ports = changed-open_ports between i x shorter here refl (open_ports-book f x.book b left_book at keeps parts.open_ports) refl;
   }
     where
       aligned : IsAligned left_book

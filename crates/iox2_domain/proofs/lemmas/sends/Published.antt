@@ -33,24 +33,25 @@ use Rattle.iox2_laws.proofs.SendLaws.{publish_keeps}
 use Rattle.iox2_domain.specs.Ports.{PublisherFields, SubscriberFields}
 use Rattle.iox2_domain.specs.Kept.{Named, Lent_message, Sent_message, state_of, entries_of, is_named, entry_in, KeptMessage}
 use Rattle.iox2_domain.specs.Fields.{Fields, kept_of, publisher_of, subscriber_of, numbers_of, blocked_send}
-use Rattle.iox2_domain.specs.Invariant.{IsDomain, HasNumber, details_of, is_publisher, is_subscriber, holders_of, HasLoneLoans}
+use Rattle.iox2_domain.specs.Invariant.{IsDomain, IsOwned, KeepsBooks, HasNumber, details_of, is_publisher, is_subscriber, holders_of, HasLoneLoans, HasParts}
 use Rattle.iox2_domain.specs.Deliveries.{DeliversTo, SendsSlot, Publishes, with_loan_out, with_remembered, pushed, leaving, with_sent, with_left, with_send_ended}
 use Rattle.iox2_domain.proofs.lemmas.containers.LookUps.{look_up-map}
 use Rattle.iox2_domain.proofs.lemmas.fields.Views.{mailboxes-are, unblocked}
 use Rattle.iox2_domain.proofs.lemmas.fields.ConnectionEnds.{publisher-stands}
 use Rattle.iox2_domain.proofs.lemmas.slots.Messages.{lies_at, in_use_within, has_number, entry-found}
-use Rattle.iox2_domain.proofs.lemmas.fields.Parts.{HasParts, parts_of, whole_of}
+use Rattle.iox2_domain.proofs.lemmas.fields.KeptBooks.{kept-own}
+use Rattle.iox2_domain.proofs.lemmas.fields.Parts.{parts_of, whole_of}
+use Rattle.iox2_domain.proofs.lemmas.loans.PublisherChanges.{changed-kept_books, changed-here}
 use Rattle.iox2_domain.proofs.lemmas.slots.BookChanges.{KeepsSlots, book-here, holders-here}
 use Rattle.iox2_domain.proofs.lemmas.fields.SameEnds.{with_connections, same-subscriber_of_key}
 use Rattle.iox2_domain.proofs.lemmas.slots.HeldMessages.{own-in_use, held-message-slot}
-use Rattle.iox2_domain.proofs.lemmas.slots.PublisherBooks.{book-own}
+use Rattle.iox2_domain.proofs.lemmas.slots.PublisherBooks.{book-own, book-owned}
 use Rattle.iox2_domain.proofs.lemmas.slots.Recounts.{back, forth}
-use Rattle.iox2_domain.proofs.lemmas.slots.RecountedState.{recounted_fields, parts-recounted, same-numbers, recounted-is, recounted-entries, recounted-keeps}
+use Rattle.iox2_domain.proofs.lemmas.slots.RecountedState.{recounted_fields, recounted-kept, parts-recounted, same-numbers, recounted-is, recounted-entries, recounted-keeps}
 use Rattle.iox2_domain.proofs.lemmas.sends.LoanAlone.{loan-is, loan-of, loan-slot, loan-once, loan-number}
 use Rattle.iox2_domain.proofs.lemmas.sends.SendEnded.{ended, lies-sent, others-lie, only-slot, sent-there, others-same, ended-entries, ended-is, ended-parts}
 use Rattle.iox2_domain.proofs.lemmas.sends.Trimmed.{Trims, trims}
 use Rattle.iox2_domain.proofs.lemmas.slots.NumbersInUse.{contains-map}
-use Rattle.iox2_domain.proofs.lemmas.loans.PublisherChanges.{changed-here}
 use Rattle.iox2_domain.proofs.lemmas.slots.LoneLoans.{lone-sent}
 use mathlib.Core.Path.{fun_ext}
 
@@ -89,12 +90,15 @@ module _ {T U : Type 0} (environment : Environment) (f : Fields T U) (sound : Is
   pub own : (d.book).publisher ≡ x.id
   own = book-own f (parts_of f sound) i x here d.book d.stands
 
+  pub owned : IsOwned f.publishers x.book x.id
+  owned = book-owned f (parts_of f sound) i x here
+
   -- the fields after the delivery
   abbrev mid : Fields T U
-  mid = recounted_fields f sound x.id x.book d.book d.stands own d.holders d.connections d.recounts
+  mid = recounted_fields f sound x.id x.book d.book d.stands own owned d.holders d.connections d.recounts
 
   parts : HasParts mid
-  parts = parts-recounted f sound x.id x.book d.book d.stands own d.holders d.connections d.recounts
+  parts = parts-recounted f sound x.id x.book d.book d.stands own owned d.holders d.connections d.recounts
 
   abbrev book : Book
   book = with_counters d.book d.holders
@@ -170,10 +174,10 @@ module _ {T U : Type 0} (environment : Environment) (f : Fields T U) (sound : Is
   stands = publisher-stands f sound i x here
 
   mid-is : state_of (kept_of mid) ≡ record s { mailboxes = boxes }
-  mid-is = recounted-is f sound x.id x.book d.book d.stands own d.holders d.connections d.recounts
+  mid-is = recounted-is f sound x.id x.book d.book d.stands own owned d.holders d.connections d.recounts
 
   numbers-are : numbers_of mid.books ≡ numbers_of f.books
-  numbers-are = same-numbers f sound x.id x.book d.book d.stands own d.holders d.connections d.recounts
+  numbers-are = same-numbers f sound x.id x.book d.book d.stands own owned d.holders d.connections d.recounts
 
   port-is : (publisher_of mid.books mid.connections x).port ≡ port
   port-is = λ t. record port {
@@ -257,6 +261,18 @@ module _ {T U : Type 0} (environment : Environment) (f : Fields T U) (sound : Is
 
   lone-after : HasLoneLoans after.books
   lone-after = trim.lone
+
+  -- each book is somebody's still, or left
+  kept-after : KeepsBooks after.next_port after.publishers after.books
+  kept-after =
+      changed-kept_books mid i x (record (with_loan_out slot x) { history = pushed x.history slot }) here refl after.books refl
+      (kept-own mid.next_port mid.publishers mid.books x.book book (with_left (leaving x.history slot) (with_sent slot book)) book-stands (same-publisher (leaving x.history slot))
+      (subst (IsOwned f.publishers x.book) (sym own) owned)
+      (recounted-kept f sound x.id x.book d.book d.stands own owned d.holders d.connections d.recounts))
+    where
+      same-publisher : (o : Option ℕ) → (with_left o (with_sent slot book)).publisher ≡ book.publisher
+      same-publisher None = refl
+      same-publisher (Some oldest) = refl
 
   -- the publisher after the send
   abbrev sender : Publisher
@@ -392,7 +408,7 @@ module _ {T U : Type 0} (environment : Environment) (f : Fields T U) (sound : Is
         let in_mid : IsHeldMessage (record s { mailboxes = boxes }) q m = held-mid q m away (subst (λ t. IsHeldMessage t q m) after-is is) in
         let old = sound.entries q m (held-before-send q m away in_mid) in
         let kept : entries_of (kept_of mid) m ≡ Some old.0 =
-        recounted-keeps f sound x.id x.book d.book d.stands own d.holders d.connections d.recounts q m old.0 (subst (λ t. IsHeldMessage t q m) (sym mid-is) in_mid) old.1 in (
+        recounted-keeps f sound x.id x.book d.book d.stands own owned d.holders d.connections d.recounts q m old.0 (subst (λ t. IsHeldMessage t q m) (sym mid-is) in_mid) old.1 in (
           old.0,
           trim.keeps q m old.0 is (ap found_entry (others-same mid parts i x here book book-stands own slot n l is_in_use lies-still is_written once m away) ∙ kept),
           old.2,
@@ -405,12 +421,12 @@ module _ {T U : Type 0} (environment : Environment) (f : Fields T U) (sound : Is
   -- the loan is published
   pub sent-publishes : Publishes environment f after x.id n l (Delivered_to count)
   sent-publishes = record {
-    agrees = whole_of after parts-after lone-after well entries-after;
+    agrees = whole_of after parts-after lone-after kept-after well entries-after;
     publishes = publishes;
     loans = ap (λ (t : State T U). t.loans) ended-state;
     entries = λ m entry e. elim (ended-entries mid parts i x here book book-stands own slot n l is_in_use lies-still is_written once m entry (trim.entries m entry e)) [
       | inl new ↦ inl new
-      | inr old ↦ inr (recounted-entries f sound x.id x.book d.book d.stands own d.holders d.connections d.recounts m entry old)
+      | inr old ↦ inr (recounted-entries f sound x.id x.book d.book d.stands own owned d.holders d.connections d.recounts m entry old)
     ];
   }
 

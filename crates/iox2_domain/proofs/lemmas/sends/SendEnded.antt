@@ -21,13 +21,12 @@ use Rattle.iox2_ends.specs.Mailboxes.{sender_ends}
 use Rattle.iox2_domain.specs.Ports.{PublisherFields}
 use Rattle.iox2_domain.specs.Kept.{KeptMessage, Lent_message, Sent_message, state_of, entries_of, is_numbered, message_numbered, loan_in, entry_in}
 use Rattle.iox2_domain.specs.Fields.{Fields, kept_of, publisher_of, numbers_of, is_book_of, message_in, contents_at, blocked_send}
-use Rattle.iox2_domain.specs.Invariant.{IsCounted, IsNumbered, HasNumber, HasShape, HasShapes, is_publisher, own_holders, holders_of, is_loan_in}
+use Rattle.iox2_domain.specs.Invariant.{IsCounted, IsNumbered, HasNumber, HasShape, HasShapes, is_publisher, own_holders, holders_of, is_loan_in, HasParts}
 use Rattle.iox2_domain.specs.Deliveries.{with_remembered, with_sent}
 use Rattle.iox2_domain.proofs.lemmas.fields.NamedBooks.{names-books}
 use Rattle.iox2_domain.proofs.lemmas.slots.Messages.{lies_at, message_at-book, message_at-slot, has_number, loan-there, entry-there, ChangesSlot, message_numbered-others}
-use Rattle.iox2_domain.proofs.lemmas.fields.Parts.{HasParts}
-use Rattle.iox2_domain.proofs.lemmas.slots.BookChanges.{book-after, with_book, book-here, book-others, book-was, holders-here, other-book, numbers-same, book-state, books-changed, linked-book, open_ports-book}
-use Rattle.iox2_domain.proofs.lemmas.loans.PublisherChanges.{KeepsSettings, changed-ids_apart, changed-is, changed-linked_same, changed-books, changed-room, changed-plain, changed-open_ports, changed-own}
+use Rattle.iox2_domain.proofs.lemmas.slots.BookChanges.{book-after, with_book, book-here, book-others, book-was, holders-here, other-book, numbers-same, book-state, books-changed, linked-book}
+use Rattle.iox2_domain.proofs.lemmas.loans.PublisherChanges.{KeepsSettings, changed-ids_apart, changed-is, changed-linked_same, changed-books, changed-room, changed-plain, changed-own}
 use Rattle.iox2_domain.proofs.lemmas.sends.SentSlots.{times-without, map-without, sent-keeps, sent-others, LiesWritten, written-loan, sent-lies, sent-is, values-of}
 use mathlib.Core.Path.{fun_ext}
 
@@ -304,7 +303,6 @@ module _ {T U : Type 0} (f : Fields T U) (parts : HasParts f) (i : ℕ) (x : Pub
     supported = parts.supported;
     plain = changed-plain f i x (with_remembered slot x) here refl parts.plain keeps;
     plain_subscribers = parts.plain_subscribers;
-    open_ports = changed-open_ports between i x (with_remembered slot x) here refl (open_ports-book f x.book b (with_sent slot b) at (sent-keeps b slot) parts.open_ports) refl;
   }
     where
       aligned : IsAligned (with_sent slot b)

@@ -8,7 +8,7 @@ use Rattle.slab.specs.Slab.{get}
 use Rattle.iox2_store.specs.machine.Numbers.{put_at}
 use Rattle.iox2_store.specs.machine.PublisherUpdate.{UpdatePublisher}
 use Rattle.iox2_store.specs.machine.Records.{Loan, Environment}
-use Rattle.iox2_store.specs.machine.Sends.{Publish, Delivered_to}
+use Rattle.iox2_store.specs.machine.Sends.{Publish, Delivered_to, Send_error}
 use Rattle.iox2_store.specs.machine.SingleCalls.{HoldsLoan}
 use Rattle.iox2_store.specs.machine.State.{State}
 use Rattle.iox2_ends.specs.Counters.{times}
@@ -118,6 +118,7 @@ module _ {T U : Type 0} (environment : Environment) (f0 : Fields T U) (sound : I
         | inl new ↦ inl new
         | inr old ↦ inr (u.reaches.entries m entry old)
       ];
+      lost = λ error failed. absurd (let no : Delivered_to count ≡ Send_error error = failed in cc);
     }
       where
         d : SendsSlot environment f1 place sender slot count f2

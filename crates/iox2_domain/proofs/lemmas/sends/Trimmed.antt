@@ -15,9 +15,8 @@ use Rattle.iox2_ends.proofs.MailboxChanges.{put_at-own}
 use Rattle.iox2_domain.specs.Ports.{PublisherFields}
 use Rattle.iox2_domain.specs.Kept.{Lent_message, state_of, entries_of}
 use Rattle.iox2_domain.specs.Fields.{Fields, kept_of, publisher_of, numbers_of}
-use Rattle.iox2_domain.specs.Invariant.{HasNumber, HasLoneLoans}
+use Rattle.iox2_domain.specs.Invariant.{HasNumber, HasLoneLoans, HasParts}
 use Rattle.iox2_domain.specs.Deliveries.{with_left}
-use Rattle.iox2_domain.proofs.lemmas.fields.Parts.{HasParts}
 use Rattle.iox2_domain.proofs.lemmas.slots.Messages.{lies_at}
 use Rattle.iox2_domain.proofs.lemmas.sends.HistoryLeft.{left, left-parts, left-lone, left-is, left-entries, left-keeps, was-number}
 

@@ -16,7 +16,7 @@ use Rattle.iox2_ends.proofs.MailboxChanges.{within_if_some}
 use Rattle.iox2_domain.specs.Ports.{PublisherFields}
 use Rattle.iox2_domain.specs.Kept.{state_of, port_named, ids, stands_between, box_if_any}
 use Rattle.iox2_domain.specs.Fields.{Fields, kept_of, publisher_of, between_of, is_book_of, numbers_of, blocked_send}
-use Rattle.iox2_domain.specs.Invariant.{IsLinked, HasBook, HasBooks, HasOnlyOpenPorts, holders_of}
+use Rattle.iox2_domain.specs.Invariant.{IsLinked, HasBook, HasBooks, holders_of}
 use mathlib.Core.Path.{fun_ext}
 
 -- the fields with this book at the key
@@ -166,20 +166,6 @@ module _ {T U : Type 0} (f : Fields T U) (key : ℕ) (b d : Book) (at : get f.bo
         room = has.room;
       }
     ]
-
-  -- nobody is closed by it
-  pub open_ports-book : HasOnlyOpenPorts f → HasOnlyOpenPorts (with_book f key d)
-  open_ports-book open_ports = record {
-    publishers = open_ports.publishers;
-    subscribers = open_ports.subscribers;
-    are_open = open_ports.are_open;
-    senders = open_ports.senders;
-    receivers = open_ports.receivers;
-    books = λ k e there.
-        let was = book-before k e there in
-        let has = open_ports.books k was.0 was.1 in
-        (has.0, has.1, has.2, has.3 ∙ sym was.2.publisher, has.4);
-  }
 
   -- ports and connections don't see it
   pub linked-book : IsLinked f → IsLinked (with_book f key d)

@@ -37,12 +37,15 @@ module _ {T U : Type 0} (f : Fields T U) (sound : IsDomain f) (slots room key : 
 
   -- so was the publisher of a book
   owner_before : (k : ℕ) (b : Book) → get f.books k ≡ Some b → b.publisher < f.next_port
-  owner_before k b at = let has = sound.open_ports.books k b at in subst (λ (p : ℕ). p < f.next_port) has.3 (publisher_before has.0 has.1 has.2)
+  owner_before k b at = elim (sound.kept_books.at k b at) [
+    | inl owned ↦ subst (λ (p : ℕ). p < f.next_port) owned.is_its (publisher_before owned.place owned.publisher owned.stands)
+    | inr left ↦ left.0.known
+  ]
 
   -- and that of a connection
   pub sender_before : (k : ℕ) (c : Link) → get f.connections k ≡ Some c → c.home.publisher < f.next_port
   sender_before k c at =
-      let has = sound.open_ports.senders k c at in subst (λ (p : ℕ). p < f.next_port) has.2 (publisher_before c.home.publisher_place has.0 has.1)
+      let has = sound.names.at k c at in subst (λ (p : ℕ). p < f.next_port) has.is_its (owner_before c.home.book has.book has.stands)
 
   -- no book is the new publisher's yet
   pub no_book : look_up (is_book_of f.next_port) f.books.slots ≡ None

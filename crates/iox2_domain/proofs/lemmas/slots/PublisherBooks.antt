@@ -12,8 +12,7 @@ use Rattle.iox2_ends.proofs.LookUps.{look_up-found}
 use Rattle.iox2_ends.proofs.MailboxChanges.{within_if_some}
 use Rattle.iox2_domain.specs.Ports.{PublisherFields}
 use Rattle.iox2_domain.specs.Fields.{Fields, is_book_of}
-use Rattle.iox2_domain.specs.Invariant.{HasBook, holders_of}
-use Rattle.iox2_domain.proofs.lemmas.fields.Parts.{HasParts}
+use Rattle.iox2_domain.specs.Invariant.{IsOwned, HasBook, holders_of, HasParts}
 
 module _ {T U : Type 0} (f : Fields T U) (parts : HasParts f) (i : ℕ) (x : PublisherFields) (stands : get_or f.publishers i None ≡ Some x) where
   its_book : HasBook f x
@@ -26,6 +25,10 @@ module _ {T U : Type 0} (f : Fields T U) (parts : HasParts f) (i : ℕ) (x : Pub
   -- what stands at its book's key is its own
   pub book-own : (b : Book) → get f.books x.book ≡ Some b → b.publisher ≡ x.id
   book-own b at = let same : Some b ≡ Some its_book.book = sym at ∙ its_book.stands in let is : b ≡ its_book.book = cc in ap (λ (c : Book). c.publisher) is ∙ its_book.is_its
+
+  -- and it has its book
+  pub book-owned : IsOwned f.publishers x.book x.id
+  book-owned = record { place = i; publisher = x; stands = stands; is_its = refl; has = refl }
 
   -- its places lead to its connections
   pub sender-linked : IsSenderLinked x.id f.connections x.keys

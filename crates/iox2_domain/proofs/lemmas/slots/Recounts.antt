@@ -19,16 +19,15 @@ use Rattle.iox2_ends.proofs.MailboxChanges.{was, IsApart-same}
 use Rattle.iox2_domain.specs.Ports.{PublisherFields}
 use Rattle.iox2_domain.specs.Kept.{KeptMessage}
 use Rattle.iox2_domain.specs.Fields.{Fields, message_in, contents_at, is_book_of}
-use Rattle.iox2_domain.specs.Invariant.{IsCounted, IsNumbered, HasNumber, HasBooks, HasShapes, SenderHas, is_publisher, own_holders, holders_of, is_loan_in}
+use Rattle.iox2_domain.specs.Invariant.{IsCounted, IsNumbered, HasNumber, HasBooks, HasShapes, SenderHas, is_publisher, own_holders, holders_of, is_loan_in, HasParts}
 use Rattle.iox2_domain.proofs.lemmas.fields.ExpiredRoom.{room-still}
 use Rattle.iox2_domain.proofs.lemmas.fields.NamedBooks.{names-books, names-still}
 use Rattle.iox2_domain.proofs.lemmas.slots.Messages.{message_in-parts, message_in-from, lies_at, message_at-book, message_at-slot}
-use Rattle.iox2_domain.proofs.lemmas.fields.Parts.{HasParts}
-use Rattle.iox2_domain.proofs.lemmas.slots.BookChanges.{book-after, KeepsSlots, book-here, book-others, book-was, holders-here, other-book, books-changed, linked-book, open_ports-book}
-use Rattle.iox2_domain.proofs.lemmas.fields.SameEnds.{with_connections, sender-same, linked-still, open_ports-still}
+use Rattle.iox2_domain.proofs.lemmas.slots.BookChanges.{book-after, KeepsSlots, book-here, book-others, book-was, holders-here, other-book, books-changed, linked-book}
+use Rattle.iox2_domain.proofs.lemmas.fields.SameEnds.{with_connections, sender-same, linked-still}
 
 -- two sums are the same where each index counts alike
-sum-alike : {A : Type 0} (f : Option A → ℕ) → f None ≡ 0 → (xs ys : List (Option A)) → ((i : ℕ) → f (get_or xs i None) ≡ f (get_or ys i None)) → sum_by f xs ≡ sum_by f ys
+pub sum-alike : {A : Type 0} (f : Option A → ℕ) → f None ≡ 0 → (xs ys : List (Option A)) → ((i : ℕ) → f (get_or xs i None) ≡ f (get_or ys i None)) → sum_by f xs ≡ sum_by f ys
 sum-alike f none [] [] same = refl
 sum-alike f none [] (y ∷ ys) same = omega (arith, sum_by-cons f y ys, none, same zero, sum-alike f none [] ys (λ i. past i ∙ same (suc i))) where
   past : (i : ℕ) → f (get_or [] i None) ≡ f None
@@ -164,30 +163,25 @@ module _ {T U : Type 0} (f : Fields T U) (parts : HasParts f) (p key : ℕ) (b :
       | inr away ↦ ap (stands q slot) (r.others.stay i c e away ∙ sym e)
     ]
 
-  -- its publisher stands
-  standing : (x : PublisherFields) × (look_up (is_publisher p) f.publishers ≡ Some x)
-  standing =
-      let has = parts.open_ports.books key b at in
-      (has.1, look_up-found (is_publisher p) f.publishers has.0 has.1 (parts.publisher_ids p) has.2 (eq-eqb (has.1).id p (has.3 ∙ mine)))
-
   -- what the publisher itself has of the slot, or what is out of one that is gone
   abbrev own : (slot : ℕ) → Option PublisherFields → Option Book → ℕ
   own slot o book =
       option_map_or (λ (x : PublisherFields). times slot x.loans + times slot (x.history).items) o
       (option_map_or (λ c. cond (is_loan_in c slot) 1 0) book 0)
 
+  -- the publisher itself has each slot as often as before
+  abbrev pub OwnStays : Type 0
+  OwnStays = (slot : ℕ) → own_holders with_recounted p slot ≡ own_holders f p slot
+
   -- each slot has as many holders as there are places where it stands
-  pub recounted-counted : IsCounted with_recounted
-  recounted-counted = record { at = λ q slot. elim (cases_eq q p) [ inl here ↦ rw here (its slot) | inr away ↦ others q slot away ] } where
+  recounted-counted : OwnStays → IsCounted with_recounted
+  recounted-counted own_stays = record { at = λ q slot. elim (cases_eq q p) [ inl here ↦ rw here (its slot) | inr away ↦ others q slot away ] } where
     its : (slot : ℕ) → holders_of with_recounted.books p slot ≡ own_holders with_recounted p slot + sum_by (stands p slot) new.slots
     its slot =
         let now : holders_of with_recounted.books p slot ≡ get_or holders slot 0 = holders-here between key b counted_book at keeps parts.books.one_each p slot mine in
         let then : holders_of f.books p slot ≡ get_or b.holders slot 0 =
         ap (λ o. option_map_or (λ (c : Book). holders_at c slot) o 0) (look_up-found (is_book_of p) f.books.slots key b (parts.books.one_each p) at (eq-eqb b.publisher p mine)) in
-        let same : own_holders with_recounted p slot ≡ own_holders f p slot =
-        ap (λ o. own slot o (look_up (is_book_of p) with_recounted.books.slots)) standing.1
-        ∙ sym (ap (λ o. own slot o (look_up (is_book_of p) f.books.slots)) standing.1) in
-        omega (arith, now, then, same, parts.counted.at p slot, r.counters.at slot)
+        omega (arith, now, then, own_stays slot, parts.counted.at p slot, r.counters.at slot)
 
     others : (q slot : ℕ) → q ≢ p → holders_of with_recounted.books q slot ≡ own_holders with_recounted q slot + sum_by (stands q slot) new.slots
     others q slot away =
@@ -235,8 +229,8 @@ module _ {T U : Type 0} (f : Fields T U) (parts : HasParts f) (p key : ℕ) (b :
       record { numbers = old.numbers ∙ sym r.slots; headers = old.headers ∙ sym r.slots; marks = old.marks ∙ sym r.slots }
 
   -- the fields agree with one another
-  pub recounted-parts : HasParts with_recounted
-  recounted-parts = record {
+  pub recounted-consistent : OwnStays → HasParts with_recounted
+  recounted-consistent own_stays = record {
     publisher_ids = parts.publisher_ids;
     subscriber_ids = parts.subscriber_ids;
     apart = IsApart-same f.connections new parts.apart r.homes;
@@ -244,7 +238,7 @@ module _ {T U : Type 0} (f : Fields T U) (parts : HasParts f) (p key : ℕ) (b :
     expired_room = room-still f.subscribers f.connections new r.homes parts.expired_room;
     books = books-changed between key b counted_book at keeps books-between aligned;
     names = names-books f.books _ new (book-after between key b counted_book at keeps) (names-still f.books f.connections new r.homes parts.names);
-    counted = recounted-counted;
+    counted = recounted-counted own_stays;
     numbered = numbered;
     publisher_room = parts.publisher_room;
     warning_room = parts.warning_room;
@@ -252,5 +246,4 @@ module _ {T U : Type 0} (f : Fields T U) (parts : HasParts f) (p key : ℕ) (b :
     supported = parts.supported;
     plain = parts.plain;
     plain_subscribers = parts.plain_subscribers;
-    open_ports = open_ports-book between key b counted_book at keeps (open_ports-still f new r.homes parts.open_ports);
   }

@@ -1,5 +1,5 @@
 -- What lies in one slot changes: its mark and its content.
-use Rattle.std.proofs.Common.{◌≡◌, ◌≢◌, ℕ, ◌+◌, ◌*◌, ◌<◌, ◌≤◌, List, [], length, Bool, true, false, cond, eqb, get_or, slice_set, refl, ap, sym, subst, ◌∙◌, inl, inr}
+use Rattle.std.proofs.Common.{◌≡◌, ◌≢◌, ℕ, ◌+◌, ◌*◌, ◌<◌, ◌≤◌, ◌&&◌, List, [], length, Bool, true, false, cond, eqb, get_or, slice_set, refl, ap, sym, subst, ◌∙◌, inl, inr}
 use Rattle.std.proofs.lemmas.Bool.{cases_eq, eq-eqb, eqb-true}
 use Rattle.std.proofs.lemmas.List.{get_or-set_same, get_or-set_other, length-set}
 use Rattle.std.proofs.lemmas.Option.{slice_get_within, get_or_from_slice_get}
@@ -19,10 +19,10 @@ use Rattle.iox2_ends.proofs.LookUps.{look_up-found}
 use Rattle.iox2_domain.specs.Ports.{PublisherFields}
 use Rattle.iox2_domain.specs.Kept.{KeptMessage, state_of, message_numbered}
 use Rattle.iox2_domain.specs.Fields.{Fields, kept_of, is_book_of, message_of, message_in, contents_at}
-use Rattle.iox2_domain.specs.Invariant.{IsDomain, IsBook, HasBooks, HasNumber, IsNumbered, IsCounted, is_publisher, holders_of, own_holders, is_loan_in}
+use Rattle.iox2_domain.specs.Invariant.{IsDomain, IsBook, HasBooks, HasNumber, IsNumbered, IsCounted, is_publisher, holders_of, own_holders, is_lent, is_loan_in}
 use Rattle.iox2_domain.proofs.lemmas.containers.SetRecords.{set-here, set-others}
 use Rattle.iox2_domain.proofs.lemmas.loans.Taken.{with_changed-here, with_changed-others, length-with_changed}
-use Rattle.iox2_domain.proofs.lemmas.slots.BookChanges.{KeepsSlots, with_book, book-here, book-others, book-was, other-book, book-state, books-changed, holders-here}
+use Rattle.iox2_domain.proofs.lemmas.slots.BookChanges.{KeepsSlots, with_book, book-here, book-others, book-was, books-apart, other-book, book-state, books-changed, holders-here}
 use Rattle.iox2_domain.proofs.lemmas.slots.Messages.{LiesIn, ChangesSlot, lies_at, message_at-slot, message_in-parts, message_in-from, is_numbered-slot, message_numbered-others, message_numbered-found}
 
 -- what holds of each element holds still
@@ -129,9 +129,19 @@ module _ {T U : Type 0} (f : Fields T U) (sound : IsDomain f) (key slot : ℕ) (
     below = λ k s n here. sound.numbered.below k s n (number-was k s n here);
   }
 
-  -- the counters stay
-  pub slot-counted : IsCounted with_slot
-  slot-counted = record { at = λ p s. by p s (eqb b.publisher p) refl } where
+  -- a loan's slot with the mark of a loan is a loan's still
+  still-loan : is_lent mark ≡ true → option_map_or is_lent (slice_get b.marks slot) false ≡ true → (s : ℕ) → is_loan_in marked s ≡ is_loan_in b s
+  still-loan now before s = elim (cases_eq s slot) [
+    | inl same ↦ subst (λ (j : ℕ). is_loan_in marked j ≡ is_loan_in b j) (sym same) (ap (λ t. nat_lt 0 (holders_at b slot) && t) (here (slice_get b.marks slot) refl ∙ sym before))
+    | inr away ↦ ap (λ o. nat_lt 0 (holders_at b s) && option_map_or is_lent o false) (slice_get-set_other b.marks slot s mark away)
+  ] where
+    here : (o : Option SlotMark) → slice_get b.marks slot ≡ o → option_map_or is_lent (slice_get (slice_set b.marks slot mark) slot) false ≡ true
+    here None e = absurd (let no : false ≡ true = sym (ap (λ o. option_map_or is_lent o false) e) ∙ before in cc)
+    here (Some m) e = ap (λ o. option_map_or is_lent o false) (slice_get-set_same b.marks slot mark (slice_get_within b.marks slot m e)) ∙ now
+
+  -- the counters stay, where the slot is a loan's before and after
+  pub slot-counted : is_lent mark ≡ true → option_map_or is_lent (slice_get b.marks slot) false ≡ true → IsCounted with_slot
+  slot-counted now before = record { at = λ p s. by p s (eqb b.publisher p) refl } where
     books : Slab Book
     books = with_value f.books key marked
 
@@ -141,16 +151,22 @@ module _ {T U : Type 0} (f : Fields T U) (sound : IsDomain f) (key slot : ℕ) (
     own : (s : ℕ) → Option Book → Option PublisherFields → ℕ
     own s o holder = option_map_or (λ (x : PublisherFields). times s x.loans + times s (x.history).items) holder (option_map_or (λ e. cond (is_loan_in e s) 1 0) o 0)
 
+    -- its publisher, or nobody, has the same of it
+    same-own : (s : ℕ) (owner : Option PublisherFields) → own s (Some marked) owner ≡ own s (Some b) owner
+    same-own s None = ap (λ t. cond {A = ℕ} t 1 0) (still-loan now before s)
+    same-own s (Some x) = refl
+
     by : (p s : ℕ) (t : Bool) → eqb b.publisher p ≡ t → holders_of books p s ≡ own_holders with_slot p s + sum_by (stands p s) f.connections.slots
     by p s true e =
-        let has = sound.open_ports.books key b at_b in
-        let owner : look_up (is_publisher p) f.publishers ≡ Some has.1 =
-        look_up-found (is_publisher p) f.publishers has.0 has.1 (sound.publisher_ids p) has.2 (ap (λ (q : ℕ). eqb q p) has.3 ∙ e) in
+        let was : look_up (is_book_of p) f.books.slots ≡ Some b = look_up-found (is_book_of p) f.books.slots key b (sound.books.one_each p) at_b e in
+        let is : look_up (is_book_of p) books.slots ≡ Some marked =
+        look_up-found (is_book_of p) books.slots key marked (books-apart f key b marked at_b marked-keeps sound.books.one_each p) (book-here f key b marked at_b marked-keeps) e in
+        let owner : Option PublisherFields = look_up (is_publisher p) f.publishers in
         holders-here f key b marked at_b marked-keeps sound.books.one_each p s (eqb-true b.publisher p e)
-        ∙ sym (ap (holders_in s) (look_up-found (is_book_of p) f.books.slots key b (sound.books.one_each p) at_b e))
+        ∙ sym (ap (holders_in s) was)
         ∙ sound.counted.at p s
         ∙ ap (λ n. n + sum_by (stands p s) f.connections.slots)
-        (ap (own s (look_up (is_book_of p) f.books.slots)) owner ∙ sym (ap (own s (look_up (is_book_of p) books.slots)) owner))
+        (ap (λ o. own s o owner) was ∙ sym (same-own s owner) ∙ sym (ap (λ o. own s o owner) is))
     by p s false e =
         let same : look_up (is_book_of p) books.slots ≡ look_up (is_book_of p) f.books.slots = other-book f key b marked at_b marked-keeps sound.books.one_each p e in
         ap (holders_in s) same

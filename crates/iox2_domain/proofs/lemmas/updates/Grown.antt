@@ -4,28 +4,27 @@ use Rattle.std.proofs.lemmas.List.{map-set, set-set, set-get_or}
 use Rattle.std.specs.declared.option.Option.{Option}
 use Rattle.std.specs.declared.option.Option.TheVariants.{None, Some}
 use Rattle.std.specs.Option.{option_map}
-use Rattle.iox2_store.specs.machine.Limits.{expired_limit}
 use Rattle.iox2_store.specs.machine.Places.{occupant}
 use Rattle.iox2_store.specs.machine.PublisherUpdate.{UpdateSenderPlace, connected, sender_side, with_sender_side}
-use Rattle.iox2_store.specs.machine.SubscriberUpdate.{ConnectAtPlace, receiver_side, with_receiver_side}
 use Rattle.iox2_store.specs.machine.Records.{Publisher, Subscriber, Environment}
-use Rattle.iox2_store.specs.machine.State.{State, receiving_buffer, has_receiver_end, has_sender_end}
+use Rattle.iox2_store.specs.machine.State.{State, receiving_buffer, has_receiver_end}
 use Rattle.iox2_store.specs.machine.WellFormed.{IsWellFormed}
 use Rattle.iox2_store.specs.declared.errors.ConnectionFailure.{ConnectionFailure}
 use Rattle.iox2_domain.specs.Ports.{PublisherFields, SubscriberFields}
 use Rattle.iox2_domain.specs.Kept.{state_of}
 use Rattle.iox2_domain.specs.Fields.{Fields, kept_of, publisher_of, subscriber_of}
 use Rattle.iox2_domain.specs.Invariant.{IsDomain}
-use Rattle.iox2_domain.specs.Updates.{with_sender_room, with_receiver_rooms, publisher_but_room, subscriber_but_room}
-use Rattle.iox2_domain.specs.Connects.{ConnectsSender, MakesSenderEnd, ConnectsReceiver}
+use Rattle.iox2_domain.specs.Updates.{with_sender_room, with_receiver_rooms, subscriber_but_room}
+use Rattle.iox2_domain.specs.Connects.{ConnectsSender, MakesSenderEnd}
 use Rattle.iox2_domain.proofs.lemmas.containers.LookUps.{map-at}
 use Rattle.iox2_domain.proofs.lemmas.updates.SenderChanges.{fits-grown}
 use Rattle.iox2_domain.proofs.lemmas.updates.SenderAgrees.{sender-agrees}
-use Rattle.iox2_domain.proofs.lemmas.updates.ReceiverChanges.{receiver_fits-grown}
-use Rattle.iox2_domain.proofs.lemmas.updates.ReceiverAgrees.{receiver-agrees}
+use Rattle.iox2_domain.proofs.lemmas.receivers.JoinChanges.{receiver_fits-grown}
+use Rattle.iox2_domain.proofs.lemmas.receivers.JoinAgrees.{receiver-agrees}
+use Rattle.iox2_domain.proofs.lemmas.fields.Parts.{parts_of}
 
 -- a record that changes in what a view doesn't show
-same-shown : {A B : Type 0} (g : A → B) (xs : List (Option A)) (i : ℕ) (x z : A) → get_or xs i None ≡ Some x → g z ≡ g x
+pub same-shown : {A B : Type 0} (g : A → B) (xs : List (Option A)) (i : ℕ) (x z : A) → get_or xs i None ≡ Some x → g z ≡ g x
     → map (option_map g) (slice_set xs i (Some z)) ≡ map (option_map g) xs
 same-shown g xs i x z at same =
     map-set (option_map g) xs i (Some z)
@@ -66,7 +65,7 @@ module _ {T U : Type 0} (f : Fields T U) (i j : ℕ) (x : PublisherFields) (y : 
     -- the fields agree
     pub grown-sound : IsDomain grown
     grown-sound =
-        receiver-agrees sender sender-sound j y at_y y.keys m e y.is_due f.connections f.warnings (receiver_fits-grown sender sender-sound j y at_y f.connections.capacity m e more_y more_e) sound.warning_room
+        receiver-agrees sender sender-sound j y at_y y.keys m e y.is_due f.connections f.warnings (receiver_fits-grown sender (parts_of sender sender-sound) j y at_y f.connections.capacity m e more_y more_e) sound.warning_room
         (subst IsWellFormed (sym grown-state) sound.well_formed)
 
     abbrev P : Publisher
@@ -109,22 +108,4 @@ module _ {T U : Type 0} (f : Fields T U) (i j : ℕ) (x : PublisherFields) (y : 
       steps = subst (λ (s : State T U). UpdateSenderPlace environment (f.config).service_id x.id P.degradation_handler P.history (receiving_buffer s) (has_receiver_end s x.id)
           j (occupant s.subscriber_places j) (sender_side s x.id P) (connected P.history (sender_side s x.id P) j (step.link).home.subscriber (step.link).buffer) None) grown-state step.steps;
       state = step.state ∙ ap (λ (s : State T U). with_sender_side s x.id P (connected [] (sender_side s x.id P) j (step.link).home.subscriber (step.link).buffer)) grown-state;
-    }
-
-    -- and a subscriber
-    pub receiver-from : (environment : Environment) (f' : Fields T U) (failure : Option ConnectionFailure) → ConnectsReceiver environment grown j i (with_receiver_rooms m e y) f' failure → ConnectsReceiver environment f j i y f' failure
-    receiver-from environment f' failure step = record {
-      agrees = step.agrees;
-      keys = step.keys;
-      key_room = step.key_room;
-      expired_room = step.expired_room;
-      fields = step.fields
-          ∙ ap (λ (ys : List (Option SubscriberFields)). record f { subscribers = ys; publishers = f'.publishers; connections = f'.connections; warnings = f'.warnings })
-          (set-set f.subscribers j (Some (with_receiver_rooms m e y)) (Some (record y { keys = step.keys; key_room = step.key_room; expired_room = step.expired_room })));
-      others = step.others ∙ same-shown publisher_but_room f.publishers i x (with_sender_room n x) at_x refl;
-      side = step.side;
-      settled = step.settled;
-      steps = subst (λ (s : State T U). ConnectAtPlace environment (f.config).service_id y.id Q.degradation_handler (expired_limit f.config) (λ p. has_sender_end s p y.id)
-          i (occupant s.publisher_places i) (receiver_side s y.id Q) step.side failure) grown-state step.steps;
-      state = step.state ∙ ap (λ (s : State T U). with_receiver_side s y.id Q step.side) grown-state;
     }

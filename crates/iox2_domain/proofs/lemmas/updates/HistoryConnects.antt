@@ -20,7 +20,6 @@ use Rattle.iox2_ends.specs.Receivers.{HasReclaimed}
 use Rattle.iox2_ends.specs.Reclaims.{Reclaims}
 use Rattle.iox2_ends.proofs.Empties.{still-empty}
 use Rattle.iox2_ends.proofs.MailboxChanges.{within_if_some}
-use Rattle.iox2_laws.proofs.PlaceLemmas.{occupied_within}
 use Rattle.iox2_laws.proofs.PublisherUpdates.{with_sender_side_keeps}
 use Rattle.iox2_laws.proofs.Puts.{put_at-same}
 use Rattle.iox2_laws.proofs.SenderSides.{sender_side_begins, performed_keeps}
@@ -32,10 +31,10 @@ use Rattle.iox2_domain.specs.Connects.{MakesSenderEnd, ConnectsSender}
 use Rattle.iox2_domain.specs.Histories.{with_history_waiting, HasNewEnd, HandsOut}
 use Rattle.iox2_domain.proofs.lemmas.fields.ConnectionEnds.{publisher-stands}
 use Rattle.iox2_domain.proofs.lemmas.fields.Parts.{parts_of}
-use Rattle.iox2_domain.proofs.lemmas.fields.Standing.{subscriber-listed}
+use Rattle.iox2_domain.proofs.lemmas.fields.Standing.{place-within}
 use Rattle.iox2_domain.proofs.lemmas.fields.Views.{unblocked}
 use Rattle.iox2_domain.proofs.lemmas.slots.BookChanges.{book-here}
-use Rattle.iox2_domain.proofs.lemmas.slots.PublisherBooks.{book-own}
+use Rattle.iox2_domain.proofs.lemmas.slots.PublisherBooks.{book-own, book-owned}
 use Rattle.iox2_domain.proofs.lemmas.slots.RecountedState.{with_reclaimed, reclaimed-is, reclaimed-reaches, same-numbers}
 use Rattle.iox2_domain.proofs.lemmas.updates.HistoryBounds.{remembered-in_use, remembered-fits}
 use Rattle.iox2_domain.proofs.lemmas.updates.HistoryHanded.{handed, hands-out}
@@ -51,10 +50,10 @@ module _ {T U : Type 0} (before f : Fields T U) (same : f ≡ before) (sound : I
 
   -- the fields without what was given back
   abbrev g : Fields T U
-  g = with_reclaimed f sound x.id x.book b at (book-own f (parts_of f sound) i x here b at) b1.holders new r
+  g = with_reclaimed f sound x.id x.book b at (book-own f (parts_of f sound) i x here b at) (book-owned f (parts_of f sound) i x here) b1.holders new r
 
-  g-sound : IsDomain (with_reclaimed f sound x.id x.book b at (book-own f (parts_of f sound) i x here b at) b1.holders new r)
-  g-sound = (reclaimed-reaches f sound x.id x.book b at (book-own f (parts_of f sound) i x here b at) b1.holders new r).agrees
+  g-sound : IsDomain (with_reclaimed f sound x.id x.book b at (book-own f (parts_of f sound) i x here b at) (book-owned f (parts_of f sound) i x here) b1.holders new r)
+  g-sound = (reclaimed-reaches f sound x.id x.book b at (book-own f (parts_of f sound) i x here b at) (book-owned f (parts_of f sound) i x here) b1.holders new r).agrees
 
   at-g : get g.books x.book ≡ Some (with_counters b b1.holders)
   at-g = book-here f x.book b (with_counters b b1.holders) at (record { publisher = refl; numbers = refl; slots = r.recounts.slots })
@@ -76,11 +75,11 @@ module _ {T U : Type 0} (before f : Fields T U) (same : f ≡ before) (sound : I
   waiting-same = λ t. record (state t) {
     mailboxes = with_box (state t).mailboxes x.id c.home.subscriber (with_waiting (last_n c.buffer (map (numbers t x.id) (x.history).items)) ((state t).mailboxes x.id c.home.subscriber));
   } where
-    state : state_of (kept_of (with_reclaimed f sound x.id x.book b at (book-own f (parts_of f sound) i x here b at) b1.holders new r)) ≡ state_of (kept_of f)
-    state = reclaimed-is f sound x.id x.book b at (book-own f (parts_of f sound) i x here b at) b1.holders new r
+    state : state_of (kept_of (with_reclaimed f sound x.id x.book b at (book-own f (parts_of f sound) i x here b at) (book-owned f (parts_of f sound) i x here) b1.holders new r)) ≡ state_of (kept_of f)
+    state = reclaimed-is f sound x.id x.book b at (book-own f (parts_of f sound) i x here b at) (book-owned f (parts_of f sound) i x here) b1.holders new r
 
     numbers : numbers_of (with_value f.books x.book (with_counters b b1.holders)) ≡ numbers_of f.books
-    numbers = same-numbers f sound x.id x.book b at (book-own f (parts_of f sound) i x here b at) b1.holders new r.recounts
+    numbers = same-numbers f sound x.id x.book b at (book-own f (parts_of f sound) i x here b at) (book-owned f (parts_of f sound) i x here) b1.holders new r.recounts
 
   -- it waits in the connection
   pub reclaimed-hands-out : (b2 : Book) → b2 ≡ with_counters b1 b2.holders → length b2.holders ≡ length b1.holders
@@ -92,7 +91,7 @@ module _ {T U : Type 0} (before f : Fields T U) (same : f ≡ before) (sound : I
         agrees = out.agrees;
         fields = refl;
         state = out.state ∙ waiting-same;
-        entries = λ n entry e. (reclaimed-reaches f sound x.id x.book b at (book-own f (parts_of f sound) i x here b at) b1.holders new r).entries n entry (out.entries n entry e);
+        entries = λ n entry e. (reclaimed-reaches f sound x.id x.book b at (book-own f (parts_of f sound) i x here b at) (book-owned f (parts_of f sound) i x here) b1.holders new r).entries n entry (out.entries n entry e);
       }))
     where
       after : Fields T U
@@ -231,10 +230,9 @@ module _ {T U : Type 0} (environment : Environment) (f : Fields T U) (sound : Is
 
   well : IsWellFormed (with_sender_side s x.id P full)
   well =
-      let y = sound.open_ports.subscribers j low in
       with_sender_side_keeps s sound.well_formed x.id P present (unblocked f.books f.connections x (sound.plain i x at)) full
       (performed_keeps s sound.well_formed x.id P present environment j _ _ (sender_side s x.id P) full None
-      (occupied_within s.subscriber_places j (y.0).id (subscriber-listed f sound j y.0 y.1)) refl refl (sender_side_begins s sound.well_formed x.id P present) made.steps)
+      (place-within f j low) refl refl (sender_side_begins s sound.well_formed x.id P present) made.steps)
 
   -- the history may go out
   pub new-end : HasNewEnd f1 i key

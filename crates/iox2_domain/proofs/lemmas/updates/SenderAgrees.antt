@@ -1,6 +1,5 @@
 -- A domain's fields agree with the new keys of a publisher.
 use Rattle.std.proofs.Common.{◌≡◌, ◌<◌, ℕ, ◌+◌, arith, true, false, List, Bool, get_or, slice_set, refl, ap, sym, ◌∙◌, inl, inr, ◌⊎◌, cond, eqb}
-use Rattle.std.proofs.lemmas.List.{length-set}
 use Rattle.std.specs.declared.option.Option.{Option}
 use Rattle.std.specs.declared.option.Option.TheVariants.{None, Some}
 use Rattle.std.specs.Option.{option_map_or, IsSomeAnd}
@@ -22,13 +21,14 @@ use Rattle.iox2_laws.proofs.Puts.{found_put}
 use Rattle.iox2_domain.specs.Ports.{PublisherFields, SubscriberFields}
 use Rattle.iox2_domain.specs.Kept.{state_of}
 use Rattle.iox2_domain.specs.Fields.{Fields, kept_of, publisher_of, is_book_of}
-use Rattle.iox2_domain.specs.Invariant.{IsDomain, IsLinked, HasBooks, HasBook, IsCounted, HasOnlyOpenPorts, SenderHas, is_publisher, own_holders, is_loan_in, details_of}
+use Rattle.iox2_domain.specs.Invariant.{IsDomain, IsLinked, HasBooks, HasBook, IsCounted, SenderHas, is_publisher, own_holders, is_loan_in, details_of}
 use Rattle.iox2_domain.proofs.lemmas.containers.LookUps.{viewed}
 use Rattle.iox2_domain.proofs.lemmas.fields.Views.{KeepsHeld, held-before}
 use Rattle.iox2_domain.proofs.lemmas.fields.ConnectionEnds.{publisher-stands}
 use Rattle.iox2_domain.proofs.lemmas.containers.ChangedRecords.{changed-here, changed-others, changed-stood, changed-still, changed-only}
 use Rattle.iox2_domain.proofs.lemmas.updates.Extensions.{sender_linked, receiver_linked}
 use Rattle.iox2_domain.proofs.lemmas.fields.Standing.{one-publisher, one-subscriber}
+use Rattle.iox2_domain.proofs.lemmas.loans.PublisherChanges.{changed-kept_books}
 use Rattle.iox2_domain.proofs.lemmas.updates.SenderChanges.{FitsSender, IsNewOfSender, with_keys, with_sender, port_after, sender-is, mailboxes-same}
 
 module _ {T U : Type 0} (f : Fields T U) (sound : IsDomain f) (i : ℕ) (x : PublisherFields) (at : get_or f.publishers i None ≡ Some x)
@@ -196,26 +196,6 @@ module _ {T U : Type 0} (f : Fields T U) (sound : IsDomain f) (i : ℕ) (x : Pub
     at = λ p slot. sound.counted.at p slot ∙ sym (λ k. same-own p slot k + fits.extends.sums p slot k);
   }
 
-  open_ports : HasOnlyOpenPorts after
-  open_ports = record {
-    publishers = λ k lt.
-        let old = sound.open_ports.publishers k (rw (sym (length-set f.publishers i (Some changed))) lt) in
-        let now = still k old.0 old.1 in (now.0, now.1);
-    subscribers = sound.open_ports.subscribers;
-    are_open = sound.open_ports.are_open;
-    senders = λ key c at_c. elim (fits.news key c at_c) [
-      | inl old ↦ let has = sound.open_ports.senders key c old in let now = still c.home.publisher_place has.0 has.1 in (now.0, now.1, now.2 ∙ has.2)
-      | inr new ↦ let has = has-new key c new in (has.publisher, has.stands, has.is_its)
-    ];
-    receivers = λ key c at_c. elim (fits.news key c at_c) [
-      | inl old ↦ sound.open_ports.receivers key c old
-      | inr new ↦ (new.subscriber, new.stands, new.is_its)
-    ];
-    books = λ key b at_b.
-        let has = sound.open_ports.books key b at_b in
-        let now = still has.0 has.1 has.2 in (has.0, now.0, now.1, now.2 ∙ has.3, now.3 ∙ has.4);
-  }
-
   -- a publisher holds what it held
   held : (p : ℕ) (y : Publisher) → (state_of (kept_of after)).publishers p ≡ Some y → (z : Publisher) × ((state_of (kept_of f)).publishers p ≡ Some z) × KeepsHeld z y
   held p y at_y =
@@ -241,6 +221,7 @@ module _ {T U : Type 0} (f : Fields T U) (sound : IsDomain f) (i : ℕ) (x : Pub
             rw new.book (record { book = has.book; stands = has.stands; is_its = has.is_its ∙ sym new.publisher })
       ];
     };
+    kept_books = changed-kept_books f i x changed at refl f.books refl sound.kept_books;
     counted = counted;
     numbered = sound.numbered;
     lone = sound.lone;
@@ -256,7 +237,6 @@ module _ {T U : Type 0} (f : Fields T U) (sound : IsDomain f) (i : ℕ) (x : Pub
       | inr old ↦ sound.plain k z old
     ];
     plain_subscribers = sound.plain_subscribers;
-    open_ports = open_ports;
     well_formed = well;
     entries = λ p n held_now. sound.entries p n (held-before (state_of (kept_of f)) (state_of (kept_of after)) p n
         (λ q. ap (λ (boxes : ℕ → ℕ → Mailbox). boxes p q) (mailboxes-same f sound connections fits.extends)) (held p) held_now);

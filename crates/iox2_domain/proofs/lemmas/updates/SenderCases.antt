@@ -2,8 +2,9 @@
 use Rattle.std.proofs.lemmas.Bool.{eq-eqb, and_from}
 use Rattle.iox2_domain.proofs.lemmas.containers.LookUps.{map-at}
 use Rattle.iox2_domain.proofs.lemmas.fields.Views.{mailboxes-are}
-use Rattle.std.proofs.Common.{◌≡◌, ◌<◌, ℕ, le_refl, false, List, [], ◌∷◌, length, map, arith, get_or, slice_set, refl, ap, sym, subst, ◌∙◌, inl, inr}
+use Rattle.std.proofs.Common.{◌≡◌, ◌<◌, ℕ, le_refl, true, false, Bool, cond, List, [], ◌∷◌, length, map, arith, get_or, slice_set, refl, ap, sym, subst, ◌∙◌, inl, inr}
 use Rattle.std.proofs.lemmas.List.{set-get_or}
+use Rattle.std.proofs.lemmas.Option.{none-some}
 use Rattle.std.specs.declared.option.Option.{Option}
 use Rattle.std.specs.declared.option.Option.TheVariants.{None, Some}
 use Rattle.std.specs.Option.{option_map, option_map_or}
@@ -25,7 +26,7 @@ use Rattle.iox2_domain.specs.Ports.{PublisherFields, SubscriberFields}
 use Rattle.iox2_domain.specs.Kept.{state_of}
 use Rattle.iox2_domain.specs.Fields.{Fields, kept_of, publisher_of, subscriber_of, numbers_of}
 use Rattle.iox2_domain.specs.Invariant.{IsDomain, SenderHas, details_of, connection_count}
-use Rattle.iox2_domain.specs.Updates.{MakesConnection, home_of}
+use Rattle.iox2_domain.specs.Updates.{MakesConnection, home_of, key_from}
 use Rattle.iox2_domain.specs.Connects.{ConnectsSender, MakesSenderEnd}
 use Rattle.iox2_domain.proofs.lemmas.fields.ExpiredRoom.{room-made, room-here}
 use Rattle.iox2_domain.proofs.lemmas.fields.ConnectionEnds.{publisher-stands, subscriber-stands, occupant-sender_ends}
@@ -34,10 +35,10 @@ use Rattle.iox2_domain.proofs.lemmas.containers.ConnectionKeys.{map-set_place, s
 use Rattle.iox2_domain.proofs.lemmas.updates.MadeConnections.{made-extends, made-news}
 use Rattle.iox2_domain.proofs.lemmas.updates.SenderChanges.{fits-same}
 use Rattle.iox2_domain.proofs.lemmas.updates.SenderSteps.{connected_sender, steps-connect, keeps-end, makes-end, no_end, no-numbers, makes-empty}
-use Rattle.iox2_domain.proofs.lemmas.fields.Standing.{one-publisher, publisher-place, occupant-receiver_ends, sender-joins, receiver-joins, no-connection}
+use Rattle.iox2_domain.proofs.lemmas.fields.Standing.{one-publisher, publisher-place, occupant-receiver_ends, receiver-joined, not-joined}
 
 module _ {T U : Type 0} (environment : Environment) (f : Fields T U) (sound : IsDomain f) (i j : ℕ) (x : PublisherFields) (y : SubscriberFields)
-    (at_x : get_or f.publishers i None ≡ Some x) (at_y : get_or f.subscribers j None ≡ Some y) (due : x.is_due ≡ false) where
+    (at_x : get_or f.publishers i None ≡ Some x) (at_y : get_or f.subscribers j None ≡ Some y) (due : x.is_due ≡ false) (opened : y.is_open ≡ true) where
   abbrev s : State T U
   s = state_of (kept_of f)
 
@@ -53,15 +54,14 @@ module _ {T U : Type 0} (environment : Environment) (f : Fields T U) (sound : Is
   same_publishers = ap (slice_set f.publishers i) (sym at_x) ∙ set-get_or f.publishers i None
 
   -- an end that is there stays
-  pub keeps-connection : (key : ℕ) → get_or x.keys j None ≡ Some key → ConnectsSender environment f i j x f None
-  keeps-connection key at =
-      let joined = sender-joins f sound i j x y at_x at_y key at in
+  pub keeps-connection : (key : ℕ) (c : Link) → get_or x.keys j None ≡ Some key → get f.connections key ≡ Some c → c.home.subscriber ≡ y.id → ConnectsSender environment f i j x f None
+  keeps-connection key c has at to =
       let there : occupant P.ends j ≡ Some y.id =
-      occupant-sender_ends f.connections x.keys j ∙ ap (subscriber_of_key f.connections) at
-      ∙ ap (option_map (λ (c : Link). c.home.subscriber)) joined.1.stands ∙ ap Some joined.1.subscriber in
+      occupant-sender_ends f.connections x.keys j ∙ ap (subscriber_of_key f.connections) has
+      ∙ ap (option_map (λ (c : Link). c.home.subscriber)) at ∙ ap Some to in
       subst (λ (h : Fields T U). ConnectsSender environment f i j x h None) (λ k. record f { publishers = same_publishers k })
-      (steps-connect environment f sound i j x y at_x at_y due x.keys f.connections f.warnings None (fits-same f sound i x at_x f.connections.capacity) sound.warning_room
-      (keeps-end environment f sound i j x y at_x at_y due there))
+      (steps-connect environment f sound i j x y at_x at_y due opened x.keys f.connections f.warnings None (fits-same f sound i x at_x f.connections.capacity) sound.warning_room
+      (keeps-end environment f sound i j x y at_x at_y due opened there))
 
   -- ---- the subscriber has its end
 
@@ -98,7 +98,7 @@ module _ {T U : Type 0} (environment : Environment) (f : Fields T U) (sound : Is
     nobody-in key c at its to place =
         let box : s.mailboxes x.id y.id ≡ mailbox_of (numbers_of f.books x.id) c =
         mailboxes-are f x.id y.id ∙ ap (mailbox_if_any (numbers_of f.books x.id)) (look_up-found (is_between x.id y.id) f.connections.slots key c (sound.apart.one x.id y.id) at (and_from _ _ (eq-eqb c.home.publisher x.id its) (eq-eqb c.home.subscriber y.id to))) in
-        let none_in = no-numbers environment f sound i j x y at_x at_y due none in
+        let none_in = no-numbers environment f sound i j x y at_x at_y due opened none in
         let waits : length c.waiting ≡ 0 = nil-map (numbers_of f.books x.id) c.waiting (ap (λ (m : Mailbox). m.waiting) (sym box) ∙ none_in.0) in
         let lent : length c.borrowed ≡ 0 = nil-map (numbers_of f.books x.id) c.borrowed (ap (λ (m : Mailbox). m.borrowed) (sym box) ∙ none_in.1) in
         let back : length c.returned ≡ 0 = elim (sound.linked.returned key c at) [
@@ -115,24 +115,24 @@ module _ {T U : Type 0} (environment : Environment) (f : Fields T U) (sound : Is
             absurd (let no : None ≡ Some key = sym none ∙ ap (λ (n : ℕ). get_or x.keys n None) (sym place) ∙ ap (λ (z : PublisherFields). get_or z.keys c.home.subscriber_place None) (sym is) ∙ has.has in cc)
 
     -- the publisher joins the subscriber's connection
-    pub joins-connection : (key : ℕ) → get_or y.keys i None ≡ Some key → MakesSenderEnd environment f i j x key (connected_sender f i x (set_place x.keys j (Some key)) f.connections f.warnings)
-    joins-connection key at =
-        let joined = receiver-joins f sound i j x y at_x at_y key at in
-        let own = joined.1 in
-        makes-empty environment f sound i j x y at_x at_y due none (keys_with key) f.connections (record {
+    pub joins-connection : (key : ℕ) (c : Link) → get_or y.keys i None ≡ Some key → get f.connections key ≡ Some c → c.home.publisher ≡ x.id
+        → MakesSenderEnd environment f i j x key (connected_sender f i x (set_place x.keys j (Some key)) f.connections f.warnings)
+    joins-connection key joined has at from =
+        let own = receiver-joined f sound i j x y at_x at_y key joined has at from in
+        makes-empty environment f sound i j x y at_x at_y due opened none (keys_with key) f.connections (record {
           extends = (fits-same f sound i x at_x f.connections.capacity).extends;
           grows = le_refl x.key_room;
           rooms = sound.expired_room;
-          linked = linked-with f.connections key joined.0 (sound.linked.senders i x at_x) own.stands own.publisher own.subscriber_place;
+          linked = linked-with f.connections key joined (sound.linked.senders i x at_x) own.stands own.publisher own.subscriber_place;
           keeps = set_place-keeps x.keys j key none;
           news = λ k c there. inl there;
-        }) (leads f.connections key joined.0 refl own.stands own.subscriber) key joined.0 own.stands own.publisher own.subscriber
-        (sound.linked.knows.at key j joined.0 (details_of y) own.stands (details-at y at_y) (sym own.subscriber)).1
-        (nobody-in key joined.0 own.stands own.publisher own.subscriber own.subscriber_place)
+        }) (leads f.connections key joined refl own.stands own.subscriber) key joined own.stands own.publisher own.subscriber
+        (sound.linked.knows.at key j joined (details_of y) own.stands (details-at y at_y) (sym own.subscriber)).1
+        (nobody-in key joined own.stands own.publisher own.subscriber own.subscriber_place)
 
     -- ---- nobody has an end
 
-    module _ (none_y : get_or y.keys i None ≡ None) where
+    module _ (none_y : key_from f.connections x.id (get_or y.keys i None) ≡ None) where
       abbrev most : ℕ
       most = (f.config).subscriber_max_borrowed_samples
 
@@ -140,7 +140,7 @@ module _ {T U : Type 0} (environment : Environment) (f : Fields T U) (sound : Is
       link = empty_link (home_of i j x y) y.buffer most
 
       nobody : look_up (is_between x.id y.id) f.connections.slots ≡ None
-      nobody = no-connection f sound i j x y at_x at_y none none_y
+      nobody = not-joined f sound i j x y at_x at_y none none_y
 
       extends : (key : ℕ) (new : Slab Link) → MakesConnection f.connections (home_of i j x y) y.buffer most key new → Extends f.connections new
       extends key new made = made-extends f.connections new (home_of i j x y) y.buffer most key sound.apart nobody made
@@ -149,7 +149,7 @@ module _ {T U : Type 0} (environment : Environment) (f : Fields T U) (sound : Is
       pub makes-connection : j < x.key_room → i < y.key_room → connection_count f.connections y.id < y.expired_room → (key : ℕ) (new : Slab Link) → MakesConnection f.connections (home_of i j x y) y.buffer (f.config).subscriber_max_borrowed_samples key new
           → MakesSenderEnd environment f i j x key (connected_sender f i x (set_place x.keys j (Some key)) new f.warnings)
       makes-connection room room_y room_expired key new made =
-          makes-empty environment f sound i j x y at_x at_y due none (keys_with key) new (record {
+          makes-empty environment f sound i j x y at_x at_y due opened none (keys_with key) new (record {
             extends = extends key new made;
             grows = le_refl x.key_room;
             rooms = room-made f.subscribers f.connections new key link made.was_free made.made (room-here f sound j y at_y room_expired) sound.expired_room;
@@ -174,13 +174,22 @@ module _ {T U : Type 0} (environment : Environment) (f : Fields T U) (sound : Is
           }) (leads new key link (sender_ends-same f.connections new (extends key new made) x.id x.keys (sound.linked.senders i x at_x)) made.made.changed refl)
           key link made.made.changed refl refl refl refl
 
+      -- a key that isn't from the publisher leads to another
+      other-publisher : (key : Option ℕ) → key_from f.connections x.id key ≡ None → is_port (publisher_of_key f.connections key) x.id ≡ false
+      other-publisher None e = refl
+      other-publisher (Some key) e = by (is_port (publisher_of_key f.connections (Some key)) x.id) e where
+        by : (b : Bool) → cond b (Some key) None ≡ None → b ≡ false
+        by true e = absurd (none-some key (sym e))
+        by false e = refl
+
       no_receiver : has_receiver_end s x.id y.id ≡ false
       no_receiver =
           ap (λ o. option_map_or (λ (z : Subscriber). option_map_or (λ (w : Publisher). is_port (occupant z.ends w.place) x.id) (s.publishers x.id) false) o false) (subscriber-stands f sound j y at_y)
           ∙ ap (λ o. option_map_or (λ (w : Publisher). is_port (occupant ((subscriber_of f.books f.connections y).port).ends w.place) x.id) o false) (publisher-stands f sound i x at_x)
           ∙ ap (λ o. is_port o x.id)
           (ap (occupant ((subscriber_of f.books f.connections y).port).ends) (publisher-place f sound i x at_x)
-          ∙ occupant-receiver_ends f.connections y.keys i ∙ ap (publisher_of_key f.connections) none_y)
+          ∙ occupant-receiver_ends f.connections y.keys i)
+          ∙ other-publisher (get_or y.keys i None) none_y
 
       -- memory for it is refused, and the publisher's handler says what comes of that
       pub misses-connection : environment.may_refuse_memory → (action : DegradationAction)
@@ -195,7 +204,7 @@ module _ {T U : Type 0} (environment : Environment) (f : Fields T U) (sound : Is
             connections = with_capacity n;
             warnings = buffer (warnings_after x.id y.id action f.warnings.items) warning_limit;
           })
-          (steps-connect environment f sound i j x y at_x at_y due x.keys (with_capacity n) (buffer (warnings_after x.id y.id action f.warnings.items) warning_limit) (failure_of action)
+          (steps-connect environment f sound i j x y at_x at_y due opened x.keys (with_capacity n) (buffer (warnings_after x.id y.id action f.warnings.items) warning_limit) (failure_of action)
           (fits-same f sound i x at_x n) refl
-          (makes-end environment f sound i j x y at_x at_y due (no_end environment f sound i j x y at_x at_y due none) _ (failure_of action)
+          (makes-end environment f sound i j x y at_x at_y due opened (no_end environment f sound i j x y at_x at_y due opened none) _ (failure_of action)
           (inr (no_receiver, warnings_after x.id y.id action f.warnings.items, (action, may, answers, refl, refl), refl))))

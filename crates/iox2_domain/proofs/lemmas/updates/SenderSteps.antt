@@ -35,10 +35,10 @@ use Rattle.iox2_domain.proofs.lemmas.updates.SenderAgrees.{sender-agrees}
 use Rattle.iox2_domain.proofs.lemmas.fields.Standing.{subscriber-listed, subscriber-place}
 
 module _ {T U : Type 0} (f : Fields T U) where
-  abbrev now : State T U
+  abbrev pub now : State T U
   now = state_of (kept_of f)
 
-  abbrev port : PublisherFields → Publisher
+  abbrev pub port : PublisherFields → Publisher
   port x = (publisher_of f.books f.connections x).port
 
   -- the machine's step of the publisher x at the place j
@@ -57,7 +57,7 @@ module _ {T U : Type 0} (f : Fields T U) where
       record f { publishers = slice_set f.publishers i (Some (record x { keys = keys })); connections = connections; warnings = warnings }
 
 module _ {T U : Type 0} (environment : Environment) (f : Fields T U) (sound : IsDomain f) (i j : ℕ) (x : PublisherFields) (y : SubscriberFields)
-    (at_x : get_or f.publishers i None ≡ Some x) (at_y : get_or f.subscribers j None ≡ Some y) (due : x.is_due ≡ false) where
+    (at_x : get_or f.publishers i None ≡ Some x) (at_y : get_or f.subscribers j None ≡ Some y) (due : x.is_due ≡ false) (opened : y.is_open ≡ true) where
   abbrev s : State T U
   s = state_of (kept_of f)
 
@@ -111,7 +111,7 @@ module _ {T U : Type 0} (environment : Environment) (f : Fields T U) (sound : Is
   open_buffer : receiving_buffer s y.id ≡ Some y.buffer
   open_buffer =
       ap (option_and_then (λ (z : Subscriber). cond z.is_open (Some z.buffer) None)) (subscriber-stands f sound j y at_y)
-      ∙ ap (λ b. cond b (Some y.buffer) None) (sound.open_ports.are_open j y at_y).0
+      ∙ ap (λ b. cond b (Some y.buffer) None) opened
 
   -- an end to the subscriber stays
   pub keeps-end : occupant P.ends j ≡ Some y.id → Step (sender_side s x.id P) None

@@ -17,7 +17,7 @@ returns-in-Ready c = (
   subst (λ (key : ℕ). Finds c.args.connections.now c.args.expired.now c.args.keys.now (Found.Ready key)) (sym c.take.ensures.from)
       (expired-ready c.args.connections.now c.args.expired.now c.args.keys.now c.search_expired-found.result c.in-Ready.key c.search_expired-found.ensures c.in-Ready.is).1,
   takes-slot c.args.connections.now c.take.new.connections c.take.result c.in-Ready.key c.take.ensures.from c.take.ensures.home
-      c.take.ensures.waited c.take.ensures.takes c.take.ensures.homes c.take.ensures.others c.take.ensures.stands,
+      c.take.ensures.waited c.take.ensures.takes c.take.ensures.homes c.take.ensures.others c.take.ensures.returned c.take.ensures.stands,
 )
 
 pub returns-in-Ready-look : goal.returns-in-Ready-look
@@ -27,7 +27,7 @@ returns-in-Ready-look c = (
       c.loop-place.invariant.none c.loop-place.invariant.whole (c.look.ensures ∙ ap (λ (s : Slab Link). offer_at s (get_or c.args.keys.now c.loop-place.place None)) c.loop-place.invariant.same) c.in-Ready-look.is).1,
   subst (λ (s : Slab Link). TakesSlot s c.take-in-Ready-look.result c.take-in-Ready-look.new.connections) c.loop-place.invariant.same
       (takes-slot c.loop-place.connections c.take-in-Ready-look.new.connections c.take-in-Ready-look.result c.in-Ready-look.key c.take-in-Ready-look.ensures.from c.take-in-Ready-look.ensures.home
-      c.take-in-Ready-look.ensures.waited c.take-in-Ready-look.ensures.takes c.take-in-Ready-look.ensures.homes c.take-in-Ready-look.ensures.others c.take-in-Ready-look.ensures.stands),
+      c.take-in-Ready-look.ensures.waited c.take-in-Ready-look.ensures.takes c.take-in-Ready-look.ensures.homes c.take-in-Ready-look.ensures.others c.take-in-Ready-look.ensures.returned c.take-in-Ready-look.ensures.stands),
 )
 
 pub returns-in-AtLimit-found : goal.returns-in-AtLimit-found

@@ -2,13 +2,19 @@ use Rattle.iox2_domain.proofs.lemmas.slots.PublisherBooks.{read-there}
 use Rattle.iox2_domain.specs.Fields.{Fields}
 use Rattle.iox2_ends.proofs.MailboxChanges.{within_if_some}
 use Rattle.std.proofs.Common.{◌≡◌, ◌∙◌, ap, sym, None, Some, slice_index_or, rules, length, vec_len}
-use Rattle.iox2_domain.proofs.lemmas.receives.ReceiptSteps.{has-keys, connected-places}
+use Rattle.iox2_domain.proofs.lemmas.receives.ReceiptSteps.{has-keys, connected-places, connected-expired}
 use Rattle.iox2_domain.proofs.lemmas.receives.Questions.{answers-found}
 use Rattle.iox2_messages.proofs.questions.has_data_at.Goals as goal
 
 pub has_samples-requires-clause-keys : goal.has_samples-requires-clause-keys
 has_samples-requires-clause-keys g c =
     connected-places _ c.args.state.now c.args.place c.in-Some.subscriber c.deref.result.now c.deref-2.result.now
+    (has-keys _ c.args.state.now c.args.place c.index.result.now c.in-Some.subscriber _ c.deref.result.now c.deref-2.result.now c.requires.agrees c.state.view_is c.requires.stands
+    c.index.ensures c.in-Some.is c.subscriber.view_is c.deref.ensures.value c.deref-2.ensures.value)
+
+pub has_samples-requires-clause-expired : goal.has_samples-requires-clause-expired
+has_samples-requires-clause-expired g c =
+    connected-expired _ c.args.state.now c.args.place c.in-Some.subscriber c.deref.result.now c.deref-2.result.now
     (has-keys _ c.args.state.now c.args.place c.index.result.now c.in-Some.subscriber _ c.deref.result.now c.deref-2.result.now c.requires.agrees c.state.view_is c.requires.stands
     c.index.ensures c.in-Some.is c.subscriber.view_is c.deref.ensures.value c.deref-2.ensures.value)
 

@@ -5,12 +5,18 @@ use Rattle.iox2_ends.specs.declared.receiver.Taken.{Taken}
 use Rattle.iox2_domain.specs.Fields.{Fields}
 use Rattle.iox2_ends.proofs.MailboxChanges.{within_if_some}
 use Rattle.std.proofs.Common.{◌≡◌, ◌∙◌, ap, sym, subst, Option, None, Some, Result, Ok, Err, slice_index_or, rules, length, vec_len}
-use Rattle.iox2_domain.proofs.lemmas.receives.ReceiptSteps.{has-keys, connected-places, taken-within, at-taken, at-nothing, at-error}
+use Rattle.iox2_domain.proofs.lemmas.receives.ReceiptSteps.{has-keys, connected-places, connected-expired, taken-within, at-taken, at-nothing, at-error}
 use Rattle.iox2_messages.proofs.receipts.take_at.Goals as goal
 
 pub receive-requires-clause-keys : goal.receive-requires-clause-keys
 receive-requires-clause-keys g c =
     connected-places _ c.args.state.now c.args.place c.in-Some.subscriber c.deref.result.now c.deref-2.result.now
+    (has-keys _ c.args.state.now c.args.place c.index.result.now c.in-Some.subscriber _ c.deref.result.now c.deref-2.result.now c.requires.agrees c.state.view_is c.requires.stands
+    c.index.ensures c.in-Some.is c.subscriber.view_is c.deref.ensures.value c.deref-2.ensures.value)
+
+pub receive-requires-clause-expired : goal.receive-requires-clause-expired
+receive-requires-clause-expired g c =
+    connected-expired _ c.args.state.now c.args.place c.in-Some.subscriber c.deref.result.now c.deref-2.result.now
     (has-keys _ c.args.state.now c.args.place c.index.result.now c.in-Some.subscriber _ c.deref.result.now c.deref-2.result.now c.requires.agrees c.state.view_is c.requires.stands
     c.index.ensures c.in-Some.is c.subscriber.view_is c.deref.ensures.value c.deref-2.ensures.value)
 

@@ -1,15 +1,19 @@
+use Rattle.std.proofs.Common.{◌≡◌, ◌∙◌, false, ap, sym}
 use Rattle.iox2_store.specs.machine.Environments.{fixed_handlers}
+use Rattle.iox2_domain.specs.Fields.{Fields}
+use Rattle.iox2_domain.specs.Updates.{is_open_subscriber}
+use Rattle.iox2_domain.proofs.lemmas.updates.PlaceCalls.{nothing-there}
 use Rattle.iox2_domain.proofs.lemmas.updates.HistoryConnects.{new-end, connects-with-history}
 use Rattle.iox2_ports.proofs.connects.connect_sender.Goals as goal
 
 pub hand_out_history-requires-clause-agrees : goal.hand_out_history-requires-clause-agrees
 hand_out_history-requires-clause-agrees g c =
-    let there = c.requires.agrees.open_ports.publishers c.args.publisher_place c.requires.publisher in
+    let there = c.requires.publisher in
     (c.in-Some.ensures there.0 there.1 (c.requires.settled there.0 there.1)).agrees
 
 pub hand_out_history-requires-clause-new_end : goal.hand_out_history-requires-clause-new_end
 hand_out_history-requires-clause-new_end g c =
-    let there = c.requires.agrees.open_ports.publishers c.args.publisher_place c.requires.publisher in
+    let there = c.requires.publisher in
     new-end fixed_handlers c.args.state.now c.requires.agrees c.args.publisher_place c.args.subscriber_place there.0 there.1 c.requires.subscriber c.in-Some.key c.make_sender_end.new.state
     (c.in-Some.ensures there.0 there.1 (c.requires.settled there.0 there.1))
 
@@ -20,3 +24,10 @@ returns-in-Some g c = λ x at.
 
 pub returns-in_default : goal.returns-in_default
 returns-in_default g c = λ x at. c.in_default.ensures x at (c.requires.settled x at)
+
+pub returns-then-not-is_open_at : goal.returns-then-not-is_open_at
+returns-then-not-is_open_at g c = λ x at.
+    let old = c.args.state.now in
+    let shut : is_open_subscriber old.subscribers c.args.subscriber_place ≡ false =
+    sym (c.is_open_at.ensures ∙ ap (λ ys. is_open_subscriber ys c.args.subscriber_place) (c.deref.ensures.value ∙ ap (λ (f : Fields g.row.T.Denot g.row.U.Denot). f.subscribers) c.state.view_is)) ∙ c.if-not-is_open_at.true in
+    nothing-there old c.requires.agrees c.args.publisher_place c.args.subscriber_place x at fixed_handlers (c.requires.settled x at) c.requires.none shut

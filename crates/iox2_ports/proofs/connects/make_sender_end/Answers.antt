@@ -1,4 +1,4 @@
-use Rattle.std.proofs.Common.{◌≡◌, ◌∙◌, true, false, ap, sym, is_some}
+use Rattle.std.proofs.Common.{◌≡◌, ◌∙◌, ap, sym}
 use Rattle.std.proofs.lemmas.List.{with_items_is}
 use Rattle.std.specs.declared.option.Option.TheVariants.{None, Some}
 use Rattle.circular_buffer.specs.Buffer.{buffer}
@@ -8,27 +8,23 @@ use Rattle.iox2_store.specs.machine.State.{warned}
 use Rattle.iox2_store.specs.declared.degradation.DegradationAction.TheVariants.{Warn}
 use Rattle.iox2_store.specs.declared.warning.Warning.TheVariants.{ConnectionNotMade}
 use Rattle.iox2_domain.specs.Fields.{Fields}
-use Rattle.iox2_domain.specs.Updates.{sender_key, receiver_key, changed_at, with_sender_key}
+use Rattle.iox2_domain.specs.Updates.{receiver_key, changed_at, key_from, with_sender_key}
 use Rattle.iox2_domain.proofs.lemmas.fields.Standing.{some-buffer}
-use Rattle.iox2_domain.proofs.lemmas.updates.SenderOutcomes.{answers-warn, joins-room, keeps-as, joins-as, makes-as, misses-as}
+use Rattle.iox2_domain.proofs.lemmas.updates.SenderOutcomes.{answers-warn, joins-room, joins-as, makes-as, misses-as}
 use Rattle.iox2_ports.proofs.connects.make_sender_end.Goals as goal
-
-pub returns-then-is_some : goal.returns-then-is_some
-returns-then-is_some g c = λ x at due.
-    let old = c.args.state.now in
-    let same : c.deref.result.now ≡ old.publishers = c.deref.ensures.value ∙ ap (λ (f : Fields g.row.T.Denot g.row.U.Denot). f.publishers) c.state.view_is in
-    let some : is_some (sender_key old.publishers c.args.publisher_place c.args.subscriber_place) ≡ true =
-    ap (λ xs. is_some (sender_key xs c.args.publisher_place c.args.subscriber_place)) (sym same) ∙ ap is_some (sym c.key_at.ensures) ∙ sym c.is_some.ensures ∙ c.if-is_some.true in
-    keeps-as fixed_handlers old c.requires.agrees c.args.publisher_place c.args.subscriber_place x at due c.requires.subscriber some
 
 pub set_key_at-requires-clause-room : goal.set_key_at-requires-clause-room
 set_key_at-requires-clause-room g c = λ x at.
     let old = c.args.state.now in
-    let same : c.deref_mut.result.now ≡ old.publishers = c.deref_mut.ensures.value ∙ ap (λ (f : Fields g.row.T.Denot g.row.U.Denot). f.publishers) c.state.view_is in
-    let subscribers : c.state.inside.subscribers.items ≡ old.subscribers = ap (λ (f : Fields g.row.T.Denot g.row.U.Denot). f.subscribers) c.state.view_is in
-    let key : receiver_key old.subscribers c.args.subscriber_place c.args.publisher_place ≡ Some c.in-Some.key =
-    ap (λ zs. receiver_key zs c.args.subscriber_place c.args.publisher_place) (sym (c.deref-2.ensures.value ∙ subscribers)) ∙ sym c.key_at-2.ensures ∙ c.in-Some.is in
-    joins-room old c.requires.agrees c.args.publisher_place c.args.subscriber_place x (rw same at at) c.requires.subscriber c.in-Some.key key
+    let viewed = c.state.view_is in
+    let publishers : c.state.inside.publishers.items ≡ old.publishers = ap (λ (f : Fields g.row.T.Denot g.row.U.Denot). f.publishers) viewed in
+    let subscribers : c.state.inside.subscribers.items ≡ old.subscribers = ap (λ (f : Fields g.row.T.Denot g.row.U.Denot). f.subscribers) viewed in
+    let connections : c.state.inside.connections ≡ old.connections = ap (λ (f : Fields g.row.T.Denot g.row.U.Denot). f.connections) viewed in
+    let other : c.key_at-other.result ≡ receiver_key old.subscribers c.args.subscriber_place c.args.publisher_place =
+    c.key_at-other.ensures ∙ ap (λ ys. receiver_key ys c.args.subscriber_place c.args.publisher_place) (c.deref.ensures.value ∙ subscribers) in
+    let looked : key_from old.connections c.ports_at-buffer.result.0.publisher (receiver_key old.subscribers c.args.subscriber_place c.args.publisher_place) ≡ Some c.in-Some.key =
+    sym (c.key_from.ensures ∙ (λ k. key_from (connections k) c.ports_at-buffer.result.0.publisher (other k))) ∙ c.in-Some.is in
+    joins-room old c.requires.agrees c.args.publisher_place c.args.subscriber_place x (rw (c.deref_mut.ensures.value ∙ publishers) at at) _ _ c.ports_at-buffer.ensures c.in-Some.key looked
 
 pub set_key_at-requires-2-clause-room : goal.set_key_at-requires-2-clause-room
 set_key_at-requires-2-clause-room g c = λ x at.
@@ -46,14 +42,16 @@ returns-in-Some g c = λ x at due.
     let viewed = c.state.view_is in
     let publishers : c.state.inside.publishers.items ≡ old.publishers = ap (λ (f : Fields g.row.T.Denot g.row.U.Denot). f.publishers) viewed in
     let subscribers : c.state.inside.subscribers.items ≡ old.subscribers = ap (λ (f : Fields g.row.T.Denot g.row.U.Denot). f.subscribers) viewed in
-    let none : is_some (sender_key old.publishers c.args.publisher_place c.args.subscriber_place) ≡ false =
-    ap (λ xs. is_some (sender_key xs c.args.publisher_place c.args.subscriber_place)) (sym (c.deref.ensures.value ∙ publishers)) ∙ ap is_some (sym c.key_at.ensures) ∙ sym c.is_some.ensures ∙ c.if-is_some.false in
-    let key : receiver_key old.subscribers c.args.subscriber_place c.args.publisher_place ≡ Some c.in-Some.key =
-    ap (λ ys. receiver_key ys c.args.subscriber_place c.args.publisher_place) (sym (c.deref-2.ensures.value ∙ subscribers)) ∙ sym c.key_at-2.ensures ∙ c.in-Some.is in
+    let connections : c.state.inside.connections ≡ old.connections = ap (λ (f : Fields g.row.T.Denot g.row.U.Denot). f.connections) viewed in
+    let other : c.key_at-other.result ≡ receiver_key old.subscribers c.args.subscriber_place c.args.publisher_place =
+    c.key_at-other.ensures ∙ ap (λ ys. receiver_key ys c.args.subscriber_place c.args.publisher_place) (c.deref.ensures.value ∙ subscribers) in
+    let looked : key_from old.connections c.ports_at-buffer.result.0.publisher (receiver_key old.subscribers c.args.subscriber_place c.args.publisher_place) ≡ Some c.in-Some.key =
+    sym (c.key_from.ensures ∙ (λ k. key_from (connections k) c.ports_at-buffer.result.0.publisher (other k))) ∙ c.in-Some.is in
     let written : _ ≡ changed_at (with_sender_key c.args.subscriber_place c.in-Some.key) old.publishers c.args.publisher_place =
     with_items_is c.state.inside.publishers c.set_key_at.new.ports (c.set_key_at.auto.ports ∙ c.deref_mut.ensures.len)
     ∙ c.set_key_at.ensures ∙ ap (λ xs. changed_at (with_sender_key c.args.subscriber_place c.in-Some.key) xs c.args.publisher_place) (c.deref_mut.ensures.value ∙ publishers) in
-    joins-as fixed_handlers old c.requires.agrees c.args.publisher_place c.args.subscriber_place x at due none c.requires.subscriber c.in-Some.key key _ (λ k. record (viewed k) { publishers = written k })
+    joins-as fixed_handlers old c.requires.agrees c.args.publisher_place c.args.subscriber_place x at due _ _ c.ports_at-buffer.ensures c.requires.none c.requires.opened
+    c.in-Some.key looked _ (λ k. record (viewed k) { publishers = written k })
 
 pub returns-in_default-make_between : goal.returns-in_default-make_between
 returns-in_default-make_between g c = λ x at due.
@@ -61,12 +59,14 @@ returns-in_default-make_between g c = λ x at due.
     let viewed = c.state.view_is in
     let publishers : c.state.inside.publishers.items ≡ old.publishers = ap (λ (f : Fields g.row.T.Denot g.row.U.Denot). f.publishers) viewed in
     let subscribers : c.state.inside.subscribers.items ≡ old.subscribers = ap (λ (f : Fields g.row.T.Denot g.row.U.Denot). f.subscribers) viewed in
-    let none : is_some (sender_key old.publishers c.args.publisher_place c.args.subscriber_place) ≡ false =
-    ap (λ xs. is_some (sender_key xs c.args.publisher_place c.args.subscriber_place)) (sym (c.deref.ensures.value ∙ publishers)) ∙ ap is_some (sym c.key_at.ensures) ∙ sym c.is_some.ensures ∙ c.if-is_some.false in
-    let nobody : receiver_key old.subscribers c.args.subscriber_place c.args.publisher_place ≡ None =
-    ap (λ ys. receiver_key ys c.args.subscriber_place c.args.publisher_place) (sym (c.deref-2.ensures.value ∙ subscribers)) ∙ sym c.key_at-2.ensures ∙ c.in_default.is in
+    let connections : c.state.inside.connections ≡ old.connections = ap (λ (f : Fields g.row.T.Denot g.row.U.Denot). f.connections) viewed in
+    let other : c.key_at-other.result ≡ receiver_key old.subscribers c.args.subscriber_place c.args.publisher_place =
+    c.key_at-other.ensures ∙ ap (λ ys. receiver_key ys c.args.subscriber_place c.args.publisher_place) (c.deref.ensures.value ∙ subscribers) in
+    let looked : key_from old.connections c.ports_at-buffer.result.0.publisher (receiver_key old.subscribers c.args.subscriber_place c.args.publisher_place) ≡ None =
+    sym (c.key_from.ensures ∙ (λ k. key_from (connections k) c.ports_at-buffer.result.0.publisher (other k))) ∙ c.in_default.is in
     let mid = c.make_between.new.state in
-    misses-as fixed_handlers old c.requires.agrees c.args.publisher_place c.args.subscriber_place x at due none nobody _ _ c.ports_at-buffer.ensures mid c.make_between.ensures.grows tt Warn
+    misses-as fixed_handlers old c.requires.agrees c.args.publisher_place c.args.subscriber_place x at due _ _ c.ports_at-buffer.ensures c.requires.none c.requires.opened
+    looked mid c.make_between.ensures.grows tt Warn
     (answers-warn fixed_handlers x.id x.degradation_handler _ (c.requires.agrees.plain c.args.publisher_place x at).degradation) c.warn.new.warnings
     c.in_default-make_between.ensures.refused
     (c.warn.ensures ∙ (λ k. buffer (warned (c.state-2.view_is k).warnings.items (c.not_made.ensures k)) warning_limit) ∙ ap (λ (f : Fields g.row.T.Denot g.row.U.Denot). buffer (warned f.warnings.items (ConnectionNotMade c.ports_at-buffer.result.0.publisher c.ports_at-buffer.result.0.subscriber)) warning_limit) c.make_between.ensures.grows.fields)
@@ -78,15 +78,17 @@ returns g c = λ x at due.
     let viewed = c.state.view_is in
     let publishers : c.state.inside.publishers.items ≡ old.publishers = ap (λ (f : Fields g.row.T.Denot g.row.U.Denot). f.publishers) viewed in
     let subscribers : c.state.inside.subscribers.items ≡ old.subscribers = ap (λ (f : Fields g.row.T.Denot g.row.U.Denot). f.subscribers) viewed in
-    let none : is_some (sender_key old.publishers c.args.publisher_place c.args.subscriber_place) ≡ false =
-    ap (λ xs. is_some (sender_key xs c.args.publisher_place c.args.subscriber_place)) (sym (c.deref.ensures.value ∙ publishers)) ∙ ap is_some (sym c.key_at.ensures) ∙ sym c.is_some.ensures ∙ c.if-is_some.false in
-    let nobody : receiver_key old.subscribers c.args.subscriber_place c.args.publisher_place ≡ None =
-    ap (λ ys. receiver_key ys c.args.subscriber_place c.args.publisher_place) (sym (c.deref-2.ensures.value ∙ subscribers)) ∙ sym c.key_at-2.ensures ∙ c.in_default.is in
+    let connections : c.state.inside.connections ≡ old.connections = ap (λ (f : Fields g.row.T.Denot g.row.U.Denot). f.connections) viewed in
+    let other : c.key_at-other.result ≡ receiver_key old.subscribers c.args.subscriber_place c.args.publisher_place =
+    c.key_at-other.ensures ∙ ap (λ ys. receiver_key ys c.args.subscriber_place c.args.publisher_place) (c.deref.ensures.value ∙ subscribers) in
+    let looked : key_from old.connections c.ports_at-buffer.result.0.publisher (receiver_key old.subscribers c.args.subscriber_place c.args.publisher_place) ≡ None =
+    sym (c.key_from.ensures ∙ (λ k. key_from (connections k) c.ports_at-buffer.result.0.publisher (other k))) ∙ c.in_default.is in
     let mid = c.make_between.new.state in
     let written : _ ≡ changed_at (with_sender_key c.args.subscriber_place c.in-Ok.key) mid.publishers c.args.publisher_place =
     with_items_is c.state-2.inside.publishers c.set_key_at-2.new.ports (c.set_key_at-2.auto.ports ∙ c.deref_mut-2.ensures.len)
     ∙ c.set_key_at-2.ensures
     ∙ ap (λ zs. changed_at (with_sender_key c.args.subscriber_place c.in-Ok.key) zs c.args.publisher_place) (c.deref_mut-2.ensures.value ∙ ap (λ (f : Fields g.row.T.Denot g.row.U.Denot). f.publishers) c.state-2.view_is) in
-    makes-as fixed_handlers old c.requires.agrees c.args.publisher_place c.args.subscriber_place x at due none nobody _ _ c.ports_at-buffer.ensures mid c.make_between.ensures.grows
+    makes-as fixed_handlers old c.requires.agrees c.args.publisher_place c.args.subscriber_place x at due _ _ c.ports_at-buffer.ensures c.requires.none c.requires.opened
+    looked mid c.make_between.ensures.grows
     c.in-Ok.ensures.sender_room c.in-Ok.ensures.receiver_room c.in-Ok.ensures.expired_room c.in-Ok.key c.in-Ok.ensures.made
     _ (λ k. record (c.state-2.view_is k) { publishers = written k })

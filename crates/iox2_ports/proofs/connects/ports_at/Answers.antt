@@ -6,8 +6,8 @@ use Rattle.iox2_ports.proofs.connects.ports_at.Goals as goal
 
 pub unreachable-requires : goal.unreachable-requires
 unreachable-requires g c =
-    let x = c.requires.agrees.open_ports.publishers c.args.publisher_place c.requires.publisher in
-    let y = c.requires.agrees.open_ports.subscribers c.args.subscriber_place c.requires.subscriber in
+    let x = c.requires.publisher in
+    let y = c.requires.subscriber in
     let at_x : slice_index_or c.state.inside.publishers.items c.args.publisher_place None ≡ Some x.0 = ap (λ (f : Fields g.row.T.Denot g.row.U.Denot). slice_index_or f.publishers c.args.publisher_place None) c.state.view_is ∙ x.1 in
     let at_y : slice_index_or c.state.inside.subscribers.items c.args.subscriber_place None ≡ Some y.0 = ap (λ (f : Fields g.row.T.Denot g.row.U.Denot). slice_index_or f.subscribers c.args.subscriber_place None) c.state.view_is ∙ y.1 in
     elim c.in_default.branch [

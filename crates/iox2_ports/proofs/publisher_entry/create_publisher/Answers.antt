@@ -43,8 +43,7 @@ returns-in_err-id-clause-step g c =
 
 pub update_publisher-requires-clause-stands : goal.update_publisher-requires-clause-stands
 update_publisher-requires-clause-stands g c =
-    let entered = c.in_ok-id.ensures in
-    within_if_some c.admit_publisher.new.state.publishers c.in_ok-place.place entered.stands.0 entered.stands.1
+    (c.in_ok-id.ensures.stands.0, c.in_ok-id.ensures.stands.1)
 
 pub returns-clause-step : goal.returns-clause-step
 returns-clause-step g c =

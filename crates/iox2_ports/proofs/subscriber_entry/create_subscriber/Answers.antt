@@ -1,11 +1,8 @@
-use Rattle.std.proofs.Common.{ap, get_or, refl, sym, ◌∙◌, None, Some}
-use Rattle.std.proofs.lemmas.List.{get_or-set_same}
+use Rattle.std.proofs.Common.{refl, sym, ◌∙◌, Some}
 use Rattle.std.proofs.lemmas.Result.{err_from_is_err_and}
-use Rattle.std.specs.Prelude.{false}
 use Rattle.iox2_store.specs.machine.Environments.{fixed_handlers}
-use Rattle.iox2_ends.proofs.MailboxChanges.{within_if_some}
 use Rattle.iox2_domain.specs.Kept.{state_of}
-use Rattle.iox2_domain.specs.Fields.{Fields, kept_of}
+use Rattle.iox2_domain.specs.Fields.{kept_of}
 use Rattle.iox2_domain.proofs.lemmas.creations.SubscriberEntries.{created-reaches, created-refused, created-made}
 use Rattle.iox2_ports.proofs.subscriber_entry.create_subscriber.Goals as goal
 
@@ -29,15 +26,19 @@ returns-in_err-id-clause-step g c =
 
 pub returns-clause-step : goal.returns-clause-step
 returns-clause-step g c =
-    created-reaches {T = g.row.T.Denot} {U = g.row.U.Denot} c.args.state.now c.args.asked fixed_handlers c.admit_subscriber.new.state c.update_subscriber.new.state c.in_ok-place.place
-    (sym c.place_for_subscriber.ensures ∙ c.in_ok-place.was) c.in_ok-id.ensures.step c.update_subscriber.ensures
+    created-reaches {T = g.row.T.Denot} {U = g.row.U.Denot} c.args.state.now c.args.asked fixed_handlers c.admit_subscriber.new.state c.update_first.new.state c.in_ok-place.place
+    (sym c.place_for_subscriber.ensures ∙ c.in_ok-place.was) c.in_ok-id.ensures.step c.update_first.ensures
 
 pub returns-clause-stands : goal.returns-clause-stands
 returns-clause-stands g c =
     let entered = c.in_ok-id.ensures.step in
-    let updated = c.update_subscriber.ensures entered.1 entered.2 in (
-      record entered.1 { keys = updated.keys; key_room = updated.key_room; expired_room = updated.expired_room; is_due = false },
-      ap (λ (f : Fields g.row.T.Denot g.row.U.Denot). get_or f.subscribers c.in_ok-place.place None) updated.fields
-          ∙ get_or-set_same c.admit_subscriber.new.state.subscribers c.in_ok-place.place (Some (record entered.1 { keys = updated.keys; key_room = updated.key_room; expired_room = updated.expired_room; is_due = false })) None (within_if_some c.admit_subscriber.new.state.subscribers c.in_ok-place.place entered.1 entered.2),
-      entered.3 ∙ sym c.in_ok-id.ensures.id,
-    )
+    let updated = c.update_first.ensures entered.1 entered.2 in
+    (updated.subscriber, updated.stands, updated.is_its ∙ entered.3 ∙ sym c.in_ok-id.ensures.id)
+
+pub update_first-requires-clause-agrees : goal.update_first-requires-clause-agrees
+update_first-requires-clause-agrees g c = c.in_ok-id.ensures.step.0.agrees
+
+pub update_first-requires-clause-stands : goal.update_first-requires-clause-stands
+update_first-requires-clause-stands g c =
+    let entered = c.in_ok-id.ensures.step in
+    (entered.1, entered.2, entered.3 ∙ sym c.in_ok-id.ensures.id)

@@ -6,7 +6,7 @@ use Rattle.std.specs.Option.{option_map, option_map_or}
 use Rattle.iox2_store.specs.machine.Environments.{fixed_handlers}
 use Rattle.iox2_domain.specs.Fields.{Fields}
 use Rattle.iox2_domain.specs.Updates.{changed_at, updated_publisher}
-use Rattle.iox2_domain.proofs.lemmas.updates.SenderUpdates.{WalksSender, walk-begins, walk-more, walk-updates, walking-stands, walking-publishers, walking-subscribers, due-at}
+use Rattle.iox2_domain.proofs.lemmas.updates.SenderUpdates.{WalksSender, walk-begins, walk-more, walk-updates, walking-stands, walking-subscribers, due-at}
 use Rattle.iox2_ports.proofs.updates.connect_publisher.Goals as goal
 
 pub loop-other-init : goal.loop-other-init
@@ -21,28 +21,29 @@ loop-other-init g c = λ x at.
     (sym ((λ k. record (viewed k) { publishers = settled k }) ∙ ap (λ o. record old { publishers = slice_set old.publishers c.args.place (option_map updated_publisher o) }) at))
     (walk-begins fixed_handlers old c.requires.agrees c.args.place x at)
 
-pub connect_sender-requires-clause-agrees : goal.connect_sender-requires-clause-agrees
-connect_sender-requires-clause-agrees g c =
-    let there = c.requires.agrees.open_ports.publishers c.args.place c.requires.stands in
+pub update_sender_place-requires-clause-agrees : goal.update_sender_place-requires-clause-agrees
+update_sender_place-requires-clause-agrees g c =
+    let there = c.requires.stands in
     (c.loop-other.invariant there.0 there.1).agrees
 
-pub connect_sender-requires-clause-publisher : goal.connect_sender-requires-clause-publisher
-connect_sender-requires-clause-publisher g c =
-    let there = c.requires.agrees.open_ports.publishers c.args.place c.requires.stands in
-    rw (walking-publishers fixed_handlers c.args.state.now c.args.place there.0 _ _ None (c.loop-other.invariant there.0 there.1)) c.requires.stands
+pub update_sender_place-requires-clause-publisher : goal.update_sender_place-requires-clause-publisher
+update_sender_place-requires-clause-publisher g c =
+    let old = c.args.state.now in
+    let there = c.requires.stands in
+    (_, walking-stands fixed_handlers old c.requires.agrees c.args.place there.0 there.1 c.loop-other.other c.loop-other.state None (c.loop-other.invariant there.0 there.1))
 
-pub connect_sender-requires-clause-subscriber : goal.connect_sender-requires-clause-subscriber
-connect_sender-requires-clause-subscriber g c =
-    let there = c.requires.agrees.open_ports.publishers c.args.place c.requires.stands in
+pub update_sender_place-requires-clause-subscriber : goal.update_sender_place-requires-clause-subscriber
+update_sender_place-requires-clause-subscriber g c =
+    let there = c.requires.stands in
     let size : vec_len c.state.inside.subscribers ≡ length c.state.inside.subscribers.items = search rules in
     let same : length c.state.inside.subscribers.items ≡ length c.args.state.now.subscribers = ap (λ (f : Fields g.row.T.Denot g.row.U.Denot). length f.subscribers) c.state.view_is in
     let walking = walking-subscribers fixed_handlers c.args.state.now c.args.place there.0 _ _ None (c.loop-other.invariant there.0 there.1) in
     omega arith
 
-pub connect_sender-requires-clause-settled : goal.connect_sender-requires-clause-settled
-connect_sender-requires-clause-settled g c = λ z at_z.
+pub update_sender_place-requires-clause-settled : goal.update_sender_place-requires-clause-settled
+update_sender_place-requires-clause-settled g c = λ z at_z.
     let old = c.args.state.now in
-    let there = c.requires.agrees.open_ports.publishers c.args.place c.requires.stands in
+    let there = c.requires.stands in
     let stands = walking-stands fixed_handlers old c.requires.agrees c.args.place there.0 there.1 c.loop-other.other c.loop-other.state None (c.loop-other.invariant there.0 there.1) in
     ap (λ o. option_map_or (λ (w : PublisherFields). w.is_due) o false) (sym at_z ∙ stands)
 
@@ -52,8 +53,8 @@ loop-other-preserved g c = λ x at.
     let walks = c.loop-other.invariant x at in
     let size : vec_len c.state.inside.subscribers ≡ length c.state.inside.subscribers.items = search rules in
     let same : length c.state.inside.subscribers.items ≡ length old.subscribers = ap (λ (f : Fields g.row.T.Denot g.row.U.Denot). length f.subscribers) c.state.view_is in
-    walk-more fixed_handlers old c.requires.agrees c.args.place x at c.loop-other.other c.loop-other.state None walks (omega arith) c.connect_sender.new.state None
-    (c.connect_sender.ensures (record x { keys = walks.keys; key_room = walks.key_room; is_due = false }) (walking-stands fixed_handlers old c.requires.agrees c.args.place x at c.loop-other.other c.loop-other.state None walks))
+    walk-more fixed_handlers old c.requires.agrees c.args.place x at c.loop-other.other c.loop-other.state None walks (omega arith) c.update_sender_place.new.state None
+    (c.update_sender_place.ensures (record x { keys = walks.keys; key_room = walks.key_room; is_due = false }) (walking-stands fixed_handlers old c.requires.agrees c.args.place x at c.loop-other.other c.loop-other.state None walks))
 
 pub returns : goal.returns
 returns g c = λ x at.

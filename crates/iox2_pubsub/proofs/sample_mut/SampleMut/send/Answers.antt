@@ -1,27 +1,31 @@
-use Rattle.std.proofs.Common.{◌≡◌, ap, sym, subst, ◌∙◌}
+use Rattle.std.proofs.Common.{ap, sym, subst, ◌∙◌}
 use Rattle.iox2_store.specs.machine.Environments.{fixed_handlers}
-use Rattle.iox2_store.specs.machine.Sends.{Delivered_to, Blocked_send}
+use Rattle.iox2_store.specs.machine.Sends.{Send}
 use Rattle.iox2_store.specs.machine.State.{State}
 use Rattle.iox2_domain.specs.Fields.{kept_of}
 use Rattle.iox2_domain.specs.Kept.{Kept, state_of}
 use Rattle.iox2_domain.specs.LoanCalls.{HoldsWritten}
+use Rattle.iox2_domain.specs.SentLoans.{send_result}
 use Rattle.iox2_domain.specs.Shows.{Shows}
-use Rattle.iox2_pubsub.proofs.SendShown.{machine-sends, send-shown}
+use Rattle.iox2_pubsub.proofs.SendShown.{machine-sends, sent-shown}
 use Rattle.iox2_pubsub.specs.Live.{written_key}
-use Rattle.iox2_pubsub.proofs.CallsStay.{always-shown, send-stays, send-spends}
+use Rattle.iox2_pubsub.specs.SendCalls.{result_of_send}
+use Rattle.iox2_pubsub.proofs.CallsStay.{always-shown, sent-stays, send-spends}
 use Rattle.iox2_pubsub.proofs.LiveParts.{written-parts}
 use Rattle.iox2_pubsub.proofs.sample_mut.SampleMut.send.Goals as goal
 
-pub send_loan-count-requires-clause-live : goal.send_loan-count-requires-clause-live
-send_loan-count-requires-clause-live g c =
+pub send_loan-requires-clause-live : goal.send_loan-requires-clause-live
+send_loan-requires-clause-live g c =
     subst (λ (k : Kept g.row.T.Denot g.row.U.Denot). HoldsWritten (state_of k) c.args.self.loan.publisher c.args.self.loan.number) (sym c.domain.view_is) (written-parts c.args.domain.now c.args.self c.requires).1
 
 pub returns-clause-sent : goal.returns-clause-sent
 returns-clause-sent g c = λ m s l shown out.
     let before = subst (λ (k : Kept g.row.T.Denot g.row.U.Denot). Shows k m s) (sym c.domain.view_is) shown in (
-      state_of (kept_of c.send_loan-count.new.state),
-      send-shown fixed_handlers c.domain.inside.state c.send_loan-count.new.state c.args.self.loan.number (Delivered_to c.send_loan-count.result) c.send_loan-count.ensures m s l before out,
-      machine-sends fixed_handlers c.domain.inside.state c.send_loan-count.new.state c.args.self.loan.number (Delivered_to c.send_loan-count.result) c.send_loan-count.ensures m s l before out,
+      state_of (kept_of c.send_loan.new.state),
+      sent-shown fixed_handlers c.domain.inside.state c.send_loan.new.state c.args.self.loan.number (send_result c.send_loan.result) c.send_loan.ensures.sends m s l before out
+          c.outcome_of.result (sym c.outcome_of.ensures.same),
+      subst (Send fixed_handlers s c.args.self.loan.number l (state_of (kept_of c.send_loan.new.state))) (sym c.outcome_of.ensures.same)
+          (machine-sends fixed_handlers c.domain.inside.state c.send_loan.new.state c.args.self.loan.number (send_result c.send_loan.result) c.send_loan.ensures.sends m s l before out),
     )
 
 pub returns-clause-spent : goal.returns-clause-spent
@@ -29,7 +33,7 @@ returns-clause-spent g c = λ live.
     let it = always-shown {T = g.row.T.Denot} {U = g.row.U.Denot} c.domain.inside.state c.args.domain.now c.domain.invariant c.domain.view_is in
     let has = (written-parts c.args.domain.now c.args.self c.requires).1 in
     let step = returns-clause-sent g c it.0 it.1 has.0 it.2 (ap (λ (t : State g.row.T.Denot g.row.U.Denot). t.loans c.args.self.loan.number) (it.2).state ∙ has.1) in
-    send-spends {T = g.row.T.Denot} {U = g.row.U.Denot} c.args.domain.now _ it.0 it.1 it.2 fixed_handlers (written_key c.args.self) has.0 (Delivered_to c.send_loan-count.result) _ step.0 step.1 step.2 live
+    send-spends {T = g.row.T.Denot} {U = g.row.U.Denot} c.args.domain.now _ it.0 it.1 it.2 fixed_handlers (written_key c.args.self) has.0 (result_of_send c.outcome_of.result) _ step.0 step.1 step.2 live
 
 pub returns-clause-stays : goal.returns-clause-stays
 returns-clause-stays g c =
@@ -37,5 +41,4 @@ returns-clause-stays g c =
     let has = (written-parts c.args.domain.now c.args.self c.requires).1 in
     let out = ap (λ (t : State g.row.T.Denot g.row.U.Denot). t.loans c.args.self.loan.number) (it.2).state ∙ has.1 in
     let step = returns-clause-sent g c it.0 it.1 has.0 it.2 out in
-    send-stays {T = g.row.T.Denot} {U = g.row.U.Denot} c.args.domain.now _ it.0 it.1 it.2 fixed_handlers c.args.self.loan.number has.0 out (Delivered_to c.send_loan-count.result) _ step.0 step.1 step.2
-    (λ e. let clash : Delivered_to c.send_loan-count.result ≡ Blocked_send = e in absurd cc)
+    sent-stays {T = g.row.T.Denot} {U = g.row.U.Denot} c.args.domain.now _ it.0 it.1 it.2 c.args.self.loan.number has.0 out c.outcome_of.result step.0 step.1 step.2

@@ -1,10 +1,9 @@
-use Rattle.std.proofs.Common.{None}
 use Rattle.iox2_store.specs.machine.Environments.{fixed_handlers}
 use Rattle.iox2_domain.specs.Fields.{kept_of}
 use Rattle.iox2_laws.proofs.LoanKeeping.{has_samples_loans}
 use Rattle.iox2_laws.proofs.PortsStay.{update_subscriber_stays}
 use Rattle.iox2_pubsub.proofs.CallsStay.{always-shown}
-use Rattle.iox2_pubsub.proofs.QuestionShown.{answer-at, answer-shows}
+use Rattle.iox2_pubsub.proofs.QuestionShown.{answer-at, answer-shows, answered}
 use Rattle.iox2_pubsub.proofs.ReceptionShown.{subscriber-missing}
 use Rattle.iox2_pubsub.proofs.UpdatesStay.{updates-stay}
 use Rattle.iox2_pubsub.proofs.subscriber.Subscriber.has_samples.Goals as goal
@@ -24,6 +23,7 @@ pub returns-clause-stays : goal.returns-clause-stays
 returns-clause-stays g c =
     let it = always-shown {T = g.row.T.Denot} {U = g.row.U.Denot} c.domain.inside.state c.args.domain.now c.domain.invariant c.domain.view_is in
     let step = returns-clause-answers g c it.0 it.1 it.2 in
+    let has = answered {T = g.row.T.Denot} {U = g.row.U.Denot} it.1 c.args.self.now.id c.has_samples_at.result step.0 step.2 in
     updates-stay {T = g.row.T.Denot} {U = g.row.U.Denot} c.args.domain.now (kept_of c.has_samples_at.new.state) it.0 it.1 step.0 it.2 step.1
-    (update_subscriber_stays fixed_handlers it.1 c.args.self.now.id step.0 None (step.2).0)
-    (has_samples_loans fixed_handlers it.1 c.args.self.now.id step.0 None c.has_samples_at.result step.2)
+    (update_subscriber_stays fixed_handlers it.1 c.args.self.now.id step.0 has.0 (has.2).0)
+    (has_samples_loans fixed_handlers it.1 c.args.self.now.id step.0 has.0 has.1 has.2)

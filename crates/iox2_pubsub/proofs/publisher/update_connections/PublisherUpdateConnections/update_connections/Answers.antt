@@ -28,3 +28,6 @@ returns-clause-stays g c =
     let step = returns-clause-updates g c it.0 it.1 it.2 in
     updates-stay {T = g.row.T.Denot} {U = g.row.U.Denot} c.args.domain.now (kept_of c.update_publisher.new.state) it.0 it.1 step.0 it.2 step.1
     (update_publisher_stays fixed_handlers it.1 c.args.self.now.id step.0 None step.2) (update_publisher_loans fixed_handlers it.1 c.args.self.now.id step.0 None step.2)
+
+pub update_publisher-requires-clause-stands : goal.update_publisher-requires-clause-stands
+update_publisher-requires-clause-stands g c = (c.in-Some.ensures.0, c.in-Some.ensures.1)

@@ -1,4 +1,6 @@
-use Rattle.std.proofs.Common.{None}
+use Rattle.std.proofs.Common.{subst, sym}
+use Rattle.iox2_domain.specs.ReceiverSteps.{UpdatesReceiver}
+use Rattle.iox2_pubsub.specs.UpdateCalls.{failure_of}
 use Rattle.iox2_store.specs.machine.Environments.{fixed_handlers}
 use Rattle.iox2_laws.proofs.LoanKeeping.{update_subscriber_loans}
 use Rattle.iox2_laws.proofs.PortsStay.{update_subscriber_stays}
@@ -15,16 +17,18 @@ unreachable-requires g c =
     c.in_default.ensures c.requires
 
 pub invariant_of-domain : goal.invariant_of-domain
-invariant_of-domain g c = (c.update_subscriber.ensures c.in-Some.ensures.0 c.in-Some.ensures.1).reaches.agrees
+invariant_of-domain g c = (c.update_subscriber.ensures c.in-Some.ensures.0 c.in-Some.ensures.1).changes.agrees
 
 pub returns-clause-updates : goal.returns-clause-updates
 returns-clause-updates g c = λ m s shown.
     subscriber-update-shows {T = g.row.T.Denot} {U = g.row.U.Denot} fixed_handlers c.args.domain.now c.domain.inside.state c.update_subscriber.new.state c.domain.view_is
-    c.in-Some.place c.args.self.now.id m s shown c.in-Some.ensures c.update_subscriber.ensures
+    c.in-Some.place c.args.self.now.id m s shown (failure_of c.outcome_of.result) c.in-Some.ensures
+    (λ y at. subst (UpdatesReceiver fixed_handlers c.domain.inside.state c.in-Some.place y c.update_subscriber.new.state) (sym c.outcome_of.ensures) (c.update_subscriber.ensures y at))
 
 pub returns-clause-stays : goal.returns-clause-stays
 returns-clause-stays g c =
     let it = always-shown {T = g.row.T.Denot} {U = g.row.U.Denot} c.domain.inside.state c.args.domain.now c.domain.invariant c.domain.view_is in
     let step = returns-clause-updates g c it.0 it.1 it.2 in
     updates-stay {T = g.row.T.Denot} {U = g.row.U.Denot} c.args.domain.now (kept_of c.update_subscriber.new.state) it.0 it.1 step.0 it.2 step.1
-    (update_subscriber_stays fixed_handlers it.1 c.args.self.now.id step.0 None step.2) (update_subscriber_loans fixed_handlers it.1 c.args.self.now.id step.0 None step.2)
+    (update_subscriber_stays fixed_handlers it.1 c.args.self.now.id step.0 (failure_of c.outcome_of.result) step.2)
+    (update_subscriber_loans fixed_handlers it.1 c.args.self.now.id step.0 (failure_of c.outcome_of.result) step.2)

@@ -1,0 +1,12 @@
+pub mod OwnedParts
+pub mod ForgottenKeys
+pub mod ForgottenStates
+pub mod ClosedSubscribers
+pub mod KeptMessages
+pub mod LeftRecounts
+pub mod Sheds
+pub mod CloseSteps
+pub mod CloseWalk
+pub mod CloseEnds
+pub mod CloseReads
+pub mod FreedBooks

@@ -1,0 +1,56 @@
+-- A subscriber's record is written over by another of the same id.
+use Rattle.std.proofs.Common.{◌≡◌, ℕ, List, map, get_or, slice_set, refl, ap, ◌∙◌}
+use Rattle.std.proofs.lemmas.Bool.{eq-eqb}
+use Rattle.std.proofs.lemmas.List.{map-set}
+use Rattle.std.specs.declared.option.Option.{Option}
+use Rattle.std.specs.declared.option.Option.TheVariants.{None, Some}
+use Rattle.std.specs.Option.{option_map}
+use Rattle.iox2_store.specs.machine.Numbers.{put_at}
+use Rattle.iox2_store.specs.machine.Records.{Subscriber}
+use Rattle.iox2_ends.specs.LookUp.{IsOnly}
+use Rattle.iox2_ends.proofs.LookUps.{look_up-found}
+use Rattle.iox2_domain.specs.Ports.{SubscriberFields}
+use Rattle.iox2_domain.specs.Kept.{Named, state_of, port_named, ids, is_named}
+use Rattle.iox2_domain.specs.Fields.{Fields, kept_of, subscriber_of}
+use Rattle.iox2_domain.specs.Invariant.{is_subscriber}
+use Rattle.iox2_domain.proofs.lemmas.containers.ChangedRecords.{changed-ids, changed-ports}
+use Rattle.iox2_domain.proofs.lemmas.containers.LookUps.{IsOnly-map, look_up-map, map-at}
+use mathlib.Core.Path.{fun_ext}
+
+-- a subscriber that stands somewhere is in the state
+pub subscriber-in : {T U : Type 0} (f : Fields T U) → ((q : ℕ) → IsOnly (is_subscriber q) f.subscribers) → (i : ℕ) (y : SubscriberFields) → get_or f.subscribers i None ≡ Some y
+    → (state_of (kept_of f)).subscribers y.id ≡ Some ((subscriber_of f.books f.connections y).port)
+subscriber-in f only i y at =
+    ap (option_map (λ (w : Named Subscriber). w.port))
+    (look_up-map (is_named y.id) (subscriber_of f.books f.connections) f.subscribers
+    ∙ ap (option_map (subscriber_of f.books f.connections)) (look_up-found (is_subscriber y.id) f.subscribers i y (only y.id) at (eq-eqb y.id y.id refl)))
+
+module _ {T U : Type 0} (f : Fields T U) (j : ℕ) (y z : SubscriberFields) (at : get_or f.subscribers j None ≡ Some y) (same : z.id ≡ y.id)
+    (only : (q : ℕ) → IsOnly (is_subscriber q) f.subscribers) where
+  -- the fields with it
+  abbrev pub with_subscriber : Fields T U
+  with_subscriber = record f { subscribers = slice_set f.subscribers j (Some z) }
+
+  abbrev view : SubscriberFields → Named Subscriber
+  view w = subscriber_of f.books f.connections w
+
+  abbrev shown : List (Option (Named Subscriber))
+  shown = map (option_map view) f.subscribers
+
+  shown-set : map (option_map view) (slice_set f.subscribers j (Some z)) ≡ slice_set shown j (Some (view z))
+  shown-set = map-set (option_map view) f.subscribers j (Some z)
+
+  stands-shown : get_or shown j None ≡ Some (view y)
+  stands-shown = map-at view f.subscribers j ∙ ap (option_map view) at
+
+  -- the machine's subscriber is written over
+  pub subscriber_set-is : state_of (kept_of with_subscriber) ≡ record (state_of (kept_of f)) {
+    subscribers = put_at (state_of (kept_of f)).subscribers y.id (Some ((subscriber_of f.books f.connections z).port));
+  }
+  subscriber_set-is = λ k. record (state_of (kept_of f)) { subscribers = all k; subscriber_places = places k } where
+    all : (state_of (kept_of with_subscriber)).subscribers ≡ put_at (state_of (kept_of f)).subscribers y.id (Some ((subscriber_of f.books f.connections z).port))
+    all = fun_ext (λ q. ap (port_named q) shown-set
+        ∙ changed-ports shown j (view y) (view z) stands-shown same (λ id. IsOnly-map view (is_subscriber id) (is_named id) (λ w. refl) f.subscribers (only id)) q)
+
+    places : (state_of (kept_of with_subscriber)).subscriber_places ≡ (state_of (kept_of f)).subscriber_places
+    places = ap ids shown-set ∙ changed-ids shown j (view y) (view z) stands-shown same

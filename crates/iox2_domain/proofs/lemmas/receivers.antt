@@ -1,0 +1,23 @@
+-- A subscriber's update, whichever publishers were closed.
+pub mod SoundStanding
+pub mod DepartedEnds
+pub mod LeftEnds
+pub mod LeftStates
+pub mod DroppedEnds
+pub mod LeftChanges
+pub mod Retirements
+pub mod Evictions
+pub mod ExpiredKeys
+pub mod Choices
+pub mod RetiredFields
+pub mod Compositions
+pub mod Disconnects
+pub mod SoundExtends
+pub mod JoinChanges
+pub mod JoinAgrees
+pub mod GrownRoom
+pub mod Joins
+pub mod Outcomes
+pub mod Connects
+pub mod FoundEnds
+pub mod Walks

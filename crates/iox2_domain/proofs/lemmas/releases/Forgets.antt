@@ -1,0 +1,75 @@
+-- A subscriber forgets the connection at a key, or not, after it gave something back to a departed publisher.
+use Rattle.std.proofs.Common.{◌≡◌, ℕ, get_or, slice_set, Option, None, Some, ap, sym, subst, ◌∙◌}
+use Rattle.std.proofs.lemmas.List.{get_or-set_same}
+use Rattle.std.specs.Option.{option_map, IsSomeAnd}
+use Rattle.slab.specs.Slab.{Slab, Updates, get}
+use Rattle.iox2_store.specs.Link.{Link, load}
+use Rattle.iox2_store.specs.declared.connection.Home.{Home}
+use Rattle.iox2_store.specs.machine.Releases.{subscriber_pruned, unborrowed}
+use Rattle.iox2_store.specs.machine.State.{State}
+use Rattle.iox2_store.specs.machine.WellFormed.{IsWellFormed}
+use Rattle.iox2_ends.specs.LookUp.{look_up}
+use Rattle.iox2_ends.proofs.MailboxChanges.{within_if_some}
+use Rattle.iox2_domain.specs.Departures.{forgotten}
+use Rattle.iox2_domain.specs.Fields.{Fields}
+use Rattle.iox2_domain.specs.Invariant.{is_publisher, HasParts}
+use Rattle.iox2_domain.specs.Midway.{IsMidway}
+use Rattle.iox2_domain.specs.Ports.{SubscriberFields}
+use Rattle.iox2_domain.specs.Updates.{changed_at}
+use Rattle.iox2_domain.proofs.lemmas.fields.Standing.{some_is}
+use Rattle.iox2_domain.proofs.lemmas.releases.Departed.{departed-midway, left-midway}
+
+-- the subscriber of a connection stands at its place
+abbrev pub ItsSubscriber : {T U : Type 0} → Fields T U → Home → Type 0
+ItsSubscriber f home = (y : SubscriberFields) × (get_or f.subscribers home.subscriber_place None ≡ Some y) × (y.id ≡ home.subscriber)
+
+-- what a step is midway comes to where the subscriber is pruned after it gave a message back
+abbrev pub PrunesMidway : {T U : Type 0} → Fields T U → Home → Fields T U → Type 0
+PrunesMidway {T} {U} f home new = (before : Fields T U) (s : State T U) (n book : ℕ) → IsWellFormed s → IsMidway before f (unborrowed s home.publisher home.subscriber n) book
+    → IsMidway before new (subscriber_pruned (unborrowed s home.publisher home.subscriber n) home.subscriber) book
+
+-- the fields without the connection at the key, which the subscriber at the place has forgotten
+abbrev pub without_connection : {T U : Type 0} → Fields T U → (place key : ℕ) → Slab Link → Fields T U
+without_connection f place key new = record f { subscribers = changed_at (forgotten key) f.subscribers place; connections = new }
+
+module _ {T U : Type 0} (f : Fields T U) (parts : HasParts f) (key : ℕ) (home : Home) (there : IsSomeAnd (get f.connections key) (λ (c : Link). c.home ≡ home))
+    (gone : look_up (is_publisher home.publisher) f.publishers ≡ None) (stands : ItsSubscriber f home) where
+  own : (c : Link) × (get f.connections key ≡ Some c) × (c.home ≡ home)
+  own = some_is (λ (c : Link). c.home ≡ home) (get f.connections key) there
+
+  abbrev y : SubscriberFields
+  y = stands.0
+
+  mine : own.0.home.subscriber ≡ y.id
+  mine = ap (λ (h : Home). h.subscriber) own.2 ∙ sym stands.2
+
+  gone-there : look_up (is_publisher own.0.home.publisher) f.publishers ≡ None
+  gone-there = ap (λ (h : Home). look_up (is_publisher h.publisher) f.publishers) own.2 ∙ gone
+
+  -- what is shown of the connection's home is so of this one
+  at-home : (new : Fields T U) → ((before : Fields T U) (s : State T U) (n book : ℕ) → IsWellFormed s → IsMidway before f (unborrowed s own.0.home.publisher y.id n) book
+      → IsMidway before new (subscriber_pruned (unborrowed s own.0.home.publisher y.id n) y.id) book) → PrunesMidway f home new
+  at-home new shown =
+      subst (λ (h : Home). PrunesMidway f h new) own.2 (λ before s n book well.
+      subst (λ (q : ℕ). IsMidway before f (unborrowed s own.0.home.publisher q n) book → IsMidway before new (subscriber_pruned (unborrowed s own.0.home.publisher q n) q) book) (sym mine)
+      (shown before s n book well))
+
+  -- no slot stands there
+  pub forgets : ((c : Link) → get f.connections key ≡ Some c → load c ≡ 0) → (new : Slab Link) → Updates f.connections new key None → PrunesMidway f home (without_connection f home.subscriber_place key new)
+  forgets empty new goes = at-home (without_connection f home.subscriber_place key new) (λ before s n book well midway.
+      subst (λ (o : Option SubscriberFields). IsMidway before (record f { subscribers = slice_set f.subscribers home.subscriber_place (option_map (forgotten key) o); connections = new })
+      (subscriber_pruned (unborrowed s own.0.home.publisher y.id n) y.id) book) (sym stands.1)
+      (departed-midway s well n f parts home.subscriber_place y stands.1 key own.0 own.1 mine (empty own.0 own.1) gone-there new goes midway.state before book midway))
+
+  -- some slot does
+  pub keeps : ((c : Link) → get f.connections key ≡ Some c → load c ≡ 0 → ⊥) → PrunesMidway f home f
+  keeps full = at-home f (λ before s n book well midway. left-midway s well n f parts home.subscriber_place y stands.1 key own.0 own.1 mine (full own.0 own.1) gone-there before book midway)
+
+  -- the subscriber still stands there
+  pub stands-still : (new : Slab Link) → ItsSubscriber (without_connection f home.subscriber_place key new) home
+  stands-still new = (
+    forgotten key y,
+    get_or-set_same f.subscribers home.subscriber_place (option_map (forgotten key) (get_or f.subscribers home.subscriber_place None)) None (within_if_some f.subscribers home.subscriber_place y stands.1)
+        ∙ ap (option_map (forgotten key)) stands.1,
+    stands.2,
+  )

@@ -1,0 +1,64 @@
+-- What the close of a publisher leaves of a domain's fields.
+use Rattle.std.specs.Prelude.{◌≡◌, ℕ, Bool, true, false, cond, ◌+◌, ◌==◌, ◌&&◌, List, length, map, slice_index, slice_index_or, slice_set}
+use Rattle.std.specs.declared.option.Option.{Option}
+use Rattle.std.specs.declared.option.Option.TheVariants.{None, Some}
+use Rattle.std.specs.Option.{option_map, option_map_or, option_and_then}
+use Rattle.std.specs.List.{sum_by}
+use Rattle.slab.specs.Slab.{Slab, get, with_value}
+use Rattle.iox2_store.specs.Link.{Link}
+use Rattle.iox2_store.specs.SlotBook.{Book}
+use Rattle.iox2_store.specs.machine.Places.{is_port}
+use Rattle.iox2_ends.specs.Counters.{times, stands, with_counters}
+use Rattle.iox2_ends.specs.Leaves.{left_link, holds_slots}
+use Rattle.iox2_domain.specs.Ports.{PublisherFields, SubscriberFields}
+use Rattle.iox2_domain.specs.Fields.{Fields}
+
+-- ---- one connection
+
+-- This subscriber is the connection's, is open, and has it at this key.
+abbrev pub joins : (key : ℕ) → Link → SubscriberFields → Bool
+joins key c y = (y.id == c.home.subscriber) && (y.is_open && is_port (slice_index_or y.keys c.home.publisher_place None) key)
+
+-- What waits in the connection at the key waits for somebody: its subscriber is open and has its end.
+abbrev pub is_awaited : List (Option SubscriberFields) → (key : ℕ) → Link → Bool
+is_awaited subscribers key c = option_map_or (joins key c) (slice_index_or subscribers c.home.subscriber_place None) false
+
+-- The connection, where some slot waits or is borrowed.
+abbrev pub if_holding : Link → Option Link
+if_holding c = cond (holds_slots c) (Some c) None
+
+-- What is left of the connection at the key when the publisher p leaves.
+abbrev pub after_close : (p : ℕ) → List (Option SubscriberFields) → (key : ℕ) → Link → Option Link
+after_close p subscribers key c = cond (c.home.publisher == p) (if_holding (left_link (is_awaited subscribers key c) c)) (Some c)
+
+-- ---- all of them
+
+-- The publisher p has left its connections. Where nothing waits or is borrowed any more, the connection is gone.
+pub record LeavesConnections (p : ℕ) (subscribers : List (Option SubscriberFields)) (old new : Slab Link) : Type 0 where
+  pub at : (key : ℕ) → get new key ≡ option_and_then (after_close p subscribers key) (get old key)
+
+-- The keys without the one at the place, where it leads to no connection any more.
+abbrev pub keys_left : Slab Link → (place : ℕ) → List (Option ℕ) → List (Option ℕ)
+keys_left connections place keys =
+    elim (option_and_then (get connections) (slice_index_or keys place None)) [ None ↦ slice_set keys place None | Some c ↦ keys ]
+
+-- The subscriber without its end at the publisher's place, where that led to a connection that is gone; and due.
+abbrev pub left_subscriber : Slab Link → (place : ℕ) → SubscriberFields → SubscriberFields
+left_subscriber connections place y = record y { keys = keys_left connections place y.keys; is_due = true }
+
+-- Each slot of the publisher x has one holder less for each place where it stood in its history or its connections and
+-- stands no more.
+pub record LeavesSlots (x : PublisherFields) (holders : List ℕ) (connections : List (Option Link)) (holders' : List ℕ) (connections' : List (Option Link)) : Type 0 where
+  pub slots : length holders' ≡ length holders
+  pub at : (slot : ℕ) → slice_index holders' slot + times slot (x.history).items + sum_by (stands x.id slot) connections
+      ≡ slice_index holders slot + sum_by (stands x.id slot) connections'
+
+module _ {T U : Type 0} where
+  -- The fields after the publisher with this book left the place i, with these connections and these counters.
+  abbrev pub left_fields : Fields T U → (i key : ℕ) → Book → (holders : List ℕ) → Slab Link → Fields T U
+  left_fields f i key b holders connections = record f {
+    publishers = slice_set f.publishers i None;
+    subscribers = map (option_map (left_subscriber connections i)) f.subscribers;
+    connections = connections;
+    books = with_value f.books key (with_counters b holders);
+  }

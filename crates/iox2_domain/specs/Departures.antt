@@ -1,0 +1,41 @@
+-- What a subscriber forgets, and where a port that leaves stood.
+use Rattle.std.specs.Prelude.{◌≡◌, ◌⊎◌, ◌<◌, ℕ, ◌==◌, true, cond, List, [], map}
+use Rattle.std.specs.declared.option.Option.{Option}
+use Rattle.std.specs.declared.option.Option.TheVariants.{None, Some}
+use Rattle.slab.specs.Slab.{Slab, get}
+use Rattle.iox2_store.specs.Link.{Link, has_borrowed_slots}
+use Rattle.iox2_store.specs.machine.Numbers.{without}
+use Rattle.iox2_domain.specs.Invariant.{SenderHas}
+use Rattle.iox2_domain.specs.Ports.{PublisherFields, SubscriberFields}
+
+-- The key, if it is another one.
+abbrev pub other_key : (key : ℕ) → Option ℕ → Option ℕ
+other_key key None = None
+other_key key (Some k) = cond (k == key) None (Some k)
+
+-- The subscriber without the connection at the key.
+abbrev pub forgotten : (key : ℕ) → SubscriberFields → SubscriberFields
+forgotten key y = record y { keys = map (other_key key) y.keys; expired = without key y.expired }
+
+-- The connection at the key is the subscriber q's alone: its publisher doesn't have it.
+pub record IsUnshared (publishers : List (Option PublisherFields)) (q key : ℕ) (c : Link) : Type 0 where
+  pub subscriber_is : c.home.subscriber ≡ q
+  pub unshared : SenderHas publishers key c → ⊥
+
+-- Some connections went that were the subscriber q's alone, and no others. Below this key none of these is left.
+pub record DropsUnshared (publishers : List (Option PublisherFields)) (q bound : ℕ) (old new : Slab Link) : Type 0 where
+  pub kept : (key : ℕ) (c : Link) → get new key ≡ Some c → get old key ≡ Some c
+  pub others : (key : ℕ) (c : Link) → get old key ≡ Some c → (get new key ≡ Some c) ⊎ IsUnshared publishers q key c
+  pub done : (key : ℕ) (c : Link) → key < bound → get new key ≡ Some c → c.home.subscriber ≡ q → SenderHas publishers key c
+
+-- The subscriber q has borrowed nothing.
+abbrev pub BorrowsNothing : Slab Link → (q : ℕ) → Type 0
+BorrowsNothing connections q = (key : ℕ) (c : Link) → get connections key ≡ Some c → c.home.subscriber ≡ q → c.borrowed ≡ []
+
+-- The subscriber q has borrowed something.
+pub record BorrowsSome (connections : Slab Link) (q : ℕ) : Type 0 where
+  pub key : ℕ
+  pub connection : Link
+  pub stands : get connections key ≡ Some connection
+  pub its : connection.home.subscriber ≡ q
+  pub some : has_borrowed_slots connection ≡ true

@@ -1,0 +1,24 @@
+-- A step midway, at which ports may leave.
+use Rattle.std.specs.Prelude.{◌≡◌, ℕ}
+use Rattle.std.specs.declared.option.Option.TheVariants.{Some}
+use Rattle.iox2_store.specs.machine.Records.{Entry}
+use Rattle.iox2_store.specs.machine.State.{State}
+use Rattle.iox2_domain.specs.Kept.{state_of, entries_of}
+use Rattle.iox2_domain.specs.Fields.{Fields, kept_of}
+use Rattle.iox2_domain.specs.Shows.{KeepsEntries}
+use Rattle.iox2_domain.specs.Invariant.{HasParts, HasLoneLoans, KeepsBooksBut}
+
+module _ {T U : Type 0} where
+  -- The fields agree with one another, but for what they keep, and but for the book at the key, which may be kept for nobody.
+  -- They keep this state, and no entry that they didn't keep before.
+  pub record IsMidway (old new : Fields T U) (s : State T U) (key : ℕ) : Type 0 where
+    pub consistent : HasParts new
+    pub lone : HasLoneLoans new.books
+    pub kept_books : KeepsBooksBut new.next_port new.publishers new.books key
+    pub state : state_of (kept_of new) ≡ s
+    pub entries : (n : ℕ) (entry : Entry T U) → entries_of (kept_of new) n ≡ Some entry → entries_of (kept_of old) n ≡ Some entry
+    pub complete : KeepsEntries (kept_of new)
+
+  -- Nothing changed but books and what lies in their slots.
+  abbrev pub ChangesBooks : (old new : Fields T U) → Type 0
+  ChangesBooks old new = new ≡ record old { books = new.books; contents = new.contents }

@@ -1,0 +1,167 @@
+-- What waits in a connection is lost, one slot after the other.
+use Rattle.std.proofs.Common.{◌≡◌, ℕ, ◌<◌, List, [], length, None, Some, get_or, refl, ap, sym, ◌∙◌, arith}
+use Rattle.std.proofs.lemmas.List.{length-set}
+use Rattle.std.specs.Prelude.{IsSomeAnd}
+use Rattle.slab.specs.Slab.{Slab, ContainsKey, get, Updates, with_value}
+use Rattle.iox2_store.specs.Link.{Link, IsDropped, borrowed_alone}
+use Rattle.iox2_store.specs.machine.Mailbox.{Mailbox, waiting_dropped}
+use Rattle.iox2_store.specs.declared.connection.Home.{Home}
+use Rattle.iox2_ends.specs.Mailboxes.{mailbox_of, mailboxes_of, with_box}
+use Rattle.iox2_ends.specs.Homes.{IsApart, fixed_of}
+use Rattle.iox2_ends.specs.Counters.{stands_in, one_holder_less}
+use Rattle.iox2_ends.specs.Recounts.{Recounts}
+use Rattle.iox2_ends.specs.Drops.{DropsFrom, DropsWaiting, EmptiesFrom, DropsAll, RemovesConnection, without_waiting}
+use Rattle.iox2_ends.specs.Reclaims.{IsHeld, ReclaimsFrom}
+use Rattle.iox2_ends.proofs.MailboxChanges.{Updates-with_value, SameHomes-updated, KeepsOthers-updated, mailbox-there, mailboxes-changed}
+use Rattle.iox2_ends.proofs.Counts.{one_if_same, times-cons, get_or-one_holder_less, CountersFollow-changed}
+use Rattle.iox2_ends.proofs.Recounts.{returned-updated}
+use Rattle.iox2_ends.proofs.ReclaimSteps.{own-at}
+
+-- ---- from one connection
+
+-- a slot that waits has a holder
+pub dropped-in_use : (hs : List ℕ) (slot : ℕ) (c d : Link) → IsHeld hs c → IsDropped c (Some slot) d → 0 < get_or hs slot 0
+dropped-in_use hs slot c d held r =
+    let some : 0 < stands_in slot c = rw r.1 (omega (arith, times-cons slot slot r.0, one_if_same slot)) in
+    omega (arith, held.at slot)
+
+-- one slot went
+drops-one : (hs : List ℕ) (slot : ℕ) (c d : Link) → IsHeld hs c → IsDropped c (Some slot) d → DropsFrom hs c (one_holder_less slot hs) d
+drops-one hs slot c d held r = record {
+  kept = rw r.2 refl;
+  counters = λ n. rw (r.2, r.1) (omega (arith, times-cons n slot r.0, get_or-one_holder_less hs slot n in_use));
+  shrinks = λ n. omega (arith, get_or-one_holder_less hs slot n in_use);
+  slots = length-set hs slot _;
+}
+  where
+    in_use : 0 < get_or hs slot 0
+    in_use = dropped-in_use hs slot c d held r
+
+-- one slot more went
+pub drops-more : (hs hs' : List ℕ) (slot : ℕ) (a c d : Link) → IsHeld hs' c → DropsFrom hs a hs' c → IsDropped c (Some slot) d → DropsFrom hs a (one_holder_less slot hs') d
+drops-more hs hs' slot a c d held x r = let y = drops-one hs' slot c d held r in record {
+  kept = y.kept ∙ ap (λ (l : Link). let k : Link = record l { waiting = d.waiting } in k) x.kept;
+  counters = λ n. omega (arith, x.counters n, y.counters n);
+  shrinks = λ n. omega (arith, x.shrinks n, y.shrinks n);
+  slots = y.slots ∙ x.slots;
+}
+
+-- counters that follow still hold what stands in the connection
+pub dropped-held : (hs : List ℕ) (slot : ℕ) (c d : Link) → IsHeld hs c → IsDropped c (Some slot) d → IsHeld (one_holder_less slot hs) d
+dropped-held hs slot c d held r = record { at = λ n. omega (arith, held.at n, (drops-one hs slot c d held r).counters n) }
+
+-- and so where many slots went
+pub drops-held : (hs hs' : List ℕ) (c d : Link) → IsHeld hs c → DropsFrom hs c hs' d → IsHeld hs' d
+drops-held hs hs' c d held r = record { at = λ n. omega (arith, held.at n, r.counters n) }
+
+-- then what was given back is reclaimed
+pub drops-reclaims : (hs hs' hs'' : List ℕ) (a b c : Link) → DropsFrom hs a hs' b → ReclaimsFrom hs' b hs'' c → EmptiesFrom hs a hs'' c
+drops-reclaims hs hs' hs'' a b c x y = record {
+  kept = y.kept ∙ ap (λ (l : Link). let k : Link = record l { returned = c.returned } in k) x.kept
+      ∙ (λ t. record a { waiting = sym (ap (λ (l : Link). l.waiting) y.kept) t; returned = c.returned });
+  fewer = omega (arith, ap (λ (l : Link). length l.returned) x.kept, y.fewer);
+  counters = λ n. omega (arith, x.counters n, y.counters n);
+  shrinks = λ n. omega (arith, x.shrinks n, y.shrinks n);
+  slots = y.slots ∙ x.slots;
+}
+
+-- nothing but what is borrowed is left
+pub all-dropped : (hs hs' hs'' : List ℕ) (a b c : Link) → DropsFrom hs a hs' b → b.waiting ≡ [] → ReclaimsFrom hs' b hs'' c → c.returned ≡ [] → c ≡ borrowed_alone a
+all-dropped hs hs' hs'' a b c x none y clear =
+    (drops-reclaims hs hs' hs'' a b c x y).kept
+    ∙ (λ t. record a { waiting = (ap (λ (l : Link). l.waiting) y.kept ∙ none) t; returned = clear t })
+
+-- ---- from a connection of a slab
+
+-- what went from one connection went from the publisher's
+pub drops-at : (p : ℕ) (hs hs' : List ℕ) (slab : Slab Link) (key : ℕ) (c d : Link) → IsApart slab → IsSomeAnd (get slab key) (λ (x : Link). x.home.publisher ≡ p) → get slab key ≡ Some c
+    → EmptiesFrom hs c hs' d → d ≡ borrowed_alone c → DropsAll p hs slab key hs' (with_value slab key d)
+drops-at p hs hs' slab key c d apart own at r is = record {
+  link = c;
+  stood = at;
+  updates = record { changed = u.changed ∙ ap Some is; others = u.others };
+  mailboxes = λ number.
+      mailboxes-changed number slab (with_value slab key d) key c d apart at fixed u
+      ∙ ap (λ (q : ℕ). with_box (mailboxes_of number slab) q c.home.subscriber (mailbox_of (number q) d)) mine
+      ∙ ap (with_box (mailboxes_of number slab) p c.home.subscriber)
+      (ap (mailbox_of (number p)) is ∙ ap waiting_dropped (sym (mailbox-there number slab key p c.home.subscriber c apart at mine refl)));
+  recounts = record {
+    homes = SameHomes-updated slab (with_value slab key d) key c d at fixed u;
+    others = KeepsOthers-updated p slab (with_value slab key d) key c (Some d) at mine u;
+    counters = CountersFollow-changed p hs hs' slab.slots key c d at mine (ap (λ (t : Home × ℕ × ℕ). t.0.publisher) fixed ∙ mine) r.counters;
+    slots = r.slots;
+    in_use = λ n some. omega (arith, r.shrinks n, some);
+    fewer = returned-updated slab (with_value slab key d) key c d at r.fewer u;
+  };
+  shrinks = r.shrinks;
+}
+  where
+    fixed : fixed_of d ≡ fixed_of c
+    fixed = ap fixed_of r.kept
+
+    mine : c.home.publisher ≡ p
+    mine = own-at p slab key c own at
+
+    u : Updates slab (with_value slab key d) key (Some d)
+    u = Updates-with_value slab key c d at
+
+-- ---- the connection goes
+
+-- it is still there
+pub dropped-there : (p : ℕ) (hs hs' : List ℕ) (old new : Slab Link) (key : ℕ) → DropsAll p hs old key hs' new → ContainsKey new key
+dropped-there p hs hs' old new key drops = rw drops.updates.changed refl
+
+-- and nothing of it is borrowed
+pub removes-at : (p : ℕ) (hs hs' : List ℕ) (old mid new : Slab Link) (key : ℕ) → IsSomeAnd (get old key) (λ (c : Link). c.borrowed ≡ []) → DropsAll p hs old key hs' mid → Updates mid new key None
+    → RemovesConnection p hs old key hs' new
+removes-at p hs hs' old mid new key unused drops gone = record { mid = mid; drops = drops; unused = rw drops.stood at unused; gone = gone }
+
+-- ---- what waits alone
+
+-- slots that went from one connection went from its publisher's
+pub drops-recount : (p : ℕ) (hs hs' : List ℕ) (slab : Slab Link) (key : ℕ) (c d : Link) → get slab key ≡ Some c → c.home.publisher ≡ p → DropsFrom hs c hs' d → Recounts p hs slab hs' (with_value slab key d)
+drops-recount p hs hs' slab key c d at mine drops = record {
+  homes = SameHomes-updated slab (with_value slab key d) key c d at fixed u;
+  others = KeepsOthers-updated p slab (with_value slab key d) key c (Some d) at mine u;
+  counters = CountersFollow-changed p hs hs' slab.slots key c d at mine (ap (λ (t : Home × ℕ × ℕ). t.0.publisher) fixed ∙ mine) drops.counters;
+  slots = drops.slots;
+  in_use = λ n some. omega (arith, drops.shrinks n, some);
+  fewer = returned-updated slab (with_value slab key d) key c d at (rw drops.kept (omega arith)) u;
+}
+  where
+    fixed : fixed_of d ≡ fixed_of c
+    fixed = ap fixed_of drops.kept
+
+    u : Updates slab (with_value slab key d) key (Some d)
+    u = Updates-with_value slab key c d at
+
+-- ---- what waits at a key
+
+-- where all went, none waits
+pub drops-all : (hs hs' : List ℕ) (slab new : Slab Link) (key : ℕ) (c d : Link) → get slab key ≡ Some c → DropsFrom hs c hs' d → d.waiting ≡ [] → new ≡ with_value slab key d → DropsWaiting key hs slab hs' new
+drops-all hs hs' slab new key c d at r none is =
+    let empty : d ≡ without_waiting c = r.kept ∙ ap (λ (ws : List ℕ). let l : Link = record c { waiting = ws } in l) none in
+    record {
+      link = c;
+      stands = at;
+      drops = rw (sym empty) r;
+      new_is = is ∙ ap (with_value slab key) empty;
+    }
+
+module _ (hs hs' : List ℕ) (slab new : Slab Link) (key : ℕ) (r : DropsWaiting key hs slab hs' new) where
+  updates : Updates slab (with_value slab key (without_waiting r.link)) key (Some (without_waiting r.link))
+  updates = Updates-with_value slab key r.link (without_waiting r.link) r.stands
+
+  -- the counters follow
+  pub drops-recounts : Recounts (r.link).home.publisher hs slab hs' new
+  drops-recounts = rw r.new_is (drops-recount (r.link).home.publisher hs hs' slab key r.link (without_waiting r.link) r.stands refl r.drops)
+
+  -- and what waits in the mailbox is lost
+  pub drops-boxes : IsApart slab → (number : ℕ → ℕ → ℕ)
+      → mailboxes_of number new ≡ with_box (mailboxes_of number slab) (r.link).home.publisher (r.link).home.subscriber
+      (waiting_dropped (mailboxes_of number slab (r.link).home.publisher (r.link).home.subscriber))
+  drops-boxes apart number =
+      ap (mailboxes_of number) r.new_is
+      ∙ mailboxes-changed number slab (with_value slab key (without_waiting r.link)) key r.link (without_waiting r.link) apart r.stands refl updates
+      ∙ ap (λ (box : Mailbox). with_box (mailboxes_of number slab) (r.link).home.publisher (r.link).home.subscriber (waiting_dropped box))
+      (sym (mailbox-there number slab key (r.link).home.publisher (r.link).home.subscriber r.link apart r.stands refl refl))

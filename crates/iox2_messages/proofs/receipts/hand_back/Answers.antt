@@ -1,0 +1,88 @@
+use Rattle.std.proofs.Common.{◌∙◌, ap, sym, subst, Contains, IsSomeAnd}
+use Rattle.std.proofs.lemmas.Bool.{true≢false}
+use Rattle.slab.specs.Slab.{ContainsKey, get}
+use Rattle.iox2_store.specs.Link.{Link}
+use Rattle.iox2_store.specs.machine.Numbers.{IsOnce}
+use Rattle.iox2_domain.specs.Fields.{Fields}
+use Rattle.iox2_domain.proofs.lemmas.releases.Forgets.{ItsSubscriber}
+use Rattle.iox2_domain.proofs.lemmas.releases.HandedBack.{book-there, borrowed-there, is-given-back, is-let-go, once-there, slot-in_use, subscriber-here}
+use Rattle.iox2_messages.proofs.receipts.hand_back.Goals as goal
+
+-- ---- a publisher that is there
+
+pub release-requires-clause-borrowed : goal.release-requires-clause-borrowed
+release-requires-clause-borrowed g c =
+    subst (λ (f : Fields g.row.T.Denot g.row.U.Denot). IsSomeAnd (get f.connections c.args.at.connection) (λ (l : Link). Contains l.borrowed c.args.at.slot)) (sym c.state.view_is)
+    (borrowed-there c.args.state.now c.requires.agrees c.args.at.connection c.args.at.slot c.args.home c.requires.borrowed)
+
+pub release-requires-clause-once : goal.release-requires-clause-once
+release-requires-clause-once g c =
+    subst (λ (f : Fields g.row.T.Denot g.row.U.Denot). IsSomeAnd (get f.connections c.args.at.connection) (λ (l : Link). IsOnce l.borrowed)) (sym c.state.view_is)
+    (once-there c.args.state.now c.requires.agrees c.args.at.connection c.args.at.slot c.args.home c.requires.borrowed)
+
+pub returns-then-stands_at-clause-midway : goal.returns-then-stands_at-clause-midway
+returns-then-stands_at-clause-midway g c =
+    is-given-back _ c.args.state.now c.state.view_is c.requires.agrees c.args.at.connection c.args.at.slot c.args.home c.requires.borrowed c.release.new.connections
+    c.release.ensures.releases c.release.ensures.homes c.release.ensures.others c.release.ensures.stands
+    c.deref.result.now c.deref.ensures.value (c.stands_at.ensures.0 c.if-stands_at.true) c.requires.agrees.kept_books
+
+pub returns-then-stands_at-clause-stands : goal.returns-then-stands_at-clause-stands
+returns-then-stands_at-clause-stands g c =
+    subst (λ (f : Fields g.row.T.Denot g.row.U.Denot). ItsSubscriber f c.args.home) (sym c.state.view_is)
+    (subscriber-here c.args.state.now c.requires.agrees c.args.at.connection c.args.at.slot c.args.home c.requires.borrowed)
+
+-- ---- one that is gone
+
+pub index_mut-requires : goal.index_mut-requires
+index_mut-requires g c =
+    subst (λ (f : Fields g.row.T.Denot g.row.U.Denot). ContainsKey f.books (c.args.home).book) (sym c.state.view_is)
+    (book-there c.args.state.now c.requires.agrees c.args.at.connection c.args.at.slot c.args.home c.requires.borrowed)
+
+pub let_go-requires-clause-borrowed : goal.let_go-requires-clause-borrowed
+let_go-requires-clause-borrowed g c =
+    subst (λ (f : Fields g.row.T.Denot g.row.U.Denot). IsSomeAnd (get f.connections c.args.at.connection) (λ (l : Link). Contains l.borrowed c.args.at.slot)) (sym c.state.view_is)
+    (borrowed-there c.args.state.now c.requires.agrees c.args.at.connection c.args.at.slot c.args.home c.requires.borrowed)
+
+pub let_go-requires-clause-once : goal.let_go-requires-clause-once
+let_go-requires-clause-once g c =
+    subst (λ (f : Fields g.row.T.Denot g.row.U.Denot). IsSomeAnd (get f.connections c.args.at.connection) (λ (l : Link). IsOnce l.borrowed)) (sym c.state.view_is)
+    (once-there c.args.state.now c.requires.agrees c.args.at.connection c.args.at.slot c.args.home c.requires.borrowed)
+
+pub let_go-requires-clause-in_use : goal.let_go-requires-clause-in_use
+let_go-requires-clause-in_use g c =
+    slot-in_use c.args.state.now c.requires.agrees c.args.at.connection c.args.at.slot c.args.home c.requires.borrowed c.index_mut.result.now
+    (ap (λ (f : Fields g.row.T.Denot g.row.U.Denot). get f.books (c.args.home).book) (sym c.state.view_is) ∙ c.index_mut.ensures.value)
+
+pub forget_if_empty-requires-clause-consistent : goal.forget_if_empty-requires-clause-consistent
+forget_if_empty-requires-clause-consistent g c =
+    (is-let-go _ c.args.state.now c.state.view_is c.requires.agrees c.args.at.connection c.args.at.slot c.args.home c.requires.borrowed c.index_mut.result.now c.let_go.new.book
+    c.index_mut.ensures.value c.let_go.ensures.book c.let_go.new.connections c.let_go.ensures.releases c.let_go.ensures.recounts c.let_go.ensures.left
+    c.deref.result.now c.deref.ensures.value (λ has. true≢false (sym (c.stands_at.ensures.1 has) ∙ c.if-stands_at.false)) c.requires.agrees.kept_books).midway.consistent
+
+pub forget_if_empty-requires-clause-home : goal.forget_if_empty-requires-clause-home
+forget_if_empty-requires-clause-home g c =
+    (is-let-go _ c.args.state.now c.state.view_is c.requires.agrees c.args.at.connection c.args.at.slot c.args.home c.requires.borrowed c.index_mut.result.now c.let_go.new.book
+    c.index_mut.ensures.value c.let_go.ensures.book c.let_go.new.connections c.let_go.ensures.releases c.let_go.ensures.recounts c.let_go.ensures.left
+    c.deref.result.now c.deref.ensures.value (λ has. true≢false (sym (c.stands_at.ensures.1 has) ∙ c.if-stands_at.false)) c.requires.agrees.kept_books).home_is
+
+pub forget_if_empty-requires-clause-gone : goal.forget_if_empty-requires-clause-gone
+forget_if_empty-requires-clause-gone g c =
+    (is-let-go _ c.args.state.now c.state.view_is c.requires.agrees c.args.at.connection c.args.at.slot c.args.home c.requires.borrowed c.index_mut.result.now c.let_go.new.book
+    c.index_mut.ensures.value c.let_go.ensures.book c.let_go.new.connections c.let_go.ensures.releases c.let_go.ensures.recounts c.let_go.ensures.left
+    c.deref.result.now c.deref.ensures.value (λ has. true≢false (sym (c.stands_at.ensures.1 has) ∙ c.if-stands_at.false)) c.requires.agrees.kept_books).gone
+
+pub forget_if_empty-requires-clause-stands : goal.forget_if_empty-requires-clause-stands
+forget_if_empty-requires-clause-stands g c =
+    (is-let-go _ c.args.state.now c.state.view_is c.requires.agrees c.args.at.connection c.args.at.slot c.args.home c.requires.borrowed c.index_mut.result.now c.let_go.new.book
+    c.index_mut.ensures.value c.let_go.ensures.book c.let_go.new.connections c.let_go.ensures.releases c.let_go.ensures.recounts c.let_go.ensures.left
+    c.deref.result.now c.deref.ensures.value (λ has. true≢false (sym (c.stands_at.ensures.1 has) ∙ c.if-stands_at.false)) c.requires.agrees.kept_books).stands
+
+pub returns-else-stands_at-clause-midway : goal.returns-else-stands_at-clause-midway
+returns-else-stands_at-clause-midway g c =
+    let gone =
+    is-let-go _ c.args.state.now c.state.view_is c.requires.agrees c.args.at.connection c.args.at.slot c.args.home c.requires.borrowed c.index_mut.result.now c.let_go.new.book
+    c.index_mut.ensures.value c.let_go.ensures.book c.let_go.new.connections c.let_go.ensures.releases c.let_go.ensures.recounts c.let_go.ensures.left
+    c.deref.result.now c.deref.ensures.value (λ has. true≢false (sym (c.stands_at.ensures.1 has) ∙ c.if-stands_at.false)) c.requires.agrees.kept_books in
+    c.forget_if_empty.ensures.midway c.args.state.now _ _ _ c.requires.agrees.well_formed gone.midway
+
+-- ---- where no port was closed

@@ -1,0 +1,13 @@
+use Rattle.iox2_domain.proofs.lemmas.closes.CloseSteps.{closes-freed}
+use Rattle.iox2_domain.proofs.lemmas.fields.Parts.{parts_but}
+use Rattle.iox2_ports.proofs.publisher_closes.close_publisher.Goals as goal
+
+pub free_book_if_unused-requires : goal.free_book_if_unused-requires
+free_book_if_unused-requires g c =
+    let left = c.leave_domain-key.ensures c.requires.stands.0 c.requires.stands.1 in
+    parts_but c.leave_domain-key.new.state c.requires.stands.0.book left.1.agrees
+
+pub returns : goal.returns
+returns g c = λ x at.
+    let left = c.leave_domain-key.ensures x at in
+    closes-freed x.book c.args.state.now c.leave_domain-key.new.state _ left.1 c.leave_domain-key.result left.0 c.free_book_if_unused.new.state c.free_book_if_unused.ensures.kept

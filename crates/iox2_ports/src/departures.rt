@@ -1,0 +1,150 @@
+//! Ports that were closed leave, and with them what nobody else needs.
+ghost use Rattle.std.specs.Prelude.{◌≡◌, ◌<◌, ◌↔◌, ℕ, false, Some, None, length, slice_index_or, IsTrue, IsSomeAnd};
+ghost use Rattle.slab.specs.Slab.{get};
+ghost use Rattle.iox2_store.specs.Link.{Link, has_borrowed_slots};
+ghost use Rattle.iox2_store.specs.machine.Releases.{freed_if_unused, subscriber_pruned, unborrowed};
+ghost use Rattle.iox2_store.specs.machine.WellFormed.{IsWellFormed, MailboxIsWellFormed};
+ghost use Rattle.iox2_ends.specs.LookUp.{look_up};
+ghost use Rattle.iox2_domain.specs.Departures.{BorrowsNothing, BorrowsSome, DropsUnshared, IsUnshared};
+ghost use Rattle.iox2_domain.specs.Fields.{kept_of};
+ghost use Rattle.iox2_domain.specs.Invariant.{SenderHas, is_publisher, HasParts};
+ghost use Rattle.iox2_domain.specs.Kept.{state_of};
+ghost use Rattle.iox2_domain.specs.Reaches.{Reaches};
+ghost use Rattle.iox2_domain.specs.Midway.{ChangesBooks, IsMidway};
+ghost use Rattle.iox2_domain.specs.Ports.{SubscriberFields};
+
+use iox2_domain::{DomainState, PublisherState, forget_at, key_at, make_all_due, stands_at};
+use iox2_store::{Connection, Home};
+use slab::Slab;
+
+// The publisher of the connection at a key has it.
+fn has_sender(publishers: &[Option<PublisherState>], key: usize, connection: &Connection) -> bool
+    ensures { IsTrue result ↔ SenderHas publishers.now key connection.now }
+{
+    let home = connection.home();
+    stands_at(publishers, home.publisher_place, home.publisher)
+        && key_at(publishers, home.publisher_place, home.subscriber_place) == Some(key)
+}
+
+// The connection at a key is the subscriber's alone.
+fn is_unshared(
+    connections: &Slab<Connection>,
+    publishers: &[Option<PublisherState>],
+    subscriber: u128,
+    key: usize,
+) -> bool
+    ensures unshared { IsTrue result → IsSomeAnd (get connections.now key) (IsUnshared publishers.now subscriber key) }
+    ensures shared { result ≡ false → (c : Link) → get connections.now key ≡ Some c → c.home.subscriber ≡ subscriber → SenderHas publishers.now key c }
+{
+    match connections.get(key) {
+        Some(connection) => {
+            connection.home().subscriber == subscriber && !has_sender(publishers, key, connection)
+        }
+        None => false,
+    }
+}
+
+// The connections go that are the subscriber's alone.
+fn remove_unshared(
+    connections: &mut Slab<Connection>,
+    publishers: &[Option<PublisherState>],
+    subscriber: u128,
+)
+    ensures { DropsUnshared publishers.now subscriber (length connections.old.slots) connections.old connections.new }
+{
+    for key in 0..connections.capacity() {
+        if is_unshared(connections, publishers, subscriber, key) {
+            connections.remove(key);
+        }
+    }
+}
+
+// The subscriber has borrowed something in the connection at a key.
+fn borrows_at(connections: &Slab<Connection>, subscriber: u128, key: usize) -> bool
+    ensures { IsTrue result ↔ IsSomeAnd (get connections.now key) (λ c. (c.home.subscriber ≡ subscriber) × IsTrue (has_borrowed_slots c)) }
+{
+    match connections.get(key) {
+        Some(connection) => {
+            connection.home().subscriber == subscriber && connection.has_borrowed()
+        }
+        None => false,
+    }
+}
+
+// The subscriber has borrowed nothing.
+fn borrows_nothing(connections: &Slab<Connection>, subscriber: u128) -> bool
+    ensures nothing { IsTrue result → BorrowsNothing connections.now subscriber }
+    ensures some { result ≡ false → BorrowsSome connections.now subscriber }
+{
+    for key in 0..connections.capacity() {
+        if borrows_at(connections, subscriber, key) {
+            return false;
+        }
+    }
+    true
+}
+
+/// The subscriber at a place leaves where it was closed and has borrowed nothing any more. Then
+/// its place is free, and every publisher is due. Its connections stay at the ends of publishers.
+///
+/// iceoryx2's `SubscriberSharedState`, which goes with the last sample (`src/port/subscriber.rs`).
+pub fn leave_if_unused<T: Drop, U: Default + Drop>(state: &mut DomainState<T, U>, place: usize)
+    requires consistent { HasParts state.old }
+    requires stands { (y : SubscriberFields) × (slice_index_or state.old.subscribers place None ≡ Some y) × ((p : ℕ) → MailboxIsWellFormed (state_of (kept_of state.old)) p y.id) }
+    ensures freed { (y : SubscriberFields) → slice_index_or state.old.subscribers place None ≡ Some y
+        → (before : _) (s : _) (book : ℕ) → IsMidway before state.old s book → IsMidway before state.new (freed_if_unused s y.id) book }
+{
+    let Some(subscriber) = &state.subscribers[place] else {
+        unreachable!()
+    };
+    let id = subscriber.id.value();
+    if subscriber.is_open || !borrows_nothing(&state.connections, id) {
+        return;
+    }
+    remove_unshared(&mut state.connections, &state.publishers, id);
+    state.subscribers[place] = None;
+    make_all_due(&mut state.publishers);
+}
+
+/// The subscriber of the connection at a key, whose publisher is gone, forgets the connection where
+/// no slot stands in it.
+///
+/// iceoryx2's `Receiver::release_offset` (`src/port/details/receiver.rs`).
+pub fn forget_if_empty<T: Drop, U: Default + Drop>(
+    state: &mut DomainState<T, U>,
+    key: usize,
+    home: Home,
+)
+    requires consistent { HasParts state.old }
+    requires home { IsSomeAnd (get state.old.connections key) (λ c. c.home ≡ home) }
+    requires gone { look_up (is_publisher home.publisher) state.old.publishers ≡ None }
+    requires stands { (y : SubscriberFields) × (slice_index_or state.old.subscribers home.subscriber_place None ≡ Some y) × (y.id ≡ home.subscriber) }
+    ensures midway { (before : _) (s : _) (n book : ℕ) → IsWellFormed s → IsMidway before state.old (unborrowed s home.publisher home.subscriber n) book
+        → IsMidway before state.new (subscriber_pruned (unborrowed s home.publisher home.subscriber n) home.subscriber) book }
+    ensures stands { (y : SubscriberFields) × (slice_index_or state.new.subscribers home.subscriber_place None ≡ Some y) × (y.id ≡ home.subscriber) }
+{
+    if state.connections[key].is_empty() {
+        state.connections.remove(key);
+        forget_at(
+            &mut state.subscribers,
+            home.subscriber_place,
+            home.publisher_place,
+            key,
+        );
+    }
+}
+
+/// The book at a key goes, with its contents, where its publisher is gone and no slot of it has a
+/// holder any more.
+pub fn free_book_if_unused<T: Drop, U: Default + Drop>(state: &mut DomainState<T, U>, key: usize)
+    requires { HasParts state.old }
+    ensures kept { (before : _) (s : _) → IsMidway before state.old s key → IsWellFormed s → Reaches before state.new s }
+    ensures books { ChangesBooks state.old state.new }
+{
+    let Some(book) = state.books.get(key) else {
+        return;
+    };
+    if book.is_unused() && state.find_publisher(book.publisher(), 0).is_none() {
+        state.remove_book(key);
+    }
+}

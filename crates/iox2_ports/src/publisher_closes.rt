@@ -1,0 +1,174 @@
+//! A publisher closes.
+ghost use Rattle.std.specs.Prelude.{◌≡◌, ◌↔◌, ◌<◌, None, Some, length, map, slice_index_or, slice_set, All, IsSomeAnd, IsTrue};
+ghost use Rattle.std.specs.Option.{option_map, option_and_then};
+ghost use Rattle.slab.specs.Slab.{get, Updates};
+ghost use Rattle.iox2_store.specs.machine.Ports.{publisher_closed};
+ghost use Rattle.iox2_ends.specs.Counters.{IsCovered, CountersFollow, with_counters};
+ghost use Rattle.iox2_ends.specs.Leaves.{holds_slots};
+ghost use Rattle.iox2_domain.specs.Ports.{PublisherFields};
+ghost use Rattle.iox2_domain.specs.Kept.{state_of};
+ghost use Rattle.iox2_domain.specs.Fields.{kept_of, publisher_of};
+ghost use Rattle.iox2_domain.specs.Invariant.{IsDomain};
+ghost use Rattle.iox2_domain.specs.Reaches.{ReachesBut, Reaches};
+ghost use Rattle.iox2_domain.specs.Closes.{is_awaited, after_close, LeavesConnections, left_subscriber};
+
+use crate::departures::free_book_if_unused;
+use iox2_domain::{DomainState, Port, SubscriberState};
+use iox2_ends::leaving::{give_up_history, leave};
+use iox2_store::{Connection, SlotBook};
+use slab::Slab;
+
+// Whether the subscriber of a connection, which stands at a key, is open and has it there.
+fn is_awaited(subscribers: &[Option<SubscriberState>], key: usize, connection: &Connection) -> bool
+    ensures { result ≡ is_awaited subscribers.now key connection.now }
+{
+    let home = connection.home();
+    match subscribers.get(home.subscriber_place) {
+        Some(Some(subscriber)) => {
+            subscriber.id.value() == home.subscriber
+                && subscriber.is_open
+                && subscriber.key(home.publisher_place) == Some(key)
+        }
+        _ => false,
+    }
+}
+
+// Whether some slot waits in a connection or is borrowed.
+fn holds_slots(connection: &Connection) -> bool
+    ensures { result ≡ holds_slots connection.now }
+{
+    connection.has_data() || connection.has_borrowed()
+}
+
+// Whether a connection of the publisher stands at a key.
+fn is_publishers(connections: &Slab<Connection>, key: usize, publisher: u128) -> bool
+    ensures { IsTrue result ↔ IsSomeAnd (get connections.now key) (λ c. c.home.publisher ≡ publisher) }
+{
+    match connections.get(key) {
+        Some(connection) => connection.home().publisher == publisher,
+        None => false,
+    }
+}
+
+// The publisher leaves its connection at a key, which goes where no slot waits or is borrowed.
+fn leave_own(
+    publisher: u128,
+    subscribers: &[Option<SubscriberState>],
+    connections: &mut Slab<Connection>,
+    book: &mut SlotBook,
+    key: usize,
+)
+    requires own { IsSomeAnd (get connections.old key) (λ c. c.home.publisher ≡ publisher) }
+    requires covered { IsCovered publisher book.old.holders connections.old.slots }
+    ensures connections { Updates connections.old connections.new key (option_and_then (after_close publisher subscribers.now key) (get connections.old key)) }
+    ensures book { book.new ≡ with_counters book.old book.new.holders }
+    ensures counters { CountersFollow publisher book.old.holders connections.old.slots book.new.holders connections.new.slots }
+    ensures slots { length book.new.holders ≡ length book.old.holders }
+{
+    let awaited = is_awaited(subscribers, key, &connections[key]);
+    leave(&mut connections[key], book, awaited);
+    if !holds_slots(&connections[key]) {
+        let _ = connections.remove(key);
+    }
+}
+
+// The publisher leaves each of its connections.
+fn leave_connections(
+    publisher: u128,
+    subscribers: &[Option<SubscriberState>],
+    connections: &mut Slab<Connection>,
+    book: &mut SlotBook,
+)
+    requires covered { IsCovered publisher book.old.holders connections.old.slots }
+    ensures connections { LeavesConnections publisher subscribers.now connections.old connections.new }
+    ensures book { book.new ≡ with_counters book.old book.new.holders }
+    ensures counters { CountersFollow publisher book.old.holders connections.old.slots book.new.holders connections.new.slots }
+    ensures slots { length book.new.holders ≡ length book.old.holders }
+{
+    for key in 0..connections.capacity() {
+        if is_publishers(connections, key, publisher) {
+            leave_own(publisher, subscribers, connections, book, key);
+        }
+    }
+}
+
+// Takes away the subscriber's key at a publisher's place, where its connection is gone, and makes it
+// due for an update.
+fn forget(subscriber: &mut SubscriberState, connections: &Slab<Connection>, place: usize)
+    ensures { subscriber.new ≡ left_subscriber connections.now place subscriber.old }
+{
+    let is_there = match subscriber.key(place) {
+        Some(key) => connections.contains(key),
+        None => true,
+    };
+    if !is_there {
+        subscriber.keys[place] = None;
+    }
+    subscriber.is_due = true;
+}
+
+fn forget_if_any(
+    subscriber: &mut Option<SubscriberState>,
+    connections: &Slab<Connection>,
+    place: usize,
+)
+    ensures { subscriber.new ≡ option_map (left_subscriber connections.now place) subscriber.old }
+{
+    if let Some(subscriber) = subscriber {
+        forget(subscriber, connections, place);
+    }
+}
+
+// Each subscriber forgets the publisher at a place, where its connection is gone.
+fn forget_everywhere(
+    subscribers: &mut [Option<SubscriberState>],
+    connections: &Slab<Connection>,
+    place: usize,
+)
+    ensures { subscribers.new ≡ map (option_map (left_subscriber connections.now place)) subscribers.old }
+{
+    for index in 0..subscribers.len() {
+        forget_if_any(&mut subscribers[index], connections, place);
+    }
+}
+
+// The publisher at a place leaves, with its connections, its history and its place. Returns the key
+// of its book.
+fn leave_domain<T: Drop, U: Default + Drop>(state: &mut DomainState<T, U>, place: usize) -> usize
+    requires sound { IsDomain state.old }
+    requires stands { (x : PublisherFields) × (slice_index_or state.old.publishers place None ≡ Some x) }
+    ensures { (x : PublisherFields) → slice_index_or state.old.publishers place None ≡ Some x
+        → (result ≡ x.book) × ReachesBut x.book state.old state.new
+        (publisher_closed (state_of (kept_of state.old)) x.id (publisher_of (state.old).books (state.old).connections x).port) }
+{
+    let Some(publisher) = state.publishers[place].take() else {
+        unreachable!();
+    };
+    let book = &mut state.books[publisher.book];
+    leave_connections(
+        publisher.id.value(),
+        &state.subscribers,
+        &mut state.connections,
+        book,
+    );
+    give_up_history(&publisher.history, book);
+    forget_everywhere(&mut state.subscribers, &state.connections, place);
+    publisher.book
+}
+
+/// The publisher at a place is closed. Its place is free, and its loans stay out. What waits for
+/// an open subscriber that has its end stays there, and what waits for anybody else is lost. A
+/// connection with nothing in it is gone, and so is its book where nobody holds a slot of it. Every
+/// subscriber is due for an update.
+///
+/// iceoryx2's `Publisher` drops its state (`src/port/publisher.rs`).
+pub fn close_publisher<T: Drop, U: Default + Drop>(state: &mut DomainState<T, U>, place: usize)
+    requires sound { IsDomain state.old }
+    requires stands { (x : PublisherFields) × (slice_index_or state.old.publishers place None ≡ Some x) }
+    ensures { (x : PublisherFields) → slice_index_or state.old.publishers place None ≡ Some x
+        → Reaches state.old state.new
+        (publisher_closed (state_of (kept_of state.old)) x.id (publisher_of (state.old).books (state.old).connections x).port) }
+{
+    let key = leave_domain(state, place);
+    free_book_if_unused(state, key);
+}

@@ -1,0 +1,266 @@
+//! A subscriber's update, whichever publishers were closed.
+ghost use Rattle.std.specs.Prelude.{◌≡◌, ◌<◌, ◌==◌, true, None, Some, length, slice_index_or, MatchOption};
+ghost use Rattle.std.specs.Option.{option_map};
+ghost use Rattle.slab.specs.Slab.{get, ContainsKey};
+ghost use Rattle.iox2_store.specs.Link.{Link};
+ghost use Rattle.iox2_store.specs.machine.Connections.{expired_buffer_full, first_failure};
+ghost use Rattle.iox2_store.specs.machine.Environments.{fixed_handlers};
+ghost use Rattle.iox2_domain.specs.Ports.{PublisherFields, SubscriberFields};
+ghost use Rattle.iox2_domain.specs.Invariant.{IsDomain};
+ghost use Rattle.iox2_domain.specs.Updates.{home_of, is_subscriber_due};
+ghost use Rattle.iox2_domain.specs.ReceiverSteps.{NotJoined, JoinsAt, ConnectsEnd, ConnectsAt, DisconnectsAt, UpdatesReceiver};
+
+use crate::connects::{home_of, make_between, not_made};
+use crate::retirements::retire;
+use crate::warnings::warn;
+use iox2_domain::{DomainState, PublisherState, is_due_at, key_at, set_key_at, settle};
+use iox2_store::{ConnectionFailure, Home, ZeroCopyCreationError};
+
+// The id of the publisher at a place.
+fn publisher_at(publishers: &[Option<PublisherState>], place: usize) -> Option<u128>
+    requires { place < length publishers.now }
+    ensures { result ≡ option_map (λ (x : PublisherFields). x.id) (slice_index_or publishers.now place None) }
+{
+    match &publishers[place] {
+        Some(publisher) => Some(publisher.id.value()),
+        None => None,
+    }
+}
+
+// Where the connection of the ports at these places is to stand, and how many slots may wait there.
+fn between<T: Drop, U: Default + Drop>(
+    state: &DomainState<T, U>,
+    publisher_place: usize,
+    subscriber_place: usize,
+) -> (Home, usize)
+    requires publisher { (x : PublisherFields) × (slice_index_or state.now.publishers publisher_place None ≡ Some x) }
+    requires subscriber { (y : SubscriberFields) × (slice_index_or state.now.subscribers subscriber_place None ≡ Some y) }
+    ensures { (x : PublisherFields) (y : SubscriberFields) → slice_index_or state.now.publishers publisher_place None ≡ Some x
+        → slice_index_or state.now.subscribers subscriber_place None ≡ Some y
+        → (result.0 ≡ home_of publisher_place subscriber_place x y) × (result.1 ≡ y.buffer) }
+{
+    let (Some(publisher), Some(subscriber)) = (
+        &state.publishers[publisher_place],
+        &state.subscribers[subscriber_place],
+    ) else {
+        unreachable!()
+    };
+    (
+        home_of(publisher_place, subscriber_place, publisher, subscriber),
+        subscriber.buffer,
+    )
+}
+
+// The failure of an update that couldn't retire a departed publisher.
+fn expired_full() -> ConnectionFailure
+    ensures { result ≡ expired_buffer_full }
+{
+    ConnectionFailure::FailedToEstablishConnection(
+        ZeroCopyCreationError::ExpiredConnectionBufferFull,
+    )
+}
+
+// The failure that came first.
+fn first_of(
+    first: Option<ConnectionFailure>,
+    later: Option<ConnectionFailure>,
+) -> Option<ConnectionFailure>
+    ensures { result ≡ first_failure first later }
+{
+    match first {
+        Some(failure) => Some(failure),
+        None => later,
+    }
+}
+
+// At a place where no publisher stands, the one that the subscriber has its end to is retired.
+fn disconnect_at<T: Drop, U: Default + Drop>(
+    state: &mut DomainState<T, U>,
+    subscriber_place: usize,
+    publisher_place: usize,
+) -> Option<ConnectionFailure>
+    requires agrees { IsDomain state.old }
+    requires publisher { publisher_place < length state.old.publishers }
+    ensures { (y : SubscriberFields) → slice_index_or state.old.subscribers subscriber_place None ≡ Some y
+        → DisconnectsAt fixed_handlers state.old subscriber_place publisher_place y state.new result }
+{
+    if publisher_at(&state.publishers, publisher_place).is_some() {
+        return None;
+    }
+    let Some(key) = key_at(&state.subscribers, subscriber_place, publisher_place) else {
+        return None;
+    };
+    if retire(state, subscriber_place, publisher_place, key) {
+        None
+    } else {
+        Some(expired_full())
+    }
+}
+
+// The key of the connection with the subscriber at a place that the publisher at another has, if it
+// has one.
+fn joined_key<T: Drop, U: Default + Drop>(
+    state: &DomainState<T, U>,
+    publisher_place: usize,
+    subscriber_place: usize,
+    subscriber: u128,
+) -> Option<usize>
+    requires agrees { IsDomain state.now }
+    ensures { (x : PublisherFields) → slice_index_or state.now.publishers publisher_place None ≡ Some x
+        → MatchOption result (NotJoined state.now x subscriber_place subscriber) (λ key. JoinsAt state.now x subscriber_place subscriber key) }
+{
+    let key = key_at(&state.publishers, publisher_place, subscriber_place)?;
+    if state.connections[key].home().subscriber == subscriber {
+        Some(key)
+    } else {
+        None
+    }
+}
+
+// The subscriber at a place gets its end to the publisher at another, at whose place it has none.
+// Where memory for a connection is refused, that is a warning.
+fn connect_end<T: Drop, U: Default + Drop>(
+    state: &mut DomainState<T, U>,
+    subscriber_place: usize,
+    publisher_place: usize,
+)
+    requires agrees { IsDomain state.old }
+    requires publisher { (x : PublisherFields) × (slice_index_or state.old.publishers publisher_place None ≡ Some x) }
+    requires subscriber { (y : SubscriberFields) × (slice_index_or state.old.subscribers subscriber_place None ≡ Some y) × (slice_index_or y.keys publisher_place None ≡ None) }
+    ensures { (x : PublisherFields) (y : SubscriberFields) → slice_index_or state.old.publishers publisher_place None ≡ Some x
+        → slice_index_or state.old.subscribers subscriber_place None ≡ Some y
+        → ConnectsEnd fixed_handlers state.old subscriber_place publisher_place y x.id state.new None }
+{
+    let (home, buffer) = between(state, publisher_place, subscriber_place);
+    if let Some(key) = joined_key(state, publisher_place, subscriber_place, home.subscriber) {
+        set_key_at(
+            &mut state.subscribers,
+            subscriber_place,
+            publisher_place,
+            key,
+        );
+        return;
+    }
+    let Ok(key) = make_between(state, publisher_place, subscriber_place, home, buffer) else {
+        warn(&mut state.warnings, not_made(home));
+        return;
+    };
+    set_key_at(
+        &mut state.subscribers,
+        subscriber_place,
+        publisher_place,
+        key,
+    );
+}
+
+// Whether the connection at a key is the publisher's.
+fn is_publishers<T: Drop, U: Default + Drop>(
+    state: &DomainState<T, U>,
+    key: usize,
+    publisher: u128,
+) -> bool
+    requires { ContainsKey state.now.connections key }
+    ensures { (c : Link) → get state.now.connections key ≡ Some c → result ≡ (c.home.publisher == publisher) }
+{
+    state.connections[key].home().publisher == publisher
+}
+
+// The subscriber at a place, which has its end at this key at a publisher's place, keeps it where it
+// leads to the publisher that stands there, and gets one in its place where not.
+fn replace_end<T: Drop, U: Default + Drop>(
+    state: &mut DomainState<T, U>,
+    subscriber_place: usize,
+    publisher_place: usize,
+    key: usize,
+    publisher: u128,
+) -> Option<ConnectionFailure>
+    requires agrees { IsDomain state.old }
+    requires publisher { (x : PublisherFields) × (slice_index_or state.old.publishers publisher_place None ≡ Some x) × (x.id ≡ publisher) }
+    requires subscriber { (y : SubscriberFields) × (slice_index_or state.old.subscribers subscriber_place None ≡ Some y) × (slice_index_or y.keys publisher_place None ≡ Some key) }
+    ensures { (y : SubscriberFields) → slice_index_or state.old.subscribers subscriber_place None ≡ Some y
+        → ConnectsAt fixed_handlers state.old subscriber_place publisher_place y state.new result }
+{
+    if is_publishers(state, key, publisher) {
+        return None;
+    }
+    if retire(state, subscriber_place, publisher_place, key) {
+        connect_end(state, subscriber_place, publisher_place);
+        None
+    } else {
+        Some(expired_full())
+    }
+}
+
+// At a place where a publisher stands, the subscriber keeps its end to it or gets one, after the one
+// that it has to another was retired.
+fn connect_at<T: Drop, U: Default + Drop>(
+    state: &mut DomainState<T, U>,
+    subscriber_place: usize,
+    publisher_place: usize,
+) -> Option<ConnectionFailure>
+    requires agrees { IsDomain state.old }
+    requires publisher { publisher_place < length state.old.publishers }
+    requires subscriber { (y : SubscriberFields) × (slice_index_or state.old.subscribers subscriber_place None ≡ Some y) }
+    ensures { (y : SubscriberFields) → slice_index_or state.old.subscribers subscriber_place None ≡ Some y
+        → ConnectsAt fixed_handlers state.old subscriber_place publisher_place y state.new result }
+{
+    let Some(publisher) = publisher_at(&state.publishers, publisher_place) else {
+        return None;
+    };
+    match key_at(&state.subscribers, subscriber_place, publisher_place) {
+        Some(key) => replace_end(state, subscriber_place, publisher_place, key, publisher),
+        None => {
+            connect_end(state, subscriber_place, publisher_place);
+            None
+        }
+    }
+}
+
+/// Updates the subscriber at a place, where it is due: it gets its connection with each publisher, by
+/// rising place, and the publishers that departed are retired from their places. Where memory for a
+/// connection is refused, that is a warning. Where a retirement is refused, the update fails, and the
+/// subscriber is due again.
+///
+/// iceoryx2's `Subscriber::force_update_connections` (`src/port/subscriber.rs`).
+pub fn update_subscriber<T: Drop, U: Default + Drop>(
+    state: &mut DomainState<T, U>,
+    place: usize,
+) -> Option<ConnectionFailure>
+    requires agrees { IsDomain state.old }
+    requires stands { (y : SubscriberFields) × (slice_index_or state.old.subscribers place None ≡ Some y) }
+    ensures { (y : SubscriberFields) → slice_index_or state.old.subscribers place None ≡ Some y
+        → UpdatesReceiver fixed_handlers state.old place y state.new result }
+{
+    if is_due_at(&state.subscribers, place) {
+        walk_places(state, place)
+    } else {
+        None
+    }
+}
+
+// The subscriber at a place, which is due, goes over the publishers' places, and then over the empty
+// ones.
+#[inline(never)]
+fn walk_places<T: Drop, U: Default + Drop>(
+    state: &mut DomainState<T, U>,
+    place: usize,
+) -> Option<ConnectionFailure>
+    requires agrees { IsDomain state.old }
+    requires stands { (y : SubscriberFields) × (slice_index_or state.old.subscribers place None ≡ Some y) }
+    requires due { is_subscriber_due state.old.subscribers place ≡ true }
+    ensures { (y : SubscriberFields) → slice_index_or state.old.subscribers place None ≡ Some y
+        → UpdatesReceiver fixed_handlers state.old place y state.new result }
+{
+    settle(&mut state.subscribers, place);
+    let mut first = None;
+    for other in 0..state.publishers.len() {
+        let failure = connect_at(state, place, other);
+        first = first_of(first, failure);
+    }
+    let mut later = None;
+    for empty in 0..state.publishers.len() {
+        let failure = disconnect_at(state, place, empty);
+        later = first_of(later, failure);
+    }
+    first_of(first, later)
+}

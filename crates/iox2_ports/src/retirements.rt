@@ -1,0 +1,171 @@
+//! A departed publisher's connection leaves its place at a subscriber.
+ghost use Rattle.std.specs.Prelude.{◌≡◌, ◌<◌, ℕ, true, false, None, Some, length, slice_index_or};
+ghost use Rattle.slab.specs.Slab.{get, ContainsKey};
+ghost use Rattle.iox2_store.specs.Link.{Link};
+ghost use Rattle.iox2_store.specs.SlotBook.{Book};
+ghost use Rattle.iox2_store.specs.machine.Limits.{expired_limit};
+ghost use Rattle.iox2_store.specs.machine.Numbers.{contains};
+ghost use Rattle.iox2_store.specs.machine.SubscriberUpdate.{Keep_expired, Evict, Discard_data};
+ghost use Rattle.iox2_store.specs.declared.warning.Warning.TheVariants.{ExpiredDataDiscarded};
+ghost use Rattle.iox2_ends.specs.Retires.{has_borrowed, chosen};
+ghost use Rattle.iox2_domain.specs.Ports.{SubscriberFields};
+ghost use Rattle.iox2_domain.specs.Invariant.{IsDomain};
+ghost use Rattle.iox2_domain.specs.ReceiverSteps.{HasDepartedEnd, ChangesReceiver, LosesConnection, RetiresReceiver, retired};
+
+use crate::departures::free_book_if_unused;
+use crate::warnings::warn;
+use iox2_domain::{DomainState, clear_key_at, expire_at, make_due, replace_expired_at};
+use iox2_ends::drops::remove_connection;
+use iox2_ends::retirement::{Retirement, choose_retirement};
+use iox2_store::{Home, ServiceConfig, UniquePublisherId, UniqueSubscriberId, Warning};
+
+// That what waited in the connection was lost.
+fn data_discarded(home: Home) -> Warning
+    ensures { result ≡ ExpiredDataDiscarded home.publisher home.subscriber }
+{
+    Warning::ExpiredDataDiscarded {
+        sender: UniquePublisherId::new(home.publisher),
+        receiver: UniqueSubscriberId::new(home.subscriber),
+    }
+}
+
+// How many departed publishers a subscriber keeps at most.
+fn expired_limit(config: &ServiceConfig) -> usize
+    ensures { result ≡ expired_limit config.now }
+{
+    config
+        .subscriber_expired_connection_buffer
+        .max(config.subscriber_max_borrowed_samples)
+}
+
+// The connection at a key goes, and with it what waits there, of which there is a warning. Returns
+// the key of its publisher's book.
+fn lose_connection<T: Drop, U: Default + Drop>(state: &mut DomainState<T, U>, key: usize) -> usize
+    requires agrees { IsDomain state.old }
+    requires stands { ContainsKey (state.old).connections key }
+    ensures { (c : Link) (b : Book) → get (state.old).connections key ≡ Some c → get (state.old).books c.home.book ≡ Some b
+        → (result ≡ c.home.book) × LosesConnection state.old key c b state.new }
+{
+    let home = state.connections[key].home();
+    remove_connection(&mut state.connections, key, &mut state.books[home.book]);
+    warn(&mut state.warnings, data_discarded(home));
+    home.book
+}
+
+// The end at a publisher's place is kept among the expired ones.
+fn keep_expired<T: Drop, U: Default + Drop>(
+    state: &mut DomainState<T, U>,
+    subscriber_place: usize,
+    publisher_place: usize,
+    key: usize,
+)
+    requires agrees { IsDomain state.old }
+    requires end { (y : SubscriberFields) × (c : Link) × HasDepartedEnd state.old subscriber_place publisher_place y key c }
+    requires few { (y : SubscriberFields) → slice_index_or state.old.subscribers subscriber_place None ≡ Some y → length y.expired < expired_limit (state.old).config }
+    ensures { (y : SubscriberFields) (c : Link) → HasDepartedEnd state.old subscriber_place publisher_place y key c
+        → ChangesReceiver state.old subscriber_place y (retired state.old publisher_place y c.home.publisher Keep_expired) state.new }
+{
+    expire_at(
+        &mut state.subscribers,
+        subscriber_place,
+        publisher_place,
+        key,
+    );
+}
+
+// The same, and the expired connection at another key goes in its place.
+fn replace_expired<T: Drop, U: Default + Drop>(
+    state: &mut DomainState<T, U>,
+    subscriber_place: usize,
+    publisher_place: usize,
+    key: usize,
+    first: usize,
+)
+    requires agrees { IsDomain state.old }
+    requires end { (y : SubscriberFields) × (c : Link) × HasDepartedEnd state.old subscriber_place publisher_place y key c }
+    requires first { (y : SubscriberFields) → slice_index_or state.old.subscribers subscriber_place None ≡ Some y → contains y.expired first ≡ true }
+    requires unborrowed { has_borrowed (get (state.old).connections first) ≡ false }
+    ensures { (y : SubscriberFields) (c d : Link) → HasDepartedEnd state.old subscriber_place publisher_place y key c → get (state.old).connections first ≡ Some d
+        → ChangesReceiver state.old subscriber_place y (retired state.old publisher_place y c.home.publisher (Evict d.home.publisher)) state.new }
+{
+    let book = lose_connection(state, first);
+    replace_expired_at(
+        &mut state.subscribers,
+        subscriber_place,
+        publisher_place,
+        key,
+        first,
+    );
+    free_book_if_unused(state, book);
+}
+
+// The end at a publisher's place goes, and what waits there is lost.
+fn discard_end<T: Drop, U: Default + Drop>(
+    state: &mut DomainState<T, U>,
+    subscriber_place: usize,
+    publisher_place: usize,
+    key: usize,
+)
+    requires agrees { IsDomain state.old }
+    requires end { (y : SubscriberFields) × (c : Link) × HasDepartedEnd state.old subscriber_place publisher_place y key c }
+    requires unborrowed { has_borrowed (get (state.old).connections key) ≡ false }
+    ensures { (y : SubscriberFields) (c : Link) → HasDepartedEnd state.old subscriber_place publisher_place y key c
+        → ChangesReceiver state.old subscriber_place y (retired state.old publisher_place y c.home.publisher Discard_data) state.new }
+{
+    let book = lose_connection(state, key);
+    clear_key_at(&mut state.subscribers, subscriber_place, publisher_place);
+    free_book_if_unused(state, book);
+}
+
+// What becomes of the end that the subscriber at a place has at a key.
+fn choose<T: Drop, U: Default + Drop>(
+    state: &DomainState<T, U>,
+    subscriber_place: usize,
+    publisher_place: usize,
+    key: usize,
+) -> Retirement
+    requires agrees { IsDomain state.now }
+    requires end { (y : SubscriberFields) × (c : Link) × HasDepartedEnd state.now subscriber_place publisher_place y key c }
+    ensures { (y : SubscriberFields) → slice_index_or state.now.subscribers subscriber_place None ≡ Some y
+        → result ≡ chosen state.now.connections (expired_limit (state.now).config) y.expired key }
+{
+    let Some(subscriber) = &state.subscribers[subscriber_place] else {
+        unreachable!()
+    };
+    choose_retirement(
+        &state.connections,
+        expired_limit(&state.config),
+        &subscriber.expired,
+        key,
+    )
+}
+
+/// The departed publisher, whose connection stands at the key that the subscriber at a place has at
+/// a publisher's place, is retired from there. Returns whether it is: where it is refused, the
+/// subscriber is due again.
+///
+/// iceoryx2's `Receiver::prepare_connection_removal` (`src/port/details/receiver.rs`).
+pub(crate) fn retire<T: Drop, U: Default + Drop>(
+    state: &mut DomainState<T, U>,
+    subscriber_place: usize,
+    publisher_place: usize,
+    key: usize,
+) -> bool
+    requires agrees { IsDomain state.old }
+    requires end { (y : SubscriberFields) × (c : Link) × HasDepartedEnd state.old subscriber_place publisher_place y key c }
+    ensures { (y : SubscriberFields) (c : Link) → HasDepartedEnd state.old subscriber_place publisher_place y key c
+        → RetiresReceiver state.old subscriber_place publisher_place y c.home.publisher state.new result }
+{
+    match choose(state, subscriber_place, publisher_place, key) {
+        Retirement::KeepExpired => keep_expired(state, subscriber_place, publisher_place, key),
+        Retirement::Evict(first) => {
+            replace_expired(state, subscriber_place, publisher_place, key, first);
+        }
+        Retirement::DiscardData => discard_end(state, subscriber_place, publisher_place, key),
+        Retirement::Refuse => {
+            make_due(&mut state.subscribers, subscriber_place);
+            return false;
+        }
+    }
+    true
+}
