@@ -26,4 +26,13 @@ pub mod MailboxWalks
 pub mod PortsStay
 pub mod SamplesStay
 pub mod NextLoan
+pub mod WaitingCounts
+pub mod WaitingReceives
+pub mod WaitingLoans
+pub mod WaitingSends
+pub mod WaitingPorts
+pub mod UpToDate
+pub mod WaitingPublishers
 pub mod SliceLoans
+pub mod PortsCome
+pub mod PortsClose

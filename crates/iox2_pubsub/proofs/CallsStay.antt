@@ -34,11 +34,11 @@ use Rattle.iox2_domain.specs.Invariant.{IsDomain}
 use Rattle.iox2_domain.specs.Kept.{Kept, state_of, entries_of}
 use Rattle.iox2_domain.specs.Lending.{LoanCall}
 use Rattle.iox2_domain.specs.Shows.{Shows}
-use Rattle.iox2_pubsub.specs.Live.{IsLoanKey, IsSampleKey, LoanReads, No_item, A_loan, A_sample, IsOtherSample, StaysBut, Stays, IsNewIn, unwritten_key, written_key, sample_key}
+use Rattle.iox2_pubsub.specs.Live.{IsPublisherKey, IsSubscriberKey, IsLoanKey, IsSampleKey, LoanReads, No_item, A_publisher, A_subscriber, A_loan, A_sample, IsOtherSample, StaysBut, Stays, IsNewIn, unwritten_key, written_key, sample_key}
 use Rattle.iox2_pubsub.specs.declared.sample_mut.SampleMut.{SampleMut}
 use Rattle.iox2_pubsub.proofs.AlwaysShows.{shows_itself}
-use Rattle.iox2_pubsub.proofs.LiveParts.{loan-parts, loan-cell, sample-parts, origin-parts}
-use Rattle.iox2_pubsub.proofs.StaysBut.{stays-between}
+use Rattle.iox2_pubsub.proofs.LiveParts.{publisher-parts, subscriber-parts, loan-parts, loan-cell, sample-parts, origin-parts}
+use Rattle.iox2_pubsub.proofs.StaysBut.{ports-remain, stays-between}
 
 -- a domain shows some state
 pub always-shown : {T U : Type 0} (f : Fields T U) (kept : Kept T U) → IsDomain f → kept_of f ≡ kept → (m : Messages T U) × (s : State T U) × Shows kept m s
@@ -61,7 +61,7 @@ module _ {T U : Type 0} (old new : Kept T U) (m : Messages T U) (s : State T U) 
   -- ports, loans and samples stay
   quiet : (s' : State T U) → Shows new m s' → PortsStay s s' → s'.loans ≡ s.loans → Stays old new
   quiet s' shown' stay loans =
-      stays-between No_item old new m m s s' shown shown' (λ n entry at. at) stay.remain (λ n l at _. ap (λ (f : ℕ → Option (Loan T U)). f n) loans ∙ at)
+      stays-between No_item old new m m s s' shown shown' (λ n entry at. at) (ports-remain _ s s' stay.remain) (λ n l at _. ap (λ (f : ℕ → Option (Loan T U)). f n) loans ∙ at)
       (λ p q n at _. same_borrowed s s' stay p q n ∙ at)
 
   -- a publisher is made, or refused
@@ -76,12 +76,48 @@ module _ {T U : Type 0} (old new : Kept T U) (m : Messages T U) (s : State T U) 
   subscriber-creation-stays environment given refusal s' shown' h =
       quiet s' shown' (create_subscriber_stays environment s given s' refusal h) (create_subscriber_loans environment s given s' refusal h)
 
+  -- the new publisher is none that was there
+  pub publisher-is-new : (id : ℕ) → id ≡ s.next_port → IsNewIn old (A_publisher id)
+  publisher-is-new id is = record {
+    publishers = apart;
+    subscribers = λ key live. tt;
+    loans = λ key live. tt;
+    unwritten_loans = λ it live. tt;
+    written_loans = λ it live. tt;
+    samples = λ key live. tt;
+    origins = λ it from. tt;
+    payloads = λ it value reads. tt;
+  } where
+    apart : (key : Key) → IsPublisherKey old key → key.port ≢ id
+    apart key live same =
+        let has = (publisher-parts old key live).2 in
+        let known : key.port < s.next_port = (shown.well_formed.publishers key.port has.0 (ap (λ (t : State T U). t.publishers key.port) shown.state ∙ has.1)).is_known in
+        omega arith
+
+  -- the new subscriber is none that was there
+  pub subscriber-is-new : (id : ℕ) → id ≡ s.next_port → IsNewIn old (A_subscriber id)
+  subscriber-is-new id is = record {
+    publishers = λ key live. tt;
+    subscribers = apart;
+    loans = λ key live. tt;
+    unwritten_loans = λ it live. tt;
+    written_loans = λ it live. tt;
+    samples = λ key live. tt;
+    origins = λ it from. tt;
+    payloads = λ it value reads. tt;
+  } where
+    apart : (key : Key) → IsSubscriberKey old key → key.port ≢ id
+    apart key live same =
+        let has = (subscriber-parts old key live).2 in
+        let known : key.port < s.next_port = (shown.well_formed.subscribers key.port has.0 (ap (λ (t : State T U). t.subscribers key.port) shown.state ∙ has.1)).is_known in
+        omega arith
+
   -- a loan is granted, or refused
   pub loan-stays : {A : Type 0} (is_default : U → Type 0) (p : ℕ) (answer : Result A LoanError) (s' : State T U) → Shows new m s' → LoanCall is_default s p answer s' → Stays old new
   loan-stays is_default p (Ok a) s' shown' h =
       let stay : PortsStay s s' = grant_loan_stays ample_memory h.0 false 1 s p s' None h.2 in
       let next = loan_next ample_memory s h.0 false 1 p s' h.2 in
-      stays-between No_item old new m m s s' shown shown' (λ n entry at. at) stay.remain (λ n l at _. next.others n (shown.well_formed.loans n l at).below ∙ at)
+      stays-between No_item old new m m s s' shown shown' (λ n entry at. at) (ports-remain _ s s' stay.remain) (λ n l at _. next.others n (shown.well_formed.loans n l at).below ∙ at)
       (λ i j n at _. same_borrowed s s' stay i j n ∙ at)
   loan-stays is_default p (Err e) s' shown' h =
       quiet s' shown' (subst (PortsStay s) (sym h.0) (ports_stay_themselves s)) (ap (λ (t : State T U). t.loans) h.0)
@@ -89,10 +125,12 @@ module _ {T U : Type 0} (old new : Kept T U) (m : Messages T U) (s : State T U) 
   -- the new loan is none that was there
   pub loan-is-new : (number : ℕ) → number ≡ old.next_message → IsNewIn old (A_loan number)
   loan-is-new number is = record {
+    publishers = λ key live. tt;
+    subscribers = λ key live. tt;
     loans = apart;
     unwritten_loans = λ it live. apart (unwritten_key it) live.live;
     written_loans = λ it live. apart (written_key it) live.live;
-    samples = λ it live. tt;
+    samples = λ key live. tt;
     origins = λ it from. tt;
     payloads = read;
   }
@@ -118,7 +156,7 @@ module _ {T U : Type 0} (old new : Kept T U) (m : Messages T U) (s : State T U) 
   write-stays n l value shown' =
       let s' : State T U = with_loan s n (Some (written l value)) in
       let stay : PortsStay s s' = loan_set_stays s n (Some (written l value)) in
-      stays-between (A_loan n) old new m m s s' shown shown' (λ n entry at. at) stay.remain
+      stays-between (A_loan n) old new m m s s' shown shown' (λ n entry at. at) (ports-remain _ s s' stay.remain)
       (λ k loan at other. put_at-other s.loans n (Some (written l value)) k (ne_eqb k n other) ∙ at)
       (λ i j k at _. same_borrowed s s' stay i j k ∙ at)
 
@@ -128,7 +166,7 @@ module _ {T U : Type 0} (old new : Kept T U) (m : Messages T U) (s : State T U) 
   send-stays environment n l out result entry s' shown' h free =
       let stay : PortsStay s s' = send_stays environment s n l s' result h free in
       let loans : s'.loans ≡ put_at s.loans n None = send_loans environment s n l s' result h in
-      stays-between (A_loan n) old new m (put_at m n (Some entry)) s s' shown shown' sent stay.remain
+      stays-between (A_loan n) old new m (put_at m n (Some entry)) s s' shown shown' sent (ports-remain _ s s' stay.remain)
       (λ k loan at other. ap (λ (f : ℕ → Option (Loan T U)). f k) loans ∙ put_at-other s.loans n None k (ne_eqb k n other) ∙ at)
       (λ i j k at _. same_borrowed s s' stay i j k ∙ at)
     where
@@ -143,7 +181,7 @@ module _ {T U : Type 0} (old new : Kept T U) (m : Messages T U) (s : State T U) 
   lost-stays environment n l result s' shown' h free =
       let stay : PortsStay s s' = send_stays environment s n l s' result h free in
       let loans : s'.loans ≡ put_at s.loans n None = send_loans environment s n l s' result h in
-      stays-between (A_loan n) old new m m s s' shown shown' (λ k entry at. at) stay.remain
+      stays-between (A_loan n) old new m m s s' shown shown' (λ k entry at. at) (ports-remain _ s s' stay.remain)
       (λ k loan at other. ap (λ (f : ℕ → Option (Loan T U)). f k) loans ∙ put_at-other s.loans n None k (ne_eqb k n other) ∙ at)
       (λ i j k at _. same_borrowed s s' stay i j k ∙ at)
 
@@ -169,7 +207,7 @@ module _ {T U : Type 0} (old new : Kept T U) (m : Messages T U) (s : State T U) 
   pub receive-stays : (environment : Environment) (q : ℕ) (result : ReceiveResult) (s' : State T U) → Shows new m s' → Receive environment s q s' result → Stays old new
   receive-stays environment q (Got_sample p n) s' shown' h =
       let got : IsReceived environment s q p n s' = received_one environment s q p n s' h in
-      stays-between No_item old new m m s s' shown shown' (λ n entry at. at) got.remain (λ k l at _. ap (λ (f : ℕ → Option (Loan T U)). f k) got.loans ∙ at)
+      stays-between No_item old new m m s s' shown shown' (λ n entry at. at) (ports-remain _ s s' got.remain) (λ k l at _. ap (λ (f : ℕ → Option (Loan T U)). f k) got.loans ∙ at)
       (λ i j k at _. elim (cases_eq i p) [
         | inr away ↦ got.others i j k (λ e _ _. away e) ∙ at
         | inl e_p ↦ elim (cases_eq j q) [
@@ -201,7 +239,7 @@ module _ {T U : Type 0} (old new : Kept T U) (m : Messages T U) (s : State T U) 
       (λ e _ k. let clash : Got_sample p n ≡ Receive_error _ = k.1 in absurd cc)
 
   pub received-is-new : (environment : Environment) (p q n : ℕ) (s' : State T U) → Shows new m s' → Receive environment s q s' (Got_sample p n) → IsNewIn old (A_sample q n)
-  received-is-new environment p q n s' shown' h = record { loans = λ key live. tt; unwritten_loans = λ it live. tt; written_loans = λ it live. tt; samples = λ it live. apart (sample_key it) live; origins = λ it from. away it.origin it.sample.subscriber it.sample.number (origin-parts old it from); payloads = λ it value reads. tt } where
+  received-is-new environment p q n s' shown' h = record { publishers = λ key live. tt; subscribers = λ key live. tt; loans = λ key live. tt; unwritten_loans = λ it live. tt; written_loans = λ it live. tt; samples = apart; origins = λ it from. away it.origin it.sample.subscriber it.sample.number (origin-parts old it from); payloads = λ it value reads. tt } where
     got : IsReceived environment s q p n s'
     got = received_one environment s q p n s' h
 
@@ -228,7 +266,7 @@ module _ {T U : Type 0} (old new : Kept T U) (m : Messages T U) (s : State T U) 
   -- a sample is released
   pub release-stays : (p q n : ℕ) (s' : State T U) → Shows new m s' → s' ≡ released s p q n → StaysBut (A_sample q n) old new
   release-stays p q n s' shown' is =
-      stays-between (A_sample q n) old new m m s s' shown shown' (λ n entry at. at) (subst (Remain s) (sym is) (released_remain s p q n))
+      stays-between (A_sample q n) old new m m s s' shown shown' (λ n entry at. at) (ports-remain _ s s' (subst (Remain s) (sym is) (released_remain s p q n)))
       (λ k l at _. ap (λ (t : State T U). t.loans k) is ∙ ap (λ (f : ℕ → Option (Loan T U)). f k) (released_loans s p q n) ∙ at)
       (λ i j k at other. ap (λ (t : State T U). is_borrowed k (t.mailboxes i j)) is ∙ released_others s p q n i j k (λ _ e_q e_n. apart other e_q e_n) ∙ at)
     where

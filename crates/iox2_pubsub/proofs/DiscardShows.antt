@@ -17,7 +17,7 @@ use Rattle.iox2_domain.specs.Shows.{Shows}
 use Rattle.iox2_domain.proofs.lemmas.fields.ReachesShows.{reaches-shows}
 use Rattle.iox2_pubsub.specs.Live.{IsLoanKey, A_loan, StaysBut}
 use Rattle.iox2_pubsub.proofs.LiveParts.{loan-parts}
-use Rattle.iox2_pubsub.proofs.StaysBut.{stays-between}
+use Rattle.iox2_pubsub.proofs.StaysBut.{ports-remain, stays-between}
 
 -- the domain shows the machine's step
 pub discard-shows : {T U : Type 0} (f g : Fields T U) (kept : Kept T U) (view : kept_of f ≡ kept) (n : ℕ) (discards : DiscardsLoan f g n)
@@ -39,7 +39,7 @@ module _ {T U : Type 0} (old new : Kept T U) (m : Messages T U) (s : State T U) 
   discard-stays =
       let s' : State T U = loan_discarded s n l in
       let stay : PortsStay s s' = loan_discarded_stays s n l in
-      stays-between (A_loan n) old new m m s s' shown shown' (λ k entry at. at) stay.remain
+      stays-between (A_loan n) old new m m s s' shown shown' (λ k entry at. at) (ports-remain _ s s' stay.remain)
       (λ k loan at other. put_at-other s.loans n None k (ne_eqb k n other) ∙ at)
       (λ i j k at _. same_borrowed s s' stay i j k ∙ at)
 

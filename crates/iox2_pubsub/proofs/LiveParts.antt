@@ -3,11 +3,12 @@ use Rattle.std.proofs.Common.{List, [], ◌∷◌, Option, ◌≡◌, ℕ, Bool,
 use Rattle.iox2_store.specs.machine.Mailbox.{is_borrowed}
 use Rattle.iox2_store.specs.machine.Records.{Entry, Loan}
 use Rattle.iox2_store.specs.machine.SingleCalls.{HoldsPublisher, HoldsSubscriber, HoldsLoan, HoldsSample}
+use Rattle.iox2_store.specs.declared.header.Header.{Header}
 use Rattle.iox2_store.specs.declared.key.Key.{Key}
 use Rattle.iox2_store.specs.declared.service_config.TypeVariant.TheVariants.{FixedSize}
 use Rattle.iox2_domain.specs.Kept.{Kept, state_of, entries_of}
-use Rattle.iox2_domain.specs.LoanCalls.{HasCell, HoldsUnwritten, HoldsWritten}
-use Rattle.iox2_pubsub.specs.Live.{IsSingleValued, IsPublisherKey, IsSubscriberKey, IsLoanKey, IsSampleKey, HasMark, IsFromOrigin, LoanReads, SampleReads, IsUnwrittenLoan, IsWrittenLoan}
+use Rattle.iox2_domain.specs.LoanCalls.{HasCell, HasLoanHeader, HoldsUnwritten, HoldsWritten}
+use Rattle.iox2_pubsub.specs.Live.{IsSingleValued, IsPublisherKey, IsSubscriberKey, IsLoanKey, IsSampleKey, HasMark, IsFromOrigin, UnwrittenReads, LoanReads, SampleReads, LoanHasHeader, LoanHasUserHeader, SampleHasHeader, IsUnwrittenLoan, IsWrittenLoan}
 use Rattle.iox2_pubsub.specs.declared.sample.Sample.{Sample}
 use Rattle.iox2_pubsub.specs.declared.sample_mut.SampleMut.{SampleMut}
 use Rattle.iox2_pubsub.specs.declared.sample_mut_uninit.SampleMutUninit.{SampleMutUninit}
@@ -93,6 +94,19 @@ module _ {T U : Type 0} (kept : Kept T U) where
 
   -- ---- what is read
 
+  pub unwritten-reads : (loan : SampleMutUninit) (cell : Option T) → HasCell (state_of kept) loan.loan.number cell → UnwrittenReads kept loan cell
+  unfolding UnwrittenReads
+  unwritten-reads loan cell has = has
+
+  -- an unwritten loan has one cell
+  pub unwritten-reads-one : (loan : SampleMutUninit) (cell cell' : Option T) → UnwrittenReads kept loan cell → UnwrittenReads kept loan cell' → cell ≡ cell'
+  unfolding UnwrittenReads
+  unwritten-reads-one loan cell cell' a b =
+      let both : Some a.0 ≡ Some b.0 = sym a.1 ∙ b.1 in
+      let same : a.0 ≡ b.0 = cc in
+      let cells : ◌≡◌ {A = List (Option T)} (cell ∷ []) (cell' ∷ []) = sym a.2 ∙ ap (λ (l : Loan T U). l.cells) same ∙ b.2 in
+      cc
+
   pub loan-reads : (loan : SampleMut) (value : T) → HasCell (state_of kept) loan.loan.number (Some value) → LoanReads kept loan value
   unfolding LoanReads
   loan-reads loan value has = has
@@ -123,6 +137,46 @@ module _ {T U : Type 0} (kept : Kept T U) where
       let same : a.0 ≡ b.0 = cc in
       let values : value ∷ [] ≡ value' ∷ [] = sym a.2 ∙ ap (λ (e : Entry T U). e.values) same ∙ b.2 in
       cc
+
+  -- ---- headers
+
+  module _ (key : Key) (header : Header) where
+    pub loan-header : HasLoanHeader (state_of kept) key.message header → LoanHasHeader kept key header
+    unfolding LoanHasHeader
+    loan-header has = has
+
+    pub loan-header-parts : LoanHasHeader kept key header → HasLoanHeader (state_of kept) key.message header
+    unfolding LoanHasHeader
+    loan-header-parts has = has
+
+    pub sample-header : (entry : Entry T U) × (entries_of kept key.message ≡ Some entry) × (entry.header ≡ header) → SampleHasHeader kept key header
+    unfolding SampleHasHeader
+    sample-header has = has
+
+    -- a loan has one header
+    pub loan-header-one : (header' : Header) → LoanHasHeader kept key header → LoanHasHeader kept key header' → header ≡ header'
+    unfolding LoanHasHeader
+    loan-header-one header' a b =
+        let both : Some a.0 ≡ Some b.0 = sym a.1 ∙ b.1 in
+        let same : a.0 ≡ b.0 = cc in
+        sym a.2 ∙ ap (λ (l : Loan T U). l.header) same ∙ b.2
+
+    -- a sample has one header
+    pub sample-header-one : (header' : Header) → SampleHasHeader kept key header → SampleHasHeader kept key header' → header ≡ header'
+    unfolding SampleHasHeader
+    sample-header-one header' a b =
+        let both : Some a.0 ≡ Some b.0 = sym a.1 ∙ b.1 in
+        let same : a.0 ≡ b.0 = cc in
+        sym a.2 ∙ ap (λ (e : Entry T U). e.header) same ∙ b.2
+
+  module _ (key : Key) (header : U) where
+    pub loan-user-header : (l : Loan T U) × ((state_of kept).loans key.message ≡ Some l) × (l.user_header ≡ header) → LoanHasUserHeader kept key header
+    unfolding LoanHasUserHeader
+    loan-user-header has = has
+
+    pub loan-user-header-parts : LoanHasUserHeader kept key header → (l : Loan T U) × ((state_of kept).loans key.message ≡ Some l) × (l.user_header ≡ header)
+    unfolding LoanHasUserHeader
+    loan-user-header-parts has = has
 
   -- ---- origins
 

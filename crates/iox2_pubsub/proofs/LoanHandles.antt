@@ -1,6 +1,7 @@
 -- The handles of loans: what a domain that holds one shows.
 use Rattle.std.proofs.Common.{length, replicate, ◌≡◌, ℕ, cond, refl, ap, sym, subst, ◌∙◌, le_refl}
 use Rattle.std.proofs.lemmas.Bool.{eq-eqb}
+use Rattle.std.proofs.lemmas.Option.{same_Some}
 use Rattle.std.specs.declared.option.Option.TheVariants.{None, Some}
 use Rattle.iox2_store.specs.machine.Records.{Loan}
 use Rattle.iox2_store.specs.machine.State.{State, Messages, with_loan}
@@ -10,10 +11,10 @@ use Rattle.iox2_laws.proofs.Puts.{found_put}
 use Rattle.iox2_domain.specs.Kept.{Kept, state_of}
 use Rattle.iox2_domain.specs.Fields.{Fields, kept_of}
 use Rattle.iox2_store.specs.declared.key.Key.{Key}
-use Rattle.iox2_pubsub.specs.Live.{IsLoanKey, IsUnwrittenLoan, IsWrittenLoan, LoanReads}
+use Rattle.iox2_pubsub.specs.Live.{IsLoanKey, IsUnwrittenLoan, IsWrittenLoan, LoanHasHeader, LoanHasUserHeader, LoanReads}
 use Rattle.iox2_pubsub.specs.declared.sample_mut.SampleMut.{SampleMut}
 use Rattle.iox2_pubsub.specs.declared.sample_mut_uninit.SampleMutUninit.{SampleMutUninit}
-use Rattle.iox2_pubsub.proofs.LiveParts.{loan-parts, loan-reads, unwritten-parts, written-parts, written-live}
+use Rattle.iox2_pubsub.proofs.LiveParts.{loan-header, loan-header-parts, loan-parts, loan-reads, loan-user-header, loan-user-header-parts, unwritten-parts, written-parts, written-live}
 use Rattle.iox2_store.specs.declared.header.Header.{Header}
 use Rattle.iox2_domain.specs.Invariant.{IsDomain}
 use Rattle.iox2_domain.specs.LoanCalls.{HoldsUnwritten, HoldsWritten, HasLoanHeader, WritesLoan}
@@ -70,6 +71,28 @@ module _ {T U : Type 0} (f g : Fields T U) (kept : Kept T U) (view : kept_of f �
         ap (λ (l : Loan T U). l.publisher) same ∙ (parts.1).2 ∙ sym publisher,
         refl,
       )
+
+  module _ (key key' : Key) (here : key.message ≡ n) (there : key'.message ≡ n) where
+    -- what was out is what is written
+    was : (l : Loan T U) → (state_of kept).loans key.message ≡ Some l → writes.0 ≡ l
+    was l at = same_Some writes.0 l (sym writes.1 ∙ ap (λ (k : Kept T U). (state_of k).loans n) view ∙ ap (state_of kept).loans (sym here) ∙ at)
+
+    now : (state_of (kept_of g)).loans key'.message ≡ Some (written writes.0 value)
+    now =
+        ap (state_of (kept_of g)).loans there
+        ∙ ap (λ (t : State T U). t.loans n) writes.2.state
+        ∙ ap (λ b. cond b (Some (written writes.0 value)) ((state_of (kept_of f)).loans n)) (eq-eqb n n refl)
+
+    -- its headers stay
+    pub write-header : (header : Header) → LoanHasHeader kept key header → LoanHasHeader (kept_of g) key' header
+    write-header header has =
+        let old = loan-header-parts kept key header has in
+        loan-header (kept_of g) key' header (written writes.0 value, now, ap (λ (l : Loan T U). l.header) (was old.0 old.1) ∙ old.2)
+
+    pub write-user-header : (header : U) → LoanHasUserHeader kept key header → LoanHasUserHeader (kept_of g) key' header
+    write-user-header header has =
+        let old = loan-user-header-parts kept key header has in
+        loan-user-header (kept_of g) key' header (written writes.0 value, now, ap (λ (l : Loan T U). l.user_header) (was old.0 old.1) ∙ old.2)
 
 -- the written loan reads as the value
 pub write-reads : {T U : Type 0} (f g : Fields T U) (n : ℕ) (value : T) (writes : WritesLoan f g n value) (loan : SampleMut) → loan.loan.number ≡ n

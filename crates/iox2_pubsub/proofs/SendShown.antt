@@ -1,19 +1,24 @@
 -- A send of a loan, seen from outside.
 use Rattle.std.proofs.Common.{◌≡◌, ℕ, ◌<◌, eqb, refl, ap, sym, subst, ◌∙◌, inl, inr, arith, true, false, Bool}
-use Rattle.std.proofs.lemmas.Bool.{eqb-true, cases_eq, ne_eqb}
+use Rattle.std.proofs.lemmas.Bool.{eqb-true, cases_eq, ne_eqb, true≢false}
 use Rattle.std.specs.declared.option.Option.{Option}
 use Rattle.std.specs.declared.option.Option.TheVariants.{None, Some}
 use Rattle.iox2_store.specs.machine.Loans.{entry_of}
 use Rattle.iox2_store.specs.machine.Numbers.{put_at}
 use Rattle.iox2_store.specs.machine.Records.{Entry, Loan, Environment}
-use Rattle.iox2_store.specs.machine.Sends.{SendResult, Send, Send_error}
+use Rattle.iox2_store.specs.machine.Environments.{fixed_handlers}
+use Rattle.iox2_store.specs.machine.Sends.{SendResult, Send, Send_error, Delivered_to}
+use Rattle.iox2_store.specs.machine.SingleCalls.{HoldsPublisher}
 use Rattle.iox2_store.specs.declared.errors.SendError.{SendError}
+use Rattle.iox2_store.specs.declared.errors.SendError.TheVariants.{ConnectionBrokenSinceSenderNoLongerExists}
+use Rattle.iox2_laws.proofs.Cases.{by_option}
+use Rattle.std.specs.Prelude.{IsOk, IfErr}
 use Rattle.iox2_store.specs.machine.State.{State, Messages}
 use Rattle.iox2_laws.proofs.Puts.{put_at-same, put_at-other}
 use Rattle.iox2_laws.proofs.SendLaws.{send_advances}
 use Rattle.iox2_domain.specs.Fields.{Fields, kept_of}
 use Rattle.iox2_domain.specs.Kept.{state_of}
-use Rattle.iox2_domain.specs.SentLoans.{SendsLoan}
+use Rattle.iox2_domain.specs.SentLoans.{SendsLoan, send_result}
 use Rattle.iox2_domain.specs.Shows.{Shows}
 use Rattle.std.specs.declared.result.Result.{Result}
 use Rattle.std.specs.declared.result.Result.TheVariants.{Ok, Err}
@@ -96,3 +101,14 @@ module _ {T U : Type 0} (environment : Environment) (f g : Fields T U) (n : ℕ)
   pub sent-shown : (outcome : Result SendOutcome SendError) → result ≡ result_of_send outcome → Shows (kept_of g) (messages_after m n l outcome) (state_of (kept_of g))
   sent-shown (Ok delivered) is = send-shown
   sent-shown (Err error) is = lost-shown error is
+
+-- a send whose publisher is there succeeds, and so each error is that it is gone
+pub only-error : {T U : Type 0} (f g : Fields T U) (n p : ℕ) (sent : Result ℕ SendError) → (HoldsPublisher (state_of (kept_of f)) p → IsOk sent)
+    → (sends : SendsLoan fixed_handlers f g n (send_result sent)) → sends.loan.publisher ≡ p
+    → (outcome : Result SendOutcome SendError) → result_of_send outcome ≡ send_result sent → IfErr outcome (λ error. error ≡ ConnectionBrokenSinceSenderNoLongerExists)
+only-error {T} {U} f g n p sent ok sends its (Ok delivered) is = tt
+only-error {T} {U} f g n p (Ok count) ok sends its (Err error) is = let clash : Send_error error ≡ Delivered_to count = is in absurd cc
+only-error {T} {U} f g n p (Err e) ok sends its (Err error) is =
+    by_option (error ≡ ConnectionBrokenSinceSenderNoLongerExists) ((state_of (kept_of f)).publishers sends.loan.publisher) _ _ sends.sends
+    (λ _ gone. let same : Send_error error ≡ Send_error ConnectionBrokenSinceSenderNoLongerExists = is ∙ gone.1 in cc)
+    (λ x there _. absurd (true≢false (sym (ok (x, ap (state_of (kept_of f)).publishers (sym its) ∙ there)))))

@@ -1,8 +1,9 @@
 -- What of a domain stays from one state to the next.
-use Rattle.std.proofs.Common.{◌≡◌, refl, ℕ, Bool, true, sym, ap, subst, ◌∙◌, Some}
+use Rattle.std.proofs.Common.{◌≡◌, refl, ℕ, Bool, true, sym, ap, subst, ◌∙◌, Option, None, Some}
 use Rattle.iox2_store.specs.machine.Mailbox.{is_borrowed}
-use Rattle.iox2_store.specs.machine.Records.{Entry, Loan}
+use Rattle.iox2_store.specs.machine.Records.{Entry, Loan, Publisher, Subscriber}
 use Rattle.iox2_store.specs.machine.State.{State, Messages}
+use Rattle.iox2_store.specs.declared.header.Header.{Header}
 use Rattle.iox2_store.specs.declared.key.Key.{Key}
 use Rattle.iox2_store.specs.declared.service_config.ServiceConfig.{ServiceConfig}
 use Rattle.iox2_laws.proofs.PortsStay.{Remain}
@@ -10,11 +11,27 @@ use Rattle.iox2_store.specs.Stored.{In_mailbox}
 use Rattle.iox2_laws.proofs.NumberLemmas.{contains_right}
 use Rattle.iox2_domain.specs.Kept.{Kept, state_of, entries_of}
 use Rattle.iox2_domain.specs.Shows.{Shows}
-use Rattle.iox2_pubsub.specs.Live.{IsSingleValued, IsPublisherKey, IsSubscriberKey, IsLoanKey, IsSampleKey, IsLiveSample, HasMark, IsFromOrigin, LoanReads, SampleReads, Item, No_item, IsOtherLoan, IsOtherSample, StaysBut, Stays, IsNewIn, publisher_key, subscriber_key, unwritten_key, written_key, sample_key}
+use Rattle.iox2_pubsub.specs.Live.{IsSingleValued, IsPublisherKey, IsSubscriberKey, IsLoanKey, IsSampleKey, IsLiveSample, IsUnwrittenLoan, HasMark, IsFromOrigin, UnwrittenReads, LoanReads, SampleReads, LoanHasHeader, LoanHasUserHeader, SampleHasHeader, SampleHasUserHeader, Item, No_item, IsOtherPublisher, IsOtherSubscriber, IsOtherLoan, IsOtherSample, StaysBut, Stays, IsNewIn, unwritten_key, written_key, sample_key}
 use Rattle.iox2_pubsub.specs.declared.sample.Sample.{Sample}
 use Rattle.iox2_pubsub.specs.declared.sample_mut.SampleMut.{SampleMut}
+use Rattle.iox2_pubsub.specs.declared.sample_mut_uninit.SampleMutUninit.{SampleMutUninit}
 
 module _ {T U : Type 0} where
+  -- the settings stay, and the ports, but for the item
+  pub record PortsRemainBut (spent : Item) (s s' : State T U) : Type 0 where
+    pub config : s'.config ≡ s.config
+    pub publishers : (p : ℕ) (x : Publisher) → s.publishers p ≡ Some x → IsOtherPublisher spent p → (x' : Publisher) × (s'.publishers p ≡ Some x')
+    pub subscribers : (q : ℕ) (y : Subscriber) → s.subscribers q ≡ Some y → y.is_open ≡ true → IsOtherSubscriber spent q
+        → (y' : Subscriber) × (s'.subscribers q ≡ Some y') × (y'.is_open ≡ true)
+
+  -- where all ports remain
+  pub ports-remain : (spent : Item) (s s' : State T U) → Remain s s' → PortsRemainBut spent s s'
+  ports-remain spent s s' remain = record {
+    config = remain.config;
+    publishers = λ p x here _. let there = remain.publishers p x here in (there.0, there.1);
+    subscribers = λ q y here is_open _. remain.subscribers q y here is_open;
+  }
+
   -- the loans stay, but for the item
   abbrev pub LoansStayBut : Item → (s s' : State T U) → Type 0
   LoansStayBut spent s s' = (n : ℕ) (l : Loan T U) → s.loans n ≡ Some l → IsOtherLoan spent n → s'.loans n ≡ Some l
@@ -23,7 +40,7 @@ module _ {T U : Type 0} where
   abbrev pub SamplesStayBut : Item → (s s' : State T U) → Type 0
   SamplesStayBut spent s s' = (p q n : ℕ) → is_borrowed n (s.mailboxes p q) ≡ true → IsOtherSample spent q n → is_borrowed n (s'.mailboxes p q) ≡ true
 
-module _ {T U : Type 0} (spent : Item) (old new : Kept T U) (remain : Remain (state_of old) (state_of new)) (loans : LoansStayBut spent (state_of old) (state_of new))
+module _ {T U : Type 0} (spent : Item) (old new : Kept T U) (remain : PortsRemainBut spent (state_of old) (state_of new)) (loans : LoansStayBut spent (state_of old) (state_of new))
     (samples : SamplesStayBut spent (state_of old) (state_of new))
     (entries : (n p q : ℕ) (entry : Entry T U) → entries_of old n ≡ Some entry → is_borrowed n ((state_of new).mailboxes p q) ≡ true → entries_of new n ≡ Some entry) where
   service : (id : ℕ) → id ≡ (old.config).service_id → id ≡ (new.config).service_id
@@ -33,13 +50,13 @@ module _ {T U : Type 0} (spent : Item) (old new : Kept T U) (remain : Remain (st
   unfolding IsSingleValued
   single was = (ap (λ (c : ServiceConfig). c.variant) remain.config ∙ was.0, ap (λ (c : ServiceConfig). c.units_per_element) remain.config ∙ was.1)
 
-  publisher : (key : Key) → IsPublisherKey old key → IsPublisherKey new key
+  publisher : (key : Key) → IsPublisherKey old key → IsOtherPublisher spent key.port → IsPublisherKey new key
   unfolding IsPublisherKey
-  publisher key live = let there = remain.publishers key.port (live.2).0 (live.2).1 in (live.0, service key.service_id live.1, (there.0, there.1))
+  publisher key live other = (live.0, service key.service_id live.1, remain.publishers key.port (live.2).0 (live.2).1 other)
 
-  subscriber : (key : Key) → IsSubscriberKey old key → IsSubscriberKey new key
+  subscriber : (key : Key) → IsSubscriberKey old key → IsOtherSubscriber spent key.port → IsSubscriberKey new key
   unfolding IsSubscriberKey
-  subscriber key live = (live.0, service key.service_id live.1, remain.subscribers key.port (live.2).0 (live.2).1 (live.2).2)
+  subscriber key live other = (live.0, service key.service_id live.1, remain.subscribers key.port (live.2).0 (live.2).1 (live.2).2 other)
 
   loan : (key : Key) → IsLoanKey old key → IsOtherLoan spent key.message → IsLoanKey new key
   unfolding IsLoanKey
@@ -61,33 +78,63 @@ module _ {T U : Type 0} (spent : Item) (old new : Kept T U) (remain : Remain (st
   unfolding LoanReads
   loan-payload it value reads other = (reads.0, loans it.loan.number reads.0 reads.1 other, reads.2)
 
+  loan-cell : (it : SampleMutUninit) (cell : Option T) → UnwrittenReads old it cell → IsOtherLoan spent it.loan.number → UnwrittenReads new it cell
+  unfolding UnwrittenReads
+  loan-cell it cell reads other = (reads.0, loans it.loan.number reads.0 reads.1 other, reads.2)
+
+  loan-header : (key : Key) (header : Header) → LoanHasHeader old key header → IsOtherLoan spent key.message → LoanHasHeader new key header
+  unfolding LoanHasHeader
+  loan-header key header has other = (has.0, loans key.message has.0 has.1 other, has.2)
+
+  loan-user-header : (key : Key) (header : U) → LoanHasUserHeader old key header → IsOtherLoan spent key.message → LoanHasUserHeader new key header
+  unfolding LoanHasUserHeader
+  loan-user-header key header has other = (has.0, loans key.message has.0 has.1 other, has.2)
+
+  -- the entry of a sample
+  sample-entry : (key : Key) → IsSampleKey old key → IsOtherSample spent key.port key.message → (entry : Entry T U) → entries_of old key.message ≡ Some entry
+      → entries_of new key.message ≡ Some entry
+  unfolding IsSampleKey
+  sample-entry key live other entry at = let has = sample key live other in entries key.message (has.1).0 key.port entry at (has.1).1
+
+  sample-header : (key : Key) (header : Header) → IsSampleKey old key → SampleHasHeader old key header → IsOtherSample spent key.port key.message → SampleHasHeader new key header
+  unfolding SampleHasHeader
+  sample-header key header live has other = (has.0, sample-entry key live other has.0 has.1, has.2)
+
+  sample-user-header : (key : Key) (header : U) → IsSampleKey old key → SampleHasUserHeader old key header → IsOtherSample spent key.port key.message
+      → SampleHasUserHeader new key header
+  unfolding SampleHasUserHeader
+  sample-user-header key header live has other = (has.0, sample-entry key live other has.0 has.1, has.2)
+
   sample-payload : (it : Sample) (value : T) → IsLiveSample old it → SampleReads old it value → IsOtherSample spent it.sample.subscriber it.sample.number
       → SampleReads new it value
-  unfolding SampleReads IsSampleKey
-  sample-payload it value live reads other =
-      let has = sample (sample_key it) live other in
-      (reads.0, entries it.sample.number (has.1).0 it.sample.subscriber reads.0 reads.1 (has.1).1, reads.2)
+  unfolding SampleReads
+  sample-payload it value live reads other = (reads.0, sample-entry (sample_key it) live other reads.0 reads.1, reads.2)
 
   stays-but : StaysBut spent old new
   stays-but = record {
     settings = remain.config;
     single_valued = single;
-    publishers = λ it. publisher (publisher_key it);
-    subscribers = λ it. subscriber (subscriber_key it);
+    publishers = publisher;
+    subscribers = subscriber;
     loans = loan;
     unwritten_loans = λ it live other. record { live = loan (unwritten_key it) live.live other; unwritten = mark it.loan.number _ live.unwritten other };
     written_loans = λ it live other. record { live = loan (written_key it) live.live other; written = mark it.loan.number _ live.written other };
-    samples = λ it. sample (sample_key it);
+    samples = sample;
     origins = origin;
+    loan_cells = λ it cell live. loan-cell it cell;
     loan_payloads = loan-payload;
+    loan_headers = λ key header live. loan-header key header;
+    loan_user_headers = λ key header live. loan-user-header key header;
     sample_payloads = sample-payload;
+    sample_headers = sample-header;
+    sample_user_headers = sample-user-header;
   }
 
 -- seen from a state that is shown
 pub stays-between : {T U : Type 0} (spent : Item) (old new : Kept T U) (m m' : Messages T U) (s s' : State T U) → Shows old m s → Shows new m' s'
-    → ((n : ℕ) (entry : Entry T U) → m n ≡ Some entry → m' n ≡ Some entry) → Remain s s' → LoansStayBut spent s s' → SamplesStayBut spent s s' → StaysBut spent old new
+    → ((n : ℕ) (entry : Entry T U) → m n ≡ Some entry → m' n ≡ Some entry) → PortsRemainBut spent s s' → LoansStayBut spent s s' → SamplesStayBut spent s s' → StaysBut spent old new
 stays-between {T} {U} spent old new m m' s s' shown shown' sent remain loans samples =
-    stays-but spent old new (between (λ a b. Remain a b) remain) (between (LoansStayBut spent) loans) (between (SamplesStayBut spent) samples) entries
+    stays-but spent old new (between (PortsRemainBut spent) remain) (between (LoansStayBut spent) loans) (between (SamplesStayBut spent) samples) entries
   where
     entries : (n p q : ℕ) (entry : Entry T U) → entries_of old n ≡ Some entry → is_borrowed n ((state_of new).mailboxes p q) ≡ true → entries_of new n ≡ Some entry
     entries n p q entry at borrowed =
@@ -104,10 +151,12 @@ module _ {T U : Type 0} (start old : Kept T U) (before : Stays start old) (item 
   -- what is new later was new before
   pub new-since : IsNewIn old item → IsNewIn start item
   new-since new = record {
+    publishers = λ key live. new.publishers key (before.publishers key live tt);
+    subscribers = λ key live. new.subscribers key (before.subscribers key live tt);
     loans = λ key live. new.loans key (before.loans key live tt);
     unwritten_loans = λ it live. new.unwritten_loans it (before.unwritten_loans it live tt);
     written_loans = λ it live. new.written_loans it (before.written_loans it live tt);
-    samples = λ it live. new.samples it (before.samples it live tt);
+    samples = λ key live. new.samples key (before.samples key live tt);
     origins = λ it from. new.origins it (before.origins it from tt);
     payloads = λ it value reads. new.payloads it value (before.loan_payloads it value reads tt);
   }
@@ -117,25 +166,36 @@ module _ {T U : Type 0} (start old : Kept T U) (before : Stays start old) (item 
   stays-on new apart next = record {
     settings = next.settings ∙ before.settings;
     single_valued = λ was. next.single_valued (before.single_valued was);
-    publishers = λ it live. next.publishers it (before.publishers it live);
-    subscribers = λ it live. next.subscribers it (before.subscribers it live);
+    publishers = λ key live other. next.publishers key (before.publishers key live other) (apart.publishers key live);
+    subscribers = λ key live other. next.subscribers key (before.subscribers key live other) (apart.subscribers key live);
     loans = λ key live other. next.loans key (before.loans key live other) (apart.loans key live);
     unwritten_loans = λ it live other. next.unwritten_loans it (before.unwritten_loans it live other) (apart.unwritten_loans it live);
     written_loans = λ it live other. next.written_loans it (before.written_loans it live other) (apart.written_loans it live);
-    samples = λ it live other. next.samples it (before.samples it live other) (apart.samples it live);
+    samples = λ key live other. next.samples key (before.samples key live other) (apart.samples key live);
     origins = λ it from other. next.origins it (before.origins it from other) (apart.origins it from);
+    loan_cells = λ it cell live reads other.
+        next.loan_cells it cell (before.unwritten_loans it live other) (before.loan_cells it cell live reads other) (apart.unwritten_loans it live);
     loan_payloads = λ it value reads other. next.loan_payloads it value (before.loan_payloads it value reads other) (apart.payloads it value reads);
+    loan_headers = λ key header live has other. next.loan_headers key header (before.loans key live other) (before.loan_headers key header live has other) (apart.loans key live);
+    loan_user_headers = λ key header live has other.
+        next.loan_user_headers key header (before.loans key live other) (before.loan_user_headers key header live has other) (apart.loans key live);
     sample_payloads = λ it value live reads other.
-        next.sample_payloads it value (before.samples it live other) (before.sample_payloads it value live reads other) (apart.samples it live);
+        next.sample_payloads it value (before.samples (sample_key it) live other) (before.sample_payloads it value live reads other) (apart.samples (sample_key it) live);
+    sample_headers = λ key header live has other.
+        next.sample_headers key header (before.samples key live other) (before.sample_headers key header live has other) (apart.samples key live);
+    sample_user_headers = λ key header live has other.
+        next.sample_user_headers key header (before.samples key live other) (before.sample_user_headers key header live has other) (apart.samples key live);
   }
 
 -- nothing is always new
 pub nothing-is-new : {T U : Type 0} (start : Kept T U) → IsNewIn start No_item
 nothing-is-new start = record {
+  publishers = λ key live. tt;
+  subscribers = λ key live. tt;
   loans = λ key live. tt;
   unwritten_loans = λ it live. tt;
   written_loans = λ it live. tt;
-  samples = λ it live. tt;
+  samples = λ key live. tt;
   origins = λ it from. tt;
   payloads = λ it value reads. tt;
 }
@@ -145,13 +205,18 @@ pub stays-itself : {T U : Type 0} (kept : Kept T U) → Stays kept kept
 stays-itself kept = record {
   settings = refl;
   single_valued = λ was. was;
-  publishers = λ it live. live;
-  subscribers = λ it live. live;
+  publishers = λ key live other. live;
+  subscribers = λ key live other. live;
   loans = λ key live other. live;
   unwritten_loans = λ it live other. live;
   written_loans = λ it live other. live;
-  samples = λ it live other. live;
+  samples = λ key live other. live;
   origins = λ it from other. from;
+  loan_cells = λ it cell live reads other. reads;
   loan_payloads = λ it value reads other. reads;
+  loan_headers = λ key header live has other. has;
+  loan_user_headers = λ key header live has other. has;
   sample_payloads = λ it value live reads other. reads;
+  sample_headers = λ key header live has other. has;
+  sample_user_headers = λ key header live has other. has;
 }

@@ -7,10 +7,10 @@ use Rattle.iox2_laws.proofs.SamplesStay.{same_borrowed}
 use Rattle.iox2_domain.specs.Kept.{Kept}
 use Rattle.iox2_domain.specs.Shows.{Shows}
 use Rattle.iox2_pubsub.specs.Live.{No_item, Stays}
-use Rattle.iox2_pubsub.proofs.StaysBut.{stays-between}
+use Rattle.iox2_pubsub.proofs.StaysBut.{ports-remain, stays-between}
 
 -- ports, loans and samples stay
 pub updates-stay : {T U : Type 0} (old new : Kept T U) (m : Messages T U) (s s' : State T U) → Shows old m s → Shows new m s' → PortsStay s s' → s'.loans ≡ s.loans → Stays old new
 updates-stay {T} {U} old new m s s' shown shown' stay loans =
-    stays-between No_item old new m m s s' shown shown' (λ n entry at. at) stay.remain (λ n l at _. ap (λ (f : ℕ → Option (Loan T U)). f n) loans ∙ at)
+    stays-between No_item old new m m s s' shown shown' (λ n entry at. at) (ports-remain _ s s' stay.remain) (λ n l at _. ap (λ (f : ℕ → Option (Loan T U)). f n) loans ∙ at)
     (λ p q n at _. same_borrowed s s' stay p q n ∙ at)

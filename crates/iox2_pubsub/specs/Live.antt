@@ -1,13 +1,15 @@
 -- What handles name in a domain, and what of it a call leaves.
 use Rattle.std.specs.Prelude.{ℕ, Bool, [], ◌∷◌, ◌≡◌, ◌≢◌, ◌⊎◌, true, false, IsTrue}
+use Rattle.std.specs.declared.option.Option.{Option}
 use Rattle.std.specs.declared.option.Option.TheVariants.{Some}
 use Rattle.iox2_store.specs.machine.Mailbox.{is_borrowed}
 use Rattle.iox2_store.specs.machine.Records.{Entry, Loan}
 use Rattle.iox2_store.specs.machine.SingleCalls.{HoldsPublisher, HoldsSubscriber, HoldsLoan, HoldsSample}
+use Rattle.iox2_store.specs.declared.header.Header.{Header}
 use Rattle.iox2_store.specs.declared.key.Key.{Key}
 use Rattle.iox2_store.specs.declared.service_config.TypeVariant.TheVariants.{FixedSize}
 use Rattle.iox2_domain.specs.Kept.{Kept, state_of, entries_of}
-use Rattle.iox2_domain.specs.LoanCalls.{HasCell}
+use Rattle.iox2_domain.specs.LoanCalls.{HasCell, HasLoanHeader}
 use Rattle.iox2_pubsub.specs.declared.publisher.Publisher.{Publisher}
 use Rattle.iox2_pubsub.specs.declared.subscriber.Subscriber.{Subscriber}
 use Rattle.iox2_pubsub.specs.declared.sample_mut_uninit.SampleMutUninit.{SampleMutUninit}
@@ -35,6 +37,10 @@ written_key loan = record { service_id = loan.service_id; port = loan.loan.publi
 -- The key of a sample.
 abbrev pub sample_key : Sample → Key
 sample_key sample = record { service_id = sample.service_id; port = sample.sample.subscriber; message = sample.sample.number }
+
+-- The key of the publisher that lent the loan with this key.
+abbrev pub lender_key : Key → Key
+lender_key loan = record { service_id = loan.service_id; port = loan.port; message = 0 }
 
 -- ---- what is live
 
@@ -82,9 +88,9 @@ module _ {T U : Type 0} (domain : Kept T U) where
     pub live : IsLoanKey (written_key loan)
     pub written : HasMark loan.loan.number true
 
-  -- The publisher that lent the loan wasn't closed.
-  abbrev pub HasItsPublisher : SampleMut → Type 0
-  HasItsPublisher loan = HoldsPublisher (state_of domain) loan.loan.publisher
+  -- The publisher that lent the loan with this key wasn't closed.
+  abbrev pub HasLender : Key → Type 0
+  HasLender loan = IsPublisherKey (lender_key loan)
 
   -- The sample's message is borrowed by its subscriber.
   abbrev pub IsLiveSample : Sample → Type 0
@@ -96,6 +102,10 @@ module _ {T U : Type 0} (domain : Kept T U) where
 
   -- ---- what is read
 
+  -- The unwritten loan has this in its cell.
+  unfoldable pub UnwrittenReads : SampleMutUninit → Option T → Type 0
+  UnwrittenReads loan cell = HasCell (state_of domain) loan.loan.number cell
+
   -- The written loan's payload is this value.
   unfoldable pub LoanReads : SampleMut → T → Type 0
   LoanReads loan value = HasCell (state_of domain) loan.loan.number (Some value)
@@ -104,13 +114,41 @@ module _ {T U : Type 0} (domain : Kept T U) where
   unfoldable pub SampleReads : Sample → T → Type 0
   SampleReads sample value = (entry : Entry T U) × (entries_of domain sample.sample.number ≡ Some entry) × (entry.values ≡ value ∷ [])
 
+  module _ (key : Key) where
+    -- The loan with this key has this header.
+    unfoldable pub LoanHasHeader : Header → Type 0
+    LoanHasHeader header = HasLoanHeader (state_of domain) key.message header
+
+    -- The loan with this key has this user header.
+    unfoldable pub LoanHasUserHeader : U → Type 0
+    LoanHasUserHeader header = (loan : Loan T U) × ((state_of domain).loans key.message ≡ Some loan) × (loan.user_header ≡ header)
+
+    -- The sample with this key has this header.
+    unfoldable pub SampleHasHeader : Header → Type 0
+    SampleHasHeader header = (entry : Entry T U) × (entries_of domain key.message ≡ Some entry) × (entry.header ≡ header)
+
+    -- The sample with this key has this user header.
+    unfoldable pub SampleHasUserHeader : U → Type 0
+    SampleHasUserHeader header = (entry : Entry T U) × (entries_of domain key.message ≡ Some entry) × (entry.user_header ≡ header)
+
 -- ---- what a call spends, and what stays
 
--- What a call spends or makes: nothing, a loan or a sample.
+-- What a call spends or makes: nothing, a port, a loan or a sample, or two of these.
 pub data Item : Type 0 where
   No_item : Item
+  A_publisher : (id : ℕ) → Item
+  A_subscriber : (id : ℕ) → Item
   A_loan : (number : ℕ) → Item
   A_sample : (subscriber number : ℕ) → Item
+  Both : (first second : Item) → Item
+
+-- The publisher of this handle.
+abbrev pub publisher_port : Publisher → Item
+publisher_port publisher = A_publisher publisher.id
+
+-- The subscriber of this handle.
+abbrev pub subscriber_port : Subscriber → Item
+subscriber_port subscriber = A_subscriber subscriber.id
 
 -- The loan of this handle.
 abbrev pub unwritten_loan : SampleMutUninit → Item
@@ -124,17 +162,38 @@ written_loan loan = A_loan loan.loan.number
 abbrev pub received_sample : Sample → Item
 received_sample sample = A_sample sample.sample.subscriber sample.sample.number
 
+-- The publisher with this id is another than the item.
+abbrev pub IsOtherPublisher : Item → (id : ℕ) → Type 0
+IsOtherPublisher (A_publisher spent) id = id ≢ spent
+IsOtherPublisher (Both first second) id = IsOtherPublisher first id × IsOtherPublisher second id
+IsOtherPublisher _ id = Unit {0}
+
+-- The subscriber with this id is another than the item.
+abbrev pub IsOtherSubscriber : Item → (id : ℕ) → Type 0
+IsOtherSubscriber (A_subscriber spent) id = id ≢ spent
+IsOtherSubscriber (Both first second) id = IsOtherSubscriber first id × IsOtherSubscriber second id
+IsOtherSubscriber _ id = Unit {0}
+
 -- The loan with this number is another than the item.
 abbrev pub IsOtherLoan : Item → (number : ℕ) → Type 0
-IsOtherLoan No_item number = Unit {0}
 IsOtherLoan (A_loan spent) number = number ≢ spent
-IsOtherLoan (A_sample subscriber spent) number = Unit {0}
+IsOtherLoan (Both first second) number = IsOtherLoan first number × IsOtherLoan second number
+IsOtherLoan _ number = Unit {0}
 
 -- The subscriber's sample with this number is another than the item.
 abbrev pub IsOtherSample : Item → (subscriber number : ℕ) → Type 0
-IsOtherSample No_item subscriber number = Unit {0}
-IsOtherSample (A_loan spent) subscriber number = Unit {0}
 IsOtherSample (A_sample whose spent) subscriber number = (subscriber ≢ whose) ⊎ (number ≢ spent)
+IsOtherSample (Both first second) subscriber number = IsOtherSample first subscriber number × IsOtherSample second subscriber number
+IsOtherSample _ subscriber number = Unit {0}
+
+-- The second item is another than the first, and has no part of it.
+abbrev pub AreApart : (first second : Item) → Type 0
+AreApart first No_item = Unit {0}
+AreApart first (A_publisher id) = IsOtherPublisher first id
+AreApart first (A_subscriber id) = IsOtherSubscriber first id
+AreApart first (A_loan number) = IsOtherLoan first number
+AreApart first (A_sample subscriber number) = IsOtherSample first subscriber number
+AreApart first (Both second third) = AreApart first second × AreApart first third
 
 module _ {T U : Type 0} where
   -- The settings stay, and each port, loan and sample that was live is live and reads as it did, but for the item that was
@@ -142,26 +201,36 @@ module _ {T U : Type 0} where
   pub record StaysBut (spent : Item) (old new : Kept T U) : Type 0 where
     pub settings : new.config ≡ old.config
     pub single_valued : IsSingleValued old → IsSingleValued new
-    pub publishers : (publisher : Publisher) → IsLivePublisher old publisher → IsLivePublisher new publisher
-    pub subscribers : (subscriber : Subscriber) → IsLiveSubscriber old subscriber → IsLiveSubscriber new subscriber
+    pub publishers : (key : Key) → IsPublisherKey old key → IsOtherPublisher spent key.port → IsPublisherKey new key
+    pub subscribers : (key : Key) → IsSubscriberKey old key → IsOtherSubscriber spent key.port → IsSubscriberKey new key
     pub loans : (key : Key) → IsLoanKey old key → IsOtherLoan spent key.message → IsLoanKey new key
     pub unwritten_loans : (loan : SampleMutUninit) → IsUnwrittenLoan old loan → IsOtherLoan spent loan.loan.number → IsUnwrittenLoan new loan
     pub written_loans : (loan : SampleMut) → IsWrittenLoan old loan → IsOtherLoan spent loan.loan.number → IsWrittenLoan new loan
-    pub samples : (sample : Sample) → IsLiveSample old sample → IsOtherSample spent sample.sample.subscriber sample.sample.number → IsLiveSample new sample
+    pub samples : (key : Key) → IsSampleKey old key → IsOtherSample spent key.port key.message → IsSampleKey new key
     pub origins : (sample : Sample) → IsFromOrigin old sample → IsOtherSample spent sample.sample.subscriber sample.sample.number → IsFromOrigin new sample
+    pub loan_cells : (loan : SampleMutUninit) (cell : Option T) → IsUnwrittenLoan old loan → UnwrittenReads old loan cell
+        → IsOtherLoan spent loan.loan.number → UnwrittenReads new loan cell
     pub loan_payloads : (loan : SampleMut) (value : T) → LoanReads old loan value → IsOtherLoan spent loan.loan.number → LoanReads new loan value
+    pub loan_headers : (key : Key) (header : Header) → IsLoanKey old key → LoanHasHeader old key header → IsOtherLoan spent key.message → LoanHasHeader new key header
+    pub loan_user_headers : (key : Key) (header : U) → IsLoanKey old key → LoanHasUserHeader old key header → IsOtherLoan spent key.message → LoanHasUserHeader new key header
     pub sample_payloads : (sample : Sample) (value : T) → IsLiveSample old sample → SampleReads old sample value
         → IsOtherSample spent sample.sample.subscriber sample.sample.number → SampleReads new sample value
+    pub sample_headers : (key : Key) (header : Header) → IsSampleKey old key → SampleHasHeader old key header
+        → IsOtherSample spent key.port key.message → SampleHasHeader new key header
+    pub sample_user_headers : (key : Key) (header : U) → IsSampleKey old key → SampleHasUserHeader old key header
+        → IsOtherSample spent key.port key.message → SampleHasUserHeader new key header
 
   -- The settings stay, and each port, loan and sample that was live is live and reads as it did.
   abbrev pub Stays : (old new : Kept T U) → Type 0
   Stays old new = StaysBut No_item old new
 
-  -- The item is none of the loans and samples that were live.
+  -- The item is none of the ports, loans and samples that were live.
   pub record IsNewIn (old : Kept T U) (made : Item) : Type 0 where
+    pub publishers : (key : Key) → IsPublisherKey old key → IsOtherPublisher made key.port
+    pub subscribers : (key : Key) → IsSubscriberKey old key → IsOtherSubscriber made key.port
     pub loans : (key : Key) → IsLoanKey old key → IsOtherLoan made key.message
     pub unwritten_loans : (loan : SampleMutUninit) → IsUnwrittenLoan old loan → IsOtherLoan made loan.loan.number
     pub written_loans : (loan : SampleMut) → IsWrittenLoan old loan → IsOtherLoan made loan.loan.number
-    pub samples : (sample : Sample) → IsLiveSample old sample → IsOtherSample made sample.sample.subscriber sample.sample.number
+    pub samples : (key : Key) → IsSampleKey old key → IsOtherSample made key.port key.message
     pub origins : (sample : Sample) → IsFromOrigin old sample → IsOtherSample made sample.sample.subscriber sample.sample.number
     pub payloads : (loan : SampleMut) (value : T) → LoanReads old loan value → IsOtherLoan made loan.loan.number

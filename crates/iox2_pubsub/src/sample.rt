@@ -25,7 +25,7 @@ impl Sample {
     ghost use Rattle.std.specs.Prelude.{[], ◌∷◌, Some};
     ghost use Rattle.iox2_store.specs.machine.Records.{Entry};
     ghost use Rattle.iox2_store.specs.machine.State.{State, Messages};
-    ghost use Rattle.iox2_pubsub.specs.Live.{IsFromOrigin, IsLiveSample, IsSingleValued, SampleReads, sample_key};
+    ghost use Rattle.iox2_pubsub.specs.Live.{IsFromOrigin, IsLiveSample, IsSingleValued, SampleHasHeader, SampleReads, sample_key};
     ghost use Rattle.iox2_domain.specs.Shows.{Shows};
 
     /// Names the sample among all that its domain has: by its subscriber and its number.
@@ -78,6 +78,8 @@ impl Sample {
         ensures header { (m : Messages T U) (s : State T U) → Shows domain.now m s
             → (entry : Entry T U) × (m self.now.sample.number ≡ Some entry) × (entry.header ≡ result.now) }
         ensures origin { IsFromOrigin domain.now self.now → (result.now).publisher_id ≡ self.now.origin }
+        ensures reads { SampleHasHeader domain.now (sample_key self.now) result.now }
+        ensures same { (header : Header) → SampleHasHeader domain.now (sample_key self.now) header → result.now ≡ header }
     {
         sample_header(&domain.state, &self.sample)
     }

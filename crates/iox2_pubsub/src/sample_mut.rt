@@ -21,7 +21,7 @@ pub struct SampleMut {
 impl SampleMut {
     ghost use Rattle.std.specs.Prelude.{Some};
     ghost use Rattle.iox2_store.specs.machine.State.{State, Messages};
-    ghost use Rattle.iox2_pubsub.specs.Live.{IsLoanKey, IsSingleValued, IsWrittenLoan, LoanReads, written_key};
+    ghost use Rattle.iox2_pubsub.specs.Live.{IsLoanKey, IsSingleValued, IsWrittenLoan, LoanHasHeader, LoanReads, written_key};
     ghost use Rattle.iox2_domain.specs.LoanCalls.{HasCell, HasLoanHeader};
     ghost use Rattle.iox2_domain.specs.Shows.{Shows};
 
@@ -51,6 +51,8 @@ impl SampleMut {
         requires { IsLoanKey domain.now (written_key self.now) }
         ensures header { (m : Messages T U) (s : State T U) → Shows domain.now m s → HasLoanHeader s self.now.loan.number result.now }
         ensures origin { (result.now).publisher_id ≡ self.now.loan.publisher }
+        ensures reads { LoanHasHeader domain.now (written_key self.now) result.now }
+        ensures same { (header : Header) → LoanHasHeader domain.now (written_key self.now) header → result.now ≡ header }
     {
         loan_header(&domain.state, &self.loan)
     }

@@ -19,9 +19,9 @@ pub struct SampleMutUninit {
 }
 
 impl SampleMutUninit {
-    ghost use Rattle.std.specs.Prelude.{Some};
+    ghost use Rattle.std.specs.Prelude.{Option, Some};
     ghost use Rattle.iox2_store.specs.machine.State.{State, Messages};
-    ghost use Rattle.iox2_pubsub.specs.Live.{IsLoanKey, IsSingleValued, IsUnwrittenLoan, unwritten_key};
+    ghost use Rattle.iox2_pubsub.specs.Live.{IsLoanKey, IsSingleValued, IsUnwrittenLoan, LoanHasHeader, UnwrittenReads, unwritten_key};
     ghost use Rattle.iox2_domain.specs.LoanCalls.{HasCell, HasLoanHeader};
     ghost use Rattle.iox2_domain.specs.Shows.{Shows};
 
@@ -34,7 +34,9 @@ impl SampleMutUninit {
     ) -> &'a Option<T>
         requires live { IsUnwrittenLoan domain.now self.now }
         requires single_valued { IsSingleValued domain.now }
-        ensures { (m : Messages T U) (s : State T U) → Shows domain.now m s → HasCell s self.now.loan.number result.now }
+        ensures cell { (m : Messages T U) (s : State T U) → Shows domain.now m s → HasCell s self.now.loan.number result.now }
+        ensures reads { UnwrittenReads domain.now self.now result.now }
+        ensures same { (cell : Option T) → UnwrittenReads domain.now self.now cell → result.now ≡ cell }
     {
         loan_cell(&domain.state, &self.loan)
     }
@@ -49,6 +51,8 @@ impl SampleMutUninit {
         requires { IsLoanKey domain.now (unwritten_key self.now) }
         ensures header { (m : Messages T U) (s : State T U) → Shows domain.now m s → HasLoanHeader s self.now.loan.number result.now }
         ensures origin { (result.now).publisher_id ≡ self.now.loan.publisher }
+        ensures reads { LoanHasHeader domain.now (unwritten_key self.now) result.now }
+        ensures same { (header : Header) → LoanHasHeader domain.now (unwritten_key self.now) header → result.now ≡ header }
     {
         loan_header(&domain.state, &self.loan)
     }

@@ -34,7 +34,11 @@ pub trait UpdateConnections<T: Drop, U: Default + Drop> {
         domain: &mut Domain<T, U, F, G>,
     ) -> Result<(), ConnectionFailure>
         requires { is_live domain.old self.now }
+        ensures live { is_live domain.new self.now }
         ensures updates { (m : Messages T U) (s : State T U) → Shows domain.old m s
             → (s' : State T U) × Shows domain.new m s' × updates s self.now s' (failure_of result) }
         ensures stays { Stays domain.old domain.new };
+
+    // A port that is live stays so where everything does.
+    ghost live_stays: { (old new : Kept T U) (port : Self) → Stays old new → is_live old port → is_live new port };
 }

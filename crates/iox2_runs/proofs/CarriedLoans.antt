@@ -6,8 +6,10 @@ use Rattle.iox2_store.specs.machine.State.{State, Messages, with_loan}
 use Rattle.iox2_store.specs.machine.Numbers.{put_at}
 use Rattle.iox2_store.specs.machine.Environments.{ample_memory}
 use Rattle.iox2_store.specs.machine.Loans.{GrantLoan, written, entry_of}
-use Rattle.iox2_store.specs.machine.Sends.{Send, Delivered_to}
+use Rattle.iox2_store.specs.machine.Sends.{Send, Delivered_to, Send_error}
 use Rattle.iox2_store.specs.declared.errors.LoanError.{LoanError}
+use Rattle.iox2_store.specs.declared.errors.SendError.{SendError}
+use Rattle.iox2_store.specs.declared.errors.SendError.TheVariants.{ConnectionBrokenSinceSenderNoLongerExists}
 use Rattle.iox2_store.specs.declared.service_config.TypeVariant.TheVariants.{FixedSize}
 use Rattle.iox2_laws.proofs.SendLaws.{send_advances}
 use Rattle.iox2_domain.specs.Kept.{Kept as Domain}
@@ -20,11 +22,11 @@ use Rattle.iox2_runs.specs.Tables.{TableEntry, No_entry, Unwritten_entry, Writte
 use Rattle.iox2_runs.specs.RunSteps.{Comes}
 use Rattle.iox2_runs.specs.Carries.{entry_for, Carries}
 use Rattle.iox2_commands.specs.declared.command.Command.TheVariants.{LoanUninit, WriteAll, Send as SendLoan}
-use Rattle.iox2_commands.specs.declared.reply.Reply.TheVariants.{Done, Skipped, Loaned, LoanRefused, Delivered}
+use Rattle.iox2_commands.specs.declared.reply.Reply.TheVariants.{Done, Skipped, Loaned, LoanRefused, Delivered, SendRefused}
 use Rattle.iox2_runs.specs.declared.runs.made.Made.{Made}
 use Rattle.iox2_runs.specs.declared.runs.made.Made.TheVariants.{Nothing, Publisher as MadePublisher, Unwritten, Written}
 use Rattle.iox2_runs.proofs.TableLooks.{is_publisher_entry, is_unwritten_entry, is_written_entry, has_written}
-use Rattle.iox2_runs.proofs.TableCalls.{write_comes, write_skipped, send_comes, send_skipped}
+use Rattle.iox2_runs.proofs.TableCalls.{write_comes, write_skipped, send_comes, send_lost_comes, send_skipped}
 use Rattle.iox2_runs.proofs.TableMakes.{loan_skipped, loan_elsewhere, loan_comes, loan_refused_comes, loan_any}
 use Rattle.iox2_runs.proofs.TableEntries.{entries-set, entry-stands, lacks}
 
@@ -122,3 +124,21 @@ module _ {T U : Type 0} (environment : Environment) (defaults : Defaults T U) (o
       subst (λ (ks : List TableEntry). Comes environment defaults (Shows new) m s handles events (SendLoan of) (Delivered count) (ks ++ No_entry ∷ [])) (sym after)
       (send_comes environment defaults (Shows new) m s handles events (map entry_for table) w default_value default_header is_value is_header of h.service_id h.loan.publisher h.loan.number count
       stand named.0 named.3 sent.0 sent.2 (send_advances environment s h.loan.number named.0 sent.0 (Delivered_to count) sent.2).next_message sent.1)
+
+  -- the publisher that lent it is gone
+  pub send_lost : (h : SampleMut) (error : SendError) → error ≡ ConnectionBrokenSinceSenderNoLongerExists → slice_index_or table of Nothing ≡ Written h
+      → ((m : Messages T U) (s : State T U) (l : Loan T U) → Shows old m s → s.loans h.loan.number ≡ Some l
+      → (s' : State T U) × Shows new m s' × Send environment s h.loan.number l s' (Send_error error))
+      → table' ≡ slice_set table of Nothing
+      → Carries environment defaults old new table (SendLoan of) (SendRefused error) table' Nothing
+  send_lost h error broken at sends is = λ m s handles events shown w default_value default_header is_value is_header.
+      let stand = entry-stands table of (Written h) at (λ e. let clash : Written h ≡ Nothing = e in cc) in
+      let named = has_written s handles events (map entry_for table) w of h.service_id h.loan.publisher h.loan.number stand in
+      let lost = sends m s named.0 shown named.3 in
+      let sent : Send environment s h.loan.number named.0 lost.0 (Send_error ConnectionBrokenSinceSenderNoLongerExists) =
+      subst (λ (e : SendError). Send environment s h.loan.number named.0 lost.0 (Send_error e)) broken lost.2 in
+      let after : map entry_for table' ≡ slice_set (map entry_for table) of No_entry = ap (λ (t : List Made). map entry_for t) is ∙ entries-set table of Nothing in
+      subst (λ (e : SendError). Comes environment defaults (Shows new) m s handles events (SendLoan of) (SendRefused e) (map entry_for table' ++ No_entry ∷ [])) (sym broken)
+      (subst (λ (ks : List TableEntry). Comes environment defaults (Shows new) m s handles events (SendLoan of) (SendRefused ConnectionBrokenSinceSenderNoLongerExists) (ks ++ No_entry ∷ [])) (sym after)
+      (send_lost_comes environment defaults (Shows new) m s handles events (map entry_for table) w default_value default_header is_value is_header of h.service_id h.loan.publisher h.loan.number
+      stand named.0 named.3 lost.0 sent (send_advances environment s h.loan.number named.0 lost.0 (Send_error ConnectionBrokenSinceSenderNoLongerExists) sent).next_message lost.1))

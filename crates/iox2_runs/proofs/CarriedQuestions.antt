@@ -6,6 +6,7 @@ use Rattle.iox2_store.specs.machine.Records.{Loan, Environment}
 use Rattle.iox2_store.specs.machine.State.{State, Messages}
 use Rattle.iox2_store.specs.declared.errors.ConnectionFailure.{ConnectionFailure}
 use Rattle.iox2_laws.proofs.LoanKeeping.{has_samples_loans}
+use Rattle.iox2_laws.proofs.PortsCome.{update_subscriber_comes}
 use Rattle.iox2_laws.proofs.PortsStay.{update_subscriber_stays}
 use Rattle.iox2_laws.proofs.ReceiveLaws.{has_samples_advances}
 use Rattle.iox2_domain.specs.Kept.{Kept as Domain}
@@ -44,6 +45,6 @@ module _ {T U : Type 0} (environment : Environment) (defaults : Defaults T U) (o
       let found = has_subscriber s handles events (map entry_for table) w of h.service_id h.id (entry-stands table of (MadeSubscriber h) at (λ e. let clash : MadeSubscriber h ≡ Nothing = e in cc)) in
       quiet_comes environment defaults (Shows new) m s handles events (map entry_for table) w default_value default_header is_value is_header (AskForSamples of) reply s'
       (at_some _ _ _ (h.id, found.0) found.1 (s', failure, (asked.2).0, (asked.2).1, sym (asked.2).2))
-      asked.1 (update_subscriber_stays environment s h.id s' failure ((asked.2).1).0)
+      asked.1 (update_subscriber_stays environment s h.id s' failure ((asked.2).1).0) (update_subscriber_comes environment s h.id s' failure ((asked.2).1).0)
       (λ n _. ap (λ (f : ℕ → Option (Loan T U)). f n) (has_samples_loans environment s h.id s' failure (asked.2).0 (asked.2).1))
       (has_samples_advances environment s h.id s' failure (asked.2).0 (asked.2).1).next_message

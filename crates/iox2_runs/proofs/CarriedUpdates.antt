@@ -8,6 +8,7 @@ use Rattle.iox2_store.specs.machine.State.{State, Messages}
 use Rattle.iox2_store.specs.machine.SubscriberUpdate.{UpdateSubscriber}
 use Rattle.iox2_store.specs.declared.errors.ConnectionFailure.{ConnectionFailure}
 use Rattle.iox2_laws.proofs.LoanKeeping.{update_publisher_loans, update_subscriber_loans}
+use Rattle.iox2_laws.proofs.PortsCome.{update_publisher_comes, update_subscriber_comes}
 use Rattle.iox2_laws.proofs.PortsStay.{update_publisher_stays, update_subscriber_stays}
 use Rattle.iox2_laws.proofs.PublisherUpdates.{update_publisher_advances}
 use Rattle.iox2_laws.proofs.SubscriberUpdates.{update_subscriber_advances}
@@ -57,7 +58,7 @@ module _ {T U : Type 0} (environment : Environment) (defaults : Defaults T U) (o
       let found = has_publisher s handles events (map entry_for table) w of h.service_id h.id (entry-stands table of (MadePublisher h) at (λ e. let clash : MadePublisher h ≡ Nothing = e in cc)) in
       quiet_comes environment defaults (Shows new) m s handles events (map entry_for table) w default_value default_header is_value is_header (Update of) reply s'
       (at_some _ _ _ (h.id, found.0) found.1 (s', failure, updated.2, replied-so s' failure reply is))
-      updated.1 (update_publisher_stays environment s h.id s' failure updated.2)
+      updated.1 (update_publisher_stays environment s h.id s' failure updated.2) (update_publisher_comes environment s h.id s' failure updated.2)
       (λ n _. ap (λ (f : ℕ → Option (Loan T U)). f n) (update_publisher_loans environment s h.id s' failure updated.2))
       (update_publisher_advances environment s h.id s' failure updated.2).next_message
 
@@ -72,6 +73,6 @@ module _ {T U : Type 0} (environment : Environment) (defaults : Defaults T U) (o
       quiet_comes environment defaults (Shows new) m s handles events (map entry_for table) w default_value default_header is_value is_header (Update of) reply s'
       (at_none _ _ _ (lacks_publisher s handles events (map entry_for table) w of (lacks is_publisher_entry refl table of (ap (λ (v : Made). is_publisher_entry (entry_for v)) at)))
       (at_some _ _ _ (h.id, found.0) found.1 (s', failure, updated.2, replied-so s' failure reply is)))
-      updated.1 (update_subscriber_stays environment s h.id s' failure updated.2)
+      updated.1 (update_subscriber_stays environment s h.id s' failure updated.2) (update_subscriber_comes environment s h.id s' failure updated.2)
       (λ n _. ap (λ (f : ℕ → Option (Loan T U)). f n) (update_subscriber_loans environment s h.id s' failure updated.2))
       (update_subscriber_advances environment s h.id s' failure updated.2).next_message

@@ -4,7 +4,7 @@ use Rattle.std.specs.Prelude.{slice_index_or}
 use Rattle.iox2_store.specs.machine.State.{State}
 use Rattle.iox2_domain.specs.Kept.{Kept as Domain, state_of}
 use Rattle.iox2_store.specs.machine.Mailbox.{is_borrowed}
-use Rattle.iox2_pubsub.specs.Live.{IsSingleValued, IsLivePublisher, IsLiveSubscriber, IsUnwrittenLoan, IsWrittenLoan, HasItsPublisher, IsLiveSample}
+use Rattle.iox2_pubsub.specs.Live.{IsSingleValued, IsLivePublisher, IsLiveSubscriber, IsUnwrittenLoan, IsWrittenLoan, IsLiveSample}
 use Rattle.iox2_pubsub.proofs.LiveParts.{single-valued, publisher-live, subscriber-live, unwritten-live, written-live, sample-live}
 use Rattle.iox2_pubsub.specs.declared.publisher.Publisher.{Publisher as PublisherHandle}
 use Rattle.iox2_pubsub.specs.declared.subscriber.Subscriber.{Subscriber as SubscriberHandle}
@@ -45,13 +45,6 @@ module _ {T U : Type 0} (domain : Domain T U) (table : List Made) (keeps : IsLiv
   live_written h at =
       let v = (has_entry (Written h) at (λ e. let clash : Written h ≡ Nothing = e in cc)).1 in
       (written-live domain h v.0 (v.2).0, single-valued domain (v.3).0 (v.3).1)
-
-  -- the publisher that lent it is there
-  pub written_sender : (h : SampleMut) → slice_index_or table of Nothing ≡ Written h → HasItsPublisher domain h
-  written_sender h at =
-      let v = (has_entry (Written h) at (λ e. let clash : Written h ≡ Nothing = e in cc)).1 in
-      let free = ((v.2).1) in
-      (free.0, free.1)
 
   pub live_sample : (h : SampleHandle) → slice_index_or table of Nothing ≡ MadeSample h → IsLiveSample domain h × IsSingleValued domain
   live_sample h at =

@@ -43,6 +43,8 @@ module _ {T U : Type 0} (environment : Environment) (defaults : Defaults T U) wh
     record {
       count = refl;
       entries = λ i handle entry at. absurd (no_element i handle at);
+      ports_below = λ i p handle at. absurd (no_element i handle at);
+      ports_apart = λ i j p handle handle' at. absurd (no_element i handle at);
       loans_below = λ i n at. absurd (no_element i _ at);
       loans_apart = λ i j n at. absurd (no_element i _ at);
       samples_received = λ i p q n at. absurd (no_element i _ at);

@@ -9,7 +9,7 @@ use Rattle.iox2_store.specs.machine.Records.{Loan, Publisher, Subscriber, Blocke
 use Rattle.iox2_store.specs.machine.State.{State, is_blocked}
 use Rattle.iox2_commands.specs.Outcomes.{Handle, No_handle, Publisher_handle, Subscriber_handle, Loan_handle, Blocked_handle, Sample_handle, Event}
 use Rattle.iox2_commands.specs.Step.{unblocked_at, subscriber_at, loan_at, unwritten_at, written_at, sendable_at, sample_at}
-use Rattle.iox2_runs.specs.Tables.{TableEntry, No_entry, Publisher_entry, Subscriber_entry, Unwritten_entry, Written_entry, Sample_entry, IsFree, HasLoan, IsEntryOf, IsTable}
+use Rattle.iox2_runs.specs.Tables.{TableEntry, No_entry, Publisher_entry, Subscriber_entry, Unwritten_entry, Written_entry, Sample_entry, IsFree, IsUnblocked, HasLoan, IsEntryOf, IsTable}
 
 -- What kind of thing the entry names.
 abbrev pub is_publisher_entry : TableEntry → Bool
@@ -70,7 +70,7 @@ module _ {T U : Type 0} (s : State T U) where
 
   no_publisher : (h : Handle) (e : TableEntry) → IsEntryOf s h e → is_publisher_entry e ≡ false
       → PublisherOf h ≡ None
-  no_publisher (Publisher_handle p) No_entry k other = absurd k
+  no_publisher (Publisher_handle p) No_entry k other = ap (option_map {U = ℕ × Publisher} (λ x. (p, x))) k
   no_publisher (Publisher_handle p) (Publisher_entry service p') k other = absurd (true≢false other)
   no_publisher (Publisher_handle p) (Subscriber_entry service q) k other = let clash : Publisher_handle p ≡ Subscriber_handle q = k.1 in absurd (cc)
   no_publisher (Publisher_handle p) (Unwritten_entry service p' n) k other = let clash : Publisher_handle p ≡ Loan_handle n = k.1 in absurd (cc)
@@ -84,7 +84,10 @@ module _ {T U : Type 0} (s : State T U) where
 
   no_subscriber : (h : Handle) (e : TableEntry) → IsEntryOf s h e → is_subscriber_entry e ≡ false
       → SubscriberOf h ≡ None
-  no_subscriber (Subscriber_handle q) No_entry k other = absurd k
+  no_subscriber (Subscriber_handle q) No_entry k other = by (s.subscribers q) refl where
+    by : (o : Option Subscriber) → s.subscribers q ≡ o → option_and_then {U = ℕ × Subscriber} (λ y. cond y.is_open (Some (q, y)) None) o ≡ None
+    by None e = refl
+    by (Some y) e = ap (λ (b : Bool). cond {A = Option (ℕ × Subscriber)} b (Some (q, y)) None) (k y e)
   no_subscriber (Subscriber_handle q) (Publisher_entry service p) k other = let clash : Subscriber_handle q ≡ Publisher_handle p = k.1 in absurd (cc)
   no_subscriber (Subscriber_handle q) (Subscriber_entry service q') k other = absurd (true≢false other)
   no_subscriber (Subscriber_handle q) (Unwritten_entry service p n) k other = let clash : Subscriber_handle q ≡ Loan_handle n = k.1 in absurd (cc)
@@ -253,6 +256,13 @@ module _ {T U : Type 0} (s : State T U) where
           (v.2).4,
         )
 
+    -- a publisher that isn't there waits for nobody
+    not_blocked : (p : ℕ) → IsUnblocked s p → is_blocked s p ≡ false
+    not_blocked p unblocked = by (s.publishers p) refl where
+      by : (o : Option Publisher) → s.publishers p ≡ o → option_map_or (λ (x : Publisher). is_some x.blocked) o false ≡ false
+      by None e = refl
+      by (Some x) e = ap (λ (b : Option BlockedSend). is_some b) (unblocked x e)
+
     loan_there : (n p : ℕ) (written : Bool) (h : Handle) → slice_get handles of ≡ Some h → h ≡ Loan_handle n → (k : HasLoan s p n written)
         → loan_at s handles of ≡ Some (n, (k.0).0)
     loan_there n p written h at is k = ap loan_named (at ∙ ap Some is) ∙ ap (option_map {U = ℕ × Loan T U} (λ l. (n, l))) (k.0).1
@@ -271,9 +281,7 @@ module _ {T U : Type 0} (s : State T U) where
         let v = handle_of (Written_entry service p n) at in
         let k : HasLoan s p n true = (v.2).2 in
         let there = loan_there n p true v.0 v.1 (v.2).1 k in
-        let free : is_blocked s ((k.0).0).publisher ≡ false =
-        ap (is_blocked s) (k.0).2 ∙ ap (λ (o : Option Publisher). option_map_or (λ (x : Publisher). is_some x.blocked) o false) (k.1).1
-        ∙ ap (λ (b : Option BlockedSend). is_some b) (k.1).2 in (
+        let free : is_blocked s ((k.0).0).publisher ≡ false = ap (is_blocked s) (k.0).2 ∙ not_blocked p k.2 in (
           (k.0).0,
           ap (λ (o : Option (ℕ × Loan T U)). if_unblocked (IfWritten o)) there
               ∙ ap (λ (b : Bool). if_unblocked (cond {A = Option (ℕ × Loan T U)} b (Some (n, (k.0).0)) None)) (k.0).3

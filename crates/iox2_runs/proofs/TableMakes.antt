@@ -1,8 +1,8 @@
 -- Ports and loans are made, with what the run keeps.
-use Rattle.std.proofs.Common.{◌≡◌, ℕ, ◌≤◌, Bool, true, false, List, [], ◌∷◌, ◌++◌, cond, refl, sym, ap, subst, ◌∙◌, eqb, Option, None, Some, arith, ⊎_elim, inl, inr}
+use Rattle.std.proofs.Common.{◌≡◌, ℕ, ◌≤◌, ◌<◌, Bool, true, false, List, [], ◌∷◌, ◌++◌, cond, refl, sym, ap, subst, ◌∙◌, eqb, Option, None, Some, arith, ⊎_elim, inl, inr}
 use Rattle.std.specs.Bool.{MatchBool}
 use Rattle.std.specs.Prelude.{MatchOption, ◌==◌, nat_lt, slice_get}
-use Rattle.std.proofs.lemmas.Option.{none-some}
+use Rattle.std.proofs.lemmas.Option.{none-some, same_Some}
 use Rattle.std.proofs.lemmas.Bool.{eqb-true, eq-eqb}
 use Rattle.iox2_store.specs.machine.Limits.{last_number, buffer_limit}
 use Rattle.iox2_store.specs.machine.Places.{free_place}
@@ -29,12 +29,13 @@ use Rattle.iox2_laws.proofs.LoanKeeping.{create_publisher_loans, create_subscrib
 use Rattle.iox2_commands.specs.Outcomes.{Handle, Publisher_handle, Subscriber_handle, Loan_handle, Sample_handle, Event, No_event, outcome}
 use Rattle.iox2_commands.specs.Runs.{Defaults}
 use Rattle.iox2_commands.specs.Step.{Step, publisher_settings, if_single_units, if_fixed_size, unblocked_at}
-use Rattle.iox2_runs.specs.Tables.{TableEntry, No_entry, Publisher_entry, Subscriber_entry, Unwritten_entry, IsFree, IsSingle, IsEntryOf, IsTable}
+use Rattle.iox2_runs.specs.Tables.{port_of, TableEntry, No_entry, Publisher_entry, Subscriber_entry, Unwritten_entry, IsFree, IsSingle, IsEntryOf, IsTable}
 use Rattle.iox2_runs.specs.RunSteps.{Comes}
 use Rattle.iox2_commands.specs.declared.command.Command.{Command}
 use Rattle.iox2_commands.specs.declared.command.Command.TheVariants.{CreatePublisher as PublisherCommand, CreateSubscriber as SubscriberCommand, LoanUninit}
 use Rattle.iox2_commands.specs.declared.reply.Reply.{Reply}
 use Rattle.iox2_commands.specs.declared.reply.Reply.TheVariants.{Skipped, PublisherMade, PublisherRefused, SubscriberMade, SubscriberRefused, Loaned, LoanRefused}
+use Rattle.iox2_laws.proofs.PortsCome.{PortsCome, ports_come_trans, update_publisher_comes, update_subscriber_comes, warning_comes, create_publisher_comes, create_subscriber_comes, grant_loan_comes}
 use Rattle.iox2_laws.proofs.PortsStay.{PortsStay, update_publisher_stays, update_subscriber_stays, warning_stays, create_publisher_stays, create_subscriber_stays, grant_loan_stays, ports_stay_trans}
 use Rattle.iox2_runs.proofs.TableSteps.{table_next, all_still}
 use Rattle.iox2_runs.proofs.TableLooks.{Lacks, is_publisher_entry, lacks_publisher, has_publisher, handle_of}
@@ -44,47 +45,56 @@ use Rattle.iox2_runs.proofs.TableCalls.{quiet_comes, skip_comes, at_none, at_som
 
 module _ {T U : Type 0} (environment : Environment) (s : State T U) where
   -- a publisher that was made is there, and free
-  pub publisher_made : (given : PublisherSettings) (s' : State T U) → CreatePublisher environment s given s' None → IsFree s' s.next_port
+  pub publisher_made : (given : PublisherSettings) (s' : State T U) → CreatePublisher environment s given s' None → IsFree s' s.next_port × (s.next_port < s'.next_port)
   publisher_made given s' h =
-      by_bool (IsFree s' s.next_port) (s.next_port == last_number) _ _ h (λ _ k. absurd (none-some _ k.1)) (λ _ k.
-      by_option (IsFree s' s.next_port) (free_place (s.config).max_publishers s.publisher_places) _ _ k (λ _ j. absurd (none-some _ j.1)) (λ place _ j.
-      by_bool (IsFree s' s.next_port) (first_segment_fits s.config given) _ _ j (λ _ i. made place i) (λ _ i. absurd (none-some _ i.1))))
+      by_bool IsMade (s.next_port == last_number) _ _ h (λ _ k. absurd (none-some _ k.1)) (λ _ k.
+      by_option IsMade (free_place (s.config).max_publishers s.publisher_places) _ _ k (λ _ j. absurd (none-some _ j.1)) (λ place _ j.
+      by_bool IsMade (first_segment_fits s.config given) _ _ j (λ _ i. made place i) (λ _ i. absurd (none-some _ i.1))))
     where
-      made : (place : ℕ) → MakePublisher environment s given place s' None → IsFree s' s.next_port
+      IsMade : Type 0
+      IsMade = IsFree s' s.next_port × (s.next_port < s'.next_port)
+
+      made : (place : ℕ) → MakePublisher environment s given place s' None → IsMade
       made place i =
           let new : State T U = with_new_publisher s given place in
           let stay : PortsStay new s' = subst (PortsStay new) (sym i.3)
           (ports_stay_trans new i.0 _ (update_publisher_stays environment new s.next_port i.0 i.1 i.2) (warning_stays i.0 (PublisherPartlyConnected s.next_port) i.1)) in
           let v = (stay.remain).publishers s.next_port (new_publisher s given place) (put_at-same s.publishers s.next_port (Some (new_publisher s given place))) in
-          (v.0, v.1, v.2 refl)
+          let come : PortsCome new s' = subst (PortsCome new) (sym i.3)
+          (ports_come_trans new i.0 _ (update_publisher_comes environment new s.next_port i.0 i.1 i.2) (warning_comes i.0 (PublisherPartlyConnected s.next_port) i.1)) in
+          ((v.0, v.1, v.2 refl), (let up = come.next_port in omega (arith, up)))
 
   -- a subscriber that was made is there, and open
   pub subscriber_made : (given : SubscriberSettings) (s' : State T U) → CreateSubscriber environment s given s' None
-      → (y : Subscriber) × (s'.subscribers s.next_port ≡ Some y) × (y.is_open ≡ true)
+      → ((y : Subscriber) × (s'.subscribers s.next_port ≡ Some y) × (y.is_open ≡ true)) × (s.next_port < s'.next_port)
   subscriber_made given s' h =
       by_bool IsMade (s.next_port == last_number) _ _ h (λ _ k. absurd (none-some _ k.1)) (λ _ k.
       by_bool IsMade (nat_lt (buffer_limit s.config) (buffer_for given)) _ _ k (λ _ j. absurd (none-some _ j.1)) (λ _ j.
       by_option IsMade (free_place (s.config).max_subscribers s.subscriber_places) _ _ j (λ _ i. absurd (none-some _ i.1)) (λ place _ i. made place i)))
     where
       IsMade : Type 0
-      IsMade = (y : Subscriber) × (s'.subscribers s.next_port ≡ Some y) × (y.is_open ≡ true)
+      IsMade = ((y : Subscriber) × (s'.subscribers s.next_port ≡ Some y) × (y.is_open ≡ true)) × (s.next_port < s'.next_port)
 
       made : (place : ℕ) → MakeSubscriber environment s given place s' None → IsMade
       made place i =
           let new : State T U = with_new_subscriber s given place in
           let stay : PortsStay new s' = subst (PortsStay new) (sym i.3)
           (ports_stay_trans new i.0 _ (update_subscriber_stays environment new s.next_port i.0 i.1 i.2) (warning_stays i.0 (SubscriberPartlyConnected s.next_port) i.1)) in
-          (stay.remain).subscribers s.next_port (new_subscriber given place) (put_at-same s.subscribers s.next_port (Some (new_subscriber given place))) refl
+          let come : PortsCome new s' = subst (PortsCome new) (sym i.3)
+          (ports_come_trans new i.0 _ (update_subscriber_comes environment new s.next_port i.0 i.1 i.2) (warning_comes i.0 (SubscriberPartlyConnected s.next_port) i.1)) in (
+            (stay.remain).subscribers s.next_port (new_subscriber given place) (put_at-same s.subscribers s.next_port (Some (new_subscriber given place))) refl,
+            (let up = come.next_port in omega (arith, up)),
+          )
 
 module _ {T U : Type 0} (environment : Environment) (defaults : Defaults T U) (Shown : Messages T U → State T U → Type 0) (m : Messages T U) (s : State T U) (handles : List Handle)
     (events : List (Event T U)) (table : List TableEntry) (w : IsTable s handles events table) (default_value : T) (default_header : U)
     (is_default_value : defaults.IsDefaultValue default_value) (is_default_header : defaults.IsDefaultHeader default_header) where
   -- a command that makes a port
   port_comes : (command : Command T U) (reply : Reply T U) (handle : Handle) (entry : TableEntry) (s' : State T U)
-      → Step environment default_value default_header m s handles command (outcome reply handle s') → Shown m s' → PortsStay s s' → s'.loans ≡ s.loans → s.next_message ≤ s'.next_message
-      → IsEntryOf s' handle entry → ((n : ℕ) → handle ≡ Loan_handle n → ⊥) → ((p q n : ℕ) → handle ≡ Sample_handle p q n → ⊥)
+      → Step environment default_value default_header m s handles command (outcome reply handle s') → Shown m s' → PortsStay s s' → PortsCome s s' → s'.loans ≡ s.loans → s.next_message ≤ s'.next_message
+      → IsEntryOf s' handle entry → port_of handle ≡ Some s.next_port → s.next_port < s'.next_port → ((n : ℕ) → handle ≡ Loan_handle n → ⊥) → ((p q n : ℕ) → handle ≡ Sample_handle p q n → ⊥)
       → Comes environment defaults Shown m s handles events command reply (table ++ entry ∷ [])
-  port_comes command reply handle entry s' step shown stay loans rises new no_loan no_sample = record {
+  port_comes command reply handle entry s' step shown stay come loans rises new is_port known no_loan no_sample = record {
     default_value = default_value;
     default_header = default_header;
     is_default_value = is_default_value;
@@ -94,8 +104,9 @@ module _ {T U : Type 0} (environment : Environment) (defaults : Defaults T U) (S
     replied = refl;
     shown = shown;
     follows = λ once. table_next s s' handles events table w handle No_event entry table rises refl
-        (all_still s s' handles events table w stay.remain (λ n _. ap (λ (f : ℕ → Option (Loan T U)). f n) loans) (λ i p q n _. same_borrowed s s' stay p q n))
-        new (λ n e. absurd (no_loan n e)) (λ p q n e. absurd (no_sample p q n e)) once;
+        (all_still s s' handles events table w stay.remain come (λ n _. ap (λ (f : ℕ → Option (Loan T U)). f n) loans) (λ i p q n _. same_borrowed s s' stay p q n))
+        new (come.next_port, λ p named. let same : s.next_port ≡ p = same_Some s.next_port p (sym is_port ∙ named) in (omega (arith, same), omega (arith, same, known)))
+        (λ n e. absurd (no_loan n e)) (λ p q n e. absurd (no_sample p q n e)) once;
   }
 
   pub publisher_comes : (loans : ℕ) (strategy : BackpressureStrategy) (allocation : AllocationStrategy) (len : ℕ) (override_slots : Option ℕ) (degradation : DegradationAction)
@@ -107,9 +118,10 @@ module _ {T U : Type 0} (environment : Environment) (defaults : Defaults T U) (S
   publisher_comes loans strategy allocation len override_slots degradation backpressure s' h rises shown service ours =
       let given = publisher_settings (s.config).variant loans strategy allocation len override_slots degradation backpressure in
       let stay : PortsStay s s' = create_publisher_stays environment s given s' None h in
+      let made = publisher_made environment s given s' h in
       port_comes (PublisherCommand loans strategy allocation len override_slots degradation backpressure) (PublisherMade s.next_port) (Publisher_handle s.next_port)
-      (Publisher_entry service s.next_port) s' (s', None, h, refl) shown stay (create_publisher_loans environment s given s' None h) rises
-      (ours, refl, publisher_made environment s given s' h)
+      (Publisher_entry service s.next_port) s' (s', None, h, refl) shown stay (create_publisher_comes environment s given s' None h) (create_publisher_loans environment s given s' None h) rises
+      (ours, refl, made.0) refl made.1
       (λ n e. let clash : Publisher_handle s.next_port ≡ Loan_handle n = e in absurd (cc)) (λ p q n e. let clash : Publisher_handle s.next_port ≡ Sample_handle p q n = e in absurd (cc))
 
   pub publisher_refused_comes : (loans : ℕ) (strategy : BackpressureStrategy) (allocation : AllocationStrategy) (len : ℕ) (override_slots : Option ℕ) (degradation : DegradationAction)
@@ -121,7 +133,7 @@ module _ {T U : Type 0} (environment : Environment) (defaults : Defaults T U) (S
       let given = publisher_settings (s.config).variant loans strategy allocation len override_slots degradation backpressure in
       quiet_comes environment defaults Shown m s handles events table w default_value default_header is_default_value is_default_header
       (PublisherCommand loans strategy allocation len override_slots degradation backpressure) (PublisherRefused e) s' (s', Some e, h, refl) shown
-      (create_publisher_stays environment s given s' (Some e) h) (λ n _. ap (λ (f : ℕ → Option (Loan T U)). f n) (create_publisher_loans environment s given s' (Some e) h)) rises
+      (create_publisher_stays environment s given s' (Some e) h) (create_publisher_comes environment s given s' (Some e) h) (λ n _. ap (λ (f : ℕ → Option (Loan T U)). f n) (create_publisher_loans environment s given s' (Some e) h)) rises
 
   -- what a command says of a subscriber
   abbrev subscriber_settings : Option ℕ → DegradationAction → SubscriberSettings
@@ -135,8 +147,8 @@ module _ {T U : Type 0} (environment : Environment) (defaults : Defaults T U) (S
       let stay : PortsStay s s' = create_subscriber_stays environment s (subscriber_settings buffer degradation) s' None h in
       let made = subscriber_made environment s (subscriber_settings buffer degradation) s' h in
       port_comes (SubscriberCommand buffer degradation) (SubscriberMade s.next_port) (Subscriber_handle s.next_port) (Subscriber_entry service s.next_port) s' (s', None, h, refl) shown stay
-      (create_subscriber_loans environment s (subscriber_settings buffer degradation) s' None h) rises
-      (ours, refl, made.0, made.1, made.2)
+      (create_subscriber_comes environment s (subscriber_settings buffer degradation) s' None h) (create_subscriber_loans environment s (subscriber_settings buffer degradation) s' None h) rises
+      (ours, refl, (made.0).0, (made.0).1, (made.0).2) refl made.1
       (λ n e. let clash : Subscriber_handle s.next_port ≡ Loan_handle n = e in absurd (cc)) (λ p q n e. let clash : Subscriber_handle s.next_port ≡ Sample_handle p q n = e in absurd (cc))
 
   pub subscriber_refused_comes : (buffer : Option ℕ) (degradation : DegradationAction) (s' : State T U) (e : SubscriberCreateError)
@@ -146,7 +158,7 @@ module _ {T U : Type 0} (environment : Environment) (defaults : Defaults T U) (S
   subscriber_refused_comes buffer degradation s' e h rises shown =
       quiet_comes environment defaults Shown m s handles events table w default_value default_header is_default_value is_default_header
       (SubscriberCommand buffer degradation) (SubscriberRefused e) s' (s', Some e, h, refl) shown
-      (create_subscriber_stays environment s (subscriber_settings buffer degradation) s' (Some e) h)
+      (create_subscriber_stays environment s (subscriber_settings buffer degradation) s' (Some e) h) (create_subscriber_comes environment s (subscriber_settings buffer degradation) s' (Some e) h)
       (λ n _. ap (λ (f : ℕ → Option (Loan T U)). f n) (create_subscriber_loans environment s (subscriber_settings buffer degradation) s' (Some e) h)) rises
 
   -- ---- a loan
@@ -200,7 +212,10 @@ module _ {T U : Type 0} (environment : Environment) (defaults : Defaults T U) (S
       let named = handle_of s handles events table w of (Publisher_entry service p) at in
       let stay : PortsStay s s' = grant_loan_stays environment header false 1 s p s' None h in
       let next : IsNextLoan environment s p s' = loan_next environment s header false 1 p s' h in
-      let free = (stay.remain).publishers p ((named.2).2).0 ((named.2).2).1 in record {
+      let come : PortsCome s s' = grant_loan_comes environment header false 1 s p s' None h in
+      let known : p < s.next_port = w.ports_below of p named.0 named.1 (ap port_of (named.2).1) in
+      let unblocked : (x : Publisher) → s.publishers p ≡ Some x → x.blocked ≡ None =
+      λ x there. ap (λ (v : Publisher). v.blocked) (same_Some x ((named.2).2).0 (sym there ∙ ((named.2).2).1)) ∙ ((named.2).2).2 in record {
         default_value = default_value;
         default_header = header;
         is_default_value = is_default_value;
@@ -210,12 +225,17 @@ module _ {T U : Type 0} (environment : Environment) (defaults : Defaults T U) (S
         replied = refl;
         shown = shown;
         follows = λ once. table_next s s' handles events table w (Loan_handle s.next_message) No_event (Unwritten_entry new_service p s.next_message) table (omega (arith, next.next)) refl
-            (all_still s s' handles events table w stay.remain next.others (λ i p q n _. same_borrowed s s' stay p q n)) (
+            (all_still s s' handles events table w stay.remain come next.others (λ i p q n _. same_borrowed s s' stay p q n)) (
               ours,
               refl,
-              ((next.loan, next.there, next.publisher, next.unwritten), (free.0, free.1, free.2 ((named.2).2).2)),
+              (
+                (next.loan, next.there, next.publisher, next.unwritten),
+                (let up = come.next_port in omega (arith, known, up)),
+                λ x there. let before = come.publishers p x known there in before.2 (unblocked before.0 before.1),
+              ),
               (ap (λ (c : ServiceConfig). c.variant) (stay.remain).config ∙ single.0, ap (λ (c : ServiceConfig). c.units_per_element) (stay.remain).config ∙ single.1),
             )
+            (come.next_port, λ i e. absurd (none-some i e))
             (λ n e. let same : s.next_message ≡ n = cc in (omega arith, omega (arith, next.next)))
             (λ p q n e. let clash : Loan_handle s.next_message ≡ Sample_handle p q n = e in absurd (cc)) once;
       }
@@ -228,7 +248,7 @@ module _ {T U : Type 0} (environment : Environment) (defaults : Defaults T U) (S
       let same : s' ≡ s = loan_refused environment s header false 1 p s' e h in
       quiet_comes environment defaults Shown m s handles events table w default_value header is_default_value is_default (LoanUninit of) (LoanRefused e) s'
       (at_some _ _ _ (p, found.0) (this_service (unblocked_at s handles of) single ∙ found.1) (s', Some e, h, refl)) shown
-      (grant_loan_stays environment header false 1 s p s' (Some e) h) (λ n _. ap (λ (t : State T U). t.loans n) same) (subst (λ (t : State T U). s.next_message ≤ t.next_message) (sym same) (omega arith))
+      (grant_loan_stays environment header false 1 s p s' (Some e) h) (grant_loan_comes environment header false 1 s p s' (Some e) h) (λ n _. ap (λ (t : State T U). t.loans n) same) (subst (λ (t : State T U). s.next_message ≤ t.next_message) (sym same) (omega arith))
 
 -- a loan that is granted or refused where memory is ample is so anywhere
 pub loan_any : {T U : Type 0} (environment : Environment) (header : U) (checks_length : Bool) (len : ℕ) (s : State T U) (p : ℕ) (s' : State T U) (refusal : Option LoanError)

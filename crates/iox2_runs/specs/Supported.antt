@@ -5,10 +5,10 @@ use Rattle.iox2_store.specs.declared.allocation.AllocationStrategy.TheVariants.{
 use Rattle.iox2_store.specs.declared.backpressure.BackpressureStrategy.TheVariants.{DiscardData}
 use Rattle.iox2_store.specs.declared.degradation.DegradationAction.TheVariants.{Warn}
 use Rattle.iox2_commands.specs.declared.command.Command.{Command}
-use Rattle.iox2_commands.specs.declared.command.Command.TheVariants.{Nothing, CreatePublisher, CreateSubscriber, LoanUninit, WriteAll, Send, Discard, Update, Receive, HasSamples, Read, Release}
+use Rattle.iox2_commands.specs.declared.command.Command.TheVariants.{Nothing, CreatePublisher, CreateSubscriber, LoanUninit, WriteAll, Send, Discard, Update, Receive, HasSamples, Read, Release, Close}
 
--- The command makes a port, with nothing set that a factory can't be told yet, or updates one; or it takes a message from its
--- loan to its release, gives a loan back unsent, or asks whether messages wait.
+-- The command makes a port, with nothing set that a factory can't be told yet, updates one or closes one; or it takes a message
+-- from its loan to its release, gives a loan back unsent, or asks whether messages wait.
 abbrev pub IsSupportedCommand : {T U : Type 0} → Command T U → Type 0
 IsSupportedCommand Nothing = Unit {0}
 IsSupportedCommand (CreatePublisher loans strategy allocation len override_slots degradation backpressure) =
@@ -23,4 +23,5 @@ IsSupportedCommand (Receive of) = Unit {0}
 IsSupportedCommand (HasSamples of) = Unit {0}
 IsSupportedCommand (Read of at) = Unit {0}
 IsSupportedCommand (Release of) = Unit {0}
+IsSupportedCommand (Close of) = Unit {0}
 IsSupportedCommand _ = ⊥

@@ -1,5 +1,6 @@
 -- The table of a run: an entry for what each command made.
 use Rattle.std.specs.Prelude.{ℕ, Bool, true, false, List, length, ◌≡◌, ◌<◌, slice_get}
+use Rattle.std.specs.declared.option.Option.{Option}
 use Rattle.std.specs.declared.option.Option.TheVariants.{None, Some}
 use Rattle.iox2_store.specs.machine.Numbers.{contains}
 use Rattle.iox2_store.specs.machine.Mailbox.{is_borrowed}
@@ -18,13 +19,18 @@ pub data TableEntry : Type 0 where
   Written_entry : (service publisher message : ℕ) → TableEntry
   Sample_entry : (service publisher subscriber message : ℕ) → TableEntry
 
+-- The port that a handle names.
+abbrev pub port_of : Handle → Option ℕ
+port_of (Publisher_handle p) = Some p
+port_of (Subscriber_handle q) = Some q
+port_of _ = None
+
 module _ {T U : Type 0} (s : State T U) where
-  -- The handle names nothing live. No command that `run` carries out so far closes a port or blocks a send: a port's handle is
-  -- never spent, and none names a blocked send.
+  -- The handle names nothing live. No command that `run` carries out so far blocks a send: none names a blocked send.
   abbrev pub IsSpent : Handle → Type 0
   IsSpent No_handle = Unit {0}
-  IsSpent (Publisher_handle p) = ⊥
-  IsSpent (Subscriber_handle q) = ⊥
+  IsSpent (Publisher_handle p) = s.publishers p ≡ None
+  IsSpent (Subscriber_handle q) = (y : Subscriber) → s.subscribers q ≡ Some y → y.is_open ≡ false
   IsSpent (Loan_handle n) = s.loans n ≡ None
   IsSpent (Blocked_handle p n) = ⊥
   IsSpent (Sample_handle p q n) = is_borrowed n (s.mailboxes p q) ≡ false
@@ -33,9 +39,15 @@ module _ {T U : Type 0} (s : State T U) where
   abbrev pub IsFree : (p : ℕ) → Type 0
   IsFree p = (x : Publisher) × (s.publishers p ≡ Some x) × (x.blocked ≡ None)
 
-  -- The publisher has the loan n, which is written or not. So far it is still there, and no send of it is blocked.
+  -- No send of the publisher is blocked, where it is there.
+  abbrev pub IsUnblocked : (p : ℕ) → Type 0
+  IsUnblocked p = (x : Publisher) → s.publishers p ≡ Some x → x.blocked ≡ None
+
+  -- The loan n is out, which is written or not. The publisher that lent it may be closed; where it is there, no send of it is
+  -- blocked.
   abbrev pub HasLoan : (p n : ℕ) → (is_written : Bool) → Type 0
-  HasLoan p n is_written = ((l : Loan T U) × (s.loans n ≡ Some l) × (l.publisher ≡ p) × (l.is_written ≡ is_written)) × IsFree p
+  HasLoan p n is_written =
+      ((l : Loan T U) × (s.loans n ≡ Some l) × (l.publisher ≡ p) × (l.is_written ≡ is_written)) × (p < s.next_port) × IsUnblocked p
 
   -- Messages are single values of one unit.
   abbrev pub IsSingle : Type 0
@@ -53,10 +65,14 @@ module _ {T U : Type 0} (s : State T U) where
   IsEntryOf handle (Sample_entry service p q n) =
       (service ≡ (s.config).service_id) × (handle ≡ Sample_handle p q n) × (is_borrowed n (s.mailboxes p q) ≡ true) × IsSingle
 
--- A run's table has the entry of each command's handle, while what this names is live. No loan and no sample has two handles.
+-- A run's table has the entry of each command's handle, while what this names is live. No port, no loan and no sample has two
+-- handles.
 pub record IsTable {T U : Type 0} (s : State T U) (handles : List Handle) (events : List (Event T U)) (table : List TableEntry) : Type 0 where
   pub count : length table ≡ length handles
   pub entries : (i : ℕ) (handle : Handle) (entry : TableEntry) → slice_get handles i ≡ Some handle → slice_get table i ≡ Some entry → IsEntryOf s handle entry
+  pub ports_below : (i p : ℕ) (handle : Handle) → slice_get handles i ≡ Some handle → port_of handle ≡ Some p → p < s.next_port
+  pub ports_apart : (i j p : ℕ) (handle handle' : Handle) → slice_get handles i ≡ Some handle → slice_get handles j ≡ Some handle'
+      → port_of handle ≡ Some p → port_of handle' ≡ Some p → i ≡ j
   pub loans_below : (i n : ℕ) → slice_get handles i ≡ Some (Loan_handle n) → n < s.next_message
   pub loans_apart : (i j n : ℕ) → slice_get handles i ≡ Some (Loan_handle n) → slice_get handles j ≡ Some (Loan_handle n) → i ≡ j
   pub samples_received : (i p q n : ℕ) → slice_get handles i ≡ Some (Sample_handle p q n) → contains (received p q events) n ≡ true

@@ -16,6 +16,7 @@ ghost use Rattle.iox2_runs.specs.DomainRuns.{RunsOnDomain};
 ghost use Rattle.iox2_runs.specs.Supported.{IsSupportedCommand};
 ghost use Rattle.iox2_runs.specs.declared.runs.made.Made.TheVariants.{Nothing};
 
+mod closes;
 mod discards;
 mod loans;
 mod made;
@@ -79,6 +80,7 @@ fn carry_out<
         Command::HasSamples { of } => (questions::has_samples(domain, table, of), Made::Nothing),
         Command::Read { of, at } => (samples::read(domain, table, of, at), Made::Nothing),
         Command::Release { of } => (samples::release(domain, table, of), Made::Nothing),
+        Command::Close { of } => (closes::close(domain, table, of), Made::Nothing),
         Command::Nothing => (Reply::Done, Made::Nothing),
         _ => unreachable!(),
     }
@@ -95,8 +97,8 @@ fn carry_out<
 /// first. Where it is refused the commands are handed back, and none was carried out.
 ///
 /// So far a publisher discards what a full receiver doesn't take, has one segment and no handlers,
-/// and a command is one of those that make or update ports, take a message from its loan to its
-/// release, give a loan back unsent, or ask whether messages wait.
+/// and a command is one of those that make, update or close ports, take a message from its loan to
+/// its release, give a loan back unsent, or ask whether messages wait.
 pub fn run<T: Copy + Default + Drop, U: Copy + Default + Drop, F: BackpressureFn, G: DegradationFn>(
     alloc: Global,
     domain: &mut Domain<T, U, F, G>,

@@ -15,5 +15,6 @@ pub mod Receives
 pub mod Releases
 pub mod Ports
 pub mod SingleCalls
+pub mod Waiting
 pub mod WellFormed
 pub mod Environments

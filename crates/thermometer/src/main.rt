@@ -20,7 +20,7 @@ fn main(rt: HostRuntime) -> Result<(), Failure> {
     let mut domain = Domain::<Reading, ()>::new(rt.alloc(), ServiceConfig::new(1))?;
     let subscriber = domain.subscriber_builder().create(&mut domain)?;
     let outcome = run(&rt, &mut domain, &subscriber);
-    subscriber.disown();
+    subscriber.close(&mut domain);
     outcome
 }
 
@@ -36,6 +36,6 @@ fn run(
 {
     let publisher = domain.publisher_builder().create(domain)?;
     let outcome = report_day(rt, domain, &publisher, subscriber);
-    publisher.disown();
+    publisher.close(domain);
     outcome
 }

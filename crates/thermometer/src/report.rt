@@ -1,5 +1,5 @@
 //! Readings go from the thermometer to the display.
-ghost use Rattle.iox2_pubsub.specs.Live.{IsLivePublisher, IsLiveSubscriber, IsSingleValued, IsUnwrittenLoan, Stays, StaysBut, unwritten_loan};
+ghost use Rattle.iox2_pubsub.specs.Live.{AreApart, Both, IsLivePublisher, IsLiveSubscriber, IsSingleValued, IsUnwrittenLoan, Stays, StaysBut, unwritten_loan};
 
 use crate::failure::Failure;
 use crate::reading::Reading;
@@ -85,11 +85,28 @@ fn report_pair(
             return Err(Failure::from(error));
         }
     };
-    let outcome = send(domain, second, later);
-    send(domain, first, celsius)?;
-    outcome?;
+    send_pair(domain, first, second, celsius, later)?;
     show(rt, domain, subscriber)?;
     show(rt, domain, subscriber)
+}
+
+// Sends two loans, the later one first.
+fn send_pair(
+    domain: &mut Domain<Reading, ()>,
+    first: SampleMutUninit,
+    second: SampleMutUninit,
+    celsius: u32,
+    later: u32,
+) -> Result<(), Failure>
+    requires single_valued { IsSingleValued domain.old }
+    requires first { IsUnwrittenLoan domain.old first }
+    requires second { IsUnwrittenLoan domain.old second }
+    requires apart { AreApart (unwritten_loan second) (unwritten_loan first) }
+    ensures { StaysBut (Both (unwritten_loan first) (unwritten_loan second)) domain.old domain.new }
+{
+    let outcome = send(domain, second, later);
+    send(domain, first, celsius)?;
+    outcome
 }
 
 // Says so where readings wait that weren't shown.

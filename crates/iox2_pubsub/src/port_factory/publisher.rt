@@ -3,7 +3,7 @@ ghost use Rattle.std.specs.Prelude.{◌≡◌, ℕ, None, Some, IfOk, MatchResul
 ghost use Rattle.iox2_store.specs.machine.Environments.{fixed_handlers};
 ghost use Rattle.iox2_store.specs.machine.Ports.{CreatePublisher};
 ghost use Rattle.iox2_store.specs.machine.State.{State, Messages};
-ghost use Rattle.iox2_pubsub.specs.Live.{IsLivePublisher, Stays};
+ghost use Rattle.iox2_pubsub.specs.Live.{IsLivePublisher, IsNewIn, Stays, publisher_port};
 ghost use Rattle.iox2_domain.specs.NewPublisher.{plain_publisher};
 ghost use Rattle.iox2_domain.specs.Shows.{Shows};
 
@@ -80,6 +80,7 @@ impl PortFactoryPublisher {
             (λ publisher. (publisher.id ≡ s.next_port) × CreatePublisher fixed_handlers s self s' None)
             (λ e. CreatePublisher fixed_handlers s self s' (Some e)) }
         ensures live { IfOk result (λ publisher. IsLivePublisher domain.new publisher) }
+        ensures new { IfOk result (λ publisher. IsNewIn domain.old (publisher_port publisher)) }
         ensures stays { Stays domain.old domain.new }
     {
         let service_id = domain.state.config().service_id;

@@ -9,7 +9,7 @@ use iox2_store::{BackpressureFn, DegradationFn, Key, LoanError, UniquePublisherI
 
 impl Publisher {
     ghost use Rattle.iox2_store.specs.machine.State.{State, Messages};
-    ghost use Rattle.iox2_pubsub.specs.Live.{IsLivePublisher, IsSingleValued, IsUnwrittenLoan, IsNewIn, Stays, unwritten_loan};
+    ghost use Rattle.iox2_pubsub.specs.Live.{HasLender, IsLivePublisher, IsSingleValued, IsUnwrittenLoan, IsNewIn, Stays, lender_key, publisher_key, unwritten_key, unwritten_loan};
     ghost use Rattle.iox2_domain.specs.Lending.{LoanCall};
     ghost use Rattle.iox2_domain.specs.Shows.{Shows};
 
@@ -36,6 +36,8 @@ impl Publisher {
         ensures new { IfOk result (λ loan. IsNewIn domain.old (unwritten_loan loan)) }
         ensures number { IfOk result (λ loan. loan.loan.number ≡ domain.old.next_message) }
         ensures publisher { IfOk result (λ loan. loan.loan.publisher ≡ self.now.id) }
+        ensures lent { IfOk result (λ loan. HasLender domain.new (unwritten_key loan)) }
+        ensures lender { IfOk result (λ loan. lender_key (unwritten_key loan) ≡ publisher_key self.now) }
         ensures stays { Stays domain.old domain.new }
     {
         let place = domain.state.find_live_publisher(self.id, self.place);

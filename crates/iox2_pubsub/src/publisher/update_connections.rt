@@ -12,9 +12,11 @@ use iox2_store::{BackpressureFn, ConnectionFailure, DegradationFn};
 impl<T: Drop, U: Default + Drop> UpdateConnections<T, U> for Publisher {
     ghost use Rattle.iox2_store.specs.machine.Environments.{fixed_handlers};
     ghost use Rattle.iox2_store.specs.machine.PublisherUpdate.{UpdatePublisher};
-    ghost use Rattle.iox2_pubsub.specs.Live.{IsLivePublisher};
+    ghost use Rattle.iox2_pubsub.specs.Live.{IsLivePublisher, publisher_key};
 
     ghost is_live = { IsLivePublisher };
+
+    ghost live_stays = { λ old new publisher stays live. stays.publishers (publisher_key publisher) live tt };
 
     ghost updates = { λ s publisher s' failure. UpdatePublisher fixed_handlers s publisher.id s' failure };
 

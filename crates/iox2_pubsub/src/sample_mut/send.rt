@@ -1,5 +1,5 @@
 //! A message is sent.
-ghost use Rattle.std.specs.Prelude.{◌≡◌, IsOk};
+ghost use Rattle.std.specs.Prelude.{◌≡◌, IfErr, IsOk};
 ghost use Rattle.iox2_domain.specs.SentLoans.{send_result};
 ghost use Rattle.iox2_pubsub.specs.SendCalls.{result_of_send};
 
@@ -13,7 +13,7 @@ impl SampleMut {
     ghost use Rattle.std.specs.Prelude.{Some};
     ghost use Rattle.iox2_store.specs.machine.Records.{Loan};
     ghost use Rattle.iox2_store.specs.machine.State.{State, Messages};
-    ghost use Rattle.iox2_pubsub.specs.Live.{HasItsPublisher, IsLoanKey, IsWrittenLoan, StaysBut, written_key, written_loan};
+    ghost use Rattle.iox2_pubsub.specs.Live.{HasLender, IsLoanKey, IsWrittenLoan, StaysBut, written_key, written_loan};
     ghost use Rattle.iox2_pubsub.specs.SendCalls.{Sends, messages_after};
     ghost use Rattle.iox2_domain.specs.Shows.{Shows};
 
@@ -32,7 +32,8 @@ impl SampleMut {
         domain: &mut Domain<T, U, F, G>,
     ) -> Result<SendOutcome, SendError>
         requires { IsWrittenLoan domain.old self }
-        ensures ok { HasItsPublisher domain.old self → IsOk result }
+        ensures ok { HasLender domain.old (written_key self) → IsOk result }
+        ensures gone { IfErr result (λ error. error ≡ SendError.ConnectionBrokenSinceSenderNoLongerExists) }
         ensures sent { (m : Messages T U) (s : State T U) (l : Loan T U) → Shows domain.old m s → s.loans self.loan.number ≡ Some l
             → (s' : State T U) × Shows domain.new (messages_after m self.loan.number l result) s' × Sends s self.loan.number l result s' }
         ensures spent { IsLoanKey domain.new (written_key self) → ⊥ }

@@ -9,10 +9,11 @@ use iox2_store::{BackpressureFn, DegradationFn};
 
 impl SampleMutUninit {
     ghost use Rattle.std.specs.Prelude.{Some};
+    ghost use Rattle.iox2_store.specs.declared.header.Header.{Header};
     ghost use Rattle.iox2_store.specs.machine.Records.{Loan};
     ghost use Rattle.iox2_store.specs.machine.State.{State, Messages, with_loan};
     ghost use Rattle.iox2_store.specs.machine.Loans.{written};
-    ghost use Rattle.iox2_pubsub.specs.Live.{IsSingleValued, IsUnwrittenLoan, IsWrittenLoan, LoanReads, StaysBut, unwritten_key, unwritten_loan, written_key};
+    ghost use Rattle.iox2_pubsub.specs.Live.{HasLender, IsSingleValued, IsUnwrittenLoan, IsWrittenLoan, LoanHasHeader, LoanHasUserHeader, LoanReads, StaysBut, unwritten_key, unwritten_loan, written_key};
     ghost use Rattle.iox2_domain.specs.Shows.{Shows};
 
     /// Writes the payload, in a domain of single values, and makes the loan one that may be sent.
@@ -28,6 +29,9 @@ impl SampleMutUninit {
         ensures written { (m : Messages T U) (s : State T U) → Shows domain.old m s → (l : Loan T U) × (s.loans self.loan.number ≡ Some l) × Shows domain.new m (with_loan s self.loan.number (Some (written l value))) }
         ensures live { IsWrittenLoan domain.new result }
         ensures reads { LoanReads domain.new result value }
+        ensures lent { HasLender domain.old (unwritten_key self) → HasLender domain.new (written_key result) }
+        ensures header { (header : Header) → LoanHasHeader domain.old (unwritten_key self) header → LoanHasHeader domain.new (written_key result) header }
+        ensures user_header { (header : U) → LoanHasUserHeader domain.old (unwritten_key self) header → LoanHasUserHeader domain.new (written_key result) header }
         ensures key { written_key result ≡ unwritten_key self }
         ensures stays { StaysBut (unwritten_loan self) domain.old domain.new }
     {

@@ -14,9 +14,11 @@ use iox2_store::{BackpressureFn, ConnectionFailure, DegradationFn};
 impl<T: Drop, U: Default + Drop> UpdateConnections<T, U> for Subscriber {
     ghost use Rattle.iox2_store.specs.machine.Environments.{fixed_handlers};
     ghost use Rattle.iox2_store.specs.machine.SubscriberUpdate.{UpdateSubscriber};
-    ghost use Rattle.iox2_pubsub.specs.Live.{IsLiveSubscriber};
+    ghost use Rattle.iox2_pubsub.specs.Live.{IsLiveSubscriber, subscriber_key};
 
     ghost is_live = { IsLiveSubscriber };
+
+    ghost live_stays = { λ old new subscriber stays live. stays.subscribers (subscriber_key subscriber) live tt };
 
     ghost updates = { λ s subscriber s' failure. UpdateSubscriber fixed_handlers s subscriber.id s' failure };
 

@@ -163,3 +163,16 @@ returns-in-Read-clause-leaves g c =
 pub returns-in-Nothing-clause-leaves : goal.returns-in-Nothing-clause-leaves
 returns-in-Nothing-clause-leaves g c =
     leaves-all {T = g.row.T.Denot} {U = g.row.U.Denot} c.args.domain.now c.args.domain.now c.args.table.now.items c.args.table.now.items refl refl
+
+pub returns-in-Close-clause-carries : goal.returns-in-Close-clause-carries
+returns-in-Close-clause-carries g c = rw c.in-Close.is c.close.ensures.carries
+
+pub close-requires : goal.close-requires
+close-requires g c = c.requires.keeps
+
+pub returns-in-Close-clause-room : goal.returns-in-Close-clause-room
+returns-in-Close-clause-room g c = c.close.ensures.room
+
+pub returns-in-Close-clause-leaves : goal.returns-in-Close-clause-leaves
+returns-in-Close-clause-leaves g c =
+    c.close.ensures.leaves

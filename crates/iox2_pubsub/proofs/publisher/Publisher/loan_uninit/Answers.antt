@@ -1,5 +1,7 @@
-use Rattle.std.proofs.Common.{ap, ◌∙◌, Ok}
+use Rattle.std.proofs.Common.{ℕ, ap, subst, sym, ◌∙◌, Ok}
+use Rattle.iox2_domain.specs.Fields.{kept_of}
 use Rattle.iox2_domain.specs.Kept.{Kept}
+use Rattle.iox2_pubsub.specs.Live.{IsPublisherKey, lender_key, publisher_key}
 use Rattle.iox2_pubsub.proofs.UninitLoans.{err-shown, ok-shown, ok-live, ok-number, ok-publisher, publisher-missing}
 use Rattle.iox2_pubsub.proofs.CallsStay.{always-shown, loan-is-new, loan-stays}
 use Rattle.iox2_pubsub.proofs.LiveParts.{publisher-parts}
@@ -52,3 +54,10 @@ pub find_live_publisher-place-requires : goal.find_live_publisher-place-requires
 find_live_publisher-place-requires g c = λ none.
     publisher-missing {T = g.row.T.Denot} {U = g.row.U.Denot} c.domain.inside.state c.args.domain.now c.domain.view_is c.args.self.now
     none c.requires.live
+
+pub returns-clause-lender : goal.returns-clause-lender
+returns-clause-lender g c = ap (λ (p : ℕ). lender_key (record { service_id = c.args.self.now.service_id; port = p; message = 0 })) (returns-clause-publisher g c)
+
+pub returns-clause-lent : goal.returns-clause-lent
+returns-clause-lent g c =
+    subst (IsPublisherKey (kept_of c.loan.new.state)) (sym (returns-clause-lender g c)) ((returns-clause-stays g c).publishers (publisher_key c.args.self.now) c.requires.live tt)

@@ -3,8 +3,9 @@ use Rattle.std.proofs.Common.{ap, sym, subst, ◌∙◌}
 use Rattle.iox2_store.specs.machine.Mailbox.{is_borrowed}
 use Rattle.iox2_store.specs.machine.SingleCalls.{HoldsSample}
 use Rattle.iox2_domain.specs.Kept.{Kept, entries_of, state_of}
+use Rattle.iox2_pubsub.specs.Live.{sample_key}
 use Rattle.iox2_pubsub.proofs.SampleOrigins.{entry-origin}
-use Rattle.iox2_pubsub.proofs.LiveParts.{sample-parts, origin-parts}
+use Rattle.iox2_pubsub.proofs.LiveParts.{sample-header, sample-header-one, sample-parts, origin-parts}
 use Rattle.iox2_pubsub.proofs.sample.Sample.header.Goals as goal
 
 pub sample_header-requires-clause-live : goal.sample_header-requires-clause-live
@@ -21,3 +22,13 @@ returns-clause-origin g c = λ from.
     entry-origin c.domain.inside.state c.domain.invariant c.args.self.now.sample.subscriber c.args.self.now.origin c.args.self.now.sample.number c.sample_header.result.now
     (subst (λ (k : Kept g.row.T.Denot g.row.U.Denot). IsTrue (is_borrowed c.args.self.now.sample.number ((state_of k).mailboxes c.args.self.now.origin c.args.self.now.sample.subscriber))) (sym c.domain.view_is) (origin-parts c.args.domain.now c.args.self.now from))
     c.sample_header.ensures
+
+pub returns-clause-reads : goal.returns-clause-reads
+returns-clause-reads g c =
+    let read = c.sample_header.ensures in
+    sample-header {T = g.row.T.Denot} {U = g.row.U.Denot} c.args.domain.now (sample_key c.args.self.now) c.sample_header.result.now
+    (read.0, ap (λ (k : Kept g.row.T.Denot g.row.U.Denot). entries_of k c.args.self.now.sample.number) (sym c.domain.view_is) ∙ read.1, read.2)
+
+pub returns-clause-same : goal.returns-clause-same
+returns-clause-same g c = λ header has.
+    sample-header-one {T = g.row.T.Denot} {U = g.row.U.Denot} c.args.domain.now (sample_key c.args.self.now) c.sample_header.result.now header (returns-clause-reads g c) has

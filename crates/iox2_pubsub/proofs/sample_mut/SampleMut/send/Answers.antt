@@ -1,17 +1,20 @@
 use Rattle.std.proofs.Common.{ap, sym, subst, ◌∙◌}
 use Rattle.iox2_store.specs.machine.Environments.{fixed_handlers}
+use Rattle.iox2_store.specs.machine.Records.{Loan}
 use Rattle.iox2_store.specs.machine.Sends.{Send}
+use Rattle.std.proofs.lemmas.Option.{same_Some}
+use Rattle.iox2_store.specs.machine.SingleCalls.{HoldsPublisher}
 use Rattle.iox2_store.specs.machine.State.{State}
 use Rattle.iox2_domain.specs.Fields.{kept_of}
 use Rattle.iox2_domain.specs.Kept.{Kept, state_of}
 use Rattle.iox2_domain.specs.LoanCalls.{HoldsWritten}
 use Rattle.iox2_domain.specs.SentLoans.{send_result}
 use Rattle.iox2_domain.specs.Shows.{Shows}
-use Rattle.iox2_pubsub.proofs.SendShown.{machine-sends, sent-shown}
-use Rattle.iox2_pubsub.specs.Live.{written_key}
+use Rattle.iox2_pubsub.proofs.SendShown.{machine-sends, only-error, sent-shown}
+use Rattle.iox2_pubsub.specs.Live.{lender_key, written_key}
 use Rattle.iox2_pubsub.specs.SendCalls.{result_of_send}
 use Rattle.iox2_pubsub.proofs.CallsStay.{always-shown, sent-stays, send-spends}
-use Rattle.iox2_pubsub.proofs.LiveParts.{written-parts}
+use Rattle.iox2_pubsub.proofs.LiveParts.{publisher-parts, written-parts}
 use Rattle.iox2_pubsub.proofs.sample_mut.SampleMut.send.Goals as goal
 
 pub send_loan-requires-clause-live : goal.send_loan-requires-clause-live
@@ -42,3 +45,18 @@ returns-clause-stays g c =
     let out = ap (λ (t : State g.row.T.Denot g.row.U.Denot). t.loans c.args.self.loan.number) (it.2).state ∙ has.1 in
     let step = returns-clause-sent g c it.0 it.1 has.0 it.2 out in
     sent-stays {T = g.row.T.Denot} {U = g.row.U.Denot} c.args.domain.now _ it.0 it.1 it.2 c.args.self.loan.number has.0 out c.outcome_of.result step.0 step.1 step.2
+
+pub returns-clause-ok : goal.returns-clause-ok
+returns-clause-ok g c = λ lent.
+    c.outcome_of.ensures.ok (c.send_loan.ensures.ok
+    (subst (λ (k : Kept g.row.T.Denot g.row.U.Denot). HoldsPublisher (state_of k) c.args.self.loan.publisher) (sym c.domain.view_is)
+    (publisher-parts c.args.domain.now (lender_key (written_key c.args.self)) lent).2))
+
+pub returns-clause-gone : goal.returns-clause-gone
+returns-clause-gone g c =
+    let has = (written-parts c.args.domain.now c.args.self c.requires).1 in
+    let before = subst (λ (k : Kept g.row.T.Denot g.row.U.Denot). HoldsWritten (state_of k) c.args.self.loan.publisher c.args.self.loan.number) (sym c.domain.view_is) has in
+    only-error {T = g.row.T.Denot} {U = g.row.U.Denot} c.domain.inside.state c.send_loan.new.state c.args.self.loan.number c.args.self.loan.publisher c.send_loan.result c.send_loan.ensures.ok
+    c.send_loan.ensures.sends
+    (ap (λ (l : Loan g.row.T.Denot g.row.U.Denot). l.publisher) (same_Some _ before.0 (sym c.send_loan.ensures.sends.out ∙ before.1)) ∙ before.2)
+    c.outcome_of.result c.outcome_of.ensures.same

@@ -1,10 +1,12 @@
-use Rattle.std.proofs.Common.{refl, ap, ◌∙◌}
+use Rattle.std.proofs.Common.{ℕ, refl, ap, subst, sym, ◌∙◌}
+use Rattle.iox2_domain.specs.Fields.{kept_of}
 use Rattle.iox2_domain.specs.Kept.{Kept}
+use Rattle.iox2_pubsub.specs.Live.{IsPublisherKey, lender_key, unwritten_key, written_key}
 use Rattle.iox2_pubsub.proofs.LiveParts.{single-parts}
 use Rattle.iox2_domain.specs.declared.loan_slots.LoanAt.{LoanAt}
 use Rattle.iox2_domain.specs.LoanSlots.{LiesInSlot}
 use Rattle.iox2_domain.proofs.lemmas.loans.WrittenLoan.{one-cell}
-use Rattle.iox2_pubsub.proofs.LoanHandles.{unwritten-out, write-shown, write-live, write-reads}
+use Rattle.iox2_pubsub.proofs.LoanHandles.{unwritten-out, write-header, write-shown, write-live, write-reads, write-user-header}
 use Rattle.iox2_pubsub.proofs.CallsStay.{always-shown, write-stays}
 use Rattle.iox2_pubsub.proofs.sample_mut_uninit.SampleMutUninit.write_payload.Goals as goal
 
@@ -42,3 +44,20 @@ returns-clause-reads g c =
     (record { service_id = c.args.self.service_id; loan = c.write_loan.result }) (ap (λ (at : LoanAt). at.number) c.write_loan.ensures.same)
     at.loan at.is_out
     (one-cell {T = g.row.T.Denot} {U = g.row.U.Denot} c.domain.inside.state c.domain.invariant single c.args.self.loan.publisher c.args.self.loan.number c.write_loan.result.book c.write_loan.result.slot at)
+
+pub returns-clause-header : goal.returns-clause-header
+returns-clause-header g c = λ header.
+    write-header {T = g.row.T.Denot} {U = g.row.U.Denot} c.domain.inside.state c.write_loan.new.state c.args.domain.now c.domain.view_is
+    c.args.self.loan.number c.args.value c.write_loan.ensures.writes (unwritten_key c.args.self) (written_key (record { service_id = c.args.self.service_id; loan = c.write_loan.result })) refl
+    (ap (λ (at : LoanAt). at.number) c.write_loan.ensures.same) header
+
+pub returns-clause-user_header : goal.returns-clause-user_header
+returns-clause-user_header g c = λ header.
+    write-user-header {T = g.row.T.Denot} {U = g.row.U.Denot} c.domain.inside.state c.write_loan.new.state c.args.domain.now c.domain.view_is
+    c.args.self.loan.number c.args.value c.write_loan.ensures.writes (unwritten_key c.args.self) (written_key (record { service_id = c.args.self.service_id; loan = c.write_loan.result })) refl
+    (ap (λ (at : LoanAt). at.number) c.write_loan.ensures.same) header
+
+pub returns-clause-lent : goal.returns-clause-lent
+returns-clause-lent g c = λ lent.
+    subst (λ (p : ℕ). IsPublisherKey (kept_of c.write_loan.new.state) (record { service_id = c.args.self.service_id; port = p; message = 0 })) (sym (ap (λ (at : LoanAt). at.publisher) c.write_loan.ensures.same))
+    ((returns-clause-stays g c).publishers (lender_key (unwritten_key c.args.self)) lent tt)

@@ -1,13 +1,12 @@
 use Rattle.std.proofs.Common.{refl, sym, ap, subst, ◌∙◌}
-use Rattle.std.proofs.lemmas.Bool.{true≢false}
 use Rattle.iox2_store.specs.machine.Environments.{fixed_handlers}
 use Rattle.iox2_store.specs.machine.Sends.{Send}
 use Rattle.iox2_runs.specs.Carries.{entry_for}
 use Rattle.iox2_runs.specs.declared.runs.made.Made.{Made}
 use Rattle.iox2_runs.proofs.TableLooks.{is_written_entry}
 use Rattle.iox2_runs.proofs.TableEntries.{back, not_written}
-use Rattle.iox2_runs.proofs.LiveEntries.{live_written, written_sender}
-use Rattle.iox2_runs.proofs.CarriedLoans.{send_passed, send_carried}
+use Rattle.iox2_runs.proofs.LiveEntries.{live_written}
+use Rattle.iox2_runs.proofs.CarriedLoans.{send_passed, send_carried, send_lost}
 use Rattle.iox2_runs.proofs.LeavingSteps.{leaves-all, leaves-spending}
 use Rattle.iox2_pubsub.proofs.StaysBut.{nothing-is-new}
 use Rattle.iox2_runs.specs.declared.runs.made.Made.TheVariants.{Nothing, Written}
@@ -24,11 +23,10 @@ returns-in-Ok-clause-carries g c =
     (λ m s l shown there. let sent = c.in-Ok.ensures.sent m s l shown there in
     (sent.0, sent.1, subst (λ r. Send fixed_handlers s c.in-Written.sample.loan.number l sent.0 r) c.delivered_count.ensures sent.2)) c.take.ensures.items
 
--- a table has only loans whose publishers are there
 pub returns-in-Err-clause-carries : goal.returns-in-Err-clause-carries
 returns-in-Err-clause-carries g c =
-    absurd (true≢false (sym (c.in-Err.ensures.ok
-    (written_sender {T = g.row.T.Denot} {U = g.row.U.Denot} c.args.domain.now c.args.table.now.items c.requires c.args.of c.in-Written.sample (sym c.take.ensures.made ∙ c.in-Written.is)))))
+    send_lost {T = g.row.T.Denot} {U = g.row.U.Denot} fixed_handlers _ c.args.domain.now c.send.new.domain c.args.table.now.items c.take.new.table.items c.args.of
+    c.in-Written.sample c.in-Err.error c.in-Err.ensures.gone (sym c.take.ensures.made ∙ c.in-Written.is) c.in-Err.ensures.sent c.take.ensures.items
 
 pub returns-in_default-clause-carries : goal.returns-in_default-clause-carries
 returns-in_default-clause-carries g c =

@@ -24,7 +24,7 @@ returns-in-Err-clause-carries g c = λ len.
 
 pub returns-in-Ok-clause-leaves : goal.returns-in-Ok-clause-leaves
 returns-in-Ok-clause-leaves g c =
-    leaves-making {T = g.row.T.Denot} {U = g.row.U.Denot} c.args.domain.now c.create.new.domain c.args.table.now c.create.ensures.stays (MadePublisher c.in-Ok.publisher) (nothing-is-new {T = g.row.T.Denot} {U = g.row.U.Denot} c.args.domain.now)
+    leaves-making {T = g.row.T.Denot} {U = g.row.U.Denot} c.args.domain.now c.create.new.domain c.args.table.now c.create.ensures.stays (MadePublisher c.in-Ok.publisher) c.in-Ok.ensures.new
 
 pub returns-in-Err-clause-leaves : goal.returns-in-Err-clause-leaves
 returns-in-Err-clause-leaves g c =

@@ -36,7 +36,7 @@ pub returns-in-Unwritten : goal.returns-in-Unwritten
 returns-in-Unwritten g c =
     read_unwritten {T = g.row.T.Denot} {U = g.row.U.Denot} fixed_handlers _ c.args.domain.now c.args.domain.now c.args.table.now c.args.table.now c.args.of refl
     c.args.at c.in-Unwritten.sample c.payload.result.now c.cell_at.result (looked c.args.table.now c.args.of c.get.result c.in-Some.made _ c.get.ensures.lookup c.in-Some.is c.in-Unwritten.is)
-    c.payload.ensures c.cell_at.ensures
+    c.payload.ensures.cell c.cell_at.ensures
 
 pub returns-in-Written : goal.returns-in-Written
 returns-in-Written g c =

@@ -11,7 +11,7 @@ use Rattle.iox2_domain.specs.Fields.{kept_of}
 use Rattle.iox2_domain.specs.NewPublisher.{plain_publisher}
 use Rattle.iox2_domain.specs.Shows.{Shows}
 use Rattle.iox2_pubsub.proofs.PublishersShown.{created-shows, created-live}
-use Rattle.iox2_pubsub.proofs.CallsStay.{always-shown, publisher-creation-stays}
+use Rattle.iox2_pubsub.proofs.CallsStay.{always-shown, publisher-creation-stays, publisher-is-new}
 use Rattle.iox2_pubsub.proofs.port_factory.publisher.PortFactoryPublisher.create.Goals as goal
 
 pub returns-in_err-port-clause-creates : goal.returns-in_err-port-clause-creates
@@ -58,3 +58,9 @@ returns-clause-stays g c =
     let it = always-shown {T = g.row.T.Denot} {U = g.row.U.Denot} c.domain.inside.state c.args.domain.now c.domain.invariant c.domain.view_is in
     let step = returns-clause-creates g c it.0 it.1 it.2 in
     publisher-creation-stays {T = g.row.T.Denot} {U = g.row.U.Denot} c.args.domain.now _ it.0 it.1 it.2 fixed_handlers c.args.self None step.0 step.1 (step.2).1
+
+pub returns-clause-new : goal.returns-clause-new
+returns-clause-new g c =
+    let it = always-shown {T = g.row.T.Denot} {U = g.row.U.Denot} c.domain.inside.state c.args.domain.now c.domain.invariant c.domain.view_is in
+    let step = returns-clause-creates g c it.0 it.1 it.2 in
+    publisher-is-new {T = g.row.T.Denot} {U = g.row.U.Denot} c.args.domain.now c.args.domain.now it.0 it.1 it.2 c.in_ok-port.port.id (step.2).0

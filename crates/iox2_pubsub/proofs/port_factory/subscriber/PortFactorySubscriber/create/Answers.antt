@@ -5,7 +5,7 @@ use Rattle.iox2_store.specs.machine.Environments.{fixed_handlers}
 use Rattle.iox2_domain.specs.SubscriberEntry.{asked_for}
 use Rattle.iox2_store.specs.declared.service_config.ServiceConfig.{ServiceConfig}
 use Rattle.iox2_pubsub.proofs.SubscribersShown.{made-shown, made-live, refused-shown}
-use Rattle.iox2_pubsub.proofs.CallsStay.{always-shown, subscriber-creation-stays}
+use Rattle.iox2_pubsub.proofs.CallsStay.{always-shown, subscriber-creation-stays, subscriber-is-new}
 use Rattle.iox2_pubsub.proofs.port_factory.subscriber.PortFactorySubscriber.create.Goals as goal
 
 pub returns-in_err-port-clause-creates : goal.returns-in_err-port-clause-creates
@@ -42,3 +42,9 @@ returns-clause-stays g c =
     let it = always-shown {T = g.row.T.Denot} {U = g.row.U.Denot} c.domain.inside.state c.args.domain.now c.domain.invariant c.domain.view_is in
     let step = returns-clause-creates g c it.0 it.1 it.2 in
     subscriber-creation-stays {T = g.row.T.Denot} {U = g.row.U.Denot} c.args.domain.now _ it.0 it.1 it.2 fixed_handlers c.args.self None step.0 step.1 (step.2).0
+
+pub returns-clause-new : goal.returns-clause-new
+returns-clause-new g c =
+    let it = always-shown {T = g.row.T.Denot} {U = g.row.U.Denot} c.domain.inside.state c.args.domain.now c.domain.invariant c.domain.view_is in
+    let step = returns-clause-creates g c it.0 it.1 it.2 in
+    subscriber-is-new {T = g.row.T.Denot} {U = g.row.U.Denot} c.args.domain.now c.args.domain.now it.0 it.1 it.2 c.in_ok-port.port.id (step.2).1

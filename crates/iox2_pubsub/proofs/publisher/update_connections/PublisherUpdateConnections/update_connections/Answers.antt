@@ -3,6 +3,7 @@ use Rattle.iox2_store.specs.machine.Environments.{fixed_handlers}
 use Rattle.iox2_laws.proofs.LoanKeeping.{update_publisher_loans}
 use Rattle.iox2_laws.proofs.PortsStay.{update_publisher_stays}
 use Rattle.iox2_domain.specs.Fields.{kept_of}
+use Rattle.iox2_pubsub.specs.Live.{publisher_key}
 use Rattle.iox2_pubsub.proofs.CallsStay.{always-shown}
 use Rattle.iox2_pubsub.proofs.UninitLoans.{publisher-missing}
 use Rattle.iox2_pubsub.proofs.UpdateShown.{publisher-update-shows}
@@ -31,3 +32,6 @@ returns-clause-stays g c =
 
 pub update_publisher-requires-clause-stands : goal.update_publisher-requires-clause-stands
 update_publisher-requires-clause-stands g c = (c.in-Some.ensures.0, c.in-Some.ensures.1)
+
+pub returns-clause-live : goal.returns-clause-live
+returns-clause-live g c = (returns-clause-stays g c).publishers (publisher_key c.args.self.now) c.requires tt

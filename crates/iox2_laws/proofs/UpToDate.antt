@@ -1,0 +1,212 @@
+-- Subscribers that aren't due for an update, and which operations leave them so.
+use Rattle.std.proofs.Common.{◌≡◌, ℕ, suc, Bool, true, false, cond, not, ◌&&◌, refl, sym, ap, subst, ◌∙◌, arith, ◌<◌, Option, None, Some, inl, inr}
+use Rattle.std.specs.Prelude.{◌==◌, nat_lt}
+use Rattle.std.specs.List.{list_all}
+use Rattle.std.specs.Option.{option_map, option_map_or}
+use Rattle.std.proofs.lemmas.Bool.{true≢false, cases_eq, ne_eqb}
+use Rattle.std.proofs.lemmas.Option.{same_Some}
+use Rattle.iox2_store.specs.machine.Limits.{last_number, buffer_limit}
+use Rattle.iox2_store.specs.machine.Numbers.{size}
+use Rattle.iox2_store.specs.machine.Places.{free_place}
+use Rattle.iox2_store.specs.machine.Mailbox.{has_borrows}
+use Rattle.iox2_store.specs.machine.Records.{Loan, Publisher, Subscriber, Environment, SubscriberSettings}
+use Rattle.iox2_store.specs.machine.State.{State, held, connected_publishers}
+use Rattle.iox2_store.specs.machine.Delivery.{DeliveryEnd, Complete, Suspended}
+use Rattle.iox2_store.specs.machine.PublisherUpdate.{UpdatePublisher}
+use Rattle.iox2_store.specs.machine.SubscriberUpdate.{UpdateSubscriber}
+use Rattle.iox2_store.specs.machine.Loans.{GrantLoan, StaticLoan, DynamicLoan, limit_error, is_static}
+use Rattle.iox2_store.specs.machine.Ports.{CreateSubscriber, MakeSubscriber, with_new_subscriber, new_subscriber, with_failure_warning, buffer_for}
+use Rattle.iox2_store.specs.machine.Receives.{ReceiveResult, Got_sample, No_sample, Receive_error, TakeSample, Receive}
+use Rattle.iox2_store.specs.machine.Releases.{pruned, is_unused, place_freed, unborrowed, subscriber_pruned, released}
+use Rattle.iox2_store.specs.machine.Sends.{Send, ConcludeSend, SendResult, published, with_mailboxes}
+use Rattle.iox2_store.specs.machine.Waiting.{waiting_for}
+use Rattle.iox2_store.specs.machine.WellFormed.{IsWellFormed}
+use Rattle.iox2_store.specs.declared.errors.ConnectionFailure.{ConnectionFailure}
+use Rattle.iox2_store.specs.declared.errors.LoanError.{LoanError}
+use Rattle.iox2_store.specs.declared.errors.LoanError.TheVariants.{OutOfMemory, ExceedsMaxLoans, ExceedsMaxLoanSize, InternalFailure}
+use Rattle.iox2_store.specs.declared.errors.ReceiveError.{ReceiveError}
+use Rattle.iox2_store.specs.declared.errors.SubscriberCreateError.{SubscriberCreateError}
+use Rattle.iox2_store.specs.declared.warning.Warning.TheVariants.{SubscriberPartlyConnected}
+use Rattle.iox2_laws.proofs.Cases.{by_option, by_bool}
+use Rattle.iox2_laws.proofs.Puts.{put_at-other, at_each}
+use Rattle.iox2_laws.proofs.PortsStay.{update_subscriber_stays}
+use Rattle.iox2_laws.proofs.WaitingReceives.{update_subscriber_updates, take_waits}
+
+module _ {T U : Type 0} where
+  -- The subscriber is open, and not due for an update.
+  abbrev pub IsUpdated : State T U → (q : ℕ) → Type 0
+  IsUpdated s q = (y : Subscriber) × (s.subscribers q ≡ Some y) × (y.is_open ≡ true) × (y.is_due ≡ false)
+
+  -- Each such subscriber stays so.
+  abbrev pub UpdatedStay : (s s' : State T U) → Type 0
+  UpdatedStay s s' = (q : ℕ) → IsUpdated s q → IsUpdated s' q
+
+  pub same_subscribers : (s s' : State T U) → s'.subscribers ≡ s.subscribers → UpdatedStay s s'
+  same_subscribers s s' same q is = (is.0, ap (λ f. f q) same ∙ is.1, is.2, is.3)
+
+  stay_same : (s s' : State T U) → s' ≡ s → s'.subscribers ≡ s.subscribers
+  stay_same s s' e = ap (λ (t : State T U). t.subscribers) e
+
+  -- ---- loans
+
+  dynamic_subscribers : (environment : Environment) (default_header : U) (s : State T U) (p : ℕ) (x : Publisher) (len : ℕ) (s' : State T U) (refusal : Option LoanError)
+      → DynamicLoan environment default_header s p x len s' refusal → s'.subscribers ≡ s.subscribers
+  dynamic_subscribers environment default_header s p x len s' None h = ap (λ (t : State T U). t.subscribers) h.4
+  dynamic_subscribers environment default_header s p x len s' (Some OutOfMemory) h = stay_same s s' h.0
+  dynamic_subscribers environment default_header s p x len s' (Some InternalFailure) h = stay_same s s' h.0
+  dynamic_subscribers environment default_header s p x len s' (Some ExceedsMaxLoans) h = absurd h
+  dynamic_subscribers environment default_header s p x len s' (Some ExceedsMaxLoanSize) h = absurd h
+
+  pub grant_loan_subscribers : (environment : Environment) (default_header : U) (checks_length : Bool) (len : ℕ) (s : State T U) (p : ℕ) (s' : State T U) (refusal : Option LoanError)
+      → GrantLoan environment default_header checks_length len s p s' refusal → s'.subscribers ≡ s.subscribers
+  grant_loan_subscribers environment default_header checks_length len s p s' refusal h =
+      by_option Same (s.publishers p) _ _ h (λ _ v. absurd v) (λ x _ k.
+      by_option Same (limit_error checks_length x len) _ _ k
+      (λ _ j. by_bool Same (is_static x.allocation_strategy) _ _ j
+      (λ _ i. static x i) (λ _ i. dynamic_subscribers environment default_header s p x len s' refusal i))
+      (λ limit _ j. stay_same s s' j.0))
+    where
+      Same : Type 0
+      Same = s'.subscribers ≡ s.subscribers
+
+      static : (x : Publisher) → StaticLoan default_header s p x len s' refusal → Same
+      static x h =
+          by_bool Same (size (held s p x) == x.slots) _ _ h (λ _ k. stay_same s s' k.0) (λ _ k.
+          by_bool Same (s.next_message == last_number) _ _ k (λ _ j. stay_same s s' j.0) (λ _ j. ap (λ (t : State T U). t.subscribers) j.0))
+
+  -- ---- sends
+
+  pub update_publisher_subscribers : (environment : Environment) (s : State T U) (p : ℕ) (s' : State T U) (failure : Option ConnectionFailure)
+      → UpdatePublisher environment s p s' failure → s'.subscribers ≡ s.subscribers
+  update_publisher_subscribers environment s p s' failure h =
+      by_option (s'.subscribers ≡ s.subscribers) (s.publishers p) _ _ h (λ _ v. absurd v) (λ x _ h.
+      by_bool (s'.subscribers ≡ s.subscribers) x.is_due _ _ h
+      (λ _ h. ap (λ (t : State T U). t.subscribers) h.2) (λ _ h. stay_same s s' h.0))
+
+  concluded_subscribers : (s : State T U) (p n : ℕ) (how : DeliveryEnd) (s' : State T U) (result : SendResult) → ConcludeSend s p n how s' result → s'.subscribers ≡ s.subscribers
+  concluded_subscribers s p n (Complete count has_failed) s' result h = ap (λ (t : State T U). t.subscribers) h.0
+  concluded_subscribers s p n (Suspended b) s' result h = ap (λ (t : State T U). t.subscribers) h.0
+
+  pub send_subscribers : (environment : Environment) (s : State T U) (n : ℕ) (l : Loan T U) (s' : State T U) (result : SendResult) → Send environment s n l s' result → s'.subscribers ≡ s.subscribers
+  send_subscribers environment s n l s' result h =
+      by_option Same (s.publishers l.publisher) _ _ h
+      (λ _ k. ap (λ (t : State T U). t.subscribers) k.0)
+      (λ x _ k.
+      let first : (k.0).subscribers ≡ s.subscribers = update_publisher_subscribers environment s l.publisher k.0 k.1 k.2 in
+      by_option Same k.1 _ _ k.3
+      (λ _ j. by_option Same ((k.0).publishers l.publisher) _ _ j (λ _ v. absurd v) (λ z _ j.
+      by_option Same ((published k.0 l.publisher n).publishers l.publisher) _ _ j (λ _ v. absurd v) (λ w _ j.
+      concluded_subscribers (with_mailboxes (published k.0 l.publisher n) l.publisher j.1) l.publisher n j.0 s' result j.3 ∙ first)))
+      (λ e _ j. ap (λ (t : State T U). t.subscribers) j.0 ∙ first))
+    where
+      Same : Type 0
+      Same = s'.subscribers ≡ s.subscribers
+
+  -- ---- a subscriber's update, and a receive
+
+  pub update_subscriber_updated : (environment : Environment) (s : State T U) (q : ℕ) (s' : State T U) (failure : Option ConnectionFailure)
+      → UpdateSubscriber environment s q s' failure → UpdatedStay s s'
+  update_subscriber_updated environment s q s' failure h i is =
+      by_option (IsUpdated s' i) (s.subscribers q) _ _ h (λ _ v. absurd v) (λ y present h.
+      by_bool (IsUpdated s' i) y.is_due _ _ h
+      (λ due h. elim (cases_eq i q) [
+        | inl here ↦ absurd (true≢false (sym due ∙ ap (λ (z : Subscriber). z.is_due) (same_Some y is.0 (sym present ∙ ap s.subscribers (sym here) ∙ is.1)) ∙ is.3))
+        | inr away ↦ (is.0, ap (λ (t : State T U). t.subscribers i) h.2 ∙ put_at-other s.subscribers q _ i (ne_eqb i q away) ∙ is.1, is.2, is.3)
+      ])
+      (λ _ h. same_subscribers s s' (stay_same s s' h.0) i is))
+
+  -- one that isn't due has nothing to update
+  updated_already : (environment : Environment) (s : State T U) (q : ℕ) (s' : State T U) (failure : Option ConnectionFailure)
+      → UpdateSubscriber environment s q s' failure → IsUpdated s q → (s' ≡ s) × (failure ≡ None)
+  updated_already environment s q s' failure h is =
+      by_option ((s' ≡ s) × (failure ≡ None)) (s.subscribers q) _ _ h (λ _ v. absurd v) (λ y present h.
+      by_bool ((s' ≡ s) × (failure ≡ None)) y.is_due _ _ h
+      (λ due h. absurd (true≢false (sym due ∙ ap (λ (z : Subscriber). z.is_due) (same_Some y is.0 (sym present ∙ is.1)) ∙ is.3)))
+      (λ _ h. h))
+
+  taken_subscribers : (s : State T U) (q : ℕ) (y : Subscriber) (s' : State T U) (result : ReceiveResult) → TakeSample s q y s' result → s'.subscribers ≡ s.subscribers
+  taken_subscribers s q y s' (Got_sample p n) h = ap (λ (t : State T U). t.subscribers) h.3
+  taken_subscribers s q y s' No_sample h = ap (λ (t : State T U). t.subscribers) h.1
+  taken_subscribers s q y s' (Receive_error e) h = ap (λ (t : State T U). t.subscribers) h.3
+
+  pub receive_updated : (environment : Environment) (s : State T U) (q : ℕ) (s' : State T U) (result : ReceiveResult) → Receive environment s q s' result → UpdatedStay s s'
+  receive_updated environment s q s' result h i is =
+      let first : IsUpdated h.0 i = update_subscriber_updated environment s q h.0 h.1 h.2 i is in
+      by_option (IsUpdated s' i) h.1 _ _ h.3
+      (λ _ k. by_option (IsUpdated s' i) ((h.0).subscribers q) _ _ k (λ _ v. absurd v) (λ y _ k. same_subscribers h.0 s' (taken_subscribers h.0 q y s' result k) i first))
+      (λ e _ k. same_subscribers h.0 s' (stay_same h.0 s' k.0) i first)
+
+  -- an update that didn't fail leaves its subscriber so
+  pub update_leaves_updated : (environment : Environment) (s : State T U) (q : ℕ) (s' : State T U) (failure : Option ConnectionFailure) → failure ≡ None
+      → (y : Subscriber) → s.subscribers q ≡ Some y → y.is_open ≡ true → UpdateSubscriber environment s q s' failure → IsUpdated s' q
+  update_leaves_updated environment s q s' failure none y here is_open h =
+      let there = ((update_subscriber_stays environment s q s' failure h).remain).subscribers q y here is_open in
+      (there.0, there.1, there.2, update_subscriber_updates environment s q s' failure none h there.0 there.1)
+
+  -- and so does a receive that didn't
+  pub receive_leaves_updated : (environment : Environment) (s : State T U) (q : ℕ) (s' : State T U) (result : ReceiveResult) → ((e : ReceiveError) → result ≡ Receive_error e → ⊥)
+      → (y : Subscriber) → s.subscribers q ≡ Some y → y.is_open ≡ true → Receive environment s q s' result → IsUpdated s' q
+  receive_leaves_updated environment s q s' result fine y here is_open h =
+      by_option (IsUpdated s' q) h.1 _ _ h.3
+      (λ none k. by_option (IsUpdated s' q) ((h.0).subscribers q) _ _ k (λ _ v. absurd v) (λ z _ k.
+      same_subscribers h.0 s' (taken_subscribers h.0 q z s' result k) q (update_leaves_updated environment s q h.0 h.1 none y here is_open h.2)))
+      (λ e _ k. absurd (fine _ k.1))
+
+  -- exactly one fewer waits, where the subscriber wasn't due
+  pub receive_one_fewer : (environment : Environment) (s : State T U) (q p n : ℕ) (s' : State T U) → IsWellFormed s → IsUpdated s q → Receive environment s q s' (Got_sample p n) → suc (waiting_for s' q) ≡ waiting_for s q
+  receive_one_fewer environment s q p n s' w is h =
+      let already = updated_already environment s q h.0 h.1 h.2 is in
+      by_option (suc (waiting_for s' q) ≡ waiting_for s q) h.1 _ _ h.3
+      (λ _ k. by_option (suc (waiting_for s' q) ≡ waiting_for s q) ((h.0).subscribers q) _ _ k (λ _ v. absurd v) (λ y at k.
+      let here : s.subscribers q ≡ Some y = ap (λ (t : State T U). t.subscribers q) (sym already.0) ∙ at in
+      let open_now : y.is_open ≡ true = ap (λ (z : Subscriber). z.is_open) (same_Some y is.0 (sym here ∙ is.1)) ∙ is.2 in
+      take_waits s q y s' p n w here open_now (subst (λ (t : State T U). TakeSample t q y s' (Got_sample p n)) already.0 k)))
+      (λ e _ k. let clash : Got_sample p n ≡ Receive_error _ = k.1 in absurd cc)
+
+  -- ---- a release
+
+  pub released_updated : (s : State T U) (p q n : ℕ) → UpdatedStay s (released s p q n)
+  released_updated s p q n i is = freed (is_unused t q) refl where
+    t : State T U
+    t = subscriber_pruned (unborrowed s p q n) q
+
+    left : IsUpdated t i
+    left = at_each s.subscribers q (option_map (pruned (unborrowed s p q n) q) (s.subscribers q))
+        (λ k v. s.subscribers k ≡ Some is.0 → (y : Subscriber) × (v ≡ Some y) × (y.is_open ≡ true) × (y.is_due ≡ false)) i
+        (λ here old. (pruned (unborrowed s p q n) q is.0, ap (option_map (pruned (unborrowed s p q n) q)) old, is.2, is.3)) (λ apart old. (is.0, old, is.2, is.3)) is.1
+
+    freed : (b : Bool) → is_unused t q ≡ b → IsUpdated (cond b (place_freed t q) t) i
+    freed false e = left
+    freed true e = at_each t.subscribers q None
+        (λ k v. t.subscribers k ≡ Some left.0 → (y : Subscriber) × (v ≡ Some y) × (y.is_open ≡ true) × (y.is_due ≡ false)) i
+        (λ here there. absurd (shut there)) (λ apart there. (left.0, there, left.2, left.3)) left.1
+      where
+        shut : t.subscribers q ≡ Some left.0 → ⊥
+        shut there =
+            let un : is_unused t q ≡ (not (left.0).is_open && list_all (λ p. not (has_borrows (t.mailboxes p q))) (connected_publishers left.0)) =
+            ap (λ (v : Option Subscriber). option_map_or (λ (y : Subscriber). not y.is_open && list_all (λ p. not (has_borrows (t.mailboxes p q))) (connected_publishers y)) v false) there in
+            true≢false (sym e ∙ un ∙ ap (λ (b : Bool). not b && list_all (λ p. not (has_borrows (t.mailboxes p q))) (connected_publishers left.0)) left.2)
+
+  -- ---- a subscriber is made
+
+  pub create_subscriber_updated : (environment : Environment) (s : State T U) → IsWellFormed s → (given : SubscriberSettings) (s' : State T U) (refusal : Option SubscriberCreateError)
+      → CreateSubscriber environment s given s' refusal → UpdatedStay s s'
+  create_subscriber_updated environment s w given s' refusal h i is =
+      by_bool (IsUpdated s' i) (s.next_port == last_number) _ _ h (λ _ k. same k.0) (λ _ k.
+      by_bool (IsUpdated s' i) (nat_lt (buffer_limit s.config) (buffer_for given)) _ _ k (λ _ j. same j.0) (λ _ j.
+      by_option (IsUpdated s' i) (free_place (s.config).max_subscribers s.subscriber_places) _ _ j (λ _ m. same m.0) (λ place _ m. made place refusal m)))
+    where
+      same : s' ≡ s → IsUpdated s' i
+      same e = same_subscribers s s' (stay_same s s' e) i is
+
+      warned_subscribers : (t : State T U) (failure : Option ConnectionFailure) → (with_failure_warning t (SubscriberPartlyConnected s.next_port) failure).subscribers ≡ t.subscribers
+      warned_subscribers t None = refl
+      warned_subscribers t (Some failure) = refl
+
+      made : (place : ℕ) (r : Option SubscriberCreateError) → MakeSubscriber environment s given place s' r → IsUpdated s' i
+      made place (Some e) h = same h.1
+      made place None h =
+          let new : State T U = with_new_subscriber s given place in
+          let low : i < s.next_port = (w.subscribers i is.0 is.1).is_known in
+          let first : IsUpdated new i = (is.0, put_at-other s.subscribers s.next_port (Some (new_subscriber given place)) i (ne_eqb i s.next_port (λ here. omega arith)) ∙ is.1, is.2, is.3) in
+          same_subscribers h.0 s' (ap (λ (t : State T U). t.subscribers) h.3 ∙ warned_subscribers h.0 h.1) i (update_subscriber_updated environment new s.next_port h.0 h.1 h.2 i first)

@@ -1,0 +1,99 @@
+-- A close of a port, seen from outside, and what it leaves.
+use Rattle.std.proofs.Common.{◌≡◌, ℕ, get_or, true, refl, ap, sym, subst, ◌∙◌, List, [], Option, None, Some, arith}
+use Rattle.std.proofs.lemmas.Bool.{true≢false}
+use Rattle.std.proofs.lemmas.Option.{none-some, same_Some}
+use Rattle.iox2_store.specs.machine.Mailbox.{is_borrowed}
+use Rattle.iox2_store.specs.machine.Ports.{publisher_closed, subscriber_closed}
+use Rattle.iox2_store.specs.machine.Records.{Loan, Publisher, Subscriber}
+use Rattle.iox2_store.specs.machine.State.{State, Messages}
+use Rattle.iox2_store.specs.declared.key.Key.{Key}
+use Rattle.iox2_laws.proofs.CloseLaws.{subscriber_closed_advances}
+use Rattle.iox2_laws.proofs.LoanKeeping.{subscriber_closed_loans}
+use Rattle.iox2_laws.proofs.PortsClose.{publisher_closed_gone, publisher_closed_others, publisher_closed_subscribers, publisher_closed_borrowed, subscriber_closed_shut, subscriber_closed_others, subscriber_closed_publishers, subscriber_closed_borrowed}
+use Rattle.iox2_domain.specs.Fields.{Fields, kept_of, publisher_of, subscriber_of}
+use Rattle.iox2_domain.specs.Invariant.{IsDomain}
+use Rattle.iox2_domain.specs.Kept.{Kept, state_of}
+use Rattle.iox2_domain.specs.Ports.{PublisherFields, SubscriberFields}
+use Rattle.iox2_domain.specs.Reaches.{Reaches}
+use Rattle.iox2_domain.specs.Shows.{Shows}
+use Rattle.iox2_domain.proofs.lemmas.fields.ConnectionEnds.{publisher-stands, subscriber-stands}
+use Rattle.iox2_domain.proofs.lemmas.fields.ReachesShows.{reaches-shows}
+use Rattle.iox2_pubsub.specs.Live.{IsPublisherKey, IsSubscriberKey, A_publisher, A_subscriber, StaysBut}
+use Rattle.iox2_pubsub.proofs.LiveParts.{publisher-parts, subscriber-parts}
+use Rattle.iox2_pubsub.proofs.StaysBut.{stays-between}
+
+module _ {T U : Type 0} (f g : Fields T U) (sound : IsDomain f) (kept : Kept T U) (view : kept_of f ≡ kept) (place id : ℕ) (m : Messages T U) (s : State T U) (shown : Shows kept m s) where
+  here : Shows (kept_of f) m s
+  here = subst (λ (k : Kept T U). Shows k m s) (sym view) shown
+
+  -- the domain shows the machine's close of the publisher that stands at the place
+  pub publisher-close-shows : (found : (x : PublisherFields) × (get_or f.publishers place None ≡ Some x) × (x.id ≡ id))
+      → ((x : PublisherFields) → get_or f.publishers place None ≡ Some x → Reaches f g (publisher_closed (state_of (kept_of f)) x.id (publisher_of f.books f.connections x).port))
+      → (x : Publisher) → s.publishers id ≡ Some x → Shows (kept_of g) m (publisher_closed s id x)
+  publisher-close-shows found closes x at =
+      let machine : Publisher = (publisher_of f.books f.connections found.0).port in
+      let same : machine ≡ x =
+      same_Some machine x (sym (publisher-stands f sound place found.0 found.1) ∙ ap (state_of (kept_of f)).publishers found.2 ∙ ap (λ (t : State T U). t.publishers id) (sym here.state) ∙ at) in
+      let reached : Reaches f g (publisher_closed s id x) =
+      subst (λ (t : State T U). Reaches f g (publisher_closed t id x)) (sym here.state)
+      (subst (λ (z : Publisher). Reaches f g (publisher_closed (state_of (kept_of f)) id z)) same
+      (subst (λ (p : ℕ). Reaches f g (publisher_closed (state_of (kept_of f)) p machine)) found.2 (closes found.0 found.1))) in
+      reaches-shows f g m s (publisher_closed s id x) here reached (omega arith) here.unsent
+
+  -- and that of the subscriber
+  pub subscriber-close-shows : (found : (y : SubscriberFields) × (get_or f.subscribers place None ≡ Some y) × (y.id ≡ id))
+      → ((y : SubscriberFields) → get_or f.subscribers place None ≡ Some y → Reaches f g (subscriber_closed (state_of (kept_of f)) y.id (subscriber_of f.books f.connections y).port))
+      → (y : Subscriber) → s.subscribers id ≡ Some y → Shows (kept_of g) m (subscriber_closed s id y)
+  subscriber-close-shows found closes y at =
+      let machine : Subscriber = (subscriber_of f.books f.connections found.0).port in
+      let same : machine ≡ y =
+      same_Some machine y (sym (subscriber-stands f sound place found.0 found.1) ∙ ap (state_of (kept_of f)).subscribers found.2 ∙ ap (λ (t : State T U). t.subscribers id) (sym here.state) ∙ at) in
+      let reached : Reaches f g (subscriber_closed s id y) =
+      subst (λ (t : State T U). Reaches f g (subscriber_closed t id y)) (sym here.state)
+      (subst (λ (z : Subscriber). Reaches f g (subscriber_closed (state_of (kept_of f)) id z)) same
+      (subst (λ (q : ℕ). Reaches f g (subscriber_closed (state_of (kept_of f)) q machine)) found.2 (closes found.0 found.1))) in
+      reaches-shows f g m s (subscriber_closed s id y) here reached (subscriber_closed_advances s id y).next_message
+      (λ n l out. here.unsent n l (ap (λ (loans : ℕ → Option (Loan T U)). loans n) (sym (subscriber_closed_loans s id y)) ∙ out))
+
+module _ {T U : Type 0} (old new : Kept T U) (m : Messages T U) (s : State T U) (shown : Shows old m s) (id : ℕ) where
+  -- what is borrowed is told from what is borrowed in the mailboxes
+  still-borrowed : (s' : State T U) → ((p q : ℕ) → (s'.mailboxes p q).borrowed ≡ (s.mailboxes p q).borrowed) → (p q n : ℕ) → is_borrowed n (s.mailboxes p q) ≡ true
+      → is_borrowed n (s'.mailboxes p q) ≡ true
+  still-borrowed s' same p q n at = ap (λ (ns : List ℕ). is_borrowed n (record { waiting = []; borrowed = ns })) (same p q) ∙ at
+
+  module _ (x : Publisher) (shown' : Shows new m (publisher_closed s id x)) where
+    -- all but the publisher stays
+    pub publisher-close-stays : StaysBut (A_publisher id) old new
+    publisher-close-stays =
+        let s' : State T U = publisher_closed s id x in
+        stays-between (A_publisher id) old new m m s s' shown shown' (λ n entry at. at) (record {
+          config = refl;
+          publishers = λ p z at other. (z, publisher_closed_others s id x p other ∙ at);
+          subscribers = λ q y at is_open other. let v = publisher_closed_subscribers s id x q y at in (v.0, v.1, v.2 ∙ is_open);
+        })
+        (λ n l at other. at) (λ p q n at other. still-borrowed s' (publisher_closed_borrowed s id x) p q n at)
+
+    -- it is there no more
+    pub publisher-close-spends : (key : Key) → key.port ≡ id → IsPublisherKey new key → ⊥
+    publisher-close-spends key is live =
+        let has = (publisher-parts new key live).2 in
+        absurd (none-some has.0 (sym (publisher_closed_gone s id x) ∙ ap (λ (t : State T U). t.publishers id) shown'.state ∙ ap (state_of new).publishers (sym is) ∙ has.1))
+
+  module _ (y : Subscriber) (shown' : Shows new m (subscriber_closed s id y)) where
+    -- all but the subscriber stays
+    pub subscriber-close-stays : StaysBut (A_subscriber id) old new
+    subscriber-close-stays =
+        let s' : State T U = subscriber_closed s id y in
+        stays-between (A_subscriber id) old new m m s s' shown shown' (λ n entry at. at) (record {
+          config = (subscriber_closed_advances s id y).config;
+          publishers = λ p x at other. let v = subscriber_closed_publishers s id y p x at in (v.0, v.1);
+          subscribers = λ q z at is_open other. (z, subscriber_closed_others s id y q other ∙ at, is_open);
+        })
+        (λ n l at other. ap (λ (loans : ℕ → Option (Loan T U)). loans n) (subscriber_closed_loans s id y) ∙ at)
+        (λ p q n at other. still-borrowed s' (subscriber_closed_borrowed s id y) p q n at)
+
+    -- it is open no more
+    pub subscriber-close-spends : (key : Key) → key.port ≡ id → IsSubscriberKey new key → ⊥
+    subscriber-close-spends key is live =
+        let has = (subscriber-parts new key live).2 in
+        true≢false (sym has.2 ∙ subscriber_closed_shut s id y has.0 (ap (λ (t : State T U). t.subscribers id) shown'.state ∙ ap (state_of new).subscribers (sym is) ∙ has.1))

@@ -1,0 +1,40 @@
+use Rattle.std.proofs.Common.{ap, refl, ◌∙◌}
+use Rattle.iox2_store.specs.machine.State.{State}
+use Rattle.iox2_domain.specs.Fields.{kept_of}
+use Rattle.iox2_pubsub.specs.Live.{publisher_key}
+use Rattle.iox2_pubsub.proofs.CallsStay.{always-shown}
+use Rattle.iox2_pubsub.proofs.ClosesShown.{publisher-close-shows, publisher-close-stays, publisher-close-spends}
+use Rattle.iox2_pubsub.proofs.LiveParts.{publisher-parts}
+use Rattle.iox2_pubsub.proofs.UninitLoans.{publisher-missing}
+use Rattle.iox2_pubsub.proofs.publisher.Publisher.close.Goals as goal
+
+pub find_live_publisher-place-requires : goal.find_live_publisher-place-requires
+find_live_publisher-place-requires g c = λ none.
+    publisher-missing {T = g.row.T.Denot} {U = g.row.U.Denot} c.domain.inside.state c.args.domain.now c.domain.view_is c.args.self none c.requires
+
+pub close_publisher-requires-clause-stands : goal.close_publisher-requires-clause-stands
+close_publisher-requires-clause-stands g c = (c.find_live_publisher-place.ensures.0, c.find_live_publisher-place.ensures.1)
+
+pub invariant_of-domain : goal.invariant_of-domain
+invariant_of-domain g c = (c.close_publisher.ensures c.find_live_publisher-place.ensures.0 c.find_live_publisher-place.ensures.1).agrees
+
+pub returns-clause-closed : goal.returns-clause-closed
+returns-clause-closed g c = λ m s x shown at.
+    publisher-close-shows {T = g.row.T.Denot} {U = g.row.U.Denot} c.domain.inside.state c.close_publisher.new.state c.domain.invariant c.args.domain.now c.domain.view_is
+    c.find_live_publisher-place.result c.args.self.id m s shown c.find_live_publisher-place.ensures c.close_publisher.ensures x at
+
+pub returns-clause-spent : goal.returns-clause-spent
+returns-clause-spent g c =
+    let it = always-shown {T = g.row.T.Denot} {U = g.row.U.Denot} c.domain.inside.state c.args.domain.now c.domain.invariant c.domain.view_is in
+    let has = (publisher-parts c.args.domain.now _ c.requires).2 in
+    let there = ap (λ (t : State g.row.T.Denot g.row.U.Denot). t.publishers c.args.self.id) (it.2).state ∙ has.1 in
+    publisher-close-spends {T = g.row.T.Denot} {U = g.row.U.Denot} c.args.domain.now (kept_of c.close_publisher.new.state) it.0 it.1 it.2 c.args.self.id has.0
+    (returns-clause-closed g c it.0 it.1 has.0 it.2 there) (publisher_key c.args.self) refl
+
+pub returns-clause-stays : goal.returns-clause-stays
+returns-clause-stays g c =
+    let it = always-shown {T = g.row.T.Denot} {U = g.row.U.Denot} c.domain.inside.state c.args.domain.now c.domain.invariant c.domain.view_is in
+    let has = (publisher-parts c.args.domain.now _ c.requires).2 in
+    let there = ap (λ (t : State g.row.T.Denot g.row.U.Denot). t.publishers c.args.self.id) (it.2).state ∙ has.1 in
+    publisher-close-stays {T = g.row.T.Denot} {U = g.row.U.Denot} c.args.domain.now (kept_of c.close_publisher.new.state) it.0 it.1 it.2 c.args.self.id has.0
+    (returns-clause-closed g c it.0 it.1 has.0 it.2 there)

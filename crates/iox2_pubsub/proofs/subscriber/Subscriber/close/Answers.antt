@@ -1,0 +1,41 @@
+use Rattle.std.proofs.Common.{ap, refl, subst, sym, Some, ◌∙◌}
+use Rattle.std.specs.Prelude.{IsSome}
+use Rattle.iox2_store.specs.machine.State.{State}
+use Rattle.iox2_domain.specs.Fields.{kept_of}
+use Rattle.iox2_pubsub.specs.Live.{subscriber_key}
+use Rattle.iox2_pubsub.proofs.CallsStay.{always-shown}
+use Rattle.iox2_pubsub.proofs.ClosesShown.{subscriber-close-shows, subscriber-close-stays, subscriber-close-spends}
+use Rattle.iox2_pubsub.proofs.LiveParts.{subscriber-parts}
+use Rattle.iox2_pubsub.proofs.ReceptionShown.{subscriber-missing}
+use Rattle.iox2_pubsub.proofs.subscriber.Subscriber.close.Goals as goal
+
+pub find_live_subscriber-place-requires : goal.find_live_subscriber-place-requires
+find_live_subscriber-place-requires g c = λ none.
+    subscriber-missing {T = g.row.T.Denot} {U = g.row.U.Denot} c.domain.inside.state c.args.domain.now c.domain.view_is c.args.self none c.requires
+
+pub close_subscriber-requires-clause-stands : goal.close_subscriber-requires-clause-stands
+close_subscriber-requires-clause-stands g c = subst IsSome (sym c.find_live_subscriber-place.ensures.1) refl
+
+pub invariant_of-domain : goal.invariant_of-domain
+invariant_of-domain g c = (c.close_subscriber.ensures c.find_live_subscriber-place.ensures.0 c.find_live_subscriber-place.ensures.1).agrees
+
+pub returns-clause-closed : goal.returns-clause-closed
+returns-clause-closed g c = λ m s x shown at.
+    subscriber-close-shows {T = g.row.T.Denot} {U = g.row.U.Denot} c.domain.inside.state c.close_subscriber.new.state c.domain.invariant c.args.domain.now c.domain.view_is
+    c.find_live_subscriber-place.result c.args.self.id m s shown c.find_live_subscriber-place.ensures c.close_subscriber.ensures x at
+
+pub returns-clause-spent : goal.returns-clause-spent
+returns-clause-spent g c =
+    let it = always-shown {T = g.row.T.Denot} {U = g.row.U.Denot} c.domain.inside.state c.args.domain.now c.domain.invariant c.domain.view_is in
+    let has = (subscriber-parts c.args.domain.now _ c.requires).2 in
+    let there = ap (λ (t : State g.row.T.Denot g.row.U.Denot). t.subscribers c.args.self.id) (it.2).state ∙ has.1 in
+    subscriber-close-spends {T = g.row.T.Denot} {U = g.row.U.Denot} c.args.domain.now (kept_of c.close_subscriber.new.state) it.0 it.1 it.2 c.args.self.id has.0
+    (returns-clause-closed g c it.0 it.1 has.0 it.2 there) (subscriber_key c.args.self) refl
+
+pub returns-clause-stays : goal.returns-clause-stays
+returns-clause-stays g c =
+    let it = always-shown {T = g.row.T.Denot} {U = g.row.U.Denot} c.domain.inside.state c.args.domain.now c.domain.invariant c.domain.view_is in
+    let has = (subscriber-parts c.args.domain.now _ c.requires).2 in
+    let there = ap (λ (t : State g.row.T.Denot g.row.U.Denot). t.subscribers c.args.self.id) (it.2).state ∙ has.1 in
+    subscriber-close-stays {T = g.row.T.Denot} {U = g.row.U.Denot} c.args.domain.now (kept_of c.close_subscriber.new.state) it.0 it.1 it.2 c.args.self.id has.0
+    (returns-clause-closed g c it.0 it.1 has.0 it.2 there)

@@ -1,0 +1,41 @@
+//! A publisher is closed.
+ghost use Rattle.std.specs.Prelude.{◌≡◌};
+
+use crate::domain::Domain;
+use crate::publisher::Publisher;
+use iox2_ports::close_publisher;
+use iox2_store::{BackpressureFn, DegradationFn};
+
+impl Publisher {
+    ghost use Rattle.std.specs.Prelude.{Some};
+    ghost use Rattle.iox2_store.specs.machine.Ports.{publisher_closed};
+    ghost use Rattle.iox2_store.specs.machine.Records.{Publisher as Record};
+    ghost use Rattle.iox2_store.specs.machine.State.{State, Messages};
+    ghost use Rattle.iox2_pubsub.specs.Live.{IsLivePublisher, StaysBut, publisher_key, publisher_port};
+    ghost use Rattle.iox2_domain.specs.Shows.{Shows};
+
+    /// Closes the publisher: it is gone, and its place is free for another. What it has sent and
+    /// waits for an open subscriber, or is borrowed, can be received, read and released as before.
+    /// Its loans stay out: they can be written, read and given back, and sending one fails. Takes no
+    /// memory.
+    ///
+    /// iceoryx2's `Publisher`, when it is dropped (`src/port/publisher.rs`).
+    pub fn close<T: Drop, U: Default + Drop, F: BackpressureFn, G: DegradationFn>(
+        self,
+        domain: &mut Domain<T, U, F, G>,
+    )
+        requires { IsLivePublisher domain.old self }
+        ensures closed { (m : Messages T U) (s : State T U) (x : Record) → Shows domain.old m s → s.publishers (publisher_key self).port ≡ Some x
+            → Shows domain.new m (publisher_closed s (publisher_key self).port x) }
+        ensures spent { IsLivePublisher domain.new self → ⊥ }
+        ensures stays { StaysBut (publisher_port self) domain.old domain.new }
+    {
+        let Publisher {
+            service_id: _,
+            id,
+            place,
+        } = self;
+        let place = domain.state.find_live_publisher(id, place);
+        close_publisher(&mut domain.state, place);
+    }
+}

@@ -1,0 +1,41 @@
+//! A subscriber is closed.
+ghost use Rattle.std.specs.Prelude.{◌≡◌};
+
+use crate::domain::Domain;
+use crate::subscriber::Subscriber;
+use iox2_ports::close_subscriber;
+use iox2_store::{BackpressureFn, DegradationFn};
+
+impl Subscriber {
+    ghost use Rattle.std.specs.Prelude.{Some};
+    ghost use Rattle.iox2_store.specs.machine.Ports.{subscriber_closed};
+    ghost use Rattle.iox2_store.specs.machine.Records.{Subscriber as Record};
+    ghost use Rattle.iox2_store.specs.machine.State.{State, Messages};
+    ghost use Rattle.iox2_pubsub.specs.Live.{IsLiveSubscriber, StaysBut, subscriber_key, subscriber_port};
+    ghost use Rattle.iox2_domain.specs.Shows.{Shows};
+
+    /// Closes the subscriber: it takes no messages any more, and what waits for it is lost. Its
+    /// samples live and read on until they are released; with the last of them its place is free for
+    /// another, or at once where it has none. Takes no memory.
+    ///
+    /// iceoryx2's `Subscriber`, when it is dropped (`src/port/subscriber.rs`).
+    pub fn close<T: Drop, U: Default + Drop, F: BackpressureFn, G: DegradationFn>(
+        self,
+        domain: &mut Domain<T, U, F, G>,
+    )
+        requires { IsLiveSubscriber domain.old self }
+        ensures closed { (m : Messages T U) (s : State T U) (y : Record) → Shows domain.old m s → s.subscribers (subscriber_key self).port ≡ Some y
+            → Shows domain.new m (subscriber_closed s (subscriber_key self).port y) }
+        ensures spent { IsLiveSubscriber domain.new self → ⊥ }
+        ensures stays { StaysBut (subscriber_port self) domain.old domain.new }
+    {
+        let Subscriber {
+            service_id: _,
+            id,
+            place,
+            buffer_size: _,
+        } = self;
+        let place = domain.state.find_live_subscriber(id, place);
+        close_subscriber(&mut domain.state, place);
+    }
+}
