@@ -36,3 +36,4 @@ pub mod WaitingPublishers
 pub mod SliceLoans
 pub mod PortsCome
 pub mod PortsClose
+pub mod WaitingCloses

@@ -16,3 +16,7 @@ pub mod QuestionShown
 pub mod UpdatesStay
 pub mod UpdateShown
 pub mod ClosesShown
+pub mod PayloadLists
+pub mod WaitingShown
+pub mod UpToDateShown
+pub mod ClosesWait

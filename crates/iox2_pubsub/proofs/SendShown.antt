@@ -112,3 +112,11 @@ only-error {T} {U} f g n p (Err e) ok sends its (Err error) is =
     by_option (error ≡ ConnectionBrokenSinceSenderNoLongerExists) ((state_of (kept_of f)).publishers sends.loan.publisher) _ _ sends.sends
     (λ _ gone. let same : Send_error error ≡ Send_error ConnectionBrokenSinceSenderNoLongerExists = is ∙ gone.1 in cc)
     (λ x there _. absurd (true≢false (sym (ok (x, ap (state_of (kept_of f)).publishers (sym its) ∙ there)))))
+
+-- what is sent under the loan's number is its entry
+pub sent-entry : {T U : Type 0} (m : Messages T U) (n : ℕ) (l : Loan T U) (outcome : Result SendOutcome SendError) → m n ≡ None
+    → (entry : Entry T U) → messages_after m n l outcome n ≡ Some entry → entry ≡ entry_of l
+sent-entry m n l (Ok delivered) unsent entry at =
+    let both : Some entry ≡ Some (entry_of l) = sym at ∙ put_at-same m n (Some (entry_of l)) in
+    cc
+sent-entry m n l (Err error) unsent entry at = absurd (let no : None ≡ Some entry = sym unsent ∙ at in cc)

@@ -1,15 +1,17 @@
 -- What handles name in a domain, and what of it a call leaves.
-use Rattle.std.specs.Prelude.{ℕ, Bool, [], ◌∷◌, ◌≡◌, ◌≢◌, ◌⊎◌, true, false, IsTrue}
+use Rattle.std.specs.Prelude.{ℕ, Bool, [], ◌∷◌, ◌≡◌, ◌≢◌, ◌⊎◌, true, false, IsTrue, List, length, ◌≤◌, ◌+◌}
 use Rattle.std.specs.declared.option.Option.{Option}
+use Rattle.std.specs.List.{AllByRecursion}
 use Rattle.std.specs.declared.option.Option.TheVariants.{Some}
 use Rattle.iox2_store.specs.machine.Mailbox.{is_borrowed}
-use Rattle.iox2_store.specs.machine.Records.{Entry, Loan}
+use Rattle.iox2_store.specs.machine.Records.{Entry, Loan, Subscriber as MachineSubscriber}
 use Rattle.iox2_store.specs.machine.SingleCalls.{HoldsPublisher, HoldsSubscriber, HoldsLoan, HoldsSample}
 use Rattle.iox2_store.specs.declared.header.Header.{Header}
 use Rattle.iox2_store.specs.declared.key.Key.{Key}
 use Rattle.iox2_store.specs.declared.service_config.TypeVariant.TheVariants.{FixedSize}
 use Rattle.iox2_domain.specs.Kept.{Kept, state_of, entries_of}
 use Rattle.iox2_domain.specs.LoanCalls.{HasCell, HasLoanHeader}
+use Rattle.iox2_pubsub.specs.Payloads.{payloads_for}
 use Rattle.iox2_pubsub.specs.declared.publisher.Publisher.{Publisher}
 use Rattle.iox2_pubsub.specs.declared.subscriber.Subscriber.{Subscriber}
 use Rattle.iox2_pubsub.specs.declared.sample_mut_uninit.SampleMutUninit.{SampleMutUninit}
@@ -130,6 +132,41 @@ module _ {T U : Type 0} (domain : Kept T U) where
     -- The sample with this key has this user header.
     unfoldable pub SampleHasUserHeader : U → Type 0
     SampleHasUserHeader header = (entry : Entry T U) × (entries_of domain key.message ≡ Some entry) × (entry.user_header ≡ header)
+
+  -- ---- what waits
+
+  -- The payloads of the messages that wait for the subscriber, each the list of its values: by publisher, and of each the
+  -- oldest first. They wait in the connections that it has, and where it is due for an update, in those too that this makes.
+  unfoldable pub payloads : Subscriber → List (List T)
+  payloads subscriber = payloads_for (state_of domain) (entries_of domain) subscriber.id
+
+  -- How many messages wait for the subscriber.
+  abbrev pub waiting : Subscriber → ℕ
+  waiting subscriber = length (payloads subscriber)
+
+  -- The subscriber is live, and no publisher came or was closed since its last update.
+  unfoldable pub IsUpToDate : Subscriber → Type 0
+  IsUpToDate subscriber = (y : MachineSubscriber) × ((state_of domain).subscribers subscriber.id ≡ Some y) × (y.is_open ≡ true) × (y.is_due ≡ false)
+
+-- Each subscriber that was up to date is.
+abbrev pub UpToDateStay : {T U : Type 0} → (old new : Kept T U) → Type 0
+UpToDateStay old new = (subscriber : Subscriber) → IsUpToDate old subscriber → IsUpToDate new subscriber
+
+-- Each other subscriber that was up to date is.
+abbrev pub OthersStayUpToDate : {T U : Type 0} → Subscriber → (old new : Kept T U) → Type 0
+OthersStayUpToDate subscriber old new = (other : Subscriber) → other.id ≢ subscriber.id → IsUpToDate old other → IsUpToDate new other
+
+-- For every other subscriber the same messages wait as before.
+abbrev pub OthersWait : {T U : Type 0} → Subscriber → (old new : Kept T U) → Type 0
+OthersWait subscriber old new = (other : Subscriber) → other.id ≢ subscriber.id → payloads new other ≡ payloads old other
+
+-- For no subscriber more than so many messages are added to what waits.
+abbrev pub AddAtMost : {T U : Type 0} → (more : ℕ) → (old new : Kept T U) → Type 0
+AddAtMost more old new = (subscriber : Subscriber) → waiting new subscriber ≤ waiting old subscriber + more
+
+-- Each of the payloads is this one value.
+unfoldable pub AreAll : {T : Type 0} → List (List T) → T → Type 0
+AreAll payloads value = AllByRecursion (λ payload. payload ≡ value ∷ []) payloads
 
 -- ---- what a call spends, and what stays
 

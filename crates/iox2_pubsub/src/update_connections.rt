@@ -1,5 +1,5 @@
 //! Updates of a port's connections, by call.
-ghost use Rattle.std.specs.Prelude.{◌≡◌};
+ghost use Rattle.std.specs.Prelude.{◌≡◌, ℕ};
 
 use crate::domain::Domain;
 use iox2_store::{BackpressureFn, ConnectionFailure, DegradationFn};
@@ -14,7 +14,7 @@ pub trait UpdateConnections<T: Drop, U: Default + Drop> {
     ghost use Rattle.iox2_store.specs.declared.errors.ConnectionFailure.{ConnectionFailure};
     ghost use Rattle.iox2_domain.specs.Kept.{Kept};
     ghost use Rattle.iox2_domain.specs.Shows.{Shows};
-    ghost use Rattle.iox2_pubsub.specs.Live.{Stays};
+    ghost use Rattle.iox2_pubsub.specs.Live.{AddAtMost, Stays, UpToDateStay};
     ghost use Rattle.iox2_pubsub.specs.UpdateCalls.{failure_of};
 
     // The port is one of the domain's, and wasn't closed.
@@ -22,6 +22,9 @@ pub trait UpdateConnections<T: Drop, U: Default + Drop> {
 
     // The machine's update of the port, with this failure if any.
     ghost updates: { State T U → Self → State T U → Option ConnectionFailure → Type 0 };
+
+    // How many messages more may wait for a subscriber afterwards.
+    ghost adds: { Kept T U → ℕ };
 
     /// Makes the port's connections with the ports of the other side that came since its last
     /// update. Where none came it does nothing.
@@ -37,6 +40,8 @@ pub trait UpdateConnections<T: Drop, U: Default + Drop> {
         ensures live { is_live domain.new self.now }
         ensures updates { (m : Messages T U) (s : State T U) → Shows domain.old m s
             → (s' : State T U) × Shows domain.new m s' × updates s self.now s' (failure_of result) }
+        ensures adds { AddAtMost (adds domain.old) domain.old domain.new }
+        ensures up_to_date { UpToDateStay domain.old domain.new }
         ensures stays { Stays domain.old domain.new };
 
     // A port that is live stays so where everything does.

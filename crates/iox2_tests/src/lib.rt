@@ -4,6 +4,8 @@
 #![tactic(auto)]
 
 #[cfg(test)]
+mod closes;
+#[cfg(test)]
 mod commands;
 #[cfg(test)]
 mod deliveries;
@@ -31,6 +33,8 @@ mod runs;
 mod samples;
 #[cfg(test)]
 mod sends;
+#[cfg(test)]
+mod stays;
 #[cfg(test)]
 mod subscribers;
 #[cfg(test)]

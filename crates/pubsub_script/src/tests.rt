@@ -1,6 +1,7 @@
 mod arrivals;
 mod buffers;
 mod calls;
+mod closes;
 mod histories;
 mod neighbours;
 mod plan;
@@ -278,7 +279,7 @@ fn a_malformed_line_is_named(rt: HostRuntime) -> Result<(), Fail> {
         b"copy 1 1".as_slice(),
         b"retry 1".as_slice(),
         b"giveup 1".as_slice(),
-        b"close 1".as_slice(),
+        b"shut 1".as_slice(),
     ] {
         let mut text = Vec::new(rt.alloc());
         text.extend_from_slice(b"domain 1 1 1 1 0 0 keep\nsub 1\r\n")?;

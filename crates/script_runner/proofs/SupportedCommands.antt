@@ -21,6 +21,7 @@ IsSupported-named words (command.Receive a) names = tt
 IsSupported-named words (command.HasSamples a) names = tt
 IsSupported-named words (command.Read a b) names = tt
 IsSupported-named words (command.Release a) names = tt
+IsSupported-named words (command.Close a) names = tt
 IsSupported-named words command.Nothing names = absurd names
 IsSupported-named words (command.Loan a) names = absurd names
 IsSupported-named words (command.LoanSlice a b) names = absurd names
@@ -33,7 +34,6 @@ IsSupported-named words (command.Retry a b) names = absurd names
 IsSupported-named words (command.GiveUp a) names = absurd names
 IsSupported-named words (command.ReadHeader a) names = absurd names
 IsSupported-named words (command.ReadUserHeader a) names = absurd names
-IsSupported-named words (command.Close a) names = absurd names
 
 -- What lines name, `run` carries out.
 pub All-supported : (others : List (List ℕ)) (commands : List (Command ℕ ℕ)) → NamesCommands others commands → All IsSupportedCommand commands

@@ -63,6 +63,7 @@ words-long words long (command.Receive a) names = omega (arith, long, names.0.0)
 words-long words long (command.HasSamples a) names = omega (arith, long, names.0.0)
 words-long words long (command.Read a b) names = omega (arith, long, names.0.0)
 words-long words long (command.Release a) names = omega (arith, long, names.0.0)
+words-long words long (command.Close a) names = omega (arith, long, names.0.0)
 words-long words long command.Nothing names = names
 words-long words long (command.Loan a) names = names
 words-long words long (command.LoanSlice a b) names = names
@@ -75,7 +76,6 @@ words-long words long (command.Retry a b) names = names
 words-long words long (command.GiveUp a) names = names
 words-long words long (command.ReadHeader a) names = names
 words-long words long (command.ReadUserHeader a) names = names
-words-long words long (command.Close a) names = names
 
 -- A line with more than 8 words names no command.
 pub command-long : (line : List ℕ) → 8 < length (line_words line) → (c : Command ℕ ℕ) → ¬ NamesCommand line c

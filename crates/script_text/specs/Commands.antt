@@ -69,7 +69,7 @@ IsCommandLine words (command.CreatePublisher loans strategy allocation initial_m
 -- `sub B`: a subscriber with this buffer.
 IsCommandLine words (command.CreateSubscriber buffer degradation) =
     HasForm words (codes "sub") 2 × IsNumber (words.word 1) × (buffer ≡ Some (value_of (words.word 1))) × (degradation ≡ Warn)
--- `loan N`, `write N V`, `send N`, `discard N`, `update N`, `recv N`, `has N`, `read N`, `release N`: calls of a port or of
+-- `loan N`, `write N V`, `send N`, `discard N`, `update N`, `recv N`, `has N`, `read N`, `release N`, `close N`: calls of a port or of
 -- a single value.
 IsCommandLine words (command.LoanUninit of) = HasForm words (codes "loan") 2 × IsNameAt words 1 of
 IsCommandLine words (command.WriteAll of value) = HasForm words (codes "write") 3 × IsNameAt words 1 of × IsNumberAt words 2 value
@@ -80,6 +80,7 @@ IsCommandLine words (command.Receive of) = HasForm words (codes "recv") 2 × IsN
 IsCommandLine words (command.HasSamples of) = HasForm words (codes "has") 2 × IsNameAt words 1 of
 IsCommandLine words (command.Read of at) = HasForm words (codes "read") 2 × IsNameAt words 1 of × (at ≡ 0)
 IsCommandLine words (command.Release of) = HasForm words (codes "release") 2 × IsNameAt words 1 of
+IsCommandLine words (command.Close of) = HasForm words (codes "close") 2 × IsNameAt words 1 of
 IsCommandLine words _ = ⊥
 
 -- A line is UTF-8, and its words name these settings.

@@ -154,6 +154,7 @@ fn parse_command(words: &[&str]) -> Option<Command<u64, u64>>
                 "has" => Command::HasSamples { of },
                 "read" => Command::Read { of, at: 0 },
                 "release" => Command::Release { of },
+                "close" => Command::Close { of },
                 _ => return None,
             }
         }

@@ -1,12 +1,14 @@
 //! Readings go from the thermometer to the display.
-ghost use Rattle.iox2_pubsub.specs.Live.{AreApart, Both, IsLivePublisher, IsLiveSubscriber, IsSingleValued, IsUnwrittenLoan, Stays, StaysBut, unwritten_loan};
+ghost use Rattle.iox2_pubsub.specs.Live.{AreApart, Both, IsLivePublisher, IsLiveSubscriber, IsSingleValued, IsUnwrittenLoan, Stays, StaysBut, unwritten_loan, AreAll, payloads, waiting};
+ghost use Rattle.std.specs.Prelude.{◌≡◌, ℕ, IfOk, IfSome, OnOk};
+ghost use Rattle.iox2_pubsub.specs.declared.subscriber.Subscriber.{Subscriber as SubscriberHandle};
 
 use crate::failure::Failure;
 use crate::reading::Reading;
 use iox2_pubsub::{Domain, Publisher, SampleMutUninit, SendOutcome, Subscriber, UpdateConnections};
 
 /// Connects the two ports, and reports a day's temperatures: some one by one, and the last two
-/// together.
+/// together. No reading waits afterwards.
 pub fn report_day(
     rt: &HostRuntime,
     domain: &mut Domain<Reading, ()>,
@@ -16,7 +18,8 @@ pub fn report_day(
     requires single_valued { IsSingleValued domain.old }
     requires publisher { IsLivePublisher domain.old publisher.now }
     requires subscriber { IsLiveSubscriber domain.old subscriber.now }
-    ensures { Stays domain.old domain.new }
+    ensures stays { Stays domain.old domain.new }
+    ensures drained { OnOk result (waiting domain.new subscriber.now ≡ 0) }
 {
     publisher.update_connections(domain)?;
     subscriber.update_connections(domain)?;
@@ -45,18 +48,20 @@ fn report_all(
     report_all(rt, domain, publisher, subscriber, later)
 }
 
-// Sends one reading, and shows it.
+// Sends one reading, and shows the next that waits: the same one, where none waited and no history
+// is kept. Returns what it showed.
 fn report(
     rt: &HostRuntime,
     domain: &mut Domain<Reading, ()>,
     publisher: &Publisher,
     subscriber: &Subscriber,
     celsius: u32,
-) -> Result<(), Failure>
+) -> Result<Option<u32>, Failure>
     requires single_valued { IsSingleValued domain.old }
     requires publisher { IsLivePublisher domain.old publisher.now }
     requires subscriber { IsLiveSubscriber domain.old subscriber.now }
-    ensures { Stays domain.old domain.new }
+    ensures same { (domain.old.config).history_size ≡ 0 → waiting domain.old subscriber.now ≡ 0 → IfOk result (λ shown. IfSome shown (λ it. it ≡ celsius)) }
+    ensures stays { Stays domain.old domain.new }
 {
     let loan = publisher.loan_uninit(domain)?;
     send(domain, loan, celsius)?;
@@ -87,7 +92,8 @@ fn report_pair(
     };
     send_pair(domain, first, second, celsius, later)?;
     show(rt, domain, subscriber)?;
-    show(rt, domain, subscriber)
+    show(rt, domain, subscriber)?;
+    Ok(())
 }
 
 // Sends two loans, the later one first.
@@ -109,17 +115,30 @@ fn send_pair(
     outcome
 }
 
-// Says so where readings wait that weren't shown.
+// Says so where readings wait that weren't shown, and gives them back.
 fn report_rest(
     rt: &HostRuntime,
     domain: &mut Domain<Reading, ()>,
     subscriber: &Subscriber,
 ) -> Result<(), Failure>
     requires { IsLiveSubscriber domain.old subscriber.now }
-    ensures { Stays domain.old domain.new }
+    ensures stays { Stays domain.old domain.new }
+    ensures drained { OnOk result (waiting domain.new subscriber.now ≡ 0) }
 {
     if subscriber.has_samples(domain)? {
         println!(rt; "more readings wait")?;
+    }
+    drain(domain, subscriber)
+}
+
+// Receives each reading that waits, and gives it back unread.
+fn drain(domain: &mut Domain<Reading, ()>, subscriber: &Subscriber) -> Result<(), Failure>
+    requires { IsLiveSubscriber domain.old subscriber.now }
+    ensures stays { Stays domain.old domain.new }
+    ensures drained { OnOk result (waiting domain.new subscriber.now ≡ 0) }
+{
+    while let Some(sample) = subscriber.receive(domain)? {
+        sample.release(domain);
     }
     Ok(())
 }
@@ -132,30 +151,33 @@ fn send(
 ) -> Result<(), Failure>
     requires single_valued { IsSingleValued domain.old }
     requires loan { IsUnwrittenLoan domain.old loan }
-    ensures { StaysBut (unwritten_loan loan) domain.old domain.new }
+    ensures brings { (subscriber : SubscriberHandle) → (domain.old.config).history_size ≡ 0 → waiting domain.old subscriber ≡ 0
+        → AreAll (payloads domain.new subscriber) (record { celsius = celsius }) }
+    ensures stays { StaysBut (unwritten_loan loan) domain.old domain.new }
 {
     let message = loan.write_payload(domain, Reading { celsius });
     let SendOutcome::Delivered(_) = message.send(domain)?;
     Ok(())
 }
 
-// Receives a reading, prints it and gives it back.
+// Receives a reading, prints it and gives it back. Returns what it printed.
 fn show(
     rt: &HostRuntime,
     domain: &mut Domain<Reading, ()>,
     subscriber: &Subscriber,
-) -> Result<(), Failure>
+) -> Result<Option<u32>, Failure>
     requires single_valued { IsSingleValued domain.old }
     requires subscriber { IsLiveSubscriber domain.old subscriber.now }
-    ensures { Stays domain.old domain.new }
+    ensures waited { (celsius : ℕ) → AreAll (payloads domain.old subscriber.now) (record { celsius = celsius }) → IfOk result (λ shown. IfSome shown (λ it. it ≡ celsius)) }
+    ensures stays { Stays domain.old domain.new }
 {
     let Some(sample) = subscriber.receive(domain)? else {
         println!(rt; "no reading")?;
-        return Ok(());
+        return Ok(None);
     };
-    let Reading { celsius } = sample.payload(domain);
+    let celsius = sample.payload(domain).celsius;
     let printed = println!(rt; "{celsius} °C");
     sample.release(domain);
     printed?;
-    Ok(())
+    Ok(Some(celsius))
 }

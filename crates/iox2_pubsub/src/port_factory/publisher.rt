@@ -1,10 +1,11 @@
 //! The factory of publishers.
-ghost use Rattle.std.specs.Prelude.{◌≡◌, ℕ, None, Some, IfOk, MatchResult};
+ghost use Rattle.std.specs.Prelude.{◌≡◌, ◌≤◌, ℕ, None, Some, IfOk, OnErr, MatchResult};
 ghost use Rattle.iox2_store.specs.machine.Environments.{fixed_handlers};
 ghost use Rattle.iox2_store.specs.machine.Ports.{CreatePublisher};
 ghost use Rattle.iox2_store.specs.machine.State.{State, Messages};
-ghost use Rattle.iox2_pubsub.specs.Live.{IsLivePublisher, IsNewIn, Stays, publisher_port};
+ghost use Rattle.iox2_pubsub.specs.Live.{IsLivePublisher, IsNewIn, Stays, publisher_port, payloads, waiting};
 ghost use Rattle.iox2_domain.specs.NewPublisher.{plain_publisher};
+ghost use Rattle.iox2_pubsub.specs.declared.subscriber.Subscriber.{Subscriber};
 ghost use Rattle.iox2_domain.specs.Shows.{Shows};
 
 use crate::domain::Domain;
@@ -81,6 +82,8 @@ impl PortFactoryPublisher {
             (λ e. CreatePublisher fixed_handlers s self s' (Some e)) }
         ensures live { IfOk result (λ publisher. IsLivePublisher domain.new publisher) }
         ensures new { IfOk result (λ publisher. IsNewIn domain.old (publisher_port publisher)) }
+        ensures refused { OnErr result (payloads domain.new ≡ payloads domain.old) }
+        ensures no_fewer { (subscriber : Subscriber) → waiting domain.old subscriber ≤ waiting domain.new subscriber }
         ensures stays { Stays domain.old domain.new }
     {
         let service_id = domain.state.config().service_id;

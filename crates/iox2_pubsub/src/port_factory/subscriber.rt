@@ -3,7 +3,7 @@ ghost use Rattle.std.specs.Prelude.{◌≡◌, None, Some, IfOk, MatchResult};
 ghost use Rattle.iox2_store.specs.machine.Environments.{fixed_handlers};
 ghost use Rattle.iox2_store.specs.machine.Ports.{default_subscriber_settings, buffer_for, CreateSubscriber};
 ghost use Rattle.iox2_store.specs.machine.State.{State, Messages};
-ghost use Rattle.iox2_pubsub.specs.Live.{IsLiveSubscriber, IsNewIn, Stays, subscriber_port};
+ghost use Rattle.iox2_pubsub.specs.Live.{IsLiveSubscriber, IsNewIn, Stays, subscriber_port, UpToDateStay, payloads, waiting};
 ghost use Rattle.iox2_domain.specs.Shows.{Shows};
 
 use crate::domain::Domain;
@@ -61,6 +61,9 @@ impl PortFactorySubscriber {
             (λ error. CreateSubscriber fixed_handlers s self s' (Some error)) }
         ensures live { IfOk result (λ subscriber. IsLiveSubscriber domain.new subscriber) }
         ensures new { IfOk result (λ subscriber. IsNewIn domain.old (subscriber_port subscriber)) }
+        ensures none { IfOk result (λ subscriber. waiting domain.new subscriber ≡ 0) }
+        ensures waits { payloads domain.new ≡ payloads domain.old }
+        ensures up_to_date { UpToDateStay domain.old domain.new }
         ensures stays { Stays domain.old domain.new }
     {
         let service_id = domain.state.config().service_id;

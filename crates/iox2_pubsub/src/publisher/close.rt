@@ -1,5 +1,5 @@
 //! A publisher is closed.
-ghost use Rattle.std.specs.Prelude.{◌≡◌};
+ghost use Rattle.std.specs.Prelude.{◌≡◌, ◌≤◌};
 
 use crate::domain::Domain;
 use crate::publisher::Publisher;
@@ -11,13 +11,14 @@ impl Publisher {
     ghost use Rattle.iox2_store.specs.machine.Ports.{publisher_closed};
     ghost use Rattle.iox2_store.specs.machine.Records.{Publisher as Record};
     ghost use Rattle.iox2_store.specs.machine.State.{State, Messages};
-    ghost use Rattle.iox2_pubsub.specs.Live.{IsLivePublisher, StaysBut, publisher_key, publisher_port};
+    ghost use Rattle.iox2_pubsub.specs.Live.{IsLivePublisher, IsUpToDate, StaysBut, publisher_key, publisher_port, waiting};
+    ghost use Rattle.iox2_pubsub.specs.declared.subscriber.Subscriber.{Subscriber};
     ghost use Rattle.iox2_domain.specs.Shows.{Shows};
 
-    /// Closes the publisher: it is gone, and its place is free for another. What it has sent and
-    /// waits for an open subscriber, or is borrowed, can be received, read and released as before.
-    /// Its loans stay out: they can be written, read and given back, and sending one fails. Takes no
-    /// memory.
+    /// Closes the publisher: it is gone, and its place is free for another. What it has sent can be
+    /// received as before by each open subscriber that has updated its connections since the
+    /// publisher came; what waits for another is lost. Samples stay. So do its loans: they can be
+    /// written, read and given back, and sending one fails. Takes no memory.
     ///
     /// iceoryx2's `Publisher`, when it is dropped (`src/port/publisher.rs`).
     pub fn close<T: Drop, U: Default + Drop, F: BackpressureFn, G: DegradationFn>(
@@ -28,6 +29,7 @@ impl Publisher {
         ensures closed { (m : Messages T U) (s : State T U) (x : Record) → Shows domain.old m s → s.publishers (publisher_key self).port ≡ Some x
             → Shows domain.new m (publisher_closed s (publisher_key self).port x) }
         ensures spent { IsLivePublisher domain.new self → ⊥ }
+        ensures no_fewer { (subscriber : Subscriber) → IsUpToDate domain.old subscriber → waiting domain.old subscriber ≤ waiting domain.new subscriber }
         ensures stays { StaysBut (publisher_port self) domain.old domain.new }
     {
         let Publisher {

@@ -9,7 +9,7 @@ use iox2_store::{BackpressureFn, DegradationFn, Key, LoanError, UniquePublisherI
 
 impl Publisher {
     ghost use Rattle.iox2_store.specs.machine.State.{State, Messages};
-    ghost use Rattle.iox2_pubsub.specs.Live.{HasLender, IsLivePublisher, IsSingleValued, IsUnwrittenLoan, IsNewIn, Stays, lender_key, publisher_key, unwritten_key, unwritten_loan};
+    ghost use Rattle.iox2_pubsub.specs.Live.{HasLender, IsLivePublisher, IsSingleValued, IsUnwrittenLoan, IsNewIn, Stays, lender_key, publisher_key, unwritten_key, unwritten_loan, UpToDateStay, payloads};
     ghost use Rattle.iox2_domain.specs.Lending.{LoanCall};
     ghost use Rattle.iox2_domain.specs.Shows.{Shows};
 
@@ -38,6 +38,8 @@ impl Publisher {
         ensures publisher { IfOk result (λ loan. loan.loan.publisher ≡ self.now.id) }
         ensures lent { IfOk result (λ loan. HasLender domain.new (unwritten_key loan)) }
         ensures lender { IfOk result (λ loan. lender_key (unwritten_key loan) ≡ publisher_key self.now) }
+        ensures waits { payloads domain.new ≡ payloads domain.old }
+        ensures up_to_date { UpToDateStay domain.old domain.new }
         ensures stays { Stays domain.old domain.new }
     {
         let place = domain.state.find_live_publisher(self.id, self.place);

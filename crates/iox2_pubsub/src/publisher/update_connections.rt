@@ -20,6 +20,8 @@ impl<T: Drop, U: Default + Drop> UpdateConnections<T, U> for Publisher {
 
     ghost updates = { λ s publisher s' failure. UpdatePublisher fixed_handlers s publisher.id s' failure };
 
+    ghost adds = { λ domain. (domain.config).history_size };
+
     fn update_connections<F: BackpressureFn, G: DegradationFn>(
         &self,
         domain: &mut Domain<T, U, F, G>,

@@ -11,7 +11,7 @@ impl Sample {
     ghost use Rattle.iox2_store.specs.machine.Mailbox.{is_borrowed};
     ghost use Rattle.iox2_store.specs.machine.Releases.{released};
     ghost use Rattle.iox2_store.specs.machine.State.{State, Messages};
-    ghost use Rattle.iox2_pubsub.specs.Live.{IsLiveSample, StaysBut, received_sample};
+    ghost use Rattle.iox2_pubsub.specs.Live.{IsLiveSample, StaysBut, UpToDateStay, received_sample, payloads};
     ghost use Rattle.iox2_domain.specs.Shows.{Shows};
 
     /// Gives the message back to its publisher, which may use its slot again once nobody else has
@@ -27,6 +27,8 @@ impl Sample {
             → (publisher : ℕ) → IsTrue (is_borrowed self.sample.number (s.mailboxes publisher self.sample.subscriber))
             → (s' : State T U) × Shows domain.new m s' × (s' ≡ released s publisher self.sample.subscriber self.sample.number) }
         ensures spent { IsLiveSample domain.new self → ⊥ }
+        ensures waits { payloads domain.new ≡ payloads domain.old }
+        ensures up_to_date { UpToDateStay domain.old domain.new }
         ensures stays { StaysBut (received_sample self) domain.old domain.new }
     {
         let Sample {

@@ -1,5 +1,5 @@
 //! A message is sent.
-ghost use Rattle.std.specs.Prelude.{◌≡◌, IfErr, IsOk};
+ghost use Rattle.std.specs.Prelude.{◌≡◌, IfErr, IsOk, ◌+◌};
 ghost use Rattle.iox2_domain.specs.SentLoans.{send_result};
 ghost use Rattle.iox2_pubsub.specs.SendCalls.{result_of_send};
 
@@ -13,8 +13,9 @@ impl SampleMut {
     ghost use Rattle.std.specs.Prelude.{Some};
     ghost use Rattle.iox2_store.specs.machine.Records.{Loan};
     ghost use Rattle.iox2_store.specs.machine.State.{State, Messages};
-    ghost use Rattle.iox2_pubsub.specs.Live.{HasLender, IsLoanKey, IsWrittenLoan, StaysBut, written_key, written_loan};
+    ghost use Rattle.iox2_pubsub.specs.Live.{HasLender, IsLoanKey, IsWrittenLoan, StaysBut, written_key, written_loan, AddAtMost, AreAll, LoanReads, UpToDateStay, payloads, waiting};
     ghost use Rattle.iox2_pubsub.specs.SendCalls.{Sends, messages_after};
+    ghost use Rattle.iox2_pubsub.specs.declared.subscriber.Subscriber.{Subscriber};
     ghost use Rattle.iox2_domain.specs.Shows.{Shows};
 
     /// Sends the message to every subscriber that is open. One whose buffer is full doesn't get it.
@@ -37,6 +38,10 @@ impl SampleMut {
         ensures sent { (m : Messages T U) (s : State T U) (l : Loan T U) → Shows domain.old m s → s.loans self.loan.number ≡ Some l
             → (s' : State T U) × Shows domain.new (messages_after m self.loan.number l result) s' × Sends s self.loan.number l result s' }
         ensures spent { IsLoanKey domain.new (written_key self) → ⊥ }
+        ensures adds { AddAtMost ((domain.old.config).history_size + 1) domain.old domain.new }
+        ensures brings { (subscriber : Subscriber) (value : T) → (domain.old.config).history_size ≡ 0 → waiting domain.old subscriber ≡ 0
+            → LoanReads domain.old self value → AreAll (payloads domain.new subscriber) value }
+        ensures up_to_date { UpToDateStay domain.old domain.new }
         ensures stays { StaysBut (written_loan self) domain.old domain.new }
     {
         let SampleMut {

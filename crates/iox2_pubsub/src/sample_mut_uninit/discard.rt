@@ -11,7 +11,7 @@ impl SampleMutUninit {
     ghost use Rattle.iox2_store.specs.machine.Loans.{loan_discarded};
     ghost use Rattle.iox2_store.specs.machine.Records.{Loan};
     ghost use Rattle.iox2_store.specs.machine.State.{State, Messages};
-    ghost use Rattle.iox2_pubsub.specs.Live.{IsLoanKey, StaysBut, unwritten_key, unwritten_loan};
+    ghost use Rattle.iox2_pubsub.specs.Live.{IsLoanKey, StaysBut, UpToDateStay, unwritten_key, unwritten_loan, payloads};
     ghost use Rattle.iox2_domain.specs.Shows.{Shows};
 
     /// Gives the loan back without a payload. It counts among the publisher's loans no more, its
@@ -26,6 +26,8 @@ impl SampleMutUninit {
         ensures discarded { (m : Messages T U) (s : State T U) (l : Loan T U) → Shows domain.old m s → s.loans self.loan.number ≡ Some l
             → Shows domain.new m (loan_discarded s self.loan.number l) }
         ensures spent { IsLoanKey domain.new (unwritten_key self) → ⊥ }
+        ensures waits { payloads domain.new ≡ payloads domain.old }
+        ensures up_to_date { UpToDateStay domain.old domain.new }
         ensures stays { StaysBut (unwritten_loan self) domain.old domain.new }
     {
         let SampleMutUninit {

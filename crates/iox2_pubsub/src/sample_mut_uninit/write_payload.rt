@@ -13,7 +13,7 @@ impl SampleMutUninit {
     ghost use Rattle.iox2_store.specs.machine.Records.{Loan};
     ghost use Rattle.iox2_store.specs.machine.State.{State, Messages, with_loan};
     ghost use Rattle.iox2_store.specs.machine.Loans.{written};
-    ghost use Rattle.iox2_pubsub.specs.Live.{HasLender, IsSingleValued, IsUnwrittenLoan, IsWrittenLoan, LoanHasHeader, LoanHasUserHeader, LoanReads, StaysBut, unwritten_key, unwritten_loan, written_key};
+    ghost use Rattle.iox2_pubsub.specs.Live.{HasLender, IsSingleValued, IsUnwrittenLoan, IsWrittenLoan, LoanHasHeader, LoanHasUserHeader, LoanReads, StaysBut, unwritten_key, unwritten_loan, written_key, UpToDateStay, payloads};
     ghost use Rattle.iox2_domain.specs.Shows.{Shows};
 
     /// Writes the payload, in a domain of single values, and makes the loan one that may be sent.
@@ -33,6 +33,8 @@ impl SampleMutUninit {
         ensures header { (header : Header) → LoanHasHeader domain.old (unwritten_key self) header → LoanHasHeader domain.new (written_key result) header }
         ensures user_header { (header : U) → LoanHasUserHeader domain.old (unwritten_key self) header → LoanHasUserHeader domain.new (written_key result) header }
         ensures key { written_key result ≡ unwritten_key self }
+        ensures waits { payloads domain.new ≡ payloads domain.old }
+        ensures up_to_date { UpToDateStay domain.old domain.new }
         ensures stays { StaysBut (unwritten_loan self) domain.old domain.new }
     {
         let SampleMutUninit { service_id, loan } = self;

@@ -11,7 +11,7 @@ impl Subscriber {
     ghost use Rattle.iox2_store.specs.machine.Ports.{subscriber_closed};
     ghost use Rattle.iox2_store.specs.machine.Records.{Subscriber as Record};
     ghost use Rattle.iox2_store.specs.machine.State.{State, Messages};
-    ghost use Rattle.iox2_pubsub.specs.Live.{IsLiveSubscriber, StaysBut, subscriber_key, subscriber_port};
+    ghost use Rattle.iox2_pubsub.specs.Live.{IsLiveSubscriber, OthersStayUpToDate, OthersWait, StaysBut, subscriber_key, subscriber_port, waiting};
     ghost use Rattle.iox2_domain.specs.Shows.{Shows};
 
     /// Closes the subscriber: it takes no messages any more, and what waits for it is lost. Its
@@ -27,6 +27,9 @@ impl Subscriber {
         ensures closed { (m : Messages T U) (s : State T U) (y : Record) → Shows domain.old m s → s.subscribers (subscriber_key self).port ≡ Some y
             → Shows domain.new m (subscriber_closed s (subscriber_key self).port y) }
         ensures spent { IsLiveSubscriber domain.new self → ⊥ }
+        ensures none { waiting domain.new self ≡ 0 }
+        ensures others { OthersWait self domain.old domain.new }
+        ensures up_to_date { OthersStayUpToDate self domain.old domain.new }
         ensures stays { StaysBut (subscriber_port self) domain.old domain.new }
     {
         let Subscriber {

@@ -1,5 +1,5 @@
 //! A subscriber is asked whether messages wait.
-ghost use Rattle.std.specs.Prelude.{◌≡◌};
+ghost use Rattle.std.specs.Prelude.{◌≡◌, ◌<◌, ◌≤◌, ◌↔◌, IfOk, IsTrue, OnOk};
 
 use crate::domain::Domain;
 use crate::subscriber::Subscriber;
@@ -8,7 +8,7 @@ use iox2_store::{BackpressureFn, ConnectionFailure, DegradationFn};
 
 impl Subscriber {
     ghost use Rattle.iox2_store.specs.machine.State.{State, Messages};
-    ghost use Rattle.iox2_pubsub.specs.Live.{IsLiveSubscriber, Stays};
+    ghost use Rattle.iox2_pubsub.specs.Live.{IsLiveSubscriber, IsUpToDate, OthersWait, Stays, UpToDateStay, waiting};
     ghost use Rattle.iox2_pubsub.specs.QuestionCalls.{Answers};
     ghost use Rattle.iox2_domain.specs.Shows.{Shows};
 
@@ -26,6 +26,11 @@ impl Subscriber {
         requires { IsLiveSubscriber domain.old self.now }
         ensures answers { (m : Messages T U) (s : State T U) → Shows domain.old m s
             → (s' : State T U) × Shows domain.new m s' × Answers s self.now.id result s' }
+        ensures waits { IfOk result (λ waits. IsTrue waits ↔ (0 < waiting domain.new self.now)) }
+        ensures no_more { waiting domain.new self.now ≤ waiting domain.old self.now }
+        ensures others { OthersWait self.now domain.old domain.new }
+        ensures updated { OnOk result (IsUpToDate domain.new self.now) }
+        ensures up_to_date { UpToDateStay domain.old domain.new }
         ensures stays { Stays domain.old domain.new }
     {
         let Some(place) = domain.state.find_subscriber(self.id, self.place) else {

@@ -1,5 +1,5 @@
 //! A subscriber receives.
-ghost use Rattle.std.specs.Prelude.{◌≡◌, IfOk, IfSome};
+ghost use Rattle.std.specs.Prelude.{◌≡◌, ◌<◌, ◌≤◌, IfOk, suc, IfSome, IfNone, OnOk, OnSome};
 
 use crate::domain::Domain;
 use crate::sample::Sample;
@@ -12,7 +12,7 @@ impl Subscriber {
     ghost use Rattle.iox2_store.specs.machine.Environments.{fixed_handlers};
     ghost use Rattle.iox2_store.specs.machine.Receives.{Receive};
     ghost use Rattle.iox2_store.specs.machine.State.{State, Messages};
-    ghost use Rattle.iox2_pubsub.specs.Live.{IsFromOrigin, IsLiveSample, IsLiveSubscriber, IsNewIn, Stays, received_sample};
+    ghost use Rattle.iox2_pubsub.specs.Live.{AreAll, IsFromOrigin, IsLiveSample, IsLiveSubscriber, IsUpToDate, IsNewIn, OthersWait, SampleReads, Stays, UpToDateStay, payloads, received_sample, waiting};
     ghost use Rattle.iox2_pubsub.specs.ReceivedSamples.{received_result};
     ghost use Rattle.iox2_domain.specs.Shows.{Shows};
 
@@ -38,6 +38,14 @@ impl Subscriber {
         ensures new { IfOk result (λ sample. IfSome sample (λ it. IsNewIn domain.old (received_sample it))) }
         ensures origin { IfOk result (λ sample. IfSome sample (IsFromOrigin domain.new)) }
         ensures subscriber { IfOk result (λ sample. IfSome sample (λ it. it.sample.subscriber ≡ self.now.id)) }
+        ensures fewer { IfOk result (λ sample. OnSome sample (waiting domain.new self.now < waiting domain.old self.now)) }
+        ensures one_fewer { IsUpToDate domain.old self.now → IfOk result (λ sample. OnSome sample (suc (waiting domain.new self.now) ≡ waiting domain.old self.now)) }
+        ensures none { IfOk result (λ sample. IfNone sample (waiting domain.new self.now ≡ 0)) }
+        ensures reads { IfOk result (λ sample. IfSome sample (λ it. (value : T) → AreAll (payloads domain.old self.now) value → SampleReads domain.new it value)) }
+        ensures no_more { waiting domain.new self.now ≤ waiting domain.old self.now }
+        ensures others { OthersWait self.now domain.old domain.new }
+        ensures updated { OnOk result (IsUpToDate domain.new self.now) }
+        ensures up_to_date { UpToDateStay domain.old domain.new }
         ensures stays { Stays domain.old domain.new }
     {
         let place = domain.state.find_live_subscriber(self.id, self.place);

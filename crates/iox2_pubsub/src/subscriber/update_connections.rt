@@ -22,6 +22,8 @@ impl<T: Drop, U: Default + Drop> UpdateConnections<T, U> for Subscriber {
 
     ghost updates = { λ s subscriber s' failure. UpdateSubscriber fixed_handlers s subscriber.id s' failure };
 
+    ghost adds = { λ domain. 0 };
+
     fn update_connections<F: BackpressureFn, G: DegradationFn>(
         &self,
         domain: &mut Domain<T, U, F, G>,

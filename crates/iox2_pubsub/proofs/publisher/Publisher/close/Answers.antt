@@ -4,6 +4,7 @@ use Rattle.iox2_domain.specs.Fields.{kept_of}
 use Rattle.iox2_pubsub.specs.Live.{publisher_key}
 use Rattle.iox2_pubsub.proofs.CallsStay.{always-shown}
 use Rattle.iox2_pubsub.proofs.ClosesShown.{publisher-close-shows, publisher-close-stays, publisher-close-spends}
+use Rattle.iox2_pubsub.proofs.ClosesWait.{publisher-close-no-fewer}
 use Rattle.iox2_pubsub.proofs.LiveParts.{publisher-parts}
 use Rattle.iox2_pubsub.proofs.UninitLoans.{publisher-missing}
 use Rattle.iox2_pubsub.proofs.publisher.Publisher.close.Goals as goal
@@ -38,3 +39,11 @@ returns-clause-stays g c =
     let there = ap (λ (t : State g.row.T.Denot g.row.U.Denot). t.publishers c.args.self.id) (it.2).state ∙ has.1 in
     publisher-close-stays {T = g.row.T.Denot} {U = g.row.U.Denot} c.args.domain.now (kept_of c.close_publisher.new.state) it.0 it.1 it.2 c.args.self.id has.0
     (returns-clause-closed g c it.0 it.1 has.0 it.2 there)
+
+pub returns-clause-no_fewer : goal.returns-clause-no_fewer
+returns-clause-no_fewer g c =
+    let it = always-shown {T = g.row.T.Denot} {U = g.row.U.Denot} c.domain.inside.state c.args.domain.now c.domain.invariant c.domain.view_is in
+    let has = (publisher-parts c.args.domain.now _ c.requires).2 in
+    let there = ap (λ (t : State g.row.T.Denot g.row.U.Denot). t.publishers c.args.self.id) (it.2).state ∙ has.1 in
+    publisher-close-no-fewer {T = g.row.T.Denot} {U = g.row.U.Denot} c.args.domain.now (kept_of c.close_publisher.new.state) it.0 it.1 it.2 c.args.self.id has.0
+    (returns-clause-closed g c it.0 it.1 has.0 it.2 there) there

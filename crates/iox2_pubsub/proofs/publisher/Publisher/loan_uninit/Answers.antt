@@ -5,6 +5,8 @@ use Rattle.iox2_pubsub.specs.Live.{IsPublisherKey, lender_key, publisher_key}
 use Rattle.iox2_pubsub.proofs.UninitLoans.{err-shown, ok-shown, ok-live, ok-number, ok-publisher, publisher-missing}
 use Rattle.iox2_pubsub.proofs.CallsStay.{always-shown, loan-is-new, loan-stays}
 use Rattle.iox2_pubsub.proofs.LiveParts.{publisher-parts}
+use Rattle.iox2_pubsub.proofs.WaitingShown.{loan-waits}
+use Rattle.iox2_pubsub.proofs.UpToDateShown.{loan-leaves}
 use Rattle.iox2_pubsub.proofs.publisher.Publisher.loan_uninit.Goals as goal
 
 pub returns-in_err-loan-clause-lends : goal.returns-in_err-loan-clause-lends
@@ -61,3 +63,27 @@ returns-clause-lender g c = ap (λ (p : ℕ). lender_key (record { service_id = 
 pub returns-clause-lent : goal.returns-clause-lent
 returns-clause-lent g c =
     subst (IsPublisherKey (kept_of c.loan.new.state)) (sym (returns-clause-lender g c)) ((returns-clause-stays g c).publishers (publisher_key c.args.self.now) c.requires.live tt)
+
+pub returns-in_err-loan-clause-waits : goal.returns-in_err-loan-clause-waits
+returns-in_err-loan-clause-waits g c =
+    let it = always-shown {T = g.row.T.Denot} {U = g.row.U.Denot} c.domain.inside.state c.args.domain.now c.domain.invariant c.domain.view_is in
+    let step = returns-in_err-loan-clause-lends g c it.0 it.1 it.2 in
+    loan-waits {T = g.row.T.Denot} {U = g.row.U.Denot} c.args.domain.now _ it.0 it.0 it.1 step.0 it.2 step.1 (λ n entry at. at) g.U.Default.is_default c.args.self.now.id c.from_residual.result step.2
+
+pub returns-clause-waits : goal.returns-clause-waits
+returns-clause-waits g c =
+    let it = always-shown {T = g.row.T.Denot} {U = g.row.U.Denot} c.domain.inside.state c.args.domain.now c.domain.invariant c.domain.view_is in
+    let step = returns-clause-lends g c it.0 it.1 it.2 in
+    loan-waits {T = g.row.T.Denot} {U = g.row.U.Denot} c.args.domain.now _ it.0 it.0 it.1 step.0 it.2 step.1 (λ n entry at. at) g.U.Default.is_default c.args.self.now.id (Ok c.in_ok-loan.loan) step.2
+
+pub returns-in_err-loan-clause-up_to_date : goal.returns-in_err-loan-clause-up_to_date
+returns-in_err-loan-clause-up_to_date g c =
+    let it = always-shown {T = g.row.T.Denot} {U = g.row.U.Denot} c.domain.inside.state c.args.domain.now c.domain.invariant c.domain.view_is in
+    let step = returns-in_err-loan-clause-lends g c it.0 it.1 it.2 in
+    loan-leaves {T = g.row.T.Denot} {U = g.row.U.Denot} c.args.domain.now _ it.0 it.0 it.1 step.0 it.2 step.1 g.U.Default.is_default c.args.self.now.id c.from_residual.result step.2
+
+pub returns-clause-up_to_date : goal.returns-clause-up_to_date
+returns-clause-up_to_date g c =
+    let it = always-shown {T = g.row.T.Denot} {U = g.row.U.Denot} c.domain.inside.state c.args.domain.now c.domain.invariant c.domain.view_is in
+    let step = returns-clause-lends g c it.0 it.1 it.2 in
+    loan-leaves {T = g.row.T.Denot} {U = g.row.U.Denot} c.args.domain.now _ it.0 it.0 it.1 step.0 it.2 step.1 g.U.Default.is_default c.args.self.now.id (Ok c.in_ok-loan.loan) step.2

@@ -1,4 +1,4 @@
-use Rattle.std.proofs.Common.{ap, sym, subst, ◌∙◌}
+use Rattle.std.proofs.Common.{ap, sym, subst, ◌∙◌, refl}
 use Rattle.iox2_store.specs.machine.Environments.{fixed_handlers}
 use Rattle.iox2_store.specs.machine.Records.{Loan}
 use Rattle.iox2_store.specs.machine.Sends.{Send}
@@ -10,11 +10,13 @@ use Rattle.iox2_domain.specs.Kept.{Kept, state_of}
 use Rattle.iox2_domain.specs.LoanCalls.{HoldsWritten}
 use Rattle.iox2_domain.specs.SentLoans.{send_result}
 use Rattle.iox2_domain.specs.Shows.{Shows}
-use Rattle.iox2_pubsub.proofs.SendShown.{machine-sends, only-error, sent-shown}
+use Rattle.iox2_pubsub.proofs.SendShown.{machine-sends, only-error, sent-entry, sent-shown}
 use Rattle.iox2_pubsub.specs.Live.{lender_key, written_key}
 use Rattle.iox2_pubsub.specs.SendCalls.{result_of_send}
 use Rattle.iox2_pubsub.proofs.CallsStay.{always-shown, sent-stays, send-spends}
 use Rattle.iox2_pubsub.proofs.LiveParts.{publisher-parts, written-parts}
+use Rattle.iox2_pubsub.proofs.WaitingShown.{send-adds, send-brings}
+use Rattle.iox2_pubsub.proofs.UpToDateShown.{send-leaves}
 use Rattle.iox2_pubsub.proofs.sample_mut.SampleMut.send.Goals as goal
 
 pub send_loan-requires-clause-live : goal.send_loan-requires-clause-live
@@ -60,3 +62,28 @@ returns-clause-gone g c =
     c.send_loan.ensures.sends
     (ap (λ (l : Loan g.row.T.Denot g.row.U.Denot). l.publisher) (same_Some _ before.0 (sym c.send_loan.ensures.sends.out ∙ before.1)) ∙ before.2)
     c.outcome_of.result c.outcome_of.ensures.same
+
+pub returns-clause-adds : goal.returns-clause-adds
+returns-clause-adds g c =
+    let it = always-shown {T = g.row.T.Denot} {U = g.row.U.Denot} c.domain.inside.state c.args.domain.now c.domain.invariant c.domain.view_is in
+    let has = (written-parts c.args.domain.now c.args.self c.requires).1 in
+    let out = ap (λ (t : State g.row.T.Denot g.row.U.Denot). t.loans c.args.self.loan.number) (it.2).state ∙ has.1 in
+    let step = returns-clause-sent g c it.0 it.1 has.0 it.2 out in
+    send-adds {T = g.row.T.Denot} {U = g.row.U.Denot} c.args.domain.now _ it.0 _ it.1 step.0 it.2 step.1 fixed_handlers c.args.self.loan.number has.0 (result_of_send c.outcome_of.result) step.2
+
+pub returns-clause-brings : goal.returns-clause-brings
+returns-clause-brings g c = λ subscriber value no_history none reads.
+    let it = always-shown {T = g.row.T.Denot} {U = g.row.U.Denot} c.domain.inside.state c.args.domain.now c.domain.invariant c.domain.view_is in
+    let has = (written-parts c.args.domain.now c.args.self c.requires).1 in
+    let out = ap (λ (t : State g.row.T.Denot g.row.U.Denot). t.loans c.args.self.loan.number) (it.2).state ∙ has.1 in
+    let step = returns-clause-sent g c it.0 it.1 has.0 it.2 out in
+    send-brings {T = g.row.T.Denot} {U = g.row.U.Denot} c.args.domain.now _ it.0 _ it.1 step.0 it.2 step.1 fixed_handlers c.args.self.loan.number has.0 (result_of_send c.outcome_of.result)
+    (λ entry. sent-entry it.0 c.args.self.loan.number has.0 c.outcome_of.result ((it.2).unsent c.args.self.loan.number has.0 out) entry) out step.2 c.args.self refl subscriber value no_history none reads
+
+pub returns-clause-up_to_date : goal.returns-clause-up_to_date
+returns-clause-up_to_date g c =
+    let it = always-shown {T = g.row.T.Denot} {U = g.row.U.Denot} c.domain.inside.state c.args.domain.now c.domain.invariant c.domain.view_is in
+    let has = (written-parts c.args.domain.now c.args.self c.requires).1 in
+    let out = ap (λ (t : State g.row.T.Denot g.row.U.Denot). t.loans c.args.self.loan.number) (it.2).state ∙ has.1 in
+    let step = returns-clause-sent g c it.0 it.1 has.0 it.2 out in
+    send-leaves {T = g.row.T.Denot} {U = g.row.U.Denot} c.args.domain.now _ it.0 _ it.1 step.0 it.2 step.1 fixed_handlers c.args.self.loan.number has.0 (result_of_send c.outcome_of.result) step.2

@@ -8,6 +8,8 @@ use Rattle.iox2_domain.specs.LoanSlots.{LiesInSlot}
 use Rattle.iox2_domain.proofs.lemmas.loans.WrittenLoan.{one-cell}
 use Rattle.iox2_pubsub.proofs.LoanHandles.{unwritten-out, write-header, write-shown, write-live, write-reads, write-user-header}
 use Rattle.iox2_pubsub.proofs.CallsStay.{always-shown, write-stays}
+use Rattle.iox2_pubsub.proofs.WaitingShown.{set-waits}
+use Rattle.iox2_pubsub.proofs.UpToDateShown.{set-leaves}
 use Rattle.iox2_pubsub.proofs.sample_mut_uninit.SampleMutUninit.write_payload.Goals as goal
 
 pub write_loan-requires-clause-live : goal.write_loan-requires-clause-live
@@ -61,3 +63,15 @@ pub returns-clause-lent : goal.returns-clause-lent
 returns-clause-lent g c = λ lent.
     subst (λ (p : ℕ). IsPublisherKey (kept_of c.write_loan.new.state) (record { service_id = c.args.self.service_id; port = p; message = 0 })) (sym (ap (λ (at : LoanAt). at.publisher) c.write_loan.ensures.same))
     ((returns-clause-stays g c).publishers (lender_key (unwritten_key c.args.self)) lent tt)
+
+pub returns-clause-waits : goal.returns-clause-waits
+returns-clause-waits g c =
+    let it = always-shown {T = g.row.T.Denot} {U = g.row.U.Denot} c.domain.inside.state c.args.domain.now c.domain.invariant c.domain.view_is in
+    let step = returns-clause-written g c it.0 it.1 it.2 in
+    set-waits {T = g.row.T.Denot} {U = g.row.U.Denot} c.args.domain.now _ it.0 it.1 it.2 c.args.self.loan.number _ step.2
+
+pub returns-clause-up_to_date : goal.returns-clause-up_to_date
+returns-clause-up_to_date g c =
+    let it = always-shown {T = g.row.T.Denot} {U = g.row.U.Denot} c.domain.inside.state c.args.domain.now c.domain.invariant c.domain.view_is in
+    let step = returns-clause-written g c it.0 it.1 it.2 in
+    set-leaves {T = g.row.T.Denot} {U = g.row.U.Denot} c.args.domain.now _ it.0 it.1 it.2 c.args.self.loan.number _ step.2

@@ -6,6 +6,8 @@ use Rattle.iox2_domain.specs.SubscriberEntry.{asked_for}
 use Rattle.iox2_store.specs.declared.service_config.ServiceConfig.{ServiceConfig}
 use Rattle.iox2_pubsub.proofs.SubscribersShown.{made-shown, made-live, refused-shown}
 use Rattle.iox2_pubsub.proofs.CallsStay.{always-shown, subscriber-creation-stays, subscriber-is-new}
+use Rattle.iox2_pubsub.proofs.WaitingShown.{created-none, creation-waits}
+use Rattle.iox2_pubsub.proofs.UpToDateShown.{creation-leaves}
 use Rattle.iox2_pubsub.proofs.port_factory.subscriber.PortFactorySubscriber.create.Goals as goal
 
 pub returns-in_err-port-clause-creates : goal.returns-in_err-port-clause-creates
@@ -48,3 +50,36 @@ returns-clause-new g c =
     let it = always-shown {T = g.row.T.Denot} {U = g.row.U.Denot} c.domain.inside.state c.args.domain.now c.domain.invariant c.domain.view_is in
     let step = returns-clause-creates g c it.0 it.1 it.2 in
     subscriber-is-new {T = g.row.T.Denot} {U = g.row.U.Denot} c.args.domain.now c.args.domain.now it.0 it.1 it.2 c.in_ok-port.port.id (step.2).1
+
+pub returns-clause-none : goal.returns-clause-none
+returns-clause-none g c =
+    let it = always-shown {T = g.row.T.Denot} {U = g.row.U.Denot} c.domain.inside.state c.args.domain.now c.domain.invariant c.domain.view_is in
+    let step = returns-clause-creates g c it.0 it.1 it.2 in
+    created-none {T = g.row.T.Denot} {U = g.row.U.Denot} c.args.domain.now _ it.0 it.0 it.1 step.0 it.2 step.1 (λ n entry at. at) fixed_handlers c.args.self (step.2).0
+    (record { service_id = c.config.result.now.service_id; id = c.in_ok-port.port.id; place = c.in_ok-port.port.place; buffer_size = c.max.result }) (step.2).1
+
+pub returns-in_err-port-clause-waits : goal.returns-in_err-port-clause-waits
+returns-in_err-port-clause-waits g c =
+    let it = always-shown {T = g.row.T.Denot} {U = g.row.U.Denot} c.domain.inside.state c.args.domain.now c.domain.invariant c.domain.view_is in
+    let step = refused-shown {T = g.row.T.Denot} {U = g.row.U.Denot} fixed_handlers c.domain.inside.state c.create_subscriber.new.state c.args.domain.now c.domain.view_is
+    (asked_for c.self.inside.buffer_size) c.args.self c.self.view_is c.in_err-port.field-0.0 c.in_err-port.ensures.step it.0 it.1 it.2 in
+    creation-waits {T = g.row.T.Denot} {U = g.row.U.Denot} c.args.domain.now _ it.0 it.0 it.1 step.0 it.2 step.1 (λ n entry at. at) fixed_handlers c.args.self (Some c.in_err-port.field-0.0) step.2
+
+pub returns-clause-waits : goal.returns-clause-waits
+returns-clause-waits g c =
+    let it = always-shown {T = g.row.T.Denot} {U = g.row.U.Denot} c.domain.inside.state c.args.domain.now c.domain.invariant c.domain.view_is in
+    let step = returns-clause-creates g c it.0 it.1 it.2 in
+    creation-waits {T = g.row.T.Denot} {U = g.row.U.Denot} c.args.domain.now _ it.0 it.0 it.1 step.0 it.2 step.1 (λ n entry at. at) fixed_handlers c.args.self None (step.2).0
+
+pub returns-in_err-port-clause-up_to_date : goal.returns-in_err-port-clause-up_to_date
+returns-in_err-port-clause-up_to_date g c =
+    let it = always-shown {T = g.row.T.Denot} {U = g.row.U.Denot} c.domain.inside.state c.args.domain.now c.domain.invariant c.domain.view_is in
+    let step = refused-shown {T = g.row.T.Denot} {U = g.row.U.Denot} fixed_handlers c.domain.inside.state c.create_subscriber.new.state c.args.domain.now c.domain.view_is
+    (asked_for c.self.inside.buffer_size) c.args.self c.self.view_is c.in_err-port.field-0.0 c.in_err-port.ensures.step it.0 it.1 it.2 in
+    creation-leaves {T = g.row.T.Denot} {U = g.row.U.Denot} c.args.domain.now _ it.0 it.0 it.1 step.0 it.2 step.1 fixed_handlers c.args.self (Some c.in_err-port.field-0.0) step.2
+
+pub returns-clause-up_to_date : goal.returns-clause-up_to_date
+returns-clause-up_to_date g c =
+    let it = always-shown {T = g.row.T.Denot} {U = g.row.U.Denot} c.domain.inside.state c.args.domain.now c.domain.invariant c.domain.view_is in
+    let step = returns-clause-creates g c it.0 it.1 it.2 in
+    creation-leaves {T = g.row.T.Denot} {U = g.row.U.Denot} c.args.domain.now _ it.0 it.0 it.1 step.0 it.2 step.1 fixed_handlers c.args.self None (step.2).0

@@ -10,6 +10,8 @@ use Rattle.iox2_pubsub.proofs.CallsStay.{always-shown}
 use Rattle.iox2_pubsub.proofs.ReceptionShown.{subscriber-missing}
 use Rattle.iox2_pubsub.proofs.UpdateShown.{subscriber-update-shows}
 use Rattle.iox2_pubsub.proofs.UpdatesStay.{updates-stay}
+use Rattle.iox2_pubsub.proofs.WaitingShown.{subscriber-update-adds}
+use Rattle.iox2_pubsub.proofs.UpToDateShown.{subscriber-update-leaves}
 use Rattle.iox2_pubsub.proofs.subscriber.update_connections.SubscriberUpdateConnections.update_connections.Goals as goal
 
 pub unreachable-requires : goal.unreachable-requires
@@ -36,3 +38,15 @@ returns-clause-stays g c =
 
 pub returns-clause-live : goal.returns-clause-live
 returns-clause-live g c = (returns-clause-stays g c).subscribers (subscriber_key c.args.self.now) c.requires tt
+
+pub returns-clause-adds : goal.returns-clause-adds
+returns-clause-adds g c =
+    let it = always-shown {T = g.row.T.Denot} {U = g.row.U.Denot} c.domain.inside.state c.args.domain.now c.domain.invariant c.domain.view_is in
+    let step = returns-clause-updates g c it.0 it.1 it.2 in
+    subscriber-update-adds {T = g.row.T.Denot} {U = g.row.U.Denot} c.args.domain.now (kept_of c.update_subscriber.new.state) it.0 it.0 it.1 step.0 it.2 step.1 fixed_handlers c.args.self.now.id (failure_of c.outcome_of.result) step.2
+
+pub returns-clause-up_to_date : goal.returns-clause-up_to_date
+returns-clause-up_to_date g c =
+    let it = always-shown {T = g.row.T.Denot} {U = g.row.U.Denot} c.domain.inside.state c.args.domain.now c.domain.invariant c.domain.view_is in
+    let step = returns-clause-updates g c it.0 it.1 it.2 in
+    subscriber-update-leaves {T = g.row.T.Denot} {U = g.row.U.Denot} c.args.domain.now (kept_of c.update_subscriber.new.state) it.0 it.0 it.1 step.0 it.2 step.1 fixed_handlers c.args.self.now.id (failure_of c.outcome_of.result) step.2

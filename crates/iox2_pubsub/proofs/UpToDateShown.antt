@@ -1,0 +1,89 @@
+-- Which calls leave subscribers up to date, seen from outside.
+use Rattle.std.proofs.Common.{◌≡◌, ℕ, suc, refl, sym, ap, subst, ◌∙◌, arith, Bool, true, false, Option, None, Some, Result, Ok, Err}
+use Rattle.std.specs.Prelude.{OnOk}
+use Rattle.iox2_store.specs.machine.Environments.{ample_memory}
+use Rattle.iox2_store.specs.machine.Loans.{loan_discarded}
+use Rattle.iox2_store.specs.machine.Ports.{CreateSubscriber}
+use Rattle.iox2_store.specs.machine.PublisherUpdate.{UpdatePublisher}
+use Rattle.iox2_store.specs.machine.Receives.{ReceiveResult, Got_sample, Receive_error, Receive}
+use Rattle.iox2_store.specs.machine.Records.{Environment, Loan, SubscriberSettings}
+use Rattle.iox2_store.specs.machine.Releases.{released}
+use Rattle.iox2_store.specs.machine.Sends.{SendResult, Send}
+use Rattle.iox2_store.specs.machine.State.{State, Messages, with_loan}
+use Rattle.iox2_store.specs.machine.SubscriberUpdate.{UpdateSubscriber}
+use Rattle.iox2_store.specs.machine.Waiting.{waiting_for}
+use Rattle.iox2_store.specs.declared.errors.ConnectionFailure.{ConnectionFailure}
+use Rattle.iox2_store.specs.declared.errors.LoanError.{LoanError}
+use Rattle.iox2_store.specs.declared.errors.ReceiveError.{ReceiveError}
+use Rattle.iox2_store.specs.declared.errors.SubscriberCreateError.{SubscriberCreateError}
+use Rattle.iox2_laws.proofs.UpToDate.{IsUpdated, UpdatedStay, same_subscribers, grant_loan_subscribers, update_publisher_subscribers, send_subscribers, update_subscriber_updated, update_leaves_updated, receive_updated, receive_leaves_updated, receive_one_fewer, released_updated, create_subscriber_updated}
+use Rattle.iox2_domain.specs.Kept.{Kept}
+use Rattle.iox2_domain.specs.Lending.{LoanCall}
+use Rattle.iox2_domain.specs.Questions.{IsAnswer}
+use Rattle.iox2_domain.specs.Shows.{Shows}
+use Rattle.iox2_pubsub.specs.Live.{IsLiveSubscriber, IsUpToDate, UpToDateStay, waiting}
+use Rattle.iox2_pubsub.specs.declared.subscriber.Subscriber.{Subscriber}
+use Rattle.iox2_pubsub.proofs.WaitingShown.{live-open, waiting-is}
+
+module _ {T U : Type 0} (kept : Kept T U) (m : Messages T U) (s : State T U) (shown : Shows kept m s) (subscriber : Subscriber) where
+  pub up-to-date-in : IsUpToDate kept subscriber → IsUpdated s subscriber.id
+  unfolding IsUpToDate
+  up-to-date-in is = subst (λ (t : State T U). IsUpdated t subscriber.id) (sym shown.state) is
+
+  pub up-to-date : IsUpdated s subscriber.id → IsUpToDate kept subscriber
+  unfolding IsUpToDate
+  up-to-date is = subst (λ (t : State T U). IsUpdated t subscriber.id) shown.state is
+
+module _ {T U : Type 0} (old new : Kept T U) (m m' : Messages T U) (s s' : State T U) (shown : Shows old m s) (shown' : Shows new m' s') where
+  stay : UpdatedStay s s' → UpToDateStay old new
+  stay each subscriber is = up-to-date new m' s' shown' subscriber (each subscriber.id (up-to-date-in old m s shown subscriber is))
+
+  pub loan-leaves : {A : Type 0} (is_default : U → Type 0) (p : ℕ) (answer : Result A LoanError) → LoanCall is_default s p answer s' → UpToDateStay old new
+  loan-leaves is_default p (Ok a) h = stay (same_subscribers s s' (grant_loan_subscribers ample_memory h.0 false 1 s p s' None h.2))
+  loan-leaves is_default p (Err e) h = stay (same_subscribers s s' (ap (λ (t : State T U). t.subscribers) h.0))
+
+  pub send-leaves : (environment : Environment) (n : ℕ) (l : Loan T U) (result : SendResult) → Send environment s n l s' result → UpToDateStay old new
+  send-leaves environment n l result h = stay (same_subscribers s s' (send_subscribers environment s n l s' result h))
+
+  pub publisher-update-leaves : (environment : Environment) (p : ℕ) (failure : Option ConnectionFailure) → UpdatePublisher environment s p s' failure → UpToDateStay old new
+  publisher-update-leaves environment p failure h = stay (same_subscribers s s' (update_publisher_subscribers environment s p s' failure h))
+
+  pub subscriber-update-leaves : (environment : Environment) (q : ℕ) (failure : Option ConnectionFailure) → UpdateSubscriber environment s q s' failure → UpToDateStay old new
+  subscriber-update-leaves environment q failure h = stay (update_subscriber_updated environment s q s' failure h)
+
+  pub release-leaves : (p q n : ℕ) → s' ≡ released s p q n → UpToDateStay old new
+  release-leaves p q n is = stay (subst (UpdatedStay s) (sym is) (released_updated s p q n))
+
+  pub creation-leaves : (environment : Environment) (given : SubscriberSettings) (refusal : Option SubscriberCreateError) → CreateSubscriber environment s given s' refusal → UpToDateStay old new
+  creation-leaves environment given refusal h = stay (create_subscriber_updated environment s shown.well_formed given s' refusal h)
+
+  module _ (environment : Environment) (subscriber : Subscriber) where
+    pub receive-leaves : (result : ReceiveResult) → Receive environment s subscriber.id s' result → UpToDateStay old new
+    receive-leaves result h = stay (receive_updated environment s subscriber.id s' result h)
+
+    pub received-updated : IsLiveSubscriber old subscriber → (result : ReceiveResult) → ((e : ReceiveError) → result ≡ Receive_error e → ⊥) → Receive environment s subscriber.id s' result → IsUpToDate new subscriber
+    received-updated live result fine h =
+        let has = live-open old new m m' s s' shown shown' subscriber live in
+        up-to-date new m' s' shown' subscriber (receive_leaves_updated environment s subscriber.id s' result fine has.0 has.1 has.2 h)
+
+    asked-updated : IsLiveSubscriber old subscriber → UpdateSubscriber environment s subscriber.id s' None → IsUpToDate new subscriber
+    asked-updated live h =
+        let has = live-open old new m m' s s' shown shown' subscriber live in
+        up-to-date new m' s' shown' subscriber (update_leaves_updated environment s subscriber.id s' None refl has.0 has.1 has.2 h)
+
+    pub answers-updated : IsLiveSubscriber old subscriber → (result : Result Bool ConnectionFailure) → IsAnswer environment s subscriber.id result s' → OnOk result (IsUpToDate new subscriber)
+    answers-updated live (Ok waits) h = asked-updated live h.0
+    answers-updated live (Err e) h = tt
+
+    pub received-one-fewer : (p n : ℕ) → Receive environment s subscriber.id s' (Got_sample p n) → IsUpToDate old subscriber → suc (waiting new subscriber) ≡ waiting old subscriber
+    received-one-fewer p n h is =
+        ap suc (waiting-is new m' s' shown' subscriber)
+        ∙ receive_one_fewer environment s subscriber.id p n s' shown.well_formed (up-to-date-in old m s shown subscriber is) h
+        ∙ sym (waiting-is old m s shown subscriber)
+
+module _ {T U : Type 0} (old new : Kept T U) (m : Messages T U) (s : State T U) (shown : Shows old m s) (n : ℕ) where
+  pub set-leaves : (l : Option (Loan T U)) → Shows new m (with_loan s n l) → UpToDateStay old new
+  set-leaves l shown' = stay old new m m s (with_loan s n l) shown shown' (same_subscribers s (with_loan s n l) refl)
+
+  pub discard-leaves : (l : Loan T U) → Shows new m (loan_discarded s n l) → UpToDateStay old new
+  discard-leaves l shown' = stay old new m m s (loan_discarded s n l) shown shown' (same_subscribers s (loan_discarded s n l) refl)

@@ -1,0 +1,325 @@
+-- What calls do to the number of messages that wait, seen from outside.
+use Rattle.std.proofs.Common.{◌≡◌, ℕ, suc, List, [], ◌∷◌, ◌++◌, map, length, ◌+◌, ◌<◌, ◌≤◌, refl, sym, ap, subst, ◌∙◌, arith, Bool, true, false, inl, inr, Option, None, Some, Result, Ok, Err}
+use mathlib.Core.Path.{fun_ext}
+use Rattle.std.specs.Prelude.{◌≢◌, ◌↔◌, IfOk, IsTrue}
+use Rattle.std.specs.List.{AllByRecursion, filter_map}
+use Rattle.std.specs.Option.{option_map_or}
+use Rattle.std.proofs.lemmas.Bool.{cases_eq}
+use Rattle.std.proofs.lemmas.List.{append-nil}
+use Rattle.iox2_store.specs.machine.Environments.{ample_memory}
+use Rattle.iox2_store.specs.machine.Loans.{entry_of, loan_discarded}
+use Rattle.iox2_store.specs.machine.Mailbox.{numbers_in}
+use Rattle.iox2_store.specs.machine.Numbers.{contains}
+use Rattle.iox2_store.specs.machine.Ports.{CreatePublisher, CreateSubscriber}
+use Rattle.iox2_store.specs.machine.PublisherUpdate.{UpdatePublisher}
+use Rattle.iox2_store.specs.machine.Receives.{ReceiveResult, Got_sample, No_sample, Receive, HasSamples}
+use Rattle.iox2_store.specs.machine.Records.{Entry, Environment, Loan, PublisherSettings, SubscriberSettings, Subscriber as MachineSubscriber}
+use Rattle.iox2_store.specs.machine.Releases.{released}
+use Rattle.iox2_store.specs.machine.Sends.{SendResult, Send}
+use Rattle.iox2_store.specs.machine.State.{State, Messages, with_loan}
+use Rattle.iox2_store.specs.machine.SubscriberUpdate.{UpdateSubscriber}
+use Rattle.iox2_store.specs.machine.Waiting.{waiting_from, waiting_for}
+use Rattle.iox2_store.specs.Stored.{In_mailbox}
+use Rattle.iox2_store.specs.declared.errors.ConnectionFailure.{ConnectionFailure}
+use Rattle.iox2_store.specs.declared.errors.LoanError.{LoanError}
+use Rattle.iox2_store.specs.declared.errors.PublisherCreateError.{PublisherCreateError}
+use Rattle.iox2_store.specs.declared.errors.SubscriberCreateError.{SubscriberCreateError}
+use Rattle.iox2_domain.specs.Kept.{Kept, state_of, entries_of}
+use Rattle.iox2_domain.specs.Lending.{LoanCall}
+use Rattle.iox2_domain.specs.Questions.{IsAnswer}
+use Rattle.iox2_domain.specs.Shows.{Shows}
+use Rattle.iox2_laws.proofs.MailboxLemmas.{has_numbers-contains}
+use Rattle.iox2_laws.proofs.NumberLemmas.{contains_left, contains_right}
+use Rattle.iox2_laws.proofs.SamplesStay.{received_one}
+use Rattle.iox2_laws.proofs.WaitingCounts.{SameWaits, same_itself, sum_zero, sum_part, cond_among}
+use Rattle.iox2_laws.proofs.WaitingLoans.{grant_loan_waits, loan_set_waits, loan_discarded_waits}
+use Rattle.iox2_laws.proofs.WaitingReceives.{UpdateWaits, update_subscriber_waits, update_subscriber_counts, update_subscriber_others, receive_fewer, receive_none, receive_no_more, receive_waited, receive_others, has_samples_says, released_waits}
+use Rattle.iox2_laws.proofs.WaitingPorts.{NewWaits, create_subscriber_waits}
+use Rattle.iox2_laws.proofs.WaitingPublishers.{create_publisher_waits}
+use Rattle.iox2_laws.proofs.WaitingSends.{update_publisher_waits, send_waits, send_among}
+use Rattle.iox2_pubsub.specs.Live.{IsLiveSubscriber, AddAtMost, AreAll, LoanReads, OthersWait, SampleReads, payloads, waiting, subscriber_key}
+use Rattle.iox2_pubsub.specs.Payloads.{all_below, payload_of, payloads_for}
+use Rattle.iox2_pubsub.specs.declared.sample.Sample.{Sample}
+use Rattle.iox2_pubsub.specs.declared.sample_mut.SampleMut.{SampleMut}
+use Rattle.iox2_pubsub.specs.declared.subscriber.Subscriber.{Subscriber}
+use Rattle.iox2_pubsub.proofs.LiveParts.{loan-cell, sample-reads, subscriber-parts}
+use Rattle.iox2_pubsub.proofs.PayloadLists.{all_same, parts_same, payloads_same, length-payloads, each_payload, payload_at}
+
+-- the payloads are what the domain keeps
+payloads-are : {T U : Type 0} (kept : Kept T U) (subscriber : Subscriber) → payloads kept subscriber ≡ payloads_for (state_of kept) (entries_of kept) subscriber.id
+unfolding payloads
+payloads-are kept subscriber = refl
+
+-- as many wait as the machine counts
+pub waiting-is : {T U : Type 0} (kept : Kept T U) (m : Messages T U) (s : State T U) → Shows kept m s → (subscriber : Subscriber) → waiting kept subscriber ≡ waiting_for s subscriber.id
+waiting-is {T} {U} kept m s shown subscriber =
+    ap length (payloads-are kept subscriber) ∙ length-payloads (state_of kept) (entries_of kept) subscriber.id ∙ ap (λ (t : State T U). waiting_for t subscriber.id) (sym shown.state)
+
+-- what waits for a subscriber is in a mailbox
+waits-in-mailbox : {T U : Type 0} (s : State T U) (p q n : ℕ) → contains (waiting_from s p q) n ≡ true → contains (numbers_in (s.mailboxes p q)) n ≡ true
+waits-in-mailbox s p q n at = contains_left (s.mailboxes p q).waiting (s.mailboxes p q).borrowed n (cond_among _ (s.mailboxes p q).waiting n at)
+
+-- the entry of what waits is kept, and is the message
+entry-of : {T U : Type 0} (kept : Kept T U) (m : Messages T U) (s : State T U) → Shows kept m s → (p q n : ℕ) → contains (numbers_in (s.mailboxes p q)) n ≡ true
+    → (entry : Entry T U) × (entries_of kept n ≡ Some entry) × (m n ≡ Some entry)
+entry-of {T} {U} kept m s shown p q n at =
+    let here : contains (numbers_in ((state_of kept).mailboxes p q)) n ≡ true = ap (λ (t : State T U). contains (numbers_in (t.mailboxes p q)) n) (sym shown.state) ∙ at in
+    let has = shown.complete p n (In_mailbox q here) in
+    (has.0, has.1, shown.entries n has.0 has.1)
+
+-- the words of a clause, part by part
+all-parts : {T : Type 0} (payloads : List (List T)) (value : T) → AreAll payloads value → AllByRecursion (λ payload. payload ≡ value ∷ []) payloads
+unfolding AreAll
+all-parts payloads value all = all
+
+parts-all : {T : Type 0} (payloads : List (List T)) (value : T) → AllByRecursion (λ payload. payload ≡ value ∷ []) payloads → AreAll payloads value
+unfolding AreAll
+parts-all payloads value all = all
+
+some_there : (ns : List ℕ) (k : ℕ) → contains ns k ≡ true → 0 < length ns
+some_there [] k at = let clash : false ≡ true = at in absurd cc
+some_there (n ∷ ns) k at = omega arith
+
+module _ {T U : Type 0} (old new : Kept T U) (m m' : Messages T U) (s s' : State T U) (shown : Shows old m s) (shown' : Shows new m' s') where
+  -- Each message that was sent before is the same.
+  abbrev AreKept : Type 0
+  AreKept = (n : ℕ) (entry : Entry T U) → m n ≡ Some entry → m' n ≡ Some entry
+
+  -- it is the same message afterwards
+  same-entry : AreKept → (p q i j n : ℕ) → contains (numbers_in (s.mailboxes p q)) n ≡ true → contains (numbers_in (s'.mailboxes i j)) n ≡ true → entries_of new n ≡ entries_of old n
+  same-entry sent p q i j n at at' =
+      let before = entry-of old m s shown p q n at in
+      let after = entry-of new m' s' shown' i j n at' in
+      after.1 ∙ sym after.2 ∙ sent n before.0 before.2 ∙ sym before.1
+
+  -- what is related in the machine is what the domains keep
+  between : (P : State T U → State T U → Type 0) → P s s' → P (state_of old) (state_of new)
+  between P h = subst (λ (t : State T U). P t (state_of new)) shown.state (subst (P s) shown'.state h)
+
+  -- the payloads of a subscriber stay where the same messages wait for it
+  payloads-stay-for : AreKept → (subscriber : Subscriber) → s'.next_port ≡ s.next_port → ((p : ℕ) → waiting_from s' p subscriber.id ≡ waiting_from s p subscriber.id)
+      → payloads new subscriber ≡ payloads old subscriber
+  payloads-stay-for sent subscriber ports from =
+      payloads-are new subscriber
+      ∙ payloads_same (state_of old) (state_of new) (entries_of old) (entries_of new) subscriber.id (between (λ a b. b.next_port ≡ a.next_port) ports)
+      (between (λ a b. (p : ℕ) → waiting_from b p subscriber.id ≡ waiting_from a p subscriber.id) from) kept
+      ∙ sym (payloads-are old subscriber)
+    where
+      kept : (p n : ℕ) → contains (waiting_from (state_of old) p subscriber.id) n ≡ true → entries_of new n ≡ entries_of old n
+      kept p n at =
+          let here : contains (waiting_from s p subscriber.id) n ≡ true = ap (λ (t : State T U). contains (waiting_from t p subscriber.id) n) shown.state ∙ at in
+          let there : contains (waiting_from s' p subscriber.id) n ≡ true = ap (λ ns. contains ns n) (from p) ∙ here in
+          same-entry sent p subscriber.id p subscriber.id n (waits-in-mailbox s p subscriber.id n here) (waits-in-mailbox s' p subscriber.id n there)
+
+  -- the same payloads wait for everyone where the machine says so
+  pub payloads-stay : AreKept → SameWaits s s' → payloads new ≡ payloads old
+  payloads-stay sent same = fun_ext (λ subscriber. payloads-stay-for sent subscriber same.ports (λ p. same.from p subscriber.id))
+
+  -- and where it says so of each but one
+  pub others-wait : AreKept → (subscriber : Subscriber) → s'.next_port ≡ s.next_port → ((p q : ℕ) → q ≢ subscriber.id → waiting_from s' p q ≡ waiting_from s p q) → OthersWait subscriber old new
+  others-wait sent subscriber ports from other away = payloads-stay-for sent other ports (λ p. from p other.id away)
+
+  -- the subscriber is open
+  pub live-open : (subscriber : Subscriber) → IsLiveSubscriber old subscriber → (y : MachineSubscriber) × (s.subscribers subscriber.id ≡ Some y) × (y.is_open ≡ true)
+  live-open subscriber live =
+      let has = (subscriber-parts old (subscriber_key subscriber) live).2 in
+      (has.0, ap (λ (t : State T U). t.subscribers subscriber.id) shown.state ∙ has.1, has.2)
+
+  -- a loan is granted, or refused
+  pub loan-waits : AreKept → {A : Type 0} (is_default : U → Type 0) (p : ℕ) (answer : Result A LoanError) → LoanCall is_default s p answer s' → payloads new ≡ payloads old
+  loan-waits sent is_default p (Ok a) h = payloads-stay sent (grant_loan_waits ample_memory h.0 false 1 s p s' None h.2)
+  loan-waits sent is_default p (Err e) h = payloads-stay sent (subst (SameWaits s) (sym h.0) (same_itself s))
+
+  -- a sample is released
+  pub release-waits : AreKept → (p q n : ℕ) → s' ≡ released s p q n → payloads new ≡ payloads old
+  release-waits sent p q n is = payloads-stay sent (subst (SameWaits s) (sym is) (released_waits s p q n))
+
+  -- a subscriber is made, or refused
+  module _ (sent : AreKept) (environment : Environment) (given : SubscriberSettings) where
+    made-waits : NewWaits s shown.well_formed s' → payloads new ≡ payloads old
+    made-waits made = fun_ext (λ subscriber.
+        let q = subscriber.id in
+        let there : payloads new subscriber ≡ payloads_for (state_of new) (entries_of new) q = payloads-are new subscriber in
+        there
+        ∙ ap (all_below (λ p. map (payload_of (entries_of new)) (waiting_from (state_of new) p q))) (between (λ a b. b.next_port ≡ suc a.next_port) made.ports)
+        ∙ ap (λ ns. all_below (λ p. map (payload_of (entries_of new)) (waiting_from (state_of new) p q)) (state_of old).next_port ++ map (payload_of (entries_of new)) ns)
+        (between (λ a b. waiting_from b a.next_port q ≡ []) (made.none s.next_port q (λ low _. omega arith)))
+        ∙ append-nil (all_below (λ p. map (payload_of (entries_of new)) (waiting_from (state_of new) p q)) (state_of old).next_port)
+        ∙ all_same (λ p. map (payload_of (entries_of new)) (waiting_from (state_of new) p q)) (λ p. map (payload_of (entries_of old)) (waiting_from (state_of old) p q)) (state_of old).next_port
+        (parts_same (state_of old) (state_of new) (entries_of old) (entries_of new) q (between (λ a b. (p : ℕ) → waiting_from b p q ≡ waiting_from a p q) (λ p. made.from p q)) (kept q))
+        ∙ sym (payloads-are old subscriber))
+      where
+        kept : (q p n : ℕ) → contains (waiting_from (state_of old) p q) n ≡ true → entries_of new n ≡ entries_of old n
+        kept q p n at =
+            let here : contains (waiting_from s p q) n ≡ true = ap (λ (t : State T U). contains (waiting_from t p q) n) shown.state ∙ at in
+            let there : contains (waiting_from s' p q) n ≡ true = ap (λ ns. contains ns n) (made.from p q) ∙ here in
+            same-entry sent p q p q n (waits-in-mailbox s p q n here) (waits-in-mailbox s' p q n there)
+
+    pub creation-waits : (refusal : Option SubscriberCreateError) → CreateSubscriber environment s given s' refusal → payloads new ≡ payloads old
+    creation-waits None h = made-waits ((create_subscriber_waits s shown.well_formed environment given s' None h).0 refl)
+    creation-waits (Some e) h = payloads-stay sent ((create_subscriber_waits s shown.well_formed environment given s' (Some e) h).1 e refl)
+
+    pub created-none : CreateSubscriber environment s given s' None → (subscriber : Subscriber) → subscriber.id ≡ s.next_port → waiting new subscriber ≡ 0
+    created-none h subscriber id =
+        let made = (create_subscriber_waits s shown.well_formed environment given s' None h).0 refl in
+        waiting-is new m' s' shown' subscriber ∙ ap (waiting_for s') id
+        ∙ sum_zero (λ p. length (waiting_from s' p s.next_port)) s'.next_port (λ p. ap length (made.none p s.next_port (λ _ low. omega arith)))
+
+  -- a publisher is made, or refused
+  module _ (environment : Environment) (given : PublisherSettings) (refusal : Option PublisherCreateError) (h : CreatePublisher environment s given s' refusal) where
+    pub publisher-refused : AreKept → (e : PublisherCreateError) → refusal ≡ Some e → payloads new ≡ payloads old
+    publisher-refused sent e is = payloads-stay sent ((create_publisher_waits environment s given s' refusal h).1 e is)
+
+    pub publisher-no-fewer : (subscriber : Subscriber) → waiting old subscriber ≤ waiting new subscriber
+    publisher-no-fewer subscriber =
+        let more : waiting_for s subscriber.id ≤ waiting_for s' subscriber.id = (create_publisher_waits environment s given s' refusal h).0 subscriber.id in
+        let now : waiting new subscriber ≡ waiting_for s' subscriber.id = waiting-is new m' s' shown' subscriber in
+        let before : waiting old subscriber ≡ waiting_for s subscriber.id = waiting-is old m s shown subscriber in
+        omega arith
+
+  -- no more are added than the machine adds
+  adds : (more : ℕ) → ((q : ℕ) → waiting_for s' q ≤ waiting_for s q + more) → AddAtMost more old new
+  adds more each subscriber =
+      let most : waiting_for s' subscriber.id ≤ waiting_for s subscriber.id + more = each subscriber.id in
+      let now : waiting new subscriber ≡ waiting_for s' subscriber.id = waiting-is new m' s' shown' subscriber in
+      let before : waiting old subscriber ≡ waiting_for s subscriber.id = waiting-is old m s shown subscriber in
+      omega arith
+
+  -- a loan is sent
+  pub send-adds : (environment : Environment) (n : ℕ) (l : Loan T U) (result : SendResult) → Send environment s n l s' result → AddAtMost ((old.config).history_size + 1) old new
+  send-adds environment n l result h =
+      subst (λ (t : State T U). AddAtMost ((t.config).history_size + 1) old new) shown.state
+      (adds ((s.config).history_size + 1) (send_waits environment s n l s' result shown.well_formed shown'.well_formed h))
+
+  -- and brings its payload, where nothing waited and no history is kept
+  pub send-brings : (environment : Environment) (n : ℕ) (l : Loan T U) (result : SendResult) → ((e : Entry T U) → m' n ≡ Some e → e ≡ entry_of l) → s.loans n ≡ Some l → Send environment s n l s' result → (loan : SampleMut) → loan.loan.number ≡ n
+      → (subscriber : Subscriber) (value : T) → (old.config).history_size ≡ 0 → waiting old subscriber ≡ 0 → LoanReads old loan value → AreAll (payloads new subscriber) value
+  send-brings environment n l result is_sent out h loan its subscriber value no_history none reads =
+      parts-all (payloads new subscriber) value (subst (AllByRecursion (λ payload. payload ≡ value ∷ [])) (sym (payloads-are new subscriber))
+      (subst (λ (t : State T U). AllByRecursion (λ payload. payload ≡ value ∷ []) (payloads_for t (entries_of new) q)) shown'.state
+      (each_payload (λ payload. payload ≡ value ∷ []) s' (entries_of new) q each)))
+    where
+      q : ℕ
+      q = subscriber.id
+
+      nothing : waiting_for s q ≡ 0
+      nothing = sym (waiting-is old m s shown subscriber) ∙ none
+
+      cell : l.cells ≡ Some value ∷ []
+      cell =
+          let has = loan-cell old loan value reads in
+          let at : s.loans n ≡ Some has.0 = ap s.loans (sym its) ∙ ap (λ (t : State T U). t.loans loan.loan.number) shown.state ∙ has.1 in
+          let both : Some l ≡ Some has.0 = sym out ∙ at in
+          let same : l ≡ has.0 = cc in
+          ap (λ (k : Loan T U). k.cells) same ∙ has.2
+
+      values : (entry_of l).values ≡ value ∷ []
+      values = ap (filter_map (λ cell. cell)) cell
+
+      waited : (p k : ℕ) → contains (waiting_from s p q) k ≡ true → ⊥
+      waited p k at =
+          let known : p < s.next_port = ((shown.well_formed.mailboxes p q).known (has_numbers-contains (s.mailboxes p q) k (waits-in-mailbox s p q k at))).0 in
+          let most : length (waiting_from s p q) ≤ waiting_for s q = sum_part (λ i. length (waiting_from s i q)) p s.next_port known in
+          let some : 0 < length (waiting_from s p q) = some_there (waiting_from s p q) k at in
+          let none_waits : waiting_for s q ≡ 0 = nothing in
+          omega arith
+
+      each : (p k : ℕ) → contains (waiting_from s' p q) k ≡ true → payload_of (entries_of new) k ≡ value ∷ []
+      each p k at = elim (send_among environment s n l s' result shown.well_formed (ap (λ (t : State T U). (t.config).history_size) shown.state ∙ no_history) h p q k at) [
+        | inl here ↦
+            let has = entry-of new m' s' shown' p q k (waits-in-mailbox s' p q k at) in
+            let same : has.0 ≡ entry_of l = is_sent has.0 (sym (ap m' here) ∙ has.2) in
+            ap (λ (o : Option (Entry T U)). option_map_or (λ (e : Entry T U). e.values) o []) has.1 ∙ ap (λ (e : Entry T U). e.values) same ∙ values
+        | inr old ↦ absurd (waited p k old)
+      ]
+
+  -- a publisher updates its connections
+  pub publisher-update-adds : (environment : Environment) (p : ℕ) (failure : Option ConnectionFailure) → UpdatePublisher environment s p s' failure → AddAtMost (old.config).history_size old new
+  publisher-update-adds environment p failure h =
+      subst (λ (t : State T U). AddAtMost (t.config).history_size old new) shown.state
+      (adds (s.config).history_size (update_publisher_waits environment s p s' failure shown.well_formed h))
+
+  -- a subscriber does
+  pub subscriber-update-adds : (environment : Environment) (q : ℕ) (failure : Option ConnectionFailure) → UpdateSubscriber environment s q s' failure → AddAtMost 0 old new
+  subscriber-update-adds environment q failure h = adds 0 (λ i. elim (cases_eq i q) [
+    | inl here ↦
+        let less : waiting_for s' q ≤ waiting_for s q = update_subscriber_counts environment s q s' waits in
+        subst (λ k. waiting_for s' k ≤ waiting_for s k + 0) (sym here) (omega arith)
+    | inr away ↦ let same : waiting_for s' i ≡ waiting_for s i = update_subscriber_others environment s q s' waits i away in omega arith
+  ])
+    where
+      waits : UpdateWaits environment s q s'
+      waits = update_subscriber_waits environment s q s' failure h
+
+  -- ---- a receive, and the question whether anything waits
+
+  module _ (environment : Environment) (subscriber : Subscriber) where
+    pub received-fewer : IsLiveSubscriber old subscriber → (p n : ℕ) → Receive environment s subscriber.id s' (Got_sample p n) → waiting new subscriber < waiting old subscriber
+    received-fewer live p n h =
+        let has = live-open subscriber live in
+        let fewer : waiting_for s' subscriber.id < waiting_for s subscriber.id = receive_fewer environment s subscriber.id p n s' has.0 shown.well_formed has.1 has.2 h in
+        let now : waiting new subscriber ≡ waiting_for s' subscriber.id = waiting-is new m' s' shown' subscriber in
+        let before : waiting old subscriber ≡ waiting_for s subscriber.id = waiting-is old m s shown subscriber in
+        omega arith
+
+    pub received-none : Receive environment s subscriber.id s' No_sample → waiting new subscriber ≡ 0
+    received-none h = waiting-is new m' s' shown' subscriber ∙ receive_none environment s subscriber.id s' h
+
+    pub received-no-more : IsLiveSubscriber old subscriber → (result : ReceiveResult) → Receive environment s subscriber.id s' result → waiting new subscriber ≤ waiting old subscriber
+    received-no-more live result h =
+        let has = live-open subscriber live in
+        let less : waiting_for s' subscriber.id ≤ waiting_for s subscriber.id = receive_no_more environment s subscriber.id s' result has.0 shown.well_formed has.1 has.2 h in
+        let now : waiting new subscriber ≡ waiting_for s' subscriber.id = waiting-is new m' s' shown' subscriber in
+        let before : waiting old subscriber ≡ waiting_for s subscriber.id = waiting-is old m s shown subscriber in
+        omega arith
+
+    pub update-no-more : (failure : Option ConnectionFailure) → UpdateSubscriber environment s subscriber.id s' failure → waiting new subscriber ≤ waiting old subscriber
+    update-no-more failure h = let less : waiting new subscriber ≤ waiting old subscriber + 0 = subscriber-update-adds environment subscriber.id failure h subscriber in omega arith
+
+    pub update-others : AreKept → (failure : Option ConnectionFailure) → UpdateSubscriber environment s subscriber.id s' failure → OthersWait subscriber old new
+    update-others sent failure h =
+        let waits = update_subscriber_waits environment s subscriber.id s' failure h in
+        others-wait sent subscriber waits.ports waits.others
+
+    answer-says : IsLiveSubscriber old subscriber → (waits : Bool) → HasSamples environment s subscriber.id s' None waits → (waits ≡ true) ↔ (0 < waiting new subscriber)
+    answer-says live waits h =
+        let has = live-open subscriber live in
+        subst (λ k. (waits ≡ true) ↔ (0 < k)) (sym (waiting-is new m' s' shown' subscriber)) (has_samples_says environment s subscriber.id s' waits has.0 shown.well_formed has.1 has.2 h)
+
+    -- and so does an answer that may be a failure
+    pub answers-say : IsLiveSubscriber old subscriber → (result : Result Bool ConnectionFailure) → IsAnswer environment s subscriber.id result s' → IfOk result (λ waits. IsTrue waits ↔ (0 < waiting new subscriber))
+    answers-say live (Ok waits) h = answer-says live waits h
+    answers-say live (Err e) h = tt
+
+    pub received-others : AreKept → (result : ReceiveResult) → Receive environment s subscriber.id s' result → OthersWait subscriber old new
+    received-others sent result h =
+        let others = receive_others environment s subscriber.id s' result h in
+        others-wait sent subscriber others.ports others.from
+
+    -- what is received is what waited
+    pub received-reads : AreKept → IsLiveSubscriber old subscriber → (p : ℕ) (sample : Sample) → Receive environment s subscriber.id s' (Got_sample p sample.sample.number) → (value : T)
+        → AreAll (payloads old subscriber) value → SampleReads new sample value
+    received-reads sent live p sample h value only =
+        let has = live-open subscriber live in
+        let n = sample.sample.number in
+        let waited : contains (waiting_from s p subscriber.id) n ≡ true = receive_waited environment s subscriber.id p n s' has.0 has.1 has.2 h in
+        let boxed : contains (numbers_in (s.mailboxes p subscriber.id)) n ≡ true = waits-in-mailbox s p subscriber.id n waited in
+        let known : p < s.next_port = ((shown.well_formed.mailboxes p subscriber.id).known (has_numbers-contains (s.mailboxes p subscriber.id) n boxed)).0 in
+        let all : AllByRecursion (λ payload. payload ≡ value ∷ []) (payloads_for s (entries_of old) subscriber.id) =
+        subst (λ (t : State T U). AllByRecursion (λ payload. payload ≡ value ∷ []) (payloads_for t (entries_of old) subscriber.id)) (sym shown.state)
+        (subst (AllByRecursion (λ payload. payload ≡ value ∷ [])) (payloads-are old subscriber) (all-parts (payloads old subscriber) value only)) in
+        let before = entry-of old m s shown p subscriber.id n boxed in
+        let values : payload_of (entries_of old) n ≡ value ∷ [] = payload_at (λ payload. payload ≡ value ∷ []) s (entries_of old) subscriber.id all p n known waited in
+        let borrowed : contains (numbers_in (s'.mailboxes p subscriber.id)) n ≡ true =
+        contains_right (s'.mailboxes p subscriber.id).waiting (s'.mailboxes p subscriber.id).borrowed n ((received_one environment s subscriber.id p n s' h).now) in
+        let entry : entries_of new n ≡ Some before.0 = same-entry sent p subscriber.id p subscriber.id n boxed borrowed ∙ before.1 in
+        sample-reads new sample value before.0 entry (ap (λ (o : Option (Entry T U)). option_map_or (λ (e : Entry T U). e.values) o []) (sym before.1) ∙ values)
+
+module _ {T U : Type 0} (old new : Kept T U) (m : Messages T U) (s : State T U) (shown : Shows old m s) (n : ℕ) where
+  -- a loan is set
+  pub set-waits : (l : Option (Loan T U)) → Shows new m (with_loan s n l) → payloads new ≡ payloads old
+  set-waits l shown' = payloads-stay old new m m s (with_loan s n l) shown shown' (λ k entry at. at) (loan_set_waits s n l)
+
+  -- a loan is given back
+  pub discard-waits : (l : Loan T U) → Shows new m (loan_discarded s n l) → payloads new ≡ payloads old
+  discard-waits l shown' = payloads-stay old new m m s (loan_discarded s n l) shown shown' (λ k entry at. at) (loan_discarded_waits s n l)
