@@ -7,11 +7,7 @@ use iox2_pubsub::{
 };
 
 // Sends what a publisher lent that is there, which isn't refused.
-fn send_lent(
-    domain: &mut Domain<Reading, Station>,
-    loan: SampleMutUninit,
-    celsius: u64,
-) -> usize
+fn send_lent(domain: &mut Domain<Reading, Station>, loan: SampleMutUninit, celsius: u64) -> usize
     requires single_valued { IsSingleValued domain.old }
     requires loan { IsUnwrittenLoan domain.old loan }
     requires lent { HasLender domain.old (unwritten_key loan) }
