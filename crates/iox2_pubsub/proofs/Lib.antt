@@ -15,3 +15,4 @@ pub mod DiscardShows
 pub mod QuestionShown
 pub mod UpdatesStay
 pub mod UpdateShown
+pub mod SureLoans

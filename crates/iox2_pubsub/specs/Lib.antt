@@ -3,3 +3,4 @@ pub mod ReceivedSamples
 pub mod SendCalls
 pub mod QuestionCalls
 pub mod UpdateCalls
+pub mod SureLoans

@@ -14,3 +14,4 @@ pub mod CarriedQuestions
 pub mod CarriedSamples
 pub mod CarriedUpdates
 pub mod LeavingSteps
+pub mod ComparedRuns

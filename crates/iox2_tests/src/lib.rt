@@ -35,3 +35,5 @@ mod sends;
 mod subscribers;
 #[cfg(test)]
 mod updates;
+#[cfg(test)]
+mod worst_cases;
