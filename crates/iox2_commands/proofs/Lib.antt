@@ -35,6 +35,7 @@ pub mod FillingBoxes
 pub mod FillingSteps
 pub mod FillingAll
 pub mod FillingLaws
+pub mod FillingLists
 pub mod AlikeViews
 pub mod AlikeUpdates
 pub mod AlikeReceives
@@ -66,3 +67,7 @@ pub mod WorkedRunsOfForgottenPublishers
 pub mod WorkedRunsOfWarnings
 pub mod WorkedRunsOfSlices
 pub mod WorkedRunsOfRefusals
+pub mod RefusalWarnings
+pub mod RefusalStates
+pub mod RefusalSteps
+pub mod RefusalRuns

@@ -10,3 +10,4 @@ pub mod Isolation
 pub mod Laws
 pub mod RunLaws
 pub mod Existence
+pub mod Refusals

@@ -20,3 +20,4 @@ pub mod PayloadLists
 pub mod WaitingShown
 pub mod UpToDateShown
 pub mod ClosesWait
+pub mod SureLoans

@@ -46,6 +46,20 @@ impl<T: Drop, U: Default + Drop> Domain<T, U> {
         ensures settings { IfOk result (λ d. d.config ≡ config) }
         ensures single_valued { IfOk result (λ d. config.units_per_element ≡ 1 → IsSingleValued d) }
     {
+        Self::with_handlers(alloc, config)
+    }
+}
+
+impl<T: Drop, U: Default + Drop, F: BackpressureFn, G: DegradationFn> Domain<T, U, F, G> {
+    /// As `new`, for a domain whose ports may have handlers of these types.
+    ///
+    /// Fails with `DomainCreateError::OutOfMemory` where memory is refused.
+    pub fn with_handlers(alloc: Global, config: ServiceConfig) -> Result<Self, DomainCreateError>
+        requires fixed_size { config.variant ≡ FixedSize }
+        ensures fresh { IfOk result (λ d. Shows d no_messages (fresh config)) }
+        ensures settings { IfOk result (λ d. d.config ≡ config) }
+        ensures single_valued { IfOk result (λ d. config.units_per_element ≡ 1 → IsSingleValued d) }
+    {
         let Ok(state) = DomainState::new(alloc, config) else {
             return Err(DomainCreateError::OutOfMemory);
         };
@@ -55,9 +69,7 @@ impl<T: Drop, U: Default + Drop> Domain<T, U> {
             degradation: PhantomData,
         })
     }
-}
 
-impl<T: Drop, U: Default + Drop, F: BackpressureFn, G: DegradationFn> Domain<T, U, F, G> {
     /// The domain's settings. A domain always shows some state, with some messages.
     pub fn config(&self) -> &ServiceConfig
         ensures value { result.now ≡ self.now.config }

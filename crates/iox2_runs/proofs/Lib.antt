@@ -15,3 +15,4 @@ pub mod CarriedSamples
 pub mod CarriedUpdates
 pub mod LeavingSteps
 pub mod CarriedCloses
+pub mod ComparedRuns

@@ -39,3 +39,5 @@ mod stays;
 mod subscribers;
 #[cfg(test)]
 mod updates;
+#[cfg(test)]
+mod worst_cases;

@@ -7,6 +7,7 @@ use Rattle.iox2_pubsub.proofs.CallsStay.{always-shown, loan-is-new, loan-stays}
 use Rattle.iox2_pubsub.proofs.LiveParts.{publisher-parts}
 use Rattle.iox2_pubsub.proofs.WaitingShown.{loan-waits}
 use Rattle.iox2_pubsub.proofs.UpToDateShown.{loan-leaves}
+use Rattle.iox2_pubsub.proofs.SureLoans.{sure-granted}
 use Rattle.iox2_pubsub.proofs.publisher.Publisher.loan_uninit.Goals as goal
 
 pub returns-in_err-loan-clause-lends : goal.returns-in_err-loan-clause-lends
@@ -18,6 +19,11 @@ pub returns-clause-lends : goal.returns-clause-lends
 returns-clause-lends g c = λ m s shown.
     ok-shown {T = g.row.T.Denot} {U = g.row.U.Denot} g.U.Default.is_default c.domain.inside.state c.loan.new.state c.find_live_publisher-place.result c.args.self.now.id c.loan.result
     c.find_live_publisher-place.ensures c.loan.ensures.reaches _ c.in_ok-loan.loan c.in_ok-loan.loan c.in_ok-loan.was c.args.domain.now c.domain.view_is m s shown
+
+pub returns-in_err-loan-clause-granted : goal.returns-in_err-loan-clause-granted
+returns-in_err-loan-clause-granted g c = λ sure.
+    absurd (sure-granted {T = g.row.T.Denot} {U = g.row.U.Denot} g.U.Default.is_default c.domain.inside.state c.loan.new.state c.domain.invariant c.find_live_publisher-place.result c.args.self.now
+    c.find_live_publisher-place.ensures c.loan.result c.loan.ensures.reaches c.in_err-loan.field-0.0 c.in_err-loan.was c.args.domain.now c.domain.view_is sure)
 
 pub returns-clause-live : goal.returns-clause-live
 returns-clause-live g c =
