@@ -8,7 +8,7 @@ use Rattle.iox2_store.specs.machine.Records.{Publisher, Subscriber, SubscriberSe
 use Rattle.iox2_store.specs.machine.State.{State, Messages, fresh, no_messages}
 use Rattle.iox2_store.specs.machine.WellFormed.{IsWellFormed}
 use Rattle.iox2_store.specs.machine.Loans.{is_static}
-use Rattle.iox2_store.specs.machine.Ports.{first_segment_fits}
+use Rattle.iox2_store.specs.machine.Ports.{first_segment_fits, publisher_closed, subscriber_closed}
 use Rattle.iox2_store.specs.machine.Environments.{fixed_handlers, ample_memory}
 use Rattle.iox2_store.specs.declared.degradation.DegradationAction.{DegradationAction}
 use Rattle.iox2_store.specs.declared.allocation.AllocationStrategy.{AllocationStrategy}
@@ -24,14 +24,15 @@ use Rattle.iox2_commands.specs.Step.{Step, after_publisher, after_subscriber, pu
 use Rattle.iox2_commands.specs.Runs.{Defaults, RunTo, only_defaults}
 use Rattle.iox2_commands.specs.Refusals.{TellNoRefusal, WarnsOfRefusals, RefusesPort, RefuseNoPort, RunsWithoutRefusalsAreAmple, SubscribersAreIsolatedWithoutRefusals}
 use Rattle.iox2_commands.specs.declared.command.Command.{Command}
-use Rattle.iox2_commands.specs.declared.command.Command.TheVariants.{Nothing, CreatePublisher, CreateSubscriber, LoanUninit, WriteAll, Send, Discard, Update, Receive, HasSamples, Read, Release}
+use Rattle.iox2_commands.specs.declared.command.Command.TheVariants.{Nothing, CreatePublisher, CreateSubscriber, LoanUninit, WriteAll, Send, Discard, Update, Receive, HasSamples, Read, Release, Close}
 use Rattle.iox2_commands.specs.declared.reply.Reply.{Reply}
 use Rattle.iox2_commands.proofs.Isolation.{subscribers_are_isolated}
+use Rattle.iox2_commands.proofs.Named.{subscriber_is}
 use Rattle.iox2_commands.proofs.StepLaws.{IsSound, step_sound}
 use Rattle.iox2_commands.proofs.AlikeOpen.{state_publisher, state_subscriber, state_loan, state_update, state_question, state_receive, state_send}
 use Rattle.iox2_commands.proofs.RefusalWarnings.{option_maps, update_publisher_ample, update_publisher_told, update_subscriber_ample, update_subscriber_told}
-use Rattle.iox2_commands.proofs.RefusalStates.{AllWarn, update_publisher_warn, update_subscriber_warn, receive_warn, released_warn, with_loan_warn, grant_loan_warn, loan_discarded_warn, send_warn, create_publisher_warn, create_subscriber_warn}
-use Rattle.iox2_commands.proofs.RefusalSteps.{released_same, grant_loan_ample, send_ample, receive_ample, create_publisher_ample, create_subscriber_ample}
+use Rattle.iox2_commands.proofs.RefusalStates.{AllWarn, update_publisher_warn, update_subscriber_warn, receive_warn, released_warn, with_loan_warn, grant_loan_warn, loan_discarded_warn, send_warn, create_publisher_warn, create_subscriber_warn, publisher_closed_warn, subscriber_closed_warn}
+use Rattle.iox2_commands.proofs.RefusalSteps.{released_same, subscriber_closed_same, grant_loan_ample, send_ample, receive_ample, create_publisher_ample, create_subscriber_ample}
 
 module _ {T U : Type 0} (default_value : T) (default_header : U) (m : Messages T U) (s : State T U) (handles : List Handle) (k : AllWarn s) where
   -- what holds of a state holds of that of an outcome
@@ -84,6 +85,15 @@ module _ {T U : Type 0} (default_value : T) (default_header : U) (m : Messages T
       (λ sample _ j. by_option (AllWarn o.state) (m sample.2) _ _ j (λ _ v. absurd v)
       (λ entry _ j. live_warn o (slice_get entry.values at) _ j (λ value e. by AllWarn o _ s e refl k)))
   step_warns (Release of) o plain h = live_warn o (sample_at s handles of) _ h (λ sample j. by AllWarn o _ _ j refl (released_warn s sample.0 sample.1 sample.2 k))
+  step_warns (Close of) o plain h =
+      by_option (AllWarn o.state) (unblocked_at s handles of) _ _ h
+      (λ _ j. live_warn_named o j)
+      (λ publisher _ j. by AllWarn o _ _ j refl (publisher_closed_warn s publisher.0 publisher.1 k))
+    where
+      live_warn_named : (o : Outcome T U) → MatchOption (subscriber_at s handles of) (o ≡ skipped s) (λ subscriber. o ≡ done (subscriber_closed s subscriber.0 subscriber.1)) → AllWarn o.state
+      live_warn_named o j =
+          by_option (AllWarn o.state) (subscriber_at s handles of) _ _ j (λ _ e. by AllWarn o (skipped s) s e refl k)
+          (λ subscriber named e. by AllWarn o _ _ e refl (subscriber_closed_warn s subscriber.0 subscriber.1 (subscriber_is s handles of subscriber named) k))
   step_warns _ o plain h = absurd plain
 
   -- Where the warnings after a step tell of no refusal, and its reply of none, it is a step with ample memory, and the warnings
@@ -160,6 +170,13 @@ module _ {T U : Type 0} (default_value : T) (default_header : U) (m : Messages T
   )
   step_ample (Release of) o plain port told h =
       (h, live_told o (sample_at s handles of) _ h told (λ sample j. subst TellNoRefusal (released_same s sample.0 sample.1 sample.2) (back Told o _ _ j refl told)))
+  step_ample (Close of) o plain port told h = (
+    h,
+    by_option (TellNoRefusal s.warnings) (unblocked_at s handles of) _ _ h
+        (λ _ j. live_told o (subscriber_at s handles of) _ j told (λ subscriber j.
+        subst TellNoRefusal (subscriber_closed_same s subscriber.0 subscriber.1) (back Told o _ _ j refl told)))
+        (λ publisher _ j. back Told o _ _ j refl told),
+  )
   step_ample _ o plain port told h = absurd plain
 
 -- what holds of all holds of the first and of the others

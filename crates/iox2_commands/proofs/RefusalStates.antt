@@ -14,8 +14,8 @@ use Rattle.iox2_store.specs.machine.SubscriberUpdate.{UpdateSubscriber}
 use Rattle.iox2_store.specs.machine.Loans.{GrantLoan, is_static, limit_error, loan_discarded}
 use Rattle.iox2_store.specs.machine.Sends.{Send, SendResult, Publish, ConcludeSend, published, with_mailboxes}
 use Rattle.iox2_store.specs.machine.Receives.{Receive, TakeSample, ReceiveResult, Got_sample, No_sample, Receive_error}
-use Rattle.iox2_store.specs.machine.Releases.{released, pruned, unborrowed, subscriber_pruned, is_unused, place_freed}
-use Rattle.iox2_store.specs.machine.Ports.{new_publisher, new_subscriber, with_new_publisher, with_new_subscriber, with_failure_warning, MakePublisher, CreatePublisher, MakeSubscriber, CreateSubscriber, first_segment_fits, buffer_for}
+use Rattle.iox2_store.specs.machine.Releases.{released, pruned, unborrowed, subscriber_pruned, is_unused, place_freed, freed_if_unused}
+use Rattle.iox2_store.specs.machine.Ports.{new_publisher, new_subscriber, with_new_publisher, with_new_subscriber, with_failure_warning, MakePublisher, CreatePublisher, MakeSubscriber, CreateSubscriber, first_segment_fits, buffer_for, publisher_gone, publisher_closed, subscriber_shut, subscriber_closed}
 use Rattle.iox2_store.specs.declared.degradation.DegradationAction.TheVariants.{Warn}
 use Rattle.iox2_store.specs.declared.warning.Warning.{Warning}
 use Rattle.iox2_store.specs.declared.errors.ConnectionFailure.{ConnectionFailure}
@@ -43,6 +43,9 @@ module _ {A : Type 0} (P : A → Type 0) where
 
   map_each : (f : ℕ → Option A) (change : A → A) → EachIs f → ((a : A) → P a → P (change a)) → EachIs (λ i. option_map change (f i))
   map_each f change all go i a e = found_mapped change (f i) a (P a) e (λ b h same. subst P (sym same) (go b (all i b h)))
+
+  each_mapped : (f : ℕ → Option A) (change : ℕ → A → A) → EachIs f → ((i : ℕ) (a : A) → P a → P (change i a)) → EachIs (λ i. option_map (change i) (f i))
+  each_mapped f change all go i a e = found_mapped (change i) (f i) a (P a) e (λ b h same. subst P (sym same) (go i b (all i b h)))
 
   removed_each : (f : ℕ → Option A) (k : ℕ) → EachIs f → EachIs (put_at f k None)
   removed_each f k all i a e = found_removed f k i a (P a) e (λ _ h. all i a h)
@@ -107,23 +110,42 @@ module _ {T U : Type 0} where
       (λ _ j. by_option (AllWarn s') ((h.0).subscribers q) _ _ j (λ _ v. absurd v) (λ y _ j. take_warn h.0 s' q y result j mid))
       (λ f _ j. subst AllWarn (sym j.0) mid)
 
-  pub released_warn : (s : State T U) (p q n : ℕ) → AllWarn s → AllWarn (released s p q n)
-  released_warn s p q n k = at (is_unused after q) where
+  -- a subscriber forgets departed publishers, and goes where it is unused
+  pruned_warn : (s : State T U) (q : ℕ) → AllWarn s → AllWarn (freed_if_unused (subscriber_pruned s q) q)
+  pruned_warn s q k = at (is_unused after q) where
     after : State T U
-    after = subscriber_pruned (unborrowed s p q n) q
+    after = subscriber_pruned s q
 
-    pruned_warn : AllWarn after
-    pruned_warn = record {
+    after_warn : AllWarn after
+    after_warn = record {
       publishers = k.publishers;
-      subscribers = changed_each WarningSubscriber s.subscribers q (pruned (unborrowed s p q n) q) k.subscribers (λ y w. w);
+      subscribers = changed_each WarningSubscriber s.subscribers q (pruned s q) k.subscribers (λ y w. w);
     }
 
     at : (b : Bool) → AllWarn (cond b (place_freed after q) after)
     at true = record {
       publishers = map_each WarningPublisher s.publishers (λ x. record x { is_due = true }) k.publishers (λ x. changed_warning x _ refl refl);
-      subscribers = removed_each WarningSubscriber after.subscribers q pruned_warn.subscribers;
+      subscribers = removed_each WarningSubscriber after.subscribers q after_warn.subscribers;
     }
-    at false = pruned_warn
+    at false = after_warn
+
+  pub released_warn : (s : State T U) (p q n : ℕ) → AllWarn s → AllWarn (released s p q n)
+  released_warn s p q n k = pruned_warn (unborrowed s p q n) q (record { publishers = k.publishers; subscribers = k.subscribers })
+
+  -- ---- closes
+
+  pub publisher_closed_warn : (s : State T U) (p : ℕ) (x : Publisher) → AllWarn s → AllWarn (publisher_closed s p x)
+  publisher_closed_warn s p x k = record {
+    publishers = removed_each WarningPublisher s.publishers p k.publishers;
+    subscribers = map_each WarningSubscriber (λ q. option_map (pruned (publisher_gone s p x) q) (s.subscribers q)) (λ y. record y { is_due = true })
+        (each_mapped WarningSubscriber s.subscribers (pruned (publisher_gone s p x)) k.subscribers (λ q y w. w)) (λ y w. w);
+  }
+
+  pub subscriber_closed_warn : (s : State T U) (q : ℕ) (y : Subscriber) → s.subscribers q ≡ Some y → AllWarn s → AllWarn (subscriber_closed s q y)
+  subscriber_closed_warn s q y stands k = pruned_warn (subscriber_shut s q y) q (record {
+    publishers = map_each WarningPublisher s.publishers (λ x. record x { is_due = true }) k.publishers (λ x. changed_warning x _ refl refl);
+    subscribers = put_each WarningSubscriber s.subscribers q (record y { is_open = false }) k.subscribers (k.subscribers q y stands);
+  })
 
   -- ---- loans and sends
 

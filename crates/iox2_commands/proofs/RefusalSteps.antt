@@ -16,8 +16,8 @@ use Rattle.iox2_store.specs.machine.SubscriberUpdate.{UpdateSubscriber}
 use Rattle.iox2_store.specs.machine.Loans.{GrantLoan, is_static, limit_error, loan_discarded}
 use Rattle.iox2_store.specs.machine.Sends.{Send, SendResult, Send_error, Publish, ConcludeSend, published, with_mailboxes}
 use Rattle.iox2_store.specs.machine.Receives.{Receive, HasSamples, TakeSample, ReceiveResult, Got_sample, No_sample, Receive_error}
-use Rattle.iox2_store.specs.machine.Releases.{released, unborrowed, subscriber_pruned, is_unused, place_freed}
-use Rattle.iox2_store.specs.machine.Ports.{with_new_publisher, with_new_subscriber, with_failure_warning, MakePublisher, CreatePublisher, MakeSubscriber, CreateSubscriber, first_segment_fits, buffer_for}
+use Rattle.iox2_store.specs.machine.Releases.{released, unborrowed, subscriber_pruned, is_unused, place_freed, freed_if_unused}
+use Rattle.iox2_store.specs.machine.Ports.{with_new_publisher, with_new_subscriber, with_failure_warning, MakePublisher, CreatePublisher, MakeSubscriber, CreateSubscriber, first_segment_fits, buffer_for, subscriber_shut, subscriber_closed}
 use Rattle.iox2_store.specs.machine.Environments.{fixed_handlers, ample_memory}
 use Rattle.iox2_store.specs.declared.backpressure.BackpressureAction.{BackpressureAction}
 use Rattle.iox2_store.specs.declared.backpressure.BackpressureInfo.{BackpressureInfo}
@@ -74,14 +74,20 @@ module _ {T U : Type 0} where
   told_same : (s s' : State T U) → s'.warnings ≡ s.warnings → TellNoRefusal s'.warnings → TellNoRefusal s.warnings
   told_same s s' same told = subst TellNoRefusal same told
 
-  pub released_same : (s : State T U) (p q n : ℕ) → (released s p q n).warnings ≡ s.warnings
-  released_same s p q n = at (is_unused after q) where
+  pruned_same : (s : State T U) (q : ℕ) → (freed_if_unused (subscriber_pruned s q) q).warnings ≡ s.warnings
+  pruned_same s q = at (is_unused after q) where
     after : State T U
-    after = subscriber_pruned (unborrowed s p q n) q
+    after = subscriber_pruned s q
 
     at : (b : Bool) → (cond b (place_freed after q) after).warnings ≡ s.warnings
     at true = refl
     at false = refl
+
+  pub released_same : (s : State T U) (p q n : ℕ) → (released s p q n).warnings ≡ s.warnings
+  released_same s p q n = pruned_same (unborrowed s p q n) q
+
+  pub subscriber_closed_same : (s : State T U) (q : ℕ) (y : Subscriber) → (subscriber_closed s q y).warnings ≡ s.warnings
+  subscriber_closed_same s q y = pruned_same (subscriber_shut s q y) q
 
   -- ---- loans
 

@@ -19,7 +19,7 @@ use Rattle.iox2_commands.specs.Step.{publisher_settings}
 use Rattle.iox2_commands.specs.Isolation.{AreIndependent, reads_at}
 use Rattle.iox2_commands.specs.Views.{SameView, OmitsOthersFrom}
 use Rattle.iox2_commands.specs.declared.command.Command.{Command}
-use Rattle.iox2_commands.specs.declared.command.Command.TheVariants.{Nothing, CreatePublisher, CreateSubscriber, LoanUninit, WriteAll, Send, Discard, Update, Receive, HasSamples, Read, Release}
+use Rattle.iox2_commands.specs.declared.command.Command.TheVariants.{Nothing, CreatePublisher, CreateSubscriber, LoanUninit, WriteAll, Send, Discard, Update, Receive, HasSamples, Read, Release, Close}
 use Rattle.iox2_commands.specs.declared.reply.Reply.{Reply}
 use Rattle.iox2_commands.specs.declared.reply.Reply.TheVariants.{SubscriberMade, PublisherRefused, SubscriberRefused}
 
@@ -49,6 +49,7 @@ module _ {T U : Type 0} where
   WarnsOfRefusals (HasSamples of) = Unit {0}
   WarnsOfRefusals (Read of at) = Unit {0}
   WarnsOfRefusals (Release of) = Unit {0}
+  WarnsOfRefusals (Close of) = Unit {0}
   WarnsOfRefusals _ = ⊥
 
   -- The reply to the command refuses a port for want of memory.

@@ -10,7 +10,7 @@ use Rattle.iox2_commands.specs.Refusals.{WarnsOfRefusals, MetNoRefusal}
 use Rattle.iox2_commands.specs.Runs.{only_defaults}
 use Rattle.iox2_commands.specs.Views.{OmitsOthersFrom}
 use Rattle.iox2_commands.specs.declared.command.Command.{Command}
-use Rattle.iox2_commands.specs.declared.command.Command.TheVariants.{Nothing, CreatePublisher, CreateSubscriber, LoanUninit, WriteAll, Send, Discard, Update, Receive, HasSamples, Read, Release}
+use Rattle.iox2_commands.specs.declared.command.Command.TheVariants.{Nothing, CreatePublisher, CreateSubscriber, LoanUninit, WriteAll, Send, Discard, Update, Receive, HasSamples, Read, Release, Close}
 use Rattle.iox2_commands.specs.declared.reply.Reply.{Reply}
 use Rattle.iox2_commands.proofs.RefusalRuns.{isolated_without_refusals}
 use Rattle.iox2_runs.specs.Compared.{AreCompared}
@@ -32,6 +32,7 @@ module _ {T U : Type 0} where
   supported_warns (HasSamples of) h = tt
   supported_warns (Read of at) h = tt
   supported_warns (Release of) h = tt
+  supported_warns (Close of) h = tt
   supported_warns _ h = absurd h
 
   all_warn : (commands : List (Command T U)) → All IsSupportedCommand commands → All WarnsOfRefusals commands
