@@ -3,6 +3,7 @@ pub mod Named
 pub mod StepLaws
 pub mod Lift
 pub mod EnoughRuns
+pub mod Points
 pub mod RunInduction
 pub mod Subsequences
 pub mod Ordered

@@ -1,5 +1,5 @@
 -- A run whose warnings and replies tell of no refused memory is one with ample memory.
-use Rattle.std.proofs.Common.{◌≡◌, ℕ, suc, false, arith, List, [], ◌∷◌, ◌++◌, refl, sym, ap, subst, ◌∙◌, Option, None, Some}
+use Rattle.std.proofs.Common.{◌≡◌, ℕ, zero, suc, false, arith, List, [], ◌∷◌, ◌++◌, take, drop, refl, sym, ap, subst, ◌∙◌, Option, None, Some}
 use Rattle.std.specs.Prelude.{MatchOption, slice_get}
 use Rattle.std.specs.List.{All}
 use Rattle.std.proofs.lemmas.Option.{none-some}
@@ -17,17 +17,21 @@ use Rattle.iox2_store.specs.declared.errors.PublisherCreateError.TheVariants.{Un
 use Rattle.iox2_store.specs.declared.errors.SubscriberCreateError.{SubscriberCreateError}
 use Rattle.iox2_store.specs.declared.errors.SubscriberCreateError.TheVariants.{FailedToDeployThreadsafetyPolicy as NoSubscriberState}
 use Rattle.iox2_store.specs.declared.service_config.ServiceConfig.{ServiceConfig}
+use Rattle.iox2_laws.specs.Laws.{Advances}
 use Rattle.iox2_laws.proofs.Cases.{by_option}
 use Rattle.iox2_laws.proofs.Enough.{fresh_is_well_formed}
 use Rattle.iox2_commands.specs.Outcomes.{Handle, Event, Outcome, messages_after, done, skipped}
 use Rattle.iox2_commands.specs.Step.{Step, after_publisher, after_subscriber, publisher_settings, unblocked_at, subscriber_at, loan_at, unwritten_at, with_cell_at, sendable_at, sample_at, if_single_units, if_fixed_size}
-use Rattle.iox2_commands.specs.Runs.{Defaults, RunTo, only_defaults}
-use Rattle.iox2_commands.specs.Refusals.{TellNoRefusal, WarnsOfRefusals, RefusesPort, RefuseNoPort, RunsWithoutRefusalsAreAmple, SubscribersAreIsolatedWithoutRefusals}
+use Rattle.iox2_commands.specs.Points.{PointOf}
+use Rattle.iox2_commands.specs.Runs.{Defaults, RunFrom, RunTo, only_defaults}
+use Rattle.iox2_commands.specs.Refusals.{TellNoRefusal, WarnsOfRefusals, RefusesPort, RefuseNoPort, MetNoRefusal, RunsWithoutRefusalsAreAmple, SubscribersAreIsolatedWithoutRefusals, ViewsStayAlikeWithoutRefusals}
 use Rattle.iox2_commands.specs.declared.command.Command.{Command}
 use Rattle.iox2_commands.specs.declared.command.Command.TheVariants.{Nothing, CreatePublisher, CreateSubscriber, LoanUninit, WriteAll, Send, Discard, Update, Receive, HasSamples, Read, Release, Close}
 use Rattle.iox2_commands.specs.declared.reply.Reply.{Reply}
-use Rattle.iox2_commands.proofs.Isolation.{subscribers_are_isolated}
+use Rattle.iox2_commands.proofs.EnoughRuns.{run_sound}
+use Rattle.iox2_commands.proofs.Isolation.{subscribers_are_isolated, views_stay_alike}
 use Rattle.iox2_commands.proofs.Named.{subscriber_is}
+use Rattle.iox2_commands.proofs.Points.{run_to, run_from}
 use Rattle.iox2_commands.proofs.StepLaws.{IsSound, step_sound}
 use Rattle.iox2_commands.proofs.AlikeOpen.{state_publisher, state_subscriber, state_loan, state_update, state_question, state_receive, state_send}
 use Rattle.iox2_commands.proofs.RefusalWarnings.{option_maps, update_publisher_ample, update_publisher_told, update_subscriber_ample, update_subscriber_told}
@@ -186,6 +190,20 @@ first_of P x xs all = all 0 x (omega arith)
 others_of : {A : Type 0} (P : A → Type 0) (x : A) (xs : List A) → All P (x ∷ xs) → All P xs
 others_of P x xs all = λ i d inside. all (suc i) d (omega (arith, inside))
 
+-- what holds of all holds of the first n, and of those past them
+all_taken : {A : Type 0} (P : A → Type 0) (n : ℕ) (xs : List A) → All P xs → All P (take n xs)
+all_taken P zero xs all = λ i d inside. absurd (omega (arith, inside))
+all_taken P (suc n) [] all = λ i d inside. absurd (omega (arith, inside))
+all_taken P (suc n) (x ∷ xs) all = all_more (first_of P x xs all) (all_taken P n xs (others_of P x xs all)) where
+  all_more : P x → All P (take n xs) → All P (x ∷ take n xs)
+  all_more here rest zero d inside = here
+  all_more here rest (suc i) d inside = rest i d (omega (arith, inside))
+
+all_dropped : {A : Type 0} (P : A → Type 0) (n : ℕ) (xs : List A) → All P xs → All P (drop n xs)
+all_dropped P zero xs all = all
+all_dropped P (suc n) [] all = all
+all_dropped P (suc n) (x ∷ xs) all = all_dropped P n xs (others_of P x xs all)
+
 module _ {T U : Type 0} (defaults : Defaults T U) where
   -- A run whose last warnings and whose replies tell of no refused memory is one with ample memory, and the warnings before it
   -- told of none.
@@ -219,3 +237,61 @@ module _ {T U : Type 0} where
       subscribers_are_isolated default_value default_header c position q commands reduced later replies replies' events events' m m' s s' handles handles' omits independent
       (runs_without_refusals default_value default_header c commands replies events m s handles plain met h)
       (runs_without_refusals default_value default_header c reduced replies' events' m' s' handles' plain' met' h') made same
+
+  -- ---- at each point
+
+  -- the first commands of a run that met no refusal met none
+  refuse_no_port_taken : (c : ServiceConfig) (n : ℕ) (commands : List (Command T U)) (replies : List (Reply T U)) → RefuseNoPort c commands replies → RefuseNoPort c (take n commands) (take n replies)
+  refuse_no_port_taken c zero commands replies h = tt
+  refuse_no_port_taken c (suc n) [] replies h = tt
+  refuse_no_port_taken c (suc n) (command ∷ commands) [] h = tt
+  refuse_no_port_taken c (suc n) (command ∷ commands) (reply ∷ replies) h = (h.0, refuse_no_port_taken c n commands replies h.1)
+
+  -- nor did the others
+  refuse_no_port_dropped : (c : ServiceConfig) (n : ℕ) (commands : List (Command T U)) (replies : List (Reply T U)) → RefuseNoPort c commands replies → RefuseNoPort c (drop n commands) (drop n replies)
+  refuse_no_port_dropped c zero commands replies h = h
+  refuse_no_port_dropped c (suc n) [] replies h = tt
+  refuse_no_port_dropped c (suc n) (command ∷ commands) [] h = nothing_replied (drop n commands) where
+    nothing_replied : (rest : List (Command T U)) → RefuseNoPort c rest []
+    nothing_replied [] = tt
+    nothing_replied (next ∷ rest) = tt
+  refuse_no_port_dropped c (suc n) (command ∷ commands) (reply ∷ replies) h = refuse_no_port_dropped c n commands replies h.1
+
+  module _ (defaults : Defaults T U) where
+    -- Ports warn at the end of a run as at its start.
+    run_warns : (m : Messages T U) (s : State T U) (handles : List Handle) (commands : List (Command T U)) (replies : List (Reply T U)) (events : List (Event T U))
+        (m' : Messages T U) (s' : State T U) → AllWarn s → All WarnsOfRefusals commands → RunFrom fixed_handlers defaults m s handles commands replies events m' s' → AllWarn s'
+    run_warns m s handles [] [] [] m' s' k plain h = subst AllWarn (sym h.1) k
+    run_warns m s handles (command ∷ commands) (reply ∷ replies) (event ∷ events) m' s' k plain h =
+        run_warns (messages_after (h.4).event m) (h.4).state (handles ++ (h.4).handle ∷ []) commands replies events m' s'
+        (step_warns h.0 h.1 m s handles k command h.4 (first_of WarnsOfRefusals command commands plain) h.5) (others_of WarnsOfRefusals command commands plain) h.8
+    run_warns m s handles _ _ _ m' s' k plain h = absurd h
+
+    -- A point of a run that met no refusal is one of a run with ample memory.
+    point_ample : (c : ServiceConfig) (n : ℕ) (commands : List (Command T U)) (replies : List (Reply T U)) (events : List (Event T U)) (m' : Messages T U) (s' : State T U)
+        → All WarnsOfRefusals commands → MetNoRefusal c commands replies s'.warnings
+        → (x : PointOf fixed_handlers defaults no_messages (fresh c) commands replies events m' s' n)
+        → RunTo ample_memory defaults no_messages (fresh c) [] (take n commands) (take n replies) (take n events) x.messages x.state x.handles
+        × RunFrom ample_memory defaults x.messages x.state x.handles (drop n commands) (drop n replies) (drop n events) m' s'
+    point_ample c n commands replies events m' s' plain met x =
+        let before : RunFrom fixed_handlers defaults no_messages (fresh c) [] (take n commands) (take n replies) (take n events) x.messages x.state =
+        run_from fixed_handlers defaults no_messages (fresh c) [] (take n commands) (take n replies) (take n events) x.messages x.state x.handles x.before in
+        let sound : IsWellFormed x.state × Advances (fresh {T = T} {U = U} c) x.state =
+        run_sound fixed_handlers defaults no_messages (fresh c) [] (take n commands) (take n replies) (take n events) x.messages x.state (fresh_is_well_formed c) before in
+        let warn : AllWarn x.state =
+        run_warns no_messages (fresh c) [] (take n commands) (take n replies) (take n events) x.messages x.state (none_warn c) (all_taken WarnsOfRefusals n commands plain) before in
+        let on = run_to fixed_handlers defaults x.messages x.state x.handles (drop n commands) (drop n replies) (drop n events) m' s' x.after in
+        let after = run_ample defaults x.messages x.state x.handles (drop n commands) (drop n replies) (drop n events) m' s' on.0 sound.0 warn (all_dropped WarnsOfRefusals n commands plain)
+        (subst (λ (v : ServiceConfig). RefuseNoPort v (drop n commands) (drop n replies)) (sym (sound.1).config) (refuse_no_port_dropped c n commands replies met.ports)) met.told on.1 in
+        let first = run_ample defaults no_messages (fresh c) [] (take n commands) (take n replies) (take n events) x.messages x.state x.handles (fresh_is_well_formed c) (none_warn c)
+        (all_taken WarnsOfRefusals n commands plain) (refuse_no_port_taken c n commands replies met.ports) after.1 x.before in
+        (first.0, run_from ample_memory defaults x.messages x.state x.handles (drop n commands) (drop n replies) (drop n events) m' s' on.0 after.0)
+
+  -- The law of views at each point, for two runs without refusals.
+  pub views_without_refusals : ViewsStayAlikeWithoutRefusals T U
+  views_without_refusals default_value default_header c position q n commands reduced replies replies' events events' m m' s s' plain plain' met met' omits independent made same x y =
+      let first = point_ample (only_defaults default_value default_header) c n commands replies events m s plain met x in
+      let second = point_ample (only_defaults default_value default_header) c n reduced replies' events' m' s' plain' met' y in
+      views_stay_alike default_value default_header c position q n commands reduced replies replies' events events' m m' s s' omits independent made same
+      (record { messages = x.messages; state = x.state; handles = x.handles; before = first.0; after = first.1 })
+      (record { messages = y.messages; state = y.state; handles = y.handles; before = second.0; after = second.1 })

@@ -1,6 +1,7 @@
 pub mod Outcomes
 pub mod Step
 pub mod Runs
+pub mod Points
 pub mod OneDefault
 pub mod StoredSteps
 pub mod Fills

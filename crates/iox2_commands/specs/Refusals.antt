@@ -14,6 +14,7 @@ use Rattle.iox2_store.specs.declared.service_config.ServiceConfig.{ServiceConfig
 use Rattle.iox2_store.specs.declared.warning.Warning.{Warning}
 use Rattle.iox2_store.specs.declared.warning.Warning.TheVariants.{ConnectionNotMade}
 use Rattle.iox2_commands.specs.Outcomes.{Handle, Event}
+use Rattle.iox2_commands.specs.Points.{PointOf}
 use Rattle.iox2_commands.specs.Runs.{RunTo, only_defaults}
 use Rattle.iox2_commands.specs.Step.{publisher_settings}
 use Rattle.iox2_commands.specs.Isolation.{AreIndependent, reads_at}
@@ -96,3 +97,18 @@ SubscribersAreIsolatedWithoutRefusals T U =
     → SameView q m s handles m' s' handles'
     × ((i of : ℕ) (command : Command T U) → slice_get commands of ≡ Some (Receive position)
     → slice_get commands i ≡ Some command → reads_at of command ≡ true → slice_get replies i ≡ slice_get replies' i)
+
+-- The same at any point of both runs.
+abbrev pub ViewsStayAlikeWithoutRefusals : Type 0 → Type 0 → Type 0
+ViewsStayAlikeWithoutRefusals T U =
+    (default_value : T) (default_header : U) (c : ServiceConfig) (position q n : ℕ) (commands reduced : List (Command T U))
+    (replies replies' : List (Reply T U)) (events events' : List (Event T U)) (m m' : Messages T U) (s s' : State T U)
+    → All WarnsOfRefusals commands → All WarnsOfRefusals reduced
+    → MetNoRefusal c commands replies s.warnings → MetNoRefusal c reduced replies' s'.warnings
+    → OmitsOthersFrom position commands commands reduced
+    → AreIndependent c commands replies
+    → slice_get replies position ≡ Some (SubscriberMade q)
+    → ((i : ℕ) → slice_get commands i ≡ Some (Receive position) → slice_get replies i ≡ slice_get replies' i)
+    → (x : PointOf fixed_handlers (only_defaults default_value default_header) no_messages (fresh c) commands replies events m s n)
+    → (y : PointOf fixed_handlers (only_defaults default_value default_header) no_messages (fresh c) reduced replies' events' m' s' n)
+    → SameView q x.messages x.state x.handles y.messages y.state y.handles

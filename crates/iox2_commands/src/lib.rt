@@ -13,6 +13,7 @@ pub use laws::{
     reached_states_hold_at_most_worst_case, reads_give_what_was_sent, receives_in_order,
     runs_without_refusals_are_ample, samples_name_their_publisher, steps_keep_well_formed,
     steps_lift, subscribers_are_isolated, subscribers_are_isolated_without_refusals,
-    worst_case_is_least, worst_case_is_reached, worst_case_of_slots_grants,
+    views_stay_alike, views_stay_alike_without_refusals, worst_case_is_least,
+    worst_case_is_reached, worst_case_of_slots_grants,
 };
 pub use reply::Reply;

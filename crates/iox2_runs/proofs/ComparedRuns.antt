@@ -12,7 +12,7 @@ use Rattle.iox2_commands.specs.Views.{OmitsOthersFrom}
 use Rattle.iox2_commands.specs.declared.command.Command.{Command}
 use Rattle.iox2_commands.specs.declared.command.Command.TheVariants.{Nothing, CreatePublisher, CreateSubscriber, LoanUninit, WriteAll, Send, Discard, Update, Receive, HasSamples, Read, Release, Close}
 use Rattle.iox2_commands.specs.declared.reply.Reply.{Reply}
-use Rattle.iox2_commands.proofs.RefusalRuns.{isolated_without_refusals}
+use Rattle.iox2_commands.proofs.RefusalRuns.{isolated_without_refusals, views_without_refusals}
 use Rattle.iox2_runs.specs.Compared.{AreCompared}
 use Rattle.iox2_runs.specs.DomainRuns.{RunsOnDomain}
 use Rattle.iox2_runs.specs.Supported.{IsSupportedCommand}
@@ -53,4 +53,10 @@ module _ {T U : Type 0} where
         (subst (MetNoRefusal c reduced replies') (sym (ap (λ (z : State T U). z.warnings) (second.shown).state)) met')
         (subst (λ (whole : List (Command T U)). OmitsOthersFrom position whole commands reduced) (sym (append-nil commands)) omits)
         independent first.run second.run made same;
+    throughout = λ position q n omits independent met met' made same x y.
+        views_without_refusals default_value default_header c position q n commands reduced replies replies' first.events second.events first.messages second.messages
+        first.state second.state (all_warn commands plain) (all_warn reduced plain')
+        (subst (MetNoRefusal c commands replies) (sym (ap (λ (z : State T U). z.warnings) (first.shown).state)) met)
+        (subst (MetNoRefusal c reduced replies') (sym (ap (λ (z : State T U). z.warnings) (second.shown).state)) met')
+        omits independent made same x y;
   }

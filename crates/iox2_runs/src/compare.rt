@@ -19,8 +19,8 @@ use std::alloc::Global;
 /// The second list may leave out some calls of other subscribers than one, which the first has: their
 /// receives, questions and updates, and what releases or reads their samples, with `Nothing` in
 /// place of each. Then that subscriber isn't felt to be slower or faster: if its own receives get
-/// the same replies in both runs, it sees the same at the end of both, and reads of its samples get
-/// the same replies. So it is where each publisher has as many slots as `worst_case_slots` says and
+/// the same replies in both runs, it sees the same after each number of commands in both, and reads
+/// of its samples get the same replies. So it is where each publisher has as many slots as `worst_case_slots` says and
 /// never waits for a receiver, no subscriber is closed, and neither run was refused memory: each
 /// port was made, no warning of the domains says that a connection wasn't made, and none was
 /// forgotten.
