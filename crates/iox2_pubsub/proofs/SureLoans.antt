@@ -7,8 +7,8 @@ use Rattle.std.specs.declared.option.Option.TheVariants.{None, Some}
 use Rattle.std.specs.Prelude.{IsSomeAnd}
 use Rattle.iox2_store.specs.SlotContents.{ContentState}
 use Rattle.iox2_store.specs.machine.Environments.{ample_memory}
-use Rattle.iox2_store.specs.machine.Limits.{buffer_limit}
-use Rattle.iox2_store.specs.machine.Loans.{GrantLoan}
+use Rattle.iox2_store.specs.machine.Limits.{buffer_limit, worst_case, last_number}
+use Rattle.iox2_store.specs.machine.Loans.{GrantLoan, is_static}
 use Rattle.iox2_store.specs.machine.Records.{Publisher}
 use Rattle.iox2_store.specs.machine.State.{State}
 use Rattle.iox2_store.specs.declared.errors.LoanError.{LoanError}
@@ -20,8 +20,34 @@ use Rattle.iox2_domain.specs.Lending.{LoanReaches}
 use Rattle.iox2_domain.specs.Ports.{PublisherFields}
 use Rattle.iox2_domain.specs.declared.loan_slots.LoanAt.{LoanAt}
 use Rattle.iox2_domain.proofs.lemmas.fields.ConnectionEnds.{publisher-stands}
-use Rattle.iox2_pubsub.specs.SureLoans.{IsSureOfLoan}
+use Rattle.iox2_pubsub.proofs.LoansLeftShown.{loan-left, number-left}
+use Rattle.iox2_pubsub.specs.LoansLeft.{CanLend, HasLoansLeft, HasNumbersLeft}
 use Rattle.iox2_pubsub.specs.declared.publisher.Publisher.{Publisher as PublisherHandle}
+
+-- The publisher has its slots in one segment, at least as many as the worst case for its limit of loans, and has fewer loans
+-- out than that limit; and the domain has a message number left.
+pub record IsSureOfLoan {T U : Type 0} (domain : Kept T U) (publisher : PublisherHandle) : Type 0 where
+  pub port : Publisher
+  pub stands : (state_of domain).publishers publisher.id ≡ Some port
+  pub static : is_static port.allocation_strategy ≡ true
+  pub slots : worst_case domain.config port.max_loaned_samples ≤ port.slots
+  pub few : length port.loans < port.max_loaned_samples
+  pub more : domain.next_message < last_number
+
+fewer_than : (loans most : ℕ) → loans + 1 ≤ most → loans < most
+fewer_than loans most h = omega arith
+
+-- it has a loan left, and the domain a number
+pub sure-of-loan : {T U : Type 0} (domain : Kept T U) (publisher : PublisherHandle) → HasLoansLeft domain publisher 1 → HasNumbersLeft domain 1 → IsSureOfLoan domain publisher
+sure-of-loan {T} {U} domain publisher left numbers =
+    let can : CanLend (state_of domain) publisher.id 1 = loan-left domain publisher left in record {
+      port = can.port;
+      stands = can.stands;
+      static = can.static;
+      slots = can.slots;
+      few = fewer_than (length (can.port).loans) (can.port).max_loaned_samples can.few;
+      more = number-left domain numbers;
+    }
 
 -- where a loan may be out there is a slot
 some_slot : (others loans most slots : ℕ) → others + most ≤ slots → loans < most → 0 < slots
