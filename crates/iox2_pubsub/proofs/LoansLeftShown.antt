@@ -30,9 +30,9 @@ use Rattle.iox2_pubsub.specs.declared.send_outcome.SendOutcome.{SendOutcome}
 use Rattle.iox2_pubsub.specs.declared.send_outcome.SendOutcome.TheVariants.{Delivered}
 use Rattle.iox2_pubsub.proofs.LoansLeft.{LoansKept, LoanTaken, LoanEnds, set_kept, update_publisher_kept, update_subscriber_kept, receive_kept, released_kept, subscriber_closed_kept, create_publisher_kept, created_lends, create_subscriber_kept, kept_itself, kept_lends, closed_lends, loan_taken, discarded_ends, send_ends, ended_lends, others_lend, lends_fewer}
 
--- one number more than none is one
-below_last : (n last : ℕ) → n + 1 ≤ last → n < last
-below_last n last h = omega arith
+-- a number that is left is below the last
+below_last : (now n last : ℕ) → now + (n + 1) ≤ last → now < last
+below_last now n last h = omega arith
 
 fewer_numbers : (now was n last : ℕ) → now ≡ was + 1 → was + (n + 1) ≤ last → now + n ≤ last
 fewer_numbers now was n last e h = omega arith
@@ -57,11 +57,8 @@ module _ {T U : Type 0} (domain : Kept T U) where
   unfolding HasNumbersLeft
   numbers-out n h = h
 
-  pub number-left : HasNumbersLeft domain 1 → domain.next_message < last_number
-  number-left h = below_last domain.next_message last_number (numbers-in 1 h)
-
-  pub loan-left : (publisher : Publisher) → HasLoansLeft domain publisher 1 → CanLend (state_of domain) publisher.id 1
-  loan-left publisher h = lends-in publisher 1 h
+  pub number-left : (n : ℕ) → HasNumbersLeft domain (n + 1) → domain.next_message < last_number
+  number-left n h = below_last domain.next_message n last_number (numbers-in (n + 1) h)
 
 module _ {T U : Type 0} (kept : Kept T U) (m : Messages T U) (s : State T U) (shown : Shows kept m s) where
   lends-at : (publisher : Publisher) (n : ℕ) → HasLoansLeft kept publisher n → CanLend s publisher.id n

@@ -20,7 +20,7 @@ use Rattle.iox2_domain.specs.Lending.{LoanReaches}
 use Rattle.iox2_domain.specs.Ports.{PublisherFields}
 use Rattle.iox2_domain.specs.declared.loan_slots.LoanAt.{LoanAt}
 use Rattle.iox2_domain.proofs.lemmas.fields.ConnectionEnds.{publisher-stands}
-use Rattle.iox2_pubsub.proofs.LoansLeftShown.{loan-left, number-left}
+use Rattle.iox2_pubsub.proofs.LoansLeftShown.{lends-in, number-left}
 use Rattle.iox2_pubsub.specs.LoansLeft.{CanLend, HasLoansLeft, HasNumbersLeft}
 use Rattle.iox2_pubsub.specs.declared.publisher.Publisher.{Publisher as PublisherHandle}
 
@@ -34,19 +34,20 @@ pub record IsSureOfLoan {T U : Type 0} (domain : Kept T U) (publisher : Publishe
   pub few : length port.loans < port.max_loaned_samples
   pub more : domain.next_message < last_number
 
-fewer_than : (loans most : ℕ) → loans + 1 ≤ most → loans < most
-fewer_than loans most h = omega arith
+fewer_than : (loans more most : ℕ) → loans + (more + 1) ≤ most → loans < most
+fewer_than loans more most h = omega arith
 
 -- it has a loan left, and the domain a number
-pub sure-of-loan : {T U : Type 0} (domain : Kept T U) (publisher : PublisherHandle) → HasLoansLeft domain publisher 1 → HasNumbersLeft domain 1 → IsSureOfLoan domain publisher
-sure-of-loan {T} {U} domain publisher left numbers =
-    let can : CanLend (state_of domain) publisher.id 1 = loan-left domain publisher left in record {
+pub sure-of-loan : {T U : Type 0} (domain : Kept T U) (publisher : PublisherHandle) (loans numbers : ℕ) → HasLoansLeft domain publisher (loans + 1) → HasNumbersLeft domain (numbers + 1)
+    → IsSureOfLoan domain publisher
+sure-of-loan {T} {U} domain publisher loans numbers left numbered =
+    let can : CanLend (state_of domain) publisher.id (loans + 1) = lends-in domain publisher (loans + 1) left in record {
       port = can.port;
       stands = can.stands;
       static = can.static;
       slots = can.slots;
-      few = fewer_than (length (can.port).loans) (can.port).max_loaned_samples can.few;
-      more = number-left domain numbers;
+      few = fewer_than (length (can.port).loans) loans (can.port).max_loaned_samples can.few;
+      more = number-left domain numbers numbered;
     }
 
 -- where a loan may be out there is a slot

@@ -16,3 +16,4 @@ pub mod CarriedUpdates
 pub mod LeavingSteps
 pub mod CarriedCloses
 pub mod ComparedRuns
+pub mod FillingSupported

@@ -2,6 +2,7 @@
 #![tactic(auto)]
 
 mod compare;
+mod laws;
 mod runs;
 
 pub use compare::compare_runs;
@@ -14,4 +15,5 @@ pub use iox2_commands::{
     views_stay_alike_without_refusals, worst_case_commands, worst_case_is_least,
     worst_case_is_reached, worst_case_of_slots_grants,
 };
+pub use laws::filling_is_supported;
 pub use runs::run;

@@ -8,6 +8,8 @@ mod closes;
 #[cfg(test)]
 mod commands;
 #[cfg(test)]
+mod comparisons;
+#[cfg(test)]
 mod deliveries;
 #[cfg(test)]
 mod discards;

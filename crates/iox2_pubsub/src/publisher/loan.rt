@@ -1,5 +1,5 @@
 //! A publisher lends a message.
-ghost use Rattle.std.specs.Prelude.{◌≡◌, IfOk, IsOk};
+ghost use Rattle.std.specs.Prelude.{◌≡◌, ◌+◌, ℕ, IfOk, IsOk};
 
 use crate::domain::Domain;
 use crate::publisher::Publisher;
@@ -37,7 +37,7 @@ impl Publisher {
         requires live { IsLivePublisher domain.old self.now }
         requires single_valued { IsSingleValued domain.old }
         ensures lends { (m : Messages T U) (s : State T U) → Shows domain.old m s → (s' : State T U) × Shows domain.new m s' × LoanCall U.is_default s self.now.id result s' }
-        ensures granted { HasLoansLeft domain.old self.now 1 → HasNumbersLeft domain.old 1 → IsOk result }
+        ensures granted { (loans numbers : ℕ) → HasLoansLeft domain.old self.now (loans + 1) → HasNumbersLeft domain.old (numbers + 1) → IsOk result }
         ensures live { IfOk result (λ loan. IsUnwrittenLoan domain.new loan) }
         ensures new { IfOk result (λ loan. IsNewIn domain.old (unwritten_loan loan)) }
         ensures number { IfOk result (λ loan. loan.loan.number ≡ domain.old.next_message) }

@@ -22,10 +22,10 @@ returns-clause-lends g c = λ m s shown.
     c.find_live_publisher-place.ensures c.loan.ensures.reaches _ c.in_ok-loan.loan c.in_ok-loan.loan c.in_ok-loan.was c.args.domain.now c.domain.view_is m s shown
 
 pub returns-in_err-loan-clause-granted : goal.returns-in_err-loan-clause-granted
-returns-in_err-loan-clause-granted g c = λ left numbers.
+returns-in_err-loan-clause-granted g c = λ loans numbers left numbered.
     absurd (sure-granted {T = g.row.T.Denot} {U = g.row.U.Denot} g.U.Default.is_default c.domain.inside.state c.loan.new.state c.domain.invariant c.find_live_publisher-place.result c.args.self.now
     c.find_live_publisher-place.ensures c.loan.result c.loan.ensures.reaches c.in_err-loan.field-0.0 c.in_err-loan.was c.args.domain.now c.domain.view_is
-    (sure-of-loan {T = g.row.T.Denot} {U = g.row.U.Denot} c.args.domain.now c.args.self.now left numbers))
+    (sure-of-loan {T = g.row.T.Denot} {U = g.row.U.Denot} c.args.domain.now c.args.self.now loans numbers left numbered))
 
 pub returns-clause-live : goal.returns-clause-live
 returns-clause-live g c =
