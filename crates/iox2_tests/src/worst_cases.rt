@@ -1,8 +1,14 @@
+ghost use Rattle.std.specs.Prelude.{◌≡◌};
+ghost use Rattle.iox2_store.specs.declared.service_config.TypeVariant.TheVariants.{FixedSize};
+
 use crate::fixtures::settings;
-use iox2_runs::{Command, worst_case_commands};
+use iox2_pubsub::Domain;
+use iox2_runs::{Command, Reply, filling_is_supported, run, worst_case_commands};
 use iox2_store::{
     AllocationStrategy, BackpressureStrategy, DegradationAction, ServiceConfig, TypeVariant,
+    worst_case_slots,
 };
+use std::alloc::Global;
 
 // One subscriber with a buffer of one, which may borrow one message; no history.
 fn smallest() -> ServiceConfig {
@@ -108,4 +114,50 @@ fn there_is_no_list_that_fills_nothing(rt: HostRuntime) {
         None,
     );
     assert!(rt; list.is_none());
+}
+
+// What a new domain replies to the list.
+fn replies_to_list(
+    alloc: Global,
+    config: &ServiceConfig,
+    loans: usize,
+) -> Option<Vec<Reply<u64, u8>>>
+    requires { config.now.variant ≡ FixedSize }
+{
+    let commands = worst_case_commands(alloc, config, loans, 5, None)?;
+    let Ok(mut domain) = Domain::<u64, u8>::new(alloc, *config) else {
+        return None;
+    };
+    filling_is_supported::<u64, u8>();
+    let Ok(replies) = run(alloc, &mut domain, commands) else {
+        return None;
+    };
+    Some(replies)
+}
+
+#[test]
+fn the_list_is_granted_with_its_slots(rt: HostRuntime) {
+    let twice = ServiceConfig {
+        max_subscribers: 2,
+        subscriber_max_buffer_size: 2,
+        subscriber_max_borrowed_samples: 1,
+        history_size: 1,
+        ..settings()
+    };
+    assert!(rt; worst_case_slots(&twice, 1) == Some(8));
+    let replies = replies_to_list(rt.alloc(), &twice, 1).expect(&rt, "replies");
+    let loans = replies.iter().filter(|reply| matches!(reply, Reply::Loaned)).count();
+    let sends = replies
+        .iter()
+        .filter(|reply| matches!(reply, Reply::Delivered(_)))
+        .count();
+    let skipped = replies
+        .iter()
+        .filter(|reply| matches!(reply, Reply::Skipped | Reply::LoanRefused(_)))
+        .count();
+    // Of each subscriber: one message that it borrows, two that wait, and one for the history. Then
+    // the one loan.
+    assert!(rt; loans == 9);
+    assert!(rt; sends == 8);
+    assert!(rt; skipped == 0);
 }
