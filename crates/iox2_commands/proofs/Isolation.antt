@@ -1,12 +1,12 @@
 -- A slow subscriber isn't felt by another.
-use Rattle.std.proofs.Common.{◌≡◌, ◌⊎◌, inl, ⊎_elim, ℕ, zero, suc, ◌+◌, ◌≤◌, ◌<◌, true, List, [], ◌∷◌, ◌++◌, length, refl, sym, ap, subst, ◌∙◌, arith, Option, None, Some}
+use Rattle.std.proofs.Common.{◌≡◌, ◌⊎◌, inl, ⊎_elim, ℕ, zero, suc, ◌+◌, ◌≤◌, ◌<◌, true, List, [], ◌∷◌, ◌++◌, length, take, drop, refl, sym, ap, subst, ◌∙◌, arith, Option, None, Some}
 use Rattle.std.specs.Prelude.{slice_get, map}
 use Rattle.std.specs.Option.{option_map}
 use Rattle.std.proofs.Math.Path.{fun_ext}
 use Rattle.std.proofs.lemmas.Bool.{true≢false}
 use Rattle.std.proofs.lemmas.Option.{none-some, same_Some}
-use Rattle.std.proofs.lemmas.List.{map-append, length-append, length-map}
-use Rattle.iox2_store.specs.machine.Records.{Environment, Subscriber}
+use Rattle.std.proofs.lemmas.List.{append-nil, map-append, length-append, length-map, take-append-drop}
+use Rattle.iox2_store.specs.machine.Records.{Subscriber}
 use Rattle.iox2_store.specs.machine.State.{State, Messages, fresh, no_messages}
 use Rattle.iox2_store.specs.machine.WellFormed.{IsWellFormed}
 use Rattle.iox2_store.specs.declared.service_config.ServiceConfig.{ServiceConfig}
@@ -14,14 +14,16 @@ use Rattle.iox2_laws.proofs.Enough.{fresh_is_well_formed}
 use Rattle.iox2_commands.specs.Outcomes.{Handle, Subscriber_handle, Sample_handle, Event, No_event, Message_sent, Message_received, Outcome, done, messages_after}
 use Rattle.iox2_commands.specs.Step.{Step}
 use Rattle.iox2_store.specs.machine.Environments.{ample_memory}
-use Rattle.iox2_commands.specs.Runs.{RunTo, Defaults, only_defaults, RunFrom}
+use Rattle.iox2_commands.specs.Runs.{RunTo, only_defaults}
 use Rattle.iox2_commands.specs.Views.{PublicPart, public_part, seen_handle, SameView, may_be_omitted, OmitsOthersFrom}
-use Rattle.iox2_commands.specs.Isolation.{IsIndependent, makes_independent_publisher, AreIndependent, is_of_others, subscriber_call, SameViewAfter, ClosesNoSubscriber, CallsLeaveOthersViews, AlikeStatesStayAlike, SubscribersAreIsolated, IsIndependentPublisher, reads_at}
+use Rattle.iox2_commands.specs.Isolation.{IsIndependent, makes_independent_publisher, AreIndependent, is_of_others, subscriber_call, SameViewAfter, ViewsStayAlike, ClosesNoSubscriber, CallsLeaveOthersViews, AlikeStatesStayAlike, SubscribersAreIsolated, IsIndependentPublisher, reads_at}
 use Rattle.iox2_commands.specs.declared.command.Command.{Command}
 use Rattle.iox2_commands.specs.declared.command.Command.TheVariants.{Nothing, Receive, HasSamples, Update, Release, Read, ReadHeader, ReadUserHeader, Close}
 use Rattle.iox2_commands.specs.declared.reply.Reply.{Reply}
 use Rattle.iox2_commands.specs.declared.reply.Reply.TheVariants.{PublisherMade, SubscriberMade}
+use Rattle.iox2_commands.proofs.EnoughRuns.{run_sound}
 use Rattle.iox2_commands.proofs.GrowingLists.{found_earlier}
+use Rattle.iox2_commands.proofs.Points.{run_to, run_from, found_taken, get_taken}
 use Rattle.iox2_commands.proofs.StepLaws.{IsSound, step_sound}
 use Rattle.iox2_commands.proofs.AlikeViews.{View, view_of}
 use Rattle.iox2_commands.proofs.AlikeReceives.{sent_part, IsAlike, alike_equal, alike_sym, alike_trans}
@@ -117,80 +119,6 @@ alike_states_stay_alike {T} {U} default_value default_header q m m' s s' handles
 
 -- ---- runs with their handles
 
-module _ {T U : Type 0} (environment : Environment) (defaults : Defaults T U) where
-  -- each run ends with some handles
-  pub run_to : (m : Messages T U) (s : State T U) (handles : List Handle) (commands : List (Command T U)) (replies : List (Reply T U)) (events : List (Event T U)) (m' : Messages T U) (s' : State T U)
-      → RunFrom environment defaults m s handles commands replies events m' s'
-      → (handles' : List Handle) × RunTo environment defaults m s handles commands replies events m' s' handles'
-  run_to m s handles [] [] [] m' s' h = (handles, (h.0, h.1, refl))
-  run_to m s handles (command ∷ commands) (reply ∷ replies) (event ∷ events) m' s' h =
-      let rest : (handles' : List Handle) × RunTo environment defaults (messages_after (h.4).event m) (h.4).state (handles ++ (h.4).handle ∷ []) commands replies events m' s' handles' =
-      run_to (messages_after (h.4).event m) (h.4).state (handles ++ (h.4).handle ∷ []) commands replies events m' s' h.8 in
-      (rest.0, (h.0, h.1, h.2, h.3, h.4, h.5, h.6, h.7, rest.1))
-  run_to m s handles _ _ _ m' s' h = absurd h
-
-  -- and each of these is a run
-  pub run_from : (m : Messages T U) (s : State T U) (handles : List Handle) (commands : List (Command T U)) (replies : List (Reply T U)) (events : List (Event T U)) (m' : Messages T U) (s' : State T U) (handles' : List Handle)
-      → RunTo environment defaults m s handles commands replies events m' s' handles'
-      → RunFrom environment defaults m s handles commands replies events m' s'
-  run_from m s handles [] [] [] m' s' handles' h = (h.0, h.1)
-  run_from m s handles (command ∷ commands) (reply ∷ replies) (event ∷ events) m' s' handles' h =
-      (h.0, h.1, h.2, h.3, h.4, h.5, h.6, h.7, run_from (messages_after (h.4).event m) (h.4).state (handles ++ (h.4).handle ∷ []) commands replies events m' s' handles' h.8)
-  run_from m s handles _ _ _ m' s' handles' h = absurd h
-
--- A run of one list and then another, taken apart between them.
-pub record Split {T U : Type 0} (environment : Environment) (defaults : Defaults T U) (m : Messages T U) (s : State T U) (handles : List Handle) (commands later : List (Command T U))
-    (replies : List (Reply T U)) (events : List (Event T U)) (m' : Messages T U) (s' : State T U) (handles' : List Handle) : Type 0 where
-  pub messages_between : Messages T U
-  pub state_between : State T U
-  pub handles_between : List Handle
-  pub replies_before : List (Reply T U)
-  pub replies_after : List (Reply T U)
-  pub events_before : List (Event T U)
-  pub events_after : List (Event T U)
-  pub before : RunTo environment defaults m s handles commands replies_before events_before messages_between state_between handles_between
-  pub after : RunTo environment defaults messages_between state_between handles_between later replies_after events_after m' s' handles'
-  pub replies_are : replies ≡ replies_before ++ replies_after
-  pub events_are : events ≡ events_before ++ events_after
-
-module _ {T U : Type 0} (environment : Environment) (defaults : Defaults T U) where
-  -- each run can be taken apart, so what holds after each beginning of a list holds after every command
-  pub run_splits : (m : Messages T U) (s : State T U) (handles : List Handle) (commands later : List (Command T U)) (replies : List (Reply T U)) (events : List (Event T U))
-      (m' : Messages T U) (s' : State T U) (handles' : List Handle)
-      → RunTo environment defaults m s handles (commands ++ later) replies events m' s' handles' → Split environment defaults m s handles commands later replies events m' s' handles'
-  run_splits m s handles [] later replies events m' s' handles' h = record {
-    messages_between = m;
-    state_between = s;
-    handles_between = handles;
-    replies_before = [];
-    replies_after = replies;
-    events_before = [];
-    events_after = events;
-    before = (refl, refl, refl);
-    after = h;
-    replies_are = refl;
-    events_are = refl;
-  }
-  run_splits m s handles (command ∷ commands) later [] [] m' s' handles' h = absurd h
-  run_splits m s handles (command ∷ commands) later [] (e ∷ es) m' s' handles' h = absurd h
-  run_splits m s handles (command ∷ commands) later (r ∷ rs) [] m' s' handles' h = absurd h
-  run_splits m s handles (command ∷ commands) later (r ∷ rs) (e ∷ es) m' s' handles' h =
-      let rest : Split environment defaults (messages_after (h.4).event m) (h.4).state (handles ++ (h.4).handle ∷ []) commands later rs es m' s' handles' =
-      run_splits (messages_after (h.4).event m) (h.4).state (handles ++ (h.4).handle ∷ []) commands later rs es m' s' handles' h.8 in
-      record {
-        messages_between = rest.messages_between;
-        state_between = rest.state_between;
-        handles_between = rest.handles_between;
-        replies_before = r ∷ rest.replies_before;
-        replies_after = rest.replies_after;
-        events_before = e ∷ rest.events_before;
-        events_after = rest.events_after;
-        before = (h.0, h.1, h.2, h.3, h.4, h.5, h.6, h.7, rest.before);
-        after = rest.after;
-        replies_are = ap (λ v. r ∷ v) rest.replies_are;
-        events_are = ap (λ v. e ∷ v) rest.events_are;
-      }
-
 -- a run with its handles under these default values
 module _ {T U : Type 0} (default_value : T) (default_header : U) where
   -- Memory is ample, and these are the default values.
@@ -228,19 +156,21 @@ module _ {T U : Type 0} (default_value : T) (default_header : U) where
   ended m s handles (r ∷ rs) [] m' s' handles' h = absurd h
   ended m s handles (r ∷ rs) (e ∷ es) m' s' handles' h = absurd h
 
-  -- a subscriber that is made later has no smaller id than the counter's next
-  made_later : (commands : List (Command T U)) (m : Messages T U) (s : State T U) (handles : List Handle) (replies : List (Reply T U)) (events : List (Event T U)) (m' : Messages T U) (s' : State T U) (handles' : List Handle) (q j : ℕ)
-      → IsWellFormed s → RunsBetween m s handles commands replies events m' s' handles' → slice_get replies j ≡ Some (SubscriberMade q) → s.next_port ≤ q
-  made_later [] m s handles replies events m' s' handles' q j w h e =
-      let nothing : slice_get {X = Reply T U} [] j ≡ Some (SubscriberMade q) = subst (λ (v : List (Reply T U)). slice_get v j ≡ Some (SubscriberMade q)) (ended m s handles replies events m' s' handles' h).3 e in
-      absurd (none-some (SubscriberMade q) nothing)
-  made_later (command ∷ commands) m s handles replies events m' s' handles' q j w h e =
+  -- A subscriber that is made later has no smaller id than the counter's next, where this is so of what is made after the run.
+  made_later : (commands : List (Command T U)) (m : Messages T U) (s : State T U) (handles : List Handle) (replies : List (Reply T U)) (events : List (Event T U)) (m' : Messages T U) (s' : State T U) (handles' : List Handle)
+      (ahead : List (Reply T U)) (q j : ℕ) → ((k : ℕ) → slice_get ahead k ≡ Some (SubscriberMade q) → s'.next_port ≤ q)
+      → IsWellFormed s → RunsBetween m s handles commands replies events m' s' handles' → slice_get (replies ++ ahead) j ≡ Some (SubscriberMade q) → s.next_port ≤ q
+  made_later [] m s handles replies events m' s' handles' ahead q j below w h e =
+      let x : (m' ≡ m) × (s' ≡ s) × (handles' ≡ handles) × (replies ≡ []) = ended m s handles replies events m' s' handles' h in
+      subst (λ (t : State T U). t.next_port ≤ q) x.1 (below j (subst (λ (v : List (Reply T U)). slice_get (v ++ ahead) j ≡ Some (SubscriberMade q)) x.3 e))
+  made_later (command ∷ commands) m s handles replies events m' s' handles' ahead q j below w h e =
       let b : Begun m s handles command commands replies m' s' handles' = begun m s handles command commands replies events m' s' handles' h in
       let o : Outcome T U = b.outcome in
       let sound : IsSound s o = step_sound ample_memory default_value default_header m s handles w command o b.step in
       let rises : s.next_port ≤ (o.state).next_port = (sound.advances).next_port in
-      at o b.later j rises (λ k f. made_later commands (messages_after o.event m) o.state (handles ++ o.handle ∷ []) b.later b.events m' s' handles' q k sound.well_formed b.rest f) (step_fits default_value default_header m s handles command o b.step)
-      (subst (λ (v : List (Reply T U)). slice_get v j ≡ Some (SubscriberMade q)) b.replies_are e)
+      at o (b.later ++ ahead) j rises (λ k f. made_later commands (messages_after o.event m) o.state (handles ++ o.handle ∷ []) b.later b.events m' s' handles' ahead q k below sound.well_formed b.rest f)
+      (step_fits default_value default_header m s handles command o b.step)
+      (subst (λ (v : List (Reply T U)). slice_get (v ++ ahead) j ≡ Some (SubscriberMade q)) b.replies_are e)
     where
       at : (o : Outcome T U) (later : List (Reply T U)) (j : ℕ) → s.next_port ≤ (o.state).next_port
           → ((k : ℕ) → slice_get later k ≡ Some (SubscriberMade q) → (o.state).next_port ≤ q) → Fits s handles command o
@@ -377,16 +307,18 @@ module _ {T U : Type 0} (default_value : T) (default_header : U) (c : ServiceCon
       (λ out. absurd (read_kept position of whole command here t out.1))
       reduced
 
-  -- Both runs end alike, and reads of the subscriber's own samples get the same replies.
-  runs_alike : (commands others : List (Command T U)) (replies replies' : List (Reply T U)) (events events' : List (Event T U)) (m m' n n' : Messages T U) (a b a' b' : State T U) (handles handles' ends ends' : List Handle)
-      → OmitsOthersFrom position whole commands others → StandAlike commands replies m m' a b handles handles'
+  -- Both runs end alike, and reads of the subscriber's own samples get the same replies. More may come after them, with the
+  -- replies `ahead` to the first.
+  runs_alike : (commands others : List (Command T U)) (replies replies' ahead : List (Reply T U)) (events events' : List (Event T U)) (m m' n n' : Messages T U) (a b a' b' : State T U) (handles handles' ends ends' : List Handle)
+      → OmitsOthersFrom position whole commands others → StandAlike commands (replies ++ ahead) m m' a b handles handles'
+      → ((j : ℕ) → slice_get ahead j ≡ Some (SubscriberMade q) → a'.next_port ≤ q)
       → RunsBetween default_value default_header m a handles commands replies events n a' ends
       → RunsBetween default_value default_header m' b handles' others replies' events' n' b' ends'
       → ((i : ℕ) → slice_get commands i ≡ Some (Receive position) → slice_get replies i ≡ slice_get replies' i)
       → SameView q n a' ends n' b' ends'
       × ((i of : ℕ) (read : Command T U) → slice_get whole of ≡ Some (Receive position)
       → slice_get commands i ≡ Some read → reads_at of read ≡ true → slice_get replies i ≡ slice_get replies' i)
-  runs_alike [] [] replies replies' events events' m m' n n' a b a' b' handles handles' ends ends' reduced stand h k agree =
+  runs_alike [] [] replies replies' ahead events events' m m' n n' a b a' b' handles handles' ends ends' reduced stand below h k agree =
       let x : (n ≡ m) × (a' ≡ a) × (ends ≡ handles) × (replies ≡ []) = ended default_value default_header m a handles replies events n a' ends h in
       let y : (n' ≡ m') × (b' ≡ b) × (ends' ≡ handles') × (replies' ≡ []) = ended default_value default_header m' b handles' replies' events' n' b' ends' k in (
         same_view q n n' a' b' ends ends'
@@ -395,9 +327,9 @@ module _ {T U : Type 0} (default_value : T) (default_header : U) (c : ServiceCon
             (ap (map (seen_handle q)) x.2 ∙ stand.handles_seen ∙ sym (ap (map (seen_handle q)) y.2)),
         λ i of read here e t. absurd (none-some read e),
       )
-  runs_alike [] (other ∷ others) replies replies' events events' m m' n n' a b a' b' handles handles' ends ends' reduced stand h k agree = absurd reduced
-  runs_alike (command ∷ commands) [] replies replies' events events' m m' n n' a b a' b' handles handles' ends ends' reduced stand h k agree = absurd reduced
-  runs_alike (command ∷ commands) (other ∷ others) replies replies' events events' m m' n n' a b a' b' handles handles' ends ends' reduced stand h k agree =
+  runs_alike [] (other ∷ others) replies replies' ahead events events' m m' n n' a b a' b' handles handles' ends ends' reduced stand below h k agree = absurd reduced
+  runs_alike (command ∷ commands) [] replies replies' ahead events events' m m' n n' a b a' b' handles handles' ends ends' reduced stand below h k agree = absurd reduced
+  runs_alike (command ∷ commands) (other ∷ others) replies replies' ahead events events' m m' n n' a b a' b' handles handles' ends ends' reduced stand below h k agree =
       let x : Begun default_value default_header m a handles command commands replies n a' ends = begun default_value default_header m a handles command commands replies events n a' ends h in
       let y : Begun default_value default_header m' b handles' other others replies' n' b' ends' = begun default_value default_header m' b handles' other others replies' events' n' b' ends' k in
       let o : Outcome T U = x.outcome in
@@ -406,26 +338,26 @@ module _ {T U : Type 0} (default_value : T) (default_header : U) (c : ServiceCon
       λ i e. sym (ap (λ (v : List (Reply T U)). slice_get v i) x.replies_are) ∙ agree i e ∙ ap (λ (v : List (Reply T U)). slice_get v i) y.replies_are in
       let makes : (p : ℕ) → o.reply ≡ PublisherMade p → makes_independent_publisher c command ≡ true =
       λ p e. all_independent.publishers (length handles + 0) p command (stand.comes 0 command refl)
-      (stand.replied 0 (PublisherMade p) (ap (λ (v : List (Reply T U)). slice_get v 0) x.replies_are ∙ ap Some e)) in
+      (stand.replied 0 (PublisherMade p) (ap (λ (v : List (Reply T U)). slice_get (v ++ ahead) 0) x.replies_are ∙ ap Some e)) in
       let closes : ClosesNoSubscriber handles command =
       λ of r e f.
       let low : of < length handles = found_below handles of (Subscriber_handle r) f in
       all_independent.closes (length handles + 0) of r (omega arith) (stand.comes 0 (Close of) (ap Some e)) ((stand.fit).subscribers of r f) in
-      let alike : IsAlike q o o' = one_alike command other commands replies m m' a b handles handles' o o' stand reduced.0 closes x.step y.step
+      let alike : IsAlike q o o' = one_alike command other commands (replies ++ ahead) m m' a b handles handles' o o' stand reduced.0 closes x.step y.step
       (λ e. same_Some o.reply o'.reply (agreed 0 (ap Some e))) in
       let sound : IsSound a o = step_sound ample_memory default_value default_header m a handles (stand.independent).well_formed command o x.step in
-      let next : StandAlike commands x.later (messages_after o.event m) (messages_after o'.event m') o.state o'.state (handles ++ o.handle ∷ []) (handles' ++ o'.handle ∷ []) =
-      later_alike command other commands replies x.later m m' a b handles handles' o o' stand reduced.0 makes closes x.step y.step x.replies_are
-      (λ j f. made_later default_value default_header commands (messages_after o.event m) o.state (handles ++ o.handle ∷ []) x.later x.events n a' ends q j sound.well_formed x.rest f) alike in
+      let next : StandAlike commands (x.later ++ ahead) (messages_after o.event m) (messages_after o'.event m') o.state o'.state (handles ++ o.handle ∷ []) (handles' ++ o'.handle ∷ []) =
+      later_alike command other commands (replies ++ ahead) (x.later ++ ahead) m m' a b handles handles' o o' stand reduced.0 makes closes x.step y.step (ap (λ (v : List (Reply T U)). v ++ ahead) x.replies_are)
+      (λ j f. made_later default_value default_header commands (messages_after o.event m) o.state (handles ++ o.handle ∷ []) x.later x.events n a' ends ahead q j below sound.well_formed x.rest f) alike in
       let rest : SameView q n a' ends n' b' ends'
       × ((i of : ℕ) (read : Command T U) → slice_get whole of ≡ Some (Receive position)
       → slice_get commands i ≡ Some read → reads_at of read ≡ true → slice_get x.later i ≡ slice_get y.later i) =
-      runs_alike commands others x.later y.later x.events y.events (messages_after o.event m) (messages_after o'.event m') n n' o.state o'.state a' b' (handles ++ o.handle ∷ []) (handles' ++ o'.handle ∷ []) ends ends'
-      reduced.1 next x.rest y.rest (λ i e. agreed (suc i) e) in
+      runs_alike commands others x.later y.later ahead x.events y.events (messages_after o.event m) (messages_after o'.event m') n n' o.state o'.state a' b' (handles ++ o.handle ∷ []) (handles' ++ o'.handle ∷ []) ends ends'
+      reduced.1 next below x.rest y.rest (λ i e. agreed (suc i) e) in
       let told_here : (i of : ℕ) (read : Command T U) → slice_get whole of ≡ Some (Receive position)
       → slice_get (command ∷ commands) i ≡ Some read → reads_at of read ≡ true → slice_get (o.reply ∷ x.later) i ≡ slice_get (o'.reply ∷ y.later) i =
       both_told command commands o o' x.later y.later
-      (λ of here t. read_alike command other commands replies m m' a b handles handles' o o' of stand reduced.0 x.step y.step here t) rest.1 in (
+      (λ of here t. read_alike command other commands (replies ++ ahead) m m' a b handles handles' o o' of stand reduced.0 x.step y.step here t) rest.1 in (
         rest.0,
         λ i of read here e t. ap (λ (v : List (Reply T U)). slice_get v i) x.replies_are ∙ told_here i of read here e t ∙ sym (ap (λ (v : List (Reply T U)). slice_get v i) y.replies_are),
       )
@@ -440,33 +372,69 @@ module _ {T U : Type 0} (default_value : T) (default_header : U) (c : ServiceCon
           ap Some (first of here (ap (reads_at of) (same_Some command read e) ∙ t))
       both_told command commands o o' later later' first rest (suc i) of read here e t = rest i of read here e t
 
+module _ {T U : Type 0} (c : ServiceConfig) (position q : ℕ) (beginning after : List (Command T U)) (all_replies : List (Reply T U)) (all_independent : AreIndependent c beginning all_replies)
+    (default_value : T) (default_header : U) where
+  zero_plus : (n : ℕ) → n ≡ 0 + n
+  zero_plus n = omega arith
+
+  new : IsIndependent (fresh {T = T} {U = U} c)
+  new = record { well_formed = fresh_is_well_formed c; publishers = λ p x e. absurd (none-some x e); all_open = λ r y e. absurd (none-some y e) }
+
+  -- two runs begin alike on new domains
+  begin_alike : (commands : List (Command T U)) (replies : List (Reply T U)) → ((i : ℕ) (command : Command T U) → slice_get commands i ≡ Some command → slice_get beginning i ≡ Some command)
+      → replies ≡ all_replies → slice_get all_replies position ≡ Some (SubscriberMade q)
+      → StandAlike default_value default_header c position q beginning after all_replies all_independent commands replies no_messages no_messages (fresh c) (fresh c) [] []
+  begin_alike commands replies comes same made = record {
+    comes = λ i command e. subst (λ (n : ℕ). slice_get beginning n ≡ Some command) (zero_plus i) (comes i command e);
+    replied = λ i reply e. subst (λ (n : ℕ). slice_get all_replies n ≡ Some reply) (zero_plus i) (subst (λ (v : List (Reply T U)). slice_get v i ≡ Some reply) same e);
+    fit = none_fit position q (beginning ++ after) all_replies;
+    awaits = inl (position, zero_plus position, subst (λ (v : List (Reply T U)). slice_get v position ≡ Some (SubscriberMade q)) (sym same) made);
+    made = λ r e. absurd (none-some (Subscriber_handle r) e);
+    received = λ i p r n here e. absurd (none-some (Sample_handle p r n) e);
+    received' = λ i p r n here e. absurd (none-some (Sample_handle p r n) e);
+    config = refl;
+    independent = new;
+    independent' = new;
+    views = refl;
+    messages = refl;
+    handles_seen = refl;
+  }
+
 -- The view of a subscriber is the same after a list and a reduced one, and reads of its samples reply the same.
 pub subscribers_are_isolated : {T U : Type 0} → SubscribersAreIsolated T U
 subscribers_are_isolated {T} {U} default_value default_header c position q commands reduced later replies replies' events events' m m' s s' handles handles' quiet independent h k made agree =
     let ends : SameView q m s handles m' s' handles'
     × ((i of : ℕ) (read : Command T U) → slice_get (commands ++ later) of ≡ Some (Receive position)
     → slice_get commands i ≡ Some read → reads_at of read ≡ true → slice_get replies i ≡ slice_get replies' i) =
-    runs_alike default_value default_header c position q commands later replies independent commands reduced replies replies' events events' no_messages no_messages m m' (fresh c) (fresh c) s s' [] [] handles handles' quiet
-    (record {
-      comes = λ i command e. subst (λ (n : ℕ). slice_get commands n ≡ Some command) (zero_plus i) e;
-      replied = λ i reply e. subst (λ (n : ℕ). slice_get replies n ≡ Some reply) (zero_plus i) e;
-      fit = none_fit position q (commands ++ later) replies;
-      awaits = inl (position, zero_plus position, made);
-      made = λ r e. absurd (none-some (Subscriber_handle r) e);
-      received = λ i p r n here e. absurd (none-some (Sample_handle p r n) e);
-      received' = λ i p r n here e. absurd (none-some (Sample_handle p r n) e);
-      config = refl;
-      independent = new;
-      independent' = new;
-      views = refl;
-      messages = refl;
-      handles_seen = refl;
-    })
-    h k agree in
+    runs_alike default_value default_header c position q commands later replies independent commands reduced replies replies' [] events events' no_messages no_messages m m' (fresh c) (fresh c) s s' [] [] handles handles' quiet
+    (begin_alike c position q commands later replies independent default_value default_header commands (replies ++ []) (λ i command e. e) (append-nil replies) made)
+    (λ j e. absurd (none-some (SubscriberMade q) e)) h k agree in
     (ends.0, λ i of command here e t. ends.1 i of command (found_earlier commands later of (Receive position) here) e t)
-  where
-    zero_plus : (n : ℕ) → n ≡ 0 + n
-    zero_plus n = omega arith
 
-    new : IsIndependent (fresh {T = T} {U = U} c)
-    new = record { well_formed = fresh_is_well_formed c; publishers = λ p x e. absurd (none-some x e); all_open = λ r y e. absurd (none-some y e) }
+-- ---- at each point of two runs
+
+module _ {T U : Type 0} where
+  -- a reduced list's beginning is the beginning's reduced list
+  omits_taken : (position : ℕ) (whole commands others : List (Command T U)) (n : ℕ) → OmitsOthersFrom position whole commands others → OmitsOthersFrom position whole (take n commands) (take n others)
+  omits_taken position whole commands others zero h = tt
+  omits_taken position whole [] [] (suc n) h = tt
+  omits_taken position whole [] (other ∷ others) (suc n) h = absurd h
+  omits_taken position whole (command ∷ commands) [] (suc n) h = absurd h
+  omits_taken position whole (command ∷ commands) (other ∷ others) (suc n) h = (h.0, omits_taken position whole commands others n h.1)
+
+-- The view of a subscriber is the same at each point of two such runs.
+pub views_stay_alike : {T U : Type 0} → ViewsStayAlike T U
+views_stay_alike {T} {U} default_value default_header c position q n commands reduced replies replies' events events' m m' s s' quiet independent made agree x y =
+    let on = run_to ample_memory (only_defaults default_value default_header) x.messages x.state x.handles (drop n commands) (drop n replies) (drop n events) m s x.after in
+    let well : IsWellFormed x.state = (run_sound ample_memory (only_defaults default_value default_header) no_messages (fresh c) [] (take n commands) (take n replies) (take n events) x.messages x.state (fresh_is_well_formed c)
+    (run_from ample_memory (only_defaults default_value default_header) no_messages (fresh c) [] (take n commands) (take n replies) (take n events) x.messages x.state x.handles x.before)).0 in
+    let below : (j : ℕ) → slice_get (drop n replies) j ≡ Some (SubscriberMade q) → (x.state).next_port ≤ q =
+    λ j e. made_later default_value default_header (drop n commands) x.messages x.state x.handles (drop n replies) (drop n events) m s on.0 [] q j (λ k f. absurd (none-some (SubscriberMade q) f)) well on.1
+    (subst (λ (v : List (Reply T U)). slice_get v j ≡ Some (SubscriberMade q)) (sym (append-nil (drop n replies))) e) in
+    (runs_alike default_value default_header c position q commands [] replies independent (take n commands) (take n reduced) (take n replies) (take n replies') (drop n replies) (take n events) (take n events')
+    no_messages no_messages x.messages y.messages (fresh c) (fresh c) x.state y.state [] [] x.handles y.handles
+    (omits_taken position (commands ++ []) commands reduced n (subst (λ (whole : List (Command T U)). OmitsOthersFrom position whole commands reduced) (sym (append-nil commands)) quiet))
+    (begin_alike c position q commands [] replies independent default_value default_header (take n commands) (take n replies ++ drop n replies)
+    (λ i command e. (found_taken commands n i command e).1) (take-append-drop n replies) made)
+    below x.before y.before
+    (λ i e. let found = found_taken commands n i (Receive position) e in get_taken replies n i found.0 ∙ agree i found.1 ∙ sym (get_taken replies' n i found.0))).0

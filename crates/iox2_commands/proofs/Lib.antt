@@ -3,6 +3,7 @@ pub mod Named
 pub mod StepLaws
 pub mod Lift
 pub mod EnoughRuns
+pub mod Points
 pub mod RunInduction
 pub mod Subsequences
 pub mod Ordered
@@ -35,6 +36,7 @@ pub mod FillingBoxes
 pub mod FillingSteps
 pub mod FillingAll
 pub mod FillingLaws
+pub mod FillingLists
 pub mod AlikeViews
 pub mod AlikeUpdates
 pub mod AlikeReceives
@@ -66,3 +68,7 @@ pub mod WorkedRunsOfForgottenPublishers
 pub mod WorkedRunsOfWarnings
 pub mod WorkedRunsOfSlices
 pub mod WorkedRunsOfRefusals
+pub mod RefusalWarnings
+pub mod RefusalStates
+pub mod RefusalSteps
+pub mod RefusalRuns

@@ -14,6 +14,7 @@ use Rattle.iox2_store.specs.declared.backpressure.BackpressureStrategy.TheVarian
 use Rattle.iox2_commands.specs.Outcomes.{Handle, No_handle, Subscriber_handle, Sample_handle, Event, Outcome, messages_after}
 use Rattle.iox2_commands.specs.Step.{Step, publisher_settings}
 use Rattle.iox2_store.specs.machine.Environments.{ample_memory}
+use Rattle.iox2_commands.specs.Points.{PointOf}
 use Rattle.iox2_commands.specs.Runs.{only_defaults, RunTo}
 use Rattle.iox2_commands.specs.Views.{SameView, OmitsOthersFrom}
 use Rattle.iox2_commands.specs.declared.command.Command.{Command}
@@ -139,3 +140,17 @@ SubscribersAreIsolated T U =
     → SameView q m s handles m' s' handles'
     × ((i of : ℕ) (command : Command T U) → slice_get commands of ≡ Some (Receive position)
     → slice_get commands i ≡ Some command → reads_at of command ≡ true → slice_get replies i ≡ slice_get replies' i)
+
+-- The same two runs at any point of each, after as many commands in one as in the other: there too the view of the subscriber
+-- is the same.
+abbrev pub ViewsStayAlike : Type 0 → Type 0 → Type 0
+ViewsStayAlike T U =
+    (default_value : T) (default_header : U) (c : ServiceConfig) (position q n : ℕ) (commands reduced : List (Command T U))
+    (replies replies' : List (Reply T U)) (events events' : List (Event T U)) (m m' : Messages T U) (s s' : State T U)
+    → OmitsOthersFrom position commands commands reduced
+    → AreIndependent c commands replies
+    → slice_get replies position ≡ Some (SubscriberMade q)
+    → ((i : ℕ) → slice_get commands i ≡ Some (Receive position) → slice_get replies i ≡ slice_get replies' i)
+    → (x : PointOf ample_memory (only_defaults default_value default_header) no_messages (fresh c) commands replies events m s n)
+    → (y : PointOf ample_memory (only_defaults default_value default_header) no_messages (fresh c) reduced replies' events' m' s' n)
+    → SameView q x.messages x.state x.handles y.messages y.state y.handles

@@ -1,6 +1,7 @@
 pub mod Outcomes
 pub mod Step
 pub mod Runs
+pub mod Points
 pub mod OneDefault
 pub mod StoredSteps
 pub mod Fills
@@ -10,3 +11,4 @@ pub mod Isolation
 pub mod Laws
 pub mod RunLaws
 pub mod Existence
+pub mod Refusals

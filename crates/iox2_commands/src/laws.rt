@@ -1,7 +1,8 @@
 ghost use Rattle.iox2_commands.specs.Laws.{StepsKeepWellFormed, StepsLift};
 ghost use Rattle.iox2_commands.specs.Existence.{EveryListRuns};
 ghost use Rattle.iox2_commands.specs.FillingCommands.{WorstCaseIsReached, WorstCaseIsLeast};
-ghost use Rattle.iox2_commands.specs.Isolation.{CallsLeaveOthersViews, AlikeStatesStayAlike, SubscribersAreIsolated};
+ghost use Rattle.iox2_commands.specs.Isolation.{CallsLeaveOthersViews, AlikeStatesStayAlike, SubscribersAreIsolated, ViewsStayAlike};
+ghost use Rattle.iox2_commands.specs.Refusals.{RunsWithoutRefusalsAreAmple, SubscribersAreIsolatedWithoutRefusals, ViewsStayAlikeWithoutRefusals};
 ghost use Rattle.iox2_commands.specs.RunLaws.{ReachedStatesHoldAtMostWorstCase, WorstCaseOfSlotsGrants, LoansAreGranted, SamplesNameTheirPublisher, ReceivesInOrder, ReadsGiveWhatWasSent};
 
 /// Every step from a well-formed state ends in a well-formed one with the same configuration, and no counter falls,
@@ -86,4 +87,26 @@ pub fn alike_states_stay_alike<T, U>()
 /// calls of other subscribers replaced by `Nothing`, as long as its own receives get the same replies.
 pub fn subscribers_are_isolated<T, U>()
     ensures { SubscribersAreIsolated T U }
+{}
+
+/// At each point of two such runs, after as many commands in one as in the other, the subscriber's view is the same.
+pub fn views_stay_alike<T, U>()
+    ensures { ViewsStayAlike T U }
+{}
+
+/// Where memory for a connection is refused a port warns, so long as its degradation handler says so. A run from a new domain
+/// in which memory might have been refused, after which no warning was forgotten and none says that a connection wasn't made,
+/// and that made each port that could be, is a run with ample memory.
+pub fn runs_without_refusals_are_ample<T, U>()
+    ensures { RunsWithoutRefusalsAreAmple T U }
+{}
+
+/// Subscribers are isolated in runs in which memory might have been refused, where warnings and replies tell that none was.
+pub fn subscribers_are_isolated_without_refusals<T, U>()
+    ensures { SubscribersAreIsolatedWithoutRefusals T U }
+{}
+
+/// The same at each point of such runs.
+pub fn views_stay_alike_without_refusals<T, U>()
+    ensures { ViewsStayAlikeWithoutRefusals T U }
 {}

@@ -5,6 +5,7 @@ pub mod NumberLemmas
 pub mod PlaceLemmas
 pub mod MailboxLemmas
 pub mod Enough
+pub mod EnoughSlots
 pub mod Walks
 pub mod SenderSides
 pub mod PublisherUpdates

@@ -1,36 +1,22 @@
 //! The memory of a publisher: a book of its slots, and their contents at the book's key.
 ghost use Rattle.std.specs.Prelude.{◌≡◌, None, Some, IfOk, OnOk, OnErr, IsTrue, SomeIff};
 ghost use Rattle.slab.specs.Slab.{Updates, get};
-ghost use Rattle.iox2_store.specs.machine.Limits.{worst_case as slots_at_most, fits};
+ghost use Rattle.iox2_store.specs.machine.Limits.{worst_case};
 ghost use Rattle.iox2_store.specs.machine.Ports.{first_segment_fits};
 ghost use Rattle.iox2_domain.specs.NewPublisher.{IsNewSegment, plain_publisher};
 ghost use Rattle.iox2_domain.specs.Placed.{placed};
 
 use iox2_domain::{put_at_place, reserve_place};
-use iox2_store::{Contents, ServiceConfig, SlotBook, UniquePublisherId};
+use iox2_store::{Contents, ServiceConfig, SlotBook, UniquePublisherId, worst_case_slots};
 use slab::Slab;
 use std::alloc::{AllocError, Global};
-
-/// How many slots a publisher needs that may have so many loans out, whatever its subscribers hold.
-/// `None` where that number doesn't fit `usize`.
-pub(crate) fn worst_case(config: &ServiceConfig, loans: usize) -> Option<usize>
-    ensures { SomeIff result (IsTrue (fits (slots_at_most config.now loans))) (slots_at_most config.now loans) }
-{
-    let subscribers = config.max_subscribers;
-    let waiting = subscribers.checked_mul(config.subscriber_max_buffer_size.max(1))?;
-    let borrowed = subscribers.checked_mul(config.subscriber_max_borrowed_samples)?;
-    let delivered = waiting.checked_add(borrowed)?;
-    delivered
-        .checked_add(config.history_size)?
-        .checked_add(loans)
-}
 
 /// How many slots the first segment of a publisher of single values has. `None` where their number
 /// or their size doesn't fit `usize`.
 pub(crate) fn first_segment(config: &ServiceConfig, loans: usize) -> Option<usize>
-    ensures { SomeIff result (IsTrue (first_segment_fits config.now (plain_publisher loans))) (slots_at_most config.now loans) }
+    ensures { SomeIff result (IsTrue (first_segment_fits config.now (plain_publisher loans))) (worst_case config.now loans) }
 {
-    let slots = worst_case(config, loans)?;
+    let slots = worst_case_slots(config, loans)?;
     slots.checked_mul(config.units_per_element)?;
     Some(slots)
 }

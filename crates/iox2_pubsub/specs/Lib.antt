@@ -4,3 +4,4 @@ pub mod SendCalls
 pub mod QuestionCalls
 pub mod UpdateCalls
 pub mod Payloads
+pub mod LoansLeft

@@ -1,11 +1,13 @@
 //! A domain: all ports of a service, and what lies between them.
-ghost use Rattle.std.specs.Prelude.{◌≡◌, IfOk};
+ghost use Rattle.std.specs.Prelude.{◌≡◌, ◌<◌, ℕ, IfOk};
+ghost use Rattle.iox2_store.specs.machine.Limits.{last_number};
 ghost use Rattle.iox2_store.specs.machine.State.{Messages, fresh, no_messages};
 ghost use Rattle.iox2_domain.specs.Kept.{state_of};
 ghost use Rattle.iox2_domain.specs.Invariant.{IsSupportedConfig};
 ghost use Rattle.iox2_store.specs.declared.service_config.TypeVariant.TheVariants.{FixedSize};
 ghost use Rattle.iox2_domain.specs.Shows.{Shows};
 ghost use Rattle.iox2_pubsub.specs.Live.{IsSingleValued};
+ghost use Rattle.iox2_pubsub.specs.LoansLeft.{HasNumbersLeft};
 
 use iox2_domain::DomainState;
 use iox2_store::{BackpressureFn, DegradationFn, DomainCreateError, ServiceConfig, TypeVariant};
@@ -44,6 +46,22 @@ impl<T: Drop, U: Default + Drop> Domain<T, U> {
         requires fixed_size { config.variant ≡ FixedSize }
         ensures fresh { IfOk result (λ d. Shows d no_messages (fresh config)) }
         ensures settings { IfOk result (λ d. d.config ≡ config) }
+        ensures numbers_left { IfOk result (λ d. (n : ℕ) → n < last_number → HasNumbersLeft d n) }
+        ensures single_valued { IfOk result (λ d. config.units_per_element ≡ 1 → IsSingleValued d) }
+    {
+        Self::with_handlers(alloc, config)
+    }
+}
+
+impl<T: Drop, U: Default + Drop, F: BackpressureFn, G: DegradationFn> Domain<T, U, F, G> {
+    /// As `new`, for a domain whose ports may have handlers of these types.
+    ///
+    /// Fails with `DomainCreateError::OutOfMemory` where memory is refused.
+    pub fn with_handlers(alloc: Global, config: ServiceConfig) -> Result<Self, DomainCreateError>
+        requires fixed_size { config.variant ≡ FixedSize }
+        ensures fresh { IfOk result (λ d. Shows d no_messages (fresh config)) }
+        ensures settings { IfOk result (λ d. d.config ≡ config) }
+        ensures numbers_left { IfOk result (λ d. (n : ℕ) → n < last_number → HasNumbersLeft d n) }
         ensures single_valued { IfOk result (λ d. config.units_per_element ≡ 1 → IsSingleValued d) }
     {
         let Ok(state) = DomainState::new(alloc, config) else {
@@ -55,9 +73,7 @@ impl<T: Drop, U: Default + Drop> Domain<T, U> {
             degradation: PhantomData,
         })
     }
-}
 
-impl<T: Drop, U: Default + Drop, F: BackpressureFn, G: DegradationFn> Domain<T, U, F, G> {
     /// The domain's settings. A domain always shows some state, with some messages.
     pub fn config(&self) -> &ServiceConfig
         ensures value { result.now ≡ self.now.config }

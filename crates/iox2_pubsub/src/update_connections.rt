@@ -15,6 +15,7 @@ pub trait UpdateConnections<T: Drop, U: Default + Drop> {
     ghost use Rattle.iox2_domain.specs.Kept.{Kept};
     ghost use Rattle.iox2_domain.specs.Shows.{Shows};
     ghost use Rattle.iox2_pubsub.specs.Live.{AddAtMost, Stays, UpToDateStay};
+    ghost use Rattle.iox2_pubsub.specs.LoansLeft.{LoansLeftStay};
     ghost use Rattle.iox2_pubsub.specs.UpdateCalls.{failure_of};
 
     // The port is one of the domain's, and wasn't closed.
@@ -42,6 +43,7 @@ pub trait UpdateConnections<T: Drop, U: Default + Drop> {
             → (s' : State T U) × Shows domain.new m s' × updates s self.now s' (failure_of result) }
         ensures adds { AddAtMost (adds domain.old) domain.old domain.new }
         ensures up_to_date { UpToDateStay domain.old domain.new }
+        ensures loans_left { LoansLeftStay domain.old domain.new }
         ensures stays { Stays domain.old domain.new };
 
     // A port that is live stays so where everything does.

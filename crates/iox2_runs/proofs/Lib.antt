@@ -15,3 +15,5 @@ pub mod CarriedSamples
 pub mod CarriedUpdates
 pub mod LeavingSteps
 pub mod CarriedCloses
+pub mod ComparedRuns
+pub mod FillingSupported

@@ -9,6 +9,7 @@ use Rattle.iox2_store.specs.machine.State.{State, Messages}
 use Rattle.iox2_domain.specs.Kept.{Kept as Domain}
 use Rattle.iox2_domain.specs.Shows.{Shows}
 use Rattle.iox2_commands.specs.Outcomes.{Handle, Event, messages_after}
+use Rattle.iox2_commands.specs.Points.{GrantsLoans}
 use Rattle.iox2_commands.specs.Runs.{Defaults, RunTo, Run, only_defaults}
 use Rattle.iox2_commands.specs.RunLaws.{IsFaithful}
 use Rattle.iox2_commands.specs.OneDefault.{HasOneDefault}
@@ -20,6 +21,7 @@ use Rattle.iox2_commands.specs.declared.reply.Reply.{Reply}
 use Rattle.iox2_runs.specs.declared.runs.made.Made.{Made}
 use Rattle.iox2_commands.proofs.Faithful.{is_faithful}
 use Rattle.iox2_commands.proofs.OneDefault.{uses_one_default}
+use Rattle.iox2_commands.proofs.Points.{grants_loans}
 use Rattle.iox2_runs.proofs.RunsOn.{run_of, run_more, received_once}
 
 module _ {T U : Type 0} (environment : Environment) (defaults : Defaults T U) where
@@ -81,15 +83,16 @@ module _ {T U : Type 0} (environment : Environment) (defaults : Defaults T U) wh
   still_keeps old new commands replies table m s shown ran =
       let now = ran m s shown in (now.2, now.3, now.1, now.0, now.4, now.6)
 
-  -- it is a run, and a faithful one
+  -- it is a run, and a faithful one, and it grants the loans that it has to
   pub is_run : (old new : Domain T U) (commands : List (Command T U)) (replies : List (Reply T U)) (table : List Made) → HasRun old new commands replies table
       → (m : Messages T U) (s : State T U) → Shows old m s
       → (events : List (Event T U)) × (m' : Messages T U) × (s' : State T U) × Shows new m' s' × Run environment defaults m s commands replies events m' s'
-      × IsFaithful commands replies events
+      × IsFaithful commands replies events × GrantsLoans environment defaults m s commands replies events m' s'
   is_run old new commands replies table ran = λ m s shown.
       let now = ran m s shown in
       let run = run_of environment defaults m now.2 s now.3 [] now.1 commands replies now.0 now.5 in
-      (now.0, now.2, now.3, now.4, run, is_faithful environment defaults m now.2 s now.3 commands replies now.0 shown.well_formed run)
+      (now.0, now.2, now.3, now.4, run, is_faithful environment defaults m now.2 s now.3 commands replies now.0 shown.well_formed run,
+      grants_loans environment defaults m s commands replies now.0 now.2 now.3 run shown.well_formed)
 
 module _ {T U : Type 0} (defaults : Defaults T U) where
   -- it has one default value and one default header throughout, where there are no others
@@ -97,13 +100,17 @@ module _ {T U : Type 0} (defaults : Defaults T U) where
       → HasOneDefault defaults → (default_value : T) (default_header : U) → defaults.IsDefaultValue default_value → defaults.IsDefaultHeader default_header
       → (m : Messages T U) (s : State T U) → Shows old m s → RunsOnDomain (only_defaults default_value default_header) new m s commands replies
   runs_on_domain old new commands replies table ran one default_value default_header is_value is_header m s shown =
-      let now = ran m s shown in record {
+      let now = ran m s shown in
+      let run : RunTo fixed_handlers (only_defaults default_value default_header) m s [] commands replies now.0 now.2 now.3 now.1 =
+      uses_one_default fixed_handlers defaults one default_value default_header is_value is_header m now.2 s now.3 [] now.1 commands replies now.0 now.5 in record {
         events = now.0;
         messages = now.2;
         state = now.3;
         handles = now.1;
         shown = now.4;
-        run = uses_one_default fixed_handlers defaults one default_value default_header is_value is_header m now.2 s now.3 [] now.1 commands replies now.0 now.5;
+        run = run;
         faithful = is_faithful fixed_handlers defaults m now.2 s now.3 commands replies now.0 shown.well_formed
             (run_of fixed_handlers defaults m now.2 s now.3 [] now.1 commands replies now.0 now.5);
+        grants = grants_loans fixed_handlers (only_defaults default_value default_header) m s commands replies now.0 now.2 now.3
+            (run_of fixed_handlers (only_defaults default_value default_header) m now.2 s now.3 [] now.1 commands replies now.0 run) shown.well_formed;
       }

@@ -5,3 +5,4 @@ pub mod Rooms
 pub mod Carries
 pub mod DomainRuns
 pub mod Leaves
+pub mod Compared

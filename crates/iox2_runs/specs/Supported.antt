@@ -1,9 +1,13 @@
 -- Which commands `run` carries out so far.
-use Rattle.std.specs.Prelude.{◌≡◌}
+use Rattle.std.specs.Prelude.{ℕ, ◌≡◌}
+use Rattle.std.specs.List.{All}
 use Rattle.std.specs.declared.option.Option.TheVariants.{None}
 use Rattle.iox2_store.specs.declared.allocation.AllocationStrategy.TheVariants.{Static}
 use Rattle.iox2_store.specs.declared.backpressure.BackpressureStrategy.TheVariants.{DiscardData}
 use Rattle.iox2_store.specs.declared.degradation.DegradationAction.TheVariants.{Warn}
+use Rattle.iox2_store.specs.declared.service_config.ServiceConfig.{ServiceConfig}
+use Rattle.iox2_store.specs.declared.service_config.TypeVariant.TheVariants.{FixedSize}
+use Rattle.iox2_commands.specs.FillingCommands.{filling_commands}
 use Rattle.iox2_commands.specs.declared.command.Command.{Command}
 use Rattle.iox2_commands.specs.declared.command.Command.TheVariants.{Nothing, CreatePublisher, CreateSubscriber, LoanUninit, WriteAll, Send, Discard, Update, Receive, HasSamples, Read, Release, Close}
 
@@ -25,3 +29,8 @@ IsSupportedCommand (Read of at) = Unit {0}
 IsSupportedCommand (Release of) = Unit {0}
 IsSupportedCommand (Close of) = Unit {0}
 IsSupportedCommand _ = ⊥
+
+-- In a service of single values, each command of the list that fills every slot is one of these, where the slots aren't
+-- overridden.
+abbrev pub FillingIsSupported : Type 0 → Type 0 → Type 0
+FillingIsSupported T U = (c : ServiceConfig) (loans : ℕ) (value : T) → c.variant ≡ FixedSize → All IsSupportedCommand (filling_commands {T = T} {U = U} c loans value None)

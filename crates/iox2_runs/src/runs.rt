@@ -10,6 +10,7 @@ ghost use Rattle.iox2_runs.specs.Rooms.{SameRoom};
 ghost use Rattle.iox2_runs.specs.Carries.{IsLiveTable, Carries, defaults_of};
 ghost use Rattle.iox2_commands.specs.Outcomes.{Event};
 ghost use Rattle.iox2_commands.specs.OneDefault.{HasOneDefault};
+ghost use Rattle.iox2_commands.specs.Points.{GrantsLoans};
 ghost use Rattle.iox2_commands.specs.RunLaws.{IsFaithful};
 ghost use Rattle.iox2_commands.specs.Runs.{Run, only_defaults};
 ghost use Rattle.iox2_runs.specs.DomainRuns.{RunsOnDomain};
@@ -92,6 +93,11 @@ fn carry_out<
 /// once; each sample names its publisher, and each read gives what was sent. Of types of which one
 /// value alone is a default, as `u64` and `()`, the run uses that one throughout.
 ///
+/// An uninitialised loan is granted wherever a command of the run asks for one of permitted length
+/// from a publisher that waits for no receiver, has one segment and at least the slots that
+/// `worst_case_slots` says for its limit of loans, while fewer loans than that limit are out and a
+/// message number is left.
+///
 /// What the commands made is spent at the end: ports stay in the domain, loans stay out and
 /// messages stay borrowed. The memory for the replies and for what the commands make is taken
 /// first. Where it is refused the commands are handed back, and none was carried out.
@@ -108,7 +114,8 @@ pub fn run<T: Copy + Default + Drop, U: Copy + Default + Drop, F: BackpressureFn
     ensures ran { IfOk result (λ replies. (m : Messages T U) (s : State T U) → Shows domain.old m s
         → (events : List (Event T U)) × (m' : Messages T U) × (s' : State T U) × Shows domain.new m' s'
         × Run fixed_handlers (defaults_of T.is_default U.is_default) m s commands.items replies.items events m' s'
-        × IsFaithful commands.items replies.items events) }
+        × IsFaithful commands.items replies.items events
+        × GrantsLoans fixed_handlers (defaults_of T.is_default U.is_default) m s commands.items replies.items events m' s') }
     ensures one_default { IfOk result (λ replies. HasOneDefault (defaults_of T.is_default U.is_default)
         → (default_value : T) (default_header : U) → T.is_default default_value → U.is_default default_header
         → (m : Messages T U) (s : State T U) → Shows domain.old m s

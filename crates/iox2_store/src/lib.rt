@@ -13,6 +13,7 @@ mod key;
 mod service_config;
 mod slots;
 mod warning;
+mod worst_case;
 
 pub use allocation::{AllocationStrategy, DataSegmentType};
 pub use backpressure::{
@@ -31,3 +32,4 @@ pub use key::Key;
 pub use service_config::{ServiceConfig, TypeVariant};
 pub use slots::{Contents, SlotBook, SlotMark};
 pub use warning::Warning;
+pub use worst_case::worst_case_slots;

@@ -18,3 +18,5 @@ mod plain_types;
 mod settings;
 #[cfg(test)]
 mod slots;
+#[cfg(test)]
+mod worst_cases;

@@ -8,6 +8,8 @@ mod closes;
 #[cfg(test)]
 mod commands;
 #[cfg(test)]
+mod comparisons;
+#[cfg(test)]
 mod deliveries;
 #[cfg(test)]
 mod discards;
@@ -39,3 +41,5 @@ mod stays;
 mod subscribers;
 #[cfg(test)]
 mod updates;
+#[cfg(test)]
+mod worst_cases;

@@ -6,6 +6,7 @@
 #![tactic(auto)]
 
 ghost use Rattle.iox2_pubsub.specs.Live.{IsLiveSubscriber, IsSingleValued, Stays};
+ghost use Rattle.iox2_pubsub.specs.LoansLeft.{HasNumbersLeft};
 
 mod failure;
 mod reading;
@@ -24,7 +25,7 @@ fn main(rt: HostRuntime) -> Result<(), Failure> {
     outcome
 }
 
-// Makes the thermometer's publisher, and reports with it.
+// Makes the thermometer's publisher, with up to two loans out at a time, and reports with it.
 fn run(
     rt: &HostRuntime,
     domain: &mut Domain<Reading, ()>,
@@ -32,9 +33,13 @@ fn run(
 ) -> Result<(), Failure>
     requires single_valued { IsSingleValued domain.old }
     requires subscriber { IsLiveSubscriber domain.old subscriber.now }
+    requires numbers { HasNumbersLeft domain.old 2 }
     ensures { Stays domain.old domain.new }
 {
-    let publisher = domain.publisher_builder().create(domain)?;
+    let publisher = domain
+        .publisher_builder()
+        .max_loaned_samples(2)
+        .create(domain)?;
     let outcome = report_day(rt, domain, &publisher, subscriber);
     publisher.close(domain);
     outcome

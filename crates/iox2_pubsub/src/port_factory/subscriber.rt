@@ -4,6 +4,7 @@ ghost use Rattle.iox2_store.specs.machine.Environments.{fixed_handlers};
 ghost use Rattle.iox2_store.specs.machine.Ports.{default_subscriber_settings, buffer_for, CreateSubscriber};
 ghost use Rattle.iox2_store.specs.machine.State.{State, Messages};
 ghost use Rattle.iox2_pubsub.specs.Live.{IsLiveSubscriber, IsNewIn, Stays, subscriber_port, UpToDateStay, payloads, waiting};
+ghost use Rattle.iox2_pubsub.specs.LoansLeft.{LoansLeftStay};
 ghost use Rattle.iox2_domain.specs.Shows.{Shows};
 
 use crate::domain::Domain;
@@ -64,6 +65,7 @@ impl PortFactorySubscriber {
         ensures none { IfOk result (λ subscriber. waiting domain.new subscriber ≡ 0) }
         ensures waits { payloads domain.new ≡ payloads domain.old }
         ensures up_to_date { UpToDateStay domain.old domain.new }
+        ensures loans_left { LoansLeftStay domain.old domain.new }
         ensures stays { Stays domain.old domain.new }
     {
         let service_id = domain.state.config().service_id;

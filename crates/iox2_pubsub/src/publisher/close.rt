@@ -12,6 +12,7 @@ impl Publisher {
     ghost use Rattle.iox2_store.specs.machine.Records.{Publisher as Record};
     ghost use Rattle.iox2_store.specs.machine.State.{State, Messages};
     ghost use Rattle.iox2_pubsub.specs.Live.{IsLivePublisher, IsUpToDate, StaysBut, publisher_key, publisher_port, waiting};
+    ghost use Rattle.iox2_pubsub.specs.LoansLeft.{NumbersLeftStay, OthersLoansLeftStay};
     ghost use Rattle.iox2_pubsub.specs.declared.subscriber.Subscriber.{Subscriber};
     ghost use Rattle.iox2_domain.specs.Shows.{Shows};
 
@@ -30,6 +31,8 @@ impl Publisher {
             → Shows domain.new m (publisher_closed s (publisher_key self).port x) }
         ensures spent { IsLivePublisher domain.new self → ⊥ }
         ensures no_fewer { (subscriber : Subscriber) → IsUpToDate domain.old subscriber → waiting domain.old subscriber ≤ waiting domain.new subscriber }
+        ensures loans_left { OthersLoansLeftStay self domain.old domain.new }
+        ensures numbers_left { NumbersLeftStay domain.old domain.new }
         ensures stays { StaysBut (publisher_port self) domain.old domain.new }
     {
         let Publisher {

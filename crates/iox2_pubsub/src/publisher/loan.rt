@@ -1,5 +1,5 @@
 //! A publisher lends a message.
-ghost use Rattle.std.specs.Prelude.{◌≡◌, IfOk};
+ghost use Rattle.std.specs.Prelude.{◌≡◌, ◌+◌, ℕ, IfOk, IsOk};
 
 use crate::domain::Domain;
 use crate::publisher::Publisher;
@@ -10,6 +10,7 @@ use iox2_store::{BackpressureFn, DegradationFn, Key, LoanError, UniquePublisherI
 impl Publisher {
     ghost use Rattle.iox2_store.specs.machine.State.{State, Messages};
     ghost use Rattle.iox2_pubsub.specs.Live.{HasLender, IsLivePublisher, IsSingleValued, IsUnwrittenLoan, IsNewIn, Stays, lender_key, publisher_key, unwritten_key, unwritten_loan, UpToDateStay, payloads};
+    ghost use Rattle.iox2_pubsub.specs.LoansLeft.{HasLoansLeft, HasNumbersLeft, TakesOneLeft};
     ghost use Rattle.iox2_domain.specs.Lending.{LoanCall};
     ghost use Rattle.iox2_domain.specs.Shows.{Shows};
 
@@ -23,6 +24,10 @@ impl Publisher {
     /// subscribers, waits or is borrowed; `InternalFailure` where the domain has no message number
     /// left. Nothing changes then.
     ///
+    /// A publisher with as many slots as `worst_case_slots` says for its limit of loans, in one
+    /// segment, is never refused for want of a slot: while fewer loans than its limit are out and a
+    /// message number is left, the loan is granted, whatever its subscribers hold.
+    ///
     /// iceoryx2's `Publisher::loan_uninit` (`src/port/publisher.rs`).
     #[inline(always)]
     pub fn loan_uninit<T: Drop, U: Default + Drop, F: BackpressureFn, G: DegradationFn>(
@@ -32,6 +37,7 @@ impl Publisher {
         requires live { IsLivePublisher domain.old self.now }
         requires single_valued { IsSingleValued domain.old }
         ensures lends { (m : Messages T U) (s : State T U) → Shows domain.old m s → (s' : State T U) × Shows domain.new m s' × LoanCall U.is_default s self.now.id result s' }
+        ensures granted { (loans numbers : ℕ) → HasLoansLeft domain.old self.now (loans + 1) → HasNumbersLeft domain.old (numbers + 1) → IsOk result }
         ensures live { IfOk result (λ loan. IsUnwrittenLoan domain.new loan) }
         ensures new { IfOk result (λ loan. IsNewIn domain.old (unwritten_loan loan)) }
         ensures number { IfOk result (λ loan. loan.loan.number ≡ domain.old.next_message) }
@@ -40,6 +46,7 @@ impl Publisher {
         ensures lender { IfOk result (λ loan. lender_key (unwritten_key loan) ≡ publisher_key self.now) }
         ensures waits { payloads domain.new ≡ payloads domain.old }
         ensures up_to_date { UpToDateStay domain.old domain.new }
+        ensures loans_left { TakesOneLeft self.now domain.old domain.new }
         ensures stays { Stays domain.old domain.new }
     {
         let place = domain.state.find_live_publisher(self.id, self.place);

@@ -12,6 +12,7 @@ impl Sample {
     ghost use Rattle.iox2_store.specs.machine.Releases.{released};
     ghost use Rattle.iox2_store.specs.machine.State.{State, Messages};
     ghost use Rattle.iox2_pubsub.specs.Live.{IsLiveSample, StaysBut, UpToDateStay, received_sample, payloads};
+    ghost use Rattle.iox2_pubsub.specs.LoansLeft.{LoansLeftStay};
     ghost use Rattle.iox2_domain.specs.Shows.{Shows};
 
     /// Gives the message back to its publisher, which may use its slot again once nobody else has
@@ -29,6 +30,7 @@ impl Sample {
         ensures spent { IsLiveSample domain.new self → ⊥ }
         ensures waits { payloads domain.new ≡ payloads domain.old }
         ensures up_to_date { UpToDateStay domain.old domain.new }
+        ensures loans_left { LoansLeftStay domain.old domain.new }
         ensures stays { StaysBut (received_sample self) domain.old domain.new }
     {
         let Sample {

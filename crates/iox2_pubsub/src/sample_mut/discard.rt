@@ -12,6 +12,7 @@ impl SampleMut {
     ghost use Rattle.iox2_store.specs.machine.Records.{Loan};
     ghost use Rattle.iox2_store.specs.machine.State.{State, Messages};
     ghost use Rattle.iox2_pubsub.specs.Live.{IsLoanKey, StaysBut, UpToDateStay, written_key, written_loan, payloads};
+    ghost use Rattle.iox2_pubsub.specs.LoansLeft.{HasOneMoreLeft, LoansLeftStay};
     ghost use Rattle.iox2_domain.specs.Shows.{Shows};
 
     /// Gives the loan back unsent. It counts among the publisher's loans no more, its slot is free
@@ -28,6 +29,8 @@ impl SampleMut {
         ensures spent { IsLoanKey domain.new (written_key self) → ⊥ }
         ensures waits { payloads domain.new ≡ payloads domain.old }
         ensures up_to_date { UpToDateStay domain.old domain.new }
+        ensures loans_left { LoansLeftStay domain.old domain.new }
+        ensures given_back { HasOneMoreLeft self.loan.publisher domain.old domain.new }
         ensures stays { StaysBut (written_loan self) domain.old domain.new }
     {
         let SampleMut {

@@ -14,6 +14,7 @@ impl SampleMut {
     ghost use Rattle.iox2_store.specs.machine.Records.{Loan};
     ghost use Rattle.iox2_store.specs.machine.State.{State, Messages};
     ghost use Rattle.iox2_pubsub.specs.Live.{HasLender, IsLoanKey, IsWrittenLoan, StaysBut, written_key, written_loan, AddAtMost, AreAll, LoanReads, UpToDateStay, payloads, waiting};
+    ghost use Rattle.iox2_pubsub.specs.LoansLeft.{HasOneMoreLeft, LoansLeftStay};
     ghost use Rattle.iox2_pubsub.specs.SendCalls.{Sends, messages_after};
     ghost use Rattle.iox2_pubsub.specs.declared.subscriber.Subscriber.{Subscriber};
     ghost use Rattle.iox2_domain.specs.Shows.{Shows};
@@ -42,6 +43,8 @@ impl SampleMut {
         ensures brings { (subscriber : Subscriber) (value : T) → (domain.old.config).history_size ≡ 0 → waiting domain.old subscriber ≡ 0
             → LoanReads domain.old self value → AreAll (payloads domain.new subscriber) value }
         ensures up_to_date { UpToDateStay domain.old domain.new }
+        ensures loans_left { LoansLeftStay domain.old domain.new }
+        ensures given_back { HasOneMoreLeft self.loan.publisher domain.old domain.new }
         ensures stays { StaysBut (written_loan self) domain.old domain.new }
     {
         let SampleMut {

@@ -12,6 +12,7 @@ impl SampleMutUninit {
     ghost use Rattle.iox2_store.specs.machine.Records.{Loan};
     ghost use Rattle.iox2_store.specs.machine.State.{State, Messages};
     ghost use Rattle.iox2_pubsub.specs.Live.{IsLoanKey, StaysBut, UpToDateStay, unwritten_key, unwritten_loan, payloads};
+    ghost use Rattle.iox2_pubsub.specs.LoansLeft.{HasOneMoreLeft, LoansLeftStay};
     ghost use Rattle.iox2_domain.specs.Shows.{Shows};
 
     /// Gives the loan back without a payload. It counts among the publisher's loans no more, its
@@ -28,6 +29,8 @@ impl SampleMutUninit {
         ensures spent { IsLoanKey domain.new (unwritten_key self) → ⊥ }
         ensures waits { payloads domain.new ≡ payloads domain.old }
         ensures up_to_date { UpToDateStay domain.old domain.new }
+        ensures loans_left { LoansLeftStay domain.old domain.new }
+        ensures given_back { HasOneMoreLeft self.loan.publisher domain.old domain.new }
         ensures stays { StaysBut (unwritten_loan self) domain.old domain.new }
     {
         let SampleMutUninit {

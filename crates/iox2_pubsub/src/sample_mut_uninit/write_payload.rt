@@ -14,6 +14,7 @@ impl SampleMutUninit {
     ghost use Rattle.iox2_store.specs.machine.State.{State, Messages, with_loan};
     ghost use Rattle.iox2_store.specs.machine.Loans.{written};
     ghost use Rattle.iox2_pubsub.specs.Live.{HasLender, IsSingleValued, IsUnwrittenLoan, IsWrittenLoan, LoanHasHeader, LoanHasUserHeader, LoanReads, StaysBut, unwritten_key, unwritten_loan, written_key, UpToDateStay, payloads};
+    ghost use Rattle.iox2_pubsub.specs.LoansLeft.{LoansLeftStay};
     ghost use Rattle.iox2_domain.specs.Shows.{Shows};
 
     /// Writes the payload, in a domain of single values, and makes the loan one that may be sent.
@@ -35,6 +36,7 @@ impl SampleMutUninit {
         ensures key { written_key result ≡ unwritten_key self }
         ensures waits { payloads domain.new ≡ payloads domain.old }
         ensures up_to_date { UpToDateStay domain.old domain.new }
+        ensures loans_left { LoansLeftStay domain.old domain.new }
         ensures stays { StaysBut (unwritten_loan self) domain.old domain.new }
     {
         let SampleMutUninit { service_id, loan } = self;

@@ -12,6 +12,7 @@ impl Subscriber {
     ghost use Rattle.iox2_store.specs.machine.Records.{Subscriber as Record};
     ghost use Rattle.iox2_store.specs.machine.State.{State, Messages};
     ghost use Rattle.iox2_pubsub.specs.Live.{IsLiveSubscriber, OthersStayUpToDate, OthersWait, StaysBut, subscriber_key, subscriber_port, waiting};
+    ghost use Rattle.iox2_pubsub.specs.LoansLeft.{LoansLeftStay};
     ghost use Rattle.iox2_domain.specs.Shows.{Shows};
 
     /// Closes the subscriber: it takes no messages any more, and what waits for it is lost. Its
@@ -30,6 +31,7 @@ impl Subscriber {
         ensures none { waiting domain.new self ≡ 0 }
         ensures others { OthersWait self domain.old domain.new }
         ensures up_to_date { OthersStayUpToDate self domain.old domain.new }
+        ensures loans_left { LoansLeftStay domain.old domain.new }
         ensures stays { StaysBut (subscriber_port self) domain.old domain.new }
     {
         let Subscriber {

@@ -9,6 +9,7 @@ use iox2_store::{BackpressureFn, ConnectionFailure, DegradationFn};
 impl Subscriber {
     ghost use Rattle.iox2_store.specs.machine.State.{State, Messages};
     ghost use Rattle.iox2_pubsub.specs.Live.{IsLiveSubscriber, IsUpToDate, OthersWait, Stays, UpToDateStay, waiting};
+    ghost use Rattle.iox2_pubsub.specs.LoansLeft.{LoansLeftStay};
     ghost use Rattle.iox2_pubsub.specs.QuestionCalls.{Answers};
     ghost use Rattle.iox2_domain.specs.Shows.{Shows};
 
@@ -31,6 +32,7 @@ impl Subscriber {
         ensures others { OthersWait self.now domain.old domain.new }
         ensures updated { OnOk result (IsUpToDate domain.new self.now) }
         ensures up_to_date { UpToDateStay domain.old domain.new }
+        ensures loans_left { LoansLeftStay domain.old domain.new }
         ensures stays { Stays domain.old domain.new }
     {
         let Some(place) = domain.state.find_subscriber(self.id, self.place) else {

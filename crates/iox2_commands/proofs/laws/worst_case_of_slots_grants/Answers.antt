@@ -1,4 +1,4 @@
-use Rattle.iox2_commands.proofs.EnoughRuns.{worst_case_of_slots_grants}
+use Rattle.iox2_laws.proofs.EnoughSlots.{worst_case_of_slots_grants}
 use Rattle.iox2_commands.specs.Laws.{tested_environment}
 use Rattle.iox2_commands.proofs.laws.worst_case_of_slots_grants.Goals as goal
 

@@ -7,7 +7,7 @@ run-requires g c = All-supported _ _ c.in_ok-script.ensures.ok.names
 
 pub returns-clause-ok : goal.returns-clause-ok
 returns-clause-ok g c =
-    let (events, m', s', shows, run, faithful) = c.in-Ok-run.ensures.ran no_messages (fresh c.in_ok-script.script.config) c.in-Ok.ensures.fresh in
+    let (events, m', s', shows, run, faithful, grants) = c.in-Ok-run.ensures.ran no_messages (fresh c.in_ok-script.script.config) c.in-Ok.ensures.fresh in
     (c.deref.result.now, c.in_ok-script.script.config, c.in_ok-script.script.commands.items, rw c.deref.ensures.value c.in_ok-text.ensures.ok, c.in_ok-script.ensures.ok, (events, m', s', run))
 
 pub returns-in_default-clause-err : goal.returns-in_default-clause-err

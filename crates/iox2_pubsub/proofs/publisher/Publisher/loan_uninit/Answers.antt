@@ -7,6 +7,8 @@ use Rattle.iox2_pubsub.proofs.CallsStay.{always-shown, loan-is-new, loan-stays}
 use Rattle.iox2_pubsub.proofs.LiveParts.{publisher-parts}
 use Rattle.iox2_pubsub.proofs.WaitingShown.{loan-waits}
 use Rattle.iox2_pubsub.proofs.UpToDateShown.{loan-leaves}
+use Rattle.iox2_pubsub.proofs.SureLoans.{sure-granted, sure-of-loan}
+use Rattle.iox2_pubsub.proofs.LoansLeftShown.{loan-takes}
 use Rattle.iox2_pubsub.proofs.publisher.Publisher.loan_uninit.Goals as goal
 
 pub returns-in_err-loan-clause-lends : goal.returns-in_err-loan-clause-lends
@@ -18,6 +20,12 @@ pub returns-clause-lends : goal.returns-clause-lends
 returns-clause-lends g c = λ m s shown.
     ok-shown {T = g.row.T.Denot} {U = g.row.U.Denot} g.U.Default.is_default c.domain.inside.state c.loan.new.state c.find_live_publisher-place.result c.args.self.now.id c.loan.result
     c.find_live_publisher-place.ensures c.loan.ensures.reaches _ c.in_ok-loan.loan c.in_ok-loan.loan c.in_ok-loan.was c.args.domain.now c.domain.view_is m s shown
+
+pub returns-in_err-loan-clause-granted : goal.returns-in_err-loan-clause-granted
+returns-in_err-loan-clause-granted g c = λ loans numbers left numbered.
+    absurd (sure-granted {T = g.row.T.Denot} {U = g.row.U.Denot} g.U.Default.is_default c.domain.inside.state c.loan.new.state c.domain.invariant c.find_live_publisher-place.result c.args.self.now
+    c.find_live_publisher-place.ensures c.loan.result c.loan.ensures.reaches c.in_err-loan.field-0.0 c.in_err-loan.was c.args.domain.now c.domain.view_is
+    (sure-of-loan {T = g.row.T.Denot} {U = g.row.U.Denot} c.args.domain.now c.args.self.now loans numbers left numbered))
 
 pub returns-clause-live : goal.returns-clause-live
 returns-clause-live g c =
@@ -87,3 +95,15 @@ returns-clause-up_to_date g c =
     let it = always-shown {T = g.row.T.Denot} {U = g.row.U.Denot} c.domain.inside.state c.args.domain.now c.domain.invariant c.domain.view_is in
     let step = returns-clause-lends g c it.0 it.1 it.2 in
     loan-leaves {T = g.row.T.Denot} {U = g.row.U.Denot} c.args.domain.now _ it.0 it.0 it.1 step.0 it.2 step.1 g.U.Default.is_default c.args.self.now.id (Ok c.in_ok-loan.loan) step.2
+
+pub returns-in_err-loan-clause-loans_left : goal.returns-in_err-loan-clause-loans_left
+returns-in_err-loan-clause-loans_left g c =
+    let it = always-shown {T = g.row.T.Denot} {U = g.row.U.Denot} c.domain.inside.state c.args.domain.now c.domain.invariant c.domain.view_is in
+    let step = returns-in_err-loan-clause-lends g c it.0 it.1 it.2 in
+    loan-takes {T = g.row.T.Denot} {U = g.row.U.Denot} c.args.domain.now _ it.0 it.0 it.1 step.0 it.2 step.1 g.U.Default.is_default c.args.self.now c.from_residual.result step.2
+
+pub returns-clause-loans_left : goal.returns-clause-loans_left
+returns-clause-loans_left g c =
+    let it = always-shown {T = g.row.T.Denot} {U = g.row.U.Denot} c.domain.inside.state c.args.domain.now c.domain.invariant c.domain.view_is in
+    let step = returns-clause-lends g c it.0 it.1 it.2 in
+    loan-takes {T = g.row.T.Denot} {U = g.row.U.Denot} c.args.domain.now _ it.0 it.0 it.1 step.0 it.2 step.1 g.U.Default.is_default c.args.self.now (Ok c.in_ok-loan.loan) step.2

@@ -8,6 +8,7 @@ use Rattle.iox2_pubsub.proofs.CallsStay.{always-shown, release-stays, release-sp
 use Rattle.iox2_pubsub.proofs.LiveParts.{sample-parts}
 use Rattle.iox2_pubsub.proofs.WaitingShown.{release-waits}
 use Rattle.iox2_pubsub.proofs.UpToDateShown.{release-leaves}
+use Rattle.iox2_pubsub.proofs.LoansLeftShown.{release-left}
 use Rattle.iox2_pubsub.proofs.sample.Sample.release.Goals as goal
 
 pub give_back-requires-clause-live : goal.give_back-requires-clause-live
@@ -50,3 +51,11 @@ returns-clause-up_to_date g c =
     let borrowed = ap (λ (t : State g.row.T.Denot g.row.U.Denot). is_borrowed c.args.self.sample.number (t.mailboxes has.0 c.args.self.sample.subscriber)) (it.2).state ∙ has.1 in
     let step = returns-clause-released g c it.0 it.1 it.2 has.0 borrowed in
     release-leaves {T = g.row.T.Denot} {U = g.row.U.Denot} c.args.domain.now _ it.0 it.0 it.1 step.0 it.2 step.1 has.0 c.args.self.sample.subscriber c.args.self.sample.number step.2
+
+pub returns-clause-loans_left : goal.returns-clause-loans_left
+returns-clause-loans_left g c =
+    let it = always-shown {T = g.row.T.Denot} {U = g.row.U.Denot} c.domain.inside.state c.args.domain.now c.domain.invariant c.domain.view_is in
+    let has = (sample-parts c.args.domain.now _ c.requires).1 in
+    let borrowed = ap (λ (t : State g.row.T.Denot g.row.U.Denot). is_borrowed c.args.self.sample.number (t.mailboxes has.0 c.args.self.sample.subscriber)) (it.2).state ∙ has.1 in
+    let step = returns-clause-released g c it.0 it.1 it.2 has.0 borrowed in
+    release-left {T = g.row.T.Denot} {U = g.row.U.Denot} c.args.domain.now _ it.0 it.0 it.1 step.0 it.2 step.1 has.0 c.args.self.sample.subscriber c.args.self.sample.number step.2

@@ -17,6 +17,7 @@ use Rattle.iox2_pubsub.proofs.CallsStay.{always-shown, sent-stays, send-spends}
 use Rattle.iox2_pubsub.proofs.LiveParts.{publisher-parts, written-parts}
 use Rattle.iox2_pubsub.proofs.WaitingShown.{send-adds, send-brings}
 use Rattle.iox2_pubsub.proofs.UpToDateShown.{send-leaves}
+use Rattle.iox2_pubsub.proofs.LoansLeftShown.{send-left, send-gives, sent-free}
 use Rattle.iox2_pubsub.proofs.sample_mut.SampleMut.send.Goals as goal
 
 pub send_loan-requires-clause-live : goal.send_loan-requires-clause-live
@@ -87,3 +88,19 @@ returns-clause-up_to_date g c =
     let out = ap (λ (t : State g.row.T.Denot g.row.U.Denot). t.loans c.args.self.loan.number) (it.2).state ∙ has.1 in
     let step = returns-clause-sent g c it.0 it.1 has.0 it.2 out in
     send-leaves {T = g.row.T.Denot} {U = g.row.U.Denot} c.args.domain.now _ it.0 _ it.1 step.0 it.2 step.1 fixed_handlers c.args.self.loan.number has.0 (result_of_send c.outcome_of.result) step.2
+
+pub returns-clause-loans_left : goal.returns-clause-loans_left
+returns-clause-loans_left g c =
+    let it = always-shown {T = g.row.T.Denot} {U = g.row.U.Denot} c.domain.inside.state c.args.domain.now c.domain.invariant c.domain.view_is in
+    let has = (written-parts c.args.domain.now c.args.self c.requires).1 in
+    let out = ap (λ (t : State g.row.T.Denot g.row.U.Denot). t.loans c.args.self.loan.number) (it.2).state ∙ has.1 in
+    let step = returns-clause-sent g c it.0 it.1 has.0 it.2 out in
+    send-left {T = g.row.T.Denot} {U = g.row.U.Denot} c.args.domain.now _ it.0 _ it.1 step.0 it.2 step.1 fixed_handlers c.args.self.loan.number has.0 out c.args.self.loan.publisher has.2 (result_of_send c.outcome_of.result) (sent-free c.outcome_of.result) step.2
+
+pub returns-clause-given_back : goal.returns-clause-given_back
+returns-clause-given_back g c =
+    let it = always-shown {T = g.row.T.Denot} {U = g.row.U.Denot} c.domain.inside.state c.args.domain.now c.domain.invariant c.domain.view_is in
+    let has = (written-parts c.args.domain.now c.args.self c.requires).1 in
+    let out = ap (λ (t : State g.row.T.Denot g.row.U.Denot). t.loans c.args.self.loan.number) (it.2).state ∙ has.1 in
+    let step = returns-clause-sent g c it.0 it.1 has.0 it.2 out in
+    send-gives {T = g.row.T.Denot} {U = g.row.U.Denot} c.args.domain.now _ it.0 _ it.1 step.0 it.2 step.1 fixed_handlers c.args.self.loan.number has.0 out c.args.self.loan.publisher has.2 (result_of_send c.outcome_of.result) (sent-free c.outcome_of.result) step.2

@@ -8,6 +8,7 @@ use Rattle.iox2_pubsub.proofs.LiveParts.{loan-parts}
 use Rattle.iox2_pubsub.proofs.LoanHandles.{loan-out}
 use Rattle.iox2_pubsub.proofs.WaitingShown.{discard-waits}
 use Rattle.iox2_pubsub.proofs.UpToDateShown.{discard-leaves}
+use Rattle.iox2_pubsub.proofs.LoansLeftShown.{discard-left, discard-gives}
 use Rattle.iox2_pubsub.proofs.sample_mut_uninit.SampleMutUninit.discard.Goals as goal
 
 pub discard_loan-requires-clause-live : goal.discard_loan-requires-clause-live
@@ -49,3 +50,19 @@ returns-clause-up_to_date g c =
     let out = ap (λ (t : State g.row.T.Denot g.row.U.Denot). t.loans c.args.self.loan.number) (it.2).state ∙ has.1 in
     discard-leaves {T = g.row.T.Denot} {U = g.row.U.Denot} c.args.domain.now (kept_of c.discard_loan.new.state) it.0 it.1 it.2 c.args.self.loan.number has.0
     (returns-clause-discarded g c it.0 it.1 has.0 it.2 out)
+
+pub returns-clause-loans_left : goal.returns-clause-loans_left
+returns-clause-loans_left g c =
+    let it = always-shown {T = g.row.T.Denot} {U = g.row.U.Denot} c.domain.inside.state c.args.domain.now c.domain.invariant c.domain.view_is in
+    let has = (loan-parts c.args.domain.now _ c.requires).1 in
+    let out = ap (λ (t : State g.row.T.Denot g.row.U.Denot). t.loans c.args.self.loan.number) (it.2).state ∙ has.1 in
+    discard-left {T = g.row.T.Denot} {U = g.row.U.Denot} c.args.domain.now (kept_of c.discard_loan.new.state) it.0 it.0 it.1 _ it.2
+    (returns-clause-discarded g c it.0 it.1 has.0 it.2 out) c.args.self.loan.number has.0 out refl
+
+pub returns-clause-given_back : goal.returns-clause-given_back
+returns-clause-given_back g c =
+    let it = always-shown {T = g.row.T.Denot} {U = g.row.U.Denot} c.domain.inside.state c.args.domain.now c.domain.invariant c.domain.view_is in
+    let has = (loan-parts c.args.domain.now _ c.requires).1 in
+    let out = ap (λ (t : State g.row.T.Denot g.row.U.Denot). t.loans c.args.self.loan.number) (it.2).state ∙ has.1 in
+    discard-gives {T = g.row.T.Denot} {U = g.row.U.Denot} c.args.domain.now (kept_of c.discard_loan.new.state) it.0 it.0 it.1 _ it.2
+    (returns-clause-discarded g c it.0 it.1 has.0 it.2 out) c.args.self.loan.number has.0 out c.args.self.loan.publisher has.2 refl

@@ -10,6 +10,7 @@ use Rattle.iox2_pubsub.proofs.LoanHandles.{unwritten-out, write-header, write-sh
 use Rattle.iox2_pubsub.proofs.CallsStay.{always-shown, write-stays}
 use Rattle.iox2_pubsub.proofs.WaitingShown.{set-waits}
 use Rattle.iox2_pubsub.proofs.UpToDateShown.{set-leaves}
+use Rattle.iox2_pubsub.proofs.LoansLeftShown.{set-left}
 use Rattle.iox2_pubsub.proofs.sample_mut_uninit.SampleMutUninit.write_payload.Goals as goal
 
 pub write_loan-requires-clause-live : goal.write_loan-requires-clause-live
@@ -75,3 +76,9 @@ returns-clause-up_to_date g c =
     let it = always-shown {T = g.row.T.Denot} {U = g.row.U.Denot} c.domain.inside.state c.args.domain.now c.domain.invariant c.domain.view_is in
     let step = returns-clause-written g c it.0 it.1 it.2 in
     set-leaves {T = g.row.T.Denot} {U = g.row.U.Denot} c.args.domain.now _ it.0 it.1 it.2 c.args.self.loan.number _ step.2
+
+pub returns-clause-loans_left : goal.returns-clause-loans_left
+returns-clause-loans_left g c =
+    let it = always-shown {T = g.row.T.Denot} {U = g.row.U.Denot} c.domain.inside.state c.args.domain.now c.domain.invariant c.domain.view_is in
+    let step = returns-clause-written g c it.0 it.1 it.2 in
+    set-left {T = g.row.T.Denot} {U = g.row.U.Denot} c.args.domain.now _ it.0 it.0 it.1 _ it.2 step.2 c.args.self.loan.number _ refl

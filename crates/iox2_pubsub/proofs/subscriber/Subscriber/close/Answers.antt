@@ -8,6 +8,7 @@ use Rattle.iox2_pubsub.proofs.ClosesShown.{subscriber-close-shows, subscriber-cl
 use Rattle.iox2_pubsub.proofs.ClosesWait.{subscriber-close-none, subscriber-close-others, subscriber-close-leaves}
 use Rattle.iox2_pubsub.proofs.LiveParts.{subscriber-parts}
 use Rattle.iox2_pubsub.proofs.ReceptionShown.{subscriber-missing}
+use Rattle.iox2_pubsub.proofs.LoansLeftShown.{subscriber-close-left}
 use Rattle.iox2_pubsub.proofs.subscriber.Subscriber.close.Goals as goal
 
 pub find_live_subscriber-place-requires : goal.find_live_subscriber-place-requires
@@ -64,3 +65,11 @@ returns-clause-up_to_date g c =
     let there = ap (λ (t : State g.row.T.Denot g.row.U.Denot). t.subscribers c.args.self.id) (it.2).state ∙ has.1 in
     subscriber-close-leaves {T = g.row.T.Denot} {U = g.row.U.Denot} c.args.domain.now (kept_of c.close_subscriber.new.state) it.0 it.1 it.2 c.args.self.id has.0
     (returns-clause-closed g c it.0 it.1 has.0 it.2 there) c.args.self refl
+
+pub returns-clause-loans_left : goal.returns-clause-loans_left
+returns-clause-loans_left g c =
+    let it = always-shown {T = g.row.T.Denot} {U = g.row.U.Denot} c.domain.inside.state c.args.domain.now c.domain.invariant c.domain.view_is in
+    let has = (subscriber-parts c.args.domain.now _ c.requires).2 in
+    let there = ap (λ (t : State g.row.T.Denot g.row.U.Denot). t.subscribers c.args.self.id) (it.2).state ∙ has.1 in
+    subscriber-close-left {T = g.row.T.Denot} {U = g.row.U.Denot} c.args.domain.now (kept_of c.close_subscriber.new.state) it.0 it.0 it.1 _ it.2
+    (returns-clause-closed g c it.0 it.1 has.0 it.2 there) c.args.self.id has.0 refl

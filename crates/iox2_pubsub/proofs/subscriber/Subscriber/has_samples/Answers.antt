@@ -8,6 +8,7 @@ use Rattle.iox2_pubsub.proofs.ReceptionShown.{subscriber-missing}
 use Rattle.iox2_pubsub.proofs.UpdatesStay.{updates-stay}
 use Rattle.iox2_pubsub.proofs.WaitingShown.{answers-say, update-no-more, update-others}
 use Rattle.iox2_pubsub.proofs.UpToDateShown.{subscriber-update-leaves, answers-updated}
+use Rattle.iox2_pubsub.proofs.LoansLeftShown.{update-subscriber-left}
 use Rattle.iox2_pubsub.proofs.subscriber.Subscriber.has_samples.Goals as goal
 
 pub unreachable-requires : goal.unreachable-requires
@@ -62,3 +63,10 @@ returns-clause-updated g c =
     let it = always-shown {T = g.row.T.Denot} {U = g.row.U.Denot} c.domain.inside.state c.args.domain.now c.domain.invariant c.domain.view_is in
     let step = returns-clause-answers g c it.0 it.1 it.2 in
     answers-updated {T = g.row.T.Denot} {U = g.row.U.Denot} c.args.domain.now (kept_of c.has_samples_at.new.state) it.0 it.0 it.1 step.0 it.2 step.1 fixed_handlers c.args.self.now c.requires c.has_samples_at.result step.2
+
+pub returns-clause-loans_left : goal.returns-clause-loans_left
+returns-clause-loans_left g c =
+    let it = always-shown {T = g.row.T.Denot} {U = g.row.U.Denot} c.domain.inside.state c.args.domain.now c.domain.invariant c.domain.view_is in
+    let step = returns-clause-answers g c it.0 it.1 it.2 in
+    let has = answered {T = g.row.T.Denot} {U = g.row.U.Denot} it.1 c.args.self.now.id c.has_samples_at.result step.0 step.2 in
+    update-subscriber-left {T = g.row.T.Denot} {U = g.row.U.Denot} c.args.domain.now (kept_of c.has_samples_at.new.state) it.0 it.0 it.1 step.0 it.2 step.1 fixed_handlers c.args.self.now.id has.0 (has.2).0

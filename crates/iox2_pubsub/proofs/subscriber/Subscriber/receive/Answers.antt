@@ -9,6 +9,7 @@ use Rattle.iox2_pubsub.proofs.ReceptionShown.{reception-at, reception-shows, rec
 use Rattle.iox2_pubsub.proofs.CallsStay.{always-shown, receive-stays, received-is-new}
 use Rattle.iox2_pubsub.proofs.WaitingShown.{received-fewer, received-none, received-no-more, received-others, received-reads}
 use Rattle.iox2_pubsub.proofs.UpToDateShown.{receive-leaves, received-updated, received-one-fewer}
+use Rattle.iox2_pubsub.proofs.LoansLeftShown.{receive-left}
 use Rattle.iox2_pubsub.proofs.subscriber.Subscriber.receive.Goals as goal
 
 pub returns-in_err-receipt-clause-receives : goal.returns-in_err-receipt-clause-receives
@@ -174,3 +175,21 @@ returns-clause-one_fewer g c =
     let it = always-shown {T = g.row.T.Denot} {U = g.row.U.Denot} c.domain.inside.state c.args.domain.now c.domain.invariant c.domain.view_is in
     let step = returns-clause-receives g c it.0 it.1 it.2 in
     received-one-fewer {T = g.row.T.Denot} {U = g.row.U.Denot} c.args.domain.now (kept_of c.receive_at.new.state) it.0 it.0 it.1 step.0 it.2 step.1 fixed_handlers c.args.self.now c.in-Some.receipt.publisher c.in-Some.receipt.sample.number step.2
+
+pub returns-in_err-receipt-clause-loans_left : goal.returns-in_err-receipt-clause-loans_left
+returns-in_err-receipt-clause-loans_left g c =
+    let it = always-shown {T = g.row.T.Denot} {U = g.row.U.Denot} c.domain.inside.state c.args.domain.now c.domain.invariant c.domain.view_is in
+    let step = returns-in_err-receipt-clause-receives g c it.0 it.1 it.2 in
+    receive-left {T = g.row.T.Denot} {U = g.row.U.Denot} c.args.domain.now (kept_of c.receive_at.new.state) it.0 it.0 it.1 step.0 it.2 step.1 fixed_handlers c.args.self.now.id (received_result c.from_residual.result) step.2
+
+pub returns-in_default-clause-loans_left : goal.returns-in_default-clause-loans_left
+returns-in_default-clause-loans_left g c =
+    let it = always-shown {T = g.row.T.Denot} {U = g.row.U.Denot} c.domain.inside.state c.args.domain.now c.domain.invariant c.domain.view_is in
+    let step = returns-in_default-clause-receives g c it.0 it.1 it.2 in
+    receive-left {T = g.row.T.Denot} {U = g.row.U.Denot} c.args.domain.now (kept_of c.receive_at.new.state) it.0 it.0 it.1 step.0 it.2 step.1 fixed_handlers c.args.self.now.id No_sample step.2
+
+pub returns-clause-loans_left : goal.returns-clause-loans_left
+returns-clause-loans_left g c =
+    let it = always-shown {T = g.row.T.Denot} {U = g.row.U.Denot} c.domain.inside.state c.args.domain.now c.domain.invariant c.domain.view_is in
+    let step = returns-clause-receives g c it.0 it.1 it.2 in
+    receive-left {T = g.row.T.Denot} {U = g.row.U.Denot} c.args.domain.now (kept_of c.receive_at.new.state) it.0 it.0 it.1 step.0 it.2 step.1 fixed_handlers c.args.self.now.id (Got_sample c.in-Some.receipt.publisher c.in-Some.receipt.sample.number) step.2

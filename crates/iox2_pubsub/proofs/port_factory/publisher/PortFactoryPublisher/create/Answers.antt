@@ -13,6 +13,7 @@ use Rattle.iox2_domain.specs.Shows.{Shows}
 use Rattle.iox2_pubsub.proofs.PublishersShown.{created-shows, created-live}
 use Rattle.iox2_pubsub.proofs.CallsStay.{always-shown, publisher-creation-stays, publisher-is-new}
 use Rattle.iox2_pubsub.proofs.WaitingShown.{publisher-refused, publisher-no-fewer}
+use Rattle.iox2_pubsub.proofs.LoansLeftShown.{publisher-creation-left, created-left}
 use Rattle.iox2_pubsub.proofs.port_factory.publisher.PortFactoryPublisher.create.Goals as goal
 
 pub returns-in_err-port-clause-creates : goal.returns-in_err-port-clause-creates
@@ -90,3 +91,25 @@ returns-clause-no_fewer g c =
     let it = always-shown {T = g.row.T.Denot} {U = g.row.U.Denot} c.domain.inside.state c.args.domain.now c.domain.invariant c.domain.view_is in
     let step = returns-clause-creates g c it.0 it.1 it.2 in
     publisher-no-fewer {T = g.row.T.Denot} {U = g.row.U.Denot} c.args.domain.now _ it.0 it.0 it.1 step.0 it.2 step.1 fixed_handlers c.args.self None (step.2).1
+
+pub returns-in_err-port-clause-loans_left : goal.returns-in_err-port-clause-loans_left
+returns-in_err-port-clause-loans_left g c =
+    let it = always-shown {T = g.row.T.Denot} {U = g.row.U.Denot} c.domain.inside.state c.args.domain.now c.domain.invariant c.domain.view_is in
+    let made = c.in_err-port.ensures.step in
+    let why = c.in_err-port.field-0.0 in
+    let shown : Shows (kept_of c.domain.inside.state) it.0 it.1 = subst (λ (kept : Kept g.row.T.Denot g.row.U.Denot). Shows kept it.0 it.1) (sym c.domain.view_is) it.2 in
+    let next = created-shows {T = g.row.T.Denot} {U = g.row.U.Denot} c.domain.inside.state c.create_publisher.new.state c.self.inside.max_loaned_samples fixed_handlers it.0 it.1 _ (Some why) shown made.0 made.1 in
+    publisher-creation-left {T = g.row.T.Denot} {U = g.row.U.Denot} c.args.domain.now _ it.0 it.0 it.1 _ it.2 next.0 fixed_handlers (plain_publisher c.self.inside.max_loaned_samples) (Some why) next.1
+
+pub returns-clause-loans_left : goal.returns-clause-loans_left
+returns-clause-loans_left g c =
+    let it = always-shown {T = g.row.T.Denot} {U = g.row.U.Denot} c.domain.inside.state c.args.domain.now c.domain.invariant c.domain.view_is in
+    let step = returns-clause-creates g c it.0 it.1 it.2 in
+    publisher-creation-left {T = g.row.T.Denot} {U = g.row.U.Denot} c.args.domain.now _ it.0 it.0 it.1 step.0 it.2 step.1 fixed_handlers c.args.self None (step.2).1
+
+pub returns-clause-left : goal.returns-clause-left
+returns-clause-left g c =
+    let it = always-shown {T = g.row.T.Denot} {U = g.row.U.Denot} c.domain.inside.state c.args.domain.now c.domain.invariant c.domain.view_is in
+    let step = returns-clause-creates g c it.0 it.1 it.2 in
+    created-left {T = g.row.T.Denot} {U = g.row.U.Denot} c.args.domain.now _ it.0 it.0 it.1 step.0 it.2 step.1 fixed_handlers c.self.inside.max_loaned_samples c.args.self c.self.view_is
+    (record { service_id = c.config.result.now.service_id; id = c.in_ok-port.port.id; place = c.in_ok-port.port.place }) (step.2).0 (step.2).1

@@ -12,6 +12,7 @@ use Rattle.iox2_pubsub.proofs.UpdateShown.{subscriber-update-shows}
 use Rattle.iox2_pubsub.proofs.UpdatesStay.{updates-stay}
 use Rattle.iox2_pubsub.proofs.WaitingShown.{subscriber-update-adds}
 use Rattle.iox2_pubsub.proofs.UpToDateShown.{subscriber-update-leaves}
+use Rattle.iox2_pubsub.proofs.LoansLeftShown.{update-subscriber-left}
 use Rattle.iox2_pubsub.proofs.subscriber.update_connections.SubscriberUpdateConnections.update_connections.Goals as goal
 
 pub unreachable-requires : goal.unreachable-requires
@@ -50,3 +51,9 @@ returns-clause-up_to_date g c =
     let it = always-shown {T = g.row.T.Denot} {U = g.row.U.Denot} c.domain.inside.state c.args.domain.now c.domain.invariant c.domain.view_is in
     let step = returns-clause-updates g c it.0 it.1 it.2 in
     subscriber-update-leaves {T = g.row.T.Denot} {U = g.row.U.Denot} c.args.domain.now (kept_of c.update_subscriber.new.state) it.0 it.0 it.1 step.0 it.2 step.1 fixed_handlers c.args.self.now.id (failure_of c.outcome_of.result) step.2
+
+pub returns-clause-loans_left : goal.returns-clause-loans_left
+returns-clause-loans_left g c =
+    let it = always-shown {T = g.row.T.Denot} {U = g.row.U.Denot} c.domain.inside.state c.args.domain.now c.domain.invariant c.domain.view_is in
+    let step = returns-clause-updates g c it.0 it.1 it.2 in
+    update-subscriber-left {T = g.row.T.Denot} {U = g.row.U.Denot} c.args.domain.now (kept_of c.update_subscriber.new.state) it.0 it.0 it.1 step.0 it.2 step.1 fixed_handlers c.args.self.now.id (failure_of c.outcome_of.result) step.2

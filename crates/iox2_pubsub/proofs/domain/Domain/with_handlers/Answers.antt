@@ -3,7 +3,8 @@ use Rattle.iox2_store.specs.declared.service_config.ServiceConfig.{ServiceConfig
 use Rattle.iox2_domain.specs.Fields.{kept_of}
 use Rattle.iox2_pubsub.proofs.LiveParts.{single-valued}
 use Rattle.iox2_pubsub.proofs.Fresh.{new_is_domain, new_is_shown}
-use Rattle.iox2_pubsub.proofs.domain.Domain+T+U.new.Goals as goal
+use Rattle.iox2_pubsub.proofs.LoansLeftShown.{fresh-numbers}
+use Rattle.iox2_pubsub.proofs.domain.Domain.with_handlers.Goals as goal
 
 pub returns-clause-fresh : goal.returns-clause-fresh
 returns-clause-fresh g c = new_is_shown {T = g.row.T.Denot} {U = g.row.U.Denot} c.args.config c.in-Ok.state c.in-Ok.ensures
@@ -21,3 +22,6 @@ invariant_of-result g c =
     new_is_domain {T = g.row.T.Denot} {U = g.row.U.Denot} c.args.config c.in-Ok.state c.in-Ok.ensures (record {
       single_values = c.requires.fixed_size;
     })
+
+pub returns-clause-numbers_left : goal.returns-clause-numbers_left
+returns-clause-numbers_left g c = λ n low. fresh-numbers {T = g.row.T.Denot} {U = g.row.U.Denot} (kept_of c.in-Ok.state) c.args.config (returns-clause-fresh g c) n low

@@ -1,0 +1,297 @@
+-- A run whose warnings and replies tell of no refused memory is one with ample memory.
+use Rattle.std.proofs.Common.{◌≡◌, ℕ, zero, suc, false, arith, List, [], ◌∷◌, ◌++◌, take, drop, refl, sym, ap, subst, ◌∙◌, Option, None, Some}
+use Rattle.std.specs.Prelude.{MatchOption, slice_get}
+use Rattle.std.specs.List.{All}
+use Rattle.std.proofs.lemmas.Option.{none-some}
+use Rattle.iox2_store.specs.machine.Limits.{buffer_limit}
+use Rattle.iox2_store.specs.machine.Records.{Publisher, Subscriber, SubscriberSettings, PublisherSettings, Fixed}
+use Rattle.iox2_store.specs.machine.State.{State, Messages, fresh, no_messages}
+use Rattle.iox2_store.specs.machine.WellFormed.{IsWellFormed}
+use Rattle.iox2_store.specs.machine.Loans.{is_static}
+use Rattle.iox2_store.specs.machine.Ports.{first_segment_fits, publisher_closed, subscriber_closed}
+use Rattle.iox2_store.specs.machine.Environments.{fixed_handlers, ample_memory}
+use Rattle.iox2_store.specs.declared.degradation.DegradationAction.{DegradationAction}
+use Rattle.iox2_store.specs.declared.allocation.AllocationStrategy.{AllocationStrategy}
+use Rattle.iox2_store.specs.declared.errors.PublisherCreateError.{PublisherCreateError}
+use Rattle.iox2_store.specs.declared.errors.PublisherCreateError.TheVariants.{UnableToCreateDataSegment, FailedToDeployThreadsafetyPolicy as NoPublisherState}
+use Rattle.iox2_store.specs.declared.errors.SubscriberCreateError.{SubscriberCreateError}
+use Rattle.iox2_store.specs.declared.errors.SubscriberCreateError.TheVariants.{FailedToDeployThreadsafetyPolicy as NoSubscriberState}
+use Rattle.iox2_store.specs.declared.service_config.ServiceConfig.{ServiceConfig}
+use Rattle.iox2_laws.specs.Laws.{Advances}
+use Rattle.iox2_laws.proofs.Cases.{by_option}
+use Rattle.iox2_laws.proofs.Enough.{fresh_is_well_formed}
+use Rattle.iox2_commands.specs.Outcomes.{Handle, Event, Outcome, messages_after, done, skipped}
+use Rattle.iox2_commands.specs.Step.{Step, after_publisher, after_subscriber, publisher_settings, unblocked_at, subscriber_at, loan_at, unwritten_at, with_cell_at, sendable_at, sample_at, if_single_units, if_fixed_size}
+use Rattle.iox2_commands.specs.Points.{PointOf}
+use Rattle.iox2_commands.specs.Runs.{Defaults, RunFrom, RunTo, only_defaults}
+use Rattle.iox2_commands.specs.Refusals.{TellNoRefusal, WarnsOfRefusals, RefusesPort, RefuseNoPort, MetNoRefusal, RunsWithoutRefusalsAreAmple, SubscribersAreIsolatedWithoutRefusals, ViewsStayAlikeWithoutRefusals}
+use Rattle.iox2_commands.specs.declared.command.Command.{Command}
+use Rattle.iox2_commands.specs.declared.command.Command.TheVariants.{Nothing, CreatePublisher, CreateSubscriber, LoanUninit, WriteAll, Send, Discard, Update, Receive, HasSamples, Read, Release, Close}
+use Rattle.iox2_commands.specs.declared.reply.Reply.{Reply}
+use Rattle.iox2_commands.proofs.EnoughRuns.{run_sound}
+use Rattle.iox2_commands.proofs.Isolation.{subscribers_are_isolated, views_stay_alike}
+use Rattle.iox2_commands.proofs.Named.{subscriber_is}
+use Rattle.iox2_commands.proofs.Points.{run_to, run_from}
+use Rattle.iox2_commands.proofs.StepLaws.{IsSound, step_sound}
+use Rattle.iox2_commands.proofs.AlikeOpen.{state_publisher, state_subscriber, state_loan, state_update, state_question, state_receive, state_send}
+use Rattle.iox2_commands.proofs.RefusalWarnings.{option_maps, update_publisher_ample, update_publisher_told, update_subscriber_ample, update_subscriber_told}
+use Rattle.iox2_commands.proofs.RefusalStates.{AllWarn, update_publisher_warn, update_subscriber_warn, receive_warn, released_warn, with_loan_warn, grant_loan_warn, loan_discarded_warn, send_warn, create_publisher_warn, create_subscriber_warn, publisher_closed_warn, subscriber_closed_warn}
+use Rattle.iox2_commands.proofs.RefusalSteps.{released_same, subscriber_closed_same, grant_loan_ample, send_ample, receive_ample, create_publisher_ample, create_subscriber_ample}
+
+module _ {T U : Type 0} (default_value : T) (default_header : U) (m : Messages T U) (s : State T U) (handles : List Handle) (k : AllWarn s) where
+  -- what holds of a state holds of that of an outcome
+  by : (R : State T U → Type 0) (o x : Outcome T U) (s' : State T U) → o ≡ x → x.state ≡ s' → R s' → R o.state
+  by R o x s' e f h = subst R (sym (ap (λ (v : Outcome T U). v.state) e ∙ f)) h
+
+  -- and the other way round
+  back : (R : State T U → Type 0) (o x : Outcome T U) (s' : State T U) → o ≡ x → x.state ≡ s' → R o.state → R s'
+  back R o x s' e f h = subst R (ap (λ (v : Outcome T U). v.state) e ∙ f) h
+
+  abbrev Told : State T U → Type 0
+  Told z = TellNoRefusal z.warnings
+
+  live_warn : {A : Type 0} (o : Outcome T U) (named : Option A) (Then : A → Type 0) → MatchOption named (o ≡ skipped s) Then → ((x : A) → Then x → AllWarn o.state) → AllWarn o.state
+  live_warn o named Then h go = by_option (AllWarn o.state) named _ _ h (λ _ e. by AllWarn o (skipped s) s e refl k) (λ x _ h. go x h)
+
+  live_told : {A : Type 0} (o : Outcome T U) (named : Option A) (Then : A → Type 0) → MatchOption named (o ≡ skipped s) Then → TellNoRefusal (o.state).warnings
+      → ((x : A) → Then x → TellNoRefusal s.warnings) → TellNoRefusal s.warnings
+  live_told o named Then h told go = by_option (TellNoRefusal s.warnings) named _ _ h (λ _ e. back Told o (skipped s) s e refl told) (λ x _ h. go x h)
+
+  -- Ports go on warning, whether or not memory is refused.
+  pub step_warns : (command : Command T U) (o : Outcome T U) → WarnsOfRefusals command → Step fixed_handlers default_value default_header m s handles command o → AllWarn o.state
+  step_warns Nothing o plain h = by AllWarn o (done s) s h refl k
+  step_warns (CreatePublisher loans strategy allocation len override_slots degradation backpressure) o plain h =
+      by AllWarn o _ h.0 h.3 (state_publisher h.0 s.next_port h.1)
+      (create_publisher_warn fixed_handlers s h.0 _ h.1 (ap is_static plain.0) (ap (λ (a : DegradationAction). Fixed a) plain.1) h.2 k)
+  step_warns (CreateSubscriber buffer degradation) o plain h =
+      by AllWarn o _ h.0 h.3 (state_subscriber h.0 s.next_port h.1) (create_subscriber_warn fixed_handlers s h.0 _ h.1 (ap (λ (a : DegradationAction). Fixed a) plain) h.2 k)
+  step_warns (LoanUninit of) o plain h =
+      live_warn o (if_single_units s (if_fixed_size s (unblocked_at s handles of))) _ h (λ publisher j.
+      by AllWarn o _ j.0 j.3 (state_loan j.0 s.next_message j.1) (grant_loan_warn fixed_handlers default_header false 1 s j.0 publisher.0 j.1 j.2 k))
+  step_warns (WriteAll of value) o plain h = live_warn o (unwritten_at s handles of) _ h (λ loan j. by AllWarn o _ _ j refl (with_loan_warn s loan.0 _ k))
+  step_warns (Send of) o plain h =
+      live_warn o (sendable_at s handles of) _ h (λ loan j. by AllWarn o _ j.0 j.3 (state_send j.0 _ _ _ j.1) (send_warn fixed_handlers s j.0 loan.0 loan.1 j.1 j.2 k))
+  step_warns (Discard of) o plain h = live_warn o (loan_at s handles of) _ h (λ loan j. by AllWarn o _ _ j refl (loan_discarded_warn s loan.0 loan.1 k))
+  step_warns (Update of) o plain h =
+      by_option (AllWarn o.state) (unblocked_at s handles of) _ _ h
+      (λ _ j. live_warn o (subscriber_at s handles of) _ j (λ subscriber j. by AllWarn o _ j.0 j.3 (state_update j.0 j.1) (update_subscriber_warn fixed_handlers s j.0 subscriber.0 j.1 j.2 k)))
+      (λ publisher _ j. by AllWarn o _ j.0 j.3 (state_update j.0 j.1) (update_publisher_warn fixed_handlers s j.0 publisher.0 j.1 j.2 k))
+  step_warns (Receive of) o plain h =
+      live_warn o (if_single_units s (subscriber_at s handles of)) _ h (λ subscriber j.
+      by AllWarn o _ j.0 j.3 (state_receive j.0 subscriber.0 j.1) (receive_warn fixed_handlers s j.0 subscriber.0 j.1 j.2 k))
+  step_warns (HasSamples of) o plain h =
+      live_warn o (subscriber_at s handles of) _ h (λ subscriber j.
+      by AllWarn o _ j.0 j.4 (state_question j.0 j.1 j.2) (update_subscriber_warn fixed_handlers s j.0 subscriber.0 j.1 (j.3).0 k))
+  step_warns (Read of at) o plain h =
+      by_option (AllWarn o.state) (sample_at s handles of) _ _ h
+      (λ _ j. live_warn o (with_cell_at at (loan_at s handles of)) _ j (λ loan j.
+      by_option (AllWarn o.state) (slice_get (loan.1).cells at) _ _ j (λ _ v. absurd v) (λ cell _ e. by AllWarn o _ s e refl k)))
+      (λ sample _ j. by_option (AllWarn o.state) (m sample.2) _ _ j (λ _ v. absurd v)
+      (λ entry _ j. live_warn o (slice_get entry.values at) _ j (λ value e. by AllWarn o _ s e refl k)))
+  step_warns (Release of) o plain h = live_warn o (sample_at s handles of) _ h (λ sample j. by AllWarn o _ _ j refl (released_warn s sample.0 sample.1 sample.2 k))
+  step_warns (Close of) o plain h =
+      by_option (AllWarn o.state) (unblocked_at s handles of) _ _ h
+      (λ _ j. live_warn_named o j)
+      (λ publisher _ j. by AllWarn o _ _ j refl (publisher_closed_warn s publisher.0 publisher.1 k))
+    where
+      live_warn_named : (o : Outcome T U) → MatchOption (subscriber_at s handles of) (o ≡ skipped s) (λ subscriber. o ≡ done (subscriber_closed s subscriber.0 subscriber.1)) → AllWarn o.state
+      live_warn_named o j =
+          by_option (AllWarn o.state) (subscriber_at s handles of) _ _ j (λ _ e. by AllWarn o (skipped s) s e refl k)
+          (λ subscriber named e. by AllWarn o _ _ e refl (subscriber_closed_warn s subscriber.0 subscriber.1 (subscriber_is s handles of subscriber named) k))
+  step_warns _ o plain h = absurd plain
+
+  -- Where the warnings after a step tell of no refusal, and its reply of none, it is a step with ample memory, and the warnings
+  -- before it told of none.
+  pub step_ample : (command : Command T U) (o : Outcome T U) → WarnsOfRefusals command → (RefusesPort s.config command o.reply → ⊥) → TellNoRefusal (o.state).warnings
+      → Step fixed_handlers default_value default_header m s handles command o
+      → Step ample_memory default_value default_header m s handles command o × TellNoRefusal s.warnings
+  step_ample Nothing o plain port told h = (h, back Told o (done s) s h refl told)
+  step_ample (CreatePublisher loans strategy allocation len override_slots degradation backpressure) o plain port told h =
+      let given : PublisherSettings = publisher_settings (s.config).variant loans strategy allocation len override_slots degradation backpressure in
+      let replied : (e : PublisherCreateError) → h.1 ≡ Some e → o.reply ≡ (after_publisher h.0 s.next_port (Some e)).reply =
+      λ e some. ap (λ (v : Outcome T U). v.reply) h.3 ∙ ap (λ (r : Option PublisherCreateError). (after_publisher h.0 s.next_port r).reply) some in
+      let went = create_publisher_ample s h.0 given (ap is_static plain.0) (ap (λ (a : DegradationAction). Fixed a) plain.1) k
+      (back Told o _ h.0 h.3 (state_publisher h.0 s.next_port h.1) told) h.1
+      (λ fit some. port (subst (RefusesPort s.config (CreatePublisher loans strategy allocation len override_slots degradation backpressure)) (sym (replied UnableToCreateDataSegment some)) fit))
+      (λ some. port (subst (RefusesPort s.config (CreatePublisher loans strategy allocation len override_slots degradation backpressure)) (sym (replied NoPublisherState some)) tt))
+      h.2 in
+      ((h.0, h.1, went.0, h.3), went.1)
+  step_ample (CreateSubscriber buffer degradation) o plain port told h =
+      let replied : (e : SubscriberCreateError) → h.1 ≡ Some e → o.reply ≡ (after_subscriber h.0 s.next_port (Some e)).reply =
+      λ e some. ap (λ (v : Outcome T U). v.reply) h.3 ∙ ap (λ (r : Option SubscriberCreateError). (after_subscriber h.0 s.next_port r).reply) some in
+      let went = create_subscriber_ample s h.0 (record { buffer_size = elim buffer [ None ↦ buffer_limit s.config | Some size ↦ size ]; degradation_handler = Fixed degradation })
+      (ap (λ (a : DegradationAction). Fixed a) plain) k (back Told o _ h.0 h.3 (state_subscriber h.0 s.next_port h.1) told) h.1
+      (λ some. port (subst (RefusesPort s.config (CreateSubscriber buffer degradation)) (sym (replied NoSubscriberState some)) tt)) h.2 in
+      ((h.0, h.1, went.0, h.3), went.1)
+  step_ample (LoanUninit of) o plain port told h = (
+    option_maps (if_single_units s (if_fixed_size s (unblocked_at s handles of))) _ _ _ _ h (λ e. e)
+        (λ publisher _ j. (j.0, j.1, (grant_loan_ample default_header false 1 s j.0 publisher.0 j.1 k j.2).0, j.3)),
+    live_told o (if_single_units s (if_fixed_size s (unblocked_at s handles of))) _ h told (λ publisher j.
+        subst TellNoRefusal (grant_loan_ample default_header false 1 s j.0 publisher.0 j.1 k j.2).1 (back Told o _ j.0 j.3 (state_loan j.0 s.next_message j.1) told)),
+  )
+  step_ample (WriteAll of value) o plain port told h = (h, live_told o (unwritten_at s handles of) _ h told (λ loan j. back Told o _ _ j refl told))
+  step_ample (Send of) o plain port told h = (
+    option_maps (sendable_at s handles of) _ _ _ _ h (λ e. e)
+        (λ loan _ j. (j.0, j.1, (send_ample s j.0 loan.0 loan.1 j.1 k (back Told o _ j.0 j.3 (state_send j.0 _ _ _ j.1) told) j.2).0, j.3)),
+    live_told o (sendable_at s handles of) _ h told (λ loan j. (send_ample s j.0 loan.0 loan.1 j.1 k (back Told o _ j.0 j.3 (state_send j.0 _ _ _ j.1) told) j.2).1),
+  )
+  step_ample (Discard of) o plain port told h = (h, live_told o (loan_at s handles of) _ h told (λ loan j. back Told o _ _ j refl told))
+  step_ample (Update of) o plain port told h = (
+    option_maps (unblocked_at s handles of) _ _ _ _ h
+        (λ j. option_maps (subscriber_at s handles of) _ _ _ _ j (λ e. e)
+        (λ subscriber _ j. (j.0, j.1, update_subscriber_ample s j.0 subscriber.0 j.1 (k.subscribers subscriber.0) (back Told o _ j.0 j.3 (state_update j.0 j.1) told) j.2, j.3)))
+        (λ publisher _ j. (j.0, j.1, update_publisher_ample s j.0 publisher.0 j.1 (λ x e. (k.publishers publisher.0 x e).warns) (back Told o _ j.0 j.3 (state_update j.0 j.1) told) j.2, j.3)),
+    by_option (TellNoRefusal s.warnings) (unblocked_at s handles of) _ _ h
+        (λ _ j. live_told o (subscriber_at s handles of) _ j told (λ subscriber j.
+        update_subscriber_told s j.0 subscriber.0 j.1 (k.subscribers subscriber.0) (back Told o _ j.0 j.3 (state_update j.0 j.1) told) j.2))
+        (λ publisher _ j. update_publisher_told s j.0 publisher.0 j.1 (λ x e. (k.publishers publisher.0 x e).warns) (back Told o _ j.0 j.3 (state_update j.0 j.1) told) j.2),
+  )
+  step_ample (Receive of) o plain port told h = (
+    option_maps (if_single_units s (subscriber_at s handles of)) _ _ _ _ h (λ e. e)
+        (λ subscriber _ j. (j.0, j.1, (receive_ample s j.0 subscriber.0 j.1 k (back Told o _ j.0 j.3 (state_receive j.0 subscriber.0 j.1) told) j.2).0, j.3)),
+    live_told o (if_single_units s (subscriber_at s handles of)) _ h told (λ subscriber j.
+        (receive_ample s j.0 subscriber.0 j.1 k (back Told o _ j.0 j.3 (state_receive j.0 subscriber.0 j.1) told) j.2).1),
+  )
+  step_ample (HasSamples of) o plain port told h = (
+    option_maps (subscriber_at s handles of) _ _ _ _ h (λ e. e)
+        (λ subscriber _ j. (
+          j.0,
+          j.1,
+          j.2,
+          (update_subscriber_ample s j.0 subscriber.0 j.1 (k.subscribers subscriber.0) (back Told o _ j.0 j.4 (state_question j.0 j.1 j.2) told) (j.3).0, (j.3).1),
+          j.4,
+        )),
+    live_told o (subscriber_at s handles of) _ h told (λ subscriber j.
+        update_subscriber_told s j.0 subscriber.0 j.1 (k.subscribers subscriber.0) (back Told o _ j.0 j.4 (state_question j.0 j.1 j.2) told) (j.3).0),
+  )
+  step_ample (Read of at) o plain port told h = (
+    h,
+    by_option (TellNoRefusal s.warnings) (sample_at s handles of) _ _ h
+        (λ _ j. live_told o (with_cell_at at (loan_at s handles of)) _ j told (λ loan j.
+        by_option (TellNoRefusal s.warnings) (slice_get (loan.1).cells at) _ _ j (λ _ v. absurd v) (λ cell _ e. back Told o _ s e refl told)))
+        (λ sample _ j. by_option (TellNoRefusal s.warnings) (m sample.2) _ _ j (λ _ v. absurd v)
+        (λ entry _ j. live_told o (slice_get entry.values at) _ j told (λ value e. back Told o _ s e refl told))),
+  )
+  step_ample (Release of) o plain port told h =
+      (h, live_told o (sample_at s handles of) _ h told (λ sample j. subst TellNoRefusal (released_same s sample.0 sample.1 sample.2) (back Told o _ _ j refl told)))
+  step_ample (Close of) o plain port told h = (
+    h,
+    by_option (TellNoRefusal s.warnings) (unblocked_at s handles of) _ _ h
+        (λ _ j. live_told o (subscriber_at s handles of) _ j told (λ subscriber j.
+        subst TellNoRefusal (subscriber_closed_same s subscriber.0 subscriber.1) (back Told o _ _ j refl told)))
+        (λ publisher _ j. back Told o _ _ j refl told),
+  )
+  step_ample _ o plain port told h = absurd plain
+
+-- what holds of all holds of the first and of the others
+first_of : {A : Type 0} (P : A → Type 0) (x : A) (xs : List A) → All P (x ∷ xs) → P x
+first_of P x xs all = all 0 x (omega arith)
+
+others_of : {A : Type 0} (P : A → Type 0) (x : A) (xs : List A) → All P (x ∷ xs) → All P xs
+others_of P x xs all = λ i d inside. all (suc i) d (omega (arith, inside))
+
+-- what holds of all holds of the first n, and of those past them
+all_taken : {A : Type 0} (P : A → Type 0) (n : ℕ) (xs : List A) → All P xs → All P (take n xs)
+all_taken P zero xs all = λ i d inside. absurd (omega (arith, inside))
+all_taken P (suc n) [] all = λ i d inside. absurd (omega (arith, inside))
+all_taken P (suc n) (x ∷ xs) all = all_more (first_of P x xs all) (all_taken P n xs (others_of P x xs all)) where
+  all_more : P x → All P (take n xs) → All P (x ∷ take n xs)
+  all_more here rest zero d inside = here
+  all_more here rest (suc i) d inside = rest i d (omega (arith, inside))
+
+all_dropped : {A : Type 0} (P : A → Type 0) (n : ℕ) (xs : List A) → All P xs → All P (drop n xs)
+all_dropped P zero xs all = all
+all_dropped P (suc n) [] all = all
+all_dropped P (suc n) (x ∷ xs) all = all_dropped P n xs (others_of P x xs all)
+
+module _ {T U : Type 0} (defaults : Defaults T U) where
+  -- A run whose last warnings and whose replies tell of no refused memory is one with ample memory, and the warnings before it
+  -- told of none.
+  pub run_ample : (m : Messages T U) (s : State T U) (handles : List Handle) (commands : List (Command T U)) (replies : List (Reply T U)) (events : List (Event T U))
+      (m' : Messages T U) (s' : State T U) (handles' : List Handle) → IsWellFormed s → AllWarn s → All WarnsOfRefusals commands → RefuseNoPort s.config commands replies
+      → TellNoRefusal s'.warnings → RunTo fixed_handlers defaults m s handles commands replies events m' s' handles'
+      → RunTo ample_memory defaults m s handles commands replies events m' s' handles' × TellNoRefusal s.warnings
+  run_ample m s handles [] [] [] m' s' handles' w k plain ports told h = (h, subst (λ (z : State T U). TellNoRefusal z.warnings) h.1 told)
+  run_ample m s handles (command ∷ commands) (reply ∷ replies) (event ∷ events) m' s' handles' w k plain ports told h =
+      let sound : IsSound s h.4 = step_sound fixed_handlers h.0 h.1 m s handles w command h.4 h.5 in
+      let rest = run_ample (messages_after (h.4).event m) (h.4).state (handles ++ (h.4).handle ∷ []) commands replies events m' s' handles' sound.well_formed
+      (step_warns h.0 h.1 m s handles k command h.4 (first_of WarnsOfRefusals command commands plain) h.5) (others_of WarnsOfRefusals command commands plain)
+      (subst (λ (c : ServiceConfig). RefuseNoPort c commands replies) (sym (sound.advances).config) ports.1) told h.8 in
+      let first = step_ample h.0 h.1 m s handles k command h.4 (first_of WarnsOfRefusals command commands plain) (λ refuses. ports.0 (subst (RefusesPort s.config command) h.6 refuses)) rest.1 h.5 in
+      ((h.0, h.1, h.2, h.3, h.4, first.0, h.6, h.7, rest.0), first.1)
+  run_ample m s handles _ _ _ m' s' handles' w k plain ports told h = absurd h
+
+module _ {T U : Type 0} where
+  -- a new domain has no port
+  none_warn : (c : ServiceConfig) → AllWarn (fresh {T = T} {U = U} c)
+  none_warn c = record { publishers = λ i x e. absurd (none-some x e); subscribers = λ i y e. absurd (none-some y e) }
+
+  -- The law of runs without refusals.
+  pub runs_without_refusals : RunsWithoutRefusalsAreAmple T U
+  runs_without_refusals default_value default_header c commands replies events m s handles plain met h =
+      (run_ample (only_defaults default_value default_header) no_messages (fresh c) [] commands replies events m s handles (fresh_is_well_formed c) (none_warn c) plain met.ports met.told h).0
+
+  -- And of two of them.
+  pub isolated_without_refusals : SubscribersAreIsolatedWithoutRefusals T U
+  isolated_without_refusals default_value default_header c position q commands reduced later replies replies' events events' m m' s s' handles handles' plain plain' met met' omits independent h h' made same =
+      subscribers_are_isolated default_value default_header c position q commands reduced later replies replies' events events' m m' s s' handles handles' omits independent
+      (runs_without_refusals default_value default_header c commands replies events m s handles plain met h)
+      (runs_without_refusals default_value default_header c reduced replies' events' m' s' handles' plain' met' h') made same
+
+  -- ---- at each point
+
+  -- the first commands of a run that met no refusal met none
+  refuse_no_port_taken : (c : ServiceConfig) (n : ℕ) (commands : List (Command T U)) (replies : List (Reply T U)) → RefuseNoPort c commands replies → RefuseNoPort c (take n commands) (take n replies)
+  refuse_no_port_taken c zero commands replies h = tt
+  refuse_no_port_taken c (suc n) [] replies h = tt
+  refuse_no_port_taken c (suc n) (command ∷ commands) [] h = tt
+  refuse_no_port_taken c (suc n) (command ∷ commands) (reply ∷ replies) h = (h.0, refuse_no_port_taken c n commands replies h.1)
+
+  -- nor did the others
+  refuse_no_port_dropped : (c : ServiceConfig) (n : ℕ) (commands : List (Command T U)) (replies : List (Reply T U)) → RefuseNoPort c commands replies → RefuseNoPort c (drop n commands) (drop n replies)
+  refuse_no_port_dropped c zero commands replies h = h
+  refuse_no_port_dropped c (suc n) [] replies h = tt
+  refuse_no_port_dropped c (suc n) (command ∷ commands) [] h = nothing_replied (drop n commands) where
+    nothing_replied : (rest : List (Command T U)) → RefuseNoPort c rest []
+    nothing_replied [] = tt
+    nothing_replied (next ∷ rest) = tt
+  refuse_no_port_dropped c (suc n) (command ∷ commands) (reply ∷ replies) h = refuse_no_port_dropped c n commands replies h.1
+
+  module _ (defaults : Defaults T U) where
+    -- Ports warn at the end of a run as at its start.
+    run_warns : (m : Messages T U) (s : State T U) (handles : List Handle) (commands : List (Command T U)) (replies : List (Reply T U)) (events : List (Event T U))
+        (m' : Messages T U) (s' : State T U) → AllWarn s → All WarnsOfRefusals commands → RunFrom fixed_handlers defaults m s handles commands replies events m' s' → AllWarn s'
+    run_warns m s handles [] [] [] m' s' k plain h = subst AllWarn (sym h.1) k
+    run_warns m s handles (command ∷ commands) (reply ∷ replies) (event ∷ events) m' s' k plain h =
+        run_warns (messages_after (h.4).event m) (h.4).state (handles ++ (h.4).handle ∷ []) commands replies events m' s'
+        (step_warns h.0 h.1 m s handles k command h.4 (first_of WarnsOfRefusals command commands plain) h.5) (others_of WarnsOfRefusals command commands plain) h.8
+    run_warns m s handles _ _ _ m' s' k plain h = absurd h
+
+    -- A point of a run that met no refusal is one of a run with ample memory.
+    point_ample : (c : ServiceConfig) (n : ℕ) (commands : List (Command T U)) (replies : List (Reply T U)) (events : List (Event T U)) (m' : Messages T U) (s' : State T U)
+        → All WarnsOfRefusals commands → MetNoRefusal c commands replies s'.warnings
+        → (x : PointOf fixed_handlers defaults no_messages (fresh c) commands replies events m' s' n)
+        → RunTo ample_memory defaults no_messages (fresh c) [] (take n commands) (take n replies) (take n events) x.messages x.state x.handles
+        × RunFrom ample_memory defaults x.messages x.state x.handles (drop n commands) (drop n replies) (drop n events) m' s'
+    point_ample c n commands replies events m' s' plain met x =
+        let before : RunFrom fixed_handlers defaults no_messages (fresh c) [] (take n commands) (take n replies) (take n events) x.messages x.state =
+        run_from fixed_handlers defaults no_messages (fresh c) [] (take n commands) (take n replies) (take n events) x.messages x.state x.handles x.before in
+        let sound : IsWellFormed x.state × Advances (fresh {T = T} {U = U} c) x.state =
+        run_sound fixed_handlers defaults no_messages (fresh c) [] (take n commands) (take n replies) (take n events) x.messages x.state (fresh_is_well_formed c) before in
+        let warn : AllWarn x.state =
+        run_warns no_messages (fresh c) [] (take n commands) (take n replies) (take n events) x.messages x.state (none_warn c) (all_taken WarnsOfRefusals n commands plain) before in
+        let on = run_to fixed_handlers defaults x.messages x.state x.handles (drop n commands) (drop n replies) (drop n events) m' s' x.after in
+        let after = run_ample defaults x.messages x.state x.handles (drop n commands) (drop n replies) (drop n events) m' s' on.0 sound.0 warn (all_dropped WarnsOfRefusals n commands plain)
+        (subst (λ (v : ServiceConfig). RefuseNoPort v (drop n commands) (drop n replies)) (sym (sound.1).config) (refuse_no_port_dropped c n commands replies met.ports)) met.told on.1 in
+        let first = run_ample defaults no_messages (fresh c) [] (take n commands) (take n replies) (take n events) x.messages x.state x.handles (fresh_is_well_formed c) (none_warn c)
+        (all_taken WarnsOfRefusals n commands plain) (refuse_no_port_taken c n commands replies met.ports) after.1 x.before in
+        (first.0, run_from ample_memory defaults x.messages x.state x.handles (drop n commands) (drop n replies) (drop n events) m' s' on.0 after.0)
+
+  -- The law of views at each point, for two runs without refusals.
+  pub views_without_refusals : ViewsStayAlikeWithoutRefusals T U
+  views_without_refusals default_value default_header c position q n commands reduced replies replies' events events' m m' s s' plain plain' met met' omits independent made same x y =
+      let first = point_ample (only_defaults default_value default_header) c n commands replies events m s plain met x in
+      let second = point_ample (only_defaults default_value default_header) c n reduced replies' events' m' s' plain' met' y in
+      views_stay_alike default_value default_header c position q n commands reduced replies replies' events events' m m' s s' omits independent made same
+      (record { messages = x.messages; state = x.state; handles = x.handles; before = first.0; after = first.1 })
+      (record { messages = y.messages; state = y.state; handles = y.handles; before = second.0; after = second.1 })

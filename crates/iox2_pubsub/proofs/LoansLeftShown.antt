@@ -1,0 +1,192 @@
+-- What calls leave of the loans that publishers may still take, seen from outside.
+use Rattle.std.proofs.Common.{◌≡◌, ℕ, false, ◌+◌, ◌≤◌, ◌<◌, refl, sym, ap, subst, ◌∙◌, arith, Option, None, Some, Result, Ok, Err, ◌⊎◌, inl, inr}
+use Rattle.std.specs.Prelude.{◌≢◌}
+use Rattle.std.proofs.lemmas.Bool.{cases_eq}
+use Rattle.iox2_store.specs.machine.Environments.{ample_memory}
+use Rattle.iox2_store.specs.machine.Limits.{last_number, worst_case}
+use Rattle.iox2_store.specs.machine.Loans.{is_static, loan_discarded}
+use Rattle.iox2_store.specs.machine.Ports.{CreatePublisher, CreateSubscriber, publisher_closed, subscriber_closed, slots_for}
+use Rattle.iox2_store.specs.machine.PublisherUpdate.{UpdatePublisher}
+use Rattle.iox2_store.specs.machine.Receives.{ReceiveResult, Receive}
+use Rattle.iox2_store.specs.machine.Records.{Environment, Loan, Publisher as MachinePublisher, Subscriber as MachineSubscriber, PublisherSettings, SubscriberSettings}
+use Rattle.iox2_store.specs.machine.Releases.{released}
+use Rattle.iox2_store.specs.machine.Sends.{SendResult, Blocked_send, Delivered_to, Send_error, Send}
+use Rattle.iox2_store.specs.machine.State.{State, Messages, with_loan, fresh, no_messages}
+use Rattle.iox2_store.specs.machine.SubscriberUpdate.{UpdateSubscriber}
+use Rattle.iox2_store.specs.declared.errors.ConnectionFailure.{ConnectionFailure}
+use Rattle.iox2_store.specs.declared.errors.LoanError.{LoanError}
+use Rattle.iox2_store.specs.declared.errors.SendError.{SendError}
+use Rattle.iox2_store.specs.declared.errors.PublisherCreateError.{PublisherCreateError}
+use Rattle.iox2_store.specs.declared.errors.SubscriberCreateError.{SubscriberCreateError}
+use Rattle.iox2_store.specs.declared.service_config.ServiceConfig.{ServiceConfig}
+use Rattle.iox2_domain.specs.Kept.{Kept, state_of}
+use Rattle.iox2_domain.specs.Lending.{LoanCall}
+use Rattle.iox2_domain.specs.NewPublisher.{plain_publisher}
+use Rattle.iox2_domain.specs.Shows.{Shows}
+use Rattle.iox2_pubsub.specs.LoansLeft.{CanLend, HasLoansLeft, HasNumbersLeft, NumbersLeftStay, LoansLeftStay, OthersLoansLeftStay, HasOneMoreLeft, TakesOneLeft}
+use Rattle.iox2_pubsub.specs.SendCalls.{result_of_send}
+use Rattle.iox2_pubsub.specs.declared.publisher.Publisher.{Publisher}
+use Rattle.iox2_pubsub.specs.declared.send_outcome.SendOutcome.{SendOutcome}
+use Rattle.iox2_pubsub.specs.declared.send_outcome.SendOutcome.TheVariants.{Delivered}
+use Rattle.iox2_pubsub.proofs.LoansLeft.{LoansKept, LoanTaken, LoanEnds, set_kept, update_publisher_kept, update_subscriber_kept, receive_kept, released_kept, subscriber_closed_kept, create_publisher_kept, created_lends, create_subscriber_kept, kept_itself, kept_lends, closed_lends, loan_taken, discarded_ends, send_ends, ended_lends, others_lend, lends_fewer}
+
+-- a number that is left is below the last
+below_last : (now n last : ℕ) → now + (n + 1) ≤ last → now < last
+below_last now n last h = omega arith
+
+fewer_numbers : (now was n last : ℕ) → now ≡ was + 1 → was + (n + 1) ≤ last → now + n ≤ last
+fewer_numbers now was n last e h = omega arith
+
+one_less : (now n last : ℕ) → now + (n + 1) ≤ last → now + n ≤ last
+one_less now n last h = omega arith
+
+module _ {T U : Type 0} (domain : Kept T U) where
+  pub lends-in : (publisher : Publisher) (n : ℕ) → HasLoansLeft domain publisher n → CanLend (state_of domain) publisher.id n
+  unfolding HasLoansLeft
+  lends-in publisher n h = h
+
+  pub lends-out : (publisher : Publisher) (n : ℕ) → CanLend (state_of domain) publisher.id n → HasLoansLeft domain publisher n
+  unfolding HasLoansLeft
+  lends-out publisher n h = h
+
+  pub numbers-in : (n : ℕ) → HasNumbersLeft domain n → domain.next_message + n ≤ last_number
+  unfolding HasNumbersLeft
+  numbers-in n h = h
+
+  pub numbers-out : (n : ℕ) → domain.next_message + n ≤ last_number → HasNumbersLeft domain n
+  unfolding HasNumbersLeft
+  numbers-out n h = h
+
+  pub number-left : (n : ℕ) → HasNumbersLeft domain (n + 1) → domain.next_message < last_number
+  number-left n h = below_last domain.next_message n last_number (numbers-in (n + 1) h)
+
+module _ {T U : Type 0} (kept : Kept T U) (m : Messages T U) (s : State T U) (shown : Shows kept m s) where
+  lends-at : (publisher : Publisher) (n : ℕ) → HasLoansLeft kept publisher n → CanLend s publisher.id n
+  lends-at publisher n h = subst (λ (t : State T U). CanLend t publisher.id n) (sym shown.state) (lends-in kept publisher n h)
+
+  lends-from : (publisher : Publisher) (n : ℕ) → CanLend s publisher.id n → HasLoansLeft kept publisher n
+  lends-from publisher n h = lends-out kept publisher n (subst (λ (t : State T U). CanLend t publisher.id n) shown.state h)
+
+  next-at : s.next_message ≡ kept.next_message
+  next-at = ap (λ (t : State T U). t.next_message) shown.state
+
+module _ {T U : Type 0} (old new : Kept T U) (m m' : Messages T U) (s s' : State T U) (shown : Shows old m s) (shown' : Shows new m' s') where
+  numbers-stay : s'.next_message ≡ s.next_message → NumbersLeftStay old new
+  numbers-stay same n h =
+      numbers-out new n (subst (λ (k : ℕ). k + n ≤ last_number) (sym (next-at old m s shown) ∙ sym same ∙ next-at new m' s' shown') (numbers-in old n h))
+
+  pub all-left : LoansKept s s' → LoansLeftStay old new
+  all-left kept = record {
+    loans = λ publisher n h. lends-from new m' s' shown' publisher n (kept_lends s s' kept publisher.id n (lends-at old m s shown publisher n h));
+    numbers = numbers-stay kept.numbers;
+  }
+
+  pub update-publisher-left : (environment : Environment) (p : ℕ) (failure : Option ConnectionFailure) → UpdatePublisher environment s p s' failure → LoansLeftStay old new
+  update-publisher-left environment p failure h = all-left (update_publisher_kept environment s p s' failure h)
+
+  pub update-subscriber-left : (environment : Environment) (q : ℕ) (failure : Option ConnectionFailure) → UpdateSubscriber environment s q s' failure → LoansLeftStay old new
+  update-subscriber-left environment q failure h = all-left (update_subscriber_kept environment s q s' failure h)
+
+  pub receive-left : (environment : Environment) (q : ℕ) (result : ReceiveResult) → Receive environment s q s' result → LoansLeftStay old new
+  receive-left environment q result h = all-left (receive_kept environment s q s' result h)
+
+  pub release-left : (p q n : ℕ) → s' ≡ released s p q n → LoansLeftStay old new
+  release-left p q n is = all-left (subst (LoansKept s) (sym is) (released_kept s p q n))
+
+  pub publisher-creation-left : (environment : Environment) (given : PublisherSettings) (refusal : Option PublisherCreateError) → CreatePublisher environment s given s' refusal → LoansLeftStay old new
+  publisher-creation-left environment given refusal h = all-left (create_publisher_kept environment s shown.well_formed given s' refusal h)
+
+  pub subscriber-creation-left : (environment : Environment) (given : SubscriberSettings) (refusal : Option SubscriberCreateError) → CreateSubscriber environment s given s' refusal → LoansLeftStay old new
+  subscriber-creation-left environment given refusal h = all-left (create_subscriber_kept environment s given s' refusal h)
+
+  -- a publisher as factories make it so far
+  pub created-left : (environment : Environment) (loans : ℕ) (given : PublisherSettings) → plain_publisher loans ≡ given → (publisher : Publisher) → publisher.id ≡ s.next_port
+      → CreatePublisher environment s given s' None → HasLoansLeft new publisher given.max_loaned_samples
+  created-left environment loans given is publisher its h =
+      subst (λ (z : PublisherSettings). HasLoansLeft new publisher z.max_loaned_samples) is
+      (lends-from new m' s' shown' publisher loans
+      (subst (λ (p : ℕ). CanLend s' p loans) (sym its) (created_lends environment s (plain_publisher loans) s' refl (omega arith)
+      (subst (λ (z : PublisherSettings). CreatePublisher environment s z s' None) (sym is) h))))
+
+  -- a loan is granted, or refused
+  pub loan-takes : {A : Type 0} (is_default : U → Type 0) (publisher : Publisher) (answer : Result A LoanError) → LoanCall is_default s publisher.id answer s' → TakesOneLeft publisher old new
+  loan-takes is_default publisher (Ok a) h =
+      let taken : LoanTaken publisher.id s s' = loan_taken ample_memory h.0 false 1 s publisher.id s' h.2 in record {
+        loans = λ n left. lends-from new m' s' shown' publisher n (taken.own n (lends-at old m s shown publisher (n + 1) left));
+        others = λ other n away left.
+            let can : CanLend s other.id n = lends-at old m s shown other n left in
+            lends-from new m' s' shown' other n (record {
+              port = can.port;
+              stands = taken.others other.id away ∙ can.stands;
+              static = can.static;
+              slots = subst (λ (c : ServiceConfig). worst_case c (can.port).max_loaned_samples ≤ (can.port).slots) (sym taken.config) can.slots;
+              few = can.few;
+            });
+        numbers = λ n left. numbers-out new n (fewer_numbers new.next_message old.next_message n last_number
+            (sym (next-at new m' s' shown') ∙ taken.numbers ∙ ap (λ (k : ℕ). k + 1) (next-at old m s shown)) (numbers-in old (n + 1) left));
+      }
+  loan-takes is_default publisher (Err e) h =
+      let stay : LoansLeftStay old new = all-left (subst (LoansKept s) (sym h.0) (kept_itself s)) in record {
+        loans = λ n left. stay.loans publisher n (lends-out old publisher n (lends_fewer (state_of old) publisher.id n (n + 1) (omega arith) (lends-in old publisher (n + 1) left)));
+        others = λ other n away left. stay.loans other n left;
+        numbers = λ n left. stay.numbers n (numbers-out old n (one_less old.next_message n last_number (numbers-in old (n + 1) left)));
+      }
+
+  -- a loan ends
+  module _ (n : ℕ) (l : Loan T U) (out : s.loans n ≡ Some l) (p : ℕ) (its : l.publisher ≡ p) (ends : LoanEnds l.publisher n s s') where
+    ended : LoanEnds p n s s'
+    ended = subst (λ (i : ℕ). LoanEnds i n s s') its ends
+
+    pub ended-gives : HasOneMoreLeft p old new
+    ended-gives publisher more same left =
+        let can : CanLend s p more = subst (λ (i : ℕ). CanLend s i more) same (lends-at old m s shown publisher more left) in
+        lends-from new m' s' shown' publisher (more + 1) (subst (λ (i : ℕ). CanLend s' i (more + 1)) (sym same) (ended_lends p n s s' shown.well_formed l out its ended more can))
+
+    pub ended-left : LoansLeftStay old new
+    ended-left = record {
+      loans = λ publisher more left. at publisher more left (cases_eq publisher.id p);
+      numbers = numbers-stay ends.numbers;
+    } where
+      at : (publisher : Publisher) (more : ℕ) → HasLoansLeft old publisher more → (publisher.id ≡ p) ⊎ (publisher.id ≢ p) → HasLoansLeft new publisher more
+      at publisher more left (inl here) =
+          lends-out new publisher more (lends_fewer (state_of new) publisher.id more (more + 1) (omega arith) (lends-in new publisher (more + 1) (ended-gives publisher more here left)))
+      at publisher more left (inr away) = lends-from new m' s' shown' publisher more (others_lend p n s s' ended publisher.id more away (lends-at old m s shown publisher more left))
+
+  pub publisher-close-numbers : (p : ℕ) (x : MachinePublisher) → s' ≡ publisher_closed s p x → NumbersLeftStay old new
+  publisher-close-numbers p x is = numbers-stay (ap (λ (t : State T U). t.next_message) is)
+
+  pub publisher-close-others : (publisher : Publisher) (x : MachinePublisher) → s' ≡ publisher_closed s publisher.id x → OthersLoansLeftStay publisher old new
+  publisher-close-others publisher x is = λ other n away left.
+      lends-from new m' s' shown' other n (subst (λ (t : State T U). CanLend t other.id n) (sym is) (closed_lends s publisher.id x other.id n away (lends-at old m s shown other n left)))
+
+  pub subscriber-close-left : (q : ℕ) (y : MachineSubscriber) → s' ≡ subscriber_closed s q y → LoansLeftStay old new
+  subscriber-close-left q y is = all-left (subst (LoansKept s) (sym is) (subscriber_closed_kept s q y))
+
+  pub set-left : (n : ℕ) (l : Option (Loan T U)) → s' ≡ with_loan s n l → LoansLeftStay old new
+  set-left n l is = all-left (subst (LoansKept s) (sym is) (set_kept s n l))
+
+  pub send-left : (environment : Environment) (n : ℕ) (l : Loan T U) → s.loans n ≡ Some l → (p : ℕ) → l.publisher ≡ p → (result : SendResult) → (result ≡ Blocked_send → ⊥)
+      → Send environment s n l s' result → LoansLeftStay old new
+  send-left environment n l out p its result free h = ended-left n l out p its (send_ends environment s n l s' result free h)
+
+  pub send-gives : (environment : Environment) (n : ℕ) (l : Loan T U) → s.loans n ≡ Some l → (p : ℕ) → l.publisher ≡ p → (result : SendResult) → (result ≡ Blocked_send → ⊥)
+      → Send environment s n l s' result → HasOneMoreLeft p old new
+  send-gives environment n l out p its result free h = ended-gives n l out p its (send_ends environment s n l s' result free h)
+
+  pub discard-left : (n : ℕ) (l : Loan T U) → s.loans n ≡ Some l → s' ≡ loan_discarded s n l → LoansLeftStay old new
+  discard-left n l out is = ended-left n l out l.publisher refl (subst (LoanEnds l.publisher n s) (sym is) (discarded_ends s n l))
+
+  pub discard-gives : (n : ℕ) (l : Loan T U) → s.loans n ≡ Some l → (p : ℕ) → l.publisher ≡ p → s' ≡ loan_discarded s n l → HasOneMoreLeft p old new
+  discard-gives n l out p its is = ended-gives n l out p its (subst (LoanEnds l.publisher n s) (sym is) (discarded_ends s n l))
+
+-- a send that a call makes isn't blocked
+pub sent-free : (result : Result SendOutcome SendError) → result_of_send result ≡ Blocked_send → ⊥
+sent-free (Ok (Delivered count)) e = let clash : Delivered_to count ≡ Blocked_send = e in cc
+sent-free (Err error) e = let clash : Send_error error ≡ Blocked_send = e in cc
+
+first_number : (now n last : ℕ) → 1 ≡ now → n < last → now + n ≤ last
+first_number now n last e h = omega arith
+
+-- a new domain has numbers left
+pub fresh-numbers : {T U : Type 0} (kept : Kept T U) (c : ServiceConfig) → Shows kept no_messages (fresh c) → (n : ℕ) → n < last_number → HasNumbersLeft kept n
+fresh-numbers {T} {U} kept c shown n low = numbers-out kept n (first_number kept.next_message n last_number (ap (λ (t : State T U). t.next_message) shown.state) low)

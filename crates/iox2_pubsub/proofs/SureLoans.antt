@@ -1,0 +1,96 @@
+-- A publisher that can't be refused a loan is granted it.
+use Rattle.std.proofs.Common.{◌≡◌, ℕ, ◌+◌, ◌*◌, ◌<◌, ◌≤◌, List, [], ◌∷◌, length, false, true, get_or, refl, ap, sym, subst, ◌∙◌, arith, Result, Ok, Err}
+use Rattle.std.proofs.lemmas.Bool.{true≢false}
+use Rattle.std.proofs.lemmas.Option.{none-some, same_Some}
+use Rattle.std.specs.declared.option.Option.{Option}
+use Rattle.std.specs.declared.option.Option.TheVariants.{None, Some}
+use Rattle.std.specs.Prelude.{IsSomeAnd}
+use Rattle.iox2_store.specs.SlotContents.{ContentState}
+use Rattle.iox2_store.specs.machine.Environments.{ample_memory}
+use Rattle.iox2_store.specs.machine.Limits.{buffer_limit, worst_case, last_number}
+use Rattle.iox2_store.specs.machine.Loans.{GrantLoan, is_static}
+use Rattle.iox2_store.specs.machine.Records.{Publisher}
+use Rattle.iox2_store.specs.machine.State.{State}
+use Rattle.iox2_store.specs.declared.errors.LoanError.{LoanError}
+use Rattle.iox2_laws.proofs.EnoughSlots.{worst_case_of_slots_grants}
+use Rattle.iox2_domain.specs.Fields.{Fields, kept_of, publisher_of}
+use Rattle.iox2_domain.specs.Invariant.{IsDomain, HasBook}
+use Rattle.iox2_domain.specs.Kept.{Kept, state_of}
+use Rattle.iox2_domain.specs.Lending.{LoanReaches}
+use Rattle.iox2_domain.specs.Ports.{PublisherFields}
+use Rattle.iox2_domain.specs.declared.loan_slots.LoanAt.{LoanAt}
+use Rattle.iox2_domain.proofs.lemmas.fields.ConnectionEnds.{publisher-stands}
+use Rattle.iox2_pubsub.proofs.LoansLeftShown.{lends-in, number-left}
+use Rattle.iox2_pubsub.specs.LoansLeft.{CanLend, HasLoansLeft, HasNumbersLeft}
+use Rattle.iox2_pubsub.specs.declared.publisher.Publisher.{Publisher as PublisherHandle}
+
+-- The publisher has its slots in one segment, at least as many as the worst case for its limit of loans, and has fewer loans
+-- out than that limit; and the domain has a message number left.
+pub record IsSureOfLoan {T U : Type 0} (domain : Kept T U) (publisher : PublisherHandle) : Type 0 where
+  pub port : Publisher
+  pub stands : (state_of domain).publishers publisher.id ≡ Some port
+  pub static : is_static port.allocation_strategy ≡ true
+  pub slots : worst_case domain.config port.max_loaned_samples ≤ port.slots
+  pub few : length port.loans < port.max_loaned_samples
+  pub more : domain.next_message < last_number
+
+fewer_than : (loans more most : ℕ) → loans + (more + 1) ≤ most → loans < most
+fewer_than loans more most h = omega arith
+
+-- it has a loan left, and the domain a number
+pub sure-of-loan : {T U : Type 0} (domain : Kept T U) (publisher : PublisherHandle) (loans numbers : ℕ) → HasLoansLeft domain publisher (loans + 1) → HasNumbersLeft domain (numbers + 1)
+    → IsSureOfLoan domain publisher
+sure-of-loan {T} {U} domain publisher loans numbers left numbered =
+    let can : CanLend (state_of domain) publisher.id (loans + 1) = lends-in domain publisher (loans + 1) left in record {
+      port = can.port;
+      stands = can.stands;
+      static = can.static;
+      slots = can.slots;
+      few = fewer_than (length (can.port).loans) loans (can.port).max_loaned_samples can.few;
+      more = number-left domain numbers numbered;
+    }
+
+-- where a loan may be out there is a slot
+some_slot : (others loans most slots : ℕ) → others + most ≤ slots → loans < most → 0 < slots
+some_slot others loans most slots enough few = omega arith
+
+module _ {T U : Type 0} where
+  -- the user header in the first of these contents
+  first_header : (o : Option (List (ContentState T U))) (n : ℕ) → 0 < n → IsSomeAnd o (λ contents. length contents ≡ n) → U
+  first_header None n some shaped = absurd shaped
+  first_header (Some []) n some shaped = absurd (omega (arith, some, shaped))
+  first_header (Some (content ∷ contents)) n some shaped = content.user_header
+
+  module _ (f : Fields T U) (sound : IsDomain f) (i : ℕ) (x : PublisherFields) (at : get_or f.publishers i None ≡ Some x) where
+    abbrev state : State T U
+    state = state_of (kept_of f)
+
+    -- a publisher that has slots has contents, and a user header in each
+    some_header : 0 < x.slots → U
+    some_header some =
+        let has : HasBook f x = (sound.books).publishers i x at in
+        first_header (get_or f.contents x.book None) (length (has.book).holders) (omega (arith, some, has.slots)) ((sound.books).books x.book has.book has.stands).shaped
+
+    -- what stands here is no refusal
+    unrefused : (publisher : PublisherHandle) → x.id ≡ publisher.id → IsSureOfLoan (kept_of f) publisher
+        → (e : LoanError) → ((user_header : U) → GrantLoan ample_memory user_header false 1 state x.id state (Some e)) → ⊥
+    unrefused publisher its sure e refuses =
+        let stands : state.publishers x.id ≡ Some sure.port = ap state.publishers its ∙ sure.stands in
+        let same : (publisher_of f.books f.connections x).port ≡ sure.port = same_Some _ _ (sym (publisher-stands f sound i x at) ∙ stands) in
+        let slots : x.slots ≡ (sure.port).slots = ap (λ (y : Publisher). y.slots) same in
+        let some : 0 < (sure.port).slots =
+        some_slot ((f.config).max_subscribers * (buffer_limit f.config + (f.config).subscriber_max_borrowed_samples) + (f.config).history_size)
+        (length (sure.port).loans) (sure.port).max_loaned_samples (sure.port).slots sure.slots sure.few in
+        let user_header : U = some_header (omega (arith, some, slots)) in
+        none-some e (sym ((worst_case_of_slots_grants ample_memory user_header state x.id sure.port false 1 sound.well_formed stands sure.static sure.slots sure.few sure.more
+        (λ checks. absurd (true≢false (sym checks)))).1 state (Some e) (refuses user_header)))
+
+  -- no loan is refused to a publisher that can't be
+  pub sure-granted : (is_default : U → Type 0) (f new : Fields T U) → IsDomain f → (i : ℕ) (publisher : PublisherHandle)
+      → ((x : PublisherFields) × (get_or f.publishers i None ≡ Some x) × (x.id ≡ publisher.id)) → (answer : Result LoanAt LoanError)
+      → IsSomeAnd (get_or f.publishers i None) (λ z. LoanReaches is_default f z answer new) → (e : LoanError) → answer ≡ Err e
+      → (kept : Kept T U) → kept_of f ≡ kept → IsSureOfLoan kept publisher → ⊥
+  sure-granted is_default f new sound i publisher stands answer reaches e is kept view sure =
+      let here : LoanReaches is_default f stands.0 answer new = subst (λ (o : Option PublisherFields). IsSomeAnd o (λ z. LoanReaches is_default f z answer new)) stands.1 reaches in
+      let refused : LoanReaches {A = LoanAt} is_default f stands.0 (Err e) new = subst (λ (r : Result LoanAt LoanError). LoanReaches is_default f stands.0 r new) is here in
+      unrefused f sound i stands.0 stands.1 publisher stands.2 (subst (λ (k : Kept T U). IsSureOfLoan k publisher) (sym view) sure) e refused.0

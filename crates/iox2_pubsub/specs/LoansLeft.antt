@@ -1,0 +1,50 @@
+-- How many loans a publisher may still take, and how many message numbers a domain has left.
+use Rattle.std.specs.Prelude.{ℕ, true, length, ◌≡◌, ◌≢◌, ◌+◌, ◌≤◌}
+use Rattle.std.specs.declared.option.Option.TheVariants.{Some}
+use Rattle.iox2_store.specs.machine.Limits.{worst_case, last_number}
+use Rattle.iox2_store.specs.machine.Loans.{is_static}
+use Rattle.iox2_store.specs.machine.Records.{Publisher as MachinePublisher}
+use Rattle.iox2_store.specs.machine.State.{State}
+use Rattle.iox2_domain.specs.Kept.{Kept, state_of}
+use Rattle.iox2_pubsub.specs.declared.publisher.Publisher.{Publisher}
+
+-- The publisher p stands, has its slots in one segment, at least as many as the worst case for its limit of loans, and at
+-- least n loans fewer out than that limit.
+pub record CanLend {T U : Type 0} (s : State T U) (p n : ℕ) : Type 0 where
+  pub port : MachinePublisher
+  pub stands : s.publishers p ≡ Some port
+  pub static : is_static port.allocation_strategy ≡ true
+  pub slots : worst_case s.config port.max_loaned_samples ≤ port.slots
+  pub few : length port.loans + n ≤ port.max_loaned_samples
+
+module _ {T U : Type 0} where
+  -- The publisher wasn't closed, and can't be refused n loans more for want of a slot or for its limit of loans.
+  unfoldable pub HasLoansLeft : Kept T U → Publisher → (n : ℕ) → Type 0
+  HasLoansLeft domain publisher n = CanLend (state_of domain) publisher.id n
+
+  -- The domain has numbers for at least n messages more.
+  unfoldable pub HasNumbersLeft : Kept T U → (n : ℕ) → Type 0
+  HasNumbersLeft domain n = domain.next_message + n ≤ last_number
+
+  -- As many numbers are left as before.
+  abbrev pub NumbersLeftStay : (old new : Kept T U) → Type 0
+  NumbersLeftStay old new = (n : ℕ) → HasNumbersLeft old n → HasNumbersLeft new n
+
+  -- Each publisher has as many loans left as before, and so has the domain numbers.
+  pub record LoansLeftStay (old new : Kept T U) : Type 0 where
+    pub loans : (publisher : Publisher) (n : ℕ) → HasLoansLeft old publisher n → HasLoansLeft new publisher n
+    pub numbers : NumbersLeftStay old new
+
+  -- Each other publisher has as many loans left as before.
+  abbrev pub OthersLoansLeftStay : Publisher → (old new : Kept T U) → Type 0
+  OthersLoansLeftStay publisher old new = (other : Publisher) (n : ℕ) → other.id ≢ publisher.id → HasLoansLeft old other n → HasLoansLeft new other n
+
+  -- The publisher with this id, where it wasn't closed, has one loan more left than before.
+  abbrev pub HasOneMoreLeft : (id : ℕ) → (old new : Kept T U) → Type 0
+  HasOneMoreLeft id old new = (publisher : Publisher) (n : ℕ) → publisher.id ≡ id → HasLoansLeft old publisher n → HasLoansLeft new publisher (n + 1)
+
+  -- The publisher has one loan fewer left than before, and the domain one number fewer; other publishers have as many.
+  pub record TakesOneLeft (publisher : Publisher) (old new : Kept T U) : Type 0 where
+    pub loans : (n : ℕ) → HasLoansLeft old publisher (n + 1) → HasLoansLeft new publisher n
+    pub others : OthersLoansLeftStay publisher old new
+    pub numbers : (n : ℕ) → HasNumbersLeft old (n + 1) → HasNumbersLeft new n

@@ -1,0 +1,48 @@
+-- Two runs, each on a new domain.
+use Rattle.std.specs.Prelude.{ℕ, true, List, [], ◌≡◌, slice_get}
+use Rattle.std.specs.declared.option.Option.TheVariants.{Some}
+use Rattle.iox2_store.specs.machine.Environments.{fixed_handlers}
+use Rattle.iox2_store.specs.machine.State.{State, Messages, fresh, no_messages}
+use Rattle.iox2_store.specs.declared.service_config.ServiceConfig.{ServiceConfig}
+use Rattle.iox2_domain.specs.Kept.{Kept as Domain}
+use Rattle.iox2_commands.specs.Isolation.{AreIndependent, reads_at}
+use Rattle.iox2_commands.specs.OneDefault.{HasOneDefault}
+use Rattle.iox2_commands.specs.Refusals.{MetNoRefusal}
+use Rattle.iox2_commands.specs.Points.{PointOf}
+use Rattle.iox2_commands.specs.Runs.{Defaults, only_defaults}
+use Rattle.iox2_commands.specs.Views.{SameView, OmitsOthersFrom}
+use Rattle.iox2_commands.specs.declared.command.Command.{Command}
+use Rattle.iox2_commands.specs.declared.command.Command.TheVariants.{Receive}
+use Rattle.iox2_commands.specs.declared.reply.Reply.{Reply}
+use Rattle.iox2_commands.specs.declared.reply.Reply.TheVariants.{SubscriberMade}
+use Rattle.iox2_runs.specs.DomainRuns.{RunsOnDomain}
+
+-- The commands ran on a new domain with these settings, where only one value of each type is a default.
+abbrev pub RanAfresh : {T U : Type 0} → Defaults T U → ServiceConfig → List (Command T U) → Domain T U → List (Reply T U) → Type 0
+RanAfresh {T} {U} defaults c commands new replies =
+    HasOneDefault defaults → (default_value : T) (default_header : U) → defaults.IsDefaultValue default_value → defaults.IsDefaultHeader default_header
+    → RunsOnDomain (only_defaults default_value default_header) new no_messages (fresh c) commands replies
+
+-- Both lists ran, each on a new domain with these settings. Where the second leaves out calls of other subscribers than the one
+-- made at `position`, publishers are independent, no subscriber was closed, and neither run tells of refused memory: if that
+-- subscriber's receives got the same replies, then it sees the same at the end of both, and reads of its samples got the same
+-- replies. It sees the same after each number of commands too: at any point of each run, of which there is one after each
+-- number of commands (`grants` of both runs).
+pub record AreCompared {T U : Type 0} (default_value : T) (default_header : U) (c : ServiceConfig) (commands reduced : List (Command T U))
+    (new : Domain T U) (replies : List (Reply T U)) (new' : Domain T U) (replies' : List (Reply T U)) : Type 0 where
+  pub first : RunsOnDomain (only_defaults default_value default_header) new no_messages (fresh c) commands replies
+  pub second : RunsOnDomain (only_defaults default_value default_header) new' no_messages (fresh c) reduced replies'
+  pub isolated : (position q : ℕ) → OmitsOthersFrom position commands commands reduced → AreIndependent c commands replies
+      → MetNoRefusal c commands replies new.warnings → MetNoRefusal c reduced replies' new'.warnings
+      → slice_get replies position ≡ Some (SubscriberMade q)
+      → ((i : ℕ) → slice_get commands i ≡ Some (Receive position) → slice_get replies i ≡ slice_get replies' i)
+      → SameView q first.messages first.state first.handles second.messages second.state second.handles
+      × ((i of : ℕ) (command : Command T U) → slice_get commands of ≡ Some (Receive position)
+      → slice_get commands i ≡ Some command → reads_at of command ≡ true → slice_get replies i ≡ slice_get replies' i)
+  pub throughout : (position q n : ℕ) → OmitsOthersFrom position commands commands reduced → AreIndependent c commands replies
+      → MetNoRefusal c commands replies new.warnings → MetNoRefusal c reduced replies' new'.warnings
+      → slice_get replies position ≡ Some (SubscriberMade q)
+      → ((i : ℕ) → slice_get commands i ≡ Some (Receive position) → slice_get replies i ≡ slice_get replies' i)
+      → (x : PointOf fixed_handlers (only_defaults default_value default_header) no_messages (fresh c) commands replies first.events first.messages first.state n)
+      → (y : PointOf fixed_handlers (only_defaults default_value default_header) no_messages (fresh c) reduced replies' second.events second.messages second.state n)
+      → SameView q x.messages x.state x.handles y.messages y.state y.handles

@@ -1,0 +1,79 @@
+//! Two runs, each on a domain of its own.
+ghost use Rattle.std.specs.Prelude.{◌≡◌, IfSome};
+ghost use Rattle.std.specs.List.{All};
+ghost use Rattle.iox2_store.specs.declared.service_config.TypeVariant.TheVariants.{FixedSize};
+ghost use Rattle.iox2_commands.specs.OneDefault.{HasOneDefault};
+ghost use Rattle.iox2_runs.specs.Carries.{defaults_of};
+ghost use Rattle.iox2_runs.specs.Compared.{RanAfresh, AreCompared};
+ghost use Rattle.iox2_runs.specs.Supported.{IsSupportedCommand};
+
+use crate::runs::run;
+use iox2_commands::{Command, Reply};
+use iox2_pubsub::Domain;
+use iox2_store::{BackpressureFn, DegradationFn, ServiceConfig};
+use std::alloc::Global;
+
+/// Runs both lists, each on a new domain with these settings, and returns each domain with its
+/// replies. This library's own.
+///
+/// The second list may leave out some calls of other subscribers than one, which the first has: their
+/// receives, questions and updates, and what releases or reads their samples, with `Nothing` in
+/// place of each. Then that subscriber isn't felt to be slower or faster: if its own receives get
+/// the same replies in both runs, it sees the same after each number of commands in both, and reads
+/// of its samples get the same replies. So it is where each publisher has as many slots as `worst_case_slots` says and
+/// never waits for a receiver, no subscriber is closed, and neither run was refused memory: each
+/// port was made, no warning of the domains says that a connection wasn't made, and none was
+/// forgotten.
+///
+/// `None` where memory for a domain, or for the replies of a run, is refused.
+pub fn compare_runs<
+    T: Copy + Default + Drop,
+    U: Copy + Default + Drop,
+    F: BackpressureFn,
+    G: DegradationFn,
+>(
+    alloc: Global,
+    config: &ServiceConfig,
+    commands: Vec<Command<T, U>>,
+    reduced: Vec<Command<T, U>>,
+) -> Option<
+    (
+        (Domain<T, U, F, G>, Vec<Reply<T, U>>),
+        (Domain<T, U, F, G>, Vec<Reply<T, U>>),
+    ),
+>
+    requires fixed_size { config.now.variant ≡ FixedSize }
+    requires supported { All IsSupportedCommand commands.items }
+    requires supported_reduced { All IsSupportedCommand reduced.items }
+    ensures { IfSome result (λ ends. HasOneDefault (defaults_of T.is_default U.is_default)
+        → (default_value : T) (default_header : U) → T.is_default default_value → U.is_default default_header
+        → AreCompared default_value default_header config.now commands.items reduced.items ends.0.0 ends.0.1.items ends.1.0 ends.1.1.items) }
+{
+    let first = run_afresh(alloc, config, commands)?;
+    let second = run_afresh(alloc, config, reduced)?;
+    Some((first, second))
+}
+
+// Runs the commands on a new domain with these settings.
+fn run_afresh<
+    T: Copy + Default + Drop,
+    U: Copy + Default + Drop,
+    F: BackpressureFn,
+    G: DegradationFn,
+>(
+    alloc: Global,
+    config: &ServiceConfig,
+    commands: Vec<Command<T, U>>,
+) -> Option<(Domain<T, U, F, G>, Vec<Reply<T, U>>)>
+    requires fixed_size { config.now.variant ≡ FixedSize }
+    requires supported { All IsSupportedCommand commands.items }
+    ensures { IfSome result (λ end. RanAfresh (defaults_of T.is_default U.is_default) config.now commands.items end.0 end.1.items) }
+{
+    let Ok(mut domain) = Domain::with_handlers(alloc, *config) else {
+        return None;
+    };
+    let Ok(replies) = run(alloc, &mut domain, commands) else {
+        return None;
+    };
+    Some((domain, replies))
+}

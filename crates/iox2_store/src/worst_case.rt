@@ -1,0 +1,24 @@
+//! How many slots a publisher needs.
+ghost use Rattle.std.specs.Prelude.{IsTrue, SomeIff};
+ghost use Rattle.iox2_store.specs.machine.Limits.{worst_case, fits};
+
+use crate::service_config::ServiceConfig;
+
+/// How many slots a publisher needs in a service with these settings if so many of its loans may be
+/// out at a time, whatever its subscribers hold: for each subscriber that there may be, its buffer
+/// and what it may borrow; then the history; then the loans. This library's own.
+///
+/// With so many slots the publisher is never refused a loan for want of one, and with fewer it can
+/// be. `None` where the number doesn't fit `usize`, and only there: no part of the sum is formed
+/// that is larger than the sum.
+pub fn worst_case_slots(config: &ServiceConfig, loans: usize) -> Option<usize>
+    ensures { SomeIff result (IsTrue (fits (worst_case config.now loans))) (worst_case config.now loans) }
+{
+    let subscribers = config.max_subscribers;
+    let waiting = subscribers.checked_mul(config.subscriber_max_buffer_size.max(1))?;
+    let borrowed = subscribers.checked_mul(config.subscriber_max_borrowed_samples)?;
+    let delivered = waiting.checked_add(borrowed)?;
+    delivered
+        .checked_add(config.history_size)?
+        .checked_add(loans)
+}

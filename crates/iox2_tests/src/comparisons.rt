@@ -1,0 +1,105 @@
+use crate::fixtures::settings;
+use iox2_pubsub::Domain;
+use iox2_runs::{Command, Reply, compare_runs};
+use iox2_store::{
+    AllocationStrategy, BackpressureStrategy, DegradationAction, ServiceConfig, UniquePublisherId,
+    UniqueSubscriberId,
+};
+
+const SUBSCRIBER: Command<u64, u8> = Command::CreateSubscriber {
+    buffer: None,
+    degradation: DegradationAction::Warn,
+};
+
+const PUBLISHER: Command<u64, u8> = Command::CreatePublisher {
+    loans: 1,
+    strategy: BackpressureStrategy::DiscardData,
+    allocation: AllocationStrategy::Static,
+    initial_max_slice_len: 1,
+    override_slots: None,
+    degradation: DegradationAction::Warn,
+    backpressure: None,
+};
+
+// Two messages are sent to two subscribers. The first subscriber receives one in between.
+const WITH_A_RECEIVE: [Command<u64, u8>; 13] = [
+    SUBSCRIBER,
+    SUBSCRIBER,
+    PUBLISHER,
+    Command::LoanUninit { of: 2 },
+    Command::WriteAll { of: 3, value: 1 },
+    Command::Send { of: 3 },
+    Command::Receive { of: 0 },
+    Command::LoanUninit { of: 2 },
+    Command::WriteAll { of: 7, value: 2 },
+    Command::Send { of: 7 },
+    Command::Receive { of: 1 },
+    Command::Read { of: 10, at: 0 },
+    Command::Receive { of: 1 },
+];
+
+// The same, but the first subscriber receives nothing.
+const WITHOUT_IT: [Command<u64, u8>; 13] = [
+    SUBSCRIBER,
+    SUBSCRIBER,
+    PUBLISHER,
+    Command::LoanUninit { of: 2 },
+    Command::WriteAll { of: 3, value: 1 },
+    Command::Send { of: 3 },
+    Command::Nothing,
+    Command::LoanUninit { of: 2 },
+    Command::WriteAll { of: 7, value: 2 },
+    Command::Send { of: 7 },
+    Command::Receive { of: 1 },
+    Command::Read { of: 10, at: 0 },
+    Command::Receive { of: 1 },
+];
+
+#[test]
+fn a_subscriber_sees_the_same_beside_a_slower_one(rt: HostRuntime) {
+    let config = ServiceConfig {
+        max_subscribers: 2,
+        subscriber_max_buffer_size: 1,
+        subscriber_max_borrowed_samples: 1,
+        ..settings()
+    };
+    let commands = Vec::from_array(rt.alloc(), WITH_A_RECEIVE).expect(&rt, "commands");
+    let reduced = Vec::from_array(rt.alloc(), WITHOUT_IT).expect(&rt, "fewer commands");
+    let ends: Option<(
+        (Domain<u64, u8>, Vec<Reply<u64, u8>>),
+        (Domain<u64, u8>, Vec<Reply<u64, u8>>),
+    )> = compare_runs(rt.alloc(), &config, commands, reduced);
+    let ((_, replies), (_, others)) = ends.expect(&rt, "two runs");
+    let expected: [Reply<u64, u8>; 13] = [
+        Reply::SubscriberMade(UniqueSubscriberId::new(1)),
+        Reply::SubscriberMade(UniqueSubscriberId::new(2)),
+        Reply::PublisherMade(UniquePublisherId::new(3)),
+        Reply::Loaned,
+        Reply::Done,
+        Reply::Delivered(2),
+        Reply::Sample(UniquePublisherId::new(3)),
+        Reply::Loaned,
+        Reply::Done,
+        Reply::Delivered(1),
+        Reply::Sample(UniquePublisherId::new(3)),
+        Reply::Cell(Some(1)),
+        Reply::NoSample,
+    ];
+    let slower: [Reply<u64, u8>; 13] = [
+        Reply::SubscriberMade(UniqueSubscriberId::new(1)),
+        Reply::SubscriberMade(UniqueSubscriberId::new(2)),
+        Reply::PublisherMade(UniquePublisherId::new(3)),
+        Reply::Loaned,
+        Reply::Done,
+        Reply::Delivered(2),
+        Reply::Done,
+        Reply::Loaned,
+        Reply::Done,
+        Reply::Delivered(0),
+        Reply::Sample(UniquePublisherId::new(3)),
+        Reply::Cell(Some(1)),
+        Reply::NoSample,
+    ];
+    assert!(rt; replies.as_slice() == expected.as_slice());
+    assert!(rt; others.as_slice() == slower.as_slice());
+}
