@@ -14,7 +14,9 @@ ghost use Rattle.iox2_domain.specs.Midway.{IsMidway};
 ghost use Rattle.iox2_domain.specs.Receipts.{IsReceiptFor, TakesAs, ReceivesAs};
 ghost use Rattle.iox2_domain.specs.SampleSlots.{IsReturnable, LiesAtHint};
 
-use iox2_domain::{DomainState, PublisherState, Receipt, SampleAt, SampleSlot, stands_at};
+use iox2_domain::{
+    DomainState, PublisherState, Receipt, SampleAt, SampleSlot, is_due_at, stands_at,
+};
 use iox2_ends::receiver::{Taken, let_go, receive, release};
 use iox2_ports::{forget_if_empty, free_book_if_unused, leave_if_unused, update_subscriber};
 use iox2_store::{Home, ReceiveError, SlotBook, UniquePublisherId, UniqueSubscriberId};
@@ -70,6 +72,22 @@ pub(crate) fn take_at<T: Drop, U: Default + Drop>(
 /// `ConnectionFailure` where the update fails. The update stands then.
 #[inline(always)]
 pub fn receive_at<T: Drop, U: Default + Drop>(
+    state: &mut DomainState<T, U>,
+    place: usize,
+) -> Result<Option<Receipt>, ReceiveError>
+    requires agrees { IsDomain state.old }
+    requires stands { (y : SubscriberFields) × (slice_index_or state.old.subscribers place None ≡ Some y) }
+    ensures { (y : SubscriberFields) → slice_index_or state.old.subscribers place None ≡ Some y → ReceivesAs fixed_handlers state.old y.id result state.new }
+{
+    if is_due_at(&state.subscribers, place) {
+        return update_and_take(state, place);
+    }
+    take_at(state, place)
+}
+
+// The same of a subscriber that may be due for an update.
+#[inline(never)]
+fn update_and_take<T: Drop, U: Default + Drop>(
     state: &mut DomainState<T, U>,
     place: usize,
 ) -> Result<Option<Receipt>, ReceiveError>
@@ -158,19 +176,20 @@ pub fn give_back<T: Drop, U: Default + Drop>(state: &mut DomainState<T, U>, samp
         release(&mut state.connections, sample.connection, sample.slot);
         return;
     }
-    search_and_give_back(state, &sample);
+    search_and_give_back(state, sample);
 }
 
-// The same, wherever the sample lies and whichever of its ports is gone.
+// The same, wherever the sample lies and whichever of its ports is gone. It takes the sample itself: a
+// reference would have the usual release keep it in memory.
 #[inline(never)]
-fn search_and_give_back<T: Drop, U: Default + Drop>(state: &mut DomainState<T, U>, sample: &SampleAt)
+fn search_and_give_back<T: Drop, U: Default + Drop>(state: &mut DomainState<T, U>, sample: SampleAt)
     requires agrees { IsDomain state.old }
-    requires live { HoldsSample (state_of (kept_of state.old)) sample.now.subscriber sample.now.number }
+    requires live { HoldsSample (state_of (kept_of state.old)) sample.subscriber sample.number }
     ensures stays { IsDomain state.new }
-    ensures released { (publisher : ℕ) → IsTrue (is_borrowed sample.now.number ((state_of (kept_of state.old)).mailboxes publisher sample.now.subscriber))
-        → Reaches state.old state.new (released (state_of (kept_of state.old)) publisher sample.now.subscriber sample.now.number) }
+    ensures released { (publisher : ℕ) → IsTrue (is_borrowed sample.number ((state_of (kept_of state.old)).mailboxes publisher sample.subscriber))
+        → Reaches state.old state.new (released (state_of (kept_of state.old)) publisher sample.subscriber sample.number) }
 {
-    let at = state.find_live_sample(sample);
+    let at = state.find_live_sample(&sample);
     let home = state.connections[at.connection].home();
     hand_back(state, at, home);
     leave_if_unused(state, home.subscriber_place);

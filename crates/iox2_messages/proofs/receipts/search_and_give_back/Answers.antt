@@ -12,7 +12,7 @@ hand_back-requires-clause-borrowed g c =
     let one : Some lies.connection ≡ Some c.index.result.now =
     sym lies.has_connection ∙ ap (λ (f : Fields g.row.T.Denot g.row.U.Denot). get f.connections c.find_live_sample-at.result.connection) (sym c.state.view_is) ∙ c.index.ensures in
     let same : lies.connection ≡ c.index.result.now = cc in
-    borrowed-at-home c.args.state.now c.requires.agrees c.args.sample.now.subscriber c.args.sample.now.number c.find_live_sample-at.result lies c.home-home.result
+    borrowed-at-home c.args.state.now c.requires.agrees c.args.sample.subscriber c.args.sample.number c.find_live_sample-at.result lies c.home-home.result
     (ap (λ (l : Link). l.home) same ∙ sym c.home-home.ensures.value)
 
 pub leave_if_unused-requires-clause-stands : goal.leave_if_unused-requires-clause-stands
@@ -24,7 +24,7 @@ leave_if_unused-requires-clause-stands g c =
     let y = c.hand_back.ensures.stands in (
       y.0,
       y.1,
-      pruned-boxes c.args.state.now c.requires.agrees c.args.sample.now.subscriber c.args.sample.now.number c.find_live_sample-at.result lies c.home-home.result
+      pruned-boxes c.args.state.now c.requires.agrees c.args.sample.subscriber c.args.sample.number c.find_live_sample-at.result lies c.home-home.result
           (ap (λ (l : Link). l.home) same ∙ sym c.home-home.ensures.value) c.hand_back.new.state c.hand_back.ensures.midway y.0 y.2,
     )
 
@@ -35,7 +35,7 @@ free_book_if_unused-requires g c =
     sym lies.has_connection ∙ ap (λ (f : Fields g.row.T.Denot g.row.U.Denot). get f.connections c.find_live_sample-at.result.connection) (sym c.state.view_is) ∙ c.index.ensures in
     let same : lies.connection ≡ c.index.result.now = cc in
     let y = c.hand_back.ensures.stands in
-    (freed-midway c.args.state.now c.requires.agrees c.args.sample.now.subscriber c.args.sample.now.number c.find_live_sample-at.result lies c.home-home.result
+    (freed-midway c.args.state.now c.requires.agrees c.args.sample.subscriber c.args.sample.number c.find_live_sample-at.result lies c.home-home.result
     (ap (λ (l : Link). l.home) same ∙ sym c.home-home.ensures.value) c.hand_back.new.state c.leave_if_unused.new.state c.hand_back.ensures.midway y.0 y.2
     (c.leave_if_unused.ensures.freed y.0 y.1)).consistent
 
@@ -46,7 +46,7 @@ returns-clause-released g c = λ p borrowed.
     sym lies.has_connection ∙ ap (λ (f : Fields g.row.T.Denot g.row.U.Denot). get f.connections c.find_live_sample-at.result.connection) (sym c.state.view_is) ∙ c.index.ensures in
     let same : lies.connection ≡ c.index.result.now = cc in
     let y = c.hand_back.ensures.stands in
-    gives-back c.args.state.now c.requires.agrees c.args.sample.now.subscriber c.args.sample.now.number c.find_live_sample-at.result lies c.home-home.result
+    gives-back c.args.state.now c.requires.agrees c.args.sample.subscriber c.args.sample.number c.find_live_sample-at.result lies c.home-home.result
     (ap (λ (l : Link). l.home) same ∙ sym c.home-home.ensures.value) c.hand_back.new.state c.leave_if_unused.new.state c.free_book_if_unused.new.state c.hand_back.ensures.midway y.0 y.2
     (c.leave_if_unused.ensures.freed y.0 y.1) c.free_book_if_unused.ensures.kept p borrowed
 
@@ -57,8 +57,8 @@ returns-clause-stays g c =
     sym lies.has_connection ∙ ap (λ (f : Fields g.row.T.Denot g.row.U.Denot). get f.connections c.find_live_sample-at.result.connection) (sym c.state.view_is) ∙ c.index.ensures in
     let same : lies.connection ≡ c.index.result.now = cc in
     let y = c.hand_back.ensures.stands in
-    let given = gives-back c.args.state.now c.requires.agrees c.args.sample.now.subscriber c.args.sample.now.number c.find_live_sample-at.result lies c.home-home.result
+    let given = gives-back c.args.state.now c.requires.agrees c.args.sample.subscriber c.args.sample.number c.find_live_sample-at.result lies c.home-home.result
     (ap (λ (l : Link). l.home) same ∙ sym c.home-home.ensures.value) c.hand_back.new.state c.leave_if_unused.new.state c.free_book_if_unused.new.state c.hand_back.ensures.midway y.0 y.2
     (c.leave_if_unused.ensures.freed y.0 y.1) c.free_book_if_unused.ensures.kept (lies.connection).home.publisher
-    (lies-borrowed c.args.state.now c.requires.agrees c.args.sample.now.subscriber c.args.sample.now.number c.find_live_sample-at.result lies) in
+    (lies-borrowed c.args.state.now c.requires.agrees c.args.sample.subscriber c.args.sample.number c.find_live_sample-at.result lies) in
     given.agrees
