@@ -17,7 +17,7 @@ mod subscriber_state;
 
 pub use loan_slots::LoanAt;
 pub use message_slots::MessageSlot;
-pub use places::{free_place, key_in, put_at_place, reserve_place};
+pub use places::{free_place, put_at_place, reserve_place};
 pub use ports::{
     Port, PortAt, is_due_at, key_at, make_all_due, reserve_key_at, set_key_at, settle,
 };

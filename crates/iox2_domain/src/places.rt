@@ -139,13 +139,3 @@ pub fn reserve_place<A>(places: &mut Vec<A>, place: usize) -> Result<(), AllocEr
     };
     places.try_reserve(additional)
 }
-
-/// The key at a place, past the end of the list too.
-pub fn key_in(keys: &[Option<usize>], place: usize) -> Option<usize>
-    ensures { result ≡ slice_index_or keys.now place None }
-{
-    match keys.get(place) {
-        Some(key) => *key,
-        None => None,
-    }
-}

@@ -21,7 +21,7 @@ fn is_ready<T: Drop, U: Default + Drop>(state: &DomainState<T, U>, loan: &LoanAt
 {
     match state.publishers.get(loan.place) {
         Some(Some(publisher)) => {
-            !publisher.is_due && state.books[publisher.book].has(loan.slot, loan.number)
+            !publisher.is_due && publisher.book == loan.book && state.is_loan_at_hint(loan)
         }
         _ => false,
     }
@@ -35,7 +35,6 @@ struct ReadyLoan {
 }
 
 // Updates the publisher of a loan, where it is due, and finds where both are.
-#[inline(never)]
 fn update_and_find<T: Drop, U: Default + Drop>(
     state: &mut DomainState<T, U>,
     publisher: UniquePublisherId,
@@ -58,19 +57,19 @@ fn update_and_find<T: Drop, U: Default + Drop>(
     }
 }
 
-// The loan at its publisher's place, which is updated where it is due, and in its slot.
-fn prepare<T: Drop, U: Default + Drop>(state: &mut DomainState<T, U>, loan: LoanAt) -> ReadyLoan
+// Updates the publisher of a loan, where it is due, and sends the loan, wherever both are.
+#[inline(never)]
+fn update_and_send<T: Drop, U: Default + Drop>(
+    state: &mut DomainState<T, U>,
+    publisher: UniquePublisherId,
+    number: u128,
+) -> usize
     requires agrees { IsDomain state.old }
-    requires live { HoldsWritten (state_of (kept_of state.old)) loan.publisher loan.number }
-    ensures { IsReadyToSend fixed_handlers state.old state.new loan.publisher loan.number result.place result.slot }
+    requires live { HoldsWritten (state_of (kept_of state.old)) publisher number }
+    ensures { SendsLoan fixed_handlers state.old state.new number (Delivered_to result) }
 {
-    if is_ready(state, &loan) {
-        return ReadyLoan {
-            place: loan.place,
-            slot: loan.slot,
-        };
-    }
-    update_and_find(state, loan.publisher, loan.number)
+    let ready = update_and_find(state, publisher, number);
+    send_slot(state, ready.place, ready.slot)
 }
 
 /// Sends a publisher's written loan to its receivers, and returns how many took it. The
@@ -83,6 +82,8 @@ pub fn send_loan<T: Drop, U: Default + Drop>(state: &mut DomainState<T, U>, loan
     requires live { HoldsWritten (state_of (kept_of state.old)) loan.publisher loan.number }
     ensures { SendsLoan fixed_handlers state.old state.new loan.number (Delivered_to result) }
 {
-    let ready = prepare(state, loan);
-    send_slot(state, ready.place, ready.slot)
+    if is_ready(state, &loan) {
+        return send_slot(state, loan.place, loan.slot);
+    }
+    update_and_send(state, loan.publisher, loan.number)
 }

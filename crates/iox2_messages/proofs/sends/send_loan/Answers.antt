@@ -4,20 +4,20 @@ use Rattle.iox2_messages.proofs.sends.send_loan.Goals as goal
 
 pub send_slot-requires-clause-agrees : goal.send_slot-requires-clause-agrees
 send_slot-requires-clause-agrees g c =
-    let r = c.prepare-ready.ensures in
-    updated-agrees fixed_handlers c.args.state.now c.requires.agrees c.args.loan.publisher c.args.loan.number c.prepare-ready.result.place c.requires.live (r.publisher, r.stands, r.is_its) c.prepare-ready.new.state r.updated
+    let r = c.is_ready.ensures c.if-is_ready.true in
+    updated-agrees fixed_handlers c.args.state.now c.requires.agrees c.args.loan.publisher c.args.loan.number c.args.loan.place c.requires.live (r.publisher, r.stands, r.is_its) c.args.state.now r.updated
 
 pub send_slot-requires-clause-can : goal.send_slot-requires-clause-can
 send_slot-requires-clause-can g c =
-    let r = c.prepare-ready.ensures in (
+    let r = c.is_ready.ensures c.if-is_ready.true in (
       _,
-      sender-stands fixed_handlers c.args.state.now c.requires.agrees c.args.loan.publisher c.args.loan.number c.prepare-ready.result.place c.requires.live (r.publisher, r.stands, r.is_its) c.prepare-ready.new.state r.updated,
-      can-send fixed_handlers c.args.state.now c.requires.agrees c.args.loan.publisher c.args.loan.number c.prepare-ready.result.place c.requires.live (r.publisher, r.stands, r.is_its) c.prepare-ready.new.state r.updated
-          r.key c.prepare-ready.result.slot r.lies,
+      sender-stands fixed_handlers c.args.state.now c.requires.agrees c.args.loan.publisher c.args.loan.number c.args.loan.place c.requires.live (r.publisher, r.stands, r.is_its) c.args.state.now r.updated,
+      can-send fixed_handlers c.args.state.now c.requires.agrees c.args.loan.publisher c.args.loan.number c.args.loan.place c.requires.live (r.publisher, r.stands, r.is_its) c.args.state.now r.updated
+          r.key c.args.loan.slot r.lies,
     )
 
-pub returns : goal.returns
-returns g c =
-    let r = c.prepare-ready.ensures in
-    sends-loan fixed_handlers c.args.state.now c.requires.agrees c.args.loan.publisher c.args.loan.number c.prepare-ready.result.place c.requires.live (r.publisher, r.stands, r.is_its) c.prepare-ready.new.state r.updated
-    r.key c.prepare-ready.result.slot r.lies c.send_slot.result c.send_slot.new.state c.send_slot.ensures
+pub returns-then-is_ready : goal.returns-then-is_ready
+returns-then-is_ready g c =
+    let r = c.is_ready.ensures c.if-is_ready.true in
+    sends-loan fixed_handlers c.args.state.now c.requires.agrees c.args.loan.publisher c.args.loan.number c.args.loan.place c.requires.live (r.publisher, r.stands, r.is_its) c.args.state.now r.updated
+    r.key c.args.loan.slot r.lies c.send_slot.result c.send_slot.new.state c.send_slot.ensures
