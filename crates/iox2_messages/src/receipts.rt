@@ -51,13 +51,14 @@ pub(crate) fn take_at<T: Drop, U: Default + Drop>(
     requires stands { (y : SubscriberFields) × (slice_index_or state.old.subscribers place None ≡ Some y) }
     ensures { (y : SubscriberFields) → slice_index_or state.old.subscribers place None ≡ Some y → TakesAs state.old y.id result state.new }
 {
-    let Some(subscriber) = &state.subscribers[place] else {
+    let Some(subscriber) = &mut state.subscribers[place] else {
         unreachable!()
     };
     let taken = receive(
         &mut state.connections,
         &subscriber.expired,
         &subscriber.keys,
+        &mut subscriber.last_place,
     )?;
     let Some(taken) = taken else {
         return Ok(None);
