@@ -14,9 +14,7 @@ ghost use Rattle.iox2_domain.specs.Midway.{IsMidway};
 ghost use Rattle.iox2_domain.specs.Receipts.{IsReceiptFor, TakesAs, ReceivesAs};
 ghost use Rattle.iox2_domain.specs.SampleSlots.{IsReturnable, LiesAtHint};
 
-use iox2_domain::{
-    DomainState, PublisherState, Receipt, SampleAt, SampleSlot, is_due_at, stands_at,
-};
+use iox2_domain::{DomainState, PublisherState, Receipt, SampleAt, SampleSlot, stands_at};
 use iox2_ends::receiver::{Taken, let_go, receive, release};
 use iox2_ports::{forget_if_empty, free_book_if_unused, leave_if_unused, update_subscriber};
 use iox2_store::{Home, ReceiveError, SlotBook, UniquePublisherId, UniqueSubscriberId};
@@ -73,22 +71,6 @@ pub(crate) fn take_at<T: Drop, U: Default + Drop>(
 /// `ConnectionFailure` where the update fails. The update stands then.
 #[inline(always)]
 pub fn receive_at<T: Drop, U: Default + Drop>(
-    state: &mut DomainState<T, U>,
-    place: usize,
-) -> Result<Option<Receipt>, ReceiveError>
-    requires agrees { IsDomain state.old }
-    requires stands { (y : SubscriberFields) × (slice_index_or state.old.subscribers place None ≡ Some y) }
-    ensures { (y : SubscriberFields) → slice_index_or state.old.subscribers place None ≡ Some y → ReceivesAs fixed_handlers state.old y.id result state.new }
-{
-    if is_due_at(&state.subscribers, place) {
-        return update_and_take(state, place);
-    }
-    take_at(state, place)
-}
-
-// The same of a subscriber that may be due for an update.
-#[inline(never)]
-fn update_and_take<T: Drop, U: Default + Drop>(
     state: &mut DomainState<T, U>,
     place: usize,
 ) -> Result<Option<Receipt>, ReceiveError>
