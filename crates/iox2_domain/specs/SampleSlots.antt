@@ -1,11 +1,12 @@
 -- Where borrowed messages lie.
-use Rattle.std.specs.Prelude.{◌≡◌, ◌≢◌, ℕ, true, map, slice_index, Contains}
-use Rattle.std.specs.declared.option.Option.TheVariants.{Some}
+use Rattle.std.specs.Prelude.{◌≡◌, ◌≢◌, ℕ, true, map, slice_index, slice_index_or, Contains}
+use Rattle.std.specs.declared.option.Option.TheVariants.{None, Some}
 use Rattle.slab.specs.Slab.{get}
 use Rattle.iox2_store.specs.Link.{Link}
 use Rattle.iox2_store.specs.machine.Numbers.{contains}
 use Rattle.iox2_store.specs.SlotBook.{Book}
 use Rattle.iox2_domain.specs.Fields.{Fields, numbers_of}
+use Rattle.iox2_domain.specs.Ports.{PublisherFields, SubscriberFields}
 use Rattle.iox2_domain.specs.declared.message_slots.MessageSlot.{MessageSlot}
 use Rattle.iox2_domain.specs.declared.sample_slots.SampleAt.{SampleAt}
 use Rattle.iox2_domain.specs.declared.sample_slots.SampleSlot.{SampleSlot}
@@ -37,6 +38,16 @@ LiesBorrowedInSlot f subscriber number at =
 -- The sample lies where it says that it is looked for first.
 abbrev pub LiesAtHint : {T U : Type 0} → Fields T U → SampleAt → Type 0
 LiesAtHint f sample = LiesBorrowed f sample.subscriber sample.number (record { connection = sample.connection; book = sample.book; slot = sample.slot })
+
+-- The sample lies where it says, and both ports of its connection stay: the publisher stands, and the subscriber is open.
+pub record IsReturnable {T U : Type 0} (f : Fields T U) (sample : SampleAt) : Type 0 where
+  pub lies : LiesAtHint f sample
+  pub publisher : PublisherFields
+  pub has_publisher : slice_index_or f.publishers (lies.connection).home.publisher_place None ≡ Some publisher
+  pub has_book : publisher.book ≡ (lies.connection).home.book
+  pub subscriber : SubscriberFields
+  pub has_subscriber : slice_index_or f.subscribers (lies.connection).home.subscriber_place None ≡ Some subscriber
+  pub is_open : subscriber.is_open ≡ true
 
 -- The subscriber has borrowed a message with this number in the connection at the key.
 pub record BorrowsAt {T U : Type 0} (f : Fields T U) (key subscriber number : ℕ) : Type 0 where

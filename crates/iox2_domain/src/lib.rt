@@ -18,7 +18,7 @@ mod subscriber_state;
 
 pub use loan_slots::LoanAt;
 pub use message_slots::MessageSlot;
-pub use places::{free_place, key_in, put_at_place, reserve_place, stands_at};
+pub use places::{free_place, put_at_place, reserve_place, stands_at};
 pub use ports::{
     Port, PortAt, clear_key_at, is_due_at, key_at, make_all_due, make_due, reserve_key_at,
     set_key_at, settle,

@@ -1,5 +1,5 @@
 //! The slots in which loans lie.
-ghost use Rattle.std.specs.Prelude.{IsTrue, ◌≡◌, ◌↔◌, IfSome, MatchOption};
+ghost use Rattle.std.specs.Prelude.{IsTrue, ◌≡◌, ◌↔◌, MatchOption};
 ghost use Rattle.iox2_domain.specs.Invariant.{is_lent};
 ghost use Rattle.iox2_domain.specs.LoanSlots.{IsLoanSlot, IsInNoSlot, HasNoLoan};
 
@@ -79,20 +79,17 @@ impl<T: Drop, U: Default + Drop> DomainState<T, U> {
         Some(MessageSlot { book: key, slot })
     }
 
-    // Where a live loan's book and slot say that it lies, if it lies there. No loan is gone through:
-    // no other slot in use has its number.
-    fn loan_at_hint(&self, loan: &LoanAt) -> Option<MessageSlot>
+    /// Whether a live loan lies in the book and the slot that it names. No loan is gone through: no
+    /// other slot in use has its number.
+    pub fn is_loan_at_hint(&self, loan: &LoanAt) -> bool
         requires domain { IsDomain self.now }
         requires live { HoldsLoan (state_of (kept_of self.now)) loan.now.publisher loan.now.number }
-        ensures { IfSome result (λ at. LiesInSlot self.now loan.now.publisher loan.now.number at.book at.slot) }
+        ensures { IsTrue result → LiesInSlot self.now loan.now.publisher loan.now.number loan.now.book loan.now.slot }
     {
-        if self.books.get(loan.book)?.has(loan.slot, loan.number) {
-            return Some(MessageSlot {
-                book: loan.book,
-                slot: loan.slot,
-            });
+        match self.books.get(loan.book) {
+            Some(book) => book.has(loan.slot, loan.number),
+            None => false,
         }
-        None
     }
 
     /// Where a loan lies that is live. Its book and its slot are tested first, by the number alone.
@@ -101,20 +98,23 @@ impl<T: Drop, U: Default + Drop> DomainState<T, U> {
         requires live { HoldsLoan (state_of (kept_of self.now)) loan.now.publisher loan.now.number }
         ensures { LiesInSlot self.now loan.now.publisher loan.now.number result.book result.slot }
     {
-        if let Some(at) = self.loan_at_hint(loan) {
-            return at;
+        if self.is_loan_at_hint(loan) {
+            return MessageSlot {
+                book: loan.book,
+                slot: loan.slot,
+            };
         }
-        self.search_loan(loan)
+        self.search_loan(loan.publisher, loan.number)
     }
 
-    // The same, wherever it lies.
+    /// Where a publisher's loan lies that is live. Its publisher's loans are gone through.
     #[inline(never)]
-    fn search_loan(&self, loan: &LoanAt) -> MessageSlot
+    pub fn search_loan(&self, publisher: UniquePublisherId, number: u128) -> MessageSlot
         requires domain { IsDomain self.now }
-        requires live { HoldsLoan (state_of (kept_of self.now)) loan.now.publisher loan.now.number }
-        ensures { LiesInSlot self.now loan.now.publisher loan.now.number result.book result.slot }
+        requires live { HoldsLoan (state_of (kept_of self.now)) publisher number }
+        ensures { LiesInSlot self.now publisher number result.book result.slot }
     {
-        let Some(at) = self.find_loan(loan.publisher, loan.number) else {
+        let Some(at) = self.find_loan(publisher, number) else {
             unreachable!()
         };
         at

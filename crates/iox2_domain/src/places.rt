@@ -140,16 +140,6 @@ pub fn reserve_place<A>(places: &mut Vec<A>, place: usize) -> Result<(), AllocEr
     places.try_reserve(additional)
 }
 
-/// The key at a place, past the end of the list too.
-pub fn key_in(keys: &[Option<usize>], place: usize) -> Option<usize>
-    ensures { result ≡ slice_index_or keys.now place None }
-{
-    match keys.get(place) {
-        Some(key) => *key,
-        None => None,
-    }
-}
-
 /// No key at a place any more.
 pub fn clear_in(keys: &mut Vec<Option<usize>>, place: usize)
     ensures items { keys.new.items ≡ slice_set keys.old.items place None }

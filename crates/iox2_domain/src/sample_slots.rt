@@ -126,8 +126,8 @@ impl<T: Drop, U: Default + Drop> DomainState<T, U> {
         None
     }
 
-    // Where a live sample lies, whatever it says of that.
-    fn search_sample(&self, sample: &SampleAt) -> SampleSlot
+    /// Where a live sample lies, whatever it says of that.
+    pub fn search_sample(&self, sample: &SampleAt) -> SampleSlot
         requires domain { IsDomain self.now }
         requires live { HoldsSample (state_of (kept_of self.now)) sample.now.subscriber sample.now.number }
         ensures { LiesBorrowed self.now sample.now.subscriber sample.now.number result }
@@ -138,8 +138,8 @@ impl<T: Drop, U: Default + Drop> DomainState<T, U> {
         at
     }
 
-    // The slot that the sample names is in use and has its number. No other slot in use has it.
-    fn is_at_slot(&self, sample: &SampleAt) -> bool
+    /// The slot that the sample names is in use and has its number. No other slot in use has it.
+    pub fn is_at_slot(&self, sample: &SampleAt) -> bool
         ensures { IsTrue result ↔ HasNumber self.now.books sample.now.book sample.now.slot sample.now.number }
     {
         match self.books.get(sample.book) {

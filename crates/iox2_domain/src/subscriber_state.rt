@@ -6,8 +6,9 @@ ghost use Rattle.iox2_domain.specs.Ports.{SubscriberFields};
 ghost use Rattle.iox2_domain.specs.ReceiverSteps.{with_expired, replacing_expired};
 ghost use Rattle.iox2_domain.specs.Updates.{changed_at, is_open_subscriber, with_receiver_rooms, receiver_room, expired_room_at};
 
-use crate::places::{clear_in, key_in, put_at_place, reserve_place};
+use crate::places::{clear_in, put_at_place, reserve_place};
 use crate::ports::Port;
+use iox2_ends::receiver::key_in;
 use iox2_ends::sender::{Receiver, ReceiverDetails};
 use iox2_store::UniqueSubscriberId;
 use std::alloc::{AllocError, Global};
@@ -23,12 +24,15 @@ pub struct SubscriberState {
     pub id: UniqueSubscriberId,
     pub place: usize,
     pub is_open: bool,
+    pub is_due: bool,
     pub buffer: usize,
     // At each publisher's place the key of the connection with it.
     pub keys: Vec<Option<usize>>,
     // The keys of the connections with departed publishers, in order of entry.
     pub expired: Vec<usize>,
-    pub is_due: bool,
+    // The place of the publisher from which it received last, at which it looks first. It may be
+    // any number.
+    pub last_place: usize,
 }
 
 impl Model for SubscriberState {
@@ -79,10 +83,11 @@ impl SubscriberState {
             id,
             place,
             is_open: true,
+            is_due: true,
             buffer,
             keys: Vec::new(alloc),
             expired: Vec::new(alloc),
-            is_due: true,
+            last_place: 0,
         }
     }
 

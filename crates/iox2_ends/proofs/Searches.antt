@@ -3,9 +3,10 @@ use Rattle.std.proofs.Common.{◌≡◌, ℕ, zero, suc, ◌+◌, ◌<◌, ◌�
 use Rattle.std.proofs.lemmas.Bool.{eqb-true, eq-eqb, true≢false, or_cases, or_left, or_right, or_parts}
 use Rattle.std.proofs.lemmas.List.{length-map, drop_all, drop_more}
 use Rattle.std.proofs.lemmas.List.Folds.{list_any-append}
-use Rattle.std.specs.Prelude.{IsTrue, IsSomeAnd}
+use Rattle.std.specs.Prelude.{IsTrue, IsSomeAnd, slice_index_or}
 use Rattle.std.specs.Bool.{MatchBool}
 use Rattle.std.specs.List.{list_any}
+use Rattle.std.specs.Option.{ForSome}
 use Rattle.slab.specs.Slab.{Slab, get}
 use Rattle.iox2_store.specs.Link.{Link, has_slots, can_borrow}
 use Rattle.iox2_store.specs.machine.Numbers.{is_nil, contains}
@@ -259,8 +260,39 @@ finds-found connections expired keys = record {
       finds-both q limit connections y (λ p. mailboxes_of number connections p q) (search connections (map Some expired)) (search connections keys)
       (rw r.expired (among-search q limit connections number r.apart (map Some expired) r.kept))
       (rw r.ends (among-search q limit connections number r.apart keys r.linked));
-  looks = refl;
 }
+
+-- ---- one place that is looked at before the others
+
+-- no connection to take from was found
+not-ready : (found : Found) → ((k : ℕ) → found ≡ Found.Ready k → ⊥) → is_ready found ≡ false
+not-ready (Found.Ready k) none = absurd (none k refl)
+not-ready Found.AtLimit none = refl
+not-ready Found.Nothing none = refl
+
+-- where there is no key, there is no connection to take from
+nothing-ready : (key : ℕ) → Found.Nothing ≡ Found.Ready key → ⊥
+nothing-ready key e = true≢false (ap is_ready (sym e))
+
+-- what one of the keys offers is found among the publishers to which they lead
+pub among-offer : (q limit : ℕ) (connections : Slab Link) (number : ℕ → ℕ → ℕ) → IsApart connections → (keys : List (Option ℕ)) → IsReceiverLinked q limit connections keys
+    → (i key ready : ℕ) → slice_index_or keys i None ≡ Some key → offer_at connections (Some key) ≡ Found.Ready ready
+    → FindsAmong q limit connections (λ p. mailboxes_of number connections p q) (occupants (receiver_ends connections keys)) (Found.Ready ready)
+among-offer q limit connections number apart [] l i key ready at is = absurd cc
+among-offer q limit connections number apart (None ∷ keys) l zero key ready at is = absurd cc
+among-offer q limit connections number apart (None ∷ keys) l (suc i) key ready at is = among-offer q limit connections number apart keys (linked-later q limit connections None keys l) i key ready at is
+among-offer q limit connections number apart (Some first ∷ keys) l zero key ready at is =
+    subst (FindsAmong q limit connections (λ p. mailboxes_of number connections p q) (occupants (receiver_ends connections (Some first ∷ keys))))
+    (ap (λ (o : Found). first_found o (search connections keys)) (ap (offer_at connections) at ∙ is))
+    (among-search q limit connections number apart (Some first ∷ keys) l)
+among-offer q limit connections number apart (Some first ∷ keys) l (suc i) key ready at is =
+    by (get connections first) refl (l.at zero first refl) (among-offer q limit connections number apart keys (linked-later q limit connections (Some first) keys l) i key ready at is)
+  where
+    by : (o : Option Link) → get connections first ≡ o → IsSomeAnd o (IsReceivers q limit)
+        → FindsAmong q limit connections (λ p. mailboxes_of number connections p q) (occupants (receiver_ends connections keys)) (Found.Ready ready)
+        → FindsAmong q limit connections (λ p. mailboxes_of number connections p q) (occupants (receiver_ends connections (Some first ∷ keys))) (Found.Ready ready)
+    by None e h rest = absurd h
+    by (Some c) e h rest = rw e (rest.0, rest.1, rest.2, rest.3, or_right (eqb c.home.publisher rest.0.home.publisher) (contains (occupants (receiver_ends connections keys)) rest.0.home.publisher) rest.4)
 
 -- ---- the search in the code
 
@@ -276,6 +308,19 @@ module _ (connections : Slab Link) (expired : List ℕ) (keys : List (Option ℕ
     subst (CanTake connections) (sym is ∙ ready) (can_take-search connections (map Some expired)),
     subst (Finds connections expired keys) (search-ready found _ (search connections keys) is (ap is_ready ready) ∙ ready) (finds-found connections expired keys),
   )
+
+  -- or at one place, before the others are looked at
+  pub offer-ready : (found offer : Found) (first : Option ℕ) (key : ℕ) → found ≡ search connections (map Some expired) → ((k : ℕ) → found ≡ Found.Ready k → ⊥)
+      → ForSome first (λ k. (place : ℕ) × (slice_index_or keys place None ≡ Some k)) → offer ≡ offer_at connections first → offer ≡ Found.Ready key → Finds connections expired keys (Found.Ready key)
+  offer-ready found offer None key searched none stands is ready = absurd (nothing-ready key (sym is ∙ ready))
+  offer-ready found offer (Some first) key searched none stands is ready = record {
+    finds = λ q limit y r number.
+        subst (FindsFor q limit connections y (λ p. mailboxes_of number connections p q))
+        (ap (λ (a : Found). first_found a (Found.Ready key)) (sym searched) ∙ sym (joins-ready found key (not-ready found none)))
+        (finds-both q limit connections y (λ p. mailboxes_of number connections p q) (search connections (map Some expired)) (Found.Ready key)
+        (rw r.expired (among-search q limit connections number r.apart (map Some expired) r.kept))
+        (rw r.ends (among-offer q limit connections number r.apart keys r.linked (stands first refl).0 first key (stands first refl).1 (sym is ∙ ready))));
+  }
 
   -- or at a place, where none was found before
   pub place-ready : (found offer : Found) (place key : ℕ) → place < length keys → is_ready found ≡ false → whole_search ≡ first_found found (search connections (drop place keys))

@@ -75,9 +75,8 @@ module _ (q limit : ℕ) (connections : Slab Link) (y : Subscriber) (boxes : ℕ
   FindsFor Found.AtLimit = (has_any_data limit y boxes ≡ true) × (can_receive_of limit y boxes (connected_publishers y) ≡ false)
   FindsFor Found.Nothing = has_any_data limit y boxes ≡ false
 
--- Whatever numbers the slots have, this is what the subscriber with these keys finds: what a search comes to first among
--- the expired connections, and then by rising place.
+-- Whatever numbers the slots have, this is what the subscriber with these keys finds: a connection to receive from, where
+-- there is one.
 pub record Finds (connections : Slab Link) (expired : List ℕ) (keys : List (Option ℕ)) (found : Found) : Type 0 where
   pub finds : (q limit : ℕ) (y : Subscriber) → IsReceiver q limit connections expired keys y → (number : ℕ → ℕ → ℕ)
       → FindsFor q limit connections y (λ p. mailboxes_of number connections p q) found
-  pub looks : found ≡ first_found (search connections (map Some expired)) (search connections keys)

@@ -1,5 +1,5 @@
 //! A subscriber's end: it takes messages from connections and gives them back.
-ghost use Rattle.std.specs.Prelude.{◌≡◌, Some, map, Contains, IsTrue, IsSomeAnd};
+ghost use Rattle.std.specs.Prelude.{◌≡◌, None, Some, map, slice_index_or, Contains, IsTrue, IsSomeAnd};
 ghost use Rattle.std.specs.Option.{ForSome};
 ghost use Rattle.slab.specs.Slab.{get, ContainsKey};
 ghost use Rattle.iox2_store.specs.Link.{can_borrow, with_returned, without_borrowed};
@@ -102,9 +102,19 @@ fn take(connections: &mut Slab<Connection>, key: usize) -> Taken
     }
 }
 
+/// The key at a place, past the end of the list too.
+pub fn key_in(keys: &[Option<usize>], place: usize) -> Option<usize>
+    ensures { result ≡ slice_index_or keys.now place None }
+{
+    match keys.get(place) {
+        Some(key) => *key,
+        None => None,
+    }
+}
+
 /// Borrows the message that has waited longest in the first connection of which one may be borrowed:
-/// first among the expired ones, whose publishers are gone, in their order, and then by rising place.
-/// `None` where no message waits.
+/// first among the expired ones, whose publishers are gone, in their order, then at `last_place`, and
+/// then by rising place, which `last_place` is afterwards. `None` where no message waits.
 ///
 /// `ExceedsMaxBorrows` where messages wait, but only in connections of which as many are borrowed as
 /// may be.
@@ -115,6 +125,7 @@ pub fn receive(
     connections: &mut Slab<Connection>,
     expired: &[usize],
     keys: &[Option<usize>],
+    last_place: &mut usize,
 ) -> Result<Option<Taken>, ReceiveError>
     requires expired { HasConnections connections.old (map Some expired.now) }
     requires keys { HasConnections connections.old keys.now }
@@ -125,9 +136,15 @@ pub fn receive(
     if let Found::Ready(key) = found {
         return Ok(Some(take(connections, key)));
     }
+    if let Found::Ready(key) = look(connections, key_in(keys, *last_place)) {
+        return Ok(Some(take(connections, key)));
+    }
     for place in 0..keys.len() {
         match look(connections, keys[place]) {
-            Found::Ready(key) => return Ok(Some(take(connections, key))),
+            Found::Ready(key) => {
+                *last_place = place;
+                return Ok(Some(take(connections, key)));
+            }
             Found::AtLimit => found = Found::AtLimit,
             Found::Nothing => {}
         }

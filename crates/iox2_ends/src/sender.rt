@@ -153,6 +153,7 @@ fn recount(book: &mut SlotBook, outcome: PutOutcome, slot: usize)
 
 // Reclaims what was given back in the connection at one place, if there is one, and puts the slot
 // into it if its subscriber is open.
+#[inline(always)]
 fn deliver_at<R: Receiver>(
     config: &ServiceConfig,
     delivery: &Delivery,
@@ -197,6 +198,7 @@ fn deliver_at<R: Receiver>(
 /// reclaimed.
 ///
 /// iceoryx2's `Sender::deliver_offset` (`src/port/details/sender.rs`).
+#[inline(always)]
 pub fn deliver<R: Receiver>(
     config: &ServiceConfig,
     delivery: &Delivery,

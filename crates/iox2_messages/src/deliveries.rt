@@ -11,6 +11,7 @@ use iox2_store::SlotMark;
 
 /// Delivers the loan in a slot of the publisher at a place, which is out no more afterwards. Returns
 /// how many receivers took it.
+#[inline(always)]
 pub(crate) fn send_slot<T: Drop, U: Default + Drop>(
     state: &mut DomainState<T, U>,
     place: usize,

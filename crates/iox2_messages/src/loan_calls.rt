@@ -10,8 +10,8 @@ ghost use Rattle.iox2_domain.specs.Invariant.{IsDomain};
 ghost use Rattle.iox2_domain.specs.LoanCalls.{HoldsUnwritten, HoldsWritten, HasCell, HasLoanHeader, CanWrite, WritesSlot, WritesLoan};
 ghost use Rattle.iox2_domain.specs.LoanSlots.{LiesInSlot};
 
-use iox2_domain::{DomainState, LoanAt};
-use iox2_store::{Contents, Header, SlotMark};
+use iox2_domain::{DomainState, LoanAt, MessageSlot};
+use iox2_store::{Contents, Header, SlotMark, UniquePublisherId};
 
 /// Writes the value of a publisher's unwritten loan of one element, which counts as written from
 /// then on. Returns the loan with its book and the slot in which it lies.
@@ -27,8 +27,11 @@ pub fn write_loan<T: Drop, U: Default + Drop>(
     ensures same { result ≡ record loan { book = result.book; slot = result.slot } }
     ensures lies { LiesInSlot state.old loan.publisher loan.number result.book result.slot }
 {
-    let at = state.find_live_loan(&loan);
-    write_slot(state, at.book, at.slot, value);
+    if state.is_loan_at_hint(&loan) {
+        write_slot(state, loan.book, loan.slot, value);
+        return loan;
+    }
+    let at = search_and_write(state, loan.publisher, loan.number, value);
     LoanAt {
         book: at.book,
         slot: at.slot,
@@ -36,7 +39,27 @@ pub fn write_loan<T: Drop, U: Default + Drop>(
     }
 }
 
+// The same, wherever the loan lies, of which this says where.
+#[inline(never)]
+fn search_and_write<T: Drop, U: Default + Drop>(
+    state: &mut DomainState<T, U>,
+    publisher: UniquePublisherId,
+    number: u128,
+    value: T,
+) -> MessageSlot
+    requires agrees { IsDomain state.old }
+    requires single { (state.old.config).units_per_element ≡ 1 }
+    requires live { HoldsUnwritten (state_of (kept_of state.old)) publisher number }
+    ensures writes { WritesLoan state.old state.new number value }
+    ensures lies { LiesInSlot state.old publisher number result.book result.slot }
+{
+    let at = state.search_loan(publisher, number);
+    write_slot(state, at.book, at.slot, value);
+    at
+}
+
 // Writes the value of the one cell in a slot.
+#[inline(always)]
 fn write_slot<T: Drop, U: Default + Drop>(
     state: &mut DomainState<T, U>,
     key: usize,

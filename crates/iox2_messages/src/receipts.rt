@@ -12,9 +12,9 @@ ghost use Rattle.iox2_domain.specs.Invariant.{IsDomain};
 ghost use Rattle.iox2_domain.specs.Reaches.{Reaches};
 ghost use Rattle.iox2_domain.specs.Midway.{IsMidway};
 ghost use Rattle.iox2_domain.specs.Receipts.{IsReceiptFor, TakesAs, ReceivesAs};
-ghost use Rattle.iox2_domain.specs.SampleSlots.{LiesBorrowed};
+ghost use Rattle.iox2_domain.specs.SampleSlots.{IsReturnable, LiesAtHint};
 
-use iox2_domain::{DomainState, Receipt, SampleAt, SampleSlot, stands_at};
+use iox2_domain::{DomainState, PublisherState, Receipt, SampleAt, SampleSlot, stands_at};
 use iox2_ends::receiver::{Taken, let_go, receive, release};
 use iox2_ports::{forget_if_empty, free_book_if_unused, leave_if_unused, update_subscriber};
 use iox2_store::{Home, ReceiveError, SlotBook, UniquePublisherId, UniqueSubscriberId};
@@ -49,13 +49,14 @@ pub(crate) fn take_at<T: Drop, U: Default + Drop>(
     requires stands { (y : SubscriberFields) × (slice_index_or state.old.subscribers place None ≡ Some y) }
     ensures { (y : SubscriberFields) → slice_index_or state.old.subscribers place None ≡ Some y → TakesAs state.old y.id result state.new }
 {
-    let Some(subscriber) = &state.subscribers[place] else {
+    let Some(subscriber) = &mut state.subscribers[place] else {
         unreachable!()
     };
     let taken = receive(
         &mut state.connections,
         &subscriber.expired,
         &subscriber.keys,
+        &mut subscriber.last_place,
     )?;
     let Some(taken) = taken else {
         return Ok(None);
@@ -83,23 +84,42 @@ pub fn receive_at<T: Drop, U: Default + Drop>(
     }
 }
 
-// Where a live sample lies. It is mostly the one that was borrowed last.
-fn sample_slot<T: Drop, U: Default + Drop>(
-    state: &DomainState<T, U>,
-    sample: &SampleAt,
-) -> SampleSlot
+// Whether the publisher at a place has its book at the key.
+fn has_book(publishers: &[Option<PublisherState>], place: usize, book: usize) -> bool
+    ensures { IsTrue result → IsSomeAnd (slice_index_or publishers.now place None) (λ x. x.book ≡ book) }
+{
+    if place >= publishers.len() {
+        return false;
+    }
+    match &publishers[place] {
+        Some(publisher) => publisher.book == book,
+        None => false,
+    }
+}
+
+// Whether both ports of a sample's connection stay: the subscriber is open, and the publisher is there.
+#[inline(always)]
+fn both_stay<T: Drop, U: Default + Drop>(state: &DomainState<T, U>, sample: &SampleAt) -> bool
+    requires agrees { IsDomain state.now }
+    requires lies { LiesAtHint state.now sample.now }
+    ensures { IsTrue result → IsReturnable state.now sample.now }
+{
+    let home = state.connections[sample.connection].home();
+    let Some(subscriber) = &state.subscribers[home.subscriber_place] else {
+        unreachable!()
+    };
+    subscriber.is_open && has_book(&state.publishers, home.publisher_place, home.book)
+}
+
+// Whether a live sample is the one that was borrowed last of the connection that it names, both ports
+// of which stay. It is mostly so.
+#[inline(always)]
+fn is_returnable<T: Drop, U: Default + Drop>(state: &DomainState<T, U>, sample: &SampleAt) -> bool
     requires agrees { IsDomain state.now }
     requires live { HoldsSample (state_of (kept_of state.now)) sample.now.subscriber sample.now.number }
-    ensures { LiesBorrowed state.now sample.now.subscriber sample.now.number result }
+    ensures { IsTrue result → IsReturnable state.now sample.now }
 {
-    if state.is_last_at_hint(sample) {
-        return SampleSlot {
-            connection: sample.connection,
-            book: sample.book,
-            slot: sample.slot,
-        };
-    }
-    state.find_live_sample(sample)
+    state.is_last_at_hint(sample) && both_stay(state, sample)
 }
 
 // The slot that is borrowed in a connection is given back to its publisher. Where that is gone, it
@@ -135,7 +155,24 @@ pub fn give_back<T: Drop, U: Default + Drop>(state: &mut DomainState<T, U>, samp
     ensures released { (publisher : ℕ) → IsTrue (is_borrowed sample.number ((state_of (kept_of state.old)).mailboxes publisher sample.subscriber))
         → Reaches state.old state.new (released (state_of (kept_of state.old)) publisher sample.subscriber sample.number) }
 {
-    let at = sample_slot(state, &sample);
+    if is_returnable(state, &sample) {
+        release(&mut state.connections, sample.connection, sample.slot);
+        return;
+    }
+    search_and_give_back(state, sample);
+}
+
+// The same, wherever the sample lies and whichever of its ports is gone. It takes the sample itself: a
+// reference would have the usual release keep it in memory.
+#[inline(never)]
+fn search_and_give_back<T: Drop, U: Default + Drop>(state: &mut DomainState<T, U>, sample: SampleAt)
+    requires agrees { IsDomain state.old }
+    requires live { HoldsSample (state_of (kept_of state.old)) sample.subscriber sample.number }
+    ensures stays { IsDomain state.new }
+    ensures released { (publisher : ℕ) → IsTrue (is_borrowed sample.number ((state_of (kept_of state.old)).mailboxes publisher sample.subscriber))
+        → Reaches state.old state.new (released (state_of (kept_of state.old)) publisher sample.subscriber sample.number) }
+{
+    let at = state.find_live_sample(&sample);
     let home = state.connections[at.connection].home();
     hand_back(state, at, home);
     leave_if_unused(state, home.subscriber_place);

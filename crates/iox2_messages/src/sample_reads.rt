@@ -5,6 +5,7 @@ ghost use Rattle.iox2_store.specs.machine.SingleCalls.{HoldsSample};
 ghost use Rattle.iox2_domain.specs.Kept.{state_of, entries_of};
 ghost use Rattle.iox2_domain.specs.Fields.{kept_of};
 ghost use Rattle.iox2_domain.specs.Invariant.{IsDomain};
+ghost use Rattle.iox2_domain.specs.SampleSlots.{LiesBorrowedInSlot};
 
 use iox2_domain::{DomainState, SampleAt};
 use iox2_store::Header;
@@ -19,11 +20,30 @@ pub fn sample_payload<'a, T: Drop, U: Default + Drop>(
     requires live { HoldsSample (state_of (kept_of state.now)) sample.now.subscriber sample.now.number }
     ensures { (entry : Entry T U) × (entries_of (kept_of state.now) sample.now.number ≡ Some entry) × (entry.values ≡ result.now ∷ []) }
 {
-    let at = state.find_message(sample);
-    let Some(contents) = &state.contents[at.book] else {
+    if state.is_at_slot(sample) {
+        return payload_at(state, sample, sample.book, sample.slot);
+    }
+    let at = state.search_sample(sample);
+    payload_at(state, sample, at.book, at.slot)
+}
+
+// The value of a borrowed message, which lies in a slot.
+#[inline(always)]
+fn payload_at<'a, T: Drop, U: Default + Drop>(
+    state: &'a DomainState<T, U>,
+    sample: &SampleAt,
+    book: usize,
+    slot: usize,
+) -> &'a T
+    requires agrees { IsDomain state.now }
+    requires single { (state.now.config).units_per_element ≡ 1 }
+    requires lies { LiesBorrowedInSlot state.now sample.now.subscriber sample.now.number (record { book = book; slot = slot }) }
+    ensures { (entry : Entry T U) × (entries_of (kept_of state.now) sample.now.number ≡ Some entry) × (entry.values ≡ result.now ∷ []) }
+{
+    let Some(contents) = &state.contents[book] else {
         unreachable!()
     };
-    contents.value(at.slot)
+    contents.value(slot)
 }
 
 /// The header of a borrowed message.

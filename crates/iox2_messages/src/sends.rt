@@ -21,7 +21,7 @@ fn is_ready<T: Drop, U: Default + Drop>(state: &DomainState<T, U>, loan: &LoanAt
 {
     match state.publishers.get(loan.place) {
         Some(Some(publisher)) => {
-            !publisher.is_due && state.books[publisher.book].has(loan.slot, loan.number)
+            !publisher.is_due && publisher.book == loan.book && state.is_loan_at_hint(loan)
         }
         _ => false,
     }
@@ -36,7 +36,6 @@ struct ReadyLoan {
 
 // Updates the publisher of a loan, where it is due, and finds where both are. `None` where the
 // publisher is gone.
-#[inline(never)]
 fn update_and_find<T: Drop, U: Default + Drop>(
     state: &mut DomainState<T, U>,
     publisher: UniquePublisherId,
@@ -57,23 +56,25 @@ fn update_and_find<T: Drop, U: Default + Drop>(
     })
 }
 
-// The loan at its publisher's place, which is updated where it is due, and in its slot. `None` where
-// the publisher is gone.
-fn prepare<T: Drop, U: Default + Drop>(
+// Updates the publisher of a loan, where it is due, and sends the loan, wherever both are. Of a
+// publisher that is gone the loan is lost.
+#[inline(never)]
+fn update_and_send<T: Drop, U: Default + Drop>(
     state: &mut DomainState<T, U>,
-    loan: &LoanAt,
-) -> Option<ReadyLoan>
+    publisher: UniquePublisherId,
+    number: u128,
+) -> Result<usize, SendError>
     requires agrees { IsDomain state.old }
-    requires live { HoldsWritten (state_of (kept_of state.old)) loan.now.publisher loan.now.number }
-    ensures { MatchOption result (IsLeftLoan state.old state.new loan.now.publisher) (λ ready. IsReadyToSend fixed_handlers state.old state.new loan.now.publisher loan.now.number ready.place ready.slot) }
+    requires live { HoldsWritten (state_of (kept_of state.old)) publisher number }
+    ensures sends { SendsLoan fixed_handlers state.old state.new number (send_result result) }
+    ensures ok { HoldsPublisher (state_of (kept_of state.old)) publisher → IsOk result }
 {
-    if is_ready(state, loan) {
-        return Some(ReadyLoan {
-            place: loan.place,
-            slot: loan.slot,
-        });
-    }
-    update_and_find(state, loan.publisher, loan.number)
+    let Some(ready) = update_and_find(state, publisher, number) else {
+        let at = state.search_loan(publisher, number);
+        state.let_go(at.book, at.slot);
+        return Err(SendError::ConnectionBrokenSinceSenderNoLongerExists);
+    };
+    Ok(send_slot(state, ready.place, ready.slot))
 }
 
 /// Sends a publisher's written loan to its receivers, and returns how many took it. The
@@ -91,10 +92,8 @@ pub fn send_loan<T: Drop, U: Default + Drop>(
     ensures sends { SendsLoan fixed_handlers state.old state.new loan.number (send_result result) }
     ensures ok { HoldsPublisher (state_of (kept_of state.old)) loan.publisher → IsOk result }
 {
-    let Some(ready) = prepare(state, &loan) else {
-        let at = state.find_live_loan(&loan);
-        state.let_go(at.book, at.slot);
-        return Err(SendError::ConnectionBrokenSinceSenderNoLongerExists);
-    };
-    Ok(send_slot(state, ready.place, ready.slot))
+    if is_ready(state, &loan) {
+        return Ok(send_slot(state, loan.place, loan.slot));
+    }
+    update_and_send(state, loan.publisher, loan.number)
 }

@@ -54,7 +54,8 @@ fn a_message_goes_there_and_back(rt: HostRuntime) -> Result<(), Fail> {
         &keys,
         &[Some(receiver)],
     );
-    let answer = receive(&mut connections, &[], &keys).expect(&rt, "an answer");
+    let mut last_place = 0;
+    let answer = receive(&mut connections, &[], &keys, &mut last_place).expect(&rt, "an answer");
     let taken = answer.expect(&rt, "a message");
     assert!(rt; taken.connection == key && taken.home == HOME);
     let received = taken.slot;

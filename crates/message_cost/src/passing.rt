@@ -50,11 +50,12 @@ fn receive_all(domain: &mut Domain<u64, ()>, receivers: &[Receiver], value: u64)
     requires receivers { All (λ receiver. IsLiveSubscriber domain.old receiver.subscriber) receivers.now }
     ensures { Stays domain.old domain.new }
 {
-    let mut is_right = true;
     for receiver in receivers {
-        is_right &= receive(domain, receiver) == Some(value);
+        if receive(domain, receiver) != Some(value) {
+            return false;
+        }
     }
-    is_right
+    true
 }
 
 // Receives a message, reads it and gives it back.

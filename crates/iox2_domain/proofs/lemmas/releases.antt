@@ -15,3 +15,4 @@ pub mod Idle
 pub mod Leaving
 pub mod GivenBack
 pub mod BookFreed
+pub mod ReturnedHere

@@ -77,19 +77,25 @@ fn send_all(alloc: Global, plan: &mut Plan, ports: Ports) -> Result<(), Fail> {
     Ok(())
 }
 
-/// A subscriber receives what waits for it, publisher after publisher, and gives it all back.
+/// A subscriber receives what waits for it, publisher after publisher and one of them first, and
+/// gives it all back.
 fn receive_all(
     alloc: Global,
     plan: &mut Plan,
     ports: Ports,
     subscriber: usize,
+    first: usize,
 ) -> Result<(), Fail> {
     let lost = match ports.mode {
         Mode::Overflow => SENT.saturating_sub(BUFFER),
         Mode::Keep => 0,
     };
     let mut samples = Vec::new(alloc);
-    for publisher in 1..=ports.publishers {
+    for turn in 0..=ports.publishers {
+        let publisher = if turn == 0 { first } else { turn };
+        if turn == first || publisher > ports.publishers {
+            continue;
+        }
         for index in 0..BUFFER {
             let sample = plan.call("recv", subscriber, "sample")?;
             let value = value_of(publisher, index.saturating_add(lost));
@@ -105,10 +111,11 @@ fn receive_all(
     Ok(())
 }
 
-/// All messages are sent and received twice, so that slots are used again.
+/// All messages are sent and received twice, so that slots are used again. The second time each
+/// subscriber looks first where its last message came from.
 fn assert_all_arrive(rt: &impl Abort, alloc: Global, ports: Ports) -> Result<(), Fail> {
     let mut plan = begin(alloc, ports)?;
-    for _ in 0..2 {
+    for first in [1, ports.publishers] {
         send_all(alloc, &mut plan, ports)?;
         for index in 1..=ports.subscribers {
             receive_all(
@@ -116,6 +123,7 @@ fn assert_all_arrive(rt: &impl Abort, alloc: Global, ports: Ports) -> Result<(),
                 &mut plan,
                 ports,
                 ports.publishers.saturating_add(index),
+                first,
             )?;
         }
     }

@@ -1,6 +1,7 @@
 -- Messages that are taken from connections.
-use Rattle.std.proofs.Common.{◌≡◌, ℕ, ◌<◌, List, length, map, get_or, Option, Some, None, Result, Ok, Err, IsErrAnd, IsSomeAnd, MatchOption, refl, ap, sym, subst, ◌∙◌}
+use Rattle.std.proofs.Common.{◌≡◌, ℕ, ◌<◌, List, length, map, get_or, slice_set, Option, Some, None, Result, Ok, Err, IsErrAnd, IsSomeAnd, MatchOption, refl, ap, sym, subst, ◌∙◌}
 use Rattle.std.proofs.lemmas.List.{get_or_read}
+use Rattle.std.proofs.Math.Seq.{set-get_or}
 use Rattle.std.specs.Prelude.{is_some}
 use Rattle.slab.specs.Slab.{Slab, get, ContainsKey}
 use Rattle.iox2_store.specs.Link.{Link}
@@ -161,6 +162,11 @@ has-keys {T} {U} f now place o y z expired places sound same stands read is is_y
       expired_is = expired_is ∙ ap (λ (w : SubscriberFields). w.expired) is_y;
       places_is = places_is ∙ ap (λ (w : SubscriberFields). w.keys) is_y;
     }
+
+-- a subscriber that stands at the place as it did leaves all as it was
+pub put-back : (subscribers : List (Option SubscriberFields)) (place : ℕ) (o : Option SubscriberFields) (y z : SubscriberFields)
+    → o ≡ get_or subscribers place o → o ≡ Some y → z ≡ y → slice_set subscribers place (Some z) ≡ subscribers
+put-back subscribers place o y z read is same = ap (slice_set subscribers place) (ap Some same ∙ sym is ∙ read) ∙ set-get_or subscribers place o
 
 module _ {T U : Type 0} (f now : Fields T U) (place : ℕ) (z : SubscriberFields) (expired : List ℕ) (places : List (Option ℕ)) (has : HasKeys f now place z expired places) where
   -- each of the keys has a connection

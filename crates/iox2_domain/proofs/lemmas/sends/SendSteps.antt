@@ -27,25 +27,21 @@ use Rattle.iox2_domain.proofs.lemmas.fields.ConnectionEnds.{publisher-stands}
 use Rattle.iox2_domain.proofs.lemmas.sends.LoanAlone.{loan-once, loan-alone, loan-own}
 use Rattle.iox2_domain.proofs.lemmas.slots.Messages.{lies_at, message_at-slot}
 use Rattle.iox2_domain.proofs.lemmas.sends.Published.{match-some, send-publishes}
-use Rattle.iox2_store.specs.SlotBook.{Book, IsUsedFor}
-use Rattle.iox2_domain.proofs.lemmas.loans.LoanSlots.{live-lies, book-its}
+use Rattle.iox2_domain.proofs.lemmas.loans.LoanSlots.{book-its}
 use Rattle.iox2_domain.proofs.lemmas.updates.SenderUpdates.{idle-updates}
 
--- a loan in a slot in use with its number may be sent at once where its publisher, whose book has the slot, isn't due
-pub ready-at-hint : {T U : Type 0} (environment : Environment) (f v : Fields T U) → v ≡ f → IsDomain f → (p n place slot : ℕ) → HoldsWritten (state_of (kept_of f)) p n
-    → (x : PublisherFields) → get_or f.publishers place None ≡ Some x → x.is_due ≡ false → (b : Book) → get v.books x.book ≡ Some b → IsUsedFor b n slot → IsReadyToSend environment f f p n place slot
-ready-at-hint {T} {U} environment f v view sound p n place slot live x stands idle b read used =
-    let at : get f.books x.book ≡ Some b = sym (ap (λ (g : Fields T U). get g.books x.book) view) ∙ read in
-    let lies : LiesInSlot f p n x.book slot = live-lies f sound p n (live.0, live.1, live.2) x.book slot b at used in
-    let both : Some b ≡ Some lies.book = sym at ∙ lies.stands in
-    let is : b ≡ lies.book = cc in
+-- a loan that lies in its publisher's book may be sent at once where the publisher isn't due
+pub ready-in-book : {T U : Type 0} (environment : Environment) (f : Fields T U) → IsDomain f → (p n place key slot : ℕ)
+    → (x : PublisherFields) → get_or f.publishers place None ≡ Some x → x.is_due ≡ false → x.book ≡ key → LiesInSlot f p n key slot → IsReadyToSend environment f f p n place slot
+ready-in-book {T} {U} environment f sound p n place key slot x stands idle same lies =
+    let its : LiesInSlot f p n x.book slot = subst (λ (k : ℕ). LiesInSlot f p n k slot) (sym same) lies in
     record {
       publisher = x;
       stands = stands;
-      is_its = sym (book-its f sound place x b stands at) ∙ ap (λ (c : Book). c.publisher) is ∙ lies.is_its;
+      is_its = sym (book-its f sound place x its.book stands its.stands) ∙ its.is_its;
       updated = idle-updates environment f sound place x stands idle;
       key = x.book;
-      lies = lies;
+      lies = its;
     }
 
 module _ {T U : Type 0} (environment : Environment) (f0 : Fields T U) (sound : IsDomain f0) (p n place : ℕ) (holds : HoldsWritten (state_of (kept_of f0)) p n)

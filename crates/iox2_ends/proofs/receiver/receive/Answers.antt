@@ -4,7 +4,7 @@ use Rattle.iox2_store.specs.Link.{Link}
 use Rattle.iox2_ends.specs.Finds.{offer_at, Finds}
 use Rattle.iox2_ends.specs.Takes.{TakesSlot}
 use Rattle.iox2_ends.specs.declared.receiver.Found.{Found}
-use Rattle.iox2_ends.proofs.Searches.{expired-ready, place-ready, search-ended, found-nothing}
+use Rattle.iox2_ends.proofs.Searches.{expired-ready, offer-ready, place-ready, search-ended, found-nothing}
 use Rattle.iox2_ends.proofs.TakeSteps.{takes-slot}
 use Rattle.iox2_ends.proofs.receiver.receive.Goals as goal
 
@@ -20,14 +20,26 @@ returns-in-Ready c = (
       c.take.ensures.waited c.take.ensures.takes c.take.ensures.homes c.take.ensures.others c.take.ensures.returned c.take.ensures.stands,
 )
 
+pub look-requires : goal.look-requires
+look-requires c = λ key at. c.requires.keys.at c.args.last_place.now key (sym c.key_in.ensures ∙ at)
+
 pub returns-in-Ready-look : goal.returns-in-Ready-look
 returns-in-Ready-look c = (
   subst (λ (key : ℕ). Finds c.args.connections.now c.args.expired.now c.args.keys.now (Found.Ready key)) (sym c.take-in-Ready-look.ensures.from)
-      (place-ready c.args.connections.now c.args.expired.now c.args.keys.now c.loop-place.found c.look.result c.loop-place.place c.in-Ready-look.key (omega arith)
-      c.loop-place.invariant.none c.loop-place.invariant.whole (c.look.ensures ∙ ap (λ (s : Slab Link). offer_at s (get_or c.args.keys.now c.loop-place.place None)) c.loop-place.invariant.same) c.in-Ready-look.is).1,
-  subst (λ (s : Slab Link). TakesSlot s c.take-in-Ready-look.result c.take-in-Ready-look.new.connections) c.loop-place.invariant.same
-      (takes-slot c.loop-place.connections c.take-in-Ready-look.new.connections c.take-in-Ready-look.result c.in-Ready-look.key c.take-in-Ready-look.ensures.from c.take-in-Ready-look.ensures.home
-      c.take-in-Ready-look.ensures.waited c.take-in-Ready-look.ensures.takes c.take-in-Ready-look.ensures.homes c.take-in-Ready-look.ensures.others c.take-in-Ready-look.ensures.returned c.take-in-Ready-look.ensures.stands),
+      (offer-ready c.args.connections.now c.args.expired.now c.args.keys.now c.search_expired-found.result c.look.result c.key_in.result c.in-Ready-look.key
+      c.search_expired-found.ensures c.in_default.not-Ready (λ key at. (c.args.last_place.now, sym c.key_in.ensures ∙ at)) c.look.ensures c.in-Ready-look.is),
+  takes-slot c.args.connections.now c.take-in-Ready-look.new.connections c.take-in-Ready-look.result c.in-Ready-look.key c.take-in-Ready-look.ensures.from c.take-in-Ready-look.ensures.home
+      c.take-in-Ready-look.ensures.waited c.take-in-Ready-look.ensures.takes c.take-in-Ready-look.ensures.homes c.take-in-Ready-look.ensures.others c.take-in-Ready-look.ensures.returned c.take-in-Ready-look.ensures.stands,
+)
+
+pub returns-in-Ready-look-2 : goal.returns-in-Ready-look-2
+returns-in-Ready-look-2 c = (
+  subst (λ (key : ℕ). Finds c.args.connections.now c.args.expired.now c.args.keys.now (Found.Ready key)) (sym c.take-in-Ready-look-2.ensures.from)
+      (place-ready c.args.connections.now c.args.expired.now c.args.keys.now c.loop-place.found c.look-in-loop-place.result c.loop-place.place c.in-Ready-look-2.key (omega arith)
+      c.loop-place.invariant.none c.loop-place.invariant.whole (c.look-in-loop-place.ensures ∙ ap (λ (s : Slab Link). offer_at s (get_or c.args.keys.now c.loop-place.place None)) c.loop-place.invariant.same) c.in-Ready-look-2.is).1,
+  subst (λ (s : Slab Link). TakesSlot s c.take-in-Ready-look-2.result c.take-in-Ready-look-2.new.connections) c.loop-place.invariant.same
+      (takes-slot c.loop-place.connections c.take-in-Ready-look-2.new.connections c.take-in-Ready-look-2.result c.in-Ready-look-2.key c.take-in-Ready-look-2.ensures.from c.take-in-Ready-look-2.ensures.home
+      c.take-in-Ready-look-2.ensures.waited c.take-in-Ready-look-2.ensures.takes c.take-in-Ready-look-2.ensures.homes c.take-in-Ready-look-2.ensures.others c.take-in-Ready-look-2.ensures.returned c.take-in-Ready-look-2.ensures.stands),
 )
 
 pub returns-in-AtLimit-found : goal.returns-in-AtLimit-found

@@ -1,64 +1,30 @@
-use Rattle.std.proofs.Common.{◌≡◌, ◌∙◌, Some, ap, sym}
+use Rattle.std.proofs.Common.{sym, subst, Contains, IsSomeAnd}
 use Rattle.slab.specs.Slab.{get}
 use Rattle.iox2_store.specs.Link.{Link}
+use Rattle.iox2_store.specs.machine.Numbers.{IsOnce}
 use Rattle.iox2_domain.specs.Fields.{Fields}
-use Rattle.iox2_domain.proofs.lemmas.releases.GivenBack.{borrowed-at-home, freed-midway, gives-back, pruned-boxes}
-use Rattle.iox2_domain.proofs.lemmas.samples.BorrowedNumbers.{lies-borrowed}
+use Rattle.iox2_domain.proofs.lemmas.releases.ReturnedHere.{borrowed-at, once-at, returns-here, its-lender}
 use Rattle.iox2_messages.proofs.receipts.give_back.Goals as goal
 
-pub hand_back-requires-clause-borrowed : goal.hand_back-requires-clause-borrowed
-hand_back-requires-clause-borrowed g c =
-    let lies = c.sample_slot-at.ensures in
-    let one : Some lies.connection ≡ Some c.index.result.now =
-    sym lies.has_connection ∙ ap (λ (f : Fields g.row.T.Denot g.row.U.Denot). get f.connections c.sample_slot-at.result.connection) (sym c.state.view_is) ∙ c.index.ensures in
-    let same : lies.connection ≡ c.index.result.now = cc in
-    borrowed-at-home c.args.state.now c.requires.agrees c.args.sample.subscriber c.args.sample.number c.sample_slot-at.result lies c.home-home.result
-    (ap (λ (l : Link). l.home) same ∙ sym c.home-home.ensures.value)
+pub release-requires-clause-borrowed : goal.release-requires-clause-borrowed
+release-requires-clause-borrowed g c =
+    let may = c.is_returnable.ensures c.if-is_returnable.true in
+    subst (λ (f : Fields g.row.T.Denot g.row.U.Denot). IsSomeAnd (get f.connections c.args.sample.connection) (λ (l : Link). Contains l.borrowed c.args.sample.slot)) (sym c.state.view_is)
+    (borrowed-at c.args.state.now c.requires.agrees c.args.sample may.lies)
 
-pub leave_if_unused-requires-clause-stands : goal.leave_if_unused-requires-clause-stands
-leave_if_unused-requires-clause-stands g c =
-    let lies = c.sample_slot-at.ensures in
-    let one : Some lies.connection ≡ Some c.index.result.now =
-    sym lies.has_connection ∙ ap (λ (f : Fields g.row.T.Denot g.row.U.Denot). get f.connections c.sample_slot-at.result.connection) (sym c.state.view_is) ∙ c.index.ensures in
-    let same : lies.connection ≡ c.index.result.now = cc in
-    let y = c.hand_back.ensures.stands in (
-      y.0,
-      y.1,
-      pruned-boxes c.args.state.now c.requires.agrees c.args.sample.subscriber c.args.sample.number c.sample_slot-at.result lies c.home-home.result
-          (ap (λ (l : Link). l.home) same ∙ sym c.home-home.ensures.value) c.hand_back.new.state c.hand_back.ensures.midway y.0 y.2,
-    )
+pub release-requires-clause-once : goal.release-requires-clause-once
+release-requires-clause-once g c =
+    let may = c.is_returnable.ensures c.if-is_returnable.true in
+    subst (λ (f : Fields g.row.T.Denot g.row.U.Denot). IsSomeAnd (get f.connections c.args.sample.connection) (λ (l : Link). IsOnce l.borrowed)) (sym c.state.view_is)
+    (once-at c.args.state.now c.requires.agrees c.args.sample may.lies)
 
-pub free_book_if_unused-requires : goal.free_book_if_unused-requires
-free_book_if_unused-requires g c =
-    let lies = c.sample_slot-at.ensures in
-    let one : Some lies.connection ≡ Some c.index.result.now =
-    sym lies.has_connection ∙ ap (λ (f : Fields g.row.T.Denot g.row.U.Denot). get f.connections c.sample_slot-at.result.connection) (sym c.state.view_is) ∙ c.index.ensures in
-    let same : lies.connection ≡ c.index.result.now = cc in
-    let y = c.hand_back.ensures.stands in
-    (freed-midway c.args.state.now c.requires.agrees c.args.sample.subscriber c.args.sample.number c.sample_slot-at.result lies c.home-home.result
-    (ap (λ (l : Link). l.home) same ∙ sym c.home-home.ensures.value) c.hand_back.new.state c.leave_if_unused.new.state c.hand_back.ensures.midway y.0 y.2
-    (c.leave_if_unused.ensures.freed y.0 y.1)).consistent
+pub returns-then-is_returnable-clause-released : goal.returns-then-is_returnable-clause-released
+returns-then-is_returnable-clause-released g c =
+    returns-here c.args.state.now c.requires.agrees c.args.sample (c.is_returnable.ensures c.if-is_returnable.true) _ c.state.view_is c.release.new.connections
+    c.release.ensures.releases c.release.ensures.homes c.release.ensures.others c.release.ensures.stands
 
-pub returns-clause-released : goal.returns-clause-released
-returns-clause-released g c = λ p borrowed.
-    let lies = c.sample_slot-at.ensures in
-    let one : Some lies.connection ≡ Some c.index.result.now =
-    sym lies.has_connection ∙ ap (λ (f : Fields g.row.T.Denot g.row.U.Denot). get f.connections c.sample_slot-at.result.connection) (sym c.state.view_is) ∙ c.index.ensures in
-    let same : lies.connection ≡ c.index.result.now = cc in
-    let y = c.hand_back.ensures.stands in
-    gives-back c.args.state.now c.requires.agrees c.args.sample.subscriber c.args.sample.number c.sample_slot-at.result lies c.home-home.result
-    (ap (λ (l : Link). l.home) same ∙ sym c.home-home.ensures.value) c.hand_back.new.state c.leave_if_unused.new.state c.free_book_if_unused.new.state c.hand_back.ensures.midway y.0 y.2
-    (c.leave_if_unused.ensures.freed y.0 y.1) c.free_book_if_unused.ensures.kept p borrowed
-
-pub returns-clause-stays : goal.returns-clause-stays
-returns-clause-stays g c =
-    let lies = c.sample_slot-at.ensures in
-    let one : Some lies.connection ≡ Some c.index.result.now =
-    sym lies.has_connection ∙ ap (λ (f : Fields g.row.T.Denot g.row.U.Denot). get f.connections c.sample_slot-at.result.connection) (sym c.state.view_is) ∙ c.index.ensures in
-    let same : lies.connection ≡ c.index.result.now = cc in
-    let y = c.hand_back.ensures.stands in
-    let given = gives-back c.args.state.now c.requires.agrees c.args.sample.subscriber c.args.sample.number c.sample_slot-at.result lies c.home-home.result
-    (ap (λ (l : Link). l.home) same ∙ sym c.home-home.ensures.value) c.hand_back.new.state c.leave_if_unused.new.state c.free_book_if_unused.new.state c.hand_back.ensures.midway y.0 y.2
-    (c.leave_if_unused.ensures.freed y.0 y.1) c.free_book_if_unused.ensures.kept (lies.connection).home.publisher
-    (lies-borrowed c.args.state.now c.requires.agrees c.args.sample.subscriber c.args.sample.number c.sample_slot-at.result lies) in
-    given.agrees
+pub returns-then-is_returnable-clause-stays : goal.returns-then-is_returnable-clause-stays
+returns-then-is_returnable-clause-stays g c =
+    let may = c.is_returnable.ensures c.if-is_returnable.true in
+    (returns-here c.args.state.now c.requires.agrees c.args.sample may _ c.state.view_is c.release.new.connections
+    c.release.ensures.releases c.release.ensures.homes c.release.ensures.others c.release.ensures.stands _ (its-lender c.args.state.now c.requires.agrees c.args.sample may)).agrees

@@ -4,41 +4,70 @@ use Rattle.iox2_ends.specs.Takes.{ReceivesSlot}
 use Rattle.iox2_ends.specs.declared.receiver.Taken.{Taken}
 use Rattle.iox2_domain.specs.Fields.{Fields}
 use Rattle.iox2_ends.proofs.MailboxChanges.{within_if_some}
-use Rattle.std.proofs.Common.{◌≡◌, ◌∙◌, ap, sym, subst, Option, None, Some, Result, Ok, Err, slice_index_or, rules, length, vec_len}
-use Rattle.iox2_domain.proofs.lemmas.receives.ReceiptSteps.{has-keys, connected-places, connected-expired, taken-within, at-taken, at-nothing, at-error}
+use Rattle.std.proofs.Common.{◌≡◌, ◌∙◌, ap, sym, subst, Option, None, Some, Result, Ok, Err, slice_index_or, slice_set, rules, length, vec_len}
+use Rattle.iox2_domain.specs.Receipts.{TakesAs}
+use Rattle.iox2_domain.proofs.lemmas.receives.ReceiptSteps.{has-keys, put-back, connected-places, connected-expired, taken-within, at-taken, at-nothing, at-error}
 use Rattle.iox2_messages.proofs.receipts.take_at.Goals as goal
 
 pub receive-requires-clause-keys : goal.receive-requires-clause-keys
 receive-requires-clause-keys g c =
     connected-places _ c.args.state.now c.args.place c.in-Some.subscriber c.deref.result.now c.deref-2.result.now
-    (has-keys _ c.args.state.now c.args.place c.index.result.now c.in-Some.subscriber _ c.deref.result.now c.deref-2.result.now c.requires.agrees c.state.view_is c.requires.stands
-    c.index.ensures c.in-Some.is c.subscriber.view_is c.deref.ensures.value c.deref-2.ensures.value)
+    (has-keys _ c.args.state.now c.args.place c.index_mut.result.now c.in-Some.subscriber _ c.deref.result.now c.deref-2.result.now c.requires.agrees c.state.view_is c.requires.stands
+    c.index_mut.ensures.value c.in-Some.is c.subscriber.view_is c.deref.ensures.value c.deref-2.ensures.value)
 
 pub receive-requires-clause-expired : goal.receive-requires-clause-expired
 receive-requires-clause-expired g c =
     connected-expired _ c.args.state.now c.args.place c.in-Some.subscriber c.deref.result.now c.deref-2.result.now
-    (has-keys _ c.args.state.now c.args.place c.index.result.now c.in-Some.subscriber _ c.deref.result.now c.deref-2.result.now c.requires.agrees c.state.view_is c.requires.stands
-    c.index.ensures c.in-Some.is c.subscriber.view_is c.deref.ensures.value c.deref-2.ensures.value)
+    (has-keys _ c.args.state.now c.args.place c.index_mut.result.now c.in-Some.subscriber _ c.deref.result.now c.deref-2.result.now c.requires.agrees c.state.view_is c.requires.stands
+    c.index_mut.ensures.value c.in-Some.is c.subscriber.view_is c.deref.ensures.value c.deref-2.ensures.value)
 
 pub returns-in_err-taken : goal.returns-in_err-taken
-returns-in_err-taken g c =
+returns-in_err-taken g c = λ y at.
     let got : ReceivesSlot c.state.inside.connections c.deref.result.now c.deref-2.result.now (Err c.in_err-taken.field-0.0) c.receive.new.connections =
     subst (λ (r : Result (Option Taken) ReceiveError). ReceivesSlot c.state.inside.connections c.deref.result.now c.deref-2.result.now r c.receive.new.connections)
     (c.in_err-taken.was) c.receive.ensures in
-    at-error _ c.args.state.now c.args.place c.in-Some.subscriber c.deref.result.now c.deref-2.result.now
-    (has-keys _ c.args.state.now c.args.place c.index.result.now c.in-Some.subscriber _ c.deref.result.now c.deref-2.result.now c.requires.agrees c.state.view_is c.requires.stands
-    c.index.ensures c.in-Some.is c.subscriber.view_is c.deref.ensures.value c.deref-2.ensures.value)
-    c.in_err-taken.field-0.0 c.receive.new.connections got c.from_residual.result c.from_residual.ensures.1
+    let kept : slice_set c.state.inside.subscribers.items c.args.place (Some _) ≡ c.state.inside.subscribers.items =
+    put-back c.state.inside.subscribers.items c.args.place c.index_mut.result.now c.in-Some.subscriber _ c.index_mut.ensures.value c.in-Some.is c.subscriber.view_is in
+    subst (λ (f : Fields g.row.T.Denot g.row.U.Denot). TakesAs c.args.state.now y.id c.from_residual.result f)
+    (λ k. record {
+      config = c.state.inside.config;
+      next_port = c.state.inside.next_port;
+      next_message = c.state.inside.next_message;
+      warnings = c.state.inside.warnings;
+      publishers = c.state.inside.publishers.items;
+      subscribers = sym kept k;
+      connections = c.receive.new.connections;
+      books = c.state.inside.books;
+      contents = c.state.inside.contents.items;
+    })
+    (at-error _ c.args.state.now c.args.place c.in-Some.subscriber c.deref.result.now c.deref-2.result.now
+    (has-keys _ c.args.state.now c.args.place c.index_mut.result.now c.in-Some.subscriber _ c.deref.result.now c.deref-2.result.now c.requires.agrees c.state.view_is c.requires.stands
+    c.index_mut.ensures.value c.in-Some.is c.subscriber.view_is c.deref.ensures.value c.deref-2.ensures.value)
+    c.in_err-taken.field-0.0 c.receive.new.connections got c.from_residual.result c.from_residual.ensures.1 y at)
 
 pub returns-in_default-taken : goal.returns-in_default-taken
-returns-in_default-taken g c =
+returns-in_default-taken g c = λ y at.
     let got : ReceivesSlot c.state.inside.connections c.deref.result.now c.deref-2.result.now (Ok None) c.receive.new.connections =
     subst (λ (r : Result (Option Taken) ReceiveError). ReceivesSlot c.state.inside.connections c.deref.result.now c.deref-2.result.now r c.receive.new.connections)
     (c.in_ok-taken.was ∙ ap (λ (o : Option Taken). Ok o) c.in_default-taken.is) c.receive.ensures in
-    at-nothing _ c.args.state.now c.args.place c.in-Some.subscriber c.deref.result.now c.deref-2.result.now
-    (has-keys _ c.args.state.now c.args.place c.index.result.now c.in-Some.subscriber _ c.deref.result.now c.deref-2.result.now c.requires.agrees c.state.view_is c.requires.stands
-    c.index.ensures c.in-Some.is c.subscriber.view_is c.deref.ensures.value c.deref-2.ensures.value)
-    c.receive.new.connections got.0 got.1
+    let kept : slice_set c.state.inside.subscribers.items c.args.place (Some _) ≡ c.state.inside.subscribers.items =
+    put-back c.state.inside.subscribers.items c.args.place c.index_mut.result.now c.in-Some.subscriber _ c.index_mut.ensures.value c.in-Some.is c.subscriber.view_is in
+    subst (λ (f : Fields g.row.T.Denot g.row.U.Denot). TakesAs c.args.state.now y.id (Ok None) f)
+    (λ k. record {
+      config = c.state.inside.config;
+      next_port = c.state.inside.next_port;
+      next_message = c.state.inside.next_message;
+      warnings = c.state.inside.warnings;
+      publishers = c.state.inside.publishers.items;
+      subscribers = sym kept k;
+      connections = c.receive.new.connections;
+      books = c.state.inside.books;
+      contents = c.state.inside.contents.items;
+    })
+    (at-nothing _ c.args.state.now c.args.place c.in-Some.subscriber c.deref.result.now c.deref-2.result.now
+    (has-keys _ c.args.state.now c.args.place c.index_mut.result.now c.in-Some.subscriber _ c.deref.result.now c.deref-2.result.now c.requires.agrees c.state.view_is c.requires.stands
+    c.index_mut.ensures.value c.in-Some.is c.subscriber.view_is c.deref.ensures.value c.deref-2.ensures.value)
+    c.receive.new.connections got.0 got.1 y at)
 
 pub receipt_of-requires : goal.receipt_of-requires
 receipt_of-requires g c =
@@ -48,17 +77,31 @@ receipt_of-requires g c =
     taken-within _ c.args.state.now c.state.view_is c.requires.agrees c.in-Some-taken.taken c.receive.new.connections got.1
 
 pub returns : goal.returns
-returns g c =
+returns g c = λ y at.
     let got : ReceivesSlot c.state.inside.connections c.deref.result.now c.deref-2.result.now (Ok (Some c.in-Some-taken.taken)) c.receive.new.connections =
     subst (λ (r : Result (Option Taken) ReceiveError). ReceivesSlot c.state.inside.connections c.deref.result.now c.deref-2.result.now r c.receive.new.connections)
     (c.in_ok-taken.was ∙ ap (λ (o : Option Taken). Ok o) c.in-Some-taken.is) c.receive.ensures in
-    at-taken _ c.args.state.now c.args.place c.in-Some.subscriber c.deref.result.now c.deref-2.result.now
-    (has-keys _ c.args.state.now c.args.place c.index.result.now c.in-Some.subscriber _ c.deref.result.now c.deref-2.result.now c.requires.agrees c.state.view_is c.requires.stands
-    c.index.ensures c.in-Some.is c.subscriber.view_is c.deref.ensures.value c.deref-2.ensures.value)
-    c.in-Some-taken.taken c.receipt_of.result c.receive.new.connections got.0 got.1 c.receipt_of.ensures
+    let kept : slice_set c.state.inside.subscribers.items c.args.place (Some _) ≡ c.state.inside.subscribers.items =
+    put-back c.state.inside.subscribers.items c.args.place c.index_mut.result.now c.in-Some.subscriber _ c.index_mut.ensures.value c.in-Some.is c.subscriber.view_is in
+    subst (λ (f : Fields g.row.T.Denot g.row.U.Denot). TakesAs c.args.state.now y.id (Ok (Some c.receipt_of.result)) f)
+    (λ k. record {
+      config = c.state.inside.config;
+      next_port = c.state.inside.next_port;
+      next_message = c.state.inside.next_message;
+      warnings = c.state.inside.warnings;
+      publishers = c.state.inside.publishers.items;
+      subscribers = sym kept k;
+      connections = c.receive.new.connections;
+      books = c.state.inside.books;
+      contents = c.state.inside.contents.items;
+    })
+    (at-taken _ c.args.state.now c.args.place c.in-Some.subscriber c.deref.result.now c.deref-2.result.now
+    (has-keys _ c.args.state.now c.args.place c.index_mut.result.now c.in-Some.subscriber _ c.deref.result.now c.deref-2.result.now c.requires.agrees c.state.view_is c.requires.stands
+    c.index_mut.ensures.value c.in-Some.is c.subscriber.view_is c.deref.ensures.value c.deref-2.ensures.value)
+    c.in-Some-taken.taken c.receipt_of.result c.receive.new.connections got.0 got.1 c.receipt_of.ensures y at)
 
-pub index-requires : goal.index-requires
-index-requires g c =
+pub index_mut-requires : goal.index_mut-requires
+index_mut-requires g c =
     let there : slice_index_or c.state.inside.subscribers.items c.args.place None ≡ Some c.requires.stands.0 = ap (λ (f : Fields g.row.T.Denot g.row.U.Denot). slice_index_or f.subscribers c.args.place None) c.state.view_is ∙ c.requires.stands.1 in
     let long : vec_len c.state.inside.subscribers ≡ length c.state.inside.subscribers.items = search rules in
     rw long (within_if_some c.state.inside.subscribers.items c.args.place c.requires.stands.0 there)
@@ -66,4 +109,4 @@ index-requires g c =
 pub unreachable-requires : goal.unreachable-requires
 unreachable-requires g c =
     let there : slice_index_or c.state.inside.subscribers.items c.args.place None ≡ Some c.requires.stands.0 = ap (λ (f : Fields g.row.T.Denot g.row.U.Denot). slice_index_or f.subscribers c.args.place None) c.state.view_is ∙ c.requires.stands.1 in
-    c.in_default.not-Some c.requires.stands.0 (sym (read-there _ c.args.place _ _ there c.index.ensures) ∙ there)
+    c.in_default.not-Some c.requires.stands.0 (sym (read-there _ c.args.place _ _ there c.index_mut.ensures.value) ∙ there)

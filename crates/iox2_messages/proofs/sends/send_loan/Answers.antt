@@ -1,60 +1,23 @@
-use Rattle.std.proofs.Common.{◌≡◌, None, Some, ap, sym, subst, ◌∙◌}
 use Rattle.iox2_store.specs.machine.Environments.{fixed_handlers}
-use Rattle.iox2_store.specs.machine.Sends.{Send_error}
-use Rattle.iox2_store.specs.machine.SingleCalls.{HoldsLoan}
-use Rattle.iox2_store.specs.declared.errors.SendError.TheVariants.{ConnectionBrokenSinceSenderNoLongerExists}
-use Rattle.iox2_ends.specs.LookUp.{look_up}
-use Rattle.iox2_domain.specs.Fields.{Fields, kept_of}
-use Rattle.iox2_domain.specs.Invariant.{IsDomain, is_publisher}
-use Rattle.iox2_domain.specs.Kept.{state_of}
-use Rattle.iox2_domain.specs.SentLoans.{SendsLoan}
-use Rattle.iox2_domain.proofs.lemmas.discards.LeftLoan.{can-let-go, left-sent}
-use Rattle.iox2_domain.proofs.lemmas.slots.LeftConnections.{unknown, stands-nowhere}
 use Rattle.iox2_domain.proofs.lemmas.sends.SendSteps.{sender-stands, updated-agrees, can-send, sends-loan}
 use Rattle.iox2_messages.proofs.sends.send_loan.Goals as goal
 
 pub send_slot-requires-clause-agrees : goal.send_slot-requires-clause-agrees
 send_slot-requires-clause-agrees g c =
-    let r = c.in-Some.ensures in
-    updated-agrees fixed_handlers c.args.state.now c.requires.agrees c.args.loan.publisher c.args.loan.number c.in-Some.ready.place c.requires.live (r.publisher, r.stands, r.is_its) c.prepare.new.state r.updated
+    let r = c.is_ready.ensures c.if-is_ready.true in
+    updated-agrees fixed_handlers c.args.state.now c.requires.agrees c.args.loan.publisher c.args.loan.number c.args.loan.place c.requires.live (r.publisher, r.stands, r.is_its) c.args.state.now r.updated
 
 pub send_slot-requires-clause-can : goal.send_slot-requires-clause-can
 send_slot-requires-clause-can g c =
-    let r = c.in-Some.ensures in (
+    let r = c.is_ready.ensures c.if-is_ready.true in (
       _,
-      sender-stands fixed_handlers c.args.state.now c.requires.agrees c.args.loan.publisher c.args.loan.number c.in-Some.ready.place c.requires.live (r.publisher, r.stands, r.is_its) c.prepare.new.state r.updated,
-      can-send fixed_handlers c.args.state.now c.requires.agrees c.args.loan.publisher c.args.loan.number c.in-Some.ready.place c.requires.live (r.publisher, r.stands, r.is_its) c.prepare.new.state r.updated
-          r.key c.in-Some.ready.slot r.lies,
+      sender-stands fixed_handlers c.args.state.now c.requires.agrees c.args.loan.publisher c.args.loan.number c.args.loan.place c.requires.live (r.publisher, r.stands, r.is_its) c.args.state.now r.updated,
+      can-send fixed_handlers c.args.state.now c.requires.agrees c.args.loan.publisher c.args.loan.number c.args.loan.place c.requires.live (r.publisher, r.stands, r.is_its) c.args.state.now r.updated
+          r.key c.args.loan.slot r.lies,
     )
 
-pub returns-clause-sends : goal.returns-clause-sends
-returns-clause-sends g c =
-    let r = c.in-Some.ensures in
-    sends-loan fixed_handlers c.args.state.now c.requires.agrees c.args.loan.publisher c.args.loan.number c.in-Some.ready.place c.requires.live (r.publisher, r.stands, r.is_its) c.prepare.new.state r.updated
-    r.key c.in-Some.ready.slot r.lies c.send_slot.result c.send_slot.new.state c.send_slot.ensures
-
--- ---- of a publisher that is gone
-
--- nothing was changed so far
-pub find_live_loan-at-requires-clause-live : goal.find_live_loan-at-requires-clause-live
-find_live_loan-at-requires-clause-live g c =
-    subst (λ (f : Fields g.row.T.Denot g.row.U.Denot). HoldsLoan (state_of (kept_of f)) c.args.loan.publisher c.args.loan.number) (sym c.in_default.ensures.same)
-    (c.requires.live.0, c.requires.live.1, c.requires.live.2)
-
-pub let_go-requires : goal.let_go-requires
-let_go-requires g c =
-    can-let-go c.prepare.new.state (subst (IsDomain {T = g.row.T.Denot} {U = g.row.U.Denot}) (sym c.in_default.ensures.same) c.requires.agrees) c.args.loan.publisher c.args.loan.number
-    c.find_live_loan-at.result.book c.find_live_loan-at.result.slot c.find_live_loan-at.ensures
-    (ap (λ (f : Fields g.row.T.Denot g.row.U.Denot). look_up (is_publisher c.args.loan.publisher) f.publishers) c.in_default.ensures.same ∙ c.in_default.ensures.is_gone)
-
-pub returns-in_default-clause-sends : goal.returns-in_default-clause-sends
-returns-in_default-clause-sends g c =
-    subst (λ (f : Fields g.row.T.Denot g.row.U.Denot). SendsLoan fixed_handlers f c.let_go.new.self c.args.loan.number (Send_error ConnectionBrokenSinceSenderNoLongerExists)) c.in_default.ensures.same
-    (left-sent c.prepare.new.state (subst (IsDomain {T = g.row.T.Denot} {U = g.row.U.Denot}) (sym c.in_default.ensures.same) c.requires.agrees) c.args.loan.publisher c.args.loan.number
-    c.find_live_loan-at.result.book c.find_live_loan-at.result.slot c.find_live_loan-at.ensures
-    (ap (λ (f : Fields g.row.T.Denot g.row.U.Denot). look_up (is_publisher c.args.loan.publisher) f.publishers) c.in_default.ensures.same ∙ c.in_default.ensures.is_gone)
-    fixed_handlers c.let_go.new.self c.let_go.ensures)
-
-pub returns-in_default-clause-ok : goal.returns-in_default-clause-ok
-returns-in_default-clause-ok g c = λ holds.
-    let no : None ≡ Some holds.0 = sym (unknown c.args.state.now c.args.loan.publisher (stands-nowhere c.args.state.now.publishers c.args.loan.publisher c.in_default.ensures.is_gone)) ∙ holds.1 in absurd cc
+pub returns-then-is_ready-clause-sends : goal.returns-then-is_ready-clause-sends
+returns-then-is_ready-clause-sends g c =
+    let r = c.is_ready.ensures c.if-is_ready.true in
+    sends-loan fixed_handlers c.args.state.now c.requires.agrees c.args.loan.publisher c.args.loan.number c.args.loan.place c.requires.live (r.publisher, r.stands, r.is_its) c.args.state.now r.updated
+    r.key c.args.loan.slot r.lies c.send_slot.result c.send_slot.new.state c.send_slot.ensures
