@@ -65,10 +65,12 @@ fn a_subscriber_sees_the_same_beside_a_slower_one(rt: HostRuntime) {
     };
     let commands = Vec::from_array(rt.alloc(), WITH_A_RECEIVE).expect(&rt, "commands");
     let reduced = Vec::from_array(rt.alloc(), WITHOUT_IT).expect(&rt, "fewer commands");
-    let ends: Option<(
-        (Domain<u64, u8>, Vec<Reply<u64, u8>>),
-        (Domain<u64, u8>, Vec<Reply<u64, u8>>),
-    )> = compare_runs(rt.alloc(), &config, commands, reduced);
+    let ends: Option<
+        (
+            (Domain<u64, u8>, Vec<Reply<u64, u8>>),
+            (Domain<u64, u8>, Vec<Reply<u64, u8>>),
+        ),
+    > = compare_runs(rt.alloc(), &config, commands, reduced);
     let ((_, replies), (_, others)) = ends.expect(&rt, "two runs");
     let expected: [Reply<u64, u8>; 13] = [
         Reply::SubscriberMade(UniqueSubscriberId::new(1)),

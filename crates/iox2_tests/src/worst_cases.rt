@@ -146,7 +146,10 @@ fn the_list_is_granted_with_its_slots(rt: HostRuntime) {
     };
     assert!(rt; worst_case_slots(&twice, 1) == Some(8));
     let replies = replies_to_list(rt.alloc(), &twice, 1).expect(&rt, "replies");
-    let loans = replies.iter().filter(|reply| matches!(reply, Reply::Loaned)).count();
+    let loans = replies
+        .iter()
+        .filter(|reply| matches!(reply, Reply::Loaned))
+        .count();
     let sends = replies
         .iter()
         .filter(|reply| matches!(reply, Reply::Delivered(_)))
