@@ -71,7 +71,9 @@ fn a_subscriber_sees_the_same_beside_a_slower_one(rt: HostRuntime) {
             (Domain<u64, u8>, Vec<Reply<u64, u8>>),
         ),
     > = compare_runs(rt.alloc(), &config, commands, reduced);
-    let ((_, replies), (_, others)) = ends.expect(&rt, "two runs");
+    let (first, second) = ends.expect(&rt, "two runs");
+    let (_, replies) = first;
+    let (_, others) = second;
     let expected: [Reply<u64, u8>; 13] = [
         Reply::SubscriberMade(UniqueSubscriberId::new(1)),
         Reply::SubscriberMade(UniqueSubscriberId::new(2)),
@@ -206,7 +208,9 @@ fn a_subscriber_sees_the_same_beside_one_that_is_closed(rt: HostRuntime) {
             (Domain<u64, u8>, Vec<Reply<u64, u8>>),
         ),
     > = compare_runs(rt.alloc(), &config, commands, reduced);
-    let ((_, replies), (_, others)) = ends.expect(&rt, "two runs");
+    let (first, second) = ends.expect(&rt, "two runs");
+    let (_, replies) = first;
+    let (_, others) = second;
     let mut without = answers();
     without[6] = Reply::Done;
     assert!(rt; replies.as_slice() == answers().as_slice());
@@ -228,7 +232,9 @@ fn a_subscriber_that_keeps_a_sample_keeps_its_place(rt: HostRuntime) {
             (Domain<u64, u8>, Vec<Reply<u64, u8>>),
         ),
     > = compare_runs(rt.alloc(), &config, commands, reduced);
-    let ((_, replies), (_, others)) = ends.expect(&rt, "two runs");
+    let (first, second) = ends.expect(&rt, "two runs");
+    let (_, replies) = first;
+    let (_, others) = second;
     let mut keeping = answers();
     keeping[9] = Reply::SubscriberRefused(SubscriberCreateError::ExceedsMaxSupportedSubscribers);
     keeping[12] = Reply::Delivered(1);
