@@ -61,8 +61,8 @@ HasReleased of i commands replies =
     (j p : ℕ) → j < i → slice_get commands j ≡ Some (Receive of) → slice_get replies j ≡ Some (Sample p)
     → (k : ℕ) × (j < k) × (k < i) × (slice_get commands k ≡ Some (Release j))
 
--- Of two runs: each publisher that the first made is independent, and a subscriber that was made before a command of the first
--- closes it has released each of its samples by then, in both.
+-- Of two runs: each publisher that the first made is independent; and a subscriber that the first made, and a later command of it
+-- closes, has released each of its samples before that command, in both runs.
 pub record AreIndependent {T U : Type 0} (c : ServiceConfig) (commands : List (Command T U)) (replies : List (Reply T U)) (reduced : List (Command T U)) (replies' : List (Reply T U)) : Type 0 where
   pub publishers : (i p : ℕ) (command : Command T U) → slice_get commands i ≡ Some command → slice_get replies i ≡ Some (PublisherMade p)
       → makes_independent_publisher c command ≡ true
