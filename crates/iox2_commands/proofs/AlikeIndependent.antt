@@ -15,7 +15,7 @@ use Rattle.iox2_store.specs.machine.SingleCalls.{GrantWrittenLoan}
 use Rattle.iox2_store.specs.machine.Sends.{Send, SendResult, Publish}
 use Rattle.iox2_store.specs.machine.Receives.{Receive, TakeSample, ReceiveResult, Got_sample, No_sample, Receive_error}
 use Rattle.iox2_store.specs.machine.Releases.{released, pruned, unborrowed}
-use Rattle.iox2_store.specs.machine.Ports.{new_publisher, new_subscriber, with_new_publisher, with_new_subscriber, with_failure_warning, MakePublisher, CreatePublisher, MakeSubscriber, CreateSubscriber, first_segment_fits, buffer_for, slots_for, publisher_gone, publisher_closed, subscribers_pruned}
+use Rattle.iox2_store.specs.machine.Ports.{new_publisher, new_subscriber, with_new_publisher, with_new_subscriber, with_failure_warning, MakePublisher, CreatePublisher, MakeSubscriber, CreateSubscriber, first_segment_fits, buffer_for, slots_for, publisher_gone, publisher_closed, subscribers_pruned, subscriber_shut, subscriber_closed}
 use Rattle.iox2_store.specs.declared.service_config.ServiceConfig.{ServiceConfig}
 use Rattle.iox2_store.specs.declared.warning.Warning.{Warning}
 use Rattle.iox2_store.specs.declared.errors.ConnectionFailure.{ConnectionFailure}
@@ -24,10 +24,11 @@ use Rattle.iox2_store.specs.declared.errors.PublisherCreateError.{PublisherCreat
 use Rattle.iox2_store.specs.declared.errors.SubscriberCreateError.{SubscriberCreateError}
 use Rattle.iox2_laws.proofs.Cases.{by_option, by_bool}
 use Rattle.iox2_laws.proofs.PublisherUpdates.{update_publisher_changes}
-use Rattle.iox2_laws.proofs.Puts.{found_put, found_removed, found_mapped, at_each}
+use Rattle.iox2_laws.proofs.Puts.{found_put, found_removed, found_mapped, at_each, put_at-other}
 use Rattle.iox2_store.specs.machine.Environments.{ample_memory}
-use Rattle.iox2_commands.specs.Isolation.{IsIndependentPublisher, never_waits}
+use Rattle.iox2_commands.specs.Isolation.{IsIndependentPublisher, HasBorrowedNothing, never_waits}
 use Rattle.iox2_commands.proofs.AlikeViews.{View, view_of}
+use Rattle.iox2_commands.proofs.AlikeCloses.{before_going, closed_at_once}
 use Rattle.iox2_commands.proofs.AlikeSends.{delivered_view, published_view, publish_is}
 use Rattle.iox2_commands.proofs.ApartSteps.{AllOpen, changed_open, released_is}
 
@@ -250,3 +251,16 @@ module _ {T U : Type 0} where
     all_open = each_open (subscribers_pruned (publisher_gone s p x)) (λ r y. record y { is_due = true }) (λ r y. refl)
         (each_open (publisher_gone s p x) (pruned (publisher_gone s p x)) (λ r y. refl) k.all_open);
   }
+
+  -- a subscriber that is closed and has borrowed nothing
+  pub subscriber_closed_open : (s : State T U) (r : ℕ) (y : Subscriber) → HasBorrowedNothing s r → StaysOpen s → StaysOpen (subscriber_closed s r y)
+  subscriber_closed_open s r y nothing k =
+      let due : Publisher → Publisher = λ (x : Publisher). record x { is_due = true } in
+      subst StaysOpen (sym (closed_at_once s r y nothing)) (record {
+        publishers = each_independent s.config (λ p. option_map due (s.publishers p)) due
+            (each_independent s.config s.publishers due k.publishers (λ x. independent_changed s.config x _ refl refl refl refl refl refl))
+            (λ x. independent_changed s.config x _ refl refl refl refl refl refl);
+        all_open = λ i z e. found_removed (before_going s r y).subscribers r i z (z.is_open ≡ true) e
+            (λ apart f. k.all_open i z
+            (sym (put_at-other (subscriber_shut s r y).subscribers r _ i apart ∙ put_at-other s.subscribers r (Some (record y { is_open = false })) i apart) ∙ f));
+      })

@@ -9,7 +9,7 @@ use Rattle.iox2_store.specs.machine.Records.{Loan, Publisher, Subscriber}
 use Rattle.iox2_store.specs.machine.State.{State}
 use Rattle.iox2_store.specs.declared.service_config.TypeVariant.TheVariants.{FixedSize, Dynamic}
 use Rattle.iox2_commands.specs.Outcomes.{Handle, No_handle, Publisher_handle, Subscriber_handle, Loan_handle, Blocked_handle, Sample_handle}
-use Rattle.iox2_commands.specs.Views.{seen_handle}
+use Rattle.iox2_commands.specs.Views.{PublicPart, public_part, seen_handle}
 use Rattle.iox2_commands.specs.Isolation.{is_of_others}
 use Rattle.iox2_commands.specs.Step.{publisher_at, unblocked_at, subscriber_at, loan_at, unwritten_at, written_at, sendable_at, sample_at, if_single_units, if_fixed_size, if_dynamic}
 use Rattle.iox2_commands.proofs.Named.{kept_if}
@@ -93,6 +93,13 @@ subscriber_in subscribers o = elim o [
   | _ ↦ None
 ]
 
+-- the id alone
+abbrev id_in : (ℕ → Option PublicPart) → Option Handle → Option ℕ
+id_in others o = elim o [
+  | Some (Subscriber_handle r) ↦ option_and_then {U = ℕ} (λ (part : PublicPart). cond part.is_open (Some r) None) (others r)
+  | _ ↦ None
+]
+
 abbrev loan_in : {T U : Type 0} → (ℕ → Option (Loan T U)) → Option Handle → Option (ℕ × Loan T U)
 loan_in {T} {U} loans o = elim o [
   | Some (Loan_handle n) ↦ option_map {U = ℕ × Loan T U} (λ l. (n, l)) (loans n)
@@ -132,6 +139,21 @@ apart_in q subscribers (Some (Publisher_handle p)) named h e = absurd (none-some
 apart_in q subscribers (Some (Loan_handle n)) named h e = absurd (none-some named e)
 apart_in q subscribers (Some (Blocked_handle p n)) named h e = absurd (none-some named e)
 apart_in q subscribers (Some (Sample_handle p r n)) named h e = absurd (none-some named e)
+
+-- whether a subscriber is named, and its id, is told from public parts
+named_in : (subscribers : ℕ → Option Subscriber) (o : Option Handle) → option_map {U = ℕ} (λ (n : ℕ × Subscriber). n.0) (subscriber_in subscribers o) ≡ id_in (λ r. public_part (subscribers r)) o
+named_in subscribers (Some (Subscriber_handle r)) = at (subscribers r)
+  where
+    at : (v : Option Subscriber) → option_map {U = ℕ} (λ (n : ℕ × Subscriber). n.0) (option_and_then {U = ℕ × Subscriber} (λ y. cond y.is_open (Some (r, y)) None) v)
+        ≡ option_and_then {U = ℕ} (λ (part : PublicPart). cond part.is_open (Some r) None) (public_part v)
+    at None = refl
+    at (Some y) = elim y.is_open as (λ b. option_map {U = ℕ} (λ (n : ℕ × Subscriber). n.0) (cond b (Some (r, y)) None) ≡ cond b (Some r) None) [ true ↦ refl | false ↦ refl ]
+named_in subscribers None = refl
+named_in subscribers (Some No_handle) = refl
+named_in subscribers (Some (Publisher_handle p)) = refl
+named_in subscribers (Some (Loan_handle n)) = refl
+named_in subscribers (Some (Blocked_handle p n)) = refl
+named_in subscribers (Some (Sample_handle p r n)) = refl
 
 -- a subscriber that is named has its handle there
 handle_in : (subscribers : ℕ → Option Subscriber) (o : Option Handle) (named : ℕ × Subscriber) → subscriber_in subscribers o ≡ Some named
@@ -216,6 +238,15 @@ module _ {T U : Type 0} (q : ℕ) (a b : State T U) (handles handles' : List Han
       sym (unseen q (publisher_in a.publishers) (λ p r n. refl) (slice_get handles of))
       ∙ (λ i. publisher_in (e i).publishers (looked_up i))
       ∙ unseen q (publisher_in b.publishers) (λ p r n. refl) (slice_get handles' of)
+
+  -- the same subscriber, or none
+  pub subscriber_id_same : option_map {U = ℕ} (λ (n : ℕ × Subscriber). n.0) (subscriber_at a handles of) ≡ option_map {U = ℕ} (λ (n : ℕ × Subscriber). n.0) (subscriber_at b handles' of)
+  subscriber_id_same =
+      named_in a.subscribers (slice_get handles of)
+      ∙ sym (unseen q (id_in (λ r. public_part (a.subscribers r))) (λ p r n. refl) (slice_get handles of))
+      ∙ (λ i. id_in (e i).others (looked_up i))
+      ∙ unseen q (id_in (λ r. public_part (b.subscribers r))) (λ p r n. refl) (slice_get handles' of)
+      ∙ sym (named_in b.subscribers (slice_get handles' of))
 
   -- the publisher that isn't blocked
   pub unblocked_at_same : unblocked_at a handles of ≡ unblocked_at b handles' of

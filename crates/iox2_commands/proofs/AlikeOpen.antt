@@ -22,14 +22,14 @@ use Rattle.iox2_store.specs.declared.errors.PublisherCreateError.{PublisherCreat
 use Rattle.iox2_store.specs.declared.errors.SubscriberCreateError.{SubscriberCreateError}
 use Rattle.iox2_laws.proofs.Cases.{by_option}
 use Rattle.iox2_store.specs.machine.Environments.{ample_memory}
-use Rattle.iox2_commands.specs.Isolation.{IsIndependent, ClosesNoSubscriber, makes_independent_publisher, never_waits}
-use Rattle.iox2_commands.specs.Outcomes.{Handle, Outcome, replied, done, skipped}
-use Rattle.iox2_commands.specs.Step.{Step, after_publisher, after_subscriber, after_loan, after_send, after_receive, after_update, after_question, publisher_settings, unblocked_at, subscriber_at, loan_at, unwritten_at, written_at, with_cell_at, sendable_at, blocked_at, sample_at, if_single_units, if_fixed_size, if_dynamic}
+use Rattle.iox2_commands.specs.Isolation.{IsIndependent, HasBorrowedNothing, makes_independent_publisher, never_waits}
+use Rattle.iox2_commands.specs.Outcomes.{Handle, Subscriber_handle, Outcome, replied, done, skipped}
+use Rattle.iox2_commands.specs.Step.{Step, after_publisher, after_subscriber, after_loan, after_send, after_retry, after_receive, after_update, after_question, publisher_settings, unblocked_at, subscriber_at, loan_at, unwritten_at, written_at, with_cell_at, sendable_at, blocked_at, sample_at, if_single_units, if_fixed_size, if_dynamic}
 use Rattle.iox2_commands.specs.declared.command.Command.{Command}
 use Rattle.iox2_commands.specs.declared.command.Command.TheVariants.{Nothing, CreatePublisher as PublisherCommand, CreateSubscriber as SubscriberCommand, LoanUninit, Loan as LoanDefault, LoanSlice, WriteCell, WriteAll, AssumeInit, WriteHeader, SetPayload, Send as SendLoan, SendCopy, Discard, Retry, GiveUp, Update, Receive, HasSamples, Read, ReadHeader, ReadUserHeader, Release, Close}
 use Rattle.iox2_commands.specs.declared.reply.Reply.TheVariants.{PublisherMade, Unwritten}
 use Rattle.iox2_commands.proofs.AlikeNamed.{subscriber_handle_at}
-use Rattle.iox2_commands.proofs.AlikeIndependent.{StaysOpen, AreIndependentSettings, update_publisher_open, update_subscriber_open, receive_open, released_open, with_loan_open, grant_loan_open, grant_written_loan_open, loan_discarded_open, send_open, create_publisher_open, create_subscriber_open, publisher_closed_open}
+use Rattle.iox2_commands.proofs.AlikeIndependent.{StaysOpen, AreIndependentSettings, update_publisher_open, update_subscriber_open, receive_open, released_open, with_loan_open, grant_loan_open, grant_written_loan_open, loan_discarded_open, send_open, create_publisher_open, create_subscriber_open, publisher_closed_open, subscriber_closed_open}
 use Rattle.iox2_commands.proofs.AlikeSteps.{open_of, none_blocked}
 
 -- what a command says of an independent publisher
@@ -82,6 +82,11 @@ module _ {T U : Type 0} where
   state_receive s' q No_sample = refl
   state_receive s' q (Receive_error e) = refl
 
+  pub state_retry : (s' : State T U) (r : SendResult) → (after_retry s' r).state ≡ s'
+  state_retry s' (Delivered_to count) = refl
+  state_retry s' Blocked_send = refl
+  state_retry s' (Send_error e) = refl
+
   pub state_send : (s' : State T U) (p n : ℕ) (entry : Entry T U) (r : SendResult) → (after_send s' p n entry r).state ≡ s'
   state_send s' p n entry (Delivered_to count) = refl
   state_send s' p n entry Blocked_send = refl
@@ -115,7 +120,7 @@ module _ {T U : Type 0} where
 
     -- The state after a command is independent, its well-formedness apart.
     pub step_open : (command : Command T U) (o : Outcome T U) → ((p : ℕ) → o.reply ≡ PublisherMade p → makes_independent_publisher s.config command ≡ true)
-        → ClosesNoSubscriber handles command → Steps command o → StaysOpen o.state
+        → ((of r : ℕ) → command ≡ Close of → slice_get handles of ≡ Some (Subscriber_handle r) → HasBorrowedNothing s r) → Steps command o → StaysOpen o.state
     step_open Nothing o makes closes h = by o (done s) s h refl kept
     step_open (PublisherCommand loans strategy allocation len override_slots degradation backpressure) o makes closes h =
         by o _ h.0 h.3 (state_publisher h.0 s.next_port h.1) (create_publisher_open s h.0 _ h.1
@@ -179,5 +184,6 @@ module _ {T U : Type 0} where
         live o (sample_at s handles of) _ h (λ sample _ k. by o _ _ k refl (released_open s sample.0 sample.1 sample.2 kept))
     step_open (Close of) o makes closes h =
         by_option (StaysOpen o.state) (unblocked_at s handles of) _ _ h
-        (λ _ j. live o (subscriber_at s handles of) _ j (λ subscriber e _. absurd (closes of subscriber.0 refl (subscriber_handle_at 0 s handles of subscriber e))))
+        (λ _ j. live o (subscriber_at s handles of) _ j (λ subscriber e k.
+        by o _ _ k refl (subscriber_closed_open s subscriber.0 subscriber.1 (closes of subscriber.0 refl (subscriber_handle_at 0 s handles of subscriber e)) kept)))
         (λ publisher _ k. by o _ _ k refl (publisher_closed_open s publisher.0 publisher.1 kept))

@@ -167,10 +167,10 @@ module _ {T U : Type 0} where
       at (suc j) e f = let low : (o.state).next_port ≤ q = below j f in omega arith
 
   -- a new subscriber's handle is of the counter's next id
-  handle_told : (s : State T U) (handles : List Handle) (command : Command T U) (o : Outcome T U) (r : ℕ) → Fits s handles command o → o.handle ≡ Subscriber_handle r
-      → r ≡ s.next_port
+  pub handle_told : (s : State T U) (handles : List Handle) (command : Command T U) (o : Outcome T U) (r : ℕ) → Fits s handles command o → o.handle ≡ Subscriber_handle r
+      → (r ≡ s.next_port) × ((o.state).next_port ≡ s.next_port + 1)
   handle_told s handles (CreateSubscriber buffer degradation) o r fits e =
-      ⊎_elim (λ none. absurd (clash r (sym none.0 ∙ e))) (λ made. same_id r s.next_port (sym e ∙ made.0)) fits
+      ⊎_elim (λ none. absurd (clash r (sym none.0 ∙ e))) (λ made. (same_id r s.next_port (sym e ∙ made.0), made.2)) fits
   handle_told s handles (Receive of) o r fits e = ⊎_elim (λ none. absurd (clash r (sym none ∙ e))) (λ got. absurd (clash_sample got.0 got.1 got.2 r (sym got.3 ∙ e))) fits.1
   handle_told s handles _ o r fits e = absurd (true≢false (sym fits.0 ∙ ap is_plain e))
 
@@ -183,7 +183,7 @@ module _ {T U : Type 0} where
     where
       at : (j : ℕ) → position ≡ length handles + j → position ≡ length handles → slice_get (o.reply ∷ later) j ≡ Some (SubscriberMade q) → o.handle ≡ Subscriber_handle r
           → r ≡ q
-      at zero e here f h = handle_told s handles command o r fits h ∙ sym (told s handles command o q fits (same_Some o.reply (SubscriberMade q) f)).0
+      at zero e here f h = (handle_told s handles command o r fits h).0 ∙ sym (told s handles command o q fits (same_Some o.reply (SubscriberMade q) f)).0
       at (suc j) e here f h = absurd (omega arith)
 
   -- ---- the subscriber's own samples

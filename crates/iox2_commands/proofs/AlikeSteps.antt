@@ -13,7 +13,7 @@ use Rattle.iox2_store.specs.machine.SubscriberUpdate.{UpdateSubscriber}
 use Rattle.iox2_store.specs.machine.Loans.{GrantLoan, written, with_cell, is_initialized, initialized, entry_of}
 use Rattle.iox2_store.specs.machine.Sends.{Send, SendResult}
 use Rattle.iox2_store.specs.machine.Releases.{released}
-use Rattle.iox2_store.specs.machine.Ports.{CreatePublisher, CreateSubscriber}
+use Rattle.iox2_store.specs.machine.Ports.{CreatePublisher, CreateSubscriber, subscriber_closed}
 use Rattle.iox2_store.specs.declared.service_config.ServiceConfig.{ServiceConfig}
 use Rattle.iox2_store.specs.declared.errors.ConnectionFailure.{ConnectionFailure}
 use Rattle.iox2_store.specs.declared.errors.LoanError.{LoanError}
@@ -23,7 +23,7 @@ use Rattle.iox2_store.specs.declared.errors.SubscriberCreateError.{SubscriberCre
 use Rattle.iox2_laws.proofs.Cases.{by_option, by_options}
 use Rattle.iox2_store.specs.machine.Environments.{ample_memory}
 use Rattle.iox2_commands.specs.Views.{seen_handle}
-use Rattle.iox2_commands.specs.Isolation.{IsIndependent, IsIndependentPublisher, ClosesNoSubscriber, reads_at}
+use Rattle.iox2_commands.specs.Isolation.{IsIndependent, IsIndependentPublisher, HasBorrowedNothing, ClosesUnborrowed, reads_at}
 use Rattle.iox2_commands.specs.Outcomes.{Handle, Publisher_handle, Subscriber_handle, Loan_handle, Sample_handle, Outcome, replied, done, skipped}
 use Rattle.iox2_commands.specs.Step.{Step, after_publisher, after_subscriber, after_loan, after_send, after_receive, after_update, publisher_settings, unblocked_at, subscriber_at, loan_at, unwritten_at, written_at, with_cell_at, sendable_at, blocked_at, sample_at, if_single_units, if_fixed_size, if_dynamic}
 use Rattle.iox2_commands.specs.declared.command.Command.{Command}
@@ -36,7 +36,8 @@ use Rattle.iox2_commands.proofs.AlikeReceives.{IsAlike, alike_equal, alike_sym, 
 use Rattle.iox2_commands.proofs.AlikeSends.{send_alike, loan_discarded_alike}
 use Rattle.iox2_commands.proofs.AlikeLoans.{grant_loan_alike, grant_written_loan_alike}
 use Rattle.iox2_commands.proofs.AlikePorts.{create_publisher_alike, create_subscriber_alike, publisher_closed_alike, released_alike}
-use Rattle.iox2_commands.proofs.AlikeNamed.{names_subscriber, names_sample, named-subscriber, named-sample, seen_subscriber, same_sample, subscriber_handle_at, own_at, own_sample_at, no_sample_at, looked_up, names_subscriber_same, names_sample_same, unblocked_at_same, loan_at_same, unwritten_at_same, written_at_same, sendable_at_same, single_same, fixed_size_same, dynamic_same}
+use Rattle.iox2_commands.proofs.AlikeNamed.{names_subscriber, names_sample, named-subscriber, named-sample, same_sample, subscriber_handle_at, own_at, own_sample_at, no_sample_at, looked_up, subscriber_id_same, names_subscriber_same, names_sample_same, unblocked_at_same, loan_at_same, unwritten_at_same, written_at_same, sendable_at_same, single_same, fixed_size_same, dynamic_same}
+use Rattle.iox2_commands.proofs.AlikeCloses.{subscriber_closed_alike}
 use Rattle.iox2_commands.proofs.AlikeIndependent.{StaysOpen, grant_written_loan_open}
 use Rattle.iox2_store.specs.machine.Receives.{Receive as Receives}
 use Rattle.iox2_commands.proofs.ApartCalls.{read_quiet, read_header_quiet, read_user_header_quiet, receive_of_other, question_of_other, update_of_other, release_of_other}
@@ -46,6 +47,14 @@ own_id : (q : ℕ) (o : Option Subscriber) (named : ℕ × Subscriber) → optio
     → named.0 ≡ q
 own_id q None named e = absurd (none-some named e)
 own_id q (Some y) named e = sym (ap (λ (n : ℕ × Subscriber). n.0) (same_Some (q, y) named (kept_if y.is_open (Some (q, y)) named e)))
+
+-- two facts by cases on options in which the same is seen
+by_images : {A B : Type 0} (f : A → B) (R : Type 0) (o o' : Option A) (P P' : Type 0) (Q Q' : A → Type 0) → option_map f o ≡ option_map f o' → MatchOption o P Q → MatchOption o' P' Q'
+    → (P → P' → R) → ((x x' : A) → o ≡ Some x → f x ≡ f x' → Q x → Q' x' → R) → R
+by_images f R None None P P' Q Q' e h k none some = none h k
+by_images f R (Some x) (Some x') P P' Q Q' e h k none some = some x x' refl (same_Some (f x) (f x') e) h k
+by_images f R None (Some x') P P' Q Q' e h k none some = absurd (none-some (f x') e)
+by_images f R (Some x) None P P' Q Q' e h k none some = absurd (none-some (f x) (sym e))
 
 module _ {T U : Type 0} where
   -- an independent state's parts
@@ -196,8 +205,9 @@ module _ {T U : Type 0} where
           (j ∙ ap (λ (r : ℕ). done (released a sample.0 r sample.2)) is) (l ∙ ap (λ (r : ℕ). done (released b sample.0 r sample.2)) is)
           (done_alike _ _ (released_alike q a b sample.0 sample.2 independent.all_open independent'.all_open e)))
 
-      -- The law: outcomes are alike where no subscriber is closed and the subscriber's own receives get the same replies.
-      pub step_alike : (command : Command T U) (o o' : Outcome T U) → ClosesNoSubscriber handles command → StepA command o → StepB command o'
+      -- The law: outcomes are alike where no subscriber is closed that has borrowed anything, and the subscriber's own receives get
+      -- the same replies.
+      pub step_alike : (command : Command T U) (o o' : Outcome T U) → ClosesUnborrowed a b handles command → StepA command o → StepB command o'
           → ((of : ℕ) → command ≡ Receive of → slice_get handles of ≡ Some (Subscriber_handle q) → o.reply ≡ o'.reply) → IsAlike q o o'
       step_alike Nothing o o' closes h k replies = alike_equal q o (done a) o' (done b) h k (done_alike a b e)
       step_alike (PublisherCommand loans strategy allocation len override_slots degradation backpressure) o o' closes h k replies =
@@ -305,12 +315,12 @@ module _ {T U : Type 0} where
           (λ f g. both_quiet o o' (release_of_other q default_value default_header m a handles of o independent.all_open f h) (release_of_other q default_value default_header m' b handles' of o' independent'.all_open g k))
       step_alike (Close of) o o' closes h k replies =
           by_options (IsAlike q o o') (unblocked_at a handles of) (unblocked_at b handles' of) _ _ _ _ (unblocked_at_same q a b handles handles' e same of) h k
-          (λ _ j l. by_option (IsAlike q o o') (subscriber_at a handles of) _ _ j
-          (λ _ j. by_option (IsAlike q o o') (subscriber_at b handles' of) _ _ l
-          (λ _ l. skipped_alike o o' j l)
-          (λ named f _. absurd (closes of named.0 refl (seen_subscriber q named.0 (slice_get handles of)
-          (looked_up q a b handles handles' e same of ∙ ap (option_map (seen_handle q)) (subscriber_handle_at q b handles' of named f))))))
-          (λ named f _. absurd (closes of named.0 refl (subscriber_handle_at q a handles of named f))))
+          (λ _ j l. by_images (λ (n : ℕ × Subscriber). n.0) (IsAlike q o o') (subscriber_at a handles of) (subscriber_at b handles' of) _ _ _ _ (subscriber_id_same q a b handles handles' e same of) j l
+          (λ j l. skipped_alike o o' j l)
+          (λ named named' f is j l.
+          let nothing : HasBorrowedNothing a named.0 × HasBorrowedNothing b named.0 = closes of named.0 refl (subscriber_handle_at q a handles of named f) in
+          alike_equal q o _ o' _ j (l ∙ ap (λ (r : ℕ). done (subscriber_closed b r named'.1)) (sym is))
+          (done_alike _ _ (subscriber_closed_alike q a b named.0 named.1 named'.1 nothing.0 nothing.1 e))))
           (λ publisher _ j l. alike_equal q o _ o' _ j l (done_alike _ _ (publisher_closed_alike q a b publisher.0 publisher.1 e)))
 
       -- ---- reads

@@ -10,7 +10,7 @@ use Rattle.iox2_store.specs.machine.Records.{Entry, Loan, Publisher, Handler, Fi
 use Rattle.iox2_store.specs.machine.State.{State, Messages, fresh, no_messages, with_loan}
 use Rattle.iox2_store.specs.machine.Loans.{GrantLoan, is_initialized, initialized, entry_of, written, with_cell, loan_discarded}
 use Rattle.iox2_store.specs.machine.SingleCalls.{GrantWrittenLoan}
-use Rattle.iox2_store.specs.machine.Sends.{Send, SendResult, Delivered_to, Blocked_send, Send_error}
+use Rattle.iox2_store.specs.machine.Sends.{Send, SendResult}
 use Rattle.iox2_store.specs.machine.Receives.{HasSamples as Asks}
 use Rattle.iox2_store.specs.declared.service_config.ServiceConfig.{ServiceConfig}
 use Rattle.iox2_store.specs.declared.backpressure.BackpressureAction.{BackpressureAction}
@@ -31,7 +31,7 @@ use Rattle.iox2_commands.specs.declared.reply.Reply.TheVariants.{Unwritten, Send
 use Rattle.iox2_commands.proofs.Named.{unblocked_is, subscriber_is, blocked_is, passes, in_single_units, in_fixed_size, in_dynamic}
 use Rattle.iox2_commands.proofs.ReadSteps.{PastSends, past_after}
 use Rattle.iox2_commands.proofs.Reached.{HasReached, goes_on}
-use Rattle.iox2_commands.proofs.AlikeOpen.{state_publisher, state_subscriber, state_loan, state_update, state_question, state_receive, state_send}
+use Rattle.iox2_commands.proofs.AlikeOpen.{state_publisher, state_subscriber, state_loan, state_update, state_question, state_receive, state_retry, state_send}
 use Rattle.iox2_commands.proofs.ExistUpdates.{ComesWith, at_some, is_fixed}
 use Rattle.iox2_commands.proofs.ExistCalls.{IsFixed, ComesTo, Grants, with_loan_fixed, loan_discarded_fixed, publisher_updates, subscriber_updates, grant_comes, grant_written_comes, delivers, send_comes, receive_comes, has_samples_comes, released_fixed, publisher_closed_fixed, subscriber_closed_fixed, create_publisher_comes, create_subscriber_comes}
 
@@ -46,11 +46,6 @@ kept_true true a c e = (refl, same_Some a c e)
 kept_true false a c e = absurd (none-some c e)
 
 module _ {T U : Type 0} where
-  state_retry : (s' : State T U) (r : SendResult) → (after_retry s' r).state ≡ s'
-  state_retry s' (Delivered_to count) = refl
-  state_retry s' Blocked_send = refl
-  state_retry s' (Send_error e) = refl
-
   -- a sample that is named is borrowed
   sample_borrowed : (s : State T U) (handles : List Handle) (of : ℕ) (named : ℕ × ℕ × ℕ) → sample_at s handles of ≡ Some named → is_borrowed named.2 (s.mailboxes named.0 named.1) ≡ true
   sample_borrowed s handles of named e = at (slice_get handles of) e

@@ -1,5 +1,5 @@
 -- Lists that grow at their end.
-use Rattle.std.proofs.Common.{◌≡◌, ℕ, zero, suc, List, [], ◌∷◌, ◌++◌, length, refl, ap, Some, ◌⊎◌, inl, inr, ⊎_elim}
+use Rattle.std.proofs.Common.{◌≡◌, ℕ, zero, suc, List, [], ◌∷◌, ◌++◌, ◌<◌, length, refl, ap, arith, Some, ◌⊎◌, inl, inr, ⊎_elim}
 use Rattle.std.specs.Prelude.{slice_get}
 use Rattle.std.proofs.lemmas.Option.{none-some, same_Some}
 
@@ -15,6 +15,12 @@ pub found_earlier : {A : Type 0} (xs ys : List A) (i : ℕ) (a : A) → slice_ge
 found_earlier [] ys i a e = absurd (none-some a e)
 found_earlier (y ∷ xs) ys zero a e = e
 found_earlier (y ∷ xs) ys (suc i) a e = found_earlier xs ys i a e
+
+-- what is found stands below the length
+pub found_below : {A : Type 0} (xs : List A) (i : ℕ) (a : A) → slice_get xs i ≡ Some a → i < length xs
+found_below [] i a e = absurd (none-some a e)
+found_below (x ∷ xs) zero a e = omega arith
+found_below (x ∷ xs) (suc i) a e = let low : i < length xs = found_below xs i a e in omega arith
 
 -- the last stands behind all others
 pub found_last : {A : Type 0} (xs : List A) (x : A) → slice_get (xs ++ x ∷ []) (length xs) ≡ Some x

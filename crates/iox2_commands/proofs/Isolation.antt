@@ -16,13 +16,13 @@ use Rattle.iox2_commands.specs.Step.{Step}
 use Rattle.iox2_store.specs.machine.Environments.{ample_memory}
 use Rattle.iox2_commands.specs.Runs.{RunTo, only_defaults}
 use Rattle.iox2_commands.specs.Views.{PublicPart, public_part, seen_handle, SameView, may_be_omitted, OmitsOthersFrom}
-use Rattle.iox2_commands.specs.Isolation.{IsIndependent, makes_independent_publisher, AreIndependent, is_of_others, subscriber_call, SameViewAfter, ViewsStayAlike, ClosesNoSubscriber, CallsLeaveOthersViews, AlikeStatesStayAlike, SubscribersAreIsolated, IsIndependentPublisher, reads_at}
+use Rattle.iox2_commands.specs.Isolation.{IsIndependent, makes_independent_publisher, AreIndependent, is_of_others, subscriber_call, SameViewAfter, ViewsStayAlike, HasReleased, ClosesUnborrowed, CallsLeaveOthersViews, AlikeStatesStayAlike, SubscribersAreIsolated, IsIndependentPublisher, reads_at}
 use Rattle.iox2_commands.specs.declared.command.Command.{Command}
-use Rattle.iox2_commands.specs.declared.command.Command.TheVariants.{Nothing, Receive, HasSamples, Update, Release, Read, ReadHeader, ReadUserHeader, Close}
+use Rattle.iox2_commands.specs.declared.command.Command.TheVariants.{Nothing, Receive, HasSamples, Update, Release, Read, ReadHeader, ReadUserHeader}
 use Rattle.iox2_commands.specs.declared.reply.Reply.{Reply}
 use Rattle.iox2_commands.specs.declared.reply.Reply.TheVariants.{PublisherMade, SubscriberMade}
 use Rattle.iox2_commands.proofs.EnoughRuns.{run_sound}
-use Rattle.iox2_commands.proofs.GrowingLists.{found_earlier}
+use Rattle.iox2_commands.proofs.GrowingLists.{found_earlier, found_below}
 use Rattle.iox2_commands.proofs.Points.{run_to, run_from, found_taken, get_taken}
 use Rattle.iox2_commands.proofs.StepLaws.{IsSound, step_sound}
 use Rattle.iox2_commands.proofs.AlikeViews.{View, view_of}
@@ -34,6 +34,7 @@ use Rattle.iox2_commands.proofs.AlikeHandles.{Fits, step_fits}
 use Rattle.iox2_commands.proofs.AlikePositions.{HandlesFit, none_fit, more_fit, told, Awaits, awaits_more, awaits_apart, MadeAt, made_more, ReceivesOwn, received_more, receive_kept, read_kept}
 use Rattle.iox2_commands.proofs.AlikeNamed.{seen_subscriber, looked_up}
 use Rattle.iox2_commands.proofs.ApartCalls.{others_alike}
+use Rattle.iox2_commands.proofs.Borrowings.{GoesOn, begins, next_command, next_reply, nothing_borrowed, goes_on}
 
 -- ---- views
 
@@ -180,11 +181,9 @@ module _ {T U : Type 0} (default_value : T) (default_header : U) where
 
 -- ---- lists of commands
 
--- what is found in a list stands below its length
-found_below : {X : Type 0} (xs : List X) (i : ℕ) (x : X) → slice_get xs i ≡ Some x → i < length xs
-found_below [] i x e = absurd (none-some x e)
-found_below (y ∷ xs) zero x e = omega arith
-found_below (y ∷ xs) (suc i) x e = let low : i < length xs = found_below xs i x e in omega arith
+-- lists of handles that look alike are as long
+as_many : (q : ℕ) (handles handles' : List Handle) → map (seen_handle q) handles ≡ map (seen_handle q) handles' → length handles' ≡ length handles
+as_many q handles handles' e = sym (length-map handles' (seen_handle q)) ∙ ap length (sym e) ∙ length-map handles (seen_handle q)
 
 module _ {T U : Type 0} where
   -- a command that may be left out is a call of others
@@ -202,15 +201,16 @@ module _ {T U : Type 0} where
 
 -- ---- two runs
 
-module _ {T U : Type 0} (default_value : T) (default_header : U) (c : ServiceConfig) (position q : ℕ) (beginning after : List (Command T U)) (all_replies : List (Reply T U)) (all_independent : AreIndependent c beginning all_replies) where
+module _ {T U : Type 0} (default_value : T) (default_header : U) (c : ServiceConfig) (position q : ℕ) (beginning after : List (Command T U)) (all_replies : List (Reply T U))
+    (beginning' : List (Command T U)) (all_replies' : List (Reply T U)) (all_independent : AreIndependent c beginning all_replies beginning' all_replies') where
   -- The commands and what comes after them.
   abbrev whole : List (Command T U)
   whole = beginning ++ after
 
   -- What holds of both runs after the same number of commands.
-  pub record StandAlike (commands : List (Command T U)) (replies : List (Reply T U)) (m m' : Messages T U) (a b : State T U) (handles handles' : List Handle) : Type 0 where
-    pub comes : (i : ℕ) (command : Command T U) → slice_get commands i ≡ Some command → slice_get beginning (length handles + i) ≡ Some command
-    pub replied : (i : ℕ) (reply : Reply T U) → slice_get replies i ≡ Some reply → slice_get all_replies (length handles + i) ≡ Some reply
+  pub record StandAlike (commands others : List (Command T U)) (replies replies' : List (Reply T U)) (m m' : Messages T U) (a b : State T U) (handles handles' : List Handle) : Type 0 where
+    pub first : GoesOn beginning all_replies commands replies a handles
+    pub second : GoesOn beginning' all_replies' others replies' b handles'
     pub fit : HandlesFit position q whole all_replies handles
     pub awaits : Awaits position q (length handles) replies a.next_port
     pub made : MadeAt position q handles
@@ -227,12 +227,12 @@ module _ {T U : Type 0} (default_value : T) (default_header : U) (c : ServiceCon
   independent_of s w k = record { well_formed = w; publishers = k.publishers; all_open = k.all_open }
 
   -- the step of a command that is the same or left out
-  one_alike : (command other : Command T U) (commands : List (Command T U)) (replies : List (Reply T U)) (m m' : Messages T U) (a b : State T U) (handles handles' : List Handle) (o o' : Outcome T U)
-      → StandAlike (command ∷ commands) replies m m' a b handles handles' → ((other ≡ command) ⊎ ((other ≡ Nothing) × (may_be_omitted position whole command ≡ true)))
-      → ClosesNoSubscriber handles command
+  one_alike : (command other : Command T U) (commands others : List (Command T U)) (replies replies' : List (Reply T U)) (m m' : Messages T U) (a b : State T U) (handles handles' : List Handle) (o o' : Outcome T U)
+      → StandAlike (command ∷ commands) (other ∷ others) replies replies' m m' a b handles handles' → ((other ≡ command) ⊎ ((other ≡ Nothing) × (may_be_omitted position whole command ≡ true)))
+      → ClosesUnborrowed a b handles command
       → Step ample_memory default_value default_header m a handles command o → Step ample_memory default_value default_header m' b handles' other o'
       → (command ≡ Receive position → o.reply ≡ o'.reply) → IsAlike q o o'
-  one_alike command other commands replies m m' a b handles handles' o o' stand reduced closes h k agree =
+  one_alike command other commands others replies replies' m m' a b handles handles' o o' stand reduced closes h k agree =
       ⊎_elim
       (λ same. step_alike q default_value default_header m m' a b handles handles' stand.views stand.handles_seen stand.independent stand.independent' command o o' closes h
       (subst (λ v. Step ample_memory default_value default_header m' b handles' v o') same k)
@@ -246,33 +246,34 @@ module _ {T U : Type 0} (default_value : T) (default_header : U) (c : ServiceCon
       reduced
 
   -- one command later both stand alike
-  later_alike : (command other : Command T U) (commands : List (Command T U)) (replies later : List (Reply T U)) (m m' : Messages T U) (a b : State T U) (handles handles' : List Handle) (o o' : Outcome T U)
-      → StandAlike (command ∷ commands) replies m m' a b handles handles' → ((other ≡ command) ⊎ ((other ≡ Nothing) × (may_be_omitted position whole command ≡ true)))
-      → ((p : ℕ) → o.reply ≡ PublisherMade p → makes_independent_publisher c command ≡ true) → ClosesNoSubscriber handles command
+  later_alike : (command other : Command T U) (commands others : List (Command T U)) (replies replies' later later' : List (Reply T U)) (m m' : Messages T U) (a b : State T U) (handles handles' : List Handle) (o o' : Outcome T U)
+      → StandAlike (command ∷ commands) (other ∷ others) replies replies' m m' a b handles handles' → ((other ≡ command) ⊎ ((other ≡ Nothing) × (may_be_omitted position whole command ≡ true)))
+      → ((p : ℕ) → o.reply ≡ PublisherMade p → makes_independent_publisher c command ≡ true) → ClosesUnborrowed a b handles command
       → Step ample_memory default_value default_header m a handles command o → Step ample_memory default_value default_header m' b handles' other o'
-      → replies ≡ o.reply ∷ later → ((j : ℕ) → slice_get later j ≡ Some (SubscriberMade q) → (o.state).next_port ≤ q) → IsAlike q o o'
-      → StandAlike commands later (messages_after o.event m) (messages_after o'.event m') o.state o'.state (handles ++ o.handle ∷ []) (handles' ++ o'.handle ∷ [])
-  later_alike command other commands replies later m m' a b handles handles' o o' stand reduced makes closes h k are below alike =
+      → replies ≡ o.reply ∷ later → replies' ≡ o'.reply ∷ later' → ((j : ℕ) → slice_get later j ≡ Some (SubscriberMade q) → (o.state).next_port ≤ q) → IsAlike q o o'
+      → StandAlike commands others later later' (messages_after o.event m) (messages_after o'.event m') o.state o'.state (handles ++ o.handle ∷ []) (handles' ++ o'.handle ∷ [])
+  later_alike command other commands others replies replies' later later' m m' a b handles handles' o o' stand reduced makes closes h k are are' below alike =
       let sound : IsSound a o = step_sound ample_memory default_value default_header m a handles (stand.independent).well_formed command o h in
       let sound' : IsSound b o' = step_sound ample_memory default_value default_header m' b handles' (stand.independent').well_formed other o' k in
       let kept : StaysOpen o.state = step_open default_value default_header m a handles stand.independent command o
-      (λ p e. subst (λ (v : ServiceConfig). makes_independent_publisher v command ≡ true) (sym stand.config) (makes p e)) closes h in
+      (λ p e. subst (λ (v : ServiceConfig). makes_independent_publisher v command ≡ true) (sym stand.config) (makes p e)) (λ of r e f. (closes of r e f).0) h in
       let fits : Fits a handles command o = step_fits default_value default_header m a handles command o h in
       let awaits : Awaits position q (length handles) (o.reply ∷ later) a.next_port = subst (λ (v : List (Reply T U)). Awaits position q (length handles) v a.next_port) are stand.awaits in
       let one_more : length (handles ++ o.handle ∷ []) ≡ length handles + 1 = length-append handles (o.handle ∷ []) in
       let here : slice_get whole (length handles) ≡ Some command =
-      found_earlier beginning after (length handles) command (subst (λ (n : ℕ). slice_get beginning n ≡ Some command) (plus_zero (length handles)) (stand.comes 0 command refl)) in
-      let replied : (i : ℕ) (reply : Reply T U) → slice_get (o.reply ∷ later) i ≡ Some reply → slice_get all_replies (length handles + i) ≡ Some reply =
-      λ i reply e. stand.replied i reply (ap (λ (v : List (Reply T U)). slice_get v i) are ∙ e) in
+      found_earlier beginning after (length handles) command (next_command beginning all_replies (command ∷ commands) replies a handles command commands refl stand.first) in
       let fits' : Fits b handles' other o' = step_fits default_value default_header m' b handles' other o' k in
       let receives : slice_get whole (length handles) ≡ Some (Receive position) → command ≡ Receive position = λ e. same_Some command (Receive position) (sym here ∙ e) in
-      let same_length : length handles' ≡ length handles = sym (length-map handles' (seen_handle q)) ∙ ap length (sym stand.handles_seen) ∙ length-map handles (seen_handle q) in
+      let same_length : length handles' ≡ length handles = as_many q handles handles' stand.handles_seen in
       let made' : MadeAt position q handles' = λ r e. stand.made r
       (seen_subscriber q r (slice_get handles position) (looked_up q a b handles handles' stand.views stand.handles_seen position ∙ ap (option_map (seen_handle q)) e)) in
       record {
-        comes = λ i next e. subst (λ (n : ℕ). slice_get beginning n ≡ Some next) (shifted (length handles) (length (handles ++ o.handle ∷ [])) i one_more) (stand.comes (suc i) next e);
-        replied = λ i reply e. subst (λ (n : ℕ). slice_get all_replies n ≡ Some reply) (shifted (length handles) (length (handles ++ o.handle ∷ [])) i one_more) (replied (suc i) reply e);
-        fit = more_fit position q whole all_replies a handles o command here (subst (λ (n : ℕ). slice_get all_replies n ≡ Some o.reply) (plus_zero (length handles)) (replied 0 o.reply refl)) stand.fit fits (awaits_apart position q a handles o later below awaits);
+        first = goes_on beginning all_replies a handles command o default_value default_header m commands later
+            (subst (λ (v : List (Reply T U)). GoesOn beginning all_replies (command ∷ commands) v a handles) are stand.first) (sound.advances).next_port h;
+        second = goes_on beginning' all_replies' b handles' other o' default_value default_header m' others later'
+            (subst (λ (v : List (Reply T U)). GoesOn beginning' all_replies' (other ∷ others) v b handles') are' stand.second) (sound'.advances).next_port k;
+        fit = more_fit position q whole all_replies a handles o command here (next_reply beginning all_replies (command ∷ commands) replies a handles o.reply later are stand.first)
+            stand.fit fits (awaits_apart position q a handles o later below awaits);
         made = made_more position q a handles command o later fits awaits stand.made;
         received = received_more position q whole a handles command o fits receives stand.made stand.received;
         received' = received_more position q whole b handles' other o' fits'
@@ -287,19 +288,13 @@ module _ {T U : Type 0} (default_value : T) (default_header : U) (c : ServiceCon
         messages = messages_alike q o o' m m' alike stand.messages;
         handles_seen = handles_alike q o.handle o'.handle handles handles' stand.handles_seen alike.handle;
       }
-    where
-      plus_zero : (n : ℕ) → n + 0 ≡ n
-      plus_zero n = omega arith
-
-      shifted : (n n' i : ℕ) → n' ≡ n + 1 → n + suc i ≡ n' + i
-      shifted n n' i e = omega arith
 
   -- a read of the subscriber's own sample replies the same in both
-  read_alike : (command other : Command T U) (commands : List (Command T U)) (replies : List (Reply T U)) (m m' : Messages T U) (a b : State T U) (handles handles' : List Handle) (o o' : Outcome T U) (of : ℕ)
-      → StandAlike (command ∷ commands) replies m m' a b handles handles' → ((other ≡ command) ⊎ ((other ≡ Nothing) × (may_be_omitted position whole command ≡ true)))
+  read_alike : (command other : Command T U) (commands others : List (Command T U)) (replies replies' : List (Reply T U)) (m m' : Messages T U) (a b : State T U) (handles handles' : List Handle) (o o' : Outcome T U) (of : ℕ)
+      → StandAlike (command ∷ commands) (other ∷ others) replies replies' m m' a b handles handles' → ((other ≡ command) ⊎ ((other ≡ Nothing) × (may_be_omitted position whole command ≡ true)))
       → Step ample_memory default_value default_header m a handles command o → Step ample_memory default_value default_header m' b handles' other o'
       → slice_get whole of ≡ Some (Receive position) → reads_at of command ≡ true → o.reply ≡ o'.reply
-  read_alike command other commands replies m m' a b handles handles' o o' of stand reduced h k here t =
+  read_alike command other commands others replies replies' m m' a b handles handles' o o' of stand reduced h k here t =
       ⊎_elim
       (λ same. read_same q default_value default_header m m' a b handles handles' stand.views stand.handles_seen stand.independent stand.independent' of command o o' stand.messages
       (λ p r n e. stand.received of p r n here e) (λ p r n e. stand.received' of p r n here e) t h
@@ -307,10 +302,26 @@ module _ {T U : Type 0} (default_value : T) (default_header : U) (c : ServiceCon
       (λ out. absurd (read_kept position of whole command here t out.1))
       reduced
 
+  -- a subscriber that is closed has borrowed nothing in either state
+  closed_unborrowed : (command other : Command T U) (commands others : List (Command T U)) (replies replies' : List (Reply T U)) (m m' : Messages T U) (a b : State T U) (handles handles' : List Handle)
+      → StandAlike (command ∷ commands) (other ∷ others) replies replies' m m' a b handles handles' → ClosesUnborrowed a b handles command
+  closed_unborrowed command other commands others replies replies' m m' a b handles handles' stand of r e f =
+      let low : of < length handles = found_below handles of (Subscriber_handle r) f in
+      let released : HasReleased of (length handles) beginning all_replies × HasReleased of (length handles) beginning' all_replies' =
+      all_independent.closes (length handles) of r low
+      (next_command beginning all_replies (command ∷ commands) replies a handles command commands refl stand.first ∙ ap (λ (v : Command T U). Some v) e)
+      ((stand.fit).subscribers of r f) in
+      let named : slice_get handles' of ≡ Some (Subscriber_handle r) =
+      seen_subscriber q r (slice_get handles' of) (sym (looked_up q a b handles handles' stand.views stand.handles_seen of) ∙ ap (option_map (seen_handle q)) f) in (
+        nothing_borrowed beginning all_replies (command ∷ commands) replies a handles of r stand.first f released.0,
+        nothing_borrowed beginning' all_replies' (other ∷ others) replies' b handles' of r stand.second named
+            (subst (λ (n : ℕ). HasReleased of n beginning' all_replies') (sym (as_many q handles handles' stand.handles_seen)) released.1),
+      )
+
   -- Both runs end alike, and reads of the subscriber's own samples get the same replies. More may come after them, with the
-  -- replies `ahead` to the first.
-  runs_alike : (commands others : List (Command T U)) (replies replies' ahead : List (Reply T U)) (events events' : List (Event T U)) (m m' n n' : Messages T U) (a b a' b' : State T U) (handles handles' ends ends' : List Handle)
-      → OmitsOthersFrom position whole commands others → StandAlike commands (replies ++ ahead) m m' a b handles handles'
+  -- replies `ahead` to the first and `ahead'` to the second.
+  runs_alike : (commands others : List (Command T U)) (replies replies' ahead ahead' : List (Reply T U)) (events events' : List (Event T U)) (m m' n n' : Messages T U) (a b a' b' : State T U) (handles handles' ends ends' : List Handle)
+      → OmitsOthersFrom position whole commands others → StandAlike commands others (replies ++ ahead) (replies' ++ ahead') m m' a b handles handles'
       → ((j : ℕ) → slice_get ahead j ≡ Some (SubscriberMade q) → a'.next_port ≤ q)
       → RunsBetween default_value default_header m a handles commands replies events n a' ends
       → RunsBetween default_value default_header m' b handles' others replies' events' n' b' ends'
@@ -318,7 +329,7 @@ module _ {T U : Type 0} (default_value : T) (default_header : U) (c : ServiceCon
       → SameView q n a' ends n' b' ends'
       × ((i of : ℕ) (read : Command T U) → slice_get whole of ≡ Some (Receive position)
       → slice_get commands i ≡ Some read → reads_at of read ≡ true → slice_get replies i ≡ slice_get replies' i)
-  runs_alike [] [] replies replies' ahead events events' m m' n n' a b a' b' handles handles' ends ends' reduced stand below h k agree =
+  runs_alike [] [] replies replies' ahead ahead' events events' m m' n n' a b a' b' handles handles' ends ends' reduced stand below h k agree =
       let x : (n ≡ m) × (a' ≡ a) × (ends ≡ handles) × (replies ≡ []) = ended default_value default_header m a handles replies events n a' ends h in
       let y : (n' ≡ m') × (b' ≡ b) × (ends' ≡ handles') × (replies' ≡ []) = ended default_value default_header m' b handles' replies' events' n' b' ends' k in (
         same_view q n n' a' b' ends ends'
@@ -327,37 +338,37 @@ module _ {T U : Type 0} (default_value : T) (default_header : U) (c : ServiceCon
             (ap (map (seen_handle q)) x.2 ∙ stand.handles_seen ∙ sym (ap (map (seen_handle q)) y.2)),
         λ i of read here e t. absurd (none-some read e),
       )
-  runs_alike [] (other ∷ others) replies replies' ahead events events' m m' n n' a b a' b' handles handles' ends ends' reduced stand below h k agree = absurd reduced
-  runs_alike (command ∷ commands) [] replies replies' ahead events events' m m' n n' a b a' b' handles handles' ends ends' reduced stand below h k agree = absurd reduced
-  runs_alike (command ∷ commands) (other ∷ others) replies replies' ahead events events' m m' n n' a b a' b' handles handles' ends ends' reduced stand below h k agree =
+  runs_alike [] (other ∷ others) replies replies' ahead ahead' events events' m m' n n' a b a' b' handles handles' ends ends' reduced stand below h k agree = absurd reduced
+  runs_alike (command ∷ commands) [] replies replies' ahead ahead' events events' m m' n n' a b a' b' handles handles' ends ends' reduced stand below h k agree = absurd reduced
+  runs_alike (command ∷ commands) (other ∷ others) replies replies' ahead ahead' events events' m m' n n' a b a' b' handles handles' ends ends' reduced stand below h k agree =
       let x : Begun default_value default_header m a handles command commands replies n a' ends = begun default_value default_header m a handles command commands replies events n a' ends h in
       let y : Begun default_value default_header m' b handles' other others replies' n' b' ends' = begun default_value default_header m' b handles' other others replies' events' n' b' ends' k in
       let o : Outcome T U = x.outcome in
       let o' : Outcome T U = y.outcome in
       let agreed : (i : ℕ) → slice_get (command ∷ commands) i ≡ Some (Receive position) → slice_get (o.reply ∷ x.later) i ≡ slice_get (o'.reply ∷ y.later) i =
       λ i e. sym (ap (λ (v : List (Reply T U)). slice_get v i) x.replies_are) ∙ agree i e ∙ ap (λ (v : List (Reply T U)). slice_get v i) y.replies_are in
+      let are : replies ++ ahead ≡ o.reply ∷ (x.later ++ ahead) = ap (λ (v : List (Reply T U)). v ++ ahead) x.replies_are in
+      let are' : replies' ++ ahead' ≡ o'.reply ∷ (y.later ++ ahead') = ap (λ (v : List (Reply T U)). v ++ ahead') y.replies_are in
       let makes : (p : ℕ) → o.reply ≡ PublisherMade p → makes_independent_publisher c command ≡ true =
-      λ p e. all_independent.publishers (length handles + 0) p command (stand.comes 0 command refl)
-      (stand.replied 0 (PublisherMade p) (ap (λ (v : List (Reply T U)). slice_get (v ++ ahead) 0) x.replies_are ∙ ap Some e)) in
-      let closes : ClosesNoSubscriber handles command =
-      λ of r e f.
-      let low : of < length handles = found_below handles of (Subscriber_handle r) f in
-      all_independent.closes (length handles + 0) of r (omega arith) (stand.comes 0 (Close of) (ap Some e)) ((stand.fit).subscribers of r f) in
-      let alike : IsAlike q o o' = one_alike command other commands (replies ++ ahead) m m' a b handles handles' o o' stand reduced.0 closes x.step y.step
+      λ p e. all_independent.publishers (length handles) p command
+      (next_command beginning all_replies (command ∷ commands) (replies ++ ahead) a handles command commands refl stand.first)
+      (next_reply beginning all_replies (command ∷ commands) (replies ++ ahead) a handles o.reply (x.later ++ ahead) are stand.first ∙ ap Some e) in
+      let closes : ClosesUnborrowed a b handles command = closed_unborrowed command other commands others (replies ++ ahead) (replies' ++ ahead') m m' a b handles handles' stand in
+      let alike : IsAlike q o o' = one_alike command other commands others (replies ++ ahead) (replies' ++ ahead') m m' a b handles handles' o o' stand reduced.0 closes x.step y.step
       (λ e. same_Some o.reply o'.reply (agreed 0 (ap Some e))) in
       let sound : IsSound a o = step_sound ample_memory default_value default_header m a handles (stand.independent).well_formed command o x.step in
-      let next : StandAlike commands (x.later ++ ahead) (messages_after o.event m) (messages_after o'.event m') o.state o'.state (handles ++ o.handle ∷ []) (handles' ++ o'.handle ∷ []) =
-      later_alike command other commands (replies ++ ahead) (x.later ++ ahead) m m' a b handles handles' o o' stand reduced.0 makes closes x.step y.step (ap (λ (v : List (Reply T U)). v ++ ahead) x.replies_are)
+      let next : StandAlike commands others (x.later ++ ahead) (y.later ++ ahead') (messages_after o.event m) (messages_after o'.event m') o.state o'.state (handles ++ o.handle ∷ []) (handles' ++ o'.handle ∷ []) =
+      later_alike command other commands others (replies ++ ahead) (replies' ++ ahead') (x.later ++ ahead) (y.later ++ ahead') m m' a b handles handles' o o' stand reduced.0 makes closes x.step y.step are are'
       (λ j f. made_later default_value default_header commands (messages_after o.event m) o.state (handles ++ o.handle ∷ []) x.later x.events n a' ends ahead q j below sound.well_formed x.rest f) alike in
       let rest : SameView q n a' ends n' b' ends'
       × ((i of : ℕ) (read : Command T U) → slice_get whole of ≡ Some (Receive position)
       → slice_get commands i ≡ Some read → reads_at of read ≡ true → slice_get x.later i ≡ slice_get y.later i) =
-      runs_alike commands others x.later y.later ahead x.events y.events (messages_after o.event m) (messages_after o'.event m') n n' o.state o'.state a' b' (handles ++ o.handle ∷ []) (handles' ++ o'.handle ∷ []) ends ends'
+      runs_alike commands others x.later y.later ahead ahead' x.events y.events (messages_after o.event m) (messages_after o'.event m') n n' o.state o'.state a' b' (handles ++ o.handle ∷ []) (handles' ++ o'.handle ∷ []) ends ends'
       reduced.1 next below x.rest y.rest (λ i e. agreed (suc i) e) in
       let told_here : (i of : ℕ) (read : Command T U) → slice_get whole of ≡ Some (Receive position)
       → slice_get (command ∷ commands) i ≡ Some read → reads_at of read ≡ true → slice_get (o.reply ∷ x.later) i ≡ slice_get (o'.reply ∷ y.later) i =
       both_told command commands o o' x.later y.later
-      (λ of here t. read_alike command other commands (replies ++ ahead) m m' a b handles handles' o o' of stand reduced.0 x.step y.step here t) rest.1 in (
+      (λ of here t. read_alike command other commands others (replies ++ ahead) (replies' ++ ahead') m m' a b handles handles' o o' of stand reduced.0 x.step y.step here t) rest.1 in (
         rest.0,
         λ i of read here e t. ap (λ (v : List (Reply T U)). slice_get v i) x.replies_are ∙ told_here i of read here e t ∙ sym (ap (λ (v : List (Reply T U)). slice_get v i) y.replies_are),
       )
@@ -372,7 +383,8 @@ module _ {T U : Type 0} (default_value : T) (default_header : U) (c : ServiceCon
           ap Some (first of here (ap (reads_at of) (same_Some command read e) ∙ t))
       both_told command commands o o' later later' first rest (suc i) of read here e t = rest i of read here e t
 
-module _ {T U : Type 0} (c : ServiceConfig) (position q : ℕ) (beginning after : List (Command T U)) (all_replies : List (Reply T U)) (all_independent : AreIndependent c beginning all_replies)
+module _ {T U : Type 0} (c : ServiceConfig) (position q : ℕ) (beginning after : List (Command T U)) (all_replies : List (Reply T U))
+    (beginning' : List (Command T U)) (all_replies' : List (Reply T U)) (all_independent : AreIndependent c beginning all_replies beginning' all_replies')
     (default_value : T) (default_header : U) where
   zero_plus : (n : ℕ) → n ≡ 0 + n
   zero_plus n = omega arith
@@ -381,12 +393,13 @@ module _ {T U : Type 0} (c : ServiceConfig) (position q : ℕ) (beginning after 
   new = record { well_formed = fresh_is_well_formed c; publishers = λ p x e. absurd (none-some x e); all_open = λ r y e. absurd (none-some y e) }
 
   -- two runs begin alike on new domains
-  begin_alike : (commands : List (Command T U)) (replies : List (Reply T U)) → ((i : ℕ) (command : Command T U) → slice_get commands i ≡ Some command → slice_get beginning i ≡ Some command)
-      → replies ≡ all_replies → slice_get all_replies position ≡ Some (SubscriberMade q)
-      → StandAlike default_value default_header c position q beginning after all_replies all_independent commands replies no_messages no_messages (fresh c) (fresh c) [] []
-  begin_alike commands replies comes same made = record {
-    comes = λ i command e. subst (λ (n : ℕ). slice_get beginning n ≡ Some command) (zero_plus i) (comes i command e);
-    replied = λ i reply e. subst (λ (n : ℕ). slice_get all_replies n ≡ Some reply) (zero_plus i) (subst (λ (v : List (Reply T U)). slice_get v i ≡ Some reply) same e);
+  begin_alike : (commands others : List (Command T U)) (replies replies' : List (Reply T U)) → ((i : ℕ) (command : Command T U) → slice_get commands i ≡ Some command → slice_get beginning i ≡ Some command)
+      → ((i : ℕ) (command : Command T U) → slice_get others i ≡ Some command → slice_get beginning' i ≡ Some command)
+      → replies ≡ all_replies → replies' ≡ all_replies' → slice_get all_replies position ≡ Some (SubscriberMade q)
+      → StandAlike default_value default_header c position q beginning after all_replies beginning' all_replies' all_independent commands others replies replies' no_messages no_messages (fresh c) (fresh c) [] []
+  begin_alike commands others replies replies' comes comes' same same' made = record {
+    first = begins beginning all_replies c commands replies comes same;
+    second = begins beginning' all_replies' c others replies' comes' same';
     fit = none_fit position q (beginning ++ after) all_replies;
     awaits = inl (position, zero_plus position, subst (λ (v : List (Reply T U)). slice_get v position ≡ Some (SubscriberMade q)) (sym same) made);
     made = λ r e. absurd (none-some (Subscriber_handle r) e);
@@ -406,8 +419,9 @@ subscribers_are_isolated {T} {U} default_value default_header c position q comma
     let ends : SameView q m s handles m' s' handles'
     × ((i of : ℕ) (read : Command T U) → slice_get (commands ++ later) of ≡ Some (Receive position)
     → slice_get commands i ≡ Some read → reads_at of read ≡ true → slice_get replies i ≡ slice_get replies' i) =
-    runs_alike default_value default_header c position q commands later replies independent commands reduced replies replies' [] events events' no_messages no_messages m m' (fresh c) (fresh c) s s' [] [] handles handles' quiet
-    (begin_alike c position q commands later replies independent default_value default_header commands (replies ++ []) (λ i command e. e) (append-nil replies) made)
+    runs_alike default_value default_header c position q commands later replies reduced replies' independent commands reduced replies replies' [] [] events events' no_messages no_messages m m' (fresh c) (fresh c) s s' [] [] handles handles' quiet
+    (begin_alike c position q commands later replies reduced replies' independent default_value default_header commands reduced (replies ++ []) (replies' ++ [])
+    (λ i command e. e) (λ i command e. e) (append-nil replies) (append-nil replies') made)
     (λ j e. absurd (none-some (SubscriberMade q) e)) h k agree in
     (ends.0, λ i of command here e t. ends.1 i of command (found_earlier commands later of (Receive position) here) e t)
 
@@ -431,10 +445,11 @@ views_stay_alike {T} {U} default_value default_header c position q n commands re
     let below : (j : ℕ) → slice_get (drop n replies) j ≡ Some (SubscriberMade q) → (x.state).next_port ≤ q =
     λ j e. made_later default_value default_header (drop n commands) x.messages x.state x.handles (drop n replies) (drop n events) m s on.0 [] q j (λ k f. absurd (none-some (SubscriberMade q) f)) well on.1
     (subst (λ (v : List (Reply T U)). slice_get v j ≡ Some (SubscriberMade q)) (sym (append-nil (drop n replies))) e) in
-    (runs_alike default_value default_header c position q commands [] replies independent (take n commands) (take n reduced) (take n replies) (take n replies') (drop n replies) (take n events) (take n events')
+    (runs_alike default_value default_header c position q commands [] replies reduced replies' independent (take n commands) (take n reduced) (take n replies) (take n replies') (drop n replies) (drop n replies')
+    (take n events) (take n events')
     no_messages no_messages x.messages y.messages (fresh c) (fresh c) x.state y.state [] [] x.handles y.handles
     (omits_taken position (commands ++ []) commands reduced n (subst (λ (whole : List (Command T U)). OmitsOthersFrom position whole commands reduced) (sym (append-nil commands)) quiet))
-    (begin_alike c position q commands [] replies independent default_value default_header (take n commands) (take n replies ++ drop n replies)
-    (λ i command e. (found_taken commands n i command e).1) (take-append-drop n replies) made)
+    (begin_alike c position q commands [] replies reduced replies' independent default_value default_header (take n commands) (take n reduced) (take n replies ++ drop n replies) (take n replies' ++ drop n replies')
+    (λ i command e. (found_taken commands n i command e).1) (λ i command e. (found_taken reduced n i command e).1) (take-append-drop n replies) (take-append-drop n replies') made)
     below x.before y.before
     (λ i e. let found = found_taken commands n i (Receive position) e in get_taken replies n i found.0 ∙ agree i found.1 ∙ sym (get_taken replies' n i found.0))).0

@@ -45,12 +45,15 @@ pub mod AlikeSends
 pub mod AlikeLoans
 pub mod AlikePorts
 pub mod AlikeNamed
+pub mod AlikeCloses
 pub mod AlikeIndependent
 pub mod ApartCalls
 pub mod AlikeSteps
 pub mod AlikeOpen
 pub mod AlikeHandles
 pub mod AlikePositions
+pub mod BorrowSteps
+pub mod Borrowings
 pub mod Isolation
 pub mod ExistUpdates
 pub mod ExistCalls

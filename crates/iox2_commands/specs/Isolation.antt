@@ -3,6 +3,7 @@ use Rattle.std.specs.Prelude.{ℕ, Bool, true, false, not, ◌&&◌, ◌||◌, L
 use Rattle.std.specs.declared.option.Option.{Option}
 use Rattle.std.specs.declared.option.Option.TheVariants.{None, Some}
 use Rattle.iox2_store.specs.machine.Limits.{worst_case}
+use Rattle.iox2_store.specs.machine.Mailbox.{has_borrows}
 use Rattle.iox2_store.specs.machine.Records.{Publisher, Subscriber}
 use Rattle.iox2_store.specs.machine.State.{State, Messages, fresh, no_messages}
 use Rattle.iox2_store.specs.machine.Loans.{is_static}
@@ -20,7 +21,7 @@ use Rattle.iox2_commands.specs.Views.{SameView, OmitsOthersFrom}
 use Rattle.iox2_commands.specs.declared.command.Command.{Command}
 use Rattle.iox2_commands.specs.declared.command.Command.TheVariants.{CreatePublisher, Receive, HasSamples, Update, Release, Read, ReadHeader, ReadUserHeader, Close}
 use Rattle.iox2_commands.specs.declared.reply.Reply.{Reply}
-use Rattle.iox2_commands.specs.declared.reply.Reply.TheVariants.{PublisherMade, SubscriberMade}
+use Rattle.iox2_commands.specs.declared.reply.Reply.TheVariants.{PublisherMade, SubscriberMade, Sample}
 
 -- ---- services in which nobody waits for a subscriber
 
@@ -54,11 +55,19 @@ makes_independent_publisher c (CreatePublisher loans strategy allocation len ove
     && never_waits c strategy (not (is_none backpressure))
 makes_independent_publisher c _ = true
 
--- Each publisher that was made is independent, and no command closes a subscriber that was made before it.
-pub record AreIndependent {T U : Type 0} (c : ServiceConfig) (commands : List (Command T U)) (replies : List (Reply T U)) : Type 0 where
+-- Each sample that the subscriber made at `of` received before the command at i was released before that command.
+abbrev pub HasReleased : {T U : Type 0} → (of i : ℕ) → List (Command T U) → List (Reply T U) → Type 0
+HasReleased of i commands replies =
+    (j p : ℕ) → j < i → slice_get commands j ≡ Some (Receive of) → slice_get replies j ≡ Some (Sample p)
+    → (k : ℕ) × (j < k) × (k < i) × (slice_get commands k ≡ Some (Release j))
+
+-- Of two runs: each publisher that the first made is independent; and a subscriber that the first made, and a later command of it
+-- closes, has released each of its samples before that command, in both runs.
+pub record AreIndependent {T U : Type 0} (c : ServiceConfig) (commands : List (Command T U)) (replies : List (Reply T U)) (reduced : List (Command T U)) (replies' : List (Reply T U)) : Type 0 where
   pub publishers : (i p : ℕ) (command : Command T U) → slice_get commands i ≡ Some command → slice_get replies i ≡ Some (PublisherMade p)
       → makes_independent_publisher c command ≡ true
-  pub closes : (i of r : ℕ) → of < i → slice_get commands i ≡ Some (Close of) → slice_get replies of ≡ Some (SubscriberMade r) → ⊥
+  pub closes : (i of r : ℕ) → of < i → slice_get commands i ≡ Some (Close of) → slice_get replies of ≡ Some (SubscriberMade r)
+      → HasReleased of i commands replies × HasReleased of i reduced replies'
 
 -- ---- the laws of one step
 
@@ -87,9 +96,14 @@ module _ {T U : Type 0} where
   SameViewAfter q m handles o m' handles' o' =
       SameView q (messages_after o.event m) o.state (handles ++ o.handle ∷ []) (messages_after o'.event m') o'.state (handles' ++ o'.handle ∷ [])
 
-  -- The command closes no subscriber that a handle names.
-  abbrev pub ClosesNoSubscriber : List Handle → Command T U → Type 0
-  ClosesNoSubscriber handles command = (of r : ℕ) → command ≡ Close of → slice_get handles of ≡ Some (Subscriber_handle r) → ⊥
+  -- The subscriber has borrowed nothing.
+  abbrev pub HasBorrowedNothing : State T U → (r : ℕ) → Type 0
+  HasBorrowedNothing s r = (p : ℕ) → has_borrows (s.mailboxes p r) ≡ false
+
+  -- A subscriber that a handle names and the command closes has borrowed nothing in either state.
+  abbrev pub ClosesUnborrowed : State T U → State T U → List Handle → Command T U → Type 0
+  ClosesUnborrowed s s' handles command =
+      (of r : ℕ) → command ≡ Close of → slice_get handles of ≡ Some (Subscriber_handle r) → HasBorrowedNothing s r × HasBorrowedNothing s' r
 
 -- A subscriber's call leaves the view of each other subscriber as it was, while no closed subscriber is left.
 abbrev pub CallsLeaveOthersViews : Type 0 → Type 0 → Type 0
@@ -100,12 +114,12 @@ CallsLeaveOthersViews T U =
     → Step ample_memory default_value default_header m s handles command o
     → SameView q m s (handles ++ No_handle ∷ []) (messages_after o.event m) o.state (handles ++ o.handle ∷ [])
 
--- One command from two independent states that look alike to a subscriber ends in states that do, where it closes no subscriber,
--- and where the replies are alike if it is a receive of that subscriber.
+-- One command from two independent states that look alike to a subscriber ends in states that do, where it closes no subscriber
+-- that has borrowed anything, and where the replies are alike if it is a receive of that subscriber.
 abbrev pub AlikeStatesStayAlike : Type 0 → Type 0 → Type 0
 AlikeStatesStayAlike T U =
     (default_value : T) (default_header : U) (q : ℕ) (m m' : Messages T U) (s s' : State T U) (handles handles' : List Handle) (command : Command T U) (o o' : Outcome T U)
-    → IsIndependent s → IsIndependent s' → SameView q m s handles m' s' handles' → ClosesNoSubscriber handles command
+    → IsIndependent s → IsIndependent s' → SameView q m s handles m' s' handles' → ClosesUnborrowed s s' handles command
     → Step ample_memory default_value default_header m s handles command o
     → Step ample_memory default_value default_header m' s' handles' command o'
     → ((of : ℕ) → command ≡ Receive of → slice_get handles of ≡ Some (Subscriber_handle q) → o.reply ≡ o'.reply)
@@ -124,15 +138,15 @@ module _ {T U : Type 0} where
 -- One run is of some commands in a new domain, and the other is of a reduced list, in which `Nothing` stands in place of
 -- some calls of subscribers other than the one made at `position`. Positions are looked up in the commands and what may
 -- come later. Memory is ample in both runs, and both have the same default values. In the first run each publisher that was
--- made is independent, no subscriber was closed, and q is the subscriber made at `position`. The receives of that subscriber
--- get the same replies in both runs. Then its view is the same at the end of both, and reads of what its receives made get
--- the same replies in both.
+-- made is independent, and q is the subscriber made at `position`. Each subscriber that is closed has released its samples
+-- before, in both runs. The receives of q get the same replies in both. Then the view of q is the same at the end of both,
+-- and reads of what its receives made get the same replies in both.
 abbrev pub SubscribersAreIsolated : Type 0 → Type 0 → Type 0
 SubscribersAreIsolated T U =
     (default_value : T) (default_header : U) (c : ServiceConfig) (position q : ℕ) (commands reduced later : List (Command T U))
     (replies replies' : List (Reply T U)) (events events' : List (Event T U)) (m m' : Messages T U) (s s' : State T U) (handles handles' : List Handle)
     → OmitsOthersFrom position (commands ++ later) commands reduced
-    → AreIndependent c commands replies
+    → AreIndependent c commands replies reduced replies'
     → RunTo ample_memory (only_defaults default_value default_header) no_messages (fresh c) [] commands replies events m s handles
     → RunTo ample_memory (only_defaults default_value default_header) no_messages (fresh c) [] reduced replies' events' m' s' handles'
     → slice_get replies position ≡ Some (SubscriberMade q)
@@ -148,7 +162,7 @@ ViewsStayAlike T U =
     (default_value : T) (default_header : U) (c : ServiceConfig) (position q n : ℕ) (commands reduced : List (Command T U))
     (replies replies' : List (Reply T U)) (events events' : List (Event T U)) (m m' : Messages T U) (s s' : State T U)
     → OmitsOthersFrom position commands commands reduced
-    → AreIndependent c commands replies
+    → AreIndependent c commands replies reduced replies'
     → slice_get replies position ≡ Some (SubscriberMade q)
     → ((i : ℕ) → slice_get commands i ≡ Some (Receive position) → slice_get replies i ≡ slice_get replies' i)
     → (x : PointOf ample_memory (only_defaults default_value default_header) no_messages (fresh c) commands replies events m s n)

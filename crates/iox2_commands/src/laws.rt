@@ -76,15 +76,16 @@ pub fn calls_leave_others_views<T, U>()
     ensures { CallsLeaveOthersViews T U }
 {}
 
-/// With ample memory, one command that closes no subscriber, from two independent states with equal views, ends in equal
-/// views. If it is the subscriber's own receive, the replies must be equal.
+/// With ample memory, one command from two independent states with equal views ends in equal views. A subscriber that it
+/// closes must have borrowed nothing, in either state. If it is the subscriber's own receive, the replies must be equal.
 pub fn alike_states_stay_alike<T, U>()
     ensures { AlikeStatesStayAlike T U }
 {}
 
-/// With ample memory, static publishers with the worst case of slots that never block, and no subscriber closed: a
-/// subscriber's view, and all reads through its samples, are the same after a list of commands and after that list with some
-/// calls of other subscribers replaced by `Nothing`, as long as its own receives get the same replies.
+/// With ample memory, static publishers with the worst case of slots that never block, and subscribers that release their
+/// samples before they are closed: a subscriber's view, and all reads through its samples, are the same after a list of
+/// commands and after that list with some calls of other subscribers replaced by `Nothing`, as long as its own receives get
+/// the same replies.
 pub fn subscribers_are_isolated<T, U>()
     ensures { SubscribersAreIsolated T U }
 {}

@@ -2,8 +2,8 @@ use crate::fixtures::settings;
 use iox2_pubsub::Domain;
 use iox2_runs::{Command, Reply, compare_runs};
 use iox2_store::{
-    AllocationStrategy, BackpressureStrategy, DegradationAction, ServiceConfig, UniquePublisherId,
-    UniqueSubscriberId,
+    AllocationStrategy, BackpressureStrategy, DegradationAction, ServiceConfig,
+    SubscriberCreateError, UniquePublisherId, UniqueSubscriberId,
 };
 
 const SUBSCRIBER: Command<u64, u8> = Command::CreateSubscriber {
@@ -71,7 +71,9 @@ fn a_subscriber_sees_the_same_beside_a_slower_one(rt: HostRuntime) {
             (Domain<u64, u8>, Vec<Reply<u64, u8>>),
         ),
     > = compare_runs(rt.alloc(), &config, commands, reduced);
-    let ((_, replies), (_, others)) = ends.expect(&rt, "two runs");
+    let (first, second) = ends.expect(&rt, "two runs");
+    let (_, replies) = first;
+    let (_, others) = second;
     let expected: [Reply<u64, u8>; 13] = [
         Reply::SubscriberMade(UniqueSubscriberId::new(1)),
         Reply::SubscriberMade(UniqueSubscriberId::new(2)),
@@ -104,4 +106,140 @@ fn a_subscriber_sees_the_same_beside_a_slower_one(rt: HostRuntime) {
     ];
     assert!(rt; replies.as_slice() == expected.as_slice());
     assert!(rt; others.as_slice() == slower.as_slice());
+}
+
+// The first subscriber receives a message and releases it before it is closed. A new one takes its place.
+const WITH_A_CLOSE: [Command<u64, u8>; 17] = [
+    SUBSCRIBER,
+    SUBSCRIBER,
+    PUBLISHER,
+    Command::LoanUninit { of: 2 },
+    Command::WriteAll { of: 3, value: 1 },
+    Command::Send { of: 3 },
+    Command::Receive { of: 0 },
+    Command::Release { of: 6 },
+    Command::Close { of: 0 },
+    SUBSCRIBER,
+    Command::LoanUninit { of: 2 },
+    Command::WriteAll { of: 10, value: 2 },
+    Command::Send { of: 10 },
+    Command::Receive { of: 1 },
+    Command::Read { of: 13, at: 0 },
+    Command::Receive { of: 9 },
+    Command::Read { of: 15, at: 0 },
+];
+
+// The same, but the first subscriber receives nothing before it is closed.
+const WITHOUT_ITS_RECEIVE: [Command<u64, u8>; 17] = [
+    SUBSCRIBER,
+    SUBSCRIBER,
+    PUBLISHER,
+    Command::LoanUninit { of: 2 },
+    Command::WriteAll { of: 3, value: 1 },
+    Command::Send { of: 3 },
+    Command::Nothing,
+    Command::Nothing,
+    Command::Close { of: 0 },
+    SUBSCRIBER,
+    Command::LoanUninit { of: 2 },
+    Command::WriteAll { of: 10, value: 2 },
+    Command::Send { of: 10 },
+    Command::Receive { of: 1 },
+    Command::Read { of: 13, at: 0 },
+    Command::Receive { of: 9 },
+    Command::Read { of: 15, at: 0 },
+];
+
+// The same, but the first subscriber has the message still when it is closed.
+const WITHOUT_ITS_RELEASE: [Command<u64, u8>; 17] = [
+    SUBSCRIBER,
+    SUBSCRIBER,
+    PUBLISHER,
+    Command::LoanUninit { of: 2 },
+    Command::WriteAll { of: 3, value: 1 },
+    Command::Send { of: 3 },
+    Command::Receive { of: 0 },
+    Command::Nothing,
+    Command::Close { of: 0 },
+    SUBSCRIBER,
+    Command::LoanUninit { of: 2 },
+    Command::WriteAll { of: 10, value: 2 },
+    Command::Send { of: 10 },
+    Command::Receive { of: 1 },
+    Command::Read { of: 13, at: 0 },
+    Command::Receive { of: 9 },
+    Command::Read { of: 15, at: 0 },
+];
+
+// What `WITH_A_CLOSE` is answered.
+fn answers() -> [Reply<u64, u8>; 17] {
+    [
+        Reply::SubscriberMade(UniqueSubscriberId::new(1)),
+        Reply::SubscriberMade(UniqueSubscriberId::new(2)),
+        Reply::PublisherMade(UniquePublisherId::new(3)),
+        Reply::Loaned,
+        Reply::Done,
+        Reply::Delivered(2),
+        Reply::Sample(UniquePublisherId::new(3)),
+        Reply::Done,
+        Reply::Done,
+        Reply::SubscriberMade(UniqueSubscriberId::new(4)),
+        Reply::Loaned,
+        Reply::Done,
+        Reply::Delivered(2),
+        Reply::Sample(UniquePublisherId::new(3)),
+        Reply::Cell(Some(1)),
+        Reply::Sample(UniquePublisherId::new(3)),
+        Reply::Cell(Some(2)),
+    ]
+}
+
+#[test]
+fn a_subscriber_sees_the_same_beside_one_that_is_closed(rt: HostRuntime) {
+    let config = ServiceConfig {
+        max_subscribers: 2,
+        ..settings()
+    };
+    let commands = Vec::from_array(rt.alloc(), WITH_A_CLOSE).expect(&rt, "commands");
+    let reduced = Vec::from_array(rt.alloc(), WITHOUT_ITS_RECEIVE).expect(&rt, "fewer commands");
+    let ends: Option<
+        (
+            (Domain<u64, u8>, Vec<Reply<u64, u8>>),
+            (Domain<u64, u8>, Vec<Reply<u64, u8>>),
+        ),
+    > = compare_runs(rt.alloc(), &config, commands, reduced);
+    let (first, second) = ends.expect(&rt, "two runs");
+    let (_, replies) = first;
+    let (_, others) = second;
+    let mut without = answers();
+    without[6] = Reply::Done;
+    assert!(rt; replies.as_slice() == answers().as_slice());
+    assert!(rt; others.as_slice() == without.as_slice());
+}
+
+// A close is felt where a sample is out in one run alone: the place of its subscriber isn't free.
+#[test]
+fn a_subscriber_that_keeps_a_sample_keeps_its_place(rt: HostRuntime) {
+    let config = ServiceConfig {
+        max_subscribers: 2,
+        ..settings()
+    };
+    let commands = Vec::from_array(rt.alloc(), WITH_A_CLOSE).expect(&rt, "commands");
+    let reduced = Vec::from_array(rt.alloc(), WITHOUT_ITS_RELEASE).expect(&rt, "fewer commands");
+    let ends: Option<
+        (
+            (Domain<u64, u8>, Vec<Reply<u64, u8>>),
+            (Domain<u64, u8>, Vec<Reply<u64, u8>>),
+        ),
+    > = compare_runs(rt.alloc(), &config, commands, reduced);
+    let (first, second) = ends.expect(&rt, "two runs");
+    let (_, replies) = first;
+    let (_, others) = second;
+    let mut keeping = answers();
+    keeping[9] = Reply::SubscriberRefused(SubscriberCreateError::ExceedsMaxSupportedSubscribers);
+    keeping[12] = Reply::Delivered(1);
+    keeping[15] = Reply::Skipped;
+    keeping[16] = Reply::Skipped;
+    assert!(rt; replies.as_slice() == answers().as_slice());
+    assert!(rt; others.as_slice() == keeping.as_slice());
 }
