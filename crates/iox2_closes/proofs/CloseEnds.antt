@@ -67,7 +67,7 @@ module _ {T U : Type 0} where
       In_blocked_send z b (ap (λ (f : ℕ → Option Publisher). f p) (sym same) ∙ there) (ap (λ (v : Publisher). v.blocked) (sym e) ∙ blocked) is)
 
 module _ {T U : Type 0} (f : Fields T U) (sound : IsDomain f) (place : ℕ) (y : SubscriberFields) (at_y : get_or f.subscribers place None ≡ Some y)
-    (keys key : ℕ) (f' : Fields T U) (closing : IsClosing f sound place y at_y keys key f') (done : keys ≤ key) where
+    (rest : SubscriberFields → ℕ → Type 0) (f' : Fields T U) (closing : IsClosing f sound place y at_y rest f') (done : (k : ℕ) → rest closing.subscriber.0 k → ⊥) where
   abbrev s : State T U
   s = state_of (kept_of f)
 
@@ -105,9 +105,10 @@ module _ {T U : Type 0} (f : Fields T U) (sound : IsDomain f) (place : ℕ) (y :
     by (Some c) e =
         let at = look_up-there (is_between p y.id) f'.connections.slots c e in
         let parts = both-true (eqb c.home.publisher p) (eqb c.home.subscriber y.id) at.2 in
-        let low = closing.bounded at.0 c at.1 in
-        let none : c.waiting ≡ [] = closing.dropped at.0 c (omega (arith, low, done)) at.1 (eqb-true c.home.subscriber y.id parts.1)
-        (departed-from p gone c (eqb-true c.home.publisher p parts.0)) in
+        let none : c.waiting ≡ [] = elim (closing.dropped at.0 c at.1 (eqb-true c.home.subscriber y.id parts.1) (departed-from p gone c (eqb-true c.home.publisher p parts.0))) [
+          | inl none ↦ none
+          | inr left ↦ absurd (done at.0 left)
+        ] in
         ap (λ (ws : List ℕ). not (is_nil (map (numbers_of f'.books p) ws))) none
 
   -- something is borrowed in a connection with a publisher that is gone

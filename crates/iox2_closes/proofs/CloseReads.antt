@@ -1,27 +1,100 @@
 -- The steps of a close, as they read the fields.
-use Rattle.std.proofs.Common.{◌≡◌, ◌≢◌, ℕ, ◌≤◌, Bool, true, false, List, map, length, get_or, slice_set, refl, ap, sym, subst, ◌∙◌, arith}
-use Rattle.std.specs.Prelude.{IsSomeAnd, IsSome}
+use Rattle.std.proofs.Common.{◌≡◌, ◌≢◌, ℕ, ◌≤◌, Bool, true, false, List, map, length, get_or, slice_set, refl, ap, sym, subst, ◌∙◌, inl, inr, arith}
+use Rattle.std.proofs.lemmas.List.{length-map}
+use Rattle.std.specs.Prelude.{Contains, IsSomeAnd, IsSome}
 use Rattle.std.specs.declared.option.Option.{Option}
 use Rattle.std.specs.declared.option.Option.TheVariants.{None, Some}
 use Rattle.std.specs.Option.{option_map}
 use Rattle.slab.specs.Slab.{Updates, get}
 use Rattle.iox2_store.specs.Link.{Link}
+use Rattle.iox2_ends.specs.Drops.{without_waiting}
+use Rattle.iox2_ends.specs.Finds.{IsReceivers}
 use Rattle.iox2_ends.proofs.MailboxChanges.{within_if_some}
 use Rattle.iox2_domain.specs.Ports.{PublisherFields, SubscriberFields, due}
 use Rattle.iox2_domain.specs.Fields.{Fields}
 use Rattle.iox2_domain.specs.Invariant.{IsBookOf, IsDomain}
 use Rattle.iox2_domain.specs.Updates.{changed_at}
+use Rattle.iox2_domain.proofs.lemmas.containers.ChangedRecords.{changed-here}
 use Rattle.iox2_domain.proofs.lemmas.creations.PublishersDue.{with_publishers_due}
 use Rattle.iox2_domain.proofs.lemmas.fields.Standing.{some_is}
 use Rattle.iox2_closes.specs.Agreement.{IsOrphan, HasOwnedParts}
-use Rattle.iox2_closes.specs.Closes.{IsDeparted, IsBusy, IsLeftAt, FreesBook, ForgetsIfEmpty, is_empty_link, shut_subscriber, without_key}
+use Rattle.iox2_closes.specs.Closes.{IsDeparted, IsBusy, IsLeftAt, IsStanding, KnowsKey, FreesBook, ForgetsIfEmpty, LosesLeft, LosesWaiting, is_empty_link, shut_subscriber, without_key}
 use Rattle.iox2_closes.proofs.CloseSteps.{book, stays-busy, forgot-parts, book-left, others-busy, forgets-empty}
-use Rattle.iox2_closes.proofs.CloseWalk.{IsClosing, closing-begins}
+use Rattle.iox2_closes.proofs.ForgottenKeys.{listed-at}
+use Rattle.iox2_closes.proofs.CloseWalk.{IsClosing, closing-begins, closing-passes}
+use Rattle.iox2_closes.proofs.CloseKeys.{ExpiredBelow, ExpiredLeft, KeysLeft}
 
 -- there is something
 pub some-of : {A : Type 0} (o : Option A) → IsSome o → (x : A) × (o ≡ Some x)
 some-of None some = absurd cc
 some-of (Some x) some = (x, refl)
+
+-- ---- a connection at one of the subscriber's keys
+
+module _ {T U : Type 0} (f : Fields T U) (parts : HasOwnedParts f) (place key : ℕ)
+    (known : (y : SubscriberFields) × (get_or f.subscribers place None ≡ Some y) × KnowsKey y key) where
+  -- it is the subscriber's
+  known-link : IsSomeAnd (get f.connections key) (IsReceivers (known.0).id (f.config).subscriber_max_borrowed_samples)
+  known-link = elim known.2 [
+    | inl has ↦ (parts.parts.linked.receivers place known.0 known.1).at has.0 key has.1
+    | inr among ↦ let there = listed-at (known.0).expired key among in (parts.parts.linked.expired place known.0 known.1).at there.0 key there.1
+  ]
+
+  -- its publisher is gone, where it doesn't stand at its place
+  pub left-there : (v : Fields T U) → v ≡ f → IsSomeAnd (get v.connections key) (λ c. IsStanding v.publishers c.home → ⊥) → IsLeftAt f place key
+  left-there v same read =
+      let own = some_is (IsReceivers (known.0).id (f.config).subscriber_max_borrowed_samples) (get f.connections key) known-link in
+      let was = some_is (λ (c : Link). IsStanding f.publishers c.home → ⊥) (get f.connections key)
+      (subst (λ (g : Fields T U). IsSomeAnd (get g.connections key) (λ c. IsStanding g.publishers c.home → ⊥)) same read) in
+      record {
+        subscriber = known.0;
+        stands = known.1;
+        link = was.0;
+        link_stands = was.1;
+        is_its = let one : Some own.0 ≡ Some was.0 = sym own.1 ∙ was.1 in let is : own.0 ≡ was.0 = cc in ap (λ (c : Link). c.home.subscriber) (sym is) ∙ own.2.subscriber;
+        departed = λ i x at mine.
+            let here : i ≡ (was.0).home.publisher_place = parts.parts.linked.knows_publishers key i was.0 x was.1 at mine in
+            was.2 (rw (ap (λ (n : ℕ). get_or f.publishers n None) (sym here) ∙ at) mine);
+      }
+
+  -- and else the publisher is there
+  pub left-nowhere : (v : Fields T U) → v ≡ f → (IsSomeAnd (get v.connections key) (λ c. IsStanding v.publishers c.home → ⊥) → ⊥)
+      → (c : Link) → get f.connections key ≡ Some c → IsDeparted f.publishers c → ⊥
+  left-nowhere v same read c at departed = read
+      (subst (λ (g : Fields T U). IsSomeAnd (get g.connections key) (λ d. IsStanding g.publishers d.home → ⊥)) (sym same) (rw at (λ standing.
+      let x = some_is (λ (x : PublisherFields). x.id ≡ c.home.publisher) (get_or f.publishers c.home.publisher_place None) standing in
+      departed c.home.publisher_place x.0 x.1 x.2)))
+
+module _ {T U : Type 0} (f : Fields T U) (place key : ℕ) (left : IsLeftAt f place key) where
+  -- what waits in it may be lost
+  pub left-departed : IsSomeAnd (get f.connections key) (IsDeparted f.publishers)
+  left-departed = rw left.link_stands left.departed
+
+  module _ (between : Fields T U) (loses : LosesWaiting f key left.link between) where
+    -- it may be forgotten then
+    pub left-after : IsLeftAt between place key
+    left-after = record {
+      subscriber = left.subscriber;
+      stands = ap (λ (ys : List (Option SubscriberFields)). get_or ys place None) loses.subscribers ∙ left.stands;
+      link = without_waiting left.link;
+      link_stands = loses.connection.changed;
+      is_its = left.is_its;
+      departed = λ i x at. left.departed i x (ap (λ (xs : List (Option PublisherFields)). get_or xs i None) (sym loses.publishers) ∙ at);
+    }
+
+    -- and the others are as busy as they were
+    pub others-after : ((k : ℕ) (c : Link) → get f.connections k ≡ Some c → IsDeparted f.publishers c → IsBusy c)
+        → (k : ℕ) (c : Link) → k ≢ key → get between.connections k ≡ Some c → IsDeparted between.publishers c → IsBusy c
+    others-after busy k c away at departed =
+        busy k c (sym (loses.connection.others k away) ∙ at) (subst (λ (xs : List (Option PublisherFields)). IsDeparted xs c) loses.publishers departed)
+
+    -- so it is done with
+    pub left-loses : (f' : Fields T U) → ((y : SubscriberFields) → get_or between.subscribers place None ≡ Some y → (c : Link) → get between.connections key ≡ Some c → ForgetsIfEmpty between place key y c f')
+        → LosesLeft f place key f'
+    unfolding left-after
+    left-loses f' forgets = record { left = left; between = between; loses = loses; forgets = forgets left.subscriber left-after.stands (without_waiting left.link) left-after.link_stands }
+
+-- ---- a connection that may be forgotten
 
 module _ {T U : Type 0} (f : Fields T U) (parts : HasOwnedParts f) (place key : ℕ) (left : IsLeftAt f place key) where
   -- whether a connection that was read is empty
@@ -92,16 +165,36 @@ module _ {T U : Type 0} (f : Fields T U) (parts : HasOwnedParts f) (place key : 
         (subst (λ (h : Fields T U). FreesBook h (left.link).home.book f') fields (subst (λ (n : ℕ). FreesBook g n f') is frees))))
 
 module _ {T U : Type 0} where
-  -- the walk begins where the subscriber was shut
+  -- the walk begins where the subscriber was shut, with its last expired key
   pub closing-starts : (v f : Fields T U) → v ≡ f → (sound : IsDomain f) (place : ℕ) (y : SubscriberFields) (at_y : get_or f.subscribers place None ≡ Some y)
       → (subscribers : List (Option SubscriberFields)) → subscribers ≡ changed_at shut_subscriber f.subscribers place
-      → (keys : ℕ) → length (v.connections).slots ≤ keys → IsClosing f sound place y at_y keys 0 (record v { subscribers = subscribers })
-  closing-starts v f same sound place y at_y subscribers settled keys long =
-      subst (IsClosing f sound place y at_y keys 0) (sym ((λ i. record (same i) { subscribers = settled i }) ∙ (λ i. record f { subscribers = slice_set f.subscribers place (option_map shut_subscriber (at_y i)) })))
-      (closing-begins f sound place y at_y keys (λ k c at.
-      let low = within_if_some (f.connections).slots k c at in
-      let size : length (v.connections).slots ≡ length (f.connections).slots = ap (λ (g : Fields T U). length (g.connections).slots) same in
-      omega (arith, low, size, long)))
+      → (count : ℕ) → ((z : SubscriberFields) → get_or subscribers place None ≡ Some z → count ≡ length z.expired)
+      → IsClosing f sound place y at_y (ExpiredLeft count) (record v { subscribers = subscribers })
+  closing-starts v f same sound place y at_y subscribers settled count counted =
+      subst (IsClosing f sound place y at_y (ExpiredLeft count)) (sym ((λ i. record (same i) { subscribers = settled i }) ∙ (λ i. record f { subscribers = slice_set f.subscribers place (option_map shut_subscriber (at_y i)) })))
+      (closing-begins f sound place y at_y (ExpiredLeft count) (λ k knows. elim knows [ inl has ↦ inl has | inr among ↦ inr (below k among) ]))
+    where
+      all : count ≡ length y.expired
+      all = counted (shut_subscriber y) (ap (λ (ys : List (Option SubscriberFields)). get_or ys place None) settled
+          ∙ ap (λ (o : Option SubscriberFields). get_or (slice_set f.subscribers place (option_map shut_subscriber o)) place None) at_y
+          ∙ changed-here f.subscribers place y (shut_subscriber y) at_y)
+
+      below : (k : ℕ) → Contains y.expired k → ExpiredBelow count (shut_subscriber y) k
+      below k among =
+          let there = listed-at y.expired k among in
+          let low = within_if_some (map Some y.expired) there.0 k there.1 in
+          (there.0, omega (arith, low, all, length-map y.expired Some), there.1)
+
+  module _ (f : Fields T U) (sound : IsDomain f) (place : ℕ) (y : SubscriberFields) (at_y : get_or f.subscribers place None ≡ Some y) (f' : Fields T U) where
+    -- after the expired keys the walk goes over those at places
+    pub closing-turns : (index : ℕ) → index ≤ 0 → IsClosing f sound place y at_y (ExpiredLeft index) f' → (count : ℕ) → ((z : SubscriberFields) → get_or f'.subscribers place None ≡ Some z → count ≡ length z.keys)
+        → IsClosing f sound place y at_y (KeysLeft 0 count) f'
+    closing-turns index none so_far count counted = closing-passes f sound place y at_y (ExpiredLeft index) f' so_far (KeysLeft 0 count) (λ k c at departed left. elim left [
+      | inl has ↦
+          let low = within_if_some so_far.subscriber.0.keys has.0 k has.1 in
+          (has.0, omega arith, omega (arith, low, counted so_far.subscriber.0 so_far.subscriber.1), has.1)
+      | inr below ↦ let low = below.1 in absurd (omega (arith, low, none))
+    ])
 
   -- every publisher is due in the end
   pub due-read : (v g : Fields T U) → v ≡ g → (publishers : List (Option PublisherFields)) → publishers ≡ map (option_map due) g.publishers

@@ -215,7 +215,7 @@ module _ {T U : Type 0} (f : Fields T U) (parts : HasOwnedParts f) where
           };
           publishers = refl;
           next_port = refl;
-          subscriber = (y, at_y, refl);
+          subscriber = (y, at_y, inl refl);
           others = λ k away. refl;
           left = λ d at_d. (let one : Some d ≡ Some c = sym at_d ∙ at in cc, link-busy c some);
           books = λ k away. refl;
@@ -288,7 +288,7 @@ module _ {T U : Type 0} (f : Fields T U) (parts : HasOwnedParts f) where
               ap (λ (zs : List (Option SubscriberFields)). get_or zs place None) frees.subscribers
                   ∙ sym (ap (λ (g : Fields T U). get_or g.subscribers place None) forgot-is)
                   ∙ changed-here f.subscribers place y (without_key key y) at_y,
-              refl,
+              inr refl,
             );
             others = λ k away. ap (λ (s : Slab Link). get s k) frees.connections ∙ removed.others k away;
             left = λ d at_d. absurd (let no : None ≡ Some d = sym removed.changed ∙ sym (ap (λ (s : Slab Link). get s key) frees.connections) ∙ at_d in cc);

@@ -7,6 +7,7 @@ pub mod LeftRecounts
 pub mod Sheds
 pub mod CloseSteps
 pub mod CloseWalk
+pub mod CloseKeys
 pub mod CloseEnds
 pub mod CloseReads
 pub mod FreedBooks

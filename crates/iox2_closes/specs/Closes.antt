@@ -1,8 +1,7 @@
 -- The steps of a close.
-use Rattle.std.specs.Prelude.{◌≡◌, ◌≢◌, ◌<◌, ◌&&◌, ◌==◌, ℕ, Bool, false, not, cond, List, [], slice_index_or}
+use Rattle.std.specs.Prelude.{◌≡◌, ◌≢◌, ◌⊎◌, ◌<◌, ◌&&◌, ℕ, Bool, false, cond, List, [], slice_index_or, Contains, IsSomeAnd}
 use Rattle.std.specs.declared.option.Option.{Option}
 use Rattle.std.specs.declared.option.Option.TheVariants.{None, Some}
-use Rattle.std.specs.Option.{option_map_or}
 use Rattle.slab.specs.Slab.{get, Updates}
 use Rattle.iox2_store.specs.Link.{Link}
 use Rattle.iox2_store.specs.SlotBook.{Book}
@@ -18,6 +17,7 @@ use Rattle.iox2_domain.specs.Ports.{PublisherFields, SubscriberFields}
 use Rattle.iox2_domain.specs.Kept.{state_of}
 use Rattle.iox2_domain.specs.Fields.{Fields, kept_of}
 use Rattle.iox2_domain.specs.Invariant.{IsUsed}
+use Rattle.iox2_domain.specs.Closes.{HasKey}
 use Rattle.iox2_closes.specs.Agreement.{Passes}
 
 -- ---- records
@@ -36,13 +36,13 @@ without_publisher p y = record y { ends = vacated p y.ends; expired = without p 
 
 -- ---- connections
 
--- A publisher with that id stands at the place.
-abbrev pub is_standing : List (Option PublisherFields) → Home → Bool
-is_standing publishers home = option_map_or (λ (x : PublisherFields). x.id == home.publisher) (slice_index_or publishers home.publisher_place None) false
+-- The publisher of a connection with this home stands at its place.
+abbrev pub IsStanding : List (Option PublisherFields) → Home → Type 0
+IsStanding publishers home = IsSomeAnd (slice_index_or publishers home.publisher_place None) (λ (x : PublisherFields). x.id ≡ home.publisher)
 
--- There is a connection, it is the subscriber q's, and its publisher is gone.
-abbrev pub is_left_of : List (Option PublisherFields) → (q : ℕ) → Option Link → Bool
-is_left_of publishers q o = option_map_or (λ (c : Link). (c.home.subscriber == q) && not (is_standing publishers c.home)) o false
+-- The subscriber has the key, at a publisher's place or among the expired ones.
+abbrev pub KnowsKey : SubscriberFields → (key : ℕ) → Type 0
+KnowsKey y key = HasKey y.keys key ⊎ Contains y.expired key
 
 -- The publisher of the connection stands nowhere.
 abbrev pub IsDeparted : List (Option PublisherFields) → Link → Type 0
@@ -106,8 +106,21 @@ module _ {T U : Type 0} where
     pub passes : Passes f f' (forgotten_if_empty (state_of (kept_of f)) c.home.publisher c.home.subscriber)
     pub publishers : f'.publishers ≡ f.publishers
     pub next_port : f'.next_port ≡ f.next_port
-    pub subscriber : (z : SubscriberFields) × (slice_index_or f'.subscribers place None ≡ Some z) × (z.id ≡ y.id)
+    pub subscriber : (z : SubscriberFields) × (slice_index_or f'.subscribers place None ≡ Some z) × ((z ≡ y) ⊎ (z ≡ without_key key y))
     pub others : (k : ℕ) → k ≢ key → get f'.connections k ≡ get f.connections k
     pub left : (d : Link) → get f'.connections key ≡ Some d → (d ≡ c) × IsBusy c
     pub books : (k : ℕ) → k ≢ c.home.book → get f'.books k ≡ get f.books k
     pub held : (b : Book) → get f'.books c.home.book ≡ Some b → IsUsed b
+
+  -- The publisher of the connection at the key was gone. What waited in it for the subscriber at the place is lost, and the
+  -- subscriber has forgotten it if no slot stood in it then.
+  pub record LosesLeft (f : Fields T U) (place key : ℕ) (f' : Fields T U) : Type 0 where
+    pub left : IsLeftAt f place key
+    pub between : Fields T U
+    pub loses : LosesWaiting f key left.link between
+    pub forgets : ForgetsIfEmpty between place key left.subscriber (without_waiting left.link) f'
+
+  -- The same, where there is such a key; or there is none, or the publisher is there, and nothing changed.
+  abbrev pub LosesIfLeft : Fields T U → (place : ℕ) → Option ℕ → Fields T U → Type 0
+  LosesIfLeft f place None f' = f' ≡ f
+  LosesIfLeft f place (Some key) f' = LosesLeft f place key f' ⊎ (((c : Link) → get f.connections key ≡ Some c → IsDeparted f.publishers c → ⊥) × (f' ≡ f))

@@ -1,5 +1,5 @@
 -- What the close of a publisher leaves of a domain's fields.
-use Rattle.std.specs.Prelude.{◌≡◌, ℕ, Bool, true, false, cond, ◌+◌, ◌==◌, ◌&&◌, List, length, map, slice_index, slice_index_or, slice_set}
+use Rattle.std.specs.Prelude.{◌≡◌, ◌⊎◌, ℕ, Bool, true, false, cond, ◌+◌, ◌==◌, ◌&&◌, List, length, map, slice_index, slice_index_or, slice_set}
 use Rattle.std.specs.declared.option.Option.{Option}
 use Rattle.std.specs.declared.option.Option.TheVariants.{None, Some}
 use Rattle.std.specs.Option.{option_map, option_map_or, option_and_then}
@@ -12,6 +12,7 @@ use Rattle.iox2_ends.specs.Counters.{times, stands, with_counters}
 use Rattle.iox2_ends.specs.Leaves.{left_link, holds_slots}
 use Rattle.iox2_domain.specs.Ports.{PublisherFields, SubscriberFields}
 use Rattle.iox2_domain.specs.Fields.{Fields}
+use Rattle.iox2_domain.specs.Updates.{receiver_key}
 
 -- ---- one connection
 
@@ -30,6 +31,25 @@ if_holding c = cond (holds_slots c) (Some c) None
 -- What is left of the connection at the key when the publisher p leaves.
 abbrev pub after_close : (p : ℕ) → List (Option SubscriberFields) → (key : ℕ) → Link → Option Link
 after_close p subscribers key c = cond (c.home.publisher == p) (if_holding (left_link (is_awaited subscribers key c) c)) (Some c)
+
+-- ---- some of them
+
+-- The key stands in the list.
+abbrev pub HasKey : List (Option ℕ) → (key : ℕ) → Type 0
+HasKey keys key = (i : ℕ) × (slice_index_or keys i None ≡ Some key)
+
+-- Some subscriber has the key at the publisher's place.
+abbrev pub SomeHasKey : List (Option SubscriberFields) → (place key : ℕ) → Type 0
+SomeHasKey subscribers place key = (j : ℕ) × (receiver_key subscribers j place ≡ Some key)
+
+-- The publisher p has left its connections at these keys, and perhaps others of its connections.
+pub record LeavesAt (p : ℕ) (subscribers : List (Option SubscriberFields)) (keys : ℕ → Type 0) (old new : Slab Link) : Type 0 where
+  pub at : (key : ℕ) → keys key → get new key ≡ option_and_then (after_close p subscribers key) (get old key)
+  pub others : (key : ℕ) → (get new key ≡ get old key) ⊎ (get new key ≡ option_and_then (after_close p subscribers key) (get old key))
+
+-- Each connection of the publisher x at the place stands at one of its keys, or at one that a subscriber has at that place.
+pub record FindsAll (x : PublisherFields) (place : ℕ) (subscribers : List (Option SubscriberFields)) (connections : Slab Link) : Type 0 where
+  pub at : (key : ℕ) (c : Link) → get connections key ≡ Some c → c.home.publisher ≡ x.id → HasKey x.keys key ⊎ SomeHasKey subscribers place key
 
 -- ---- all of them
 

@@ -10,10 +10,10 @@ ghost use Rattle.iox2_domain.specs.Kept.{state_of};
 ghost use Rattle.iox2_domain.specs.Fields.{kept_of, publisher_of};
 ghost use Rattle.iox2_domain.specs.Invariant.{IsDomain};
 ghost use Rattle.iox2_domain.specs.Reaches.{ReachesBut, Reaches};
-ghost use Rattle.iox2_domain.specs.Closes.{is_awaited, after_close, LeavesConnections, left_subscriber};
+ghost use Rattle.iox2_domain.specs.Closes.{is_awaited, after_close, left_subscriber, FindsAll, HasKey, LeavesAt, LeavesConnections, SomeHasKey};
 
 use crate::departures::free_book_if_unused;
-use iox2_domain::{DomainState, Port, SubscriberState};
+use iox2_domain::{DomainState, Port, PublisherState, SubscriberState, key_at};
 use iox2_ends::leaving::{give_up_history, leave};
 use iox2_store::{Connection, SlotBook};
 use slab::Slab;
@@ -72,24 +72,86 @@ fn leave_own(
     }
 }
 
-// The publisher leaves each of its connections.
-fn leave_connections(
+// The publisher leaves its connection at a key, if it has one there.
+fn leave_at(
     publisher: u128,
+    subscribers: &[Option<SubscriberState>],
+    connections: &mut Slab<Connection>,
+    book: &mut SlotBook,
+    key: Option<usize>,
+)
+    requires covered { IsCovered publisher book.old.holders connections.old.slots }
+    ensures connections { LeavesAt publisher subscribers.now (λ k. key ≡ Some k) connections.old connections.new }
+    ensures book { book.new ≡ with_counters book.old book.new.holders }
+    ensures counters { CountersFollow publisher book.old.holders connections.old.slots book.new.holders connections.new.slots }
+    ensures slots { length book.new.holders ≡ length book.old.holders }
+{
+    let Some(key) = key else {
+        return;
+    };
+    if is_publishers(connections, key, publisher) {
+        leave_own(publisher, subscribers, connections, book, key);
+    }
+}
+
+// The publisher leaves its connections at its own keys.
+fn leave_keys(
+    publisher: u128,
+    keys: &[Option<usize>],
     subscribers: &[Option<SubscriberState>],
     connections: &mut Slab<Connection>,
     book: &mut SlotBook,
 )
     requires covered { IsCovered publisher book.old.holders connections.old.slots }
-    ensures connections { LeavesConnections publisher subscribers.now connections.old connections.new }
+    ensures connections { LeavesAt publisher subscribers.now (HasKey keys.now) connections.old connections.new }
     ensures book { book.new ≡ with_counters book.old book.new.holders }
     ensures counters { CountersFollow publisher book.old.holders connections.old.slots book.new.holders connections.new.slots }
     ensures slots { length book.new.holders ≡ length book.old.holders }
 {
-    for key in 0..connections.capacity() {
-        if is_publishers(connections, key, publisher) {
-            leave_own(publisher, subscribers, connections, book, key);
-        }
+    for index in 0..keys.len() {
+        leave_at(publisher, subscribers, connections, book, keys[index]);
     }
+}
+
+// The publisher leaves its connections that subscribers have at its place.
+fn leave_subscribers(
+    publisher: u128,
+    place: usize,
+    subscribers: &[Option<SubscriberState>],
+    connections: &mut Slab<Connection>,
+    book: &mut SlotBook,
+)
+    requires covered { IsCovered publisher book.old.holders connections.old.slots }
+    ensures connections { LeavesAt publisher subscribers.now (SomeHasKey subscribers.now place) connections.old connections.new }
+    ensures book { book.new ≡ with_counters book.old book.new.holders }
+    ensures counters { CountersFollow publisher book.old.holders connections.old.slots book.new.holders connections.new.slots }
+    ensures slots { length book.new.holders ≡ length book.old.holders }
+{
+    for index in 0..subscribers.len() {
+        let key = key_at(subscribers, index, place);
+        leave_at(publisher, subscribers, connections, book, key);
+    }
+}
+
+// The publisher leaves each of its connections: those at its keys, and those that a subscriber
+// alone has.
+fn leave_connections(
+    publisher: &PublisherState,
+    place: usize,
+    subscribers: &[Option<SubscriberState>],
+    connections: &mut Slab<Connection>,
+    book: &mut SlotBook,
+)
+    requires covered { IsCovered publisher.now.id book.old.holders connections.old.slots }
+    requires found { FindsAll publisher.now place subscribers.now connections.old }
+    ensures connections { LeavesConnections publisher.now.id subscribers.now connections.old connections.new }
+    ensures book { book.new ≡ with_counters book.old book.new.holders }
+    ensures counters { CountersFollow publisher.now.id book.old.holders connections.old.slots book.new.holders connections.new.slots }
+    ensures slots { length book.new.holders ≡ length book.old.holders }
+{
+    let id = publisher.id.value();
+    leave_keys(id, &publisher.keys, subscribers, connections, book);
+    leave_subscribers(id, place, subscribers, connections, book);
 }
 
 // Takes away the subscriber's key at a publisher's place, where its connection is gone, and makes it
@@ -146,7 +208,8 @@ fn leave_domain<T: Drop, U: Default + Drop>(state: &mut DomainState<T, U>, place
     };
     let book = &mut state.books[publisher.book];
     leave_connections(
-        publisher.id.value(),
+        &publisher,
+        place,
         &state.subscribers,
         &mut state.connections,
         book,

@@ -1,5 +1,5 @@
 //! A subscriber closes.
-ghost use Rattle.std.specs.Prelude.{◌≡◌, ◌≢◌, ◌<◌, None, Some, cond, length, slice_index_or, IsSome, IsSomeAnd};
+ghost use Rattle.std.specs.Prelude.{◌≡◌, ◌≢◌, ◌<◌, ◌↔◌, None, Some, cond, length, map, slice_index_or, IsSome, IsSomeAnd, IsTrue};
 ghost use Rattle.slab.specs.Slab.{Updates, ContainsKey, get};
 ghost use Rattle.iox2_store.specs.Link.{Link};
 ghost use Rattle.iox2_store.specs.machine.Places.{is_port, vacated};
@@ -11,49 +11,62 @@ ghost use Rattle.iox2_domain.specs.Invariant.{IsDomain};
 ghost use Rattle.iox2_domain.specs.Reaches.{Reaches};
 ghost use Rattle.iox2_domain.specs.Updates.{changed_at};
 ghost use Rattle.iox2_closes.specs.Agreement.{HasOwnedParts, IsOrphan};
-ghost use Rattle.iox2_closes.specs.Closes.{shut_subscriber, without_key, is_standing, is_left_of, is_empty_link, IsDeparted, IsBusy, IsLeftAt, LosesWaiting, FreesBook, ForgetsIfEmpty};
+ghost use Rattle.iox2_closes.specs.Closes.{shut_subscriber, without_key, is_empty_link, IsDeparted, IsBusy, IsLeftAt, IsStanding, KnowsKey, LosesWaiting, FreesBook, ForgetsIfEmpty, LosesIfLeft};
 
 use crate::departures::leave_if_unused;
-use iox2_domain::{DomainState, PublisherState, SubscriberState, make_all_due};
+use iox2_domain::{DomainState, SubscriberState, key_at, make_all_due, stands_at};
 use iox2_ends::drops::drop_waiting_at;
-use iox2_store::{Connection, Home};
+use iox2_store::Connection;
 use slab::Slab;
 
-// The subscriber at a place takes no messages any more. Returns its id.
-fn shut(subscribers: &mut [Option<SubscriberState>], place: usize) -> u128
+// The subscriber at a place takes no messages any more.
+fn shut(subscribers: &mut [Option<SubscriberState>], place: usize)
     requires { IsSome (slice_index_or subscribers.old place None) }
-    ensures subscribers { subscribers.new ≡ changed_at shut_subscriber subscribers.old place }
-    ensures id { IsSomeAnd (slice_index_or subscribers.old place None) (λ y. result ≡ y.id) }
+    ensures { subscribers.new ≡ changed_at shut_subscriber subscribers.old place }
 {
-    let Some(subscriber) = &mut subscribers[place] else {
-        unreachable!()
-    };
-    subscriber.is_open = false;
-    subscriber.id.value()
-}
-
-// Whether the publisher of a connection with this home stands at its place.
-fn stands(publishers: &[Option<PublisherState>], home: Home) -> bool
-    ensures { result ≡ is_standing publishers.now home }
-{
-    match publishers.get(home.publisher_place) {
-        Some(Some(publisher)) => publisher.id.value() == home.publisher,
-        _ => false,
+    if let Some(subscriber) = &mut subscribers[place] {
+        subscriber.is_open = false;
     }
 }
 
-// Whether at the key stands a connection of the subscriber, and its publisher is gone.
-fn is_left<T: Drop, U: Default + Drop>(
-    state: &DomainState<T, U>,
-    subscriber: u128,
-    key: usize,
-) -> bool
-    ensures { result ≡ is_left_of state.now.publishers subscriber (get state.now.connections key) }
+// How many expired keys the subscriber at a place has.
+fn expired_count(subscribers: &[Option<SubscriberState>], place: usize) -> usize
+    ensures { (y : SubscriberFields) → slice_index_or subscribers.now place None ≡ Some y → result ≡ length y.expired }
+{
+    match subscribers.get(place) {
+        Some(Some(subscriber)) => subscriber.expired.len(),
+        _ => 0,
+    }
+}
+
+// The expired key at an index of the subscriber at a place.
+fn expired_at(subscribers: &[Option<SubscriberState>], place: usize, index: usize) -> Option<usize>
+    ensures { (y : SubscriberFields) → slice_index_or subscribers.now place None ≡ Some y → result ≡ slice_index_or (map Some y.expired) index None }
+{
+    match subscribers.get(place) {
+        Some(Some(subscriber)) => subscriber.expired.get(index).copied(),
+        _ => None,
+    }
+}
+
+// At how many places of publishers the subscriber at a place may have keys.
+fn key_count(subscribers: &[Option<SubscriberState>], place: usize) -> usize
+    ensures { (y : SubscriberFields) → slice_index_or subscribers.now place None ≡ Some y → result ≡ length y.keys }
+{
+    match subscribers.get(place) {
+        Some(Some(subscriber)) => subscriber.keys.len(),
+        _ => 0,
+    }
+}
+
+// Whether a connection stands at the key, and its publisher is gone.
+fn is_left<T: Drop, U: Default + Drop>(state: &DomainState<T, U>, key: usize) -> bool
+    ensures { IsTrue result ↔ IsSomeAnd (get state.now.connections key) (λ c. IsStanding state.now.publishers c.home → ⊥) }
 {
     match state.connections.get(key) {
         Some(connection) => {
             let home = connection.home();
-            home.subscriber == subscriber && !stands(&state.publishers, home)
+            !stands_at(&state.publishers, home.publisher_place, home.publisher)
         }
         None => false,
     }
@@ -151,6 +164,27 @@ fn forget_if_empty<T: Drop, U: Default + Drop>(
     }
 }
 
+// What waits for the subscriber at a place in its connection at a key is lost, if the publisher is
+// gone. It forgets the connection then, if it has borrowed nothing from it.
+fn lose_if_left<T: Drop, U: Default + Drop>(
+    state: &mut DomainState<T, U>,
+    place: usize,
+    key: Option<usize>,
+)
+    requires parts { HasOwnedParts state.old }
+    requires known { (k : _) → key ≡ Some k → (y : SubscriberFields) × (slice_index_or state.old.subscribers place None ≡ Some y) × KnowsKey y k }
+    requires busy { (k : _) (c : Link) → get state.old.connections k ≡ Some c → IsDeparted state.old.publishers c → IsBusy c }
+    ensures { LosesIfLeft state.old place key state.new }
+{
+    let Some(key) = key else {
+        return;
+    };
+    if is_left(state, key) {
+        lose_waiting(state, key);
+        forget_if_empty(state, place, key);
+    }
+}
+
 /// Closes the subscriber at a place. It takes no messages any more, and what waits for it from
 /// publishers that are gone is lost. It leaves its place where it has borrowed nothing; else it
 /// stays until its last sample is released.
@@ -162,12 +196,14 @@ pub fn close_subscriber<T: Drop, U: Default + Drop>(state: &mut DomainState<T, U
     ensures { (y : SubscriberFields) → slice_index_or state.old.subscribers place None ≡ Some y
         → Reaches state.old state.new (subscriber_closed (state_of (kept_of state.old)) y.id ((subscriber_of state.old.books state.old.connections y).port)) }
 {
-    let id = shut(&mut state.subscribers, place);
-    for key in 0..state.connections.capacity() {
-        if is_left(state, id, key) {
-            lose_waiting(state, key);
-            forget_if_empty(state, place, key);
-        }
+    shut(&mut state.subscribers, place);
+    for index in (0..expired_count(&state.subscribers, place)).rev() {
+        let key = expired_at(&state.subscribers, place, index);
+        lose_if_left(state, place, key);
+    }
+    for publisher_place in 0..key_count(&state.subscribers, place) {
+        let key = key_at(&state.subscribers, place, publisher_place);
+        lose_if_left(state, place, key);
     }
     make_all_due(&mut state.publishers);
     leave_if_unused(state, place);

@@ -1,9 +1,9 @@
 -- A publisher that stands somewhere leaves the domain: what its steps ask, and what they come to.
-use Rattle.std.proofs.Common.{◌≡◌, ℕ, ◌≤◌, List, length, map, get_or, ap, sym, subst, ◌∙◌, inr, arith}
+use Rattle.std.proofs.Common.{◌≡◌, ℕ, ◌≤◌, List, length, map, get_or, ap, sym, subst, ◌∙◌, inl, inr, ◌⊎◌, arith, Contains}
 use Rattle.std.specs.Prelude.{slice_set}
 use Rattle.std.specs.declared.option.Option.{Option}
 use Rattle.std.specs.declared.option.Option.TheVariants.{None, Some}
-use Rattle.std.specs.Option.{option_map}
+use Rattle.std.specs.Option.{option_map, option_and_then}
 use Rattle.slab.specs.Slab.{Slab, ContainsKey, get, with_value}
 use Rattle.iox2_store.specs.Link.{Link}
 use Rattle.iox2_store.specs.SlotBook.{Book, holders_at}
@@ -15,13 +15,15 @@ use Rattle.iox2_ends.specs.Leaves.{Releases}
 use Rattle.iox2_domain.specs.Ports.{PublisherFields, SubscriberFields}
 use Rattle.iox2_domain.specs.Kept.{state_of}
 use Rattle.iox2_domain.specs.Fields.{Fields, kept_of, publisher_of}
-use Rattle.iox2_domain.specs.Invariant.{IsDomain}
+use Rattle.iox2_domain.specs.Invariant.{IsDomain, ReceiverHas}
 use Rattle.iox2_domain.specs.Midway.{IsMidway}
 use Rattle.iox2_domain.specs.Reaches.{Reaches, ReachesBut}
-use Rattle.iox2_domain.specs.Closes.{LeavesConnections, LeavesSlots, left_subscriber, left_fields}
+use Rattle.iox2_domain.specs.Closes.{FindsAll, LeavesConnections, LeavesSlots, SomeHasKey, left_subscriber, left_fields}
 use Rattle.iox2_domain.proofs.lemmas.fields.Parts.{parts_of, parts_but}
 use Rattle.iox2_domain.proofs.lemmas.slots.PublisherBooks.{book-there, book-covers}
+use Rattle.iox2_domain.proofs.lemmas.slots.LeftConnections.{expired-place}
 use Rattle.iox2_domain.proofs.lemmas.closes.ClosingPorts.{its-counters}
+use Rattle.iox2_domain.proofs.lemmas.closes.LeftKeys.{expired-gone}
 use Rattle.iox2_domain.proofs.lemmas.closes.LeftState.{left-reaches}
 
 module _ {T U : Type 0} (key : ℕ) (old new : Fields T U) (s : State T U) (left : ReachesBut key old new s) where
@@ -48,6 +50,28 @@ module _ {T U : Type 0} (f : Fields T U) (sound : IsDomain f) (i : ℕ) (x : Pub
   -- its book is there
   pub leaver-book : ContainsKey f.books x.book
   leaver-book = book-there f (parts_of f sound) i x here
+
+  -- each of its connections stands at one of its keys, or at one that a subscriber has at its place
+  pub leaver-finds : FindsAll x i f.subscribers f.connections
+  leaver-finds = record {
+    at = λ key c at mine. elim (sound.linked.ends key c at) [
+      | inl has ↦
+          let place : i ≡ c.home.publisher_place = sound.linked.knows_publishers key i c x at here (sym mine) in
+          let one : Some has.publisher ≡ Some x = sym has.stands ∙ sym (ap (λ (n : ℕ). get_or f.publishers n None) place) ∙ here in
+          let is : has.publisher ≡ x = cc in
+          inl (c.home.subscriber_place, ap (λ (z : PublisherFields). get_or z.keys c.home.subscriber_place None) (sym is) ∙ has.has)
+      | inr has ↦ inr (theirs key c at mine has (sound.linked.knows_publishers key i c x at here (sym mine)) has.has)
+    ];
+  } where
+    theirs : (key : ℕ) (c : Link) → get f.connections key ≡ Some c → c.home.publisher ≡ x.id → (has : ReceiverHas f.subscribers key c) → i ≡ c.home.publisher_place
+        → (get_or has.subscriber.keys c.home.publisher_place None ≡ Some key) ⊎ Contains has.subscriber.expired key → SomeHasKey f.subscribers i key
+    theirs key c at mine has place (inl there) = (
+      c.home.subscriber_place,
+      ap (option_and_then (λ (y : SubscriberFields). get_or y.keys i None)) has.stands ∙ ap (λ (n : ℕ). get_or has.subscriber.keys n None) place ∙ there,
+    )
+    theirs key c at mine has place (inr among) =
+        let there = expired-place has.subscriber.expired key among in
+        absurd (expired-gone f sound i x here c.home.subscriber_place there.0 key has.subscriber c has.stands there.1 at mine)
 
   module _ (b : Book) (at : get f.books x.book ≡ Some b) where
     -- its book counts each place where a slot of it stands
@@ -85,6 +109,10 @@ module _ {T U : Type 0} (f : Fields T U) (sound : IsDomain f) (i : ℕ) (x : Pub
 module _ {T U : Type 0} (before f : Fields T U) (same : f ≡ before) (sound : IsDomain before) (i : ℕ) (x : PublisherFields) (here : get_or f.publishers i None ≡ Some x) where
   sound_f : IsDomain f
   sound_f = subst IsDomain (sym same) sound
+
+  -- its connections stand at its keys, and at those that subscribers have at its place
+  pub closes-finds : FindsAll x i f.subscribers f.connections
+  closes-finds = leaver-finds f sound_f i x here
 
   -- the key of its book leads to a book
   pub closes-book : ContainsKey f.books x.book

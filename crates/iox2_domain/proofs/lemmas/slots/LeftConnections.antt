@@ -33,7 +33,7 @@ some-number box some = by box.waiting box.borrowed some where
   by (n ∷ ns) borrowed e = (n, contains_first n _)
 
 -- a key among expired ones stands at a place
-expired-place : (keys : List ℕ) (key : ℕ) → Contains keys key → (i : ℕ) × (get_or (map Some keys) i None ≡ Some key)
+pub expired-place : (keys : List ℕ) (key : ℕ) → Contains keys key → (i : ℕ) × (get_or (map Some keys) i None ≡ Some key)
 expired-place keys key has = (has.0, at keys has.0 has.1 has.2) where
   at : (xs : List ℕ) (i : ℕ) → i < length xs → get_or xs i key ≡ key → get_or (map Some xs) i None ≡ Some key
   at [] i lt e = absurd (omega arith)

@@ -1,27 +1,23 @@
-use Rattle.std.proofs.Common.{◌≡◌, ap, ◌∙◌, true, false}
-use Rattle.iox2_store.specs.SlotBook.{Book}
-use Rattle.iox2_ends.specs.Counters.{with_counters}
-use Rattle.iox2_ends.proofs.Counts.{CountersFollow-trans, IsCovered-follows}
-use Rattle.iox2_domain.proofs.lemmas.closes.LeaveSteps.{left-step, left-skip}
+use Rattle.std.proofs.Common.{◌≡◌, ℕ, List, Option, ap, sym, subst, ◌∙◌}
+use Rattle.iox2_ends.specs.Counters.{IsCovered}
+use Rattle.iox2_ends.proofs.Counts.{IsCovered-follows}
+use Rattle.iox2_domain.specs.Closes.{HasKey, LeavesAt, SomeHasKey}
+use Rattle.iox2_domain.specs.Ports.{PublisherFields}
+use Rattle.iox2_domain.proofs.lemmas.closes.LeaveSteps.{leaves-all}
 use Rattle.iox2_ports.proofs.publisher_closes.leave_connections.Goals as goal
-use Rattle.iox2_ports.proofs.publisher_closes.leave_connections.Goals.{then-is_publishers, else-is_publishers}
 
-pub loop-key-preserved : goal.loop-key-preserved
-loop-key-preserved c = elim c.if-is_publishers.branch [
-  | then-is_publishers w ↦ rw (w.connections-is, w.book-is) (record {
-    covered = IsCovered-follows c.args.publisher c.loop-key.book.holders w.leave_own.new.book.holders c.loop-key.connections.slots w.leave_own.new.connections.slots c.loop-key.invariant.covered w.leave_own.ensures.counters;
-    below = left-step c.args.publisher c.args.subscribers.now c.args.connections.now c.loop-key.key c.loop-key.connections w.leave_own.new.connections c.loop-key.invariant.below w.leave_own.ensures.connections;
-    book = w.leave_own.ensures.book ∙ ap (λ (b : Book). with_counters b w.leave_own.new.book.holders) c.loop-key.invariant.book;
-    counters = CountersFollow-trans c.args.publisher c.args.book.now.holders c.loop-key.book.holders w.leave_own.new.book.holders c.args.connections.now.slots c.loop-key.connections.slots w.leave_own.new.connections.slots
-        c.loop-key.invariant.counters w.leave_own.ensures.counters;
-    slots = w.leave_own.ensures.slots ∙ c.loop-key.invariant.slots;
-  })
-  | else-is_publishers w ↦ rw (w.connections-is, w.book-is) (record {
-    covered = c.loop-key.invariant.covered;
-    below = left-skip c.args.publisher c.args.subscribers.now c.args.connections.now c.loop-key.key c.loop-key.connections c.loop-key.invariant.below
-        (λ its. let clash : false ≡ true = rw w.if-is_publishers.false at (c.is_publishers.ensures.1 its) in absurd cc);
-    book = c.loop-key.invariant.book;
-    counters = c.loop-key.invariant.counters;
-    slots = c.loop-key.invariant.slots;
-  })
-]
+pub leave_subscribers-requires : goal.leave_subscribers-requires
+leave_subscribers-requires c = record {
+  covered = IsCovered-follows c.value-id.result c.args.book.now.holders c.leave_keys.new.book.holders c.args.connections.now.slots c.leave_keys.new.connections.slots
+      (subst (λ (p : ℕ). IsCovered p c.args.book.now.holders c.args.connections.now.slots) (sym (c.value-id.ensures ∙ ap (λ (x : PublisherFields). x.id) c.publisher.view_is)) c.requires.covered)
+      c.leave_keys.ensures.counters;
+}
+
+pub returns-clause-connections : goal.returns-clause-connections
+returns-clause-connections c =
+    let id : c.value-id.result ≡ c.args.publisher.now.id = c.value-id.ensures ∙ ap (λ (x : PublisherFields). x.id) c.publisher.view_is in
+    let keys : c.deref.result.now ≡ c.args.publisher.now.keys = c.deref.ensures.value ∙ ap (λ (x : PublisherFields). x.keys) c.publisher.view_is in
+    leaves-all c.args.publisher.now c.args.place c.args.subscribers.now c.args.connections.now c.leave_keys.new.connections c.leave_subscribers.new.connections c.requires.found
+    (subst (λ (p : ℕ). LeavesAt p c.args.subscribers.now (HasKey c.args.publisher.now.keys) c.args.connections.now c.leave_keys.new.connections) id
+    (subst (λ (ks : List (Option ℕ)). LeavesAt c.value-id.result c.args.subscribers.now (HasKey ks) c.args.connections.now c.leave_keys.new.connections) keys c.leave_keys.ensures.connections))
+    (subst (λ (p : ℕ). LeavesAt p c.args.subscribers.now (SomeHasKey c.args.subscribers.now c.args.place) c.leave_keys.new.connections c.leave_subscribers.new.connections) id c.leave_subscribers.ensures.connections)

@@ -4,7 +4,7 @@ use Rattle.std.specs.Option.{option_map}
 use Rattle.iox2_domain.specs.Closes.{left_subscriber}
 use Rattle.iox2_domain.specs.Fields.{Fields}
 use Rattle.iox2_domain.proofs.lemmas.slots.PublisherBooks.{read-there}
-use Rattle.iox2_domain.proofs.lemmas.closes.CloseSteps.{closes-book, closes-covered, closes-history, closes-done}
+use Rattle.iox2_domain.proofs.lemmas.closes.CloseSteps.{closes-book, closes-covered, closes-finds, closes-history, closes-done}
 use Rattle.iox2_ports.proofs.publisher_closes.leave_domain.Goals as goal
 
 pub index_mut-book-requires : goal.index_mut-book-requires
@@ -13,25 +13,25 @@ index_mut-book-requires g c =
     (read-there _ c.args.place _ _ (ap (λ (f : Fields g.row.T.Denot g.row.U.Denot). slice_index_or f.publishers c.args.place None) c.state.view_is ∙ c.requires.stands.1) c.index_mut.ensures.value ∙ sym c.take.ensures.value ∙ c.in-Some.is ∙ ap Some (sym c.publisher.view_is))
 
 pub leave_connections-requires : goal.leave_connections-requires
-leave_connections-requires g c = rw c.value.ensures (record {
-  covered =
-      closes-covered c.args.state.now _ c.state.view_is c.requires.sound c.args.place _
-      (read-there _ c.args.place _ _ (ap (λ (f : Fields g.row.T.Denot g.row.U.Denot). slice_index_or f.publishers c.args.place None) c.state.view_is ∙ c.requires.stands.1) c.index_mut.ensures.value ∙ sym c.take.ensures.value ∙ c.in-Some.is ∙ ap Some (sym c.publisher.view_is))
-      _ c.index_mut-book.ensures.value;
-})
+leave_connections-requires g c =
+    let here = read-there _ c.args.place _ _ (ap (λ (f : Fields g.row.T.Denot g.row.U.Denot). slice_index_or f.publishers c.args.place None) c.state.view_is ∙ c.requires.stands.1) c.index_mut.ensures.value ∙ sym c.take.ensures.value ∙ c.in-Some.is ∙ ap Some (sym c.publisher.view_is) in
+    rw (sym c.publisher.view_is) (record {
+      covered = closes-covered c.args.state.now _ c.state.view_is c.requires.sound c.args.place _ here _ c.index_mut-book.ensures.value;
+      found = rw c.deref.ensures.value (closes-finds c.args.state.now _ c.state.view_is c.requires.sound c.args.place _ here);
+    })
 
 pub give_up_history-requires : goal.give_up_history-requires
 give_up_history-requires g c =
     closes-history c.args.state.now _ c.state.view_is c.requires.sound c.args.place _
     (read-there _ c.args.place _ _ (ap (λ (f : Fields g.row.T.Denot g.row.U.Denot). slice_index_or f.publishers c.args.place None) c.state.view_is ∙ c.requires.stands.1) c.index_mut.ensures.value ∙ sym c.take.ensures.value ∙ c.in-Some.is ∙ ap Some (sym c.publisher.view_is))
-    _ c.index_mut-book.ensures.value c.leave_connections.new.book c.leave_connections.ensures.book c.leave_connections.new.connections (rw c.value.ensures at c.leave_connections.ensures.counters)
+    _ c.index_mut-book.ensures.value c.leave_connections.new.book c.leave_connections.ensures.book c.leave_connections.new.connections (rw (sym c.publisher.view_is) at c.leave_connections.ensures.counters)
 
 pub returns : goal.returns
 returns g c =
     closes-done c.args.state.now _ c.state.view_is c.requires.sound c.args.place _
     (read-there _ c.args.place _ _ (ap (λ (f : Fields g.row.T.Denot g.row.U.Denot). slice_index_or f.publishers c.args.place None) c.state.view_is ∙ c.requires.stands.1) c.index_mut.ensures.value ∙ sym c.take.ensures.value ∙ c.in-Some.is ∙ ap Some (sym c.publisher.view_is))
-    _ c.index_mut-book.ensures.value c.leave_connections.new.book c.leave_connections.ensures.book c.leave_connections.new.connections (rw c.value.ensures at c.leave_connections.ensures.counters)
-    c.leave_connections.ensures.slots (rw (c.value.ensures, c.deref.ensures.value) at c.leave_connections.ensures.connections)
+    _ c.index_mut-book.ensures.value c.leave_connections.new.book c.leave_connections.ensures.book c.leave_connections.new.connections (rw (sym c.publisher.view_is) at c.leave_connections.ensures.counters)
+    c.leave_connections.ensures.slots (rw (sym c.publisher.view_is, c.deref.ensures.value) at c.leave_connections.ensures.connections)
     c.give_up_history.new.book c.give_up_history.ensures.book c.give_up_history.ensures.releases
     _ (with_items_is c.state.inside.subscribers c.forget_everywhere.new.subscribers (c.forget_everywhere.auto.subscribers ∙ c.deref_mut.ensures.len)
     ∙ c.forget_everywhere.ensures ∙ ap (map (option_map (left_subscriber c.leave_connections.new.connections c.args.place))) c.deref_mut.ensures.value) c.take.new.self c.take.ensures.after
