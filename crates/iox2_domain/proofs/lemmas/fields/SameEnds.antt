@@ -1,5 +1,5 @@
 -- Connections change, and none is made, goes or moves: the ends of all ports stay.
-use Rattle.std.proofs.Common.{◌<◌, ◌≡◌, ℕ, map, get_or, refl, ap, sym, subst, ◌∙◌, inl, inr, ◌⊎◌, Option, None, Some}
+use Rattle.std.proofs.Common.{◌<◌, ◌≡◌, ℕ, Bool, map, get_or, refl, ap, sym, subst, ◌∙◌, inl, inr, ◌⊎◌, Option, None, Some}
 use Rattle.std.specs.Prelude.{IsSomeAnd, Contains, []}
 use Rattle.std.specs.Option.{option_map}
 use Rattle.slab.specs.Slab.{Slab, get}
@@ -18,7 +18,7 @@ use mathlib.Core.Path.{fun_ext}
 
 module _ (old new : Slab Link) (same : SameHomes old new) where
   -- what stands at a key is read through what never changes
-  fixed-at : {A : Type 0} (g : Home × ℕ × ℕ → A) (key : ℕ) → option_map (λ c. g (fixed_of c)) (get new key) ≡ option_map (λ c. g (fixed_of c)) (get old key)
+  fixed-at : {A : Type 0} (g : Home × ℕ × ℕ × Bool → A) (key : ℕ) → option_map (λ c. g (fixed_of c)) (get new key) ≡ option_map (λ c. g (fixed_of c)) (get old key)
   fixed-at {A} g key = through (get new key) ∙ ap (option_map g) (same.same key) ∙ sym (through (get old key)) where
     through : (o : Option Link) → option_map (λ c. g (fixed_of c)) o ≡ option_map g (option_map fixed_of o)
     through None = refl
@@ -78,7 +78,7 @@ module _ {T U : Type 0} (f : Fields T U) (new : Slab Link) (same : SameHomes f.c
 
   pub sender-same : (key : ℕ) (c d : Link) → fixed_of c ≡ fixed_of d → SenderHas f.publishers key c → SenderHas f.publishers key d
   sender-same key c d fixed has =
-      let home : c.home ≡ d.home = ap (λ (t : Home × ℕ × ℕ). t.0) fixed in
+      let home : c.home ≡ d.home = ap (λ (t : Home × ℕ × ℕ × Bool). t.0) fixed in
       record {
         publisher = has.publisher;
         stands = subst (λ (h : Home). get_or f.publishers h.publisher_place None ≡ Some has.publisher) home has.stands;
@@ -88,7 +88,7 @@ module _ {T U : Type 0} (f : Fields T U) (new : Slab Link) (same : SameHomes f.c
 
   receiver-same : (key : ℕ) (c d : Link) → fixed_of c ≡ fixed_of d → ReceiverHas f.subscribers key c → ReceiverHas f.subscribers key d
   receiver-same key c d fixed has =
-      let home : c.home ≡ d.home = ap (λ (t : Home × ℕ × ℕ). t.0) fixed in
+      let home : c.home ≡ d.home = ap (λ (t : Home × ℕ × ℕ × Bool). t.0) fixed in
       record {
         subscriber = has.subscriber;
         stands = subst (λ (h : Home). get_or f.subscribers h.subscriber_place None ≡ Some has.subscriber) home has.stands;
@@ -104,22 +104,22 @@ module _ {T U : Type 0} (f : Fields T U) (new : Slab Link) (same : SameHomes f.c
     expired = λ i y at. record { at = λ place key at_key. receiver y.id key ((linked.expired i y at).at place key at_key) };
     ends = λ key c at. let b = before key c at in by key b.0 c b.2 (linked.ends key b.0 b.1);
     receiver_places = λ i place key y c at_y at_key at_c. let b = before key c at_c in
-        sym (ap (λ (t : Home × ℕ × ℕ). t.0.publisher_place) b.2) ∙ linked.receiver_places i place key y b.0 at_y at_key b.1;
+        sym (ap (λ (t : Home × ℕ × ℕ × Bool). t.0.publisher_place) b.2) ∙ linked.receiver_places i place key y b.0 at_y at_key b.1;
     knows = record {
       at = λ key i c y at_c at_y is. let b = before key c at_c in
-          let known = linked.knows.at key i b.0 y b.1 at_y (is ∙ sym (ap (λ (t : Home × ℕ × ℕ). t.0.subscriber) b.2)) in
-          (known.0 ∙ ap (λ (t : Home × ℕ × ℕ). t.0.subscriber_place) b.2, sym (ap (λ (t : Home × ℕ × ℕ). t.1) b.2) ∙ known.1);
+          let known = linked.knows.at key i b.0 y b.1 at_y (is ∙ sym (ap (λ (t : Home × ℕ × ℕ × Bool). t.0.subscriber) b.2)) in
+          (known.0 ∙ ap (λ (t : Home × ℕ × ℕ × Bool). t.0.subscriber_place) b.2, sym (ap (λ (t : Home × ℕ × ℕ × Bool). t.1) b.2) ∙ known.1);
     };
     knows_publishers = λ key i c x at_c at_x is. let b = before key c at_c in
-        linked.knows_publishers key i b.0 x b.1 at_x (is ∙ sym (ap (λ (t : Home × ℕ × ℕ). t.0.publisher) b.2))
-        ∙ ap (λ (t : Home × ℕ × ℕ). t.0.publisher_place) b.2;
+        linked.knows_publishers key i b.0 x b.1 at_x (is ∙ sym (ap (λ (t : Home × ℕ × ℕ × Bool). t.0.publisher) b.2))
+        ∙ ap (λ (t : Home × ℕ × ℕ × Bool). t.0.publisher_place) b.2;
     sender_rooms = λ key i c x at_c at_x is. let b = before key c at_c in
-        subst (λ (n : ℕ). n < x.key_room) (ap (λ (t : Home × ℕ × ℕ). t.0.subscriber_place) b.2)
-        (linked.sender_rooms key i b.0 x b.1 at_x (is ∙ sym (ap (λ (t : Home × ℕ × ℕ). t.0.publisher) b.2)));
+        subst (λ (n : ℕ). n < x.key_room) (ap (λ (t : Home × ℕ × ℕ × Bool). t.0.subscriber_place) b.2)
+        (linked.sender_rooms key i b.0 x b.1 at_x (is ∙ sym (ap (λ (t : Home × ℕ × ℕ × Bool). t.0.publisher) b.2)));
     receiver_rooms = λ key i c y at_c at_y is. let b = before key c at_c in
-        subst (λ (n : ℕ). n < y.key_room) (ap (λ (t : Home × ℕ × ℕ). t.0.publisher_place) b.2)
-        (linked.receiver_rooms key i b.0 y b.1 at_y (is ∙ sym (ap (λ (t : Home × ℕ × ℕ). t.0.subscriber) b.2)));
-    limits = λ key c at. let b = before key c at in sym (ap (λ (t : Home × ℕ × ℕ). t.2) b.2) ∙ linked.limits key b.0 b.1;
+        subst (λ (n : ℕ). n < y.key_room) (ap (λ (t : Home × ℕ × ℕ × Bool). t.0.publisher_place) b.2)
+        (linked.receiver_rooms key i b.0 y b.1 at_y (is ∙ sym (ap (λ (t : Home × ℕ × ℕ × Bool). t.0.subscriber) b.2)));
+    limits = λ key c at. let b = before key c at in sym (ap (λ (t : Home × ℕ × ℕ × Bool). t.2) b.2) ∙ linked.limits key b.0 b.1;
     returned = returned;
   } where
     before : (key : ℕ) (d : Link) → get new key ≡ Some d → (c : Link) × (get f.connections key ≡ Some c) × (fixed_of c ≡ fixed_of d)
@@ -131,8 +131,8 @@ module _ {T U : Type 0} (f : Fields T U) (new : Slab Link) (same : SameHomes f.c
       by None n e h = absurd h
       by (Some c) None e h = absurd cc
       by (Some c) (Some d) e h = let is : fixed_of d ≡ fixed_of c = cc in record {
-        publisher = ap (λ (t : Home × ℕ × ℕ). t.0.publisher) is ∙ h.publisher;
-        place = ap (λ (t : Home × ℕ × ℕ). t.0.subscriber_place) is ∙ h.place;
+        publisher = ap (λ (t : Home × ℕ × ℕ × Bool). t.0.publisher) is ∙ h.publisher;
+        place = ap (λ (t : Home × ℕ × ℕ × Bool). t.0.subscriber_place) is ∙ h.place;
       }
 
     receiver : (q key : ℕ) → IsSomeAnd (get f.connections key) (IsReceivers q (f.config).subscriber_max_borrowed_samples)
@@ -143,8 +143,8 @@ module _ {T U : Type 0} (f : Fields T U) (new : Slab Link) (same : SameHomes f.c
       by None n e h = absurd h
       by (Some c) None e h = absurd cc
       by (Some c) (Some d) e h = let is : fixed_of d ≡ fixed_of c = cc in record {
-        subscriber = ap (λ (t : Home × ℕ × ℕ). t.0.subscriber) is ∙ h.subscriber;
-        limit = ap (λ (t : Home × ℕ × ℕ). t.2) is ∙ h.limit;
+        subscriber = ap (λ (t : Home × ℕ × ℕ × Bool). t.0.subscriber) is ∙ h.subscriber;
+        limit = ap (λ (t : Home × ℕ × ℕ × Bool). t.2) is ∙ h.limit;
       }
 
     by : (key : ℕ) (c d : Link) → fixed_of c ≡ fixed_of d → SenderHas f.publishers key c ⊎ ReceiverHas f.subscribers key c

@@ -14,7 +14,7 @@ reclaim_from-requires g c =
 pub returns-then-not-is_open-clause-puts : goal.returns-then-not-is_open-clause-puts
 returns-then-not-is_open-clause-puts g c =
     reclaim-passes c.args.place _ c.requires.ready c.in-Some.is _ c.index_mut-connection.result.now c.index_mut-connection.ensures.value c.requires.covered c.reclaim_from.new.book.holders c.reclaim_from.new.connection c.reclaim_from.ensures.reclaims
-    fixed_handlers c.args.config.now c.args.delivery.now (rw c.home.ensures.value at (sym c.is_open.ensures ∙ c.if-not-is_open.true))
+    fixed_handlers c.args.config.now c.args.delivery.now (sym c.is_open.ensures ∙ c.if-not-is_open.true)
 
 pub returns-then-not-is_open-clause-recounts : goal.returns-then-not-is_open-clause-recounts
 returns-then-not-is_open-clause-recounts g c =
@@ -34,7 +34,7 @@ recount-requires-clause-overwritten g c =
 pub returns-clause-puts : goal.returns-clause-puts
 returns-clause-puts g c =
     reclaim-puts c.args.place _ c.requires.ready c.in-Some.is _ c.index_mut-connection.result.now c.index_mut-connection.ensures.value c.requires.covered c.reclaim_from.new.book.holders c.reclaim_from.new.connection c.reclaim_from.ensures.reclaims
-    fixed_handlers c.args.config.now c.args.delivery.now c.put-outcome.result c.put-outcome.new.self c.reception_of.result refl (rw c.home.ensures.value at (sym c.is_open.ensures ∙ c.if-not-is_open.false))
+    fixed_handlers c.args.config.now c.args.delivery.now c.put-outcome.result c.put-outcome.new.self c.reception_of.result refl (sym c.is_open.ensures ∙ c.if-not-is_open.false)
     c.put-outcome.ensures.put c.reception_of.ensures
 
 pub returns-clause-recounts : goal.returns-clause-recounts
