@@ -17,6 +17,7 @@ use Rattle.iox2_closes.specs.Agreement.{IsOrphan, HasOwnedParts}
 use Rattle.iox2_closes.specs.Closes.{IsDeparted, IsBusy, IsLeftAt, FreesBook, ForgetsIfEmpty, is_empty_link, shut_subscriber, without_key}
 use Rattle.iox2_closes.proofs.CloseSteps.{book, stays-busy, forgot-parts, book-left, others-busy, forgets-empty}
 use Rattle.iox2_closes.proofs.CloseWalk.{IsClosing, closing-begins}
+use Rattle.iox2_domain.specs.OpenMarks.{IsUnmarkedReceiver}
 
 -- there is something
 pub some-of : {A : Type 0} (o : Option A) → IsSome o → (x : A) × (o ≡ Some x)
@@ -94,11 +95,11 @@ module _ {T U : Type 0} (f : Fields T U) (parts : HasOwnedParts f) (place key : 
 module _ {T U : Type 0} where
   -- the walk begins where the subscriber was shut
   pub closing-starts : (v f : Fields T U) → v ≡ f → (sound : IsDomain f) (place : ℕ) (y : SubscriberFields) (at_y : get_or f.subscribers place None ≡ Some y)
-      → (subscribers : List (Option SubscriberFields)) → subscribers ≡ changed_at shut_subscriber f.subscribers place
+      → IsUnmarkedReceiver f.connections place → (subscribers : List (Option SubscriberFields)) → subscribers ≡ changed_at shut_subscriber f.subscribers place
       → (keys : ℕ) → length (v.connections).slots ≤ keys → IsClosing f sound place y at_y keys 0 (record v { subscribers = subscribers })
-  closing-starts v f same sound place y at_y subscribers settled keys long =
+  closing-starts v f same sound place y at_y unmarked subscribers settled keys long =
       subst (IsClosing f sound place y at_y keys 0) (sym ((λ i. record (same i) { subscribers = settled i }) ∙ (λ i. record f { subscribers = slice_set f.subscribers place (option_map shut_subscriber (at_y i)) })))
-      (closing-begins f sound place y at_y keys (λ k c at.
+      (closing-begins f sound place y at_y unmarked keys (λ k c at.
       let low = within_if_some (f.connections).slots k c at in
       let size : length (v.connections).slots ≡ length (f.connections).slots = ap (λ (g : Fields T U). length (g.connections).slots) same in
       omega (arith, low, size, long)))

@@ -32,6 +32,7 @@ use Rattle.iox2_closes.proofs.ClosedSubscribers.{shut, with_shut, shut-parts, sh
 use Rattle.iox2_closes.proofs.KeptMessages.{keeps-trans}
 use Rattle.iox2_closes.proofs.Sheds.{Sheds, with_publishers, sheds-none, sheds-there, sheds-dropped, sheds-forgotten}
 use Rattle.iox2_closes.proofs.CloseSteps.{link-busy, receiver-stands, departed-absent, box-numbers}
+use Rattle.iox2_domain.specs.OpenMarks.{IsUnmarkedReceiver}
 
 -- a subscriber's end leads through a connection
 pub receiver-leads : (connections : Slab Link) (keys : List (Option ℕ)) (i p : ℕ) → occupant (receiver_ends connections keys) i ≡ Some p
@@ -110,9 +111,9 @@ module _ {T U : Type 0} (f : Fields T U) (sound : IsDomain f) (place : ℕ) (y :
     pub sheds : Sheds shut_state y.id (record port { is_open = false }) (state_of (kept_of f'))
 
   -- it begins where the subscriber was shut
-  pub closing-begins : (keys : ℕ) → ((k : ℕ) (c : Link) → get f.connections k ≡ Some c → k < keys) → IsClosing keys 0 (with_shut f (owned_parts_of f sound) place y at_y)
-  closing-begins keys bounded = record {
-    parts = shut-parts f (owned_parts_of f sound) place y at_y;
+  pub closing-begins : IsUnmarkedReceiver f.connections place → (keys : ℕ) → ((k : ℕ) (c : Link) → get f.connections k ≡ Some c → k < keys) → IsClosing keys 0 (with_shut f (owned_parts_of f sound) place y at_y)
+  closing-begins unmarked keys bounded = record {
+    parts = shut-parts f (owned_parts_of f sound) place y at_y unmarked;
     messages = record { back = λ k slot m e. e; forth = λ k slot n m has e. e; number = λ k slot n has. has };
     publishers = refl;
     next_port = refl;
@@ -121,7 +122,7 @@ module _ {T U : Type 0} (f : Fields T U) (sound : IsDomain f) (place : ℕ) (y :
     busy = sound-busy f sound;
     dropped = λ k c low at its departed. absurd (omega (arith, low));
     held = left-held f sound;
-    sheds = subst (Sheds shut_state y.id (record port { is_open = false })) (sym (shut-is f (owned_parts_of f sound) place y at_y))
+    sheds = subst (Sheds shut_state y.id (record port { is_open = false })) (sym (shut-is f (owned_parts_of f sound) place y at_y unmarked))
         (sheds-none shut_state y.id (record port { is_open = false }) own);
   } where
     shut-here : get_or (with_shut f (owned_parts_of f sound) place y at_y).subscribers place None ≡ Some (shut f (owned_parts_of f sound) place y at_y)

@@ -165,10 +165,10 @@ IsReadyToDeliver-same p old new keys receivers ready same = record {
         let know = ready.knows.at key i c'.0 y c'.1 at_y (e ∙ sym (ap (λ (t : Home × ℕ × ℕ × Bool). t.0.subscriber) c'.2)) in
         (know.0 ∙ ap (λ (t : Home × ℕ × ℕ × Bool). t.0.subscriber_place) c'.2, sym (ap (λ (t : Home × ℕ × ℕ × Bool). t.1) c'.2) ∙ know.1);
   };
-  marked = λ key c at_c open.
+  marked = λ key c at_c is_marked.
       let c' = was old new key c same at_c in
       ap (λ (t : Home × ℕ × ℕ × Bool). is_open_at receivers t.0.subscriber_place t.0.subscriber) (sym c'.2)
-      ∙ ready.marked key c'.0 c'.1 (ap (λ (t : Home × ℕ × ℕ × Bool). t.3) c'.2 ∙ open);
+      ∙ ready.marked key c'.0 c'.1 (ap (λ (t : Home × ℕ × ℕ × Bool). t.3) c'.2 ∙ is_marked);
   one_id = ready.one_id;
 }
 

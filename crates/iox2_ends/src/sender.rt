@@ -1,7 +1,7 @@
 //! A publisher's end: its messages go to the connections at its places.
 ghost use Rattle.std.specs.Prelude.{◌≡◌, ℕ, ◌+◌, ◌≤◌, ◌<◌, ◌^◌, [], ◌∷◌, ◌++◌, true, None, length, slice_index, slice_index_or, IsSomeAnd, map};
 ghost use Rattle.std.specs.Option.{option_map};
-ghost use Rattle.iox2_store.specs.Link.{load};
+ghost use Rattle.iox2_store.specs.Link.{load, IsBounded};
 ghost use Rattle.iox2_store.specs.SlotBook.{holders_at, IsInUse};
 ghost use Rattle.iox2_store.specs.machine.Numbers.{last_n};
 ghost use Rattle.iox2_store.specs.machine.Delivery.{is_blocking, accepted_count};
@@ -138,8 +138,9 @@ fn stands_open<R: Receiver>(receivers: &[Option<R>], place: usize, id: u128) -> 
 // Whether the subscriber of a connection, which the publisher knows at the place, is open. The mark of
 // the connection mostly says so.
 fn is_open<R: Receiver>(connection: &Connection, receivers: &[Option<R>], place: usize) -> bool
-    requires marked { connection.now.is_open ≡ true → is_open_at (map (option_map R.details_of) receivers.now) place connection.now.home.subscriber ≡ true }
-    ensures { result ≡ is_open_at (map (option_map R.details_of) receivers.now) place connection.now.home.subscriber }
+    requires { connection.now.is_open ≡ true → is_open_at (map (option_map R.details_of) receivers.now) place connection.now.home.subscriber ≡ true }
+    ensures value { result ≡ is_open_at (map (option_map R.details_of) receivers.now) place connection.now.home.subscriber }
+    ensures bounded { IsBounded connection.now }
 {
     connection.is_open() || stands_open(receivers, place, connection.home().subscriber)
 }

@@ -150,7 +150,8 @@ impl Connection {
 
     /// Whether the connection is marked as open. Its owner says what the mark means.
     pub fn is_open(&self) -> bool
-        ensures { result ≡ self.now.is_open }
+        ensures value { result ≡ self.now.is_open }
+        ensures bounded { IsBounded self.now }
     {
         self.is_open
     }
