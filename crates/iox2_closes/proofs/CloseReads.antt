@@ -23,6 +23,7 @@ use Rattle.iox2_closes.proofs.CloseSteps.{book, stays-busy, forgot-parts, book-l
 use Rattle.iox2_closes.proofs.ForgottenKeys.{listed-at}
 use Rattle.iox2_closes.proofs.CloseWalk.{IsClosing, closing-begins, closing-passes}
 use Rattle.iox2_closes.proofs.CloseKeys.{ExpiredBelow, ExpiredLeft, KeysLeft}
+use Rattle.iox2_domain.specs.OpenMarks.{IsUnmarkedReceiver}
 
 -- there is something
 pub some-of : {A : Type 0} (o : Option A) → IsSome o → (x : A) × (o ≡ Some x)
@@ -167,12 +168,12 @@ module _ {T U : Type 0} (f : Fields T U) (parts : HasOwnedParts f) (place key : 
 module _ {T U : Type 0} where
   -- the walk begins where the subscriber was shut, with its last expired key
   pub closing-starts : (v f : Fields T U) → v ≡ f → (sound : IsDomain f) (place : ℕ) (y : SubscriberFields) (at_y : get_or f.subscribers place None ≡ Some y)
-      → (subscribers : List (Option SubscriberFields)) → subscribers ≡ changed_at shut_subscriber f.subscribers place
+      → IsUnmarkedReceiver f.connections place → (subscribers : List (Option SubscriberFields)) → subscribers ≡ changed_at shut_subscriber f.subscribers place
       → (count : ℕ) → ((z : SubscriberFields) → get_or subscribers place None ≡ Some z → count ≡ length z.expired)
       → IsClosing f sound place y at_y (ExpiredLeft count) (record v { subscribers = subscribers })
-  closing-starts v f same sound place y at_y subscribers settled count counted =
+  closing-starts v f same sound place y at_y unmarked subscribers settled count counted =
       subst (IsClosing f sound place y at_y (ExpiredLeft count)) (sym ((λ i. record (same i) { subscribers = settled i }) ∙ (λ i. record f { subscribers = slice_set f.subscribers place (option_map shut_subscriber (at_y i)) })))
-      (closing-begins f sound place y at_y (ExpiredLeft count) (λ k knows. elim knows [ inl has ↦ inl has | inr among ↦ inr (below k among) ]))
+      (closing-begins f sound place y at_y unmarked (ExpiredLeft count) (λ k knows. elim knows [ inl has ↦ inl has | inr among ↦ inr (below k among) ]))
     where
       all : count ≡ length y.expired
       all = counted (shut_subscriber y) (ap (λ (ys : List (Option SubscriberFields)). get_or ys place None) settled

@@ -31,6 +31,7 @@ use Rattle.iox2_closes.proofs.ClosedSubscribers.{shut, with_shut, shut-parts, sh
 use Rattle.iox2_closes.proofs.KeptMessages.{keeps-trans}
 use Rattle.iox2_closes.proofs.Sheds.{Sheds, with_publishers, sheds-none, sheds-there, sheds-dropped, sheds-forgotten}
 use Rattle.iox2_closes.proofs.CloseSteps.{link-busy, receiver-stands, departed-absent, box-numbers}
+use Rattle.iox2_domain.specs.OpenMarks.{IsUnmarkedReceiver}
 
 -- a subscriber's end leads through a connection
 pub receiver-leads : (connections : Slab Link) (keys : List (Option ℕ)) (i p : ℕ) → occupant (receiver_ends connections keys) i ≡ Some p
@@ -127,10 +128,10 @@ module _ {T U : Type 0} (f : Fields T U) (sound : IsDomain f) (place : ℕ) (y :
     knows z i k (inr among) = inr among
 
   -- it begins where the subscriber was shut
-  pub closing-begins : (rest : SubscriberFields → ℕ → Type 0) → ((k : ℕ) → KnowsKey y k → rest (shut f (owned_parts_of f sound) place y at_y) k)
+  pub closing-begins : IsUnmarkedReceiver f.connections place → (rest : SubscriberFields → ℕ → Type 0) → ((k : ℕ) → KnowsKey y k → rest (shut f (owned_parts_of f sound) place y at_y) k)
       → IsClosing rest (with_shut f (owned_parts_of f sound) place y at_y)
-  closing-begins rest all = record {
-    parts = shut-parts f (owned_parts_of f sound) place y at_y;
+  closing-begins unmarked rest all = record {
+    parts = shut-parts f (owned_parts_of f sound) place y at_y unmarked;
     messages = record { back = λ k slot m e. e; forth = λ k slot n m has e. e; number = λ k slot n has. has };
     publishers = refl;
     next_port = refl;
@@ -138,7 +139,7 @@ module _ {T U : Type 0} (f : Fields T U) (sound : IsDomain f) (place : ℕ) (y :
     busy = sound-busy f sound;
     dropped = λ k c at its departed. inr (all k (left-known k c at its departed));
     held = left-held f sound;
-    sheds = subst (Sheds shut_state y.id (record port { is_open = false })) (sym (shut-is f (owned_parts_of f sound) place y at_y))
+    sheds = subst (Sheds shut_state y.id (record port { is_open = false })) (sym (shut-is f (owned_parts_of f sound) place y at_y unmarked))
         (sheds-none shut_state y.id (record port { is_open = false }) own);
   } where
     shut-here : get_or (with_shut f (owned_parts_of f sound) place y at_y).subscribers place None ≡ Some (shut f (owned_parts_of f sound) place y at_y)

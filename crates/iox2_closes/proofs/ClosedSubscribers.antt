@@ -20,13 +20,15 @@ use Rattle.iox2_domain.specs.Kept.{Named, state_of, port_named, ids, is_named}
 use Rattle.iox2_domain.specs.Fields.{Fields, kept_of, subscriber_of}
 use Rattle.iox2_domain.specs.Invariant.{SenderHas, ReceiverHas, is_subscriber}
 use Rattle.iox2_domain.proofs.lemmas.containers.LookUps.{map-at, viewed, IsOnly-map}
-use Rattle.iox2_domain.proofs.lemmas.containers.ChangedRecords.{changed-here, changed-stood, changed-still, changed-ids, changed-ports}
+use Rattle.iox2_domain.proofs.lemmas.containers.ChangedRecords.{changed-here, changed-stood, changed-still, changed-ids, changed-ports, changed-others}
 use Rattle.iox2_domain.proofs.lemmas.creations.PublishersDue.{with_publishers_due}
 use Rattle.iox2_closes.specs.Closes.{IsEmptyLink}
 use Rattle.iox2_closes.specs.Agreement.{HasOwnedParts}
 use Rattle.iox2_domain.proofs.lemmas.fields.Standing.{some_is}
 use Rattle.iox2_closes.proofs.ForgottenKeys.{ForgetsSenderKeys, ForgetsReceiverKeys, IsForgotten, Forgets, forgotten, forgotten-parts, listed-at}
 use Rattle.iox2_closes.proofs.ForgottenStates.{forgotten-is}
+use Rattle.iox2_domain.proofs.lemmas.fields.OpenReceivers.{open-changed, open-still}
+use Rattle.iox2_domain.specs.OpenMarks.{IsUnmarkedReceiver}
 use mathlib.Core.Path.{fun_ext}
 
 -- ---- lists without a key
@@ -117,6 +119,7 @@ module _ {T U : Type 0} (f : Fields T U) (parts : HasOwnedParts f) where
     gone = λ key c at none. clash _ (get f.connections key) c none at;
     ends = λ key c at. elim (parts.parts.linked.ends key c at) [ inl has ↦ inl (due-has key c has) | inr has ↦ inr has ];
     returned = λ key c at. elim (parts.parts.linked.returned key c at) [ inl has ↦ inl (due-has key c has) | inr none ↦ inr none ];
+    marked = λ key c at is. let both = parts.parts.linked.marked key c at is in record { sender = due-has key c both.sender; receiver = both.receiver };
   }
 
   -- the fields with every publisher due agree with one another
@@ -169,8 +172,8 @@ module _ {T U : Type 0} (f : Fields T U) (parts : HasOwnedParts f) (j : ℕ) (y 
   shut-receiver : ForgetsReceiverKeys y shut
   shut-receiver = record { fields = refl; keys = λ i key at. at; expired = λ key has. inl has }
 
-  forgets-shut : Forgets f f.publishers (slice_set f.subscribers j (Some shut)) f.connections
-  forgets-shut = record {
+  forgets-shut : IsUnmarkedReceiver f.connections j → Forgets f f.publishers (slice_set f.subscribers j (Some shut)) f.connections
+  forgets-shut unmarked = record {
     senders = λ i x at. (x, at, same-sender x);
     senders_stay = λ i x at. (x, at, same-sender x);
     receivers = λ i z at_z. elim (changed-stood f.subscribers j y shut at i z at_z) [
@@ -181,6 +184,11 @@ module _ {T U : Type 0} (f : Fields T U) (parts : HasOwnedParts f) (j : ℕ) (y 
     gone = λ key c at none. clash _ (get f.connections key) c none at;
     ends = λ key c at. elim (parts.parts.linked.ends key c at) [ inl has ↦ inl has | inr has ↦ inr (still key c has) ];
     returned = parts.parts.linked.returned;
+    marked = λ key c at_c is. let both = parts.parts.linked.marked key c at_c is in record {
+      sender = both.sender;
+      receiver = open-still f.subscribers (slice_set f.subscribers j (Some shut)) c
+          (λ z at_z. (z, changed-others f.subscribers j y shut at c.home.subscriber_place (unmarked.at key c at_c is) ∙ at_z, refl, refl)) both.receiver;
+    };
   } where
     still : (key : ℕ) (c : Link) → ReceiverHas f.subscribers key c → ReceiverHas (slice_set f.subscribers j (Some shut)) key c
     still key c has = elim (changed-still f.subscribers j y shut at c.home.subscriber_place has.subscriber has.stands) [
@@ -197,11 +205,11 @@ module _ {T U : Type 0} (f : Fields T U) (parts : HasOwnedParts f) (j : ℕ) (y 
   abbrev pub with_shut : Fields T U
   with_shut = record f { subscribers = slice_set f.subscribers j (Some shut) }
 
-  pub shut-parts : HasOwnedParts with_shut
-  shut-parts = forgotten-parts f parts f.publishers (slice_set f.subscribers j (Some shut)) f.connections forgets-shut
+  pub shut-parts : IsUnmarkedReceiver f.connections j → HasOwnedParts with_shut
+  shut-parts unmarked = forgotten-parts f parts f.publishers (slice_set f.subscribers j (Some shut)) f.connections (forgets-shut unmarked)
 
-  pub shut-is : state_of (kept_of with_shut) ≡ record (state_of (kept_of f)) { subscribers = put_at (state_of (kept_of f)).subscribers y.id (Some (record ((seen y).port) { is_open = false })) }
-  shut-is = changed-is shut refl f.connections forgets-shut
+  pub shut-is : IsUnmarkedReceiver f.connections j → state_of (kept_of with_shut) ≡ record (state_of (kept_of f)) { subscribers = put_at (state_of (kept_of f)).subscribers y.id (Some (record ((seen y).port) { is_open = false })) }
+  shut-is unmarked = changed-is shut refl f.connections (forgets-shut unmarked)
 
   -- ---- it forgets an empty connection that its publisher doesn't have
 
@@ -285,6 +293,8 @@ module _ {T U : Type 0} (f : Fields T U) (parts : HasOwnedParts f) (j : ℕ) (y 
         | inr has ↦ inr (still-has k d (left-elsewhere k d at_d) has)
       ];
       returned = λ k d at_d. parts.parts.linked.returned k d (left-before k d at_d);
+      marked = λ k d at_d is. let both = parts.parts.linked.marked k d (left-before k d at_d) is in
+          record { sender = both.sender; receiver = open-changed f.subscribers j y forgetful at refl refl d both.receiver };
     }
 
     -- the fields without the connection

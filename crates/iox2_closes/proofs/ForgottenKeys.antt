@@ -16,7 +16,7 @@ use Rattle.iox2_ends.specs.declared.sender.ReceiverDetails.{ReceiverDetails}
 use Rattle.iox2_ends.proofs.LookUps.{look_up-there, look_up-none, look_up-found, look_up-nothing}
 use Rattle.iox2_domain.specs.Ports.{PublisherFields, SubscriberFields}
 use Rattle.iox2_domain.specs.Fields.{Fields, is_book_of}
-use Rattle.iox2_domain.specs.Invariant.{IsLinked, HasBook, HasBooks, IsCounted, HasPublisherRoom, IsPlain, IsPlainSubscriber, HasExpiredRoom, SenderHas, ReceiverHas, is_publisher, is_subscriber, own_holders, is_loan_in, details_of, connection_count, one_if_receivers}
+use Rattle.iox2_domain.specs.Invariant.{IsLinked, HasBook, HasBooks, IsCounted, HasPublisherRoom, IsPlain, IsPlainSubscriber, HasExpiredRoom, SenderHas, ReceiverHas, is_publisher, is_subscriber, own_holders, is_loan_in, details_of, connection_count, one_if_receivers, IsBetweenOpen}
 use Rattle.iox2_domain.proofs.lemmas.slots.Recounts.{sum-alike}
 use Rattle.iox2_domain.proofs.lemmas.containers.LookUps.{map-at, viewed}
 use Rattle.iox2_closes.specs.Closes.{IsEmptyLink}
@@ -52,6 +52,7 @@ pub record Forgets {T U : Type 0} (f : Fields T U) (publishers : List (Option Pu
   pub gone : (key : ℕ) (c : Link) → get f.connections key ≡ Some c → get connections key ≡ None → IsForgotten publishers subscribers key c
   pub ends : (key : ℕ) (c : Link) → get connections key ≡ Some c → SenderHas publishers key c ⊎ ReceiverHas subscribers key c
   pub returned : (key : ℕ) (c : Link) → get connections key ≡ Some c → SenderHas publishers key c ⊎ (c.returned ≡ [])
+  pub marked : (key : ℕ) (c : Link) → get connections key ≡ Some c → c.is_open ≡ true → IsBetweenOpen publishers subscribers key c
 
 -- ---- lists
 
@@ -206,6 +207,7 @@ module _ {T U : Type 0} (f : Fields T U) (parts : HasOwnedParts f) (publishers :
         (parts.parts.linked.receiver_rooms key i c was.0 (g.fewer key c at_c) was.1 (sym (ap (λ (z : SubscriberFields). z.id) was.2.fields) ∙ same));
     limits = λ key c at. parts.parts.linked.limits key c (g.fewer key c at);
     returned = g.returned;
+    marked = g.marked;
   } where
     knows : (key i : ℕ) (c : Link) (d : ReceiverDetails) → get connections key ≡ Some c → (y : SubscriberFields) × (get_or subscribers i None ≡ Some y) × (d ≡ details_of y)
         → d.port_id ≡ c.home.subscriber → (i ≡ c.home.subscriber_place) × (c.buffer ≡ d.buffer_size)

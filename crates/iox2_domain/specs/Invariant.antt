@@ -65,6 +65,18 @@ pub record ReceiverHas (subscribers : List (Option SubscriberFields)) (key : ℕ
   pub is_its : subscriber.id ≡ c.home.subscriber
   pub has : (slice_index_or subscriber.keys c.home.publisher_place None ≡ Some key) ⊎ Contains subscriber.expired key
 
+-- The subscriber of the connection stands at the place where the connection says, and is open.
+pub record HasOpenReceiver (subscribers : List (Option SubscriberFields)) (c : Link) : Type 0 where
+  pub subscriber : SubscriberFields
+  pub stands : slice_index_or subscribers c.home.subscriber_place None ≡ Some subscriber
+  pub is_its : subscriber.id ≡ c.home.subscriber
+  pub is_open : subscriber.is_open ≡ true
+
+-- The publisher has the connection at that key, and its subscriber is open.
+pub record IsBetweenOpen (publishers : List (Option PublisherFields)) (subscribers : List (Option SubscriberFields)) (key : ℕ) (c : Link) : Type 0 where
+  pub sender : SenderHas publishers key c
+  pub receiver : HasOpenReceiver subscribers c
+
 -- Every port and every connection know of each other.
 pub record IsLinked {T U : Type 0} (f : Fields T U) : Type 0 where
   pub senders : (i : ℕ) (x : PublisherFields) → slice_index_or f.publishers i None ≡ Some x → IsSenderLinked x.id f.connections x.keys
@@ -90,6 +102,8 @@ pub record IsLinked {T U : Type 0} (f : Fields T U) : Type 0 where
   pub limits : (key : ℕ) (c : Link) → get f.connections key ≡ Some c → c.limit ≡ (f.config).subscriber_max_borrowed_samples
   -- Slots that were given back lie where their publisher reclaims them.
   pub returned : (key : ℕ) (c : Link) → get f.connections key ≡ Some c → SenderHas f.publishers key c ⊎ (c.returned ≡ [])
+  -- A connection that is marked as open is one between open ports.
+  pub marked : (key : ℕ) (c : Link) → get f.connections key ≡ Some c → c.is_open ≡ true → IsBetweenOpen f.publishers f.subscribers key c
 
 -- One where the connection is the subscriber q's.
 abbrev pub one_if_receivers : (q : ℕ) → Option Link → ℕ

@@ -4,6 +4,7 @@ pub mod Shows
 pub mod Fields
 pub mod Invariant
 pub mod FreshFields
+pub mod OpenMarks
 pub mod Placed
 pub mod Reaches
 pub mod SampleSlots

@@ -6,7 +6,6 @@ use Rattle.iox2_store.specs.Link.{Link}
 use Rattle.iox2_store.specs.machine.Numbers.{contains}
 use Rattle.iox2_store.specs.SlotBook.{Book}
 use Rattle.iox2_domain.specs.Fields.{Fields, numbers_of}
-use Rattle.iox2_domain.specs.Ports.{PublisherFields, SubscriberFields}
 use Rattle.iox2_domain.specs.declared.message_slots.MessageSlot.{MessageSlot}
 use Rattle.iox2_domain.specs.declared.sample_slots.SampleAt.{SampleAt}
 use Rattle.iox2_domain.specs.declared.sample_slots.SampleSlot.{SampleSlot}
@@ -39,15 +38,10 @@ LiesBorrowedInSlot f subscriber number at =
 abbrev pub LiesAtHint : {T U : Type 0} → Fields T U → SampleAt → Type 0
 LiesAtHint f sample = LiesBorrowed f sample.subscriber sample.number (record { connection = sample.connection; book = sample.book; slot = sample.slot })
 
--- The sample lies where it says, and both ports of its connection stay: the publisher stands, and the subscriber is open.
+-- The sample lies where it says, in a connection that is marked as open.
 pub record IsReturnable {T U : Type 0} (f : Fields T U) (sample : SampleAt) : Type 0 where
   pub lies : LiesAtHint f sample
-  pub publisher : PublisherFields
-  pub has_publisher : slice_index_or f.publishers (lies.connection).home.publisher_place None ≡ Some publisher
-  pub has_book : publisher.book ≡ (lies.connection).home.book
-  pub subscriber : SubscriberFields
-  pub has_subscriber : slice_index_or f.subscribers (lies.connection).home.subscriber_place None ≡ Some subscriber
-  pub is_open : subscriber.is_open ≡ true
+  pub marked : (lies.connection).is_open ≡ true
 
 -- The subscriber has borrowed a message with this number in the connection at the key.
 pub record BorrowsAt {T U : Type 0} (f : Fields T U) (key subscriber number : ℕ) : Type 0 where

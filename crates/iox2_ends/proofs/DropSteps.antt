@@ -1,5 +1,5 @@
 -- What waits in a connection is lost, one slot after the other.
-use Rattle.std.proofs.Common.{◌≡◌, ℕ, ◌<◌, List, [], length, None, Some, get_or, refl, ap, sym, ◌∙◌, arith}
+use Rattle.std.proofs.Common.{◌≡◌, ℕ, Bool, ◌<◌, List, [], length, None, Some, get_or, refl, ap, sym, ◌∙◌, arith}
 use Rattle.std.proofs.lemmas.List.{length-set}
 use Rattle.std.specs.Prelude.{IsSomeAnd}
 use Rattle.slab.specs.Slab.{Slab, ContainsKey, get, Updates, with_value}
@@ -88,7 +88,7 @@ drops-at p hs hs' slab key c d apart own at r is = record {
   recounts = record {
     homes = SameHomes-updated slab (with_value slab key d) key c d at fixed u;
     others = KeepsOthers-updated p slab (with_value slab key d) key c (Some d) at mine u;
-    counters = CountersFollow-changed p hs hs' slab.slots key c d at mine (ap (λ (t : Home × ℕ × ℕ). t.0.publisher) fixed ∙ mine) r.counters;
+    counters = CountersFollow-changed p hs hs' slab.slots key c d at mine (ap (λ (t : Home × ℕ × ℕ × Bool). t.0.publisher) fixed ∙ mine) r.counters;
     slots = r.slots;
     in_use = λ n some. omega (arith, r.shrinks n, some);
     fewer = returned-updated slab (with_value slab key d) key c d at r.fewer u;
@@ -123,7 +123,7 @@ pub drops-recount : (p : ℕ) (hs hs' : List ℕ) (slab : Slab Link) (key : ℕ)
 drops-recount p hs hs' slab key c d at mine drops = record {
   homes = SameHomes-updated slab (with_value slab key d) key c d at fixed u;
   others = KeepsOthers-updated p slab (with_value slab key d) key c (Some d) at mine u;
-  counters = CountersFollow-changed p hs hs' slab.slots key c d at mine (ap (λ (t : Home × ℕ × ℕ). t.0.publisher) fixed ∙ mine) drops.counters;
+  counters = CountersFollow-changed p hs hs' slab.slots key c d at mine (ap (λ (t : Home × ℕ × ℕ × Bool). t.0.publisher) fixed ∙ mine) drops.counters;
   slots = drops.slots;
   in_use = λ n some. omega (arith, drops.shrinks n, some);
   fewer = returned-updated slab (with_value slab key d) key c d at (rw drops.kept (omega arith)) u;

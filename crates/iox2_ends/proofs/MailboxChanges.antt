@@ -61,8 +61,8 @@ IsApart-same old new apart same = record {
         let x' = was old new i x same at_i in
         let y' = was old new j y same at_j in
         (apart.one p q).one i j x'.0 y'.0 x'.1 y'.1
-        (ap (λ (t : Home × ℕ × ℕ). eqb t.0.publisher p && eqb t.0.subscriber q) x'.2 ∙ is_x)
-        (ap (λ (t : Home × ℕ × ℕ). eqb t.0.publisher p && eqb t.0.subscriber q) y'.2 ∙ is_y);
+        (ap (λ (t : Home × ℕ × ℕ × Bool). eqb t.0.publisher p && eqb t.0.subscriber q) x'.2 ∙ is_x)
+        (ap (λ (t : Home × ℕ × ℕ × Bool). eqb t.0.publisher p && eqb t.0.subscriber q) y'.2 ∙ is_y);
   };
 }
 
@@ -105,7 +105,7 @@ others-stay number old new p r q apart same kept differs = ap (mailbox_if_any (n
   by None e = look_up-nothing (is_between r q) new.slots (λ i d at.
       let c = was old new i d same at in
       let no : is_between r q c.0 ≡ false = look_up-none (is_between r q) old.slots e i c.0 c.1 in
-      ap (λ (t : Home × ℕ × ℕ). eqb t.0.publisher r && eqb t.0.subscriber q) (sym c.2) ∙ no)
+      ap (λ (t : Home × ℕ × ℕ × Bool). eqb t.0.publisher r && eqb t.0.subscriber q) (sym c.2) ∙ no)
   by (Some c) e =
       let found = look_up-there (is_between r q) old.slots c e in
       look_up-found (is_between r q) new.slots found.0 c ((IsApart-same old new apart same).one r q)
@@ -121,7 +121,7 @@ mailboxes-changed number slab new key c d apart at fixed u = fun_ext (λ r. fun_
   by : (r q : ℕ) → mailboxes_of number new r q ≡ with_box (mailboxes_of number slab) c.home.publisher c.home.subscriber (mailbox_of (number c.home.publisher) d) r q
   by r q = elim (cases_eq r c.home.publisher) [
     | inl here ↦ rw (here, eq-eqb c.home.publisher c.home.publisher refl)
-        (row-changed number slab new key c.home.publisher c d apart (IsApart-same slab new apart same) at refl (ap (λ (t : Home × ℕ × ℕ). t.0) fixed) u q)
+        (row-changed number slab new key c.home.publisher c d apart (IsApart-same slab new apart same) at refl (ap (λ (t : Home × ℕ × ℕ × Bool). t.0) fixed) u q)
     | inr away ↦ rw (ne_eqb r c.home.publisher away) (others-stay number slab new c.home.publisher r q apart same (KeepsOthers-updated c.home.publisher slab new key c (Some d) at refl u) away)
   ]
 

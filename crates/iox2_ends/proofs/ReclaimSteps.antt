@@ -1,5 +1,5 @@
 -- A publisher's reclaims, one after the other.
-use Rattle.std.proofs.Common.{◌≡◌, ℕ, ◌+◌, ◌<◌, List, length, Option, None, Some, get_or, refl, ap, sym, ◌∙◌, inl, inr, arith}
+use Rattle.std.proofs.Common.{◌≡◌, ℕ, Bool, ◌+◌, ◌<◌, List, length, Option, None, Some, get_or, refl, ap, sym, ◌∙◌, inl, inr, arith}
 use Rattle.std.proofs.lemmas.Bool.{cases_eq}
 use Rattle.std.proofs.lemmas.List.{length-set}
 use Rattle.std.specs.Prelude.{IsSomeAnd}
@@ -78,7 +78,7 @@ reclaims-at p hs hs' slab key c d apart own at r = record {
   recounts = record {
     homes = SameHomes-updated slab (with_value slab key d) key c d at fixed u;
     others = KeepsOthers-updated p slab (with_value slab key d) key c (Some d) at mine u;
-    counters = CountersFollow-changed p hs hs' slab.slots key c d at mine (ap (λ (t : Home × ℕ × ℕ). t.0.publisher) fixed ∙ mine) r.counters;
+    counters = CountersFollow-changed p hs hs' slab.slots key c d at mine (ap (λ (t : Home × ℕ × ℕ × Bool). t.0.publisher) fixed ∙ mine) r.counters;
     slots = r.slots;
     in_use = λ n some. omega (arith, r.shrinks n, some);
     fewer = returned-updated slab (with_value slab key d) key c d at r.fewer u;

@@ -1,5 +1,5 @@
 -- What was given back in a connection is reclaimed, and then a slot is put into it.
-use Rattle.std.proofs.Common.{◌≡◌, ◌≢◌, ℕ, ◌+◌, ◌<◌, ◌≤◌, List, length, Bool, true, false, Option, None, Some, get_or, set-set, ap, subst, arith}
+use Rattle.std.proofs.Common.{◌≡◌, ◌≢◌, ℕ, ◌+◌, ◌<◌, ◌≤◌, List, length, Bool, true, false, Option, None, Some, get_or, set-set, ap, sym, subst, ◌∙◌, arith}
 use Rattle.std.proofs.lemmas.List.Sums.{get_or-le-sum_by}
 use Rattle.slab.specs.Slab.{Slab, get, with_value}
 use Rattle.iox2_store.specs.Link.{Link, IsPut}
@@ -93,6 +93,10 @@ module _ {p : ℕ} {slab : Slab Link} {keys : List (Option ℕ)} {receivers : Li
         → PutsMessage environment config v receivers (number p v.slot) (subscriber_of_key slab (get_or keys i None)) (mailboxes_of number slab p) Skipped (mailboxes_of number emptied p)
     reclaim-passes environment config v shut number =
         from-emptied environment config v Reception.Skipped (mailboxes_of number emptied p) number (put-passes i key ready-emptied at environment config v c stands_c shut number)
+
+    -- its mark says what stands at its place
+    pub reclaim-marked : c.is_open ≡ true → is_open_at receivers i c.home.subscriber ≡ true
+    reclaim-marked marked = ap (λ (n : ℕ). is_open_at receivers n c.home.subscriber) (sym (home-of i key ready-emptied at c stands_c).place) ∙ ready-emptied.marked key c stands_c marked
 
     pub reclaim-recounts : Recounts p hs slab hs' emptied
     reclaim-recounts = reclaims.recounts

@@ -1,5 +1,5 @@
 -- Between which ports the connections of a slab stand.
-use Rattle.std.specs.Prelude.{◌≡◌, ◌≢◌, ℕ, List, IsSomeAnd, slice_index_or}
+use Rattle.std.specs.Prelude.{◌≡◌, ◌≢◌, ℕ, Bool, List, IsSomeAnd, slice_index_or}
 use Rattle.std.specs.declared.option.Option.{Option}
 use Rattle.std.specs.declared.option.Option.TheVariants.{None, Some}
 use Rattle.std.specs.Option.{option_map}
@@ -13,9 +13,10 @@ use Rattle.iox2_ends.specs.Mailboxes.{is_between}
 pub record IsApart (connections : Slab Link) : Type 0 where
   pub one : (p q : ℕ) → IsOnly (is_between p q) connections.slots
 
--- What never changes of a connection: where it stands, how many slots may wait, and how many may be borrowed.
-abbrev pub fixed_of : Link → Home × ℕ × ℕ
-fixed_of c = (c.home, c.buffer, c.limit)
+-- What no work on messages changes of a connection: where it stands, how many slots may wait, how many may be borrowed,
+-- and whether it is marked as open.
+abbrev pub fixed_of : Link → Home × ℕ × ℕ × Bool
+fixed_of c = (c.home, c.buffer, c.limit, c.is_open)
 
 -- No connection is made, none goes, and none moves.
 pub record SameHomes (old new : Slab Link) : Type 0 where

@@ -1,5 +1,5 @@
 -- The subscribers at their places, as a publisher that delivers sees them.
-use Rattle.std.specs.Prelude.{◌≡◌, ℕ, Bool, false, cond, ◌&&◌, ◌==◌, List, [], slice_index_or}
+use Rattle.std.specs.Prelude.{◌≡◌, ℕ, Bool, true, false, cond, ◌&&◌, ◌==◌, List, [], slice_index_or}
 use Rattle.std.specs.declared.option.Option.{Option}
 use Rattle.std.specs.declared.option.Option.TheVariants.{None, Some}
 use Rattle.std.specs.Option.{option_and_then}
@@ -44,4 +44,6 @@ pub record IsReadyToDeliver (p : ℕ) (connections : Slab Link) (keys : List (Op
   pub linked : IsSenderLinked p connections keys
   pub apart : IsApart connections
   pub knows : KnowsReceivers connections receivers
+  -- The subscriber of a connection that is marked as open is so.
+  pub marked : (key : ℕ) (c : Link) → get connections key ≡ Some c → c.is_open ≡ true → is_open_at receivers c.home.subscriber_place c.home.subscriber ≡ true
   pub one_id : (q : ℕ) → IsOnly (has_id q) receivers

@@ -1,7 +1,7 @@
 //! A publisher's end: its messages go to the connections at its places.
-ghost use Rattle.std.specs.Prelude.{◌≡◌, ℕ, ◌+◌, ◌≤◌, ◌<◌, ◌^◌, [], ◌∷◌, ◌++◌, None, length, slice_index, slice_index_or, IsSomeAnd, map};
+ghost use Rattle.std.specs.Prelude.{◌≡◌, ℕ, ◌+◌, ◌≤◌, ◌<◌, ◌^◌, [], ◌∷◌, ◌++◌, true, None, length, slice_index, slice_index_or, IsSomeAnd, map};
 ghost use Rattle.std.specs.Option.{option_map};
-ghost use Rattle.iox2_store.specs.Link.{load};
+ghost use Rattle.iox2_store.specs.Link.{load, IsBounded};
 ghost use Rattle.iox2_store.specs.SlotBook.{holders_at, IsInUse};
 ghost use Rattle.iox2_store.specs.machine.Numbers.{last_n};
 ghost use Rattle.iox2_store.specs.machine.Delivery.{is_blocking, accepted_count};
@@ -122,7 +122,8 @@ fn reception_of(outcome: PutOutcome, strategy: BackpressureStrategy) -> Receptio
 }
 
 // Whether the subscriber with that id stands at the place, and is open.
-fn is_open<R: Receiver>(receivers: &[Option<R>], place: usize, id: u128) -> bool
+#[inline(never)]
+fn stands_open<R: Receiver>(receivers: &[Option<R>], place: usize, id: u128) -> bool
     ensures { result ≡ is_open_at (map (option_map R.details_of) receivers.now) place id }
 {
     match receivers.get(place) {
@@ -132,6 +133,16 @@ fn is_open<R: Receiver>(receivers: &[Option<R>], place: usize, id: u128) -> bool
         }
         _ => false,
     }
+}
+
+// Whether the subscriber of a connection, which the publisher knows at the place, is open. The mark of
+// the connection mostly says so.
+fn is_open<R: Receiver>(connection: &Connection, receivers: &[Option<R>], place: usize) -> bool
+    requires { connection.now.is_open ≡ true → is_open_at (map (option_map R.details_of) receivers.now) place connection.now.home.subscriber ≡ true }
+    ensures value { result ≡ is_open_at (map (option_map R.details_of) receivers.now) place connection.now.home.subscriber }
+    ensures bounded { IsBounded connection.now }
+{
+    connection.is_open() || stands_open(receivers, place, connection.home().subscriber)
 }
 
 // Counts the holders after a put.
@@ -180,7 +191,7 @@ fn deliver_at<R: Receiver>(
     };
     let connection = &mut connections[key];
     reclaim_from(connection, book);
-    if !is_open(receivers, place, connection.home().subscriber) {
+    if !is_open(connection, receivers, place) {
         return Reception::Skipped;
     }
     let outcome = connection.put(delivery.slot, config.enable_safe_overflow);

@@ -12,13 +12,14 @@ pub record Link : Type 0 where
   pub home : Home
   pub buffer : ℕ  -- how many slots may wait
   pub limit : ℕ  -- how many slots may be borrowed
+  pub is_open : Bool  -- whether it is marked as open
   pub waiting : List ℕ  -- delivered and not yet received, oldest first
   pub borrowed : List ℕ  -- received and not yet released, in the order of receipt
   pub returned : List ℕ  -- released and not yet reclaimed, oldest first
 
--- A new connection: no slot stands in it.
+-- A new connection: no slot stands in it, and it isn't marked as open.
 abbrev pub empty_link : Home → (buffer limit : ℕ) → Link
-empty_link home buffer limit = record { home = home; buffer = buffer; limit = limit; waiting = []; borrowed = []; returned = [] }
+empty_link home buffer limit = record { home = home; buffer = buffer; limit = limit; is_open = false; waiting = []; borrowed = []; returned = [] }
 
 -- ---- reading
 

@@ -10,6 +10,7 @@ link_of a = record {
   home = a.home;
   buffer = a.waiting.capacity;
   limit = a.limit;
+  is_open = a.is_open;
   waiting = a.waiting.items;
   borrowed = a.borrowed.items;
   returned = a.returned.items;

@@ -91,6 +91,7 @@ pub struct Connection {
     borrowed: Vec<usize>,
     returned: HeapCircularBuffer<usize>,
     limit: usize,
+    is_open: bool,
     home: Home,
 }
 
@@ -109,8 +110,8 @@ impl Model for Connection {
 impl Connection {
     ghost use Rattle.iox2_store.specs.Link.{IsPut, IsTaken, IsDropped, IsReclaimed};
 
-    /// A connection in which no slot stands. At most `buffer` slots wait there and at most `limit`
-    /// are borrowed.
+    /// A connection in which no slot stands, and which isn't marked as open. At most `buffer` slots
+    /// wait there and at most `limit` are borrowed.
     ///
     /// Returns `AllocError` where memory is refused, and where `buffer + limit + 1`, the room for
     /// slots that are given back, isn't a `usize`.
@@ -134,6 +135,7 @@ impl Connection {
             borrowed,
             returned,
             limit,
+            is_open: false,
             home,
         })
     }
@@ -144,6 +146,22 @@ impl Connection {
         ensures bounded { IsBounded self.now }
     {
         self.home
+    }
+
+    /// Whether the connection is marked as open. Its owner says what the mark means.
+    pub fn is_open(&self) -> bool
+        ensures value { result ≡ self.now.is_open }
+        ensures bounded { IsBounded self.now }
+    {
+        self.is_open
+    }
+
+    /// Marks the connection as open, or as open no more.
+    pub fn set_open(&mut self, is_open: bool)
+        ensures marked { self.new ≡ record self.old { is_open = is_open } }
+        ensures bounded { IsBounded self.new }
+    {
+        self.is_open = is_open;
     }
 
     /// How many slots may wait.

@@ -4,10 +4,13 @@ pub mod Parts
 pub mod ReachesShows
 pub mod ConnectionEnds
 pub mod SubscriberSet
+pub mod SameSeats
 pub mod SameEnds
+pub mod ChangedMarks
 pub mod Standing
 pub mod OpenPorts
 pub mod NamedBooks
 pub mod KeptBooks
 pub mod ExpiredRoom
+pub mod OpenReceivers
 pub mod RemovedConnections

@@ -1,5 +1,5 @@
 -- The fields after a publisher left: what holds of them.
-use Rattle.std.proofs.Common.{◌≡◌, ◌≢◌, ℕ, ◌+◌, ◌<◌, ◌≤◌, true, cond, List, [], map, get_or, refl, ap, sym, subst, ◌∙◌, inl, inr, ◌⊎◌, arith}
+use Rattle.std.proofs.Common.{◌≡◌, ◌≢◌, ℕ, Bool, ◌+◌, ◌<◌, ◌≤◌, true, cond, List, [], map, get_or, refl, ap, sym, subst, ◌∙◌, inl, inr, ◌⊎◌, arith}
 use Rattle.std.proofs.lemmas.Bool.{cases_eq, eq-eqb, ne_eqb}
 use Rattle.std.proofs.lemmas.List.{get_or-set_other}
 use Rattle.std.specs.Prelude.{IsSomeAnd, Contains}
@@ -23,7 +23,7 @@ use Rattle.iox2_domain.specs.Ports.{PublisherFields, SubscriberFields}
 use Rattle.iox2_domain.specs.Kept.{KeptMessage, state_of}
 use Rattle.iox2_domain.specs.Fields.{Fields, kept_of, message_in, contents_at, is_book_of}
 use Rattle.iox2_domain.specs.Shows.{KeepsEntries}
-use Rattle.iox2_domain.specs.Invariant.{IsLinked, HasExpiredRoom, NamesBooks, HasBooks, IsCounted, IsNumbered, HasNumber, HasBook, HasShapes, SenderHas, ReceiverHas, IsPlain, IsPlainSubscriber, is_publisher, is_subscriber, own_holders, holders_of, is_loan_in, details_of, connection_count, IsBookOf, IsDomain, IsSoundBut, IsGone, IsOwned, IsLeft}
+use Rattle.iox2_domain.specs.Invariant.{IsLinked, HasExpiredRoom, NamesBooks, HasBooks, IsCounted, IsNumbered, HasNumber, HasBook, HasShapes, SenderHas, ReceiverHas, IsPlain, IsPlainSubscriber, is_publisher, is_subscriber, own_holders, holders_of, is_loan_in, details_of, connection_count, IsBookOf, IsDomain, IsSoundBut, IsGone, IsOwned, IsLeft, IsBetweenOpen}
 use Rattle.iox2_domain.proofs.lemmas.fields.Parts.{parts_of}
 use Rattle.iox2_domain.proofs.lemmas.containers.LookUps.{map-at, viewed, look_up-removed}
 use Rattle.iox2_domain.proofs.lemmas.fields.NamedBooks.{names-books}
@@ -37,6 +37,7 @@ use Rattle.iox2_domain.proofs.lemmas.closes.LeftKeys.{set-none, keys_left-was, k
 use Rattle.iox2_domain.proofs.lemmas.closes.LoansLeft.{left-counters, left-fewer, left-loans}
 use Rattle.iox2_domain.proofs.lemmas.fields.ConnectionEnds.{publisher-stands}
 use Rattle.iox2_domain.proofs.lemmas.slots.PublisherBooks.{book-own}
+use Rattle.iox2_domain.specs.OpenMarks.{IsUnmarkedSender}
 
 module _ {T U : Type 0} (f : Fields T U) (sound : IsDomain f) (i : ℕ) (x : PublisherFields) (here : get_or f.publishers i None ≡ Some x)
     (b : Book) (at : get f.books x.book ≡ Some b) (new : Slab Link) (left : LeavesConnections x.id f.subscribers f.connections new) (holders : List ℕ)
@@ -108,8 +109,8 @@ module _ {T U : Type 0} (f : Fields T U) (sound : IsDomain f) (i : ℕ) (x : Pub
       let was = before key d at_d in
       let own : IsReceivers q (f.config).subscriber_max_borrowed_samples was.0 = subst (λ o. IsSomeAnd o (IsReceivers q (f.config).subscriber_max_borrowed_samples)) was.1 h in
       subst (λ o. IsSomeAnd o (IsReceivers q (f.config).subscriber_max_borrowed_samples)) (sym at_d) (record {
-        subscriber = sym (ap (λ (t : Home × ℕ × ℕ). t.0.subscriber) was.2) ∙ own.subscriber;
-        limit = sym (ap (λ (t : Home × ℕ × ℕ). t.2) was.2) ∙ own.limit;
+        subscriber = sym (ap (λ (t : Home × ℕ × ℕ × Bool). t.0.subscriber) was.2) ∙ own.subscriber;
+        limit = sym (ap (λ (t : Home × ℕ × ℕ × Bool). t.2) was.2) ∙ own.limit;
       })
 
   -- another publisher that has a connection has it still
@@ -124,7 +125,7 @@ module _ {T U : Type 0} (f : Fields T U) (sound : IsDomain f) (i : ℕ) (x : Pub
   -- a subscriber that has a connection that is left has it still
   receiver-still : (key : ℕ) (c d : Link) → get new key ≡ Some d → fixed_of c ≡ fixed_of d → ReceiverHas f.subscribers key c → ReceiverHas after.subscribers key d
   receiver-still key c d at_d fixed has =
-      let home : c.home ≡ d.home = ap (λ (t : Home × ℕ × ℕ). t.0) fixed in
+      let home : c.home ≡ d.home = ap (λ (t : Home × ℕ × ℕ × Bool). t.0) fixed in
       subst (λ (h : Home). ReceiverHas after.subscribers key (record d { home = h })) home (record {
         subscriber = left_subscriber new i has.subscriber;
         stands = subscriber-still c.home.subscriber_place has.subscriber has.stands;
@@ -137,8 +138,8 @@ module _ {T U : Type 0} (f : Fields T U) (sound : IsDomain f) (i : ℕ) (x : Pub
       by (inl there) = inl (keys_left-still new i (has.subscriber).keys c.home.publisher_place key d there at_d)
       by (inr among) = inr among
 
-  linked : IsLinked after
-  linked = record {
+  linked : IsUnmarkedSender f.connections i → IsLinked after
+  linked unmarked = record {
     senders = λ k y at_y. record {
       at = λ place key at_key.
           let was = publisher-was k y at_y in
@@ -154,25 +155,28 @@ module _ {T U : Type 0} (f : Fields T U) (sound : IsDomain f) (i : ℕ) (x : Pub
         let was = subscriber-was k y at_y in
         let then = before key d at_d in
         let had : get_or (was.0).keys place None ≡ Some key = keys_left-was new i (was.0).keys place key (ap (λ (z : SubscriberFields). get_or z.keys place None) (sym was.2) ∙ at_key) in
-        sym (ap (λ (t : Home × ℕ × ℕ). t.0.publisher_place) then.2) ∙ sound.linked.receiver_places k place key was.0 then.0 was.1 had then.1;
+        sym (ap (λ (t : Home × ℕ × ℕ × Bool). t.0.publisher_place) then.2) ∙ sound.linked.receiver_places k place key was.0 then.0 was.1 had then.1;
     knows = record { at = λ key k d r at_d at_r same. knows-of key k d r at_d (viewed details_of after.subscribers k r at_r) same };
     knows_publishers = λ key k d y at_d at_y same.
         let then = before key d at_d in
-        sound.linked.knows_publishers key k then.0 y then.1 (publisher-was k y at_y).1 (same ∙ sym (ap (λ (t : Home × ℕ × ℕ). t.0.publisher) then.2))
-        ∙ ap (λ (t : Home × ℕ × ℕ). t.0.publisher_place) then.2;
+        sound.linked.knows_publishers key k then.0 y then.1 (publisher-was k y at_y).1 (same ∙ sym (ap (λ (t : Home × ℕ × ℕ × Bool). t.0.publisher) then.2))
+        ∙ ap (λ (t : Home × ℕ × ℕ × Bool). t.0.publisher_place) then.2;
     sender_rooms = λ key k d y at_d at_y same.
         let then = before key d at_d in
-        subst (λ (n : ℕ). n < y.key_room) (ap (λ (t : Home × ℕ × ℕ). t.0.subscriber_place) then.2)
-        (sound.linked.sender_rooms key k then.0 y then.1 (publisher-was k y at_y).1 (same ∙ sym (ap (λ (t : Home × ℕ × ℕ). t.0.publisher) then.2)));
+        subst (λ (n : ℕ). n < y.key_room) (ap (λ (t : Home × ℕ × ℕ × Bool). t.0.subscriber_place) then.2)
+        (sound.linked.sender_rooms key k then.0 y then.1 (publisher-was k y at_y).1 (same ∙ sym (ap (λ (t : Home × ℕ × ℕ × Bool). t.0.publisher) then.2)));
     receiver_rooms = λ key k d y at_d at_y same.
         let then = before key d at_d in
         let was = subscriber-was k y at_y in
         subst (λ (z : SubscriberFields). d.home.publisher_place < z.key_room) (sym was.2)
-        (subst (λ (n : ℕ). n < (was.0).key_room) (ap (λ (t : Home × ℕ × ℕ). t.0.publisher_place) then.2)
+        (subst (λ (n : ℕ). n < (was.0).key_room) (ap (λ (t : Home × ℕ × ℕ × Bool). t.0.publisher_place) then.2)
         (sound.linked.receiver_rooms key k then.0 was.0 then.1 was.1
-        (sym (ap (λ (z : SubscriberFields). z.id) was.2) ∙ same ∙ sym (ap (λ (t : Home × ℕ × ℕ). t.0.subscriber) then.2))));
-    limits = λ key d at_d. let then = before key d at_d in sym (ap (λ (t : Home × ℕ × ℕ). t.2) then.2) ∙ sound.linked.limits key then.0 then.1;
+        (sym (ap (λ (z : SubscriberFields). z.id) was.2) ∙ same ∙ sym (ap (λ (t : Home × ℕ × ℕ × Bool). t.0.subscriber) then.2))));
+    limits = λ key d at_d. let then = before key d at_d in sym (ap (λ (t : Home × ℕ × ℕ × Bool). t.2) then.2) ∙ sound.linked.limits key then.0 then.1;
     returned = λ key d at_d. returned-of key d (left-was x.id f.subscribers f.connections new left key d at_d);
+    marked = λ key d at_d is. let then = before key d at_d in
+        let both = sound.linked.marked key then.0 then.1 (ap (λ (t : Home × ℕ × ℕ × Bool). t.3) then.2 ∙ is) in
+        marked-of key d at_d then.0 then.1 then.2 both (unmarked.at key then.0 then.1 (ap (λ (t : Home × ℕ × ℕ × Bool). t.3) then.2 ∙ is));
   } where
     receivers-of : (k : ℕ) (z : SubscriberFields) → get_or f.subscribers k None ≡ Some z
         → IsReceiverLinked z.id (f.config).subscriber_max_borrowed_samples new (left_subscriber new i z).keys
@@ -210,8 +214,28 @@ module _ {T U : Type 0} (f : Fields T U) (sound : IsDomain f) (i : ℕ) (x : Pub
         let was = subscriber-was k there.0 there.1 in
         let known = sound.linked.knows.at key k then.0 r then.1
         (map-at details_of f.subscribers k ∙ ap (option_map details_of) was.1 ∙ ap Some (sym (there.2 ∙ ap details_of was.2)))
-        (same ∙ sym (ap (λ (t : Home × ℕ × ℕ). t.0.subscriber) then.2)) in
-        (known.0 ∙ ap (λ (t : Home × ℕ × ℕ). t.0.subscriber_place) then.2, sym (ap (λ (t : Home × ℕ × ℕ). t.1) then.2) ∙ known.1)
+        (same ∙ sym (ap (λ (t : Home × ℕ × ℕ × Bool). t.0.subscriber) then.2)) in
+        (known.0 ∙ ap (λ (t : Home × ℕ × ℕ × Bool). t.0.subscriber_place) then.2, sym (ap (λ (t : Home × ℕ × ℕ × Bool). t.1) then.2) ∙ known.1)
+
+    -- a connection at another publisher's place is as open as it was
+    marked-of : (key : ℕ) (d : Link) → get new key ≡ Some d → (c : Link) → get f.connections key ≡ Some c → fixed_of c ≡ fixed_of d → IsBetweenOpen f.publishers f.subscribers key c
+        → c.home.publisher_place ≢ i → IsBetweenOpen after.publishers after.subscribers key d
+    marked-of key d at_d c at_c fixed both away =
+        let home : c.home ≡ d.home = ap (λ (t : Home × ℕ × ℕ × Bool). t.0) fixed in
+        subst (λ (h : Home). IsBetweenOpen after.publishers after.subscribers key (record d { home = h })) home (record {
+          sender = record {
+            publisher = both.sender.publisher;
+            stands = get_or-set_other f.publishers i c.home.publisher_place None None away ∙ both.sender.stands;
+            is_its = both.sender.is_its;
+            has = both.sender.has;
+          };
+          receiver = record {
+            subscriber = left_subscriber new i both.receiver.subscriber;
+            stands = subscriber-still c.home.subscriber_place both.receiver.subscriber both.receiver.stands;
+            is_its = both.receiver.is_its;
+            is_open = both.receiver.is_open;
+          };
+        })
 
     returned-of : (key : ℕ) (d : Link)
         → (c : Link) × (get f.connections key ≡ Some c) × (((c.home.publisher ≢ x.id) × (d ≡ c)) ⊎ ((c.home.publisher ≡ x.id) × (d ≡ left_link (is_awaited f.subscribers key c) c) × (holds_slots d ≡ true)))
@@ -265,7 +289,7 @@ module _ {T U : Type 0} (f : Fields T U) (sound : IsDomain f) (i : ℕ) (x : Pub
   names = names-books f.books _ new (book-after between x.book b counted_book at keeps_slots) (record {
     at = λ key d at_d.
         let then = before key d at_d in
-        subst (λ (h : Home). IsBookOf f.books h.publisher h.book) (ap (λ (t : Home × ℕ × ℕ). t.0) then.2) (sound.names.at key then.0 then.1);
+        subst (λ (h : Home). IsBookOf f.books h.publisher h.book) (ap (λ (t : Home × ℕ × ℕ × Bool). t.0) then.2) (sound.names.at key then.0 then.1);
   })
 
   fewer : (slot : ℕ) → holders_at counted_book slot ≤ holders_at b slot
@@ -416,12 +440,12 @@ module _ {T U : Type 0} (f : Fields T U) (sound : IsDomain f) (i : ℕ) (x : Pub
   -- ---- the whole
 
   -- the fields agree, where what they keep does
-  pub left-sound : IsWellFormed (state_of (kept_of after)) → KeepsEntries (kept_of after) → IsSoundBut x.book after
-  left-sound well entries = record {
+  pub left-sound : IsUnmarkedSender f.connections i → IsWellFormed (state_of (kept_of after)) → KeepsEntries (kept_of after) → IsSoundBut x.book after
+  left-sound unmarked well entries = record {
     publisher_ids = publishers-apart;
     subscriber_ids = subscribers-apart;
     apart = left-apart x.id f.subscribers f.connections new left sound.apart;
-    linked = linked;
+    linked = linked unmarked;
     expired_room = room;
     books = left-books;
     names = names;

@@ -35,6 +35,7 @@ use Rattle.iox2_domain.proofs.lemmas.closes.LeftPublishers.{publishers-left, pla
 use Rattle.iox2_domain.proofs.lemmas.closes.LeftSubscribers.{subscribers-left, places-left as subscriber_places-left}
 use Rattle.iox2_domain.proofs.lemmas.fields.ConnectionEnds.{publisher-stands}
 use Rattle.iox2_domain.proofs.lemmas.sends.LoanAlone.{loan-once}
+use Rattle.iox2_domain.specs.OpenMarks.{IsUnmarkedSender}
 use mathlib.Core.Path.{fun_ext}
 
 module _ {T U : Type 0} (f : Fields T U) (sound : IsDomain f) (i : ℕ) (x : PublisherFields) (here : get_or f.publishers i None ≡ Some x)
@@ -157,9 +158,9 @@ module _ {T U : Type 0} (f : Fields T U) (sound : IsDomain f) (i : ℕ) (x : Pub
   -- ---- the whole
 
   -- the publisher is closed, but that nobody may hold a slot of its book
-  pub left-reaches : ReachesBut x.book f g (publisher_closed before x.id (leaver f sound i x here))
-  left-reaches = record {
-    agrees = left-sound f sound i x here b at new left holders slots
+  pub left-reaches : IsUnmarkedSender f.connections i → ReachesBut x.book f g (publisher_closed before x.id (leaver f sound i x here))
+  left-reaches unmarked = record {
+    agrees = left-sound f sound i x here b at new left holders slots unmarked
         (subst IsWellFormed (sym left-is) (publisher_closed_keeps before sound.well_formed x.id (leaver f sound i x here) (publisher-stands f sound i x here))) left-keeps;
     state = left-is;
     entries = left-entries;

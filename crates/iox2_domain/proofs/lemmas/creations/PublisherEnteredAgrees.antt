@@ -90,6 +90,7 @@ module _ {T U : Type 0} (f : Fields T U) (place loans loan_room key_room key : �
     receiver_rooms = enters.sound.linked.receiver_rooms;
     limits = enters.sound.linked.limits;
     returned = λ k c at. reclaims k c (enters.sound.linked.returned k c at);
+    marked = λ k c at is. let both = enters.sound.linked.marked k c at is in record { sender = sender k c both.sender; receiver = both.receiver };
   } where
     sender : (k : ℕ) (c : Link) → SenderHas f.publishers k c → SenderHas (placed f.publishers place new) k c
     sender k c has = record { publisher = has.publisher; stands = stands_still c.home.publisher_place has.publisher has.stands; is_its = has.is_its; has = has.has }

@@ -84,6 +84,7 @@ module _ {T U : Type 0} (f : Fields T U) where
       receiver_rooms = l.receiver_rooms;
       limits = l.limits;
       returned = l.returned;
+      marked = l.marked;
     }
 
     books : HasBooks f → HasBooks (with_room capacity)

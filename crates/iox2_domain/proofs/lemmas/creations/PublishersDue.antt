@@ -77,6 +77,7 @@ module _ {T U : Type 0} (f : Fields T U) where
     receiver_rooms = linked.receiver_rooms;
     limits = linked.limits;
     returned = λ key c at. reclaims key c (linked.returned key c at);
+    marked = λ key c at is. let both = linked.marked key c at is in record { sender = sender key c both.sender; receiver = both.receiver };
   } where
     sender : (key : ℕ) (c : Link) → SenderHas f.publishers key c → SenderHas (map (option_map due) f.publishers) key c
     sender key c has = record {

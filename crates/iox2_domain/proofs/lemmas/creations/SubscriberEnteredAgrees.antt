@@ -22,6 +22,7 @@ use Rattle.iox2_domain.proofs.lemmas.fields.KeptBooks.{kept-publishers}
 use Rattle.iox2_domain.proofs.lemmas.fields.ConnectionEnds.{subscriber-known}
 use Rattle.iox2_domain.proofs.lemmas.fields.ExpiredRoom.{count-none}
 use Rattle.iox2_domain.proofs.lemmas.creations.SubscriberEntered.{with_entered_subscriber, newcomer, ids_apart, stood, still}
+use Rattle.iox2_domain.proofs.lemmas.fields.OpenReceivers.{open-still}
 
 nothing_at : {A : Type 0} (i : ℕ) (x : A) → get_or {A = Option A} [] i None ≡ Some x → ⊥
 nothing_at {A} zero x e = cc
@@ -59,6 +60,11 @@ module _ {T U : Type 0} (f : Fields T U) (sound : IsDomain f) (warnings : Buffer
     ];
     limits = sound.linked.limits;
     returned = sound.linked.returned;
+    marked = λ key c at is. let both = sound.linked.marked key c at is in record {
+      sender = both.sender;
+      receiver = open-still f.subscribers (placed f.subscribers place new) c
+          (λ z at_z. (z, still f sound warnings place asked key_room expired_room free c.home.subscriber_place z at_z, refl, refl)) both.receiver;
+    };
     knows = record { at = λ key i c d at_c at_d same. knows key i c d at_c (viewed details_of (placed f.subscribers place new) i d at_d) same };
   } where
     by : (key : ℕ) (c : Link) → SenderHas f.publishers key c ⊎ ReceiverHas f.subscribers key c → SenderHas f.publishers key c ⊎ ReceiverHas (placed f.subscribers place new) key c

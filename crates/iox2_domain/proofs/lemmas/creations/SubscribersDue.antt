@@ -17,6 +17,7 @@ use Rattle.iox2_domain.specs.Fields.{Fields, kept_of, subscriber_of}
 use Rattle.iox2_domain.specs.Invariant.{IsDomain, IsLinked, HasBooks, SenderHas, ReceiverHas, is_subscriber, details_of}
 use Rattle.iox2_domain.proofs.lemmas.containers.LookUps.{map-at, viewed, IsOnly-map}
 use Rattle.iox2_domain.proofs.lemmas.fields.Views.{held-before}
+use Rattle.iox2_domain.proofs.lemmas.fields.OpenReceivers.{open-still}
 use mathlib.Core.Path.{fun_ext}
 
 -- the fields with every subscriber due
@@ -75,6 +76,10 @@ module _ {T U : Type 0} (f : Fields T U) where
         rw was.2 (linked.receiver_rooms key i c was.0 at_c was.1 (sym (ap (λ (z : SubscriberFields). z.id) was.2) ∙ same));
     limits = linked.limits;
     returned = linked.returned;
+    marked = λ key c at is. let both = linked.marked key c at is in record {
+      sender = both.sender;
+      receiver = open-still f.subscribers (map (option_map subscriber_due) f.subscribers) c (λ z at_z. (subscriber_due z, stands-due c.home.subscriber_place z at_z, refl, refl)) both.receiver;
+    };
   } where
     by : (key : ℕ) (c : Link) → SenderHas f.publishers key c ⊎ ReceiverHas f.subscribers key c
         → SenderHas f.publishers key c ⊎ ReceiverHas (map (option_map subscriber_due) f.subscribers) key c

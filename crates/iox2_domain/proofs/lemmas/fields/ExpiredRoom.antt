@@ -1,5 +1,5 @@
 -- Room for expired keys, where connections stay, change or are made.
-use Rattle.std.proofs.Common.{◌≡◌, ◌≢◌, ◌<◌, ℕ, zero, suc, List, [], ◌∷◌, get_or, refl, ap, sym, ◌∙◌, inl, inr, Option, None, Some, arith}
+use Rattle.std.proofs.Common.{◌≡◌, ◌≢◌, ◌<◌, ℕ, Bool, zero, suc, List, [], ◌∷◌, get_or, refl, ap, sym, ◌∙◌, inl, inr, Option, None, Some, arith}
 use Rattle.std.proofs.lemmas.Bool.{cases_eq, eq-eqb, ne_eqb}
 use Rattle.std.proofs.lemmas.List.Sums.{sum_by-cons}
 use Rattle.std.specs.List.{sum_by}
@@ -30,7 +30,7 @@ count-still old new same q = sum-alike (one_if_receivers q) refl old.slots new.s
   by (Some c) None e = absurd cc
   by (Some c) (Some d) e =
       let is : fixed_of d ≡ fixed_of c = cc in
-      ap (λ (t : Home × ℕ × ℕ). one_if_receivers q (Some (record c { home = t.0 }))) is
+      ap (λ (t : Home × ℕ × ℕ × Bool). one_if_receivers q (Some (record c { home = t.0 }))) is
 
 -- so the room suffices
 pub room-still : (subscribers : List (Option SubscriberFields)) (old new : Slab Link) → SameHomes old new → HasExpiredRoom subscribers old → HasExpiredRoom subscribers new

@@ -16,7 +16,7 @@ use Rattle.iox2_ends.proofs.LookUps.{look_up-found}
 use Rattle.iox2_store.specs.machine.Mailbox.{empty_mailbox}
 use Rattle.iox2_domain.specs.Ports.{PublisherFields, SubscriberFields}
 use Rattle.iox2_domain.specs.Fields.{Fields}
-use Rattle.iox2_domain.specs.Invariant.{IsLinked, SenderHas, ReceiverHas, HasExpiredRoom, one_if_receivers, details_of}
+use Rattle.iox2_domain.specs.Invariant.{IsLinked, SenderHas, ReceiverHas, HasExpiredRoom, one_if_receivers, details_of, IsBetweenOpen}
 use Rattle.iox2_domain.proofs.lemmas.containers.LookUps.{look_up-removed, IsOnly-removed}
 use Rattle.iox2_domain.proofs.lemmas.containers.ChangedRecords.{ends-agree}
 use Rattle.iox2_domain.proofs.lemmas.updates.MadeConnections.{sum-updated}
@@ -143,6 +143,7 @@ pub record IsLinkedBut {T U : Type 0} (f : Fields T U) (key : ℕ) : Type 0 wher
       → y.id ≡ c.home.subscriber → c.home.publisher_place < y.key_room
   pub limits : (k : ℕ) (c : Link) → get f.connections k ≡ Some c → c.limit ≡ (f.config).subscriber_max_borrowed_samples
   pub returned : (k : ℕ) (c : Link) → k ≢ key → get f.connections k ≡ Some c → SenderHas f.publishers k c ⊎ (c.returned ≡ [])
+  pub marked : (k : ℕ) (c : Link) → k ≢ key → get f.connections k ≡ Some c → c.is_open ≡ true → IsBetweenOpen f.publishers f.subscribers k c
 
 -- without that connection they know of each other
 pub linked-without : {T U : Type 0} (f : Fields T U) (new : Slab Link) (key : ℕ) → Updates f.connections new key None → NobodyHas f.publishers f.subscribers key
@@ -159,6 +160,7 @@ linked-without f new key gone nobody l = record {
   receiver_rooms = λ k i c y at_c at_y same. l.receiver_rooms k i c y (was k c at_c).0 at_y same;
   limits = λ k c at. l.limits k c (was k c at).0;
   returned = λ k c at. let w = was k c at in l.returned k c w.1 w.0;
+  marked = λ k c at is. let w = was k c at in let both = l.marked k c w.1 w.0 is in record { sender = both.sender; receiver = both.receiver };
 } where
   was : (k : ℕ) (c : Link) → get new k ≡ Some c → (get f.connections k ≡ Some c) × (k ≢ key)
   was = removed-was f.connections new key gone

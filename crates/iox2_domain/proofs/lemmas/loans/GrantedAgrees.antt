@@ -297,6 +297,7 @@ module _ {T U : Type 0} (f : Fields T U) (sound : IsDomain f) (i : ℕ) (x : Pub
         receiver_rooms = sound.linked.receiver_rooms;
         limits = sound.linked.limits;
         returned = sound.linked.returned;
+        marked = sound.linked.marked;
       }
 
     -- the loan's step

@@ -193,6 +193,7 @@ module _ {T U : Type 0} (f : Fields T U) (i : ℕ) (x y : PublisherFields) (at :
     receiver_rooms = linked.receiver_rooms;
     limits = linked.limits;
     returned = λ key c at_c. reclaims key c at_c (linked.returned key c at_c);
+    marked = λ key c at_c is. let both = linked.marked key c at_c is in record { sender = moved key c at_c both.sender; receiver = both.receiver };
   } where
     moved : (key : ℕ) (c : Link) → get f.connections key ≡ Some c → SenderHas f.publishers key c → SenderHas (slice_set f.publishers i (Some y)) key c
     moved key c at_c has = elim (changed-still c.home.publisher_place has.publisher has.stands) [

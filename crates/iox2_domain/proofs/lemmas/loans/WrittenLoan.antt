@@ -224,6 +224,7 @@ module _ {T U : Type 0} (f : Fields T U) (sound : IsDomain f) (single : (f.confi
           receiver_rooms = sound.linked.receiver_rooms;
           limits = sound.linked.limits;
           returned = sound.linked.returned;
+          marked = sound.linked.marked;
         }
 
       -- the step

@@ -26,6 +26,8 @@ use Rattle.iox2_domain.proofs.lemmas.receivers.SoundExtends.{mailboxes-same}
 use Rattle.iox2_domain.proofs.lemmas.updates.ReceiverChanges.{FitsReceiver, IsNewOfReceiver, with_keys, with_receiver}
 use Rattle.iox2_domain.proofs.lemmas.receivers.JoinChanges.{receiver-is}
 use Rattle.iox2_domain.proofs.lemmas.receivers.SoundStanding.{one-publisher, one-subscriber}
+use Rattle.std.proofs.lemmas.Bool.{true≢false}
+use Rattle.iox2_domain.proofs.lemmas.fields.OpenReceivers.{open-changed}
 
 module _ {T U : Type 0} (f : Fields T U) (sound : IsDomain f) (j : ℕ) (y : SubscriberFields) (at : get_or f.subscribers j None ≡ Some y)
     (keys : List (Option ℕ)) (key_room expired_room : ℕ) (is_due : Bool) (connections : Slab Link) (warnings : Buffer Warning) (fits : FitsReceiver f j y keys key_room expired_room connections) where
@@ -161,6 +163,10 @@ module _ {T U : Type 0} (f : Fields T U) (sound : IsDomain f) (j : ℕ) (y : Sub
     receiver_rooms = λ key k c z at_c at_z same. receiver_room key k c z at_z same (fits.news key c at_c) (stood k z at_z);
     limits = λ key c at_c. elim (fits.news key c at_c) [ inl old ↦ sound.linked.limits key c old | inr new ↦ new.limit ];
     returned = λ key c at_c. elim (fits.news key c at_c) [ inl old ↦ sound.linked.returned key c old | inr new ↦ inr new.returned ];
+    marked = λ key c at_c is. elim (fits.news key c at_c) [
+      | inl old ↦ let both = sound.linked.marked key c old is in record { sender = both.sender; receiver = open-changed f.subscribers j y changed at refl refl c both.receiver }
+      | inr new ↦ absurd (true≢false (sym is ∙ new.unmarked))
+    ];
   }
 
   books : HasBooks after

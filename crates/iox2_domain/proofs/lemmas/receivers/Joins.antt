@@ -209,6 +209,7 @@ module _ {T U : Type 0} (environment : Environment) (f : Fields T U) (sound : Is
               has = set_place-here y.keys i (Some key);
               room = room;
               limit = refl;
+              unmarked = refl;
               buffer = refl;
               returned = refl;
               publisher = x;

@@ -40,6 +40,7 @@ parts-warned f warnings parts room = record {
     receiver_rooms = parts.linked.receiver_rooms;
     limits = parts.linked.limits;
     returned = parts.linked.returned;
+    marked = parts.linked.marked;
   };
   expired_room = parts.expired_room;
   books = record {

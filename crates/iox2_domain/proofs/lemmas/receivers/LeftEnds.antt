@@ -31,6 +31,7 @@ use Rattle.iox2_domain.proofs.lemmas.updates.MadeConnections.{sum-updated}
 use Rattle.iox2_domain.proofs.lemmas.fields.Standing.{some_is}
 use Rattle.iox2_domain.proofs.lemmas.receivers.SoundStanding.{one-subscriber}
 use Rattle.iox2_domain.proofs.lemmas.receivers.DepartedEnds.{StandsNowhere, among, is-among, contained}
+use Rattle.iox2_domain.proofs.lemmas.fields.OpenReceivers.{open-changed}
 
 -- The connection is the subscriber y's, and its publisher is gone.
 pub record IsDeparted {T U : Type 0} (f : Fields T U) (y : SubscriberFields) (c : Link) : Type 0 where
@@ -323,6 +324,8 @@ module _ {T U : Type 0} (f : Fields T U) (parts : HasParts f) (j : ℕ) (y : Sub
       ];
       limits = λ key c there. parts.linked.limits key c (fits.shrinks.were key c there);
       returned = λ key c there. parts.linked.returned key c (fits.shrinks.were key c there);
+      marked = λ key c there is. let both = parts.linked.marked key c (fits.shrinks.were key c there) is in
+          record { sender = both.sender; receiver = open-changed f.subscribers j y left_subscriber at refl refl c both.receiver };
     }
 
     expired_room : HasExpiredRoom subscribers connections

@@ -1,5 +1,5 @@
 -- The slot that is taken is borrowed then, in the connection that it waited in.
-use Rattle.std.proofs.Common.{◌≡◌, ℕ, List, [], ◌∷◌, ◌++◌, zero, refl, ap, sym, subst, ◌∙◌, arith, Option, Some, None, Contains}
+use Rattle.std.proofs.Common.{◌≡◌, ℕ, Bool, List, [], ◌∷◌, ◌++◌, zero, refl, ap, sym, subst, ◌∙◌, arith, Option, Some, None, Contains}
 use Rattle.std.proofs.lemmas.List.Elements.{Contains-append_right}
 use Rattle.std.specs.Option.{option_map}
 use Rattle.slab.specs.Slab.{Slab, get}
@@ -25,7 +25,7 @@ module _ (old new : Slab Link) (key slot : ℕ) (c : Link) (at_c : get old key �
     by (Some d) e is =
         let here : Some (fixed_of d) ≡ Some (fixed_of c) = is in
         let fixed : fixed_of d ≡ fixed_of c = cc in
-        (d, e, ap (λ (f : Home × ℕ × ℕ). f.0) fixed)
+        (d, e, ap (λ (f : Home × ℕ × ℕ × Bool). f.0) fixed)
 
   borrowed : Contains (stays.0).borrowed slot
   borrowed =

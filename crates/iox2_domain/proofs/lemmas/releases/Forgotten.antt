@@ -23,6 +23,7 @@ use Rattle.iox2_domain.specs.Midway.{IsMidway}
 use Rattle.iox2_domain.proofs.lemmas.fields.SubscriberSet.{with_subscriber, subscriber_set-is}
 use Rattle.iox2_domain.proofs.lemmas.releases.OrphanRemoved.{was-other, removed-apart, removed-sums, removed-state}
 use Rattle.iox2_domain.proofs.lemmas.updates.MadeConnections.{sum-updated}
+use Rattle.iox2_domain.proofs.lemmas.fields.OpenReceivers.{open-changed}
 
 module _ {T U : Type 0} (f : Fields T U) (parts : HasParts f) (j : ℕ) (y : SubscriberFields) (at_y : get_or f.subscribers j None ≡ Some y)
     (key : ℕ) (c : Link) (at_c : get f.connections key ≡ Some c) (mine : c.home.subscriber ≡ y.id) (empty : load c ≡ 0)
@@ -184,6 +185,8 @@ module _ {T U : Type 0} (f : Fields T U) (parts : HasParts f) (j : ℕ) (y : Sub
         rw w.3 low;
     limits = λ k' d at_d. parts.linked.limits k' d (was k' d at_d).1;
     returned = λ k' d at_d. parts.linked.returned k' d (was k' d at_d).1;
+    marked = λ k' d at_d is. let both = parts.linked.marked k' d (was k' d at_d).1 is in
+        record { sender = both.sender; receiver = open-changed f.subscribers j y without_key at_y refl refl d both.receiver };
   }
 
   -- ---- the whole

@@ -42,4 +42,4 @@ module _ {T U : Type 0} (f : Fields T U) (parts : HasParts f) (j : ℕ) (y : Sub
       → FreesMidway f y.id (without_subscriber f j new)
   leaves closed nothing new drops before s book midway =
       goes-midway f parts j y at_y before (without_subscriber f j new) s book (closed-unused f parts j y at_y closed nothing) midway.state
-      (left-midway f parts j y at_y new drops (idle-load f parts j y at_y boxes closed nothing) before s book midway)
+      (left-midway f parts j y at_y new drops (idle-load f parts j y at_y boxes closed nothing) closed before s book midway)

@@ -1,6 +1,6 @@
 -- A subscriber leaves, and with it the connections that it alone has.
 use Rattle.std.proofs.Common.{◌≡◌, ◌≢◌, ℕ, ◌+◌, zero, suc, Bool, true, false, cond, eqb, List, [], ◌∷◌, map, length, get_or, slice_set, Option, None, Some, refl, ap, sym, subst, ◌∙◌, inl, inr, ◌⊎◌, arith}
-use Rattle.std.proofs.lemmas.Bool.{cases_eq, eq-eqb, ne_eqb}
+use Rattle.std.proofs.lemmas.Bool.{cases_eq, eq-eqb, ne_eqb, true≢false}
 use Rattle.std.proofs.lemmas.List.{get_or-set_same, get_or-set_other, map-set}
 use Rattle.std.specs.Option.{option_map, IsSomeAnd}
 use Rattle.slab.specs.Slab.{Slab, get}
@@ -19,7 +19,7 @@ use Rattle.iox2_ends.specs.declared.sender.ReceiverDetails.{ReceiverDetails}
 use Rattle.iox2_ends.proofs.MailboxChanges.{within_if_some}
 use Rattle.iox2_domain.specs.Departures.{IsUnshared, DropsUnshared}
 use Rattle.iox2_domain.specs.Fields.{Fields, kept_of, publisher_of, subscriber_of, numbers_of, blocked_send}
-use Rattle.iox2_domain.specs.Invariant.{IsCounted, IsLinked, IsOwned, IsGone, HasBooks, SenderHas, ReceiverHas, details_of, is_subscriber, own_holders, HasParts}
+use Rattle.iox2_domain.specs.Invariant.{IsCounted, IsLinked, IsOwned, IsGone, HasBooks, SenderHas, ReceiverHas, details_of, is_subscriber, own_holders, HasParts, HasOpenReceiver}
 use Rattle.iox2_domain.specs.Kept.{Named, state_of, port_named, ids, is_named}
 use Rattle.iox2_domain.specs.Midway.{IsMidway}
 use Rattle.iox2_domain.specs.Ports.{PublisherFields, SubscriberFields, due}
@@ -28,6 +28,7 @@ use Rattle.iox2_domain.proofs.lemmas.containers.LookUps.{IsOnly-map, IsOnly-remo
 use Rattle.iox2_domain.proofs.lemmas.creations.PublishersDue.{is_due, with_publishers_due, publishers_due-are, publishers_due-consistent, held-due}
 use Rattle.iox2_domain.proofs.lemmas.fields.Views.{mailboxes-are}
 use Rattle.iox2_domain.proofs.lemmas.releases.Unshared.{key-sender, dropped-apart, dropped-sums, dropped-boxes, dropped-fewer}
+use Rattle.iox2_domain.proofs.lemmas.fields.OpenReceivers.{open-still}
 use mathlib.Core.Path.{fun_ext}
 
 -- ---- a port is taken out of a list of places
@@ -57,7 +58,7 @@ module _ {A : Type 0} where
 
 module _ {T U : Type 0} (f : Fields T U) (parts : HasParts f) (j : ℕ) (y : SubscriberFields) (at_y : get_or f.subscribers j None ≡ Some y)
     (new : Slab Link) (drops : DropsUnshared f.publishers y.id (length f.connections.slots) f.connections new)
-    (idle : (key : ℕ) (c : Link) → get f.connections key ≡ Some c → IsUnshared f.publishers y.id key c → load c ≡ 0) where
+    (idle : (key : ℕ) (c : Link) → get f.connections key ≡ Some c → IsUnshared f.publishers y.id key c → load c ≡ 0) (closed : y.is_open ≡ false) where
   abbrev subscribers : List (Option SubscriberFields)
   subscribers = slice_set f.subscribers j None
 
@@ -128,6 +129,15 @@ module _ {T U : Type 0} (f : Fields T U) (parts : HasParts f) (j : ℕ) (y : Sub
     | inr away ↦ inr (record { subscriber = has.subscriber; stands = others d.home.subscriber_place away ∙ has.stands; is_its = has.is_its; has = has.has })
   ]
 
+  -- an open subscriber is another one
+  open-elsewhere : (d : Link) → HasOpenReceiver f.subscribers d → HasOpenReceiver subscribers d
+  open-elsewhere d has = open-still f.subscribers subscribers d (λ z at_z. (z, others d.home.subscriber_place away ∙ at_z, refl, refl)) has where
+    away : d.home.subscriber_place ≢ j
+    away here =
+        let one : Some has.subscriber ≡ Some y = sym has.stands ∙ ap (λ (n : ℕ). get_or f.subscribers n None) here ∙ at_y in
+        let is : has.subscriber ≡ y = cc in
+        true≢false (sym has.is_open ∙ ap (λ (z : SubscriberFields). z.is_open) is ∙ closed)
+
   linked : IsLinked emptied
   linked = record {
     senders = λ i x at_x. record { at = λ place k at_k. rw (sender-still i place k x at_x at_k) ((parts.linked.senders i x at_x).at place k at_k) };
@@ -141,6 +151,7 @@ module _ {T U : Type 0} (f : Fields T U) (parts : HasParts f) (j : ℕ) (y : Sub
     receiver_rooms = λ k' k d z at_d at_z same. parts.linked.receiver_rooms k' k d z (was k' d at_d) (stood k z at_z).1 same;
     limits = λ k' d at_d. parts.linked.limits k' d (was k' d at_d);
     returned = λ k' d at_d. parts.linked.returned k' d (was k' d at_d);
+    marked = λ k' d at_d is. let both = parts.linked.marked k' d (was k' d at_d) is in record { sender = both.sender; receiver = open-elsewhere d both.receiver };
   }
 
   -- ---- the whole

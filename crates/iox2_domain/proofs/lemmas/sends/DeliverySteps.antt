@@ -33,6 +33,7 @@ use Rattle.std.proofs.lemmas.List.{get_or-set_same}
 use Rattle.iox2_ends.proofs.MailboxChanges.{within_if_some}
 use Rattle.iox2_ends.proofs.Counts.{in_range, times-cons, one_if_same}
 use Rattle.iox2_ends.proofs.ReclaimedPuts.{own-in_use, own-still}
+use Rattle.iox2_domain.proofs.lemmas.fields.OpenReceivers.{open-seen}
 
 module _ (e : Environment) (c : ServiceConfig) (p : ℕ) (buffers : ℕ → Option ℕ) (n : ℕ) where
   put-goes : (q retries : ℕ) (elapsed : Duration) (buffer : Option ℕ) (box : Mailbox) (result : PutResult) (box' : Mailbox)
@@ -74,6 +75,7 @@ module _ {T U : Type 0} (f : Fields T U) (parts : HasParts f) (i : ℕ) (x : Pub
     linked = sender-linked f parts i x stands;
     apart = parts.apart;
     knows = parts.linked.knows;
+    marked = λ key c at is. open-seen f.subscribers c (parts.linked.marked key c at is).receiver;
     one_id = λ q. IsOnly-map details_of (is_subscriber q) (has_id q) (λ y. refl) f.subscribers (parts.subscriber_ids q);
   }
 

@@ -181,4 +181,5 @@ module _ {T U : Type 0} (f : Fields T U) (key : ℕ) (b d : Book) (at : get f.bo
     receiver_rooms = linked.receiver_rooms;
     limits = linked.limits;
     returned = linked.returned;
+    marked = linked.marked;
   }

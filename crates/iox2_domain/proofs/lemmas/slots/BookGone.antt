@@ -230,6 +230,7 @@ module _ {T U : Type 0} (f : Fields T U) (parts : HasParts f) (key : ℕ) (b : B
     receiver_rooms = parts.linked.receiver_rooms;
     limits = parts.linked.limits;
     returned = parts.linked.returned;
+    marked = parts.linked.marked;
   }
 
   -- the fields agree with one another

@@ -1,5 +1,5 @@
 -- A publisher's connections and the counters of its slots change together: what holds still.
-use Rattle.std.proofs.Common.{◌≡◌, ◌≢◌, ℕ, zero, suc, ◌+◌, ◌<◌, cond, List, [], ◌∷◌, length, get_or, refl, ap, sym, subst, ◌∙◌, inl, inr, ◌⊎◌, arith}
+use Rattle.std.proofs.Common.{◌≡◌, ◌≢◌, ℕ, Bool, zero, suc, ◌+◌, ◌<◌, cond, List, [], ◌∷◌, length, get_or, refl, ap, sym, subst, ◌∙◌, inl, inr, ◌⊎◌, arith}
 use Rattle.std.proofs.lemmas.Bool.{cases_eq, ne_eqb, eq-eqb}
 use Rattle.std.proofs.lemmas.List.Sums.{sum_by-cons}
 use Rattle.std.specs.declared.option.Option.{Option}
@@ -159,7 +159,7 @@ module _ {T U : Type 0} (f : Fields T U) (parts : HasParts f) (p key : ℕ) (b :
       | inl its ↦
           let fixed : Some (fixed_of d) ≡ Some (fixed_of c) = sym (ap (option_map fixed_of) h) ∙ same ∙ ap (option_map fixed_of) e in
           let is : fixed_of d ≡ fixed_of c = cc in
-          ap (stands q slot) h ∙ other d (ap (λ (t : Home × ℕ × ℕ). t.0.publisher) is ∙ its) ∙ sym (other c its) ∙ ap (stands q slot) (sym e)
+          ap (stands q slot) h ∙ other d (ap (λ (t : Home × ℕ × ℕ × Bool). t.0.publisher) is ∙ its) ∙ sym (other c its) ∙ ap (stands q slot) (sym e)
       | inr away ↦ ap (stands q slot) (r.others.stay i c e away ∙ sym e)
     ]
 

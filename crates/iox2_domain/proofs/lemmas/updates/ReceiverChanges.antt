@@ -1,5 +1,5 @@
 -- A subscriber gets keys of its connections, one of which may be new.
-use Rattle.std.proofs.Common.{◌≡◌, ◌<◌, ◌≤◌, ℕ, Bool, List, [], get_or, slice_set, ◌⊎◌}
+use Rattle.std.proofs.Common.{◌≡◌, ◌<◌, ◌≤◌, ℕ, Bool, false, List, [], get_or, slice_set, ◌⊎◌}
 use Rattle.std.specs.declared.option.Option.{Option}
 use Rattle.std.specs.declared.option.Option.TheVariants.{None, Some}
 use Rattle.slab.specs.Slab.{Slab, get}
@@ -28,6 +28,7 @@ pub record IsNewOfReceiver {T U : Type 0} (f : Fields T U) (j : ℕ) (y : Subscr
   pub has : get_or keys c.home.publisher_place None ≡ Some key
   pub room : c.home.publisher_place < key_room
   pub limit : c.limit ≡ (f.config).subscriber_max_borrowed_samples
+  pub unmarked : c.is_open ≡ false
   pub buffer : c.buffer ≡ y.buffer
   pub returned : c.returned ≡ []
   pub publisher : PublisherFields

@@ -30,6 +30,7 @@ use Rattle.iox2_domain.proofs.lemmas.updates.Extensions.{sender_linked, receiver
 use Rattle.iox2_domain.proofs.lemmas.fields.Standing.{one-publisher, one-subscriber}
 use Rattle.iox2_domain.proofs.lemmas.loans.PublisherChanges.{changed-kept_books}
 use Rattle.iox2_domain.proofs.lemmas.updates.SenderChanges.{FitsSender, IsNewOfSender, with_keys, with_sender, port_after, sender-is, mailboxes-same}
+use Rattle.std.proofs.lemmas.Bool.{true≢false}
 
 module _ {T U : Type 0} (f : Fields T U) (sound : IsDomain f) (i : ℕ) (x : PublisherFields) (at : get_or f.publishers i None ≡ Some x)
     (keys : List (Option ℕ)) (key_room : ℕ) (is_due : Bool) (connections : Slab Link) (warnings : Buffer Warning) (fits : FitsSender f i x keys key_room connections) where
@@ -123,6 +124,10 @@ module _ {T U : Type 0} (f : Fields T U) (sound : IsDomain f) (i : ℕ) (x : Pub
     returned = λ key c at_c. elim (fits.news key c at_c) [
       | inl old ↦ elim (sound.linked.returned key c old) [ inl has ↦ inl (has-still key c has) | inr none ↦ inr none ]
       | inr new ↦ inl (has-new key c new)
+    ];
+    marked = λ key c at_c is. elim (fits.news key c at_c) [
+      | inl old ↦ let both = sound.linked.marked key c old is in record { sender = has-still key c both.sender; receiver = both.receiver }
+      | inr new ↦ absurd (true≢false (sym is ∙ new.unmarked))
     ];
   } where
     sender_room : (key k : ℕ) (c : Link) (z : PublisherFields) → get_or publishers k None ≡ Some z → z.id ≡ c.home.publisher

@@ -164,6 +164,7 @@ module _ {T U : Type 0} (environment : Environment) (f : Fields T U) (sound : Is
                 has = set_place-here x.keys j (Some key);
                 room = room;
                 limit = refl;
+                unmarked = refl;
                 subscriber = y;
                 stands = at_y;
                 is_its = refl;

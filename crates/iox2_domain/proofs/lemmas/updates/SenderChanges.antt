@@ -1,5 +1,5 @@
 -- A publisher gets keys of its connections, one of which may be new.
-use Rattle.std.proofs.Common.{◌≡◌, ◌<◌, ◌≤◌, le_refl, ℕ, Bool, List, map, get_or, slice_set, refl, ap, sym, ◌∙◌, ◌⊎◌, inl}
+use Rattle.std.proofs.Common.{◌≡◌, ◌<◌, ◌≤◌, le_refl, ℕ, Bool, false, List, map, get_or, slice_set, refl, ap, sym, ◌∙◌, ◌⊎◌, inl}
 use Rattle.std.proofs.lemmas.List.{map-set}
 use Rattle.std.specs.declared.option.Option.{Option}
 use Rattle.std.specs.declared.option.Option.TheVariants.{None, Some}
@@ -40,6 +40,7 @@ pub record IsNewOfSender {T U : Type 0} (f : Fields T U) (i : ℕ) (x : Publishe
   pub has : get_or keys c.home.subscriber_place None ≡ Some key
   pub room : c.home.subscriber_place < key_room
   pub limit : c.limit ≡ (f.config).subscriber_max_borrowed_samples
+  pub unmarked : c.is_open ≡ false
   pub subscriber : SubscriberFields
   pub stands : get_or f.subscribers c.home.subscriber_place None ≡ Some subscriber
   pub is_its : subscriber.id ≡ c.home.subscriber

@@ -252,6 +252,7 @@ module _ {T U : Type 0} (f : Fields T U) (sound : IsDomain f) (i j : ℕ) (x : P
     receiver_rooms = sound.linked.receiver_rooms;
     limits = sound.linked.limits;
     returned = λ k d away at. elim (sound.linked.returned k d at) [ inl has ↦ inl (has-still k d away has) | inr none ↦ inr none ];
+    marked = λ k d away at is. let both = sound.linked.marked k d at is in record { sender = has-still k d away both.sender; receiver = both.receiver };
   }
 
   linked : IsLinked left

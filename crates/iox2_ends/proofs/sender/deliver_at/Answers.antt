@@ -1,7 +1,7 @@
 use Rattle.std.proofs.Common.{refl, sym, ◌∙◌}
 use Rattle.iox2_store.specs.machine.Environments.{fixed_handlers}
 use Rattle.iox2_ends.proofs.DeliverySteps.{contains-at}
-use Rattle.iox2_ends.proofs.ReclaimedPuts.{reclaim-held, reclaim-passes, reclaim-recounts, reclaim-can_leave, reclaim-puts, own-reclaimed, put-recounted, put-grows, put-alone}
+use Rattle.iox2_ends.proofs.ReclaimedPuts.{reclaim-held, reclaim-passes, reclaim-marked, reclaim-recounts, reclaim-can_leave, reclaim-puts, own-reclaimed, put-recounted, put-grows, put-alone}
 use Rattle.iox2_ends.proofs.sender.deliver_at.Goals as goal
 
 pub index_mut-connection-requires : goal.index_mut-connection-requires
@@ -11,10 +11,14 @@ pub reclaim_from-requires : goal.reclaim_from-requires
 reclaim_from-requires g c =
     reclaim-held c.args.place _ c.requires.ready c.in-Some.is _ c.index_mut-connection.result.now c.index_mut-connection.ensures.value c.requires.covered
 
+pub is_open-requires : goal.is_open-requires
+is_open-requires g c =
+    reclaim-marked c.args.place _ c.requires.ready c.in-Some.is _ c.index_mut-connection.result.now c.index_mut-connection.ensures.value c.requires.covered c.reclaim_from.new.book.holders c.reclaim_from.new.connection c.reclaim_from.ensures.reclaims
+
 pub returns-then-not-is_open-clause-puts : goal.returns-then-not-is_open-clause-puts
 returns-then-not-is_open-clause-puts g c =
     reclaim-passes c.args.place _ c.requires.ready c.in-Some.is _ c.index_mut-connection.result.now c.index_mut-connection.ensures.value c.requires.covered c.reclaim_from.new.book.holders c.reclaim_from.new.connection c.reclaim_from.ensures.reclaims
-    fixed_handlers c.args.config.now c.args.delivery.now (rw c.home.ensures.value at (sym c.is_open.ensures ∙ c.if-not-is_open.true))
+    fixed_handlers c.args.config.now c.args.delivery.now (sym c.is_open.ensures.value ∙ c.if-not-is_open.true)
 
 pub returns-then-not-is_open-clause-recounts : goal.returns-then-not-is_open-clause-recounts
 returns-then-not-is_open-clause-recounts g c =
@@ -34,7 +38,7 @@ recount-requires-clause-overwritten g c =
 pub returns-clause-puts : goal.returns-clause-puts
 returns-clause-puts g c =
     reclaim-puts c.args.place _ c.requires.ready c.in-Some.is _ c.index_mut-connection.result.now c.index_mut-connection.ensures.value c.requires.covered c.reclaim_from.new.book.holders c.reclaim_from.new.connection c.reclaim_from.ensures.reclaims
-    fixed_handlers c.args.config.now c.args.delivery.now c.put-outcome.result c.put-outcome.new.self c.reception_of.result refl (rw c.home.ensures.value at (sym c.is_open.ensures ∙ c.if-not-is_open.false))
+    fixed_handlers c.args.config.now c.args.delivery.now c.put-outcome.result c.put-outcome.new.self c.reception_of.result refl (sym c.is_open.ensures.value ∙ c.if-not-is_open.false)
     c.put-outcome.ensures.put c.reception_of.ensures
 
 pub returns-clause-recounts : goal.returns-clause-recounts

@@ -5,7 +5,7 @@ use Rattle.std.proofs.Math.ListN.{get_or-map}
 use Rattle.std.proofs.lemmas.Bool.{eq-eqb}
 use Rattle.iox2_ends.specs.Receivers.{is_open_one}
 use Rattle.iox2_ends.specs.declared.sender.ReceiverDetails.{ReceiverDetails}
-use Rattle.iox2_ends.proofs.sender.is_open.Goals as goal
+use Rattle.iox2_ends.proofs.sender.stands_open.Goals as goal
 
 pub returns-then-receiver-id : goal.returns-then-receiver-id
 returns-then-receiver-id g c =
