@@ -64,9 +64,7 @@ pub mod WorkedRunsOfBlockedSends
 pub mod WorkedRunsOfFailedSends
 pub mod WorkedRunsOfSlots
 pub mod WorkedRunsOfDepartures
-pub mod WorkedRunsOfRefusedUpdates
 pub mod WorkedRunsOfReplacedPublishers
-pub mod WorkedRunsOfCloses
 pub mod WorkedRunsOfForgottenPublishers
 pub mod WorkedRunsOfWarnings
 pub mod WorkedRunsOfSlices

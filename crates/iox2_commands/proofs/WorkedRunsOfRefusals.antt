@@ -11,82 +11,14 @@ use Rattle.iox2_store.specs.declared.errors.ConnectionFailure.TheVariants.{Faile
 use Rattle.iox2_store.specs.declared.errors.ZeroCopyCreationError.TheVariants.{OutOfMemory as No_memory}
 use Rattle.iox2_store.specs.declared.errors.LoanError.TheVariants.{OutOfMemory}
 use Rattle.iox2_store.specs.declared.errors.SendError.TheVariants.{LoanError as Not_loaned}
-use Rattle.iox2_store.specs.declared.errors.PublisherCreateError.TheVariants.{ExceedsMaxSupportedPublishers, UnableToCreateDataSegment}
 use Rattle.iox2_store.specs.declared.warning.Warning.TheVariants.{ExpiredBufferRaised, ConnectionNotMade, PublisherPartlyConnected}
 use Rattle.iox2_commands.specs.Outcomes.{Event}
 use Rattle.iox2_store.specs.machine.Environments.{ample_memory, fixed_handlers}
 use Rattle.iox2_commands.specs.Runs.{Run, only_defaults}
-use Rattle.iox2_commands.specs.declared.command.Command.TheVariants.{CreatePublisher, CreateSubscriber, LoanUninit, SendCopy, Receive, Read, Release, Close}
-use Rattle.iox2_commands.specs.declared.reply.Reply.TheVariants.{Done, PublisherMade, PublisherRefused, SubscriberMade, Loaned, LoanRefused, Delivered, SendRefused}
+use Rattle.iox2_commands.specs.declared.command.Command.TheVariants.{CreatePublisher, CreateSubscriber, LoanUninit, SendCopy, Receive, Read, Release}
+use Rattle.iox2_commands.specs.declared.reply.Reply.TheVariants.{Done, PublisherMade, SubscriberMade, Loaned, LoanRefused, Delivered, SendRefused}
 use Rattle.iox2_commands.specs.declared.reply.Reply.TheVariants.{Sample, NoSample, Cell}
 use Rattle.iox2_commands.proofs.WorkedRunDomains.{domain}
-
--- A second publisher is refused because of their number, before its size counts; the same request is refused because of
--- its size when there is room. A refusal uses up no id.
-pub too_large_a_publisher_is_refused : (events : List (Event ℕ ℕ)) × (m : Messages ℕ ℕ) × (s : State ℕ ℕ)
-    × Run ample_memory (only_defaults 0 0) no_messages (fresh (domain 1 1 1 1 0 0 false))
-    (CreatePublisher 1 DiscardData Static 1 None Warn None ∷ CreatePublisher 18446744073709551615 DiscardData Static 1 None Warn None ∷ Close 0 ∷
-    CreatePublisher 18446744073709551615 DiscardData Static 1 None Warn None ∷ CreatePublisher 1 DiscardData Static 1 None Warn None ∷ [])
-    (PublisherMade 1 ∷ PublisherRefused ExceedsMaxSupportedPublishers ∷ Done ∷ PublisherRefused UnableToCreateDataSegment ∷ PublisherMade 2 ∷ [])
-    events m s
-    × (s.warnings ≡ [])
-too_large_a_publisher_is_refused = (
-  _ ∷ _ ∷ _ ∷ _ ∷ _ ∷ [],
-  _,
-  _,
-  (
-    0,
-    0,
-    refl,
-    refl,
-    _,
-    (_, None, (_, None, (_, (refl, refl), refl), refl), refl),
-    refl,
-    refl,
-    (
-      0,
-      0,
-      refl,
-      refl,
-      _,
-      (_, Some ExceedsMaxSupportedPublishers, (refl, refl), refl),
-      refl,
-      refl,
-      (
-        0,
-        0,
-        refl,
-        refl,
-        _,
-        refl,
-        refl,
-        refl,
-        (
-          0,
-          0,
-          refl,
-          refl,
-          _,
-          (_, Some UnableToCreateDataSegment, (refl, refl), refl),
-          refl,
-          refl,
-          (
-            0,
-            0,
-            refl,
-            refl,
-            _,
-            (_, None, (_, None, (_, (refl, refl), refl), refl), refl),
-            refl,
-            refl,
-            (refl, refl),
-          ),
-        ),
-      ),
-    ),
-  ),
-  refl,
-)
 
 -- A publisher with two slots instead of three has no slot for a third message that is held, though no loan is out. A
 -- release makes one free.

@@ -14,7 +14,7 @@ const HOME: Home = Home {
 };
 
 // A connection in which two slots may wait and one may be borrowed.
-fn connection(rt: &impl Abort, alloc: Global) -> Connection
+pub(super) fn connection(rt: &impl Abort, alloc: Global) -> Connection
     ensures { result ≡ empty_link result.home 2 1 }
 {
     Connection::new(alloc, HOME, 2, 1).expect(rt, "a connection")

@@ -3,7 +3,7 @@ use std::alloc::Global;
 use std::process::Abort;
 
 // The header of a message with so many elements.
-fn header(elements: u64) -> Header {
+pub(super) fn header(elements: u64) -> Header {
     Header {
         node_id: UniqueNodeId::new(7),
         publisher_id: UniquePublisherId::new(3),
@@ -12,7 +12,7 @@ fn header(elements: u64) -> Header {
 }
 
 // A book of a publisher with so many slots, all of them free.
-fn book(rt: &impl Abort, alloc: Global, slots: usize) -> SlotBook {
+pub(super) fn book(rt: &impl Abort, alloc: Global, slots: usize) -> SlotBook {
     SlotBook::new(alloc, UniquePublisherId::new(3), slots).expect(rt, "a book")
 }
 

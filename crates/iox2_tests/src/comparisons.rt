@@ -6,6 +6,8 @@ use iox2_store::{
     SubscriberCreateError, UniquePublisherId, UniqueSubscriberId,
 };
 
+type End = (Domain<u64, u8>, Vec<Reply<u64, u8>>);
+
 const SUBSCRIBER: Command<u64, u8> = Command::CreateSubscriber {
     buffer: None,
     degradation: DegradationAction::Warn,
@@ -55,6 +57,11 @@ const WITHOUT_IT: [Command<u64, u8>; 13] = [
     Command::Receive { of: 1 },
 ];
 
+// The replies of a run whose domain isn't needed.
+fn replies_of((_, replies): End) -> Vec<Reply<u64, u8>> {
+    replies
+}
+
 #[test]
 fn a_subscriber_sees_the_same_beside_a_slower_one(rt: HostRuntime) {
     let config = ServiceConfig {
@@ -65,15 +72,10 @@ fn a_subscriber_sees_the_same_beside_a_slower_one(rt: HostRuntime) {
     };
     let commands = Vec::from_array(rt.alloc(), WITH_A_RECEIVE).expect(&rt, "commands");
     let reduced = Vec::from_array(rt.alloc(), WITHOUT_IT).expect(&rt, "fewer commands");
-    let ends: Option<
-        (
-            (Domain<u64, u8>, Vec<Reply<u64, u8>>),
-            (Domain<u64, u8>, Vec<Reply<u64, u8>>),
-        ),
-    > = compare_runs(rt.alloc(), &config, commands, reduced);
+    let ends: Option<(End, End)> = compare_runs(rt.alloc(), &config, commands, reduced);
     let (first, second) = ends.expect(&rt, "two runs");
-    let (_, replies) = first;
-    let (_, others) = second;
+    let replies = replies_of(first);
+    let others = replies_of(second);
     let expected: [Reply<u64, u8>; 13] = [
         Reply::SubscriberMade(UniqueSubscriberId::new(1)),
         Reply::SubscriberMade(UniqueSubscriberId::new(2)),
@@ -202,15 +204,10 @@ fn a_subscriber_sees_the_same_beside_one_that_is_closed(rt: HostRuntime) {
     };
     let commands = Vec::from_array(rt.alloc(), WITH_A_CLOSE).expect(&rt, "commands");
     let reduced = Vec::from_array(rt.alloc(), WITHOUT_ITS_RECEIVE).expect(&rt, "fewer commands");
-    let ends: Option<
-        (
-            (Domain<u64, u8>, Vec<Reply<u64, u8>>),
-            (Domain<u64, u8>, Vec<Reply<u64, u8>>),
-        ),
-    > = compare_runs(rt.alloc(), &config, commands, reduced);
+    let ends: Option<(End, End)> = compare_runs(rt.alloc(), &config, commands, reduced);
     let (first, second) = ends.expect(&rt, "two runs");
-    let (_, replies) = first;
-    let (_, others) = second;
+    let replies = replies_of(first);
+    let others = replies_of(second);
     let mut without = answers();
     without[6] = Reply::Done;
     assert!(rt; replies.as_slice() == answers().as_slice());
@@ -226,15 +223,10 @@ fn a_subscriber_that_keeps_a_sample_keeps_its_place(rt: HostRuntime) {
     };
     let commands = Vec::from_array(rt.alloc(), WITH_A_CLOSE).expect(&rt, "commands");
     let reduced = Vec::from_array(rt.alloc(), WITHOUT_ITS_RELEASE).expect(&rt, "fewer commands");
-    let ends: Option<
-        (
-            (Domain<u64, u8>, Vec<Reply<u64, u8>>),
-            (Domain<u64, u8>, Vec<Reply<u64, u8>>),
-        ),
-    > = compare_runs(rt.alloc(), &config, commands, reduced);
+    let ends: Option<(End, End)> = compare_runs(rt.alloc(), &config, commands, reduced);
     let (first, second) = ends.expect(&rt, "two runs");
-    let (_, replies) = first;
-    let (_, others) = second;
+    let replies = replies_of(first);
+    let others = replies_of(second);
     let mut keeping = answers();
     keeping[9] = Reply::SubscriberRefused(SubscriberCreateError::ExceedsMaxSupportedSubscribers);
     keeping[12] = Reply::Delivered(1);

@@ -1,10 +1,12 @@
 //! Tests of the ends, the laws, the domain's calls, the commands and the runs, which call their
 //! public items as a user does. It holds nothing else: a crate with tests is proved twice, so the
-//! libraries have none.
+//! libraries have none but of what no call shows.
 #![tactic(auto)]
 
 #[cfg(test)]
 mod closes;
+#[cfg(test)]
+mod closing_orders;
 #[cfg(test)]
 mod commands;
 #[cfg(test)]

@@ -15,35 +15,28 @@ use iox2_store::{
 };
 use std::alloc::Global;
 
-const CREATE_SUBSCRIBER: Command<u64, u8> = Command::CreateSubscriber {
+pub(crate) const CREATE_SUBSCRIBER: Command<u64, u8> = Command::CreateSubscriber {
     buffer: Some(1),
     degradation: DegradationAction::Warn,
 };
 
-const CREATE_PUBLISHER: Command<u64, u8> = Command::CreatePublisher {
-    loans: 1,
-    strategy: BackpressureStrategy::DiscardData,
-    allocation: AllocationStrategy::Static,
-    initial_max_slice_len: 1,
-    override_slots: None,
-    degradation: DegradationAction::Warn,
-    backpressure: None,
-};
-
-const COMMANDS: [Command<u64, u8>; 9] = [
-    CREATE_SUBSCRIBER,
-    CREATE_PUBLISHER,
-    Command::LoanUninit { of: 1 },
-    Command::WriteAll { of: 2, value: 5 },
-    Command::Send { of: 2 },
-    Command::Send { of: 2 },
-    Command::Receive { of: 0 },
-    Command::Read { of: 6, at: 0 },
-    Command::Release { of: 6 },
-];
+/// The command that makes a publisher with so many loans.
+pub(crate) fn create_publisher(loans: usize) -> Command<u64, u8>
+    ensures { IsSupportedCommand result }
+{
+    Command::CreatePublisher {
+        loans,
+        strategy: BackpressureStrategy::DiscardData,
+        allocation: AllocationStrategy::Static,
+        initial_max_slice_len: 1,
+        override_slots: None,
+        degradation: DegradationAction::Warn,
+        backpressure: None,
+    }
+}
 
 /// Replies of a run whose types have one default value each, which the run uses throughout.
-fn replies_to_numbers(
+pub(crate) fn replies_to_numbers(
     alloc: Global,
     domain: &mut Domain<u64, u8>,
     commands: Vec<Command<u64, u8>>,
@@ -71,7 +64,18 @@ fn replies_without_headers(
 #[test]
 fn a_message_goes_from_its_loan_to_its_release(rt: HostRuntime) {
     let mut domain: Domain<u64, u8> = Domain::new(rt.alloc(), settings()).expect(&rt, "a domain");
-    let commands = Vec::from_array(rt.alloc(), COMMANDS).expect(&rt, "commands");
+    let commands = [
+        CREATE_SUBSCRIBER,
+        create_publisher(1),
+        Command::LoanUninit { of: 1 },
+        Command::WriteAll { of: 2, value: 5 },
+        Command::Send { of: 2 },
+        Command::Send { of: 2 },
+        Command::Receive { of: 0 },
+        Command::Read { of: 6, at: 0 },
+        Command::Release { of: 6 },
+    ];
+    let commands = Vec::from_array(rt.alloc(), commands).expect(&rt, "commands");
     let outcome = replies_to_numbers(rt.alloc(), &mut domain, commands);
     drop(domain);
     let replies = outcome.ok().expect(&rt, "replies");
@@ -101,25 +105,24 @@ fn a_command_that_names_nothing_is_skipped(rt: HostRuntime) {
     assert!(rt; replies.as_slice() == expected.as_slice());
 }
 
-const CALLS_BESIDE: [Command<u64, u8>; 12] = [
-    CREATE_SUBSCRIBER,
-    CREATE_PUBLISHER,
-    Command::Update { of: 0 },
-    Command::Update { of: 1 },
-    Command::LoanUninit { of: 1 },
-    Command::Discard { of: 4 },
-    Command::Discard { of: 4 },
-    Command::LoanUninit { of: 1 },
-    Command::WriteAll { of: 7, value: 5 },
-    Command::Update { of: 7 },
-    Command::Discard { of: 7 },
-    Command::HasSamples { of: 0 },
-];
-
 #[test]
 fn calls_beside_the_path_of_a_message_are_carried_out(rt: HostRuntime) {
     let mut domain: Domain<u64, u8> = Domain::new(rt.alloc(), settings()).expect(&rt, "a domain");
-    let commands = Vec::from_array(rt.alloc(), CALLS_BESIDE).expect(&rt, "commands");
+    let commands = [
+        CREATE_SUBSCRIBER,
+        create_publisher(1),
+        Command::Update { of: 0 },
+        Command::Update { of: 1 },
+        Command::LoanUninit { of: 1 },
+        Command::Discard { of: 4 },
+        Command::Discard { of: 4 },
+        Command::LoanUninit { of: 1 },
+        Command::WriteAll { of: 7, value: 5 },
+        Command::Update { of: 7 },
+        Command::Discard { of: 7 },
+        Command::HasSamples { of: 0 },
+    ];
+    let commands = Vec::from_array(rt.alloc(), commands).expect(&rt, "commands");
     let outcome = replies_to_numbers(rt.alloc(), &mut domain, commands);
     drop(domain);
     let replies = outcome.ok().expect(&rt, "replies");
@@ -144,9 +147,9 @@ fn calls_beside_the_path_of_a_message_are_carried_out(rt: HostRuntime) {
 #[test]
 fn a_second_run_names_nothing_that_the_first_made(rt: HostRuntime) {
     let mut domain: Domain<u64, u8> = Domain::new(rt.alloc(), settings()).expect(&rt, "a domain");
-    let first = Vec::from_array(rt.alloc(), [CREATE_PUBLISHER]).expect(&rt, "commands");
+    let first = Vec::from_array(rt.alloc(), [create_publisher(1)]).expect(&rt, "commands");
     let made = replies_to_numbers(rt.alloc(), &mut domain, first);
-    let commands = [CREATE_PUBLISHER, Command::Update { of: 0 }];
+    let commands = [create_publisher(1), Command::Update { of: 0 }];
     let second = Vec::from_array(rt.alloc(), commands).expect(&rt, "commands");
     let outcome = replies_to_numbers(rt.alloc(), &mut domain, second);
     drop(domain);
@@ -156,5 +159,32 @@ fn a_second_run_names_nothing_that_the_first_made(rt: HostRuntime) {
     let replies = outcome.ok().expect(&rt, "replies");
     let refusal = PublisherCreateError::ExceedsMaxSupportedPublishers;
     let expected: [Reply<u64, u8>; 2] = [Reply::PublisherRefused(refusal), Reply::Skipped];
+    assert!(rt; replies.as_slice() == expected.as_slice());
+}
+
+// The number of publishers counts before their size, and a refused one uses up no id.
+#[test]
+fn too_large_a_publisher_is_refused(rt: HostRuntime) {
+    let mut domain: Domain<u64, u8> = Domain::new(rt.alloc(), settings()).expect(&rt, "a domain");
+    let commands = [
+        create_publisher(1),
+        create_publisher(usize::MAX),
+        Command::Close { of: 0 },
+        create_publisher(usize::MAX),
+        create_publisher(1),
+    ];
+    let commands = Vec::from_array(rt.alloc(), commands).expect(&rt, "commands");
+    let outcome = replies_to_numbers(rt.alloc(), &mut domain, commands);
+    drop(domain);
+    let replies = outcome.ok().expect(&rt, "replies");
+    let too_many = PublisherCreateError::ExceedsMaxSupportedPublishers;
+    let too_large = PublisherCreateError::UnableToCreateDataSegment;
+    let expected: [Reply<u64, u8>; 5] = [
+        Reply::PublisherMade(UniquePublisherId::new(1)),
+        Reply::PublisherRefused(too_many),
+        Reply::Done,
+        Reply::PublisherRefused(too_large),
+        Reply::PublisherMade(UniquePublisherId::new(2)),
+    ];
     assert!(rt; replies.as_slice() == expected.as_slice());
 }

@@ -9,6 +9,7 @@ use iox2_store::{
     worst_case_slots,
 };
 use std::alloc::Global;
+use std::process::Abort;
 
 // One subscriber with a buffer of one, which may borrow one message; no history.
 fn smallest() -> ServiceConfig {
@@ -86,8 +87,16 @@ fn there_is_no_list_that_fills_nothing(rt: HostRuntime) {
         units_per_element: 2,
         ..smallest()
     };
-    let too_long = ServiceConfig {
+    let of_too_many_slots = ServiceConfig {
         history_size: usize::MAX,
+        ..smallest()
+    };
+    let too_long = ServiceConfig {
+        history_size: usize::MAX / 2,
+        ..smallest()
+    };
+    let too_large = ServiceConfig {
+        history_size: usize::MAX / 4096,
         ..smallest()
     };
     for config in [
@@ -95,7 +104,9 @@ fn there_is_no_list_that_fills_nothing(rt: HostRuntime) {
         without_publishers,
         without_subscribers,
         of_two_units,
+        of_too_many_slots,
         too_long,
+        too_large,
     ] {
         let list: Option<Vec<Command<u64, u8>>> = worst_case_commands(
             rt.alloc(),
@@ -135,17 +146,21 @@ fn replies_to_list(
     Some(replies)
 }
 
-#[test]
-fn the_list_is_granted_with_its_slots(rt: HostRuntime) {
-    let twice = ServiceConfig {
-        max_subscribers: 2,
-        subscriber_max_buffer_size: 2,
-        subscriber_max_borrowed_samples: 1,
-        history_size: 1,
-        ..settings()
-    };
-    assert!(rt; worst_case_slots(&twice, 1) == Some(8));
-    let replies = replies_to_list(rt.alloc(), &twice, 1).expect(&rt, "replies");
+// Whether a command of the list was neither skipped nor refused, and received what it was to.
+fn is_granted(reply: &Reply<u64, u8>) -> bool {
+    matches!(
+        reply,
+        Reply::PublisherMade(_)
+            | Reply::SubscriberMade(_)
+            | Reply::Loaned
+            | Reply::Done
+            | Reply::Delivered(_)
+            | Reply::Sample(_)
+    )
+}
+
+// How many loans were granted, messages sent, and messages received.
+fn counts(replies: &[Reply<u64, u8>]) -> [usize; 3] {
     let loans = replies
         .iter()
         .filter(|reply| matches!(reply, Reply::Loaned))
@@ -154,13 +169,82 @@ fn the_list_is_granted_with_its_slots(rt: HostRuntime) {
         .iter()
         .filter(|reply| matches!(reply, Reply::Delivered(_)))
         .count();
-    let skipped = replies
+    let samples = replies
         .iter()
-        .filter(|reply| matches!(reply, Reply::Skipped | Reply::LoanRefused(_)))
+        .filter(|reply| matches!(reply, Reply::Sample(_)))
         .count();
-    // Of each subscriber: one message that it borrows, two that wait, and one for the history. Then
-    // the one loan.
-    assert!(rt; loans == 9);
-    assert!(rt; sends == 8);
-    assert!(rt; skipped == 0);
+    [loans, sends, samples]
+}
+
+// Asserts that there is a list where its service has a publisher, a subscriber and a loan, and there
+// alone, and that no command of it is skipped or refused. Each subscriber borrows messages, others
+// wait for it, and others are for the history.
+fn assert_list_is_granted(rt: &impl Abort, alloc: Global, config: &ServiceConfig, loans: usize)
+    requires { config.now.variant ≡ FixedSize }
+{
+    let subscribers = config.max_subscribers;
+    let borrowed = config.subscriber_max_borrowed_samples;
+    let history = config.history_size;
+    let replies = replies_to_list(alloc, config, loans);
+    if config.max_publishers == 0 || subscribers == 0 || loans == 0 {
+        assert!(rt; replies.is_none(), "at {config:?} and {loans}");
+        return;
+    }
+    let replies = replies.expect(rt, "replies");
+    let delivered = config
+        .subscriber_max_buffer_size
+        .max(1)
+        .saturating_add(borrowed);
+    let slots = subscribers
+        .saturating_mul(delivered)
+        .saturating_add(history)
+        .saturating_add(loans);
+    let sends = subscribers.saturating_mul(delivered.saturating_add(history));
+    let expected = [
+        sends.saturating_add(loans),
+        sends,
+        subscribers.saturating_mul(borrowed),
+    ];
+    assert_eq!(rt;
+        worst_case_slots(config, loans),
+        Some(slots),
+        "at {config:?} and {loans}"
+    );
+    assert_eq!(rt; counts(&replies), expected, "at {config:?} and {loans}");
+    assert!(rt; replies.iter().all(is_granted), "at {config:?} and {loans}");
+}
+
+// Asserts it for every history and number of loans up to three.
+fn assert_lists_are_granted(rt: &impl Abort, alloc: Global, config: ServiceConfig)
+    requires { config.variant ≡ FixedSize }
+{
+    for history_size in 0..4 {
+        let config = ServiceConfig {
+            history_size,
+            ..config
+        };
+        for loans in 0..4 {
+            assert_list_is_granted(rt, alloc, &config, loans);
+        }
+    }
+}
+
+#[test]
+fn every_small_list_is_granted_with_its_slots(rt: HostRuntime) {
+    for max_publishers in 0..4 {
+        for max_subscribers in 0..4 {
+            for subscriber_max_buffer_size in 0..4 {
+                for subscriber_max_borrowed_samples in 0..4 {
+                    let config = ServiceConfig {
+                        max_publishers,
+                        max_subscribers,
+                        subscriber_max_buffer_size,
+                        subscriber_max_borrowed_samples,
+                        ..settings()
+                    };
+                    assert_lists_are_granted(&rt, rt.alloc(), config);
+                }
+            }
+        }
+    }
 }

@@ -264,6 +264,8 @@ fn a_malformed_line_is_named(rt: HostRuntime) -> Result<(), Fail> {
         b"send 1 1".as_slice(),
         b"discard".as_slice(),
         b"discard 1 1".as_slice(),
+        b"close".as_slice(),
+        b"close 1 1".as_slice(),
         b"recv".as_slice(),
         b"recv 1 1".as_slice(),
         b"has".as_slice(),
@@ -313,6 +315,7 @@ fn a_number_that_names_nothing_is_skipped(rt: HostRuntime) {
         b"domain 1 1 1 1 0 0 keep\ndiscard 1".as_slice(),
         b"domain 1 1 1 1 0 0 keep\nhas 1".as_slice(),
         b"domain 1 1 1 1 0 0 keep\nupdate 1".as_slice(),
+        b"domain 1 1 1 1 0 0 keep\nclose 1".as_slice(),
     ] {
         Outcome::of(rt.alloc(), text).assert(&rt, 0, b"skipped\n", b"");
     }
