@@ -24,7 +24,7 @@ use Rattle.iox2_ports.proofs.subscriber_closes.close_subscriber.Goals as goal
 
 pub loop-key-init : goal.loop-key-init
 loop-key-init g c = λ sound y at.
-    closing-starts _ c.args.state.now c.state.view_is sound c.args.place y at _
+    closing-starts _ c.args.state.now c.state.view_is sound c.args.place y at c.requires.unmarked _
     (with_items_is c.state.inside.subscribers c.shut-id.new.subscribers (c.shut-id.auto.subscribers ∙ c.deref_mut.ensures.len)
     ∙ c.shut-id.ensures.subscribers
     ∙ ap (λ xs. changed_at shut_subscriber xs c.args.place) (c.deref_mut.ensures.value ∙ ap (λ (f : Fields g.row.T.Denot g.row.U.Denot). f.subscribers) c.state.view_is))
