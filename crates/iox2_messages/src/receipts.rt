@@ -14,7 +14,7 @@ ghost use Rattle.iox2_domain.specs.Midway.{IsMidway};
 ghost use Rattle.iox2_domain.specs.Receipts.{IsReceiptFor, TakesAs, ReceivesAs};
 ghost use Rattle.iox2_domain.specs.SampleSlots.{IsReturnable, LiesAtHint};
 
-use iox2_domain::{DomainState, PublisherState, Receipt, SampleAt, SampleSlot, stands_at};
+use iox2_domain::{DomainState, Receipt, SampleAt, SampleSlot, stands_at};
 use iox2_ends::receiver::{Taken, let_go, receive, release};
 use iox2_ports::{forget_if_empty, free_book_if_unused, leave_if_unused, update_subscriber};
 use iox2_store::{Home, ReceiveError, SlotBook, UniquePublisherId, UniqueSubscriberId};
@@ -84,31 +84,12 @@ pub fn receive_at<T: Drop, U: Default + Drop>(
     }
 }
 
-// Whether the publisher at a place has its book at the key.
-fn has_book(publishers: &[Option<PublisherState>], place: usize, book: usize) -> bool
-    ensures { IsTrue result → IsSomeAnd (slice_index_or publishers.now place None) (λ x. x.book ≡ book) }
-{
-    if place >= publishers.len() {
-        return false;
-    }
-    match &publishers[place] {
-        Some(publisher) => publisher.book == book,
-        None => false,
-    }
-}
-
-// Whether both ports of a sample's connection stay: the subscriber is open, and the publisher is there.
-#[inline(always)]
+// Whether both ports of a sample's connection stay: the publisher is there, and the subscriber is open.
 fn both_stay<T: Drop, U: Default + Drop>(state: &DomainState<T, U>, sample: &SampleAt) -> bool
-    requires agrees { IsDomain state.now }
-    requires lies { LiesAtHint state.now sample.now }
+    requires { LiesAtHint state.now sample.now }
     ensures { IsTrue result → IsReturnable state.now sample.now }
 {
-    let home = state.connections[sample.connection].home();
-    let Some(subscriber) = &state.subscribers[home.subscriber_place] else {
-        unreachable!()
-    };
-    subscriber.is_open && has_book(&state.publishers, home.publisher_place, home.book)
+    state.connections[sample.connection].is_open()
 }
 
 // Whether a live sample is the one that was borrowed last of the connection that it names, both ports

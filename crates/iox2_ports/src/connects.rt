@@ -11,6 +11,7 @@ ghost use Rattle.iox2_domain.specs.Connects.{MakesRoom, MakesSenderEnd, Connects
 ghost use Rattle.iox2_domain.specs.Drops.{HasEnd, LosesSenderEnd, LosesWaiting};
 ghost use Rattle.iox2_domain.specs.Histories.{HasNewEnd, HandsOut};
 
+use crate::marks::mark_end;
 use crate::warnings::warn;
 use iox2_domain::{
     DomainState, PublisherState, SubscriberState, clear_key_at, is_open_at, key_at,
@@ -241,6 +242,7 @@ fn connect_sender<T: Drop, U: Default + Drop>(
     }
     if let Some(key) = make_sender_end(state, publisher_place, subscriber_place) {
         hand_out_history(state, publisher_place, key);
+        mark_end(state, publisher_place, subscriber_place);
     }
 }
 

@@ -4,8 +4,10 @@
 //! isn't part of that crate is for the prover's time alone: two crates are proved side by side.
 #![tactic(auto)]
 
+mod closes;
 mod connects;
 mod departures;
+mod marks;
 mod publisher_closes;
 mod publisher_entry;
 mod receiver_updates;
@@ -16,10 +18,9 @@ mod subscriber_entry;
 mod updates;
 mod warnings;
 
+pub use closes::{close_publisher, close_subscriber};
 pub use departures::{forget_if_empty, free_book_if_unused, leave_if_unused};
-pub use publisher_closes::close_publisher;
 pub use publisher_entry::create_publisher;
 pub use receiver_updates::update_subscriber;
-pub use subscriber_closes::close_subscriber;
 pub use subscriber_entry::create_subscriber;
 pub use updates::update_publisher;

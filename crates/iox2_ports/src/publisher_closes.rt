@@ -9,6 +9,7 @@ ghost use Rattle.iox2_domain.specs.Ports.{PublisherFields};
 ghost use Rattle.iox2_domain.specs.Kept.{state_of};
 ghost use Rattle.iox2_domain.specs.Fields.{kept_of, publisher_of};
 ghost use Rattle.iox2_domain.specs.Invariant.{IsDomain};
+ghost use Rattle.iox2_domain.specs.OpenMarks.{IsUnmarkedSender};
 ghost use Rattle.iox2_domain.specs.Reaches.{ReachesBut, Reaches};
 ghost use Rattle.iox2_domain.specs.Closes.{is_awaited, after_close, left_subscriber, FindsAll, HasKey, LeavesAt, LeavesConnections, SomeHasKey};
 
@@ -199,6 +200,7 @@ fn forget_everywhere(
 fn leave_domain<T: Drop, U: Default + Drop>(state: &mut DomainState<T, U>, place: usize) -> usize
     requires sound { IsDomain state.old }
     requires stands { (x : PublisherFields) × (slice_index_or state.old.publishers place None ≡ Some x) }
+    requires unmarked { IsUnmarkedSender state.old.connections place }
     ensures { (x : PublisherFields) → slice_index_or state.old.publishers place None ≡ Some x
         → (result ≡ x.book) × ReachesBut x.book state.old state.new
         (publisher_closed (state_of (kept_of state.old)) x.id (publisher_of (state.old).books (state.old).connections x).port) }
@@ -219,15 +221,11 @@ fn leave_domain<T: Drop, U: Default + Drop>(state: &mut DomainState<T, U>, place
     publisher.book
 }
 
-/// The publisher at a place is closed. Its place is free, and its loans stay out. What waits for
-/// an open subscriber that has its end stays there, and what waits for anybody else is lost. A
-/// connection with nothing in it is gone, and so is its book where nobody holds a slot of it. Every
-/// subscriber is due for an update.
-///
-/// iceoryx2's `Publisher` drops its state (`src/port/publisher.rs`).
-pub fn close_publisher<T: Drop, U: Default + Drop>(state: &mut DomainState<T, U>, place: usize)
+/// The publisher at a place is closed, of which no connection is marked as open.
+pub(crate) fn close_publisher<T: Drop, U: Default + Drop>(state: &mut DomainState<T, U>, place: usize)
     requires sound { IsDomain state.old }
     requires stands { (x : PublisherFields) × (slice_index_or state.old.publishers place None ≡ Some x) }
+    requires unmarked { IsUnmarkedSender state.old.connections place }
     ensures { (x : PublisherFields) → slice_index_or state.old.publishers place None ≡ Some x
         → Reaches state.old state.new
         (publisher_closed (state_of (kept_of state.old)) x.id (publisher_of (state.old).books (state.old).connections x).port) }

@@ -8,6 +8,7 @@ ghost use Rattle.iox2_domain.specs.Ports.{SubscriberFields};
 ghost use Rattle.iox2_domain.specs.Kept.{state_of};
 ghost use Rattle.iox2_domain.specs.Fields.{kept_of, subscriber_of};
 ghost use Rattle.iox2_domain.specs.Invariant.{IsDomain};
+ghost use Rattle.iox2_domain.specs.OpenMarks.{IsUnmarkedReceiver};
 ghost use Rattle.iox2_domain.specs.Reaches.{Reaches};
 ghost use Rattle.iox2_domain.specs.Updates.{changed_at};
 ghost use Rattle.iox2_closes.specs.Agreement.{HasOwnedParts, IsOrphan};
@@ -185,14 +186,11 @@ fn lose_if_left<T: Drop, U: Default + Drop>(
     }
 }
 
-/// Closes the subscriber at a place. It takes no messages any more, and what waits for it from
-/// publishers that are gone is lost. It leaves its place where it has borrowed nothing; else it
-/// stays until its last sample is released.
-///
-/// iceoryx2's `Subscriber`'s drop (`src/port/subscriber.rs`).
-pub fn close_subscriber<T: Drop, U: Default + Drop>(state: &mut DomainState<T, U>, place: usize)
+/// Closes the subscriber at a place, of which no connection is marked as open.
+pub(crate) fn close_subscriber<T: Drop, U: Default + Drop>(state: &mut DomainState<T, U>, place: usize)
     requires sound { IsDomain state.old }
     requires stands { IsSome (slice_index_or state.old.subscribers place None) }
+    requires unmarked { IsUnmarkedReceiver state.old.connections place }
     ensures { (y : SubscriberFields) → slice_index_or state.old.subscribers place None ≡ Some y
         → Reaches state.old state.new (subscriber_closed (state_of (kept_of state.old)) y.id ((subscriber_of state.old.books state.old.connections y).port)) }
 {

@@ -22,3 +22,4 @@ pub mod HistoryConnects
 pub mod SenderUpdates
 pub mod ReceiverChanges
 pub mod ReceiverActions
+pub mod MarkedEnds

@@ -1,9 +1,10 @@
-use Rattle.std.proofs.Common.{◌≡◌, ◌∙◌, false, ap, sym}
+use Rattle.std.proofs.Common.{◌≡◌, ◌∙◌, false, None, ap, sym}
 use Rattle.iox2_store.specs.machine.Environments.{fixed_handlers}
 use Rattle.iox2_domain.specs.Fields.{Fields}
 use Rattle.iox2_domain.specs.Updates.{is_open_subscriber}
 use Rattle.iox2_domain.proofs.lemmas.updates.PlaceCalls.{nothing-there}
 use Rattle.iox2_domain.proofs.lemmas.updates.HistoryConnects.{new-end, connects-with-history}
+use Rattle.iox2_domain.proofs.lemmas.updates.MarkedEnds.{connects-marked}
 use Rattle.iox2_ports.proofs.connects.connect_sender.Goals as goal
 
 pub hand_out_history-requires-clause-agrees : goal.hand_out_history-requires-clause-agrees
@@ -19,8 +20,15 @@ hand_out_history-requires-clause-new_end g c =
 
 pub returns-in-Some : goal.returns-in-Some
 returns-in-Some g c = λ x at.
-    connects-with-history fixed_handlers c.args.state.now c.requires.agrees c.args.publisher_place c.args.subscriber_place x at c.requires.subscriber c.in-Some.key c.make_sender_end.new.state
-    (c.in-Some.ensures x at (c.requires.settled x at)) c.hand_out_history.new.state c.hand_out_history.ensures
+    connects-marked fixed_handlers c.args.state.now c.hand_out_history.new.state c.mark_end.new.state c.args.publisher_place c.args.subscriber_place x None
+    (connects-with-history fixed_handlers c.args.state.now c.requires.agrees c.args.publisher_place c.args.subscriber_place x at c.requires.subscriber c.in-Some.key c.make_sender_end.new.state
+    (c.in-Some.ensures x at (c.requires.settled x at)) c.hand_out_history.new.state c.hand_out_history.ensures) c.mark_end.ensures
+
+pub mark_end-requires : goal.mark_end-requires
+mark_end-requires g c =
+    let there = c.requires.publisher in
+    (connects-with-history fixed_handlers c.args.state.now c.requires.agrees c.args.publisher_place c.args.subscriber_place there.0 there.1 c.requires.subscriber c.in-Some.key c.make_sender_end.new.state
+    (c.in-Some.ensures there.0 there.1 (c.requires.settled there.0 there.1)) c.hand_out_history.new.state c.hand_out_history.ensures).agrees
 
 pub returns-in_default : goal.returns-in_default
 returns-in_default g c = λ x at. c.in_default.ensures x at (c.requires.settled x at)

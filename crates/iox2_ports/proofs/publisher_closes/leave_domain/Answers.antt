@@ -1,8 +1,9 @@
-use Rattle.std.proofs.Common.{None, Some, map, slice_index_or, sym, ap, ◌∙◌}
+use Rattle.std.proofs.Common.{None, Some, map, slice_index_or, sym, subst, ap, ◌∙◌}
 use Rattle.std.proofs.lemmas.List.{with_items_is}
 use Rattle.std.specs.Option.{option_map}
 use Rattle.iox2_domain.specs.Closes.{left_subscriber}
 use Rattle.iox2_domain.specs.Fields.{Fields}
+use Rattle.iox2_domain.specs.OpenMarks.{IsUnmarkedSender}
 use Rattle.iox2_domain.proofs.lemmas.slots.PublisherBooks.{read-there}
 use Rattle.iox2_domain.proofs.lemmas.closes.CloseSteps.{closes-book, closes-covered, closes-finds, closes-history, closes-done}
 use Rattle.iox2_ports.proofs.publisher_closes.leave_domain.Goals as goal
@@ -30,6 +31,7 @@ pub returns : goal.returns
 returns g c =
     closes-done c.args.state.now _ c.state.view_is c.requires.sound c.args.place _
     (read-there _ c.args.place _ _ (ap (λ (f : Fields g.row.T.Denot g.row.U.Denot). slice_index_or f.publishers c.args.place None) c.state.view_is ∙ c.requires.stands.1) c.index_mut.ensures.value ∙ sym c.take.ensures.value ∙ c.in-Some.is ∙ ap Some (sym c.publisher.view_is))
+    (subst (λ (f : Fields g.row.T.Denot g.row.U.Denot). IsUnmarkedSender f.connections c.args.place) (sym c.state.view_is) c.requires.unmarked)
     _ c.index_mut-book.ensures.value c.leave_connections.new.book c.leave_connections.ensures.book c.leave_connections.new.connections (rw (sym c.publisher.view_is) at c.leave_connections.ensures.counters)
     c.leave_connections.ensures.slots (rw (sym c.publisher.view_is, c.deref.ensures.value) at c.leave_connections.ensures.connections)
     c.give_up_history.new.book c.give_up_history.ensures.book c.give_up_history.ensures.releases

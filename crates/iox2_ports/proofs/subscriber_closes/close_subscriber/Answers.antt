@@ -19,7 +19,7 @@ use Rattle.iox2_ports.proofs.subscriber_closes.close_subscriber.Goals as goal
 
 pub loop-index-init : goal.loop-index-init
 loop-index-init g c = λ sound y at.
-    closing-starts _ c.args.state.now c.state.view_is sound c.args.place y at _
+    closing-starts _ c.args.state.now c.state.view_is sound c.args.place y at c.requires.unmarked _
     (with_items_is c.state.inside.subscribers c.shut.new.subscribers (c.shut.auto.subscribers ∙ c.deref_mut.ensures.len)
     ∙ c.shut.ensures
     ∙ ap (λ xs. changed_at shut_subscriber xs c.args.place) (c.deref_mut.ensures.value ∙ ap (λ (f : Fields g.row.T.Denot g.row.U.Denot). f.subscribers) c.state.view_is))

@@ -1,0 +1,14 @@
+use Rattle.iox2_domain.proofs.lemmas.updates.MarkedEnds.{marks-publisher, closed-publisher}
+use Rattle.iox2_ports.proofs.closes.close_publisher.Goals as goal
+
+pub close_publisher-requires-clause-sound : goal.close_publisher-requires-clause-sound
+close_publisher-requires-clause-sound g c = c.unmark_publisher.ensures.clears.changes.agrees
+
+pub close_publisher-requires-clause-stands : goal.close_publisher-requires-clause-stands
+close_publisher-requires-clause-stands g c =
+    let there = c.requires.stands in
+    (there.0, (marks-publisher c.args.state.now c.unmark_publisher.new.state c.unmark_publisher.ensures.clears.changes c.args.place there.0 there.1).0)
+
+pub returns : goal.returns
+returns g c = λ x at.
+    closed-publisher c.args.state.now c.unmark_publisher.new.state c.unmark_publisher.ensures.clears.changes c.args.place x at c.close_publisher.new.state c.close_publisher.ensures
