@@ -90,9 +90,15 @@ module _ {T U : Type 0} (environment : Environment) (defaults : Defaults T U) wh
       × IsFaithful commands replies events × GrantsLoans environment defaults m s commands replies events m' s'
   is_run old new commands replies table ran = λ m s shown.
       let now = ran m s shown in
-      let run = run_of environment defaults m now.2 s now.3 [] now.1 commands replies now.0 now.5 in
-      (now.0, now.2, now.3, now.4, run, is_faithful environment defaults m now.2 s now.3 commands replies now.0 shown.well_formed run,
-      grants_loans environment defaults m s commands replies now.0 now.2 now.3 run shown.well_formed)
+      let run = run_of environment defaults m now.2 s now.3 [] now.1 commands replies now.0 now.5 in (
+        now.0,
+        now.2,
+        now.3,
+        now.4,
+        run,
+        is_faithful environment defaults m now.2 s now.3 commands replies now.0 shown.well_formed run,
+        grants_loans environment defaults m s commands replies now.0 now.2 now.3 run shown.well_formed,
+      )
 
 module _ {T U : Type 0} (defaults : Defaults T U) where
   -- it has one default value and one default header throughout, where there are no others
