@@ -2,6 +2,7 @@
 use Rattle.std.proofs.Common.{◌≡◌, ℕ, zero, suc, false, arith, List, [], ◌∷◌, ◌++◌, take, drop, refl, sym, ap, subst, ◌∙◌, Option, None, Some}
 use Rattle.std.specs.Prelude.{MatchOption, slice_get}
 use Rattle.std.specs.List.{All}
+use Rattle.std.proofs.lemmas.List.Elements.{All-head, All-tail, All-take, All-drop}
 use Rattle.std.proofs.lemmas.Option.{none-some}
 use Rattle.iox2_store.specs.machine.Limits.{buffer_limit}
 use Rattle.iox2_store.specs.machine.Records.{Publisher, Subscriber, SubscriberSettings, PublisherSettings, Fixed}
@@ -183,27 +184,6 @@ module _ {T U : Type 0} (default_value : T) (default_header : U) (m : Messages T
   )
   step_ample _ o plain port told h = absurd plain
 
--- what holds of all holds of the first and of the others
-first_of : {A : Type 0} (P : A → Type 0) (x : A) (xs : List A) → All P (x ∷ xs) → P x
-first_of P x xs all = all 0 x (omega arith)
-
-others_of : {A : Type 0} (P : A → Type 0) (x : A) (xs : List A) → All P (x ∷ xs) → All P xs
-others_of P x xs all = λ i d inside. all (suc i) d (omega (arith, inside))
-
--- what holds of all holds of the first n, and of those past them
-all_taken : {A : Type 0} (P : A → Type 0) (n : ℕ) (xs : List A) → All P xs → All P (take n xs)
-all_taken P zero xs all = λ i d inside. absurd (omega (arith, inside))
-all_taken P (suc n) [] all = λ i d inside. absurd (omega (arith, inside))
-all_taken P (suc n) (x ∷ xs) all = all_more (first_of P x xs all) (all_taken P n xs (others_of P x xs all)) where
-  all_more : P x → All P (take n xs) → All P (x ∷ take n xs)
-  all_more here rest zero d inside = here
-  all_more here rest (suc i) d inside = rest i d (omega (arith, inside))
-
-all_dropped : {A : Type 0} (P : A → Type 0) (n : ℕ) (xs : List A) → All P xs → All P (drop n xs)
-all_dropped P zero xs all = all
-all_dropped P (suc n) [] all = all
-all_dropped P (suc n) (x ∷ xs) all = all_dropped P n xs (others_of P x xs all)
-
 module _ {T U : Type 0} (defaults : Defaults T U) where
   -- A run whose last warnings and whose replies tell of no refused memory is one with ample memory, and the warnings before it
   -- told of none.
@@ -215,9 +195,9 @@ module _ {T U : Type 0} (defaults : Defaults T U) where
   run_ample m s handles (command ∷ commands) (reply ∷ replies) (event ∷ events) m' s' handles' w k plain ports told h =
       let sound : IsSound s h.4 = step_sound fixed_handlers h.0 h.1 m s handles w command h.4 h.5 in
       let rest = run_ample (messages_after (h.4).event m) (h.4).state (handles ++ (h.4).handle ∷ []) commands replies events m' s' handles' sound.well_formed
-      (step_warns h.0 h.1 m s handles k command h.4 (first_of WarnsOfRefusals command commands plain) h.5) (others_of WarnsOfRefusals command commands plain)
+      (step_warns h.0 h.1 m s handles k command h.4 (All-head WarnsOfRefusals command commands plain) h.5) (All-tail WarnsOfRefusals command commands plain)
       (subst (λ (c : ServiceConfig). RefuseNoPort c commands replies) (sym (sound.advances).config) ports.1) told h.8 in
-      let first = step_ample h.0 h.1 m s handles k command h.4 (first_of WarnsOfRefusals command commands plain) (λ refuses. ports.0 (subst (RefusesPort s.config command) h.6 refuses)) rest.1 h.5 in
+      let first = step_ample h.0 h.1 m s handles k command h.4 (All-head WarnsOfRefusals command commands plain) (λ refuses. ports.0 (subst (RefusesPort s.config command) h.6 refuses)) rest.1 h.5 in
       ((h.0, h.1, h.2, h.3, h.4, first.0, h.6, h.7, rest.0), first.1)
   run_ample m s handles _ _ _ m' s' handles' w k plain ports told h = absurd h
 
@@ -264,7 +244,7 @@ module _ {T U : Type 0} where
     run_warns m s handles [] [] [] m' s' k plain h = subst AllWarn (sym h.1) k
     run_warns m s handles (command ∷ commands) (reply ∷ replies) (event ∷ events) m' s' k plain h =
         run_warns (messages_after (h.4).event m) (h.4).state (handles ++ (h.4).handle ∷ []) commands replies events m' s'
-        (step_warns h.0 h.1 m s handles k command h.4 (first_of WarnsOfRefusals command commands plain) h.5) (others_of WarnsOfRefusals command commands plain) h.8
+        (step_warns h.0 h.1 m s handles k command h.4 (All-head WarnsOfRefusals command commands plain) h.5) (All-tail WarnsOfRefusals command commands plain) h.8
     run_warns m s handles _ _ _ m' s' k plain h = absurd h
 
     -- A point of a run that met no refusal is one of a run with ample memory.
@@ -279,12 +259,12 @@ module _ {T U : Type 0} where
         let sound : IsWellFormed x.state × Advances (fresh {T = T} {U = U} c) x.state =
         run_sound fixed_handlers defaults no_messages (fresh c) [] (take n commands) (take n replies) (take n events) x.messages x.state (fresh_is_well_formed c) before in
         let warn : AllWarn x.state =
-        run_warns no_messages (fresh c) [] (take n commands) (take n replies) (take n events) x.messages x.state (none_warn c) (all_taken WarnsOfRefusals n commands plain) before in
+        run_warns no_messages (fresh c) [] (take n commands) (take n replies) (take n events) x.messages x.state (none_warn c) (All-take WarnsOfRefusals n commands plain) before in
         let on = run_to fixed_handlers defaults x.messages x.state x.handles (drop n commands) (drop n replies) (drop n events) m' s' x.after in
-        let after = run_ample defaults x.messages x.state x.handles (drop n commands) (drop n replies) (drop n events) m' s' on.0 sound.0 warn (all_dropped WarnsOfRefusals n commands plain)
+        let after = run_ample defaults x.messages x.state x.handles (drop n commands) (drop n replies) (drop n events) m' s' on.0 sound.0 warn (All-drop WarnsOfRefusals n commands plain)
         (subst (λ (v : ServiceConfig). RefuseNoPort v (drop n commands) (drop n replies)) (sym (sound.1).config) (refuse_no_port_dropped c n commands replies met.ports)) met.told on.1 in
         let first = run_ample defaults no_messages (fresh c) [] (take n commands) (take n replies) (take n events) x.messages x.state x.handles (fresh_is_well_formed c) (none_warn c)
-        (all_taken WarnsOfRefusals n commands plain) (refuse_no_port_taken c n commands replies met.ports) after.1 x.before in
+        (All-take WarnsOfRefusals n commands plain) (refuse_no_port_taken c n commands replies met.ports) after.1 x.before in
         (first.0, run_from ample_memory defaults x.messages x.state x.handles (drop n commands) (drop n replies) (drop n events) m' s' on.0 after.0)
 
   -- The law of views at each point, for two runs without refusals.

@@ -1,0 +1,110 @@
+//! Runs of the list that fills every slot.
+ghost use Rattle.std.specs.Prelude.{◌≡◌, IfOk};
+ghost use Rattle.std.specs.List.{All};
+ghost use Rattle.iox2_store.specs.declared.service_config.TypeVariant.TheVariants.{FixedSize};
+ghost use Rattle.iox2_runs.specs.Supported.{IsSupportedCommand};
+
+use crate::failure::Failure;
+use crate::sizes::Sizes;
+use iox2_pubsub::Domain;
+use iox2_runs::{Command, Reply, compare_runs, filling_is_supported, run, worst_case_commands};
+use iox2_store::worst_case_slots;
+use std::alloc::Global;
+use std::io;
+
+type End = (Domain<u64, ()>, Vec<Reply<u64, ()>>);
+
+// The list, in which each message is 0.
+fn filling(alloc: Global, sizes: &Sizes) -> Result<Vec<Command<u64, ()>>, Failure>
+    requires { (sizes.now).config.variant ≡ FixedSize }
+    ensures { IfOk result (λ commands. All IsSupportedCommand commands.items) }
+{
+    filling_is_supported::<u64, ()>();
+    worst_case_commands(alloc, &sizes.config, sizes.loans, 0, None).ok_or(Failure::TooLong)
+}
+
+// How many commands of a run were skipped or refused, or received nothing.
+fn refused(replies: &[Reply<u64, ()>]) -> usize {
+    replies.iter().filter(|reply| !is_granted(reply)).count()
+}
+
+// Whether a command of the list was neither skipped nor refused, and received what it was to.
+fn is_granted(reply: &Reply<u64, ()>) -> bool {
+    matches!(
+        reply,
+        Reply::PublisherMade(_)
+            | Reply::SubscriberMade(_)
+            | Reply::Loaned
+            | Reply::Done
+            | Reply::Delivered(_)
+            | Reply::Sample(_)
+    )
+}
+
+/// Prints how many slots a publisher needs and how long the list is, and runs it on a new domain.
+pub(crate) fn fill(rt: &HostRuntime, sizes: &Sizes) -> Result<(), Failure>
+    requires { (sizes.now).config.variant ≡ FixedSize }
+{
+    let slots = worst_case_slots(&sizes.config, sizes.loans).ok_or(Failure::TooManySlots)?;
+    println!(rt; "{slots} slots")?;
+    let commands = filling(rt.alloc(), sizes)?;
+    println!(rt; "{} commands", commands.len())?;
+    let count = refused(&replies_of(rt.alloc(), sizes, commands)?);
+    println!(rt; "{count} skipped or refused")?;
+    if count == 0 {
+        Ok(())
+    } else {
+        Err(Failure::Refused)
+    }
+}
+
+// The replies of a new domain.
+fn replies_of(
+    alloc: Global,
+    sizes: &Sizes,
+    commands: Vec<Command<u64, ()>>,
+) -> Result<Vec<Reply<u64, ()>>, Failure>
+    requires single { (sizes.now).config.variant ≡ FixedSize }
+    requires supported { All IsSupportedCommand commands.items }
+{
+    let Ok(mut domain) = Domain::<u64, ()>::new(alloc, sizes.config) else {
+        return Err(Failure::OutOfMemory);
+    };
+    let Ok(replies) = run(alloc, &mut domain, commands) else {
+        return Err(Failure::OutOfMemory);
+    };
+    Ok(replies)
+}
+
+/// Makes so many allocations, and then has two runs of the list compared. Prints how many commands
+/// were skipped or refused in each run, or that there is no comparison.
+pub(crate) fn compare(rt: &HostRuntime, sizes: &Sizes, allocations: usize) -> Result<(), Failure>
+    requires { (sizes.now).config.variant ≡ FixedSize }
+{
+    let commands = filling(rt.alloc(), sizes)?;
+    let same = filling(rt.alloc(), sizes)?;
+    allocate(rt.alloc(), allocations)?;
+    match compare_runs(rt.alloc(), &sizes.config, commands, same) {
+        Some((first, second)) => print_both(rt, refused_in(first), refused_in(second))?,
+        None => println!(rt; "no comparison")?,
+    }
+    Ok(())
+}
+
+// How many commands of a run were skipped or refused.
+fn refused_in((_, replies): End) -> usize {
+    refused(&replies)
+}
+
+// Prints how many commands were skipped or refused in each of two runs.
+fn print_both(rt: &HostRuntime, first: usize, second: usize) -> io::Result<()> {
+    println!(rt; "skipped or refused: {first} and {second}")
+}
+
+// Makes so many allocations.
+fn allocate(alloc: Global, count: usize) -> Result<(), Failure> {
+    for _ in 0..count {
+        Vec::<u8>::with_capacity(alloc, 1)?;
+    }
+    Ok(())
+}
