@@ -159,7 +159,10 @@ fn leave_domain<T: Drop, U: Default + Drop>(state: &mut DomainState<T, U>, place
 }
 
 /// The publisher at a place is closed, of which no connection is marked as open.
-pub(crate) fn close_publisher<T: Drop, U: Default + Drop>(state: &mut DomainState<T, U>, place: usize)
+pub(crate) fn close_publisher<T: Drop, U: Default + Drop>(
+    state: &mut DomainState<T, U>,
+    place: usize,
+)
     requires sound { IsDomain state.old }
     requires stands { (x : PublisherFields) × (slice_index_or state.old.publishers place None ≡ Some x) }
     requires unmarked { IsUnmarkedSender state.old.connections place }

@@ -153,7 +153,10 @@ fn forget_if_empty<T: Drop, U: Default + Drop>(
 }
 
 /// Closes the subscriber at a place, of which no connection is marked as open.
-pub(crate) fn close_subscriber<T: Drop, U: Default + Drop>(state: &mut DomainState<T, U>, place: usize)
+pub(crate) fn close_subscriber<T: Drop, U: Default + Drop>(
+    state: &mut DomainState<T, U>,
+    place: usize,
+)
     requires sound { IsDomain state.old }
     requires stands { IsSome (slice_index_or state.old.subscribers place None) }
     requires unmarked { IsUnmarkedReceiver state.old.connections place }

@@ -134,7 +134,7 @@ module _ {T U : Type 0} (f : Fields T U) (sound : IsDomain f) (i j key : ℕ) (n
       again : (k : ℕ) (e : Link) → get (with_value f.connections key (record c { is_open = false })) k ≡ Some e → e.is_open ≡ true → k ≡ key → ⊥
       again k e at_e marked same =
           let now : e ≡ record c { is_open = false } = same_Some e (record c { is_open = false })
-              (sym at_e ∙ ap (get (with_value f.connections key (record c { is_open = false }))) same ∙ (Updates-with_value f.connections key c (record c { is_open = false }) at).changed) in
+          (sym at_e ∙ ap (get (with_value f.connections key (record c { is_open = false }))) same ∙ (Updates-with_value f.connections key c (record c { is_open = false }) at).changed) in
           true≢false (sym marked ∙ ap (λ (l : Link). l.is_open) now)
 
 -- where the publisher has no end at the place, there is nothing to clear
@@ -144,7 +144,7 @@ none-cleared f sound i j none = record {
   done = λ key c at marked here there.
       let has = (sound.linked.marked key c at marked).sender in
       let named : sender_key f.publishers i j ≡ Some key = ap (option_and_then (λ (x : PublisherFields). get_or x.keys j None)) (ap (λ (n : ℕ). get_or f.publishers n None) (sym here) ∙ has.stands)
-          ∙ ap (λ (n : ℕ). get_or has.publisher.keys n None) (sym there) ∙ has.has in
+      ∙ ap (λ (n : ℕ). get_or has.publisher.keys n None) (sym there) ∙ has.has in
       let no : None ≡ Some key = sym none ∙ named in
       absurd cc;
 }
@@ -220,8 +220,8 @@ module _ {T U : Type 0} (f g : Fields T U) (marks : ChangesMarks f g) where
   marks-publisher i x at = (
     there,
     same_Some _ _ (sym (map-at (publisher_of g.books g.connections) g.publishers i ∙ ap (option_map (publisher_of g.books g.connections)) there)
-    ∙ ap (λ (k : Kept T U). get_or k.publishers i None) marks.kept
-    ∙ map-at (publisher_of f.books f.connections) f.publishers i ∙ ap (option_map (publisher_of f.books f.connections)) at),
+        ∙ ap (λ (k : Kept T U). get_or k.publishers i None) marks.kept
+        ∙ map-at (publisher_of f.books f.connections) f.publishers i ∙ ap (option_map (publisher_of f.books f.connections)) at),
   ) where
     there : get_or g.publishers i None ≡ Some x
     there = ap (λ (h : Fields T U). get_or h.publishers i None) marks.fields ∙ at
@@ -232,8 +232,8 @@ module _ {T U : Type 0} (f g : Fields T U) (marks : ChangesMarks f g) where
   marks-subscriber j y at = (
     there,
     same_Some _ _ (sym (map-at (subscriber_of g.books g.connections) g.subscribers j ∙ ap (option_map (subscriber_of g.books g.connections)) there)
-    ∙ ap (λ (k : Kept T U). get_or k.subscribers j None) marks.kept
-    ∙ map-at (subscriber_of f.books f.connections) f.subscribers j ∙ ap (option_map (subscriber_of f.books f.connections)) at),
+        ∙ ap (λ (k : Kept T U). get_or k.subscribers j None) marks.kept
+        ∙ map-at (subscriber_of f.books f.connections) f.subscribers j ∙ ap (option_map (subscriber_of f.books f.connections)) at),
   ) where
     there : get_or g.subscribers j None ≡ Some y
     there = ap (λ (h : Fields T U). get_or h.subscribers j None) marks.fields ∙ at
