@@ -11,3 +11,4 @@ pub mod NamedBooks
 pub mod KeptBooks
 pub mod ExpiredRoom
 pub mod RemovedConnections
+pub mod OwnKeys
