@@ -33,6 +33,7 @@ use Rattle.iox2_domain.specs.Fields.{Fields, kept_of, subscriber_of, numbers_of}
 use Rattle.iox2_domain.specs.Invariant.{IsDomain, HasParts, KeepsBooks}
 use Rattle.iox2_domain.proofs.lemmas.containers.LookUps.{map-at}
 use Rattle.iox2_domain.proofs.lemmas.creations.PublishersDue.{with_publishers_due, publishers_due-are}
+use Rattle.iox2_domain.proofs.lemmas.fields.OwnKeys.{receiver-leads}
 use Rattle.iox2_domain.proofs.lemmas.fields.Standing.{some_is}
 use Rattle.iox2_domain.proofs.lemmas.fields.Views.{mailboxes-are}
 use Rattle.iox2_domain.specs.Midway.{IsMidway}
@@ -47,7 +48,7 @@ use Rattle.iox2_closes.proofs.ClosedSubscribers.{due-parts}
 use Rattle.iox2_closes.proofs.KeptMessages.{keeps-trans, keeps-entries, keeps-complete}
 use Rattle.iox2_closes.proofs.Sheds.{sheds-closed}
 use Rattle.iox2_closes.proofs.CloseSteps.{sender-stands, receiver-stands, box-numbers, link-empty, nothing-returned}
-use Rattle.iox2_closes.proofs.CloseWalk.{IsClosing, receiver-leads}
+use Rattle.iox2_closes.proofs.CloseWalk.{IsClosing}
 
 -- the machine's publisher, due
 abbrev due_publisher : Publisher → Publisher

@@ -4,12 +4,11 @@ use Rattle.std.proofs.lemmas.Bool.{cases_eq, eqb-true}
 use Rattle.std.specs.declared.option.Option.{Option}
 use Rattle.std.specs.declared.option.Option.TheVariants.{None, Some}
 use Rattle.iox2_store.specs.machine.Numbers.{without}
+use Rattle.iox2_domain.specs.Departures.{HasKey, KnowsKey}
 use Rattle.iox2_domain.specs.Ports.{SubscriberFields}
 use Rattle.iox2_domain.specs.Fields.{Fields}
 use Rattle.iox2_domain.specs.Invariant.{IsDomain}
-use Rattle.iox2_domain.specs.Closes.{HasKey}
-use Rattle.iox2_closes.specs.Closes.{KnowsKey, LosesIfLeft}
-use Rattle.iox2_closes.proofs.ForgottenKeys.{listed-has}
+use Rattle.iox2_closes.specs.Closes.{LosesIfLeft}
 use Rattle.iox2_closes.proofs.ClosedSubscribers.{vacated-stays}
 use Rattle.iox2_closes.proofs.CloseWalk.{IsClosing, IsLess, closing-more}
 
@@ -89,7 +88,7 @@ module _ {T U : Type 0} (f : Fields T U) (sound : IsDomain f) (place : ℕ) (y :
     pub expired-known : (k : ℕ) → o ≡ Some k → (z : SubscriberFields) × (get_or f'.subscribers place None ≡ Some z) × KnowsKey z k
     expired-known k is =
         let z = so_far.subscriber in
-        (z.0, z.1, inr (listed-has (z.0).expired (index - 1) k (sym (read z.0 z.1) ∙ is)))
+        (z.0, z.1, inr (index - 1, sym (read z.0 z.1) ∙ is))
 
     -- then one fewer is left
     pub closing-expired : (next : Fields T U) → LosesIfLeft f' place o next → IsClosing f sound place y at_y (ExpiredLeft (index - 1)) next

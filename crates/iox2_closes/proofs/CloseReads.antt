@@ -1,7 +1,7 @@
 -- The steps of a close, as they read the fields.
 use Rattle.std.proofs.Common.{◌≡◌, ◌≢◌, ℕ, ◌≤◌, Bool, true, false, List, map, length, get_or, slice_set, refl, ap, sym, subst, ◌∙◌, inl, inr, arith}
 use Rattle.std.proofs.lemmas.List.{length-map}
-use Rattle.std.specs.Prelude.{Contains, IsSomeAnd, IsSome}
+use Rattle.std.specs.Prelude.{IsSomeAnd, IsSome}
 use Rattle.std.specs.declared.option.Option.{Option}
 use Rattle.std.specs.declared.option.Option.TheVariants.{None, Some}
 use Rattle.std.specs.Option.{option_map}
@@ -10,6 +10,7 @@ use Rattle.iox2_store.specs.Link.{Link}
 use Rattle.iox2_ends.specs.Drops.{without_waiting}
 use Rattle.iox2_ends.specs.Finds.{IsReceivers}
 use Rattle.iox2_ends.proofs.MailboxChanges.{within_if_some}
+use Rattle.iox2_domain.specs.Departures.{HasKey, KnowsKey}
 use Rattle.iox2_domain.specs.Ports.{PublisherFields, SubscriberFields, due}
 use Rattle.iox2_domain.specs.Fields.{Fields}
 use Rattle.iox2_domain.specs.Invariant.{IsBookOf, IsDomain}
@@ -18,9 +19,8 @@ use Rattle.iox2_domain.proofs.lemmas.containers.ChangedRecords.{changed-here}
 use Rattle.iox2_domain.proofs.lemmas.creations.PublishersDue.{with_publishers_due}
 use Rattle.iox2_domain.proofs.lemmas.fields.Standing.{some_is}
 use Rattle.iox2_closes.specs.Agreement.{IsOrphan, HasOwnedParts}
-use Rattle.iox2_closes.specs.Closes.{IsDeparted, IsBusy, IsLeftAt, IsStanding, KnowsKey, FreesBook, ForgetsIfEmpty, LosesLeft, LosesWaiting, is_empty_link, shut_subscriber, without_key}
+use Rattle.iox2_closes.specs.Closes.{IsDeparted, IsBusy, IsLeftAt, IsStanding, FreesBook, ForgetsIfEmpty, LosesLeft, LosesWaiting, is_empty_link, shut_subscriber, without_key}
 use Rattle.iox2_closes.proofs.CloseSteps.{book, stays-busy, forgot-parts, book-left, others-busy, forgets-empty}
-use Rattle.iox2_closes.proofs.ForgottenKeys.{listed-at}
 use Rattle.iox2_closes.proofs.CloseWalk.{IsClosing, closing-begins, closing-passes}
 use Rattle.iox2_closes.proofs.CloseKeys.{ExpiredBelow, ExpiredLeft, KeysLeft}
 use Rattle.iox2_domain.specs.OpenMarks.{IsUnmarkedReceiver}
@@ -38,7 +38,7 @@ module _ {T U : Type 0} (f : Fields T U) (parts : HasOwnedParts f) (place key : 
   known-link : IsSomeAnd (get f.connections key) (IsReceivers (known.0).id (f.config).subscriber_max_borrowed_samples)
   known-link = elim known.2 [
     | inl has ↦ (parts.parts.linked.receivers place known.0 known.1).at has.0 key has.1
-    | inr among ↦ let there = listed-at (known.0).expired key among in (parts.parts.linked.expired place known.0 known.1).at there.0 key there.1
+    | inr has ↦ (parts.parts.linked.expired place known.0 known.1).at has.0 key has.1
   ]
 
   -- its publisher is gone, where it doesn't stand at its place
@@ -173,18 +173,17 @@ module _ {T U : Type 0} where
       → IsClosing f sound place y at_y (ExpiredLeft count) (record v { subscribers = subscribers })
   closing-starts v f same sound place y at_y unmarked subscribers settled count counted =
       subst (IsClosing f sound place y at_y (ExpiredLeft count)) (sym ((λ i. record (same i) { subscribers = settled i }) ∙ (λ i. record f { subscribers = slice_set f.subscribers place (option_map shut_subscriber (at_y i)) })))
-      (closing-begins f sound place y at_y unmarked (ExpiredLeft count) (λ k knows. elim knows [ inl has ↦ inl has | inr among ↦ inr (below k among) ]))
+      (closing-begins f sound place y at_y unmarked (ExpiredLeft count) (λ k knows. elim knows [ inl has ↦ inl has | inr has ↦ inr (below k has) ]))
     where
       all : count ≡ length y.expired
       all = counted (shut_subscriber y) (ap (λ (ys : List (Option SubscriberFields)). get_or ys place None) settled
           ∙ ap (λ (o : Option SubscriberFields). get_or (slice_set f.subscribers place (option_map shut_subscriber o)) place None) at_y
           ∙ changed-here f.subscribers place y (shut_subscriber y) at_y)
 
-      below : (k : ℕ) → Contains y.expired k → ExpiredBelow count (shut_subscriber y) k
-      below k among =
-          let there = listed-at y.expired k among in
-          let low = within_if_some (map Some y.expired) there.0 k there.1 in
-          (there.0, omega (arith, low, all, length-map y.expired Some), there.1)
+      below : (k : ℕ) → HasKey (map Some y.expired) k → ExpiredBelow count (shut_subscriber y) k
+      below k has =
+          let low = within_if_some (map Some y.expired) has.0 k has.1 in
+          (has.0, omega (arith, low, all, length-map y.expired Some), has.1)
 
   module _ (f : Fields T U) (sound : IsDomain f) (place : ℕ) (y : SubscriberFields) (at_y : get_or f.subscribers place None ≡ Some y) (f' : Fields T U) where
     -- after the expired keys the walk goes over those at places

@@ -17,35 +17,22 @@ use Rattle.iox2_laws.proofs.PlaceLemmas.{contains-occupants}
 use Rattle.iox2_laws.proofs.Puts.{put_at-same}
 use Rattle.iox2_ends.specs.Drops.{without_waiting}
 use Rattle.iox2_ends.specs.Mailboxes.{publisher_of_key, receiver_ends}
+use Rattle.iox2_domain.specs.Departures.{KnowsKey}
 use Rattle.iox2_domain.specs.Ports.{PublisherFields, SubscriberFields}
 use Rattle.iox2_domain.specs.Kept.{state_of}
 use Rattle.iox2_domain.specs.Fields.{Fields, kept_of, subscriber_of}
 use Rattle.iox2_domain.specs.Invariant.{IsDomain, IsUsed, ReceiverHas}
 use Rattle.iox2_domain.proofs.lemmas.containers.ChangedRecords.{changed-here}
+use Rattle.iox2_domain.proofs.lemmas.fields.OwnKeys.{known, listed-at}
 use Rattle.iox2_domain.proofs.lemmas.fields.Standing.{occupant-receiver_ends}
 use Rattle.iox2_closes.specs.Agreement.{IsOrphan, HasOwnedParts, KeepsMessages}
-use Rattle.iox2_closes.specs.Closes.{IsDeparted, IsBusy, KnowsKey, LosesWaiting, ForgetsIfEmpty, LosesLeft, LosesIfLeft, is_empty_link, lost_from, forgotten_if_empty, without_key, without_publisher}
+use Rattle.iox2_closes.specs.Closes.{IsDeparted, IsBusy, LosesWaiting, ForgetsIfEmpty, LosesLeft, LosesIfLeft, is_empty_link, lost_from, forgotten_if_empty, without_key, without_publisher}
 use Rattle.iox2_closes.proofs.OwnedParts.{owned_parts_of, left-held}
-use Rattle.iox2_closes.proofs.ForgottenKeys.{listed-at}
 use Rattle.iox2_closes.proofs.ClosedSubscribers.{shut, with_shut, shut-parts, shut-is}
 use Rattle.iox2_closes.proofs.KeptMessages.{keeps-trans}
 use Rattle.iox2_closes.proofs.Sheds.{Sheds, with_publishers, sheds-none, sheds-there, sheds-dropped, sheds-forgotten}
 use Rattle.iox2_closes.proofs.CloseSteps.{link-busy, receiver-stands, departed-absent, box-numbers}
 use Rattle.iox2_domain.specs.OpenMarks.{IsUnmarkedReceiver}
-
--- a subscriber's end leads through a connection
-pub receiver-leads : (connections : Slab Link) (keys : List (Option ℕ)) (i p : ℕ) → occupant (receiver_ends connections keys) i ≡ Some p
-    → (key : ℕ) × (c : Link) × (get_or keys i None ≡ Some key) × (get connections key ≡ Some c) × (c.home.publisher ≡ p)
-receiver-leads connections keys i p at =
-    by (get_or keys i None) refl (sym (occupant-receiver_ends connections keys i) ∙ at) where
-      by : (o : Option ℕ) → get_or keys i None ≡ o → publisher_of_key connections o ≡ Some p
-          → (key : ℕ) × (c : Link) × (get_or keys i None ≡ Some key) × (get connections key ≡ Some c) × (c.home.publisher ≡ p)
-      by None e h = absurd cc
-      by (Some key) e h = through (get connections key) refl h where
-        through : (o : Option Link) → get connections key ≡ o → option_map (λ (c : Link). c.home.publisher) o ≡ Some p
-            → (k : ℕ) × (c : Link) × (get_or keys i None ≡ Some k) × (get connections k ≡ Some c) × (c.home.publisher ≡ p)
-        through None there g = absurd cc
-        through (Some c) there g = (key, c, e, there, let is : Some c.home.publisher ≡ Some p = g in cc)
 
 -- ---- what a domain begins with
 
@@ -121,11 +108,8 @@ module _ {T U : Type 0} (f : Fields T U) (sound : IsDomain f) (place : ℕ) (y :
         (eq-eqb has.subscriber.id y.id (has.is_its ∙ its)) (eq-eqb y.id y.id refl) in
         let one : Some has.subscriber ≡ Some y = sym has.stands ∙ ap (λ (n : ℕ). get_or f.subscribers n None) same ∙ at_y in
         let is : has.subscriber ≡ y = cc in
-        subst (λ (z : SubscriberFields). KnowsKey z k) is (knows has.subscriber c.home.publisher_place k has.has)
-  ] where
-    knows : (z : SubscriberFields) (i k : ℕ) → (get_or z.keys i None ≡ Some k) ⊎ Contains z.expired k → KnowsKey z k
-    knows z i k (inl there) = inl (i, there)
-    knows z i k (inr among) = inr among
+        subst (λ (z : SubscriberFields). KnowsKey z k) is (known has.subscriber c.home.publisher_place k has.has)
+  ]
 
   -- it begins where the subscriber was shut
   pub closing-begins : IsUnmarkedReceiver f.connections place → (rest : SubscriberFields → ℕ → Type 0) → ((k : ℕ) → KnowsKey y k → rest (shut f (owned_parts_of f sound) place y at_y) k)

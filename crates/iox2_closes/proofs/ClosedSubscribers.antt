@@ -24,8 +24,9 @@ use Rattle.iox2_domain.proofs.lemmas.containers.ChangedRecords.{changed-here, ch
 use Rattle.iox2_domain.proofs.lemmas.creations.PublishersDue.{with_publishers_due}
 use Rattle.iox2_closes.specs.Closes.{IsEmptyLink}
 use Rattle.iox2_closes.specs.Agreement.{HasOwnedParts}
+use Rattle.iox2_domain.proofs.lemmas.fields.OwnKeys.{listed-at}
 use Rattle.iox2_domain.proofs.lemmas.fields.Standing.{some_is}
-use Rattle.iox2_closes.proofs.ForgottenKeys.{ForgetsSenderKeys, ForgetsReceiverKeys, IsForgotten, Forgets, forgotten, forgotten-parts, listed-at}
+use Rattle.iox2_closes.proofs.ForgottenKeys.{ForgetsSenderKeys, ForgetsReceiverKeys, IsForgotten, Forgets, forgotten, forgotten-parts}
 use Rattle.iox2_closes.proofs.ForgottenStates.{forgotten-is}
 use Rattle.iox2_domain.proofs.lemmas.fields.OpenReceivers.{open-changed, open-still}
 use Rattle.iox2_domain.specs.OpenMarks.{IsUnmarkedReceiver}

@@ -21,6 +21,7 @@ use Rattle.iox2_domain.proofs.lemmas.slots.Recounts.{sum-alike}
 use Rattle.iox2_domain.proofs.lemmas.containers.LookUps.{map-at, viewed}
 use Rattle.iox2_closes.specs.Closes.{IsEmptyLink}
 use Rattle.iox2_closes.specs.Agreement.{HasOwners, HasOwnedParts}
+use Rattle.iox2_domain.proofs.lemmas.fields.OwnKeys.{listed-at, listed-has}
 use Rattle.iox2_domain.proofs.lemmas.fields.Standing.{some_is}
 
 -- the publisher has no keys but those that it had, at their places
@@ -55,22 +56,6 @@ pub record Forgets {T U : Type 0} (f : Fields T U) (publishers : List (Option Pu
   pub marked : (key : ℕ) (c : Link) → get connections key ≡ Some c → c.is_open ≡ true → IsBetweenOpen publishers subscribers key c
 
 -- ---- lists
-
--- an element of a list stands at some index
-pub listed-at : (xs : List ℕ) (key : ℕ) → Contains xs key → (i : ℕ) × (get_or (map Some xs) i None ≡ Some key)
-listed-at [] key has = absurd (omega (arith, has.1))
-listed-at (x ∷ xs) key has = by has.0 has.1 has.2 (λ later. listed-at xs key later) where
-  by : (k : ℕ) → k < length (x ∷ xs) → get_or (x ∷ xs) k key ≡ key → (Contains xs key → (i : ℕ) × (get_or (map Some xs) i None ≡ Some key))
-      → (i : ℕ) × (get_or (map Some (x ∷ xs)) i None ≡ Some key)
-  by zero lt is later = (zero, ap Some is)
-  by (suc k) lt is later = let rest = later (k, omega arith, is) in (suc rest.0, rest.1)
-
--- and back
-pub listed-has : (xs : List ℕ) (i key : ℕ) → get_or (map Some xs) i None ≡ Some key → Contains xs key
-listed-has [] zero key at = absurd cc
-listed-has [] (suc i) key at = absurd cc
-listed-has (x ∷ xs) zero key at = let is : x ≡ key = cc in (zero, omega arith, is)
-listed-has (x ∷ xs) (suc i) key at = let rest = listed-has xs i key at in (suc rest.0, omega (arith, rest.1), rest.2)
 
 -- a list has no greater sum where at each index stands what counts no more
 sum-fewer : {A : Type 0} (f : Option A → ℕ) → f None ≡ 0 → (xs ys : List (Option A)) → ((k : ℕ) → f (get_or ys k None) ≤ f (get_or xs k None)) → sum_by f ys ≤ sum_by f xs

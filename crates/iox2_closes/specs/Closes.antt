@@ -1,5 +1,5 @@
 -- The steps of a close.
-use Rattle.std.specs.Prelude.{◌≡◌, ◌≢◌, ◌⊎◌, ◌<◌, ◌&&◌, ℕ, Bool, false, cond, List, [], slice_index_or, Contains, IsSomeAnd}
+use Rattle.std.specs.Prelude.{◌≡◌, ◌≢◌, ◌⊎◌, ◌<◌, ◌&&◌, ℕ, Bool, false, cond, List, [], slice_index_or, IsSomeAnd}
 use Rattle.std.specs.declared.option.Option.{Option}
 use Rattle.std.specs.declared.option.Option.TheVariants.{None, Some}
 use Rattle.slab.specs.Slab.{get, Updates}
@@ -17,7 +17,6 @@ use Rattle.iox2_domain.specs.Ports.{PublisherFields, SubscriberFields}
 use Rattle.iox2_domain.specs.Kept.{state_of}
 use Rattle.iox2_domain.specs.Fields.{Fields, kept_of}
 use Rattle.iox2_domain.specs.Invariant.{IsUsed}
-use Rattle.iox2_domain.specs.Closes.{HasKey}
 use Rattle.iox2_closes.specs.Agreement.{Passes}
 
 -- ---- records
@@ -39,10 +38,6 @@ without_publisher p y = record y { ends = vacated p y.ends; expired = without p 
 -- The publisher of a connection with this home stands at its place.
 abbrev pub IsStanding : List (Option PublisherFields) → Home → Type 0
 IsStanding publishers home = IsSomeAnd (slice_index_or publishers home.publisher_place None) (λ (x : PublisherFields). x.id ≡ home.publisher)
-
--- The subscriber has the key, at a publisher's place or among the expired ones.
-abbrev pub KnowsKey : SubscriberFields → (key : ℕ) → Type 0
-KnowsKey y key = HasKey y.keys key ⊎ Contains y.expired key
 
 -- The publisher of the connection stands nowhere.
 abbrev pub IsDeparted : List (Option PublisherFields) → Link → Type 0

@@ -11,6 +11,7 @@ use Rattle.iox2_store.specs.machine.Places.{is_port}
 use Rattle.iox2_ends.specs.Counters.{times, stands, with_counters}
 use Rattle.iox2_ends.specs.Leaves.{left_link, holds_slots}
 use Rattle.iox2_domain.specs.Ports.{PublisherFields, SubscriberFields}
+use Rattle.iox2_domain.specs.Departures.{HasKey}
 use Rattle.iox2_domain.specs.Fields.{Fields}
 use Rattle.iox2_domain.specs.Updates.{receiver_key}
 
@@ -33,10 +34,6 @@ abbrev pub after_close : (p : ℕ) → List (Option SubscriberFields) → (key :
 after_close p subscribers key c = cond (c.home.publisher == p) (if_holding (left_link (is_awaited subscribers key c) c)) (Some c)
 
 -- ---- some of them
-
--- The key stands in the list.
-abbrev pub HasKey : List (Option ℕ) → (key : ℕ) → Type 0
-HasKey keys key = (i : ℕ) × (slice_index_or keys i None ≡ Some key)
 
 -- Some subscriber has the key at the publisher's place.
 abbrev pub SomeHasKey : List (Option SubscriberFields) → (place key : ℕ) → Type 0

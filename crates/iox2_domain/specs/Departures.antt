@@ -1,5 +1,5 @@
 -- What a subscriber forgets, and where a port that leaves stood.
-use Rattle.std.specs.Prelude.{◌≡◌, ◌⊎◌, ◌<◌, ℕ, ◌==◌, true, cond, List, [], map}
+use Rattle.std.specs.Prelude.{◌≡◌, ◌⊎◌, ℕ, ◌==◌, true, cond, List, [], map, slice_index_or}
 use Rattle.std.specs.declared.option.Option.{Option}
 use Rattle.std.specs.declared.option.Option.TheVariants.{None, Some}
 use Rattle.slab.specs.Slab.{Slab, get}
@@ -7,6 +7,14 @@ use Rattle.iox2_store.specs.Link.{Link, has_borrowed_slots}
 use Rattle.iox2_store.specs.machine.Numbers.{without}
 use Rattle.iox2_domain.specs.Invariant.{SenderHas}
 use Rattle.iox2_domain.specs.Ports.{PublisherFields, SubscriberFields}
+
+-- The key stands in the list.
+abbrev pub HasKey : List (Option ℕ) → (key : ℕ) → Type 0
+HasKey keys key = (i : ℕ) × (slice_index_or keys i None ≡ Some key)
+
+-- The subscriber has the key, at a publisher's place or among the expired ones.
+abbrev pub KnowsKey : SubscriberFields → (key : ℕ) → Type 0
+KnowsKey y key = HasKey y.keys key ⊎ HasKey (map Some y.expired) key
 
 -- The key, if it is another one.
 abbrev pub other_key : (key : ℕ) → Option ℕ → Option ℕ
@@ -22,15 +30,15 @@ pub record IsUnshared (publishers : List (Option PublisherFields)) (q key : ℕ)
   pub subscriber_is : c.home.subscriber ≡ q
   pub unshared : SenderHas publishers key c → ⊥
 
--- Some connections went that were the subscriber q's alone, and no others. Below this key none of these is left.
-pub record DropsUnshared (publishers : List (Option PublisherFields)) (q bound : ℕ) (old new : Slab Link) : Type 0 where
+-- Some connections went that were the subscriber q's alone, and no others. At these keys none of these is left.
+pub record DropsUnshared (publishers : List (Option PublisherFields)) (q : ℕ) (keys : ℕ → Type 0) (old new : Slab Link) : Type 0 where
   pub kept : (key : ℕ) (c : Link) → get new key ≡ Some c → get old key ≡ Some c
   pub others : (key : ℕ) (c : Link) → get old key ≡ Some c → (get new key ≡ Some c) ⊎ IsUnshared publishers q key c
-  pub done : (key : ℕ) (c : Link) → key < bound → get new key ≡ Some c → c.home.subscriber ≡ q → SenderHas publishers key c
+  pub done : (key : ℕ) (c : Link) → keys key → get new key ≡ Some c → c.home.subscriber ≡ q → SenderHas publishers key c
 
--- The subscriber q has borrowed nothing.
-abbrev pub BorrowsNothing : Slab Link → (q : ℕ) → Type 0
-BorrowsNothing connections q = (key : ℕ) (c : Link) → get connections key ≡ Some c → c.home.subscriber ≡ q → c.borrowed ≡ []
+-- The subscriber q has borrowed nothing in the connections at these keys.
+abbrev pub BorrowsNothing : Slab Link → (q : ℕ) → (keys : ℕ → Type 0) → Type 0
+BorrowsNothing connections q keys = (key : ℕ) (c : Link) → keys key → get connections key ≡ Some c → c.home.subscriber ≡ q → c.borrowed ≡ []
 
 -- The subscriber q has borrowed something.
 pub record BorrowsSome (connections : Slab Link) (q : ℕ) : Type 0 where

@@ -1,11 +1,11 @@
 //! Ports that were closed leave, and with them what nobody else needs.
-ghost use Rattle.std.specs.Prelude.{◌≡◌, ◌<◌, ◌↔◌, ℕ, false, Some, None, length, slice_index_or, IsTrue, IsSomeAnd};
+ghost use Rattle.std.specs.Prelude.{◌≡◌, ◌↔◌, ℕ, false, Some, None, map, slice_index_or, IsTrue, IsSomeAnd};
 ghost use Rattle.slab.specs.Slab.{get};
 ghost use Rattle.iox2_store.specs.Link.{Link, has_borrowed_slots};
 ghost use Rattle.iox2_store.specs.machine.Releases.{freed_if_unused, subscriber_pruned, unborrowed};
 ghost use Rattle.iox2_store.specs.machine.WellFormed.{IsWellFormed, MailboxIsWellFormed};
 ghost use Rattle.iox2_ends.specs.LookUp.{look_up};
-ghost use Rattle.iox2_domain.specs.Departures.{BorrowsNothing, BorrowsSome, DropsUnshared, IsUnshared};
+ghost use Rattle.iox2_domain.specs.Departures.{BorrowsNothing, BorrowsSome, DropsUnshared, HasKey, IsUnshared, KnowsKey};
 ghost use Rattle.iox2_domain.specs.Fields.{kept_of};
 ghost use Rattle.iox2_domain.specs.Invariant.{SenderHas, is_publisher, HasParts};
 ghost use Rattle.iox2_domain.specs.Kept.{state_of};
@@ -13,7 +13,9 @@ ghost use Rattle.iox2_domain.specs.Reaches.{Reaches};
 ghost use Rattle.iox2_domain.specs.Midway.{ChangesBooks, IsMidway};
 ghost use Rattle.iox2_domain.specs.Ports.{SubscriberFields};
 
-use iox2_domain::{DomainState, PublisherState, forget_at, key_at, make_all_due, stands_at};
+use iox2_domain::{
+    DomainState, PublisherState, SubscriberState, forget_at, key_at, make_all_due, stands_at,
+};
 use iox2_store::{Connection, Home};
 use slab::Slab;
 
@@ -44,19 +46,62 @@ fn is_unshared(
     }
 }
 
+// The connection at a key goes, if it is the subscriber's alone.
+fn remove_if_unshared(
+    connections: &mut Slab<Connection>,
+    publishers: &[Option<PublisherState>],
+    subscriber: u128,
+    key: Option<usize>,
+)
+    ensures { DropsUnshared publishers.now subscriber (λ k. key ≡ Some k) connections.old connections.new }
+{
+    let Some(key) = key else {
+        return;
+    };
+    if is_unshared(connections, publishers, subscriber, key) {
+        connections.remove(key);
+    }
+}
+
+// The connections at the keys of places go that are the subscriber's alone.
+fn remove_at_places(
+    connections: &mut Slab<Connection>,
+    publishers: &[Option<PublisherState>],
+    subscriber: u128,
+    keys: &[Option<usize>],
+)
+    ensures { DropsUnshared publishers.now subscriber (HasKey keys.now) connections.old connections.new }
+{
+    for place in 0..keys.len() {
+        remove_if_unshared(connections, publishers, subscriber, keys[place]);
+    }
+}
+
+// The connections at the expired keys go that are the subscriber's alone.
+fn remove_expired(
+    connections: &mut Slab<Connection>,
+    publishers: &[Option<PublisherState>],
+    subscriber: u128,
+    keys: &[usize],
+)
+    ensures { DropsUnshared publishers.now subscriber (HasKey (map Some keys.now)) connections.old connections.new }
+{
+    for index in 0..keys.len() {
+        remove_if_unshared(connections, publishers, subscriber, Some(keys[index]));
+    }
+}
+
 // The connections go that are the subscriber's alone.
 fn remove_unshared(
     connections: &mut Slab<Connection>,
     publishers: &[Option<PublisherState>],
-    subscriber: u128,
+    subscriber: &SubscriberState,
 )
-    ensures { DropsUnshared publishers.now subscriber (length connections.old.slots) connections.old connections.new }
+    ensures { DropsUnshared publishers.now subscriber.now.id (KnowsKey subscriber.now) connections.old connections.new }
 {
-    for key in 0..connections.capacity() {
-        if is_unshared(connections, publishers, subscriber, key) {
-            connections.remove(key);
-        }
-    }
+    let id = subscriber.id.value();
+    remove_at_places(connections, publishers, id, &subscriber.keys);
+    remove_expired(connections, publishers, id, &subscriber.expired);
 }
 
 // The subscriber has borrowed something in the connection at a key.
@@ -71,17 +116,55 @@ fn borrows_at(connections: &Slab<Connection>, subscriber: u128, key: usize) -> b
     }
 }
 
-// The subscriber has borrowed nothing.
-fn borrows_nothing(connections: &Slab<Connection>, subscriber: u128) -> bool
-    ensures nothing { IsTrue result → BorrowsNothing connections.now subscriber }
-    ensures some { result ≡ false → BorrowsSome connections.now subscriber }
+// The same, if there is a key.
+fn borrows_if_any(connections: &Slab<Connection>, subscriber: u128, key: Option<usize>) -> bool
+    ensures some { IsTrue result → BorrowsSome connections.now subscriber }
+    ensures nothing { result ≡ false → BorrowsNothing connections.now subscriber (λ k. key ≡ Some k) }
 {
-    for key in 0..connections.capacity() {
-        if borrows_at(connections, subscriber, key) {
-            return false;
+    match key {
+        Some(key) => borrows_at(connections, subscriber, key),
+        None => false,
+    }
+}
+
+// The subscriber has borrowed something in a connection at the keys of places.
+fn borrows_at_places(
+    connections: &Slab<Connection>,
+    subscriber: u128,
+    keys: &[Option<usize>],
+) -> bool
+    ensures some { IsTrue result → BorrowsSome connections.now subscriber }
+    ensures nothing { result ≡ false → BorrowsNothing connections.now subscriber (HasKey keys.now) }
+{
+    for place in 0..keys.len() {
+        if borrows_if_any(connections, subscriber, keys[place]) {
+            return true;
         }
     }
-    true
+    false
+}
+
+// The subscriber has borrowed something in a connection at the expired keys.
+fn borrows_expired(connections: &Slab<Connection>, subscriber: u128, keys: &[usize]) -> bool
+    ensures some { IsTrue result → BorrowsSome connections.now subscriber }
+    ensures nothing { result ≡ false → BorrowsNothing connections.now subscriber (HasKey (map Some keys.now)) }
+{
+    for index in 0..keys.len() {
+        if borrows_if_any(connections, subscriber, Some(keys[index])) {
+            return true;
+        }
+    }
+    false
+}
+
+// The subscriber has borrowed something.
+fn has_borrowed(connections: &Slab<Connection>, subscriber: &SubscriberState) -> bool
+    ensures some { IsTrue result → BorrowsSome connections.now subscriber.now.id }
+    ensures nothing { result ≡ false → BorrowsNothing connections.now subscriber.now.id (KnowsKey subscriber.now) }
+{
+    let id = subscriber.id.value();
+    borrows_expired(connections, id, &subscriber.expired)
+        || borrows_at_places(connections, id, &subscriber.keys)
 }
 
 /// The subscriber at a place leaves where it was closed and has borrowed nothing any more. Then
@@ -97,11 +180,10 @@ pub fn leave_if_unused<T: Drop, U: Default + Drop>(state: &mut DomainState<T, U>
     let Some(subscriber) = &state.subscribers[place] else {
         unreachable!()
     };
-    let id = subscriber.id.value();
-    if subscriber.is_open || !borrows_nothing(&state.connections, id) {
+    if subscriber.is_open || has_borrowed(&state.connections, subscriber) {
         return;
     }
-    remove_unshared(&mut state.connections, &state.publishers, id);
+    remove_unshared(&mut state.connections, &state.publishers, subscriber);
     state.subscribers[place] = None;
     make_all_due(&mut state.publishers);
 }

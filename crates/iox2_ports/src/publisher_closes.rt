@@ -11,7 +11,8 @@ ghost use Rattle.iox2_domain.specs.Fields.{kept_of, publisher_of};
 ghost use Rattle.iox2_domain.specs.Invariant.{IsDomain};
 ghost use Rattle.iox2_domain.specs.OpenMarks.{IsUnmarkedSender};
 ghost use Rattle.iox2_domain.specs.Reaches.{ReachesBut, Reaches};
-ghost use Rattle.iox2_domain.specs.Closes.{is_awaited, after_close, left_subscriber, FindsAll, HasKey, LeavesAt, LeavesConnections, SomeHasKey};
+ghost use Rattle.iox2_domain.specs.Departures.{HasKey};
+ghost use Rattle.iox2_domain.specs.Closes.{is_awaited, after_close, left_subscriber, FindsAll, LeavesAt, LeavesConnections, SomeHasKey};
 
 use crate::departures::free_book_if_unused;
 use iox2_domain::{DomainState, Port, PublisherState, SubscriberState, key_at};

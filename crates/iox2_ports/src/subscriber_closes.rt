@@ -4,6 +4,7 @@ ghost use Rattle.slab.specs.Slab.{Updates, ContainsKey, get};
 ghost use Rattle.iox2_store.specs.Link.{Link};
 ghost use Rattle.iox2_store.specs.machine.Places.{is_port, vacated};
 ghost use Rattle.iox2_store.specs.machine.Ports.{subscriber_closed};
+ghost use Rattle.iox2_domain.specs.Departures.{KnowsKey};
 ghost use Rattle.iox2_domain.specs.Ports.{SubscriberFields};
 ghost use Rattle.iox2_domain.specs.Kept.{state_of};
 ghost use Rattle.iox2_domain.specs.Fields.{kept_of, subscriber_of};
@@ -12,7 +13,7 @@ ghost use Rattle.iox2_domain.specs.OpenMarks.{IsUnmarkedReceiver};
 ghost use Rattle.iox2_domain.specs.Reaches.{Reaches};
 ghost use Rattle.iox2_domain.specs.Updates.{changed_at};
 ghost use Rattle.iox2_closes.specs.Agreement.{HasOwnedParts, IsOrphan};
-ghost use Rattle.iox2_closes.specs.Closes.{shut_subscriber, without_key, is_empty_link, IsDeparted, IsBusy, IsLeftAt, IsStanding, KnowsKey, LosesWaiting, FreesBook, ForgetsIfEmpty, LosesIfLeft};
+ghost use Rattle.iox2_closes.specs.Closes.{shut_subscriber, without_key, is_empty_link, IsDeparted, IsBusy, IsLeftAt, IsStanding, LosesWaiting, FreesBook, ForgetsIfEmpty, LosesIfLeft};
 
 use crate::departures::leave_if_unused;
 use iox2_domain::{DomainState, SubscriberState, key_at, make_all_due, stands_at};

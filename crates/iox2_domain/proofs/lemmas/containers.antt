@@ -7,3 +7,4 @@ pub mod Placed
 pub mod FreePlaces
 pub mod ConnectionKeys
 pub mod ForgottenKeys
+pub mod KeyWalks

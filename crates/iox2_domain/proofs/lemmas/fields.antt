@@ -14,3 +14,4 @@ pub mod KeptBooks
 pub mod ExpiredRoom
 pub mod OpenReceivers
 pub mod RemovedConnections
+pub mod OwnKeys

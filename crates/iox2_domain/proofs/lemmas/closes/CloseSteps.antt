@@ -21,7 +21,7 @@ use Rattle.iox2_domain.specs.Reaches.{Reaches, ReachesBut}
 use Rattle.iox2_domain.specs.Closes.{FindsAll, LeavesConnections, LeavesSlots, SomeHasKey, left_subscriber, left_fields}
 use Rattle.iox2_domain.proofs.lemmas.fields.Parts.{parts_of, parts_but}
 use Rattle.iox2_domain.proofs.lemmas.slots.PublisherBooks.{book-there, book-covers}
-use Rattle.iox2_domain.proofs.lemmas.slots.LeftConnections.{expired-place}
+use Rattle.iox2_domain.proofs.lemmas.fields.OwnKeys.{listed-at}
 use Rattle.iox2_domain.proofs.lemmas.closes.ClosingPorts.{its-counters}
 use Rattle.iox2_domain.proofs.lemmas.closes.LeftKeys.{expired-gone}
 use Rattle.iox2_domain.proofs.lemmas.closes.LeftState.{left-reaches}
@@ -71,7 +71,7 @@ module _ {T U : Type 0} (f : Fields T U) (sound : IsDomain f) (i : ℕ) (x : Pub
       ap (option_and_then (λ (y : SubscriberFields). get_or y.keys i None)) has.stands ∙ ap (λ (n : ℕ). get_or has.subscriber.keys n None) place ∙ there,
     )
     theirs key c at mine has place (inr among) =
-        let there = expired-place has.subscriber.expired key among in
+        let there = listed-at has.subscriber.expired key among in
         absurd (expired-gone f sound i x here c.home.subscriber_place there.0 key has.subscriber c has.stands there.1 at mine)
 
   module _ (b : Book) (at : get f.books x.book ≡ Some b) where

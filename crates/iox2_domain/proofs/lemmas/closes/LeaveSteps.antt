@@ -10,7 +10,8 @@ use Rattle.iox2_store.specs.Link.{Link}
 use Rattle.iox2_ends.specs.Leaves.{left_link, holds_slots}
 use Rattle.iox2_ends.proofs.MailboxChanges.{within_if_some}
 use Rattle.iox2_domain.specs.Ports.{PublisherFields, SubscriberFields}
-use Rattle.iox2_domain.specs.Closes.{is_awaited, if_holding, after_close, FindsAll, HasKey, LeavesAt, LeavesConnections, SomeHasKey}
+use Rattle.iox2_domain.specs.Departures.{HasKey}
+use Rattle.iox2_domain.specs.Closes.{is_awaited, if_holding, after_close, FindsAll, LeavesAt, LeavesConnections, SomeHasKey}
 use Rattle.iox2_domain.specs.Updates.{receiver_key}
 
 module _ (p : ℕ) (subscribers : List (Option SubscriberFields)) where
@@ -89,21 +90,11 @@ module _ (p : ℕ) (subscribers : List (Option SubscriberFields)) where
   pub leaves-among : (first keys : ℕ → Type 0) (old new : Slab Link) → LeavesAt p subscribers first old new → ((k : ℕ) → keys k → first k) → LeavesAt p subscribers keys old new
   leaves-among first keys old new a among = record { at = λ k has. a.at k (among k has); others = a.others }
 
--- the key stands in the list below the place
-abbrev pub HasKeyBelow : List (Option ℕ) → (place key : ℕ) → Type 0
-HasKeyBelow keys place key = (i : ℕ) × (i < place) × (get_or keys i None ≡ Some key)
-
 -- some subscriber below this has the key at the publisher's place
 abbrev pub SomeHasKeyBelow : List (Option SubscriberFields) → (place below key : ℕ) → Type 0
 SomeHasKeyBelow subscribers place below key = (j : ℕ) × (j < below) × (receiver_key subscribers j place ≡ Some key)
 
--- what stands below the next place stands below this or here
-pub next-key : (keys : List (Option ℕ)) (place key : ℕ) → HasKeyBelow keys (place + 1) key → HasKeyBelow keys place key ⊎ (get_or keys place None ≡ Some key)
-next-key keys place key has = elim (cases_eq has.0 place) [
-  | inl same ↦ inr (ap (λ (n : ℕ). get_or keys n None) (sym same) ∙ has.2)
-  | inr away ↦ inl (has.0, omega (arith, has.1, away), has.2)
-]
-
+-- the key of the next subscriber stands below this one or here
 pub next-subscriber : (subscribers : List (Option SubscriberFields)) (place below key : ℕ) → SomeHasKeyBelow subscribers place (below + 1) key
     → SomeHasKeyBelow subscribers place below key ⊎ (receiver_key subscribers below place ≡ Some key)
 next-subscriber subscribers place below key has = elim (cases_eq has.0 below) [
@@ -112,9 +103,6 @@ next-subscriber subscribers place below key has = elim (cases_eq has.0 below) [
 ]
 
 -- and below all of them stands each
-pub all-keys : (keys : List (Option ℕ)) (place key : ℕ) → length keys ≤ place → HasKey keys key → HasKeyBelow keys place key
-all-keys keys place key all has = let low = within_if_some keys has.0 key has.1 in (has.0, omega (arith, low, all), has.1)
-
 pub all-subscribers : (subscribers : List (Option SubscriberFields)) (place below key : ℕ) → length subscribers ≤ below → SomeHasKey subscribers place key → SomeHasKeyBelow subscribers place below key
 all-subscribers subscribers place below key all has = by (get_or subscribers has.0 None) refl has.1 where
   by : (o : Option SubscriberFields) → get_or subscribers has.0 None ≡ o → option_and_then (λ (y : SubscriberFields). get_or y.keys place None) o ≡ Some key

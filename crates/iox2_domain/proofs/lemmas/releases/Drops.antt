@@ -1,68 +1,58 @@
--- A walk over connections, which takes away those that are a subscriber's alone.
-use Rattle.std.proofs.Common.{◌≡◌, ◌≢◌, ◌<◌, ◌≤◌, ℕ, ◌+◌, Bool, true, false, not, List, [], ◌∷◌, length, Option, None, Some, IsTrue, refl, ap, sym, subst, ◌∙◌, inl, inr, arith}
+-- A subscriber's own connections are gone over: those that it alone has go, and borrowed messages are looked for.
+use Rattle.std.proofs.Common.{◌≡◌, ◌≢◌, ◌⊎◌, ℕ, Bool, true, false, not, List, [], ◌∷◌, Option, None, Some, IsTrue, refl, ap, sym, subst, ◌∙◌, inl, inr}
 use Rattle.std.proofs.lemmas.Bool.{cases_eq}
 use Rattle.std.specs.Prelude.{IsSomeAnd}
 use Rattle.slab.specs.Slab.{Slab, Updates, get}
 use Rattle.iox2_store.specs.Link.{Link, has_borrowed_slots}
 use Rattle.iox2_store.specs.machine.Numbers.{is_nil}
-use Rattle.iox2_ends.proofs.MailboxChanges.{within_if_some}
 use Rattle.iox2_domain.specs.Departures.{BorrowsNothing, BorrowsSome, DropsUnshared, IsUnshared}
 use Rattle.iox2_domain.specs.Invariant.{SenderHas}
 use Rattle.iox2_domain.specs.Ports.{PublisherFields}
 use Rattle.iox2_domain.proofs.lemmas.fields.Standing.{some_is}
 
-module _ (publishers : List (Option PublisherFields)) (q : ℕ) (old : Slab Link) where
-  -- none went yet
-  pub drops-none : DropsUnshared publishers q 0 old old
-  drops-none = record { kept = λ key c at. at; others = λ key c at. inl at; done = λ key c low. absurd (omega (arith, low)) }
+module _ (publishers : List (Option PublisherFields)) (q : ℕ) where
+  -- nothing went, where these are no keys
+  pub drops-none : (keys : ℕ → Type 0) (old : Slab Link) → ((k : ℕ) → keys k → ⊥) → DropsUnshared publishers q keys old old
+  drops-none keys old none = record { kept = λ k c at. at; others = λ k c at. inl at; done = λ k c has. absurd (none k has) }
 
-  -- what was looked at up to a key was looked at below it
-  pub drops-below : (bound more : ℕ) (now : Slab Link) → bound ≤ more → DropsUnshared publishers q more old now → DropsUnshared publishers q bound old now
-  drops-below bound more now le drops = record { kept = drops.kept; others = drops.others; done = λ key c low at its. drops.done key c (omega (arith, low, le)) at its }
+  -- the connection at a key goes
+  pub drops-one : (key : ℕ) (old new : Slab Link) → IsSomeAnd (get old key) (IsUnshared publishers q key) → Updates old new key None → DropsUnshared publishers q (λ k. Some key ≡ Some k) old new
+  drops-one key old new unshared goes = record {
+    kept = λ k c at. sym (goes.others k (away k c at)) ∙ at;
+    others = λ k c at. elim (cases_eq k key) [
+      | inl here ↦ inr (subst (λ (i : ℕ). IsUnshared publishers q i c) (sym here) (rw (sym (ap (get old) here) ∙ at) at unshared))
+      | inr other ↦ inl (goes.others k other ∙ at)
+    ];
+    done = λ k c is at. absurd (let same : key ≡ k = cc in away k c at (sym same));
+  }
+    where
+      away : (k : ℕ) (c : Link) → get new k ≡ Some c → k ≢ key
+      away k c at here = let no : None ≡ Some c = sym goes.changed ∙ sym (ap (get new) here) ∙ at in absurd cc
 
-  module _ (key : ℕ) (now : Slab Link) (drops : DropsUnshared publishers q key old now) where
-    -- the next one goes
-    pub drops-more : (new : Slab Link) → IsSomeAnd (get now key) (IsUnshared publishers q key) → Updates now new key None → DropsUnshared publishers q (key + 1) old new
-    drops-more new unshared goes = record {
-      kept = λ k c at. drops.kept k c (sym (goes.others k (away k c at)) ∙ at);
-      others = λ k c at. elim (drops.others k c at) [
-        | inr alone ↦ inr alone
-        | inl there ↦ elim (cases_eq k key) [
-          | inl here ↦ inr (subst (λ (i : ℕ). IsUnshared publishers q i c) (sym here) (rw (sym (ap (get now) here) ∙ there) at unshared))
-          | inr other ↦ inl (goes.others k other ∙ there)
-        ]
-      ];
-      done = λ k c low at its. let other = away k c at in drops.done k c (omega (arith, low, other)) (sym (goes.others k other) ∙ at) its;
-    }
-      where
-        away : (k : ℕ) (c : Link) → get new k ≡ Some c → k ≢ key
-        away k c at here = let no : None ≡ Some c = sym goes.changed ∙ sym (ap (get new) here) ∙ at in absurd cc
+  -- it stays
+  pub drops-shared : (key : ℕ) (old : Slab Link) → ((c : Link) → get old key ≡ Some c → c.home.subscriber ≡ q → SenderHas publishers key c) → DropsUnshared publishers q (λ k. Some key ≡ Some k) old old
+  drops-shared key old shared = record {
+    kept = λ k c at. at;
+    others = λ k c at. inl at;
+    done = λ k c is at its. let same : key ≡ k = cc in subst (λ (i : ℕ). SenderHas publishers i c) same (shared c (ap (get old) same ∙ at) its);
+  }
 
-    -- the next one stays
-    pub drops-skip : ((c : Link) → get now key ≡ Some c → c.home.subscriber ≡ q → SenderHas publishers key c) → DropsUnshared publishers q (key + 1) old now
-    drops-skip shared = record {
-      kept = drops.kept;
-      others = drops.others;
-      done = λ k c low at its. elim (cases_eq k key) [
-        | inl here ↦ subst (λ (i : ℕ). SenderHas publishers i c) (sym here) (shared c (sym (ap (get now) here) ∙ at) its)
-        | inr other ↦ drops.done k c (omega (arith, low, other)) at its
-      ];
-    }
+  -- first at some keys, and then at others
+  pub drops-both : (first second keys : ℕ → Type 0) (old now new : Slab Link) → DropsUnshared publishers q first old now → DropsUnshared publishers q second now new
+      → ((k : ℕ) → keys k → first k ⊎ second k) → DropsUnshared publishers q keys old new
+  drops-both first second keys old now new a b either = record {
+    kept = λ k c at. a.kept k c (b.kept k c at);
+    others = λ k c at. elim (a.others k c at) [ inl there ↦ b.others k c there | inr alone ↦ inr alone ];
+    done = λ k c has at its. elim (either k has) [ inl one ↦ a.done k c one (b.kept k c at) its | inr other ↦ b.done k c other at its ];
+  }
 
--- ---- a walk over connections, which looks for borrowed messages
+  pub drops-among : (first keys : ℕ → Type 0) (old new : Slab Link) → DropsUnshared publishers q first old new → ((k : ℕ) → keys k → first k) → DropsUnshared publishers q keys old new
+  drops-among first keys old new a among = record { kept = a.kept; others = a.others; done = λ k c has. a.done k c (among k has) }
 
--- the subscriber q has borrowed nothing in the connections below a key
-abbrev pub BorrowsNothingBelow : Slab Link → (q bound : ℕ) → Type 0
-BorrowsNothingBelow connections q bound = (key : ℕ) (c : Link) → key < bound → get connections key ≡ Some c → c.home.subscriber ≡ q → c.borrowed ≡ []
-
--- nor in the next one
-pub nothing-more : (connections : Slab Link) (q key : ℕ) → BorrowsNothingBelow connections q key
-    → (IsSomeAnd (get connections key) (λ (c : Link). (c.home.subscriber ≡ q) × IsTrue (has_borrowed_slots c)) → ⊥) → BorrowsNothingBelow connections q (key + 1)
-nothing-more connections q key below none k c low at its = elim (cases_eq k key) [
-  | inr other ↦ below k c (omega (arith, low, other)) at its
-  | inl here ↦ by (has_borrowed_slots c) refl (sym (ap (get connections) here) ∙ at)
-]
-  where
+module _ (connections : Slab Link) (q : ℕ) where
+  -- nothing is borrowed in the connection at a key
+  pub nothing-at : (key : ℕ) → (IsSomeAnd (get connections key) (λ (c : Link). (c.home.subscriber ≡ q) × IsTrue (has_borrowed_slots c)) → ⊥) → BorrowsNothing connections q (λ k. Some key ≡ Some k)
+  nothing-at key none k c is at its = let same : key ≡ k = cc in by (has_borrowed_slots c) refl (ap (get connections) same ∙ at) where
     empty : (xs : List ℕ) → not (is_nil xs) ≡ false → xs ≡ []
     empty [] e = refl
     empty (x ∷ xs) e = absurd cc
@@ -71,11 +61,11 @@ nothing-more connections q key below none k c low at its = elim (cases_eq k key)
     by false e there = empty c.borrowed e
     by true e there = absurd (none (rw there (its, e)))
 
--- so it has borrowed nothing
-pub nothing-anywhere : (connections : Slab Link) (q bound : ℕ) → length connections.slots ≤ bound → BorrowsNothingBelow connections q bound → BorrowsNothing connections q
-nothing-anywhere connections q bound le below key c at its = let low = within_if_some connections.slots key c at in below key c (omega (arith, low, le)) at its
+  -- nor at some keys and others
+  pub nothing-both : (first second keys : ℕ → Type 0) → BorrowsNothing connections q first → BorrowsNothing connections q second → ((k : ℕ) → keys k → first k ⊎ second k) → BorrowsNothing connections q keys
+  nothing-both first second keys a b either k c has at its = elim (either k has) [ inl one ↦ a k c one at its | inr other ↦ b k c other at its ]
 
--- or something
-pub borrows-some : (connections : Slab Link) (q key : ℕ) → IsSomeAnd (get connections key) (λ (c : Link). (c.home.subscriber ≡ q) × IsTrue (has_borrowed_slots c)) → BorrowsSome connections q
-borrows-some connections q key has = let there = some_is (λ (c : Link). (c.home.subscriber ≡ q) × IsTrue (has_borrowed_slots c)) (get connections key) has in
-    record { key = key; connection = there.0; stands = there.1; its = there.2.0; some = there.2.1 }
+  -- or something is
+  pub borrows-some : (key : ℕ) → IsSomeAnd (get connections key) (λ (c : Link). (c.home.subscriber ≡ q) × IsTrue (has_borrowed_slots c)) → BorrowsSome connections q
+  borrows-some key has = let there = some_is (λ (c : Link). (c.home.subscriber ≡ q) × IsTrue (has_borrowed_slots c)) (get connections key) has in
+      record { key = key; connection = there.0; stands = there.1; its = there.2.0; some = there.2.1 }

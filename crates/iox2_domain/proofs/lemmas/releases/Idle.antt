@@ -3,7 +3,7 @@ use Rattle.std.proofs.Common.{◌≡◌, ℕ, Bool, true, false, cond, not, ◌&
 use Rattle.std.proofs.lemmas.Bool.{eqb-true, false_from_ne_true, true≢false}
 use Rattle.std.specs.List.{list_all}
 use Rattle.std.specs.Option.{option_map_or}
-use Rattle.slab.specs.Slab.{get}
+use Rattle.slab.specs.Slab.{Slab, get}
 use Rattle.iox2_store.specs.Link.{Link, load}
 use Rattle.iox2_store.specs.machine.Mailbox.{has_borrows, has_data}
 use Rattle.iox2_store.specs.machine.Numbers.{contains, is_nil}
@@ -13,19 +13,20 @@ use Rattle.iox2_store.specs.machine.Releases.{is_unused, place_freed, freed_if_u
 use Rattle.iox2_store.specs.machine.State.{State, connected_publishers}
 use Rattle.iox2_store.specs.machine.WellFormed.{MailboxIsWellFormed}
 use Rattle.iox2_ends.specs.LookUp.{look_up}
-use Rattle.iox2_ends.specs.Mailboxes.{is_between, mailbox_of, mailbox_if_any}
+use Rattle.iox2_ends.specs.Mailboxes.{is_between, mailbox_of, mailbox_if_any, receiver_ends}
 use Rattle.iox2_ends.proofs.LookUps.{look_up-there}
 use Rattle.iox2_ends.proofs.MailboxChanges.{both-true, mailbox-there}
 use Rattle.iox2_laws.proofs.FilterLemmas.{passes_all}
 use Rattle.iox2_laws.proofs.MailboxLemmas.{has_numbers-data}
 use Rattle.iox2_laws.proofs.NumberLemmas.{contains_left, contains_right}
-use Rattle.iox2_laws.proofs.PlaceLemmas.{contains-occupants}
-use Rattle.iox2_domain.specs.Departures.{BorrowsNothing, BorrowsSome, IsUnshared}
+use Rattle.iox2_laws.proofs.PlaceLemmas.{contains-occupants, leads_to}
+use Rattle.iox2_domain.specs.Departures.{BorrowsNothing, BorrowsSome, IsUnshared, KnowsKey}
 use Rattle.iox2_domain.specs.Fields.{Fields, kept_of, numbers_of, subscriber_of}
 use Rattle.iox2_domain.specs.Invariant.{SenderHas, HasParts}
 use Rattle.iox2_domain.specs.Kept.{state_of}
 use Rattle.iox2_domain.specs.Midway.{IsMidway}
 use Rattle.iox2_domain.specs.Ports.{SubscriberFields}
+use Rattle.iox2_domain.proofs.lemmas.fields.OwnKeys.{own-key}
 use Rattle.iox2_domain.proofs.lemmas.fields.SubscriberSet.{subscriber-in}
 use Rattle.iox2_domain.proofs.lemmas.fields.Views.{mailboxes-are}
 use Rattle.iox2_domain.proofs.lemmas.receives.SenderEnds.{leads-has}
@@ -41,9 +42,17 @@ none-mapped : (number : ℕ → ℕ) (xs : List ℕ) → not (is_nil (map number
 none-mapped number [] e = refl
 none-mapped number (x ∷ xs) e = absurd cc
 
+nil-from : (xs : List ℕ) → is_nil xs ≡ true → xs ≡ []
+nil-from [] e = refl
+nil-from (x ∷ xs) e = absurd cc
+
 some-mapped : (number : ℕ → ℕ) (xs : List ℕ) → not (is_nil xs) ≡ true → not (is_nil (map number xs)) ≡ true
 some-mapped number [] e = absurd cc
 some-mapped number (x ∷ xs) e = refl
+
+-- the subscriber q has borrowed nothing
+abbrev pub BorrowsNowhere : Slab Link → (q : ℕ) → Type 0
+BorrowsNowhere connections q = (key : ℕ) (c : Link) → get connections key ≡ Some c → c.home.subscriber ≡ q → c.borrowed ≡ []
 
 module _ {T U : Type 0} (f : Fields T U) (parts : HasParts f) (j : ℕ) (y : SubscriberFields) (at_y : get_or f.subscribers j None ≡ Some y) where
   abbrev t : State T U
@@ -75,7 +84,7 @@ module _ {T U : Type 0} (f : Fields T U) (parts : HasParts f) (j : ℕ) (y : Sub
   open-used is_open = unused-is ∙ ap (λ b. not b && list_all (λ p. not (has_borrows (t.mailboxes p y.id))) (connected_publishers port)) is_open
 
   -- no mailbox of it has borrowed messages
-  no-borrows : BorrowsNothing f.connections y.id → (p : ℕ) → has_borrows (t.mailboxes p y.id) ≡ false
+  no-borrows : BorrowsNowhere f.connections y.id → (p : ℕ) → has_borrows (t.mailboxes p y.id) ≡ false
   no-borrows nothing p = ap has_borrows (mailboxes-are f p y.id) ∙ by (look_up (is_between p y.id) f.connections.slots) refl where
     by : (o : Option Link) → look_up (is_between p y.id) f.connections.slots ≡ o → has_borrows (mailbox_if_any (numbers_of f.books p) o) ≡ false
     by None e = refl
@@ -85,7 +94,7 @@ module _ {T U : Type 0} (f : Fields T U) (parts : HasParts f) (j : ℕ) (y : Sub
         rw (nothing there.0 c there.1 (eqb-true c.home.subscriber y.id parts.1)) refl
 
   -- a closed one that has borrowed nothing is
-  pub closed-unused : y.is_open ≡ false → BorrowsNothing f.connections y.id → is_unused t y.id ≡ true
+  pub closed-unused : y.is_open ≡ false → BorrowsNowhere f.connections y.id → is_unused t y.id ≡ true
   closed-unused closed nothing =
       unused-is ∙ ap (λ b. not b && list_all (λ p. not (has_borrows (t.mailboxes p y.id))) (connected_publishers port)) closed
       ∙ all-pass (λ p. not (has_borrows (t.mailboxes p y.id))) (connected_publishers port) (λ p. ap not (no-borrows nothing p))
@@ -106,8 +115,28 @@ module _ {T U : Type 0} (f : Fields T U) (parts : HasParts f) (j : ℕ) (y : Sub
         let none = passes_all (λ r. not (has_borrows (t.mailboxes r y.id))) (connected_publishers port) p both.1 known in
         true≢false (sym none ∙ ap not has))
 
+    -- it has the key of a connection from which it has borrowed something
+    borrower-knows : (key : ℕ) (c : Link) → get f.connections key ≡ Some c → c.home.subscriber ≡ y.id → not (is_nil c.borrowed) ≡ true → KnowsKey y key
+    borrower-knows key c at_c mine some =
+        let p : ℕ = c.home.publisher in
+        let has : has_borrows (t.mailboxes p y.id) ≡ true = ap has_borrows (its-box key c at_c mine) ∙ some-mapped (numbers_of f.books p) c.borrowed some in
+        let knows = (boxes p).receiver_end has in
+        elim (rw (same-port knows.0 knows.1) at knows.2) [
+          | inl expired ↦
+              let leads = leads_to (receiver_ends f.connections (map Some y.expired)) p expired in
+              inr (own-key f.connections parts.apart key c at_c y.id mine (map Some y.expired) (parts.linked.expired j y at_y) leads)
+          | inr leads ↦ inl (own-key f.connections parts.apart key c at_c y.id mine y.keys (parts.linked.receivers j y at_y) leads)
+        ]
+
+    -- so where it has borrowed nothing at its keys, it has borrowed nothing
+    pub nothing-anywhere : BorrowsNothing f.connections y.id (KnowsKey y) → BorrowsNowhere f.connections y.id
+    nothing-anywhere nothing key c at_c mine = by (is_nil c.borrowed) refl where
+      by : (b : Bool) → is_nil c.borrowed ≡ b → c.borrowed ≡ []
+      by true e = nil-from c.borrowed e
+      by false e = nothing key c (borrower-knows key c at_c mine (ap not e)) at_c mine
+
     -- in a connection that it alone has no slot stands
-    pub idle-load : y.is_open ≡ false → BorrowsNothing f.connections y.id → (key : ℕ) (c : Link) → get f.connections key ≡ Some c → IsUnshared f.publishers y.id key c → load c ≡ 0
+    pub idle-load : y.is_open ≡ false → BorrowsNowhere f.connections y.id → (key : ℕ) (c : Link) → get f.connections key ≡ Some c → IsUnshared f.publishers y.id key c → load c ≡ 0
     idle-load closed nothing key c at_c alone =
         rw (waiting, nothing key c at_c alone.subscriber_is, returned (parts.linked.returned key c at_c)) refl
       where

@@ -1,18 +1,18 @@
 -- A subscriber that may be unused leaves, or stays.
-use Rattle.std.proofs.Common.{◌≡◌, ℕ, true, false, length, map, get_or, slice_set, None, Some}
+use Rattle.std.proofs.Common.{◌≡◌, ℕ, true, false, map, get_or, slice_set, None, Some}
 use Rattle.std.specs.Option.{option_map}
 use Rattle.slab.specs.Slab.{Slab}
 use Rattle.iox2_store.specs.Link.{Link}
 use Rattle.iox2_store.specs.machine.Releases.{freed_if_unused}
 use Rattle.iox2_store.specs.machine.State.{State}
 use Rattle.iox2_store.specs.machine.WellFormed.{MailboxIsWellFormed}
-use Rattle.iox2_domain.specs.Departures.{BorrowsNothing, BorrowsSome, DropsUnshared}
+use Rattle.iox2_domain.specs.Departures.{BorrowsNothing, BorrowsSome, DropsUnshared, KnowsKey}
 use Rattle.iox2_domain.specs.Fields.{Fields, kept_of}
 use Rattle.iox2_domain.specs.Kept.{state_of}
 use Rattle.iox2_domain.specs.Invariant.{HasParts}
 use Rattle.iox2_domain.specs.Midway.{IsMidway}
 use Rattle.iox2_domain.specs.Ports.{SubscriberFields, due}
-use Rattle.iox2_domain.proofs.lemmas.releases.Idle.{borrower-used, closed-unused, goes-midway, idle-load, open-used, stays-midway}
+use Rattle.iox2_domain.proofs.lemmas.releases.Idle.{BorrowsNowhere, borrower-used, closed-unused, goes-midway, idle-load, nothing-anywhere, open-used, stays-midway}
 use Rattle.iox2_domain.proofs.lemmas.releases.Left.{left-midway}
 
 -- the fields without the subscriber at a place, with these connections
@@ -38,8 +38,11 @@ module _ {T U : Type 0} (f : Fields T U) (parts : HasParts f) (j : ℕ) (y : Sub
   stays-used some before s book midway = stays-midway f parts j y at_y before s book (borrower-used f parts j y at_y boxes some) midway
 
   -- it is closed and has borrowed nothing
-  pub leaves : y.is_open ≡ false → BorrowsNothing f.connections y.id → (new : Slab Link) → DropsUnshared f.publishers y.id (length f.connections.slots) f.connections new
+  pub leaves : y.is_open ≡ false → BorrowsNothing f.connections y.id (KnowsKey y) → (new : Slab Link) → DropsUnshared f.publishers y.id (KnowsKey y) f.connections new
       → FreesMidway f y.id (without_subscriber f j new)
   leaves closed nothing new drops before s book midway =
-      goes-midway f parts j y at_y before (without_subscriber f j new) s book (closed-unused f parts j y at_y closed nothing) midway.state
-      (left-midway f parts j y at_y new drops (idle-load f parts j y at_y boxes closed nothing) closed before s book midway)
+      goes-midway f parts j y at_y before (without_subscriber f j new) s book (closed-unused f parts j y at_y closed nowhere) midway.state
+      (left-midway f parts j y at_y new drops (idle-load f parts j y at_y boxes closed nowhere) closed before s book midway)
+    where
+      nowhere : BorrowsNowhere f.connections y.id
+      nowhere = nothing-anywhere f parts j y at_y boxes nothing

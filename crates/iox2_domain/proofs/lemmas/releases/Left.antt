@@ -17,7 +17,7 @@ use Rattle.iox2_ends.specs.LookUp.{look_up, IsOnly}
 use Rattle.iox2_ends.specs.Mailboxes.{sender_ends, receiver_ends, subscriber_of_key, publisher_of_key}
 use Rattle.iox2_ends.specs.declared.sender.ReceiverDetails.{ReceiverDetails}
 use Rattle.iox2_ends.proofs.MailboxChanges.{within_if_some}
-use Rattle.iox2_domain.specs.Departures.{IsUnshared, DropsUnshared}
+use Rattle.iox2_domain.specs.Departures.{IsUnshared, KnowsKey, DropsUnshared}
 use Rattle.iox2_domain.specs.Fields.{Fields, kept_of, publisher_of, subscriber_of, numbers_of, blocked_send}
 use Rattle.iox2_domain.specs.Invariant.{IsCounted, IsLinked, IsOwned, IsGone, HasBooks, SenderHas, ReceiverHas, details_of, is_subscriber, own_holders, HasParts, HasOpenReceiver}
 use Rattle.iox2_domain.specs.Kept.{Named, state_of, port_named, ids, is_named}
@@ -27,6 +27,7 @@ use Rattle.iox2_domain.proofs.lemmas.containers.ChangedRecords.{map-agrees, ends
 use Rattle.iox2_domain.proofs.lemmas.containers.LookUps.{IsOnly-map, IsOnly-removed, look_up-removed, map-at, viewed}
 use Rattle.iox2_domain.proofs.lemmas.creations.PublishersDue.{is_due, with_publishers_due, publishers_due-are, publishers_due-consistent, held-due}
 use Rattle.iox2_domain.proofs.lemmas.fields.Views.{mailboxes-are}
+use Rattle.iox2_domain.proofs.lemmas.fields.OwnKeys.{known}
 use Rattle.iox2_domain.proofs.lemmas.releases.Unshared.{key-sender, dropped-apart, dropped-sums, dropped-boxes, dropped-fewer}
 use Rattle.iox2_domain.proofs.lemmas.fields.OpenReceivers.{open-still}
 use mathlib.Core.Path.{fun_ext}
@@ -57,7 +58,7 @@ module _ {A : Type 0} where
       ∙ ap (λ b. cond b None (Some m.id) ∷ vacated n.id (ids ns)) (sym (ne_eqb m.id n.id (λ same. let no : zero ≡ suc j = only zero m refl same in absurd cc)))
 
 module _ {T U : Type 0} (f : Fields T U) (parts : HasParts f) (j : ℕ) (y : SubscriberFields) (at_y : get_or f.subscribers j None ≡ Some y)
-    (new : Slab Link) (drops : DropsUnshared f.publishers y.id (length f.connections.slots) f.connections new)
+    (new : Slab Link) (drops : DropsUnshared f.publishers y.id (KnowsKey y) f.connections new)
     (idle : (key : ℕ) (c : Link) → get f.connections key ≡ Some c → IsUnshared f.publishers y.id key c → load c ≡ 0) (closed : y.is_open ≡ false) where
   abbrev subscribers : List (Option SubscriberFields)
   subscribers = slice_set f.subscribers j None
@@ -125,7 +126,7 @@ module _ {T U : Type 0} (f : Fields T U) (parts : HasParts f) (j : ℕ) (y : Sub
     | inl here ↦
         let one : Some has.subscriber ≡ Some y = sym has.stands ∙ ap (λ (n : ℕ). get_or f.subscribers n None) here ∙ at_y in
         let is : has.subscriber ≡ y = cc in
-        inl (drops.done k d (within_if_some f.connections.slots k d (was k d at_d)) at_d (sym has.is_its ∙ ap (λ (w : SubscriberFields). w.id) is))
+        inl (drops.done k d (subst (λ (w : SubscriberFields). KnowsKey w k) is (known has.subscriber d.home.publisher_place k has.has)) at_d (sym has.is_its ∙ ap (λ (w : SubscriberFields). w.id) is))
     | inr away ↦ inr (record { subscriber = has.subscriber; stands = others d.home.subscriber_place away ∙ has.stands; is_its = has.is_its; has = has.has })
   ]
 
@@ -166,18 +167,18 @@ module _ {T U : Type 0} (f : Fields T U) (parts : HasParts f) (j : ℕ) (y : Sub
   }
 
   counted : IsCounted emptied
-  counted = record { at = λ p slot. parts.counted.at p slot ∙ ap (λ n. own_holders f p slot + n) (sym (dropped-sums f.publishers y.id (length f.connections.slots) f.connections new drops parts.apart idle p slot)) }
+  counted = record { at = λ p slot. parts.counted.at p slot ∙ ap (λ n. own_holders f p slot + n) (sym (dropped-sums f.publishers y.id (KnowsKey y) f.connections new drops parts.apart idle p slot)) }
 
   emptied-consistent : HasParts emptied
   emptied-consistent = record {
     publisher_ids = parts.publisher_ids;
     subscriber_ids = λ q. IsOnly-removed (is_subscriber q) f.subscribers subscribers j (parts.subscriber_ids q) nobody others;
-    apart = dropped-apart f.publishers y.id (length f.connections.slots) f.connections new drops parts.apart idle;
+    apart = dropped-apart f.publishers y.id (KnowsKey y) f.connections new drops parts.apart idle;
     linked = linked;
     expired_room = record {
       at = λ k z at_z.
           let enough = parts.expired_room.at k z (stood k z at_z).1 in
-          omega (arith, enough, dropped-fewer f.publishers y.id (length f.connections.slots) f.connections new drops parts.apart idle z.id);
+          omega (arith, enough, dropped-fewer f.publishers y.id (KnowsKey y) f.connections new drops parts.apart idle z.id);
     };
     books = books;
     names = record { at = λ k d at_d. parts.names.at k d (was k d at_d) };
@@ -288,7 +289,7 @@ module _ {T U : Type 0} (f : Fields T U) (parts : HasParts f) (j : ℕ) (y : Sub
 
     boxes : (state_of (kept_of emptied)).mailboxes ≡ (state_of (kept_of f)).mailboxes
     boxes = fun_ext (λ p. fun_ext (λ q. mailboxes-are emptied p q
-        ∙ dropped-boxes f.publishers y.id (length f.connections.slots) f.connections new drops parts.apart idle (numbers_of f.books) p q ∙ sym (mailboxes-are f p q)))
+        ∙ dropped-boxes f.publishers y.id (KnowsKey y) f.connections new drops parts.apart idle (numbers_of f.books) p q ∙ sym (mailboxes-are f p q)))
 
   -- the machine's place is freed
   pub left-is : state_of (kept_of left) ≡ place_freed (state_of (kept_of f)) y.id

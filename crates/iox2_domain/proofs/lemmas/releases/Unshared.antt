@@ -35,7 +35,7 @@ sum-fewer f nothing [] (y ∷ ys) fewer = omega (arith, sum_by-cons f y ys, sum-
 sum-fewer f nothing (x ∷ xs) [] fewer = omega (arith, sum_by-cons f x xs)
 sum-fewer f nothing (x ∷ xs) (y ∷ ys) fewer = omega (arith, sum_by-cons f x xs, sum_by-cons f y ys, sum-fewer f nothing xs ys (λ k. fewer (suc k)), fewer zero)
 
-module _ (publishers : List (Option PublisherFields)) (q bound : ℕ) (old new : Slab Link) (drops : DropsUnshared publishers q bound old new) (apart : IsApart old)
+module _ (publishers : List (Option PublisherFields)) (q : ℕ) (keys : ℕ → Type 0) (old new : Slab Link) (drops : DropsUnshared publishers q keys old new) (apart : IsApart old)
     (idle : (key : ℕ) (c : Link) → get old key ≡ Some c → IsUnshared publishers q key c → load c ≡ 0) where
   pub dropped-apart : IsApart new
   dropped-apart = record { one = λ p r. record { one = λ i j x y at_i at_j. (apart.one p r).one i j x y (drops.kept i x at_i) (drops.kept j y at_j) } }

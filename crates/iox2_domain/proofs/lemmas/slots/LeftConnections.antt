@@ -1,5 +1,5 @@
 -- In each connection of a publisher that is gone, something waits or is borrowed.
-use Rattle.std.proofs.Common.{◌≡◌, ◌≢◌, ℕ, zero, suc, ◌<◌, List, [], ◌∷◌, map, length, true, false, not, ◌&&◌, get_or, refl, ap, sym, subst, ◌∙◌, inl, inr, ◌⊎◌, arith, Contains}
+use Rattle.std.proofs.Common.{◌≡◌, ◌≢◌, ℕ, List, [], ◌∷◌, map, true, false, not, ◌&&◌, get_or, refl, ap, sym, subst, ◌∙◌, inl, inr, ◌⊎◌}
 use Rattle.std.proofs.lemmas.Bool.{eq-eqb, ne_eqb}
 use Rattle.std.specs.Prelude.{MatchOption}
 use Rattle.std.specs.declared.option.Option.{Option}
@@ -22,6 +22,7 @@ use Rattle.iox2_domain.specs.Kept.{Named, state_of, is_named}
 use Rattle.iox2_domain.specs.Fields.{Fields, kept_of, publisher_of, subscriber_of}
 use Rattle.iox2_domain.specs.Invariant.{SenderHas, ReceiverHas, is_publisher, is_subscriber, HasParts}
 use Rattle.iox2_domain.proofs.lemmas.containers.LookUps.{look_up-map}
+use Rattle.iox2_domain.proofs.lemmas.fields.OwnKeys.{listed-at}
 use Rattle.iox2_domain.proofs.lemmas.fields.Standing.{occupant-receiver_ends}
 
 -- what has numbers has some number
@@ -31,14 +32,6 @@ some-number box some = by box.waiting box.borrowed some where
   by [] [] e = absurd cc
   by [] (n ∷ ns) e = (n, contains_first n ns)
   by (n ∷ ns) borrowed e = (n, contains_first n _)
-
--- a key among expired ones stands at a place
-pub expired-place : (keys : List ℕ) (key : ℕ) → Contains keys key → (i : ℕ) × (get_or (map Some keys) i None ≡ Some key)
-expired-place keys key has = (has.0, at keys has.0 has.1 has.2) where
-  at : (xs : List ℕ) (i : ℕ) → i < length xs → get_or xs i key ≡ key → get_or (map Some xs) i None ≡ Some key
-  at [] i lt e = absurd (omega arith)
-  at (x ∷ xs) zero lt e = ap Some e
-  at (x ∷ xs) (suc i) lt e = at xs i (omega arith) e
 
 -- a publisher that isn't found stands nowhere
 pub stands-nowhere : (publishers : List (Option PublisherFields)) (p : ℕ) → look_up (is_publisher p) publishers ≡ None
@@ -83,7 +76,7 @@ module _ {T U : Type 0} (f : Fields T U) (p : ℕ) (gone : (i : ℕ) (x : Publis
     numbers has = elim has.has [
       | inl there ↦ departed _ _ _ unknown (its.ends_stand c.home.publisher_place p (leads y.keys c.home.publisher_place there))
       | inr expired ↦
-          let place = expired-place y.expired key expired in
+          let place = listed-at y.expired key expired in
           its.expired_kept p (contains-occupants _ p (place.0, leads (map Some y.expired) place.0 place.1))
     ] where
       y : SubscriberFields

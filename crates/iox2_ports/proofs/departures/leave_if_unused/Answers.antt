@@ -1,13 +1,13 @@
-use Rattle.std.proofs.Common.{◌≡◌, ◌∙◌, ℕ, List, Option, length, map, slice_set, None, Some, false, ap, refl, sym, subst}
+use Rattle.std.proofs.Common.{◌≡◌, ◌∙◌, ℕ, List, Option, map, slice_set, None, Some, false, ap, refl, sym, subst}
 use Rattle.std.proofs.lemmas.List.{with_items_is}
 use Rattle.std.specs.Prelude.{slice_index_or}
 use Rattle.std.specs.Option.{option_map}
-use Rattle.iox2_domain.specs.Departures.{BorrowsNothing, BorrowsSome, DropsUnshared}
+use Rattle.iox2_domain.specs.Departures.{BorrowsNothing, BorrowsSome, DropsUnshared, KnowsKey}
 use Rattle.iox2_domain.specs.Fields.{Fields}
 use Rattle.iox2_domain.specs.Ports.{PublisherFields, SubscriberFields, due}
 use Rattle.iox2_domain.proofs.lemmas.releases.Leaving.{FreesMidway, leaves, stays-open, stays-used, without_subscriber}
 use Rattle.iox2_domain.proofs.lemmas.slots.PublisherBooks.{read-there}
-use Rattle.iox2_ports.proofs.departures.leave_if_unused.Goals.{then-subscriber-via-then-subscriber, then-subscriber-via-else-subscriber+then-not-borrows_nothing}
+use Rattle.iox2_ports.proofs.departures.leave_if_unused.Goals.{then-subscriber-via-then-subscriber, then-subscriber-via-else-subscriber+then-has_borrowed}
 use Rattle.iox2_ports.proofs.departures.leave_if_unused.Goals as goal
 
 pub returns-then-subscriber : goal.returns-then-subscriber
@@ -19,14 +19,13 @@ returns-then-subscriber g c = record {
       let stands = c.requires.stands in
       let one : Some stands.0 ≡ Some y = sym stands.1 ∙ at in
       let its : stands.0 ≡ y = cc in
-      let id : c.value-id.result ≡ y.id = c.value-id.ensures ∙ ap (λ (z : SubscriberFields). z.id) (c.subscriber.view_is ∙ is) in
       elim c.then-subscriber.branch [
         | then-subscriber-via-then-subscriber w ↦
             stays-open c.args.state.now c.requires.consistent c.args.place y at (rw its at stands.2) (sym (ap (λ (z : SubscriberFields). z.is_open) (c.subscriber.view_is ∙ is)) ∙ w.if-subscriber.true)
-        | then-subscriber-via-else-subscriber+then-not-borrows_nothing w ↦
+        | then-subscriber-via-else-subscriber+then-has_borrowed w ↦
             stays-used c.args.state.now c.requires.consistent c.args.place y at (rw its at stands.2)
             (subst (λ (f : Fields g.row.T.Denot g.row.U.Denot). BorrowsSome f.connections y.id) c.state.view_is
-            (subst (λ (q : ℕ). BorrowsSome c.state.inside.connections q) id (w.if-not-borrows_nothing.ensures.some refl)))
+            (subst (λ (z : SubscriberFields). BorrowsSome c.state.inside.connections z.id) is (w.if-has_borrowed.ensures.some refl)))
       ];
 }
 
@@ -39,18 +38,17 @@ returns g c = record {
       let stands = c.requires.stands in
       let one : Some stands.0 ≡ Some y = sym stands.1 ∙ at in
       let its : stands.0 ≡ y = cc in
-      let id : c.value-id.result ≡ y.id = c.value-id.ensures ∙ ap (λ (z : SubscriberFields). z.id) (c.subscriber.view_is ∙ is) in
       let settled =
       with_items_is c.state.inside.publishers c.make_all_due.new.ports (c.make_all_due.auto.ports ∙ c.deref_mut.ensures.len)
       ∙ c.make_all_due.ensures
       ∙ ap (map (option_map due)) c.deref_mut.ensures.value in
-      let drops : DropsUnshared c.args.state.now.publishers y.id (length c.args.state.now.connections.slots) c.args.state.now.connections c.remove_unshared.new.connections =
-      subst (λ (f : Fields g.row.T.Denot g.row.U.Denot). DropsUnshared f.publishers y.id (length f.connections.slots) f.connections c.remove_unshared.new.connections) c.state.view_is
-      (subst (λ (ps : List (Option PublisherFields)). DropsUnshared ps y.id (length c.state.inside.connections.slots) c.state.inside.connections c.remove_unshared.new.connections) c.deref.ensures.value
-      (subst (λ (q : ℕ). DropsUnshared c.deref.result.now q (length c.state.inside.connections.slots) c.state.inside.connections c.remove_unshared.new.connections) id c.remove_unshared.ensures)) in
-      let nothing : BorrowsNothing c.args.state.now.connections y.id =
-      subst (λ (f : Fields g.row.T.Denot g.row.U.Denot). BorrowsNothing f.connections y.id) c.state.view_is
-      (subst (λ (q : ℕ). BorrowsNothing c.state.inside.connections q) id (c.if-not-borrows_nothing.ensures.nothing refl)) in
+      let drops : DropsUnshared c.args.state.now.publishers y.id (KnowsKey y) c.args.state.now.connections c.remove_unshared.new.connections =
+      subst (λ (f : Fields g.row.T.Denot g.row.U.Denot). DropsUnshared f.publishers y.id (KnowsKey y) f.connections c.remove_unshared.new.connections) c.state.view_is
+      (subst (λ (ps : List (Option PublisherFields)). DropsUnshared ps y.id (KnowsKey y) c.state.inside.connections c.remove_unshared.new.connections) c.deref.ensures.value
+      (subst (λ (z : SubscriberFields). DropsUnshared c.deref.result.now z.id (KnowsKey z) c.state.inside.connections c.remove_unshared.new.connections) is c.remove_unshared.ensures)) in
+      let nothing : BorrowsNothing c.args.state.now.connections y.id (KnowsKey y) =
+      subst (λ (f : Fields g.row.T.Denot g.row.U.Denot). BorrowsNothing f.connections y.id (KnowsKey y)) c.state.view_is
+      (subst (λ (z : SubscriberFields). BorrowsNothing c.state.inside.connections z.id (KnowsKey z)) is (c.if-has_borrowed.ensures.nothing refl)) in
       let closed : y.is_open ≡ false = sym (ap (λ (z : SubscriberFields). z.is_open) (c.subscriber.view_is ∙ is)) ∙ c.if-subscriber.false in
       subst (λ (f : Fields g.row.T.Denot g.row.U.Denot). FreesMidway c.args.state.now y.id f)
       (sym ((λ i. record {

@@ -1,7 +1,8 @@
 use Rattle.std.proofs.Common.{◌≡◌, ℕ, List, Option, ap, sym, subst, ◌∙◌}
 use Rattle.iox2_ends.specs.Counters.{IsCovered}
 use Rattle.iox2_ends.proofs.Counts.{IsCovered-follows}
-use Rattle.iox2_domain.specs.Closes.{HasKey, LeavesAt, SomeHasKey}
+use Rattle.iox2_domain.specs.Closes.{LeavesAt, SomeHasKey}
+use Rattle.iox2_domain.specs.Departures.{HasKey}
 use Rattle.iox2_domain.specs.Ports.{PublisherFields}
 use Rattle.iox2_domain.proofs.lemmas.closes.LeaveSteps.{leaves-all}
 use Rattle.iox2_ports.proofs.publisher_closes.leave_connections.Goals as goal

@@ -4,8 +4,9 @@ use Rattle.std.specs.declared.option.Option.TheVariants.{None, Some}
 use Rattle.iox2_store.specs.SlotBook.{Book}
 use Rattle.iox2_ends.specs.Counters.{with_counters}
 use Rattle.iox2_ends.proofs.Counts.{CountersFollow-trans, IsCovered-follows}
-use Rattle.iox2_domain.specs.Closes.{HasKey}
-use Rattle.iox2_domain.proofs.lemmas.closes.LeaveSteps.{HasKeyBelow, leaves-none, leaves-both, leaves-among, next-key, all-keys}
+use Rattle.iox2_domain.specs.Departures.{HasKey}
+use Rattle.iox2_domain.proofs.lemmas.closes.LeaveSteps.{leaves-none, leaves-both, leaves-among}
+use Rattle.iox2_domain.proofs.lemmas.containers.KeyWalks.{HasKeyBelow, next-key, all-keys}
 use Rattle.iox2_ports.proofs.publisher_closes.leave_keys.Goals as goal
 
 pub loop-index-init : goal.loop-index-init
