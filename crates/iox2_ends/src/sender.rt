@@ -122,6 +122,7 @@ fn reception_of(outcome: PutOutcome, strategy: BackpressureStrategy) -> Receptio
 }
 
 // Whether the subscriber with that id stands at the place, and is open.
+#[cold]
 #[inline(never)]
 fn stands_open<R: Receiver>(receivers: &[Option<R>], place: usize, id: u128) -> bool
     ensures { result ≡ is_open_at (map (option_map R.details_of) receivers.now) place id }

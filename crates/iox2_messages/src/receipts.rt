@@ -14,21 +14,24 @@ ghost use Rattle.iox2_domain.specs.Midway.{IsMidway};
 ghost use Rattle.iox2_domain.specs.Receipts.{IsReceiptFor, TakesAs, ReceivesAs};
 ghost use Rattle.iox2_domain.specs.SampleSlots.{IsReturnable, LiesAtHint};
 
-use iox2_domain::{DomainState, Receipt, SampleAt, SampleSlot, stands_at};
+use iox2_domain::{DomainState, Receipt, SampleAt, SampleSlot, is_due_at, stands_at};
 use iox2_ends::receiver::{Taken, let_go, receive, release};
 use iox2_ports::{forget_if_empty, free_book_if_unused, leave_if_unused, update_subscriber};
 use iox2_store::{Home, ReceiveError, SlotBook, UniquePublisherId, UniqueSubscriberId};
 use slab::Slab;
 
-// The receipt of a message that was taken.
-fn receipt_of(books: &Slab<SlotBook>, taken: Taken) -> Receipt
-    requires { IsSomeAnd (get books.now (taken.home).book) (λ b. taken.slot < length b.holders) }
-    ensures { IsReceiptFor books.now taken result }
+// The receipt of a message that was taken. A look-up in books that may be written tests less, and
+// nothing is written.
+fn receipt_of(books: &mut Slab<SlotBook>, taken: Taken) -> Receipt
+    requires { IsSomeAnd (get books.old (taken.home).book) (λ b. taken.slot < length b.holders) }
+    ensures receipt { IsReceiptFor books.old taken result }
+    ensures same { books.new ≡ books.old }
 {
     let home = taken.home;
+    let book = &mut books[home.book];
     let sample = SampleAt {
         subscriber: UniqueSubscriberId::new(home.subscriber),
-        number: books[home.book].number(taken.slot),
+        number: book.number(taken.slot),
         connection: taken.connection,
         book: home.book,
         slot: taken.slot,
@@ -61,7 +64,7 @@ pub(crate) fn take_at<T: Drop, U: Default + Drop>(
     let Some(taken) = taken else {
         return Ok(None);
     };
-    Ok(Some(receipt_of(&state.books, taken)))
+    Ok(Some(receipt_of(&mut state.books, taken)))
 }
 
 /// The subscriber at a place is updated, and then borrows the message that has waited longest in
@@ -78,10 +81,12 @@ pub fn receive_at<T: Drop, U: Default + Drop>(
     requires stands { (y : SubscriberFields) × (slice_index_or state.old.subscribers place None ≡ Some y) }
     ensures { (y : SubscriberFields) → slice_index_or state.old.subscribers place None ≡ Some y → ReceivesAs fixed_handlers state.old y.id result state.new }
 {
-    match update_subscriber(state, place) {
-        Some(failure) => Err(ReceiveError::ConnectionFailure(failure)),
-        None => take_at(state, place),
+    if is_due_at(&state.subscribers, place) {
+        if let Some(failure) = update_subscriber(state, place) {
+            return Err(ReceiveError::ConnectionFailure(failure));
+        }
     }
+    take_at(state, place)
 }
 
 // Whether both ports of a sample's connection stay: the publisher is there, and the subscriber is open.

@@ -1,9 +1,8 @@
 -- A connection is marked as open between open ports, or as open no more.
-use Rattle.std.proofs.Common.{◌≡◌, ◌≢◌, ℕ, ◌+◌, ◌≤◌, Bool, true, map, get_or, slice_set, refl, ap, sym, subst, ◌∙◌, inl, inr, ◌⊎◌, Option, None, Some}
+use Rattle.std.proofs.Common.{◌≡◌, ℕ, ◌+◌, ◌≤◌, Bool, true, map, slice_set, refl, ap, sym, subst, ◌∙◌, inl, inr, ◌⊎◌, Option, None, Some}
 use Rattle.std.proofs.lemmas.Bool.{cases_eq}
 use Rattle.std.proofs.lemmas.List.{map-set, set-get_or}
 use Rattle.std.specs.Prelude.{[]}
-use Rattle.std.specs.List.{sum_by}
 use Rattle.std.specs.Option.{option_map}
 use Rattle.slab.specs.Slab.{Slab, Updates, get, with_value}
 use Rattle.iox2_store.specs.Link.{Link}
@@ -11,15 +10,14 @@ use Rattle.iox2_store.specs.declared.connection.Home.{Home}
 use Rattle.iox2_store.specs.machine.WellFormed.{IsWellFormed}
 use Rattle.iox2_ends.specs.Counters.{stands}
 use Rattle.iox2_ends.specs.Homes.{IsApart}
-use Rattle.iox2_ends.specs.LookUp.{IsOnly}
 use Rattle.iox2_ends.specs.Mailboxes.{is_between}
 use Rattle.iox2_ends.proofs.MailboxChanges.{Updates-with_value}
 use Rattle.iox2_domain.specs.Fields.{Fields, kept_of, between_of}
-use Rattle.iox2_domain.specs.Invariant.{IsDomain, HasBooks, HasParts, HasExpiredRoom, IsBetweenOpen, IsBookOf, IsCounted, NamesBooks, SenderHas, connection_count, one_if_receivers, own_holders}
-use Rattle.iox2_domain.specs.Kept.{Between, Kept, state_of}
+use Rattle.iox2_domain.specs.Invariant.{IsDomain, HasBooks, HasParts, HasExpiredRoom, IsBetweenOpen, IsBookOf, IsCounted, NamesBooks, SenderHas, one_if_receivers, own_holders}
+use Rattle.iox2_domain.specs.Kept.{Kept, state_of}
 use Rattle.iox2_domain.specs.OpenMarks.{ChangesMarks}
 use Rattle.iox2_domain.specs.Shows.{KeepsEntries}
-use Rattle.iox2_domain.proofs.lemmas.fields.Parts.{parts_of, whole_of}
+use Rattle.iox2_domain.proofs.lemmas.fields.Parts.{whole_of}
 use Rattle.iox2_domain.proofs.lemmas.fields.SameSeats.{SameSeats, seat_of, senders-seated, receivers-seated, sender-seated, open-seated, linked-seated}
 use Rattle.iox2_domain.proofs.lemmas.slots.Recounts.{sum-alike}
 

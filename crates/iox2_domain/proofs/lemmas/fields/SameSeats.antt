@@ -8,7 +8,7 @@ use Rattle.iox2_store.specs.machine.Places.{occupants}
 use Rattle.iox2_store.specs.declared.connection.Home.{Home}
 use Rattle.iox2_ends.specs.Homes.{IsSenders}
 use Rattle.iox2_ends.specs.Finds.{IsReceivers}
-use Rattle.iox2_ends.specs.Mailboxes.{mailboxes_of, subscriber_of_key, publisher_of_key}
+use Rattle.iox2_ends.specs.Mailboxes.{subscriber_of_key, publisher_of_key}
 use Rattle.iox2_domain.specs.Fields.{Fields, publisher_of, subscriber_of, numbers_of, blocked_send}
 use Rattle.iox2_domain.specs.Invariant.{IsLinked, IsBetweenOpen, SenderHas, ReceiverHas, HasOpenReceiver}
 use mathlib.Core.Path.{fun_ext}

@@ -92,13 +92,13 @@ returns g c = λ y at.
       publishers = c.state.inside.publishers.items;
       subscribers = sym kept k;
       connections = c.receive.new.connections;
-      books = c.state.inside.books;
+      books = sym c.receipt_of.ensures.same k;
       contents = c.state.inside.contents.items;
     })
     (at-taken _ c.args.state.now c.args.place c.in-Some.subscriber c.deref.result.now c.deref-2.result.now
     (has-keys _ c.args.state.now c.args.place c.index_mut.result.now c.in-Some.subscriber _ c.deref.result.now c.deref-2.result.now c.requires.agrees c.state.view_is c.requires.stands
     c.index_mut.ensures.value c.in-Some.is c.subscriber.view_is c.deref.ensures.value c.deref-2.ensures.value)
-    c.in-Some-taken.taken c.receipt_of.result c.receive.new.connections got.0 got.1 c.receipt_of.ensures y at)
+    c.in-Some-taken.taken c.receipt_of.result c.receive.new.connections got.0 got.1 c.receipt_of.ensures.receipt y at)
 
 pub index_mut-requires : goal.index_mut-requires
 index_mut-requires g c =
