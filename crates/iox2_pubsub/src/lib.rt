@@ -19,7 +19,7 @@ pub use iox2_store::{
     ConnectionFailure, DegradationAction, DegradationCause, DegradationFn, DegradationInfo,
     DomainCreateError, Header, Key, LoanError, PublisherCreateError, ReceiveError, SendError,
     ServiceConfig, SharedMemoryOpenError, SubscriberCreateError, TypeVariant, UniqueNodeId,
-    UniquePublisherId, UniqueSubscriberId, ZeroCopyCreationError,
+    UniquePublisherId, UniqueSubscriberId, ZeroCopyCreationError, worst_case_slots,
 };
 pub use port_factory::publisher::PortFactoryPublisher;
 pub use port_factory::subscriber::PortFactorySubscriber;

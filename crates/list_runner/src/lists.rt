@@ -6,9 +6,8 @@ ghost use Rattle.iox2_runs.specs.Supported.{IsSupportedCommand};
 
 use crate::failure::Failure;
 use crate::sizes::Sizes;
-use iox2_pubsub::Domain;
+use iox2_pubsub::{Domain, worst_case_slots};
 use iox2_runs::{Command, Reply, compare_runs, filling_is_supported, run, worst_case_commands};
-use iox2_store::worst_case_slots;
 use std::alloc::Global;
 use std::io;
 
