@@ -7,7 +7,13 @@ use Rattle.iox2_store.specs.declared.connection.Connection.TheInside.{Inside}
 -- The connection that the fields stand for.
 abbrev pub link_of : Inside → Link
 link_of a = record {
-  home = a.home;
+  home = record {
+    publisher = a.publisher;
+    subscriber = a.subscriber;
+    publisher_place = a.publisher_place;
+    subscriber_place = a.subscriber_place;
+    book = a.book;
+  };
   buffer = a.waiting.capacity;
   limit = a.limit;
   is_open = a.is_open;

@@ -91,8 +91,13 @@ pub struct Connection {
     borrowed: Vec<usize>,
     returned: HeapCircularBuffer<usize>,
     limit: usize,
+    // The fields of its `Home`, one by one: the mark behind them then needs no room of its own.
+    publisher: u128,
+    subscriber: u128,
+    publisher_place: usize,
+    subscriber_place: usize,
+    book: usize,
     is_open: bool,
-    home: Home,
 }
 
 impl Model for Connection {
@@ -135,8 +140,12 @@ impl Connection {
             borrowed,
             returned,
             limit,
+            publisher: home.publisher,
+            subscriber: home.subscriber,
+            publisher_place: home.publisher_place,
+            subscriber_place: home.subscriber_place,
+            book: home.book,
             is_open: false,
-            home,
         })
     }
 
@@ -145,7 +154,13 @@ impl Connection {
         ensures value { result ≡ self.now.home }
         ensures bounded { IsBounded self.now }
     {
-        self.home
+        Home {
+            publisher: self.publisher,
+            subscriber: self.subscriber,
+            publisher_place: self.publisher_place,
+            subscriber_place: self.subscriber_place,
+            book: self.book,
+        }
     }
 
     /// Whether the connection is marked as open. Its owner says what the mark means.
