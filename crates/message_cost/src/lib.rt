@@ -1,15 +1,18 @@
-//! What a message costs: a static library whose one function passes messages through a domain, so
-//! that a tool can count the instructions of the calls that it makes.
+//! What a message costs, and what a close: a static library that passes messages through a domain,
+//! or closes ports, so that a tool can count the instructions of the calls that it makes.
 #![tactic(auto)]
 
 ghost use Rattle.std.specs.Prelude.{◌≤◌, IfSome, All};
 ghost use Rattle.iox2_pubsub.specs.Live.{IsLivePublisher, IsLiveSubscriber, IsSingleValued};
 
+mod closing;
 mod load;
 mod passing;
 mod ports;
 mod receiver;
+mod sender;
 
+use closing::{Closing, close_all};
 use iox2_pubsub::{Domain, Publisher};
 use load::Load;
 use passing::pass_all;
@@ -24,6 +27,13 @@ pub extern "C" fn pass_messages(alloc: Global, load: &Load, messages: u64) -> u6
     ensures { result ≤ messages }
 {
     pass_under_load(alloc, load, messages).unwrap_or(0)
+}
+
+/// Makes a domain with these ports and with messages that wait, and closes the ports. Returns how
+/// many were closed: none where a call before that is refused.
+#[unsafe(no_mangle)]
+pub extern "C" fn close_ports(alloc: Global, closing: &Closing) -> usize {
+    close_all(alloc, closing).unwrap_or(0)
 }
 
 // Makes the domain and its ports, and passes the messages. `None` where something is refused.

@@ -1,6 +1,7 @@
 mod arrivals;
 mod buffers;
 mod calls;
+mod changing_ports;
 mod closes;
 mod histories;
 mod neighbours;
