@@ -8,8 +8,8 @@ use Rattle.iox2_domain.specs.Departures.{HasKey, KnowsKey}
 use Rattle.iox2_domain.specs.Ports.{SubscriberFields}
 use Rattle.iox2_domain.specs.Fields.{Fields}
 use Rattle.iox2_domain.specs.Invariant.{IsDomain}
+use Rattle.iox2_domain.proofs.lemmas.containers.ForgottenKeys.{keeps-key}
 use Rattle.iox2_closes.specs.Closes.{LosesIfLeft}
-use Rattle.iox2_closes.proofs.ClosedSubscribers.{vacated-stays}
 use Rattle.iox2_closes.proofs.CloseWalk.{IsClosing, IsLess, closing-more}
 
 -- an expired key below this index
@@ -58,7 +58,7 @@ expired-still count o y at z less k away left = by less left where
   by (inl same) (inl has) = subst (λ (v : SubscriberFields). ExpiredLeft count v k) (sym same) (inl has)
   by (inl same) (inr more) = subst (λ (v : SubscriberFields). ExpiredLeft count v k) (sym same) (inr (more.0, below more.0 more.1 more.2, more.2))
   by (inr gone) (inl has) = subst (λ (v : SubscriberFields). ExpiredLeft count v k) (sym gone.2)
-      (inl (has.0, vacated-stays gone.0 y.keys has.0 k has.1 (λ here. away (gone.1 ∙ ap Some (sym here)))))
+      (inl (has.0, keeps-key gone.0 y.keys has.0 k (λ here. away (gone.1 ∙ ap Some (sym here))) has.1))
   by (inr gone) (inr more) = subst (λ (v : SubscriberFields). ExpiredLeft count v k) (sym gone.2)
       (let earlier = without-earlier gone.0 y.expired more.0 k more.2 (λ here. away (gone.1 ∙ ap Some (sym here))) in
       let low = below more.0 more.1 more.2 in
@@ -77,7 +77,7 @@ keys-still index count o y at z less k away left = (left.0, next, left.2, there 
   there (inl same) = ap (λ (v : SubscriberFields). get_or v.keys left.0 None) same ∙ left.3
   there (inr gone) =
       ap (λ (v : SubscriberFields). get_or v.keys left.0 None) gone.2
-      ∙ vacated-stays gone.0 y.keys left.0 k left.3 (λ here. away (gone.1 ∙ ap Some (sym here)))
+      ∙ keeps-key gone.0 y.keys left.0 k (λ here. away (gone.1 ∙ ap Some (sym here))) left.3
 
 module _ {T U : Type 0} (f : Fields T U) (sound : IsDomain f) (place : ℕ) (y : SubscriberFields) (at_y : get_or f.subscribers place None ≡ Some y) (f' : Fields T U) (o : Option ℕ) where
   -- ---- the expired key before the index

@@ -10,7 +10,7 @@ use Rattle.iox2_store.specs.Link.{Link}
 use Rattle.iox2_ends.specs.Drops.{without_waiting}
 use Rattle.iox2_ends.specs.Finds.{IsReceivers}
 use Rattle.iox2_ends.proofs.MailboxChanges.{within_if_some}
-use Rattle.iox2_domain.specs.Departures.{HasKey, KnowsKey}
+use Rattle.iox2_domain.specs.Departures.{key_forgotten, HasKey, KnowsKey}
 use Rattle.iox2_domain.specs.Ports.{PublisherFields, SubscriberFields, due}
 use Rattle.iox2_domain.specs.Fields.{Fields}
 use Rattle.iox2_domain.specs.Invariant.{IsBookOf, IsDomain}
@@ -19,7 +19,7 @@ use Rattle.iox2_domain.proofs.lemmas.containers.ChangedRecords.{changed-here}
 use Rattle.iox2_domain.proofs.lemmas.creations.PublishersDue.{with_publishers_due}
 use Rattle.iox2_domain.proofs.lemmas.fields.Standing.{some_is}
 use Rattle.iox2_closes.specs.Agreement.{IsOrphan, HasOwnedParts}
-use Rattle.iox2_closes.specs.Closes.{IsDeparted, IsBusy, IsLeftAt, IsStanding, FreesBook, ForgetsIfEmpty, LosesLeft, LosesWaiting, is_empty_link, shut_subscriber, without_key}
+use Rattle.iox2_closes.specs.Closes.{IsDeparted, IsBusy, IsLeftAt, IsStanding, FreesBook, ForgetsIfEmpty, LosesLeft, LosesWaiting, is_empty_link, shut_subscriber}
 use Rattle.iox2_closes.proofs.CloseSteps.{book, stays-busy, forgot-parts, book-left, others-busy, forgets-empty}
 use Rattle.iox2_closes.proofs.CloseWalk.{IsClosing, closing-begins, closing-passes}
 use Rattle.iox2_closes.proofs.CloseKeys.{ExpiredBelow, ExpiredLeft, KeysLeft}
@@ -128,7 +128,7 @@ module _ {T U : Type 0} (f : Fields T U) (parts : HasOwnedParts f) (place key : 
         (ap (λ (d : Link). d.home.subscriber) (sym same-link) ∙ left.is_its ∙ ap (λ (z : SubscriberFields). z.id) same-subscriber) (ap is_empty_link (sym same-link) ∙ some))
 
   module _ (none : is_empty_link left.link ≡ true) (g : Fields T U)
-      (fields : g ≡ record f { subscribers = changed_at (without_key key) f.subscribers place; connections = g.connections })
+      (fields : g ≡ record f { subscribers = changed_at (key_forgotten key) f.subscribers place; connections = g.connections })
       (removed : Updates f.connections g.connections key None) where
     -- the fields without the connection agree
     pub removed-agrees : HasOwnedParts g
@@ -141,7 +141,7 @@ module _ {T U : Type 0} (f : Fields T U) (parts : HasOwnedParts f) (place key : 
         subst (λ (h : Fields T U). IsSomeAnd (get h.books i) (IsOrphan h)) (sym fields) (subst (λ (n : ℕ). IsSomeAnd (get f.books n) (IsOrphan forgot)) (sym is) there)
       where
         forgot : Fields T U
-        forgot = record f { subscribers = changed_at (without_key key) f.subscribers place; connections = g.connections }
+        forgot = record f { subscribers = changed_at (key_forgotten key) f.subscribers place; connections = g.connections }
 
         its : IsBookOf f.books (left.link).home.publisher (left.link).home.book
         its = book f parts key left.link left.link_stands

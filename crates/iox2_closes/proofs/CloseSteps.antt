@@ -24,6 +24,7 @@ use Rattle.iox2_ends.proofs.Counts.{stands-own, times-cons, one_if_same}
 use Rattle.iox2_ends.proofs.DropSteps.{drops-recounts, drops-boxes}
 use Rattle.iox2_ends.proofs.LookUps.{look_up-found, look_up-nothing}
 use Rattle.iox2_ends.proofs.MailboxChanges.{within_if_some, mailbox-there, Updates-with_value}
+use Rattle.iox2_domain.specs.Departures.{key_forgotten}
 use Rattle.iox2_domain.specs.Ports.{PublisherFields, SubscriberFields}
 use Rattle.iox2_domain.specs.Kept.{Named, state_of, is_named}
 use Rattle.iox2_domain.specs.Fields.{Fields, kept_of, publisher_of, subscriber_of, is_book_of, numbers_of}
@@ -35,7 +36,7 @@ use Rattle.iox2_domain.proofs.lemmas.fields.Views.{mailboxes-are}
 use Rattle.iox2_domain.proofs.lemmas.fields.Standing.{some_is}
 use Rattle.iox2_domain.proofs.lemmas.slots.BookChanges.{book-others}
 use Rattle.iox2_closes.specs.Agreement.{IsOrphan, HasOwnedParts}
-use Rattle.iox2_closes.specs.Closes.{IsEmptyLink, IsDeparted, IsBusy, LosesWaiting, FreesBook, ForgetsIfEmpty, is_empty_link, lost_from, forgotten_if_empty, without_key, without_publisher}
+use Rattle.iox2_closes.specs.Closes.{IsEmptyLink, IsDeparted, IsBusy, LosesWaiting, FreesBook, ForgetsIfEmpty, is_empty_link, lost_from, forgotten_if_empty, without_publisher}
 use Rattle.iox2_closes.proofs.ClosedSubscribers.{with_forgetful, forgetful-parts, forgetful-is}
 use Rattle.iox2_closes.proofs.KeptMessages.{keeps-same, keeps-trans}
 use Rattle.iox2_closes.proofs.LeftRecounts.{with_fewer, fewer-parts, fewer-is, fewer-keeps}
@@ -232,13 +233,13 @@ module _ {T U : Type 0} (f : Fields T U) (parts : HasOwnedParts f) where
 
           -- the fields without it
           abbrev pub forgot : Fields T U
-          forgot = record f { subscribers = changed_at (without_key key) f.subscribers place; connections = connections }
+          forgot = record f { subscribers = changed_at (key_forgotten key) f.subscribers place; connections = connections }
 
           abbrev forgot_it : Fields T U
           forgot_it = with_forgetful f parts place y at_y key c at its empty unsent connections removed
 
           forgot-is : forgot_it ≡ forgot
-          forgot-is = λ i. record f { subscribers = slice_set f.subscribers place (option_map (without_key key) (sym at_y i)); connections = connections }
+          forgot-is = λ i. record f { subscribers = slice_set f.subscribers place (option_map (key_forgotten key) (sym at_y i)); connections = connections }
 
           pub forgot-parts : HasOwnedParts forgot
           forgot-parts = subst HasOwnedParts forgot-is (forgetful-parts f parts place y at_y key c at its empty unsent connections removed)
@@ -284,10 +285,10 @@ module _ {T U : Type 0} (f : Fields T U) (parts : HasOwnedParts f) where
             publishers = frees.publishers;
             next_port = frees.next_port;
             subscriber = (
-              without_key key y,
+              key_forgotten key y,
               ap (λ (zs : List (Option SubscriberFields)). get_or zs place None) frees.subscribers
                   ∙ sym (ap (λ (g : Fields T U). get_or g.subscribers place None) forgot-is)
-                  ∙ changed-here f.subscribers place y (without_key key y) at_y,
+                  ∙ changed-here f.subscribers place y (key_forgotten key y) at_y,
               inr refl,
             );
             others = λ k away. ap (λ (s : Slab Link). get s k) frees.connections ∙ removed.others k away;

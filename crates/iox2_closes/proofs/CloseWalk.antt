@@ -17,7 +17,7 @@ use Rattle.iox2_laws.proofs.PlaceLemmas.{contains-occupants}
 use Rattle.iox2_laws.proofs.Puts.{put_at-same}
 use Rattle.iox2_ends.specs.Drops.{without_waiting}
 use Rattle.iox2_ends.specs.Mailboxes.{publisher_of_key, receiver_ends}
-use Rattle.iox2_domain.specs.Departures.{KnowsKey}
+use Rattle.iox2_domain.specs.Departures.{key_forgotten, KnowsKey}
 use Rattle.iox2_domain.specs.Ports.{PublisherFields, SubscriberFields}
 use Rattle.iox2_domain.specs.Kept.{state_of}
 use Rattle.iox2_domain.specs.Fields.{Fields, kept_of, subscriber_of}
@@ -26,7 +26,7 @@ use Rattle.iox2_domain.proofs.lemmas.containers.ChangedRecords.{changed-here}
 use Rattle.iox2_domain.proofs.lemmas.fields.OwnKeys.{known, listed-at}
 use Rattle.iox2_domain.proofs.lemmas.fields.Standing.{occupant-receiver_ends}
 use Rattle.iox2_closes.specs.Agreement.{IsOrphan, HasOwnedParts, KeepsMessages}
-use Rattle.iox2_closes.specs.Closes.{IsDeparted, IsBusy, LosesWaiting, ForgetsIfEmpty, LosesLeft, LosesIfLeft, is_empty_link, lost_from, forgotten_if_empty, without_key, without_publisher}
+use Rattle.iox2_closes.specs.Closes.{IsDeparted, IsBusy, LosesWaiting, ForgetsIfEmpty, LosesLeft, LosesIfLeft, is_empty_link, lost_from, forgotten_if_empty, without_publisher}
 use Rattle.iox2_closes.proofs.OwnedParts.{owned_parts_of, left-held}
 use Rattle.iox2_closes.proofs.ClosedSubscribers.{shut, with_shut, shut-parts, shut-is}
 use Rattle.iox2_closes.proofs.KeptMessages.{keeps-trans}
@@ -77,7 +77,7 @@ module _ {T U : Type 0} (f : Fields T U) (sound : IsDomain f) where
 
 -- the subscriber, or without the key that is there
 abbrev pub IsLess : Option ℕ → SubscriberFields → SubscriberFields → Type 0
-IsLess o y z = (z ≡ y) ⊎ ((key : ℕ) × (o ≡ Some key) × (z ≡ without_key key y))
+IsLess o y z = (z ≡ y) ⊎ ((key : ℕ) × (o ≡ Some key) × (z ≡ key_forgotten key y))
 
 module _ {T U : Type 0} (f : Fields T U) (sound : IsDomain f) (place : ℕ) (y : SubscriberFields) (at_y : get_or f.subscribers place None ≡ Some y) where
   abbrev port : Subscriber
@@ -174,8 +174,8 @@ module _ {T U : Type 0} (f : Fields T U) (sound : IsDomain f) (place : ℕ) (y :
       departed-then = subst (λ (xs : List (Option PublisherFields)). IsDeparted xs c) so_far.publishers (loses_left.left).departed
 
       -- the subscriber then
-      now : (forgets.subscriber.0 ≡ so_far.subscriber.0) ⊎ (forgets.subscriber.0 ≡ without_key key so_far.subscriber.0)
-      now = elim forgets.subscriber.2 [ inl is ↦ inl (is ∙ same) | inr is ↦ inr (is ∙ ap (without_key key) same) ]
+      now : (forgets.subscriber.0 ≡ so_far.subscriber.0) ⊎ (forgets.subscriber.0 ≡ key_forgotten key so_far.subscriber.0)
+      now = elim forgets.subscriber.2 [ inl is ↦ inl (is ∙ same) | inr is ↦ inr (is ∙ ap (key_forgotten key) same) ]
 
       was : (k : ℕ) (d : Link) → k ≢ key → get next.connections k ≡ Some d → get f'.connections k ≡ Some d
       was k d away at_d = sym (loses.connection.others k away) ∙ sym (forgets.others k away) ∙ at_d

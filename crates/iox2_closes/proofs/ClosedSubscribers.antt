@@ -24,7 +24,8 @@ use Rattle.iox2_domain.proofs.lemmas.containers.ChangedRecords.{changed-here, ch
 use Rattle.iox2_domain.proofs.lemmas.creations.PublishersDue.{with_publishers_due}
 use Rattle.iox2_closes.specs.Closes.{IsEmptyLink}
 use Rattle.iox2_closes.specs.Agreement.{HasOwnedParts}
-use Rattle.iox2_domain.proofs.lemmas.fields.OwnKeys.{listed-at}
+use Rattle.iox2_domain.proofs.lemmas.containers.ForgottenKeys.{kept-key, keeps-key, kept-expired, keeps-expired}
+use Rattle.iox2_domain.proofs.lemmas.fields.OwnKeys.{listed-at, listed-has}
 use Rattle.iox2_domain.proofs.lemmas.fields.Standing.{some_is}
 use Rattle.iox2_closes.proofs.ForgottenKeys.{ForgetsSenderKeys, ForgetsReceiverKeys, IsForgotten, Forgets, forgotten, forgotten-parts}
 use Rattle.iox2_closes.proofs.ForgottenStates.{forgotten-is}
@@ -32,60 +33,12 @@ use Rattle.iox2_domain.proofs.lemmas.fields.OpenReceivers.{open-changed, open-st
 use Rattle.iox2_domain.specs.OpenMarks.{IsUnmarkedReceiver}
 use mathlib.Core.Path.{fun_ext}
 
--- ---- lists without a key
-
--- what stands in a changed list
-get_or-map : (g : Option ℕ → Option ℕ) → g None ≡ None → (xs : List (Option ℕ)) (i : ℕ) → get_or (map g xs) i None ≡ g (get_or xs i None)
-get_or-map g none [] zero = sym none
-get_or-map g none [] (suc i) = sym none
-get_or-map g none (x ∷ xs) zero = refl
-get_or-map g none (x ∷ xs) (suc i) = get_or-map g none xs i
-
--- a key that is left stood there before, and is another
-pub vacated-left : (key : ℕ) (xs : List (Option ℕ)) (i k : ℕ) → get_or (vacated key xs) i None ≡ Some k → (get_or xs i None ≡ Some k) × (k ≢ key)
-vacated-left key xs i k at = by (get_or xs i None) refl (sym (get_or-map (λ x. cond (is_port x key) None x) refl xs i) ∙ at) where
-  by : (o : Option ℕ) → get_or xs i None ≡ o → cond (is_port o key) None o ≡ Some k → (get_or xs i None ≡ Some k) × (k ≢ key)
-  by None e h = absurd cc
-  by (Some n) e h = own (eqb n key) refl h where
-    own : (b : Bool) → eqb n key ≡ b → cond b None (Some n) ≡ Some k → (get_or xs i None ≡ Some k) × (k ≢ key)
-    own true same h = absurd cc
-    own false away h =
-        let is : n ≡ k = cc in
-        (e ∙ h, λ here. let no : eqb n key ≡ true = eq-eqb n key (is ∙ here) in let clash : false ≡ true = sym away ∙ no in absurd cc)
-
--- another key is left
-pub vacated-stays : (key : ℕ) (xs : List (Option ℕ)) (i k : ℕ) → get_or xs i None ≡ Some k → k ≢ key → get_or (vacated key xs) i None ≡ Some k
-vacated-stays key xs i k at away =
-    get_or-map (λ x. cond (is_port x key) None x) refl xs i
-    ∙ ap (λ (o : Option ℕ). cond (is_port o key) None o) at
-    ∙ ap (λ (b : Bool). cond b None (Some k)) (ne_eqb k key away)
-
--- so is another number of a list
-pub without-left : (key : ℕ) (xs : List ℕ) (k : ℕ) → Contains (without key xs) k → Contains xs k × (k ≢ key)
-without-left key [] k has = absurd (omega (arith, has.1))
-without-left key (x ∷ xs) k has = by (eqb x key) refl has (λ rest. without-left key xs k rest) where
-  later : Contains xs k × (k ≢ key) → Contains (x ∷ xs) k × (k ≢ key)
-  later old = ((suc old.0.0, omega (arith, old.0.1), old.0.2), old.1)
-
-  at : eqb x key ≡ false → (Contains (without key xs) k → Contains xs k × (k ≢ key)) → (i : ℕ) → i < length (x ∷ without key xs) → get_or (x ∷ without key xs) i k ≡ k
-      → Contains (x ∷ xs) k × (k ≢ key)
-  at away old zero lt is = ((zero, omega arith, is), λ here. let no : eqb x key ≡ true = eq-eqb x key (is ∙ here) in let clash : false ≡ true = sym away ∙ no in absurd cc)
-  at away old (suc i) lt is = later (old (i, omega arith, is))
-
-  by : (b : Bool) → eqb x key ≡ b → Contains (cond (not b) (x ∷ without key xs) (without key xs)) k → (Contains (without key xs) k → Contains xs k × (k ≢ key))
-      → Contains (x ∷ xs) k × (k ≢ key)
-  by true same rest old = later (old rest)
-  by false away rest old = at away old rest.0 rest.1 rest.2
-
-pub without-stays : (key : ℕ) (xs : List ℕ) (k : ℕ) → Contains xs k → k ≢ key → Contains (without key xs) k
-without-stays key [] k has away = absurd (omega (arith, has.1))
-without-stays key (x ∷ xs) k has away = by (eqb x key) refl has.0 has.1 has.2 (λ later. without-stays key xs k later away) where
-  by : (b : Bool) → eqb x key ≡ b → (i : ℕ) → i < length (x ∷ xs) → get_or (x ∷ xs) i k ≡ k → (Contains xs k → Contains (without key xs) k)
-      → Contains (cond (not b) (x ∷ without key xs) (without key xs)) k
-  by true same zero lt is later = absurd (away (sym is ∙ eqb-true x key same))
-  by true same (suc i) lt is later = later (i, omega arith, is)
-  by false other zero lt is later = (zero, omega arith, is)
-  by false other (suc i) lt is later = let rest = later (i, omega arith, is) in (suc rest.0, omega (arith, rest.1), rest.2)
+-- a number that is left was in the list, and is another one
+without-left : (key : ℕ) (xs : List ℕ) (k : ℕ) → Contains (without key xs) k → Contains xs k × (k ≢ key)
+without-left key xs k has =
+    let there = listed-at (without key xs) k has in
+    let was = kept-expired key xs there.0 k there.1 in
+    (listed-has xs was.1 k was.2, was.0)
 
 -- ---- publishers become due
 
@@ -227,7 +180,7 @@ module _ {T U : Type 0} (f : Fields T U) (parts : HasOwnedParts f) (j : ℕ) (y 
     forgetful-receiver : ForgetsReceiverKeys y forgetful
     forgetful-receiver = record {
       fields = refl;
-      keys = λ i k at_k. (vacated-left key y.keys i k at_k).0;
+      keys = λ i k at_k. (kept-key key y.keys i k at_k).1;
       expired = λ k has. inl (without-left key y.expired k has).0;
     }
 
@@ -250,7 +203,7 @@ module _ {T U : Type 0} (f : Fields T U) (parts : HasOwnedParts f) (j : ℕ) (y 
 
         none : has.subscriber ≡ forgetful → (get_or has.subscriber.keys c.home.publisher_place None ≡ Some key) ⊎ Contains has.subscriber.expired key → ⊥
         none is (inl placed) =
-            (vacated-left key y.keys c.home.publisher_place key (sym (ap (λ (z : SubscriberFields). get_or z.keys c.home.publisher_place None) is) ∙ placed)).1 refl
+            (kept-key key y.keys c.home.publisher_place key (sym (ap (λ (z : SubscriberFields). get_or z.keys c.home.publisher_place None) is) ∙ placed)).0 refl
         none is (inr among) = (without-left key y.expired key (subst (λ (z : SubscriberFields). Contains z.expired key) is among)).1 refl
 
     still-has : (k : ℕ) (d : Link) → k ≢ key → ReceiverHas f.subscribers k d → ReceiverHas forgetful_subscribers k d
@@ -266,8 +219,8 @@ module _ {T U : Type 0} (f : Fields T U) (parts : HasOwnedParts f) (j : ℕ) (y 
       left : has.subscriber ≡ y → (get_or has.subscriber.keys d.home.publisher_place None ≡ Some k) ⊎ Contains has.subscriber.expired k
           → (get_or (vacated key y.keys) d.home.publisher_place None ≡ Some k) ⊎ Contains (without key y.expired) k
       left is (inl placed) =
-          inl (vacated-stays key y.keys d.home.publisher_place k (sym (ap (λ (z : SubscriberFields). get_or z.keys d.home.publisher_place None) is) ∙ placed) away)
-      left is (inr among) = inr (without-stays key y.expired k (subst (λ (z : SubscriberFields). Contains z.expired k) is among) away)
+          inl (keeps-key key y.keys d.home.publisher_place k away (sym (ap (λ (z : SubscriberFields). get_or z.keys d.home.publisher_place None) is) ∙ placed))
+      left is (inr among) = inr (keeps-expired key y.expired k away (subst (λ (z : SubscriberFields). Contains z.expired k) is among))
 
     left-before : (k : ℕ) (d : Link) → get connections k ≡ Some d → get f.connections k ≡ Some d
     left-before k d at_d = sym (removed.others k (left-elsewhere k d at_d)) ∙ at_d

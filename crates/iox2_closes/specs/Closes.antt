@@ -13,6 +13,7 @@ use Rattle.iox2_store.specs.machine.State.{State, with_mailbox, subscriber_chang
 use Rattle.iox2_store.specs.declared.connection.Home.{Home}
 use Rattle.iox2_ends.specs.Counters.{stands_in}
 use Rattle.iox2_ends.specs.Drops.{without_waiting}
+use Rattle.iox2_domain.specs.Departures.{key_forgotten}
 use Rattle.iox2_domain.specs.Ports.{PublisherFields, SubscriberFields}
 use Rattle.iox2_domain.specs.Kept.{state_of}
 use Rattle.iox2_domain.specs.Fields.{Fields, kept_of}
@@ -24,10 +25,6 @@ use Rattle.iox2_closes.specs.Agreement.{Passes}
 -- The subscriber, which takes no messages any more.
 abbrev pub shut_subscriber : SubscriberFields → SubscriberFields
 shut_subscriber y = record y { is_open = false }
-
--- The subscriber without the key of a connection.
-abbrev pub without_key : (key : ℕ) → SubscriberFields → SubscriberFields
-without_key key y = record y { keys = vacated key y.keys; expired = without key y.expired }
 
 -- The machine's subscriber without the publisher p.
 abbrev pub without_publisher : (p : ℕ) → Subscriber → Subscriber
@@ -101,7 +98,7 @@ module _ {T U : Type 0} where
     pub passes : Passes f f' (forgotten_if_empty (state_of (kept_of f)) c.home.publisher c.home.subscriber)
     pub publishers : f'.publishers ≡ f.publishers
     pub next_port : f'.next_port ≡ f.next_port
-    pub subscriber : (z : SubscriberFields) × (slice_index_or f'.subscribers place None ≡ Some z) × ((z ≡ y) ⊎ (z ≡ without_key key y))
+    pub subscriber : (z : SubscriberFields) × (slice_index_or f'.subscribers place None ≡ Some z) × ((z ≡ y) ⊎ (z ≡ key_forgotten key y))
     pub others : (k : ℕ) → k ≢ key → get f'.connections k ≡ get f.connections k
     pub left : (d : Link) → get f'.connections key ≡ Some d → (d ≡ c) × IsBusy c
     pub books : (k : ℕ) → k ≢ c.home.book → get f'.books k ≡ get f.books k

@@ -1,10 +1,11 @@
 -- What a subscriber forgets, and where a port that leaves stood.
-use Rattle.std.specs.Prelude.{◌≡◌, ◌⊎◌, ℕ, ◌==◌, true, cond, List, [], map, slice_index_or}
+use Rattle.std.specs.Prelude.{◌≡◌, ◌⊎◌, ℕ, true, List, [], map, slice_index_or}
 use Rattle.std.specs.declared.option.Option.{Option}
 use Rattle.std.specs.declared.option.Option.TheVariants.{None, Some}
 use Rattle.slab.specs.Slab.{Slab, get}
 use Rattle.iox2_store.specs.Link.{Link, has_borrowed_slots}
 use Rattle.iox2_store.specs.machine.Numbers.{without}
+use Rattle.iox2_store.specs.machine.Places.{vacated}
 use Rattle.iox2_domain.specs.Invariant.{SenderHas}
 use Rattle.iox2_domain.specs.Ports.{PublisherFields, SubscriberFields}
 
@@ -16,14 +17,9 @@ HasKey keys key = (i : ℕ) × (slice_index_or keys i None ≡ Some key)
 abbrev pub KnowsKey : SubscriberFields → (key : ℕ) → Type 0
 KnowsKey y key = HasKey y.keys key ⊎ HasKey (map Some y.expired) key
 
--- The key, if it is another one.
-abbrev pub other_key : (key : ℕ) → Option ℕ → Option ℕ
-other_key key None = None
-other_key key (Some k) = cond (k == key) None (Some k)
-
 -- The subscriber without the connection at the key.
-abbrev pub forgotten : (key : ℕ) → SubscriberFields → SubscriberFields
-forgotten key y = record y { keys = map (other_key key) y.keys; expired = without key y.expired }
+abbrev pub key_forgotten : (key : ℕ) → SubscriberFields → SubscriberFields
+key_forgotten key y = record y { keys = vacated key y.keys; expired = without key y.expired }
 
 -- The connection at the key is the subscriber q's alone: its publisher doesn't have it.
 pub record IsUnshared (publishers : List (Option PublisherFields)) (q key : ℕ) (c : Link) : Type 0 where

@@ -1,7 +1,8 @@
 //! What a domain has of a subscriber.
-ghost use Rattle.std.specs.Prelude.{◌≡◌, ◌<◌, ◌≤◌, ℕ, None, Some, length, map, slice_index_or, vec_capacity, OnOk};
+ghost use Rattle.std.specs.Prelude.{◌≡◌, ◌<◌, ◌≤◌, ℕ, None, Some, length, slice_index_or, vec_capacity, OnOk};
 ghost use Rattle.iox2_store.specs.machine.Numbers.{without};
-ghost use Rattle.iox2_domain.specs.Departures.{forgotten, other_key};
+ghost use Rattle.iox2_store.specs.machine.Places.{vacated};
+ghost use Rattle.iox2_domain.specs.Departures.{key_forgotten};
 ghost use Rattle.iox2_domain.specs.Ports.{SubscriberFields};
 ghost use Rattle.iox2_domain.specs.ReceiverSteps.{with_expired, replacing_expired};
 ghost use Rattle.iox2_domain.specs.Updates.{changed_at, is_open_subscriber, with_receiver_rooms, receiver_room, expired_room_at};
@@ -72,7 +73,7 @@ impl Receiver for SubscriberState {
 }
 
 impl SubscriberState {
-    ghost use Rattle.iox2_domain.specs.Departures.{forgotten};
+    ghost use Rattle.iox2_domain.specs.Departures.{key_forgotten};
     ghost use Rattle.iox2_domain.specs.Ports.{entering};
 
     /// A subscriber that enters at a place.
@@ -108,7 +109,7 @@ impl SubscriberState {
     /// ones.
     pub fn forget(&mut self, place: usize, key: usize)
         requires { (i : ℕ) → slice_index_or self.old.keys i None ≡ Some key → i ≡ place }
-        ensures { self.new ≡ forgotten key self.old }
+        ensures { self.new ≡ key_forgotten key self.old }
     {
         clear_key(&mut self.keys, place, key);
         remove_key(&mut self.expired, key);
@@ -118,7 +119,7 @@ impl SubscriberState {
 // The key at a place goes, if it is this one.
 fn clear_key(keys: &mut [Option<usize>], place: usize, key: usize)
     requires { (i : ℕ) → slice_index_or keys.old i None ≡ Some key → i ≡ place }
-    ensures { keys.new ≡ map (other_key key) keys.old }
+    ensures { keys.new ≡ vacated key keys.old }
 {
     if key_in(keys, place) == Some(key) {
         keys[place] = None;
@@ -143,7 +144,7 @@ pub fn forget_at(
 )
     requires stands { place < length subscribers.old }
     requires only { (y : SubscriberFields) → slice_index_or subscribers.old place None ≡ Some y → (i : ℕ) → slice_index_or y.keys i None ≡ Some key → i ≡ other }
-    ensures { subscribers.new ≡ changed_at (forgotten key) subscribers.old place }
+    ensures { subscribers.new ≡ changed_at (key_forgotten key) subscribers.old place }
 {
     if let Some(subscriber) = &mut subscribers[place] {
         subscriber.forget(other, key);

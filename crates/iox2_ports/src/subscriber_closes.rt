@@ -4,7 +4,7 @@ ghost use Rattle.slab.specs.Slab.{Updates, ContainsKey, get};
 ghost use Rattle.iox2_store.specs.Link.{Link};
 ghost use Rattle.iox2_store.specs.machine.Places.{is_port, vacated};
 ghost use Rattle.iox2_store.specs.machine.Ports.{subscriber_closed};
-ghost use Rattle.iox2_domain.specs.Departures.{KnowsKey};
+ghost use Rattle.iox2_domain.specs.Departures.{key_forgotten, KnowsKey};
 ghost use Rattle.iox2_domain.specs.Ports.{SubscriberFields};
 ghost use Rattle.iox2_domain.specs.Kept.{state_of};
 ghost use Rattle.iox2_domain.specs.Fields.{kept_of, subscriber_of};
@@ -13,7 +13,7 @@ ghost use Rattle.iox2_domain.specs.OpenMarks.{IsUnmarkedReceiver};
 ghost use Rattle.iox2_domain.specs.Reaches.{Reaches};
 ghost use Rattle.iox2_domain.specs.Updates.{changed_at};
 ghost use Rattle.iox2_closes.specs.Agreement.{HasOwnedParts, IsOrphan};
-ghost use Rattle.iox2_closes.specs.Closes.{shut_subscriber, without_key, is_empty_link, IsDeparted, IsBusy, IsLeftAt, IsStanding, LosesWaiting, FreesBook, ForgetsIfEmpty, LosesIfLeft};
+ghost use Rattle.iox2_closes.specs.Closes.{shut_subscriber, is_empty_link, IsDeparted, IsBusy, IsLeftAt, IsStanding, LosesWaiting, FreesBook, ForgetsIfEmpty, LosesIfLeft};
 
 use crate::departures::leave_if_unused;
 use iox2_domain::{DomainState, SubscriberState, key_at, make_all_due, stands_at};
@@ -104,7 +104,7 @@ fn clear_key(keys: &mut [Option<usize>], key: usize)
 
 // A subscriber forgets a connection.
 fn forget_key(subscriber: &mut SubscriberState, key: usize)
-    ensures { subscriber.new ≡ without_key key subscriber.old }
+    ensures { subscriber.new ≡ key_forgotten key subscriber.old }
 {
     clear_key(&mut subscriber.keys, key);
     subscriber.expired.retain(|other| *other != key);
@@ -118,7 +118,7 @@ fn remove_connection<T: Drop, U: Default + Drop>(
 )
     requires stands { place < length state.old.subscribers }
     requires connection { ContainsKey state.old.connections key }
-    ensures fields { state.new ≡ record state.old { subscribers = changed_at (without_key key) state.old.subscribers place; connections = state.new.connections } }
+    ensures fields { state.new ≡ record state.old { subscribers = changed_at (key_forgotten key) state.old.subscribers place; connections = state.new.connections } }
     ensures removed { Updates state.old.connections state.new.connections key None }
 {
     let _ = state.connections.remove(key);

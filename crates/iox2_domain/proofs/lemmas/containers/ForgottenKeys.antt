@@ -3,13 +3,13 @@ use Rattle.std.proofs.Common.{◌≡◌, ◌≢◌, ℕ, zero, suc, Bool, true, 
 use Rattle.std.proofs.lemmas.Bool.{eqb-true, eq-eqb, ne_eqb}
 use Rattle.std.proofs.lemmas.Map.Views.{Contains-from_any}
 use Rattle.iox2_store.specs.machine.Numbers.{without}
+use Rattle.iox2_store.specs.machine.Places.{is_port, vacated}
 use Rattle.iox2_store.proofs.LinkLemmas.{contains-from}
 use Rattle.iox2_laws.proofs.FilterLemmas.{contains-filter}
-use Rattle.iox2_domain.specs.Departures.{other_key}
 
 module _ (key : ℕ) where
   -- a key that is left is another one, and was there
-  pub kept-key : (keys : List (Option ℕ)) (i k : ℕ) → get_or (map (other_key key) keys) i None ≡ Some k → (k ≢ key) × (get_or keys i None ≡ Some k)
+  pub kept-key : (keys : List (Option ℕ)) (i k : ℕ) → get_or (vacated key keys) i None ≡ Some k → (k ≢ key) × (get_or keys i None ≡ Some k)
   kept-key [] zero k e = absurd cc
   kept-key [] (suc i) k e = absurd cc
   kept-key (None ∷ keys) zero k e = absurd cc
@@ -23,10 +23,10 @@ module _ (key : ℕ) where
   kept-key (x ∷ keys) (suc i) k e = kept-key keys i k e
 
   -- another key is left
-  pub keeps-key : (keys : List (Option ℕ)) (i k : ℕ) → k ≢ key → get_or keys i None ≡ Some k → get_or (map (other_key key) keys) i None ≡ Some k
+  pub keeps-key : (keys : List (Option ℕ)) (i k : ℕ) → k ≢ key → get_or keys i None ≡ Some k → get_or (vacated key keys) i None ≡ Some k
   keeps-key [] zero k away e = absurd cc
   keeps-key [] (suc i) k away e = absurd cc
-  keeps-key (x ∷ keys) zero k away e = ap (other_key key) e ∙ ap (λ b. cond b None (Some k)) (ne_eqb k key away)
+  keeps-key (x ∷ keys) zero k away e = ap (λ o. cond (is_port o key) None o) e ∙ ap (λ b. cond b None (Some k)) (ne_eqb k key away)
   keeps-key (x ∷ keys) (suc i) k away e = keeps-key keys i k away e
 
   -- the same of a list of keys
@@ -52,25 +52,25 @@ module _ (key : ℕ) where
   -- ---- a key that is cleared at its place
 
   -- where it stands nowhere all keys stay
-  pub not-there : (keys : List (Option ℕ)) → ((i : ℕ) → get_or keys i None ≡ Some key → ⊥) → keys ≡ map (other_key key) keys
+  pub not-there : (keys : List (Option ℕ)) → ((i : ℕ) → get_or keys i None ≡ Some key → ⊥) → keys ≡ vacated key keys
   not-there [] none = refl
   not-there (None ∷ keys) none = ap (λ (xs : List (Option ℕ)). None ∷ xs) (not-there keys (λ i at. none (suc i) at))
   not-there (Some k ∷ keys) none = by (eqb k key) refl (not-there keys (λ i at. none (suc i) at)) where
-    by : (b : Bool) → eqb k key ≡ b → keys ≡ map (other_key key) keys → Some k ∷ keys ≡ cond b None (Some k) ∷ map (other_key key) keys
+    by : (b : Bool) → eqb k key ≡ b → keys ≡ vacated key keys → Some k ∷ keys ≡ cond b None (Some k) ∷ vacated key keys
     by true same later = absurd (none zero (ap Some (eqb-true k key same)))
     by false apart later = ap (λ (xs : List (Option ℕ)). Some k ∷ xs) later
 
   -- where it stands at one place alone that is cleared
-  pub cleared-at : (keys : List (Option ℕ)) (place : ℕ) → get_or keys place None ≡ Some key → ((i : ℕ) → get_or keys i None ≡ Some key → i ≡ place) → slice_set keys place None ≡ map (other_key key) keys
+  pub cleared-at : (keys : List (Option ℕ)) (place : ℕ) → get_or keys place None ≡ Some key → ((i : ℕ) → get_or keys i None ≡ Some key → i ≡ place) → slice_set keys place None ≡ vacated key keys
   cleared-at [] zero at only = refl
   cleared-at [] (suc place) at only = refl
   cleared-at (x ∷ keys) zero at only =
       ap (λ (xs : List (Option ℕ)). None ∷ xs) (not-there keys (λ i at_i. let no : suc i ≡ zero = only (suc i) at_i in absurd cc))
-      ∙ ap (λ b. cond b None (Some key) ∷ map (other_key key) keys) (sym (eq-eqb key key refl))
-      ∙ ap (λ o. other_key key o ∷ map (other_key key) keys) (sym at)
+      ∙ ap (λ b. cond b None (Some key) ∷ vacated key keys) (sym (eq-eqb key key refl))
+      ∙ ap (λ o. cond (is_port o key) None o ∷ vacated key keys) (sym at)
   cleared-at (None ∷ keys) (suc place) at only =
       ap (λ (xs : List (Option ℕ)). None ∷ xs) (cleared-at keys place at (λ i at_i. let e : suc i ≡ suc place = only (suc i) at_i in omega (arith, e)))
   cleared-at (Some k ∷ keys) (suc place) at only = by (eqb k key) refl (cleared-at keys place at (λ i at_i. let e : suc i ≡ suc place = only (suc i) at_i in omega (arith, e))) where
-    by : (b : Bool) → eqb k key ≡ b → slice_set keys place None ≡ map (other_key key) keys → Some k ∷ slice_set keys place None ≡ cond b None (Some k) ∷ map (other_key key) keys
+    by : (b : Bool) → eqb k key ≡ b → slice_set keys place None ≡ vacated key keys → Some k ∷ slice_set keys place None ≡ cond b None (Some k) ∷ vacated key keys
     by true same later = let no : zero ≡ suc place = only zero (ap Some (eqb-true k key same)) in absurd cc
     by false apart later = ap (λ (xs : List (Option ℕ)). Some k ∷ xs) later

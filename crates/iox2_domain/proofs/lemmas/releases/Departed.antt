@@ -15,7 +15,7 @@ use Rattle.iox2_ends.specs.LookUp.{look_up}
 use Rattle.iox2_ends.specs.Mailboxes.{publisher_of_key, mailbox_of}
 use Rattle.iox2_ends.proofs.LookUps.{look_up-none}
 use Rattle.iox2_ends.proofs.MailboxChanges.{is_between-own, mailbox-there}
-use Rattle.iox2_domain.specs.Departures.{forgotten}
+use Rattle.iox2_domain.specs.Departures.{key_forgotten}
 use Rattle.iox2_domain.specs.Fields.{Fields, kept_of, numbers_of, publisher_of, subscriber_of}
 use Rattle.iox2_domain.specs.Invariant.{SenderHas, is_publisher, HasParts}
 use Rattle.iox2_domain.specs.Kept.{Named, state_of, is_named}
@@ -101,13 +101,13 @@ module _ {T U : Type 0} (s : State T U) (well : IsWellFormed s) (n : ℕ) (g : F
   leads-there : publisher_of_key g.connections (Some key) ≡ Some c.home.publisher
   leads-there = ap (option_map (λ (x : Link). x.home.publisher)) at_c
 
-  pruned-port : (subscriber_of g.books g.connections (forgotten key y)).port ≡ pruned after y.id port
+  pruned-port : (subscriber_of g.books g.connections (key_forgotten key y)).port ≡ pruned after y.id port
   pruned-port = λ i. record port {
     ends = ends-forgotten g.connections key c.home.publisher leads-there test test-gone y.keys ends-pass i;
     expired = expired-forgotten g.connections key c.home.publisher leads-there test test-gone y.expired expired-pass i;
   }
 
-  pruned-state : record after { subscribers = put_at after.subscribers y.id (Some ((subscriber_of g.books g.connections (forgotten key y)).port)) } ≡ subscriber_pruned after y.id
+  pruned-state : record after { subscribers = put_at after.subscribers y.id (Some ((subscriber_of g.books g.connections (key_forgotten key y)).port)) } ≡ subscriber_pruned after y.id
   pruned-state =
       ap (λ (o : Option Subscriber). let t : State T U = record after { subscribers = put_at after.subscribers y.id o } in t)
       (ap Some pruned-port ∙ ap (option_map (pruned after y.id)) (sym here))
@@ -129,7 +129,7 @@ some-numbers number (x ∷ waiting) borrowed returned none full = refl
 module _ {T U : Type 0} (s : State T U) (well : IsWellFormed s) (n : ℕ) (g : Fields T U) (parts : HasParts g) (j : ℕ) (y : SubscriberFields) (at_y : get_or g.subscribers j None ≡ Some y)
     (key : ℕ) (c : Link) (at_c : get g.connections key ≡ Some c) (mine : c.home.subscriber ≡ y.id) (full : load c ≡ 0 → ⊥)
     (gone : look_up (is_publisher c.home.publisher) g.publishers ≡ None) where
-  -- a departed publisher of which something is left isn't forgotten
+  -- a departed publisher of which something is left isn't key_forgotten
   pub left-midway : (old : Fields T U) (book : ℕ) → IsMidway old g (unborrowed s c.home.publisher y.id n) book → IsMidway old g (subscriber_pruned (unborrowed s c.home.publisher y.id n) y.id) book
   left-midway old book midway =
       subst (λ (t : State T U). IsMidway old g t book)

@@ -10,7 +10,7 @@ use Rattle.iox2_store.specs.machine.State.{State}
 use Rattle.iox2_store.specs.machine.WellFormed.{IsWellFormed}
 use Rattle.iox2_ends.specs.LookUp.{look_up}
 use Rattle.iox2_ends.proofs.MailboxChanges.{within_if_some}
-use Rattle.iox2_domain.specs.Departures.{forgotten}
+use Rattle.iox2_domain.specs.Departures.{key_forgotten}
 use Rattle.iox2_domain.specs.Fields.{Fields}
 use Rattle.iox2_domain.specs.Invariant.{is_publisher, HasParts}
 use Rattle.iox2_domain.specs.Midway.{IsMidway}
@@ -28,9 +28,9 @@ abbrev pub PrunesMidway : {T U : Type 0} → Fields T U → Home → Fields T U 
 PrunesMidway {T} {U} f home new = (before : Fields T U) (s : State T U) (n book : ℕ) → IsWellFormed s → IsMidway before f (unborrowed s home.publisher home.subscriber n) book
     → IsMidway before new (subscriber_pruned (unborrowed s home.publisher home.subscriber n) home.subscriber) book
 
--- the fields without the connection at the key, which the subscriber at the place has forgotten
+-- the fields without the connection at the key, which the subscriber at the place has key_forgotten
 abbrev pub without_connection : {T U : Type 0} → Fields T U → (place key : ℕ) → Slab Link → Fields T U
-without_connection f place key new = record f { subscribers = changed_at (forgotten key) f.subscribers place; connections = new }
+without_connection f place key new = record f { subscribers = changed_at (key_forgotten key) f.subscribers place; connections = new }
 
 module _ {T U : Type 0} (f : Fields T U) (parts : HasParts f) (key : ℕ) (home : Home) (there : IsSomeAnd (get f.connections key) (λ (c : Link). c.home ≡ home))
     (gone : look_up (is_publisher home.publisher) f.publishers ≡ None) (stands : ItsSubscriber f home) where
@@ -57,7 +57,7 @@ module _ {T U : Type 0} (f : Fields T U) (parts : HasParts f) (key : ℕ) (home 
   -- no slot stands there
   pub forgets : ((c : Link) → get f.connections key ≡ Some c → load c ≡ 0) → (new : Slab Link) → Updates f.connections new key None → PrunesMidway f home (without_connection f home.subscriber_place key new)
   forgets empty new goes = at-home (without_connection f home.subscriber_place key new) (λ before s n book well midway.
-      subst (λ (o : Option SubscriberFields). IsMidway before (record f { subscribers = slice_set f.subscribers home.subscriber_place (option_map (forgotten key) o); connections = new })
+      subst (λ (o : Option SubscriberFields). IsMidway before (record f { subscribers = slice_set f.subscribers home.subscriber_place (option_map (key_forgotten key) o); connections = new })
       (subscriber_pruned (unborrowed s own.0.home.publisher y.id n) y.id) book) (sym stands.1)
       (departed-midway s well n f parts home.subscriber_place y stands.1 key own.0 own.1 mine (empty own.0 own.1) gone-there new goes midway.state before book midway))
 
@@ -68,8 +68,8 @@ module _ {T U : Type 0} (f : Fields T U) (parts : HasParts f) (key : ℕ) (home 
   -- the subscriber still stands there
   pub stands-still : (new : Slab Link) → ItsSubscriber (without_connection f home.subscriber_place key new) home
   stands-still new = (
-    forgotten key y,
-    get_or-set_same f.subscribers home.subscriber_place (option_map (forgotten key) (get_or f.subscribers home.subscriber_place None)) None (within_if_some f.subscribers home.subscriber_place y stands.1)
-        ∙ ap (option_map (forgotten key)) stands.1,
+    key_forgotten key y,
+    get_or-set_same f.subscribers home.subscriber_place (option_map (key_forgotten key) (get_or f.subscribers home.subscriber_place None)) None (within_if_some f.subscribers home.subscriber_place y stands.1)
+        ∙ ap (option_map (key_forgotten key)) stands.1,
     stands.2,
   )

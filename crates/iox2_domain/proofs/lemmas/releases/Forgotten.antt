@@ -11,7 +11,7 @@ use Rattle.iox2_store.specs.machine.State.{State}
 use Rattle.iox2_ends.specs.Finds.{IsReceiverLinked, IsReceivers}
 use Rattle.iox2_ends.specs.Homes.{IsSenders}
 use Rattle.iox2_ends.specs.declared.sender.ReceiverDetails.{ReceiverDetails}
-use Rattle.iox2_domain.specs.Departures.{forgotten}
+use Rattle.iox2_domain.specs.Departures.{key_forgotten}
 use Rattle.iox2_domain.specs.Fields.{Fields, kept_of, subscriber_of}
 use Rattle.iox2_domain.specs.Invariant.{IsCounted, IsLinked, HasBooks, SenderHas, ReceiverHas, connection_count, details_of, is_subscriber, one_if_receivers, own_holders, HasParts}
 use Rattle.iox2_domain.specs.Kept.{state_of}
@@ -29,7 +29,7 @@ module _ {T U : Type 0} (f : Fields T U) (parts : HasParts f) (j : ℕ) (y : Sub
     (key : ℕ) (c : Link) (at_c : get f.connections key ≡ Some c) (mine : c.home.subscriber ≡ y.id) (empty : load c ≡ 0)
     (nobody : SenderHas f.publishers key c → ⊥) (new : Slab Link) (goes : Updates f.connections new key None) where
   abbrev without_key : SubscriberFields
-  without_key = forgotten key y
+  without_key = key_forgotten key y
 
   abbrev subscribers : List (Option SubscriberFields)
   subscribers = slice_set f.subscribers j (Some without_key)

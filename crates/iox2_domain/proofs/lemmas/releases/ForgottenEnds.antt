@@ -5,9 +5,8 @@ use Rattle.std.specs.List.{filter}
 use Rattle.slab.specs.Slab.{Slab}
 use Rattle.iox2_store.specs.Link.{Link}
 use Rattle.iox2_store.specs.machine.Numbers.{contains, without}
-use Rattle.iox2_store.specs.machine.Places.{occupants, places_kept}
+use Rattle.iox2_store.specs.machine.Places.{vacated, occupants, places_kept}
 use Rattle.iox2_ends.specs.Mailboxes.{publisher_of_key, receiver_ends}
-use Rattle.iox2_domain.specs.Departures.{other_key}
 
 -- the publisher of a key among the expired ones is expired
 pub expired-contains : (connections : Slab Link) (xs : List ℕ) (i k r : ℕ) → get_or (map Some xs) i None ≡ Some k → publisher_of_key connections (Some k) ≡ Some r
@@ -32,19 +31,19 @@ module _ (connections : Slab Link) (key p : ℕ) (leads : publisher_of_key conne
 
   -- its end goes
   pub ends-forgotten : (keys : List (Option ℕ)) → ((i k : ℕ) → get_or keys i None ≡ Some k → k ≢ key → Passes k)
-      → receiver_ends connections (map (other_key key) keys) ≡ places_kept test (receiver_ends connections keys)
+      → receiver_ends connections (vacated key keys) ≡ places_kept test (receiver_ends connections keys)
   ends-forgotten [] pass = refl
   ends-forgotten (None ∷ keys) pass = ap (λ (xs : List (Option ℕ)). None ∷ xs) (ends-forgotten keys (λ i k at away. pass (suc i) k at away))
   ends-forgotten (Some k ∷ keys) pass = by (eqb k key) refl (ends-forgotten keys (λ i n at away. pass (suc i) n at away)) where
-    by : (b : Bool) → eqb k key ≡ b → receiver_ends connections (map (other_key key) keys) ≡ places_kept test (receiver_ends connections keys)
-        → publisher_of_key connections (cond b None (Some k)) ∷ receiver_ends connections (map (other_key key) keys) ≡ places_kept test (publisher_of_key connections (Some k) ∷ receiver_ends connections keys)
+    by : (b : Bool) → eqb k key ≡ b → receiver_ends connections (vacated key keys) ≡ places_kept test (receiver_ends connections keys)
+        → publisher_of_key connections (cond b None (Some k)) ∷ receiver_ends connections (vacated key keys) ≡ places_kept test (publisher_of_key connections (Some k) ∷ receiver_ends connections keys)
     by true same later =
         ap (λ (xs : List (Option ℕ)). None ∷ xs) later
         ∙ ap (λ b. cond b (Some p) None ∷ places_kept test (receiver_ends connections keys)) (sym gone)
         ∙ ap (λ o. places_kept test (o ∷ receiver_ends connections keys)) (sym (ap (λ (n : ℕ). publisher_of_key connections (Some n)) (eqb-true k key same) ∙ leads))
     by false apart later =
         let to = pass zero k refl (other k apart) in
-        ap (λ o. o ∷ receiver_ends connections (map (other_key key) keys)) to.1
+        ap (λ o. o ∷ receiver_ends connections (vacated key keys)) to.1
         ∙ ap (λ (xs : List (Option ℕ)). Some to.0 ∷ xs) later
         ∙ ap (λ b. cond b (Some to.0) None ∷ places_kept test (receiver_ends connections keys)) (sym to.2)
         ∙ ap (λ o. places_kept test (o ∷ receiver_ends connections keys)) (sym to.1)

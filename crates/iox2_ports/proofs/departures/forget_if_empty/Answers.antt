@@ -3,7 +3,7 @@ use Rattle.std.proofs.lemmas.Bool.{true≢false}
 use Rattle.std.proofs.lemmas.List.{with_items_is}
 use Rattle.slab.specs.Slab.{Updates, get}
 use Rattle.iox2_store.specs.Link.{Link, load}
-use Rattle.iox2_domain.specs.Departures.{forgotten}
+use Rattle.iox2_domain.specs.Departures.{key_forgotten}
 use Rattle.iox2_domain.specs.Fields.{Fields}
 use Rattle.iox2_domain.specs.Ports.{SubscriberFields}
 use Rattle.iox2_domain.specs.Updates.{changed_at}
@@ -15,7 +15,7 @@ returns-then-is_empty-clause-midway g c =
     let settled =
     with_items_is c.state.inside.subscribers c.forget_at.new.subscribers (c.forget_at.auto.subscribers ∙ c.deref_mut.ensures.len)
     ∙ c.forget_at.ensures
-    ∙ ap (λ (xs : List (Option SubscriberFields)). changed_at (forgotten c.args.key) xs c.args.home.subscriber_place) c.deref_mut.ensures.value in
+    ∙ ap (λ (xs : List (Option SubscriberFields)). changed_at (key_forgotten c.args.key) xs c.args.home.subscriber_place) c.deref_mut.ensures.value in
     let goes : Updates c.args.state.now.connections c.remove.new.self c.args.key None =
     subst (λ (f : Fields g.row.T.Denot g.row.U.Denot). Updates f.connections c.remove.new.self c.args.key None) c.state.view_is c.remove.ensures.updates in
     let empty : (l : Link) → get c.args.state.now.connections c.args.key ≡ Some l → load l ≡ 0 = λ l at.
@@ -41,7 +41,7 @@ returns-then-is_empty-clause-stands g c =
     let settled =
     with_items_is c.state.inside.subscribers c.forget_at.new.subscribers (c.forget_at.auto.subscribers ∙ c.deref_mut.ensures.len)
     ∙ c.forget_at.ensures
-    ∙ ap (λ (xs : List (Option SubscriberFields)). changed_at (forgotten c.args.key) xs c.args.home.subscriber_place) c.deref_mut.ensures.value in
+    ∙ ap (λ (xs : List (Option SubscriberFields)). changed_at (key_forgotten c.args.key) xs c.args.home.subscriber_place) c.deref_mut.ensures.value in
     subst (λ (f : Fields g.row.T.Denot g.row.U.Denot). ItsSubscriber f c.args.home)
     (sym ((λ i. record {
       config = c.state.inside.config;
