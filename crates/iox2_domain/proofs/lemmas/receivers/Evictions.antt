@@ -34,7 +34,7 @@ use Rattle.iox2_domain.proofs.lemmas.fields.Standing.{some_is, occupant-receiver
 use Rattle.iox2_domain.proofs.lemmas.fields.Views.{held-before}
 use Rattle.iox2_domain.proofs.lemmas.updates.SenderWalk.{put_at-twice}
 use Rattle.iox2_domain.proofs.lemmas.fields.Parts.{but-of, parts_of}
-use Rattle.iox2_domain.proofs.lemmas.receivers.SoundStanding.{leads-among, expired-gone}
+use Rattle.iox2_domain.proofs.lemmas.receivers.PortsStanding.{leads-among, expired-gone}
 use Rattle.iox2_domain.proofs.lemmas.receivers.DepartedEnds.{among, contained}
 use Rattle.iox2_domain.proofs.lemmas.receivers.LeftEnds.{IsDeparted, LeavesReceiver, left_fields, left-parts, end-expires}
 use Rattle.iox2_domain.proofs.lemmas.receivers.LeftStates.{left-is, occupants-pushed, occupants-without, same-lead}
