@@ -23,7 +23,7 @@ use Rattle.iox2_domain.specs.Ports.{PublisherFields, SubscriberFields}
 use Rattle.iox2_domain.specs.Kept.{KeptMessage, state_of}
 use Rattle.iox2_domain.specs.Fields.{Fields, kept_of, message_in, contents_at, is_book_of}
 use Rattle.iox2_domain.specs.Shows.{KeepsEntries}
-use Rattle.iox2_domain.specs.Invariant.{IsLinked, HasExpiredRoom, NamesBooks, HasBooks, IsCounted, IsNumbered, HasNumber, HasBook, HasShapes, SenderHas, ReceiverHas, IsPlain, IsPlainSubscriber, is_publisher, is_subscriber, own_holders, holders_of, is_loan_in, details_of, connection_count, IsBookOf, IsDomain, IsSoundBut, IsGone, IsOwned, IsLeft}
+use Rattle.iox2_domain.specs.Invariant.{IsLinked, HasExpiredRoom, NamesBooks, HasBooks, IsCounted, IsNumbered, HasNumber, HasBook, HasShapes, SenderHas, ReceiverHas, IsPlain, IsPlainSubscriber, is_publisher, is_subscriber, own_holders, holders_of, is_loan_in, details_of, connection_count, IsBookOf, IsDomain, IsDomainBut, IsGone, IsOwned, IsLeft}
 use Rattle.iox2_domain.proofs.lemmas.fields.Parts.{parts_of}
 use Rattle.iox2_domain.proofs.lemmas.containers.LookUps.{map-at, viewed, look_up-removed}
 use Rattle.iox2_domain.proofs.lemmas.fields.NamedBooks.{names-books}
@@ -416,7 +416,7 @@ module _ {T U : Type 0} (f : Fields T U) (sound : IsDomain f) (i : ℕ) (x : Pub
   -- ---- the whole
 
   -- the fields agree, where what they keep does
-  pub left-sound : IsWellFormed (state_of (kept_of after)) → KeepsEntries (kept_of after) → IsSoundBut x.book after
+  pub left-sound : IsWellFormed (state_of (kept_of after)) → KeepsEntries (kept_of after) → IsDomainBut x.book after
   left-sound well entries = record {
     publisher_ids = publishers-apart;
     subscriber_ids = subscribers-apart;
