@@ -1,26 +1,33 @@
 -- The steps of a close, as they read the fields.
-use Rattle.std.proofs.Common.{◌≡◌, ◌≢◌, ℕ, ◌≤◌, Bool, true, false, List, map, length, get_or, slice_set, refl, ap, sym, subst, ◌∙◌, inl, inr, arith}
+use Rattle.std.proofs.Common.{◌≡◌, ◌≢◌, ℕ, zero, suc, ◌+◌, ◌<◌, ◌≤◌, ◌⊎◌, ◌&&◌, Bool, true, false, List, map, length, get_or, slice_set, refl, ap, sym, subst, ◌∙◌, inl, inr, arith}
 use Rattle.std.proofs.lemmas.List.{length-map}
 use Rattle.std.specs.Prelude.{IsSomeAnd, IsSome}
 use Rattle.std.specs.declared.option.Option.{Option}
 use Rattle.std.specs.declared.option.Option.TheVariants.{None, Some}
 use Rattle.std.specs.Option.{option_map}
 use Rattle.slab.specs.Slab.{Updates, get}
-use Rattle.iox2_store.specs.Link.{Link}
+use Rattle.iox2_store.specs.Link.{Link, load}
+use Rattle.iox2_store.specs.machine.Numbers.{is_nil}
+use Rattle.iox2_store.specs.declared.connection.Home.{Home}
 use Rattle.iox2_ends.specs.Drops.{without_waiting}
 use Rattle.iox2_ends.specs.Finds.{IsReceivers}
 use Rattle.iox2_ends.proofs.MailboxChanges.{within_if_some}
-use Rattle.iox2_domain.specs.Departures.{key_forgotten, HasKey, KnowsKey}
+use Rattle.iox2_domain.specs.Departures.{ForgetsConnection, key_forgotten, HasKey, KnowsKey}
 use Rattle.iox2_domain.specs.Ports.{PublisherFields, SubscriberFields, due}
 use Rattle.iox2_domain.specs.Fields.{Fields}
-use Rattle.iox2_domain.specs.Invariant.{IsBookOf, IsDomain}
+use Rattle.iox2_domain.specs.Invariant.{IsBookOf, IsDomain, details_of}
+use Rattle.iox2_domain.specs.LeftBooks.{CanGo, SettlesBook}
 use Rattle.iox2_domain.specs.Updates.{changed_at}
+use Rattle.iox2_domain.proofs.lemmas.containers.LookUps.{map-at}
+use Rattle.iox2_domain.proofs.lemmas.releases.BookFreed.{contents-within, unused-book}
+use Rattle.iox2_domain.proofs.lemmas.releases.OrphanRemoved.{no-length}
 use Rattle.iox2_domain.proofs.lemmas.containers.ChangedRecords.{changed-here}
 use Rattle.iox2_domain.proofs.lemmas.creations.PublishersDue.{with_publishers_due}
 use Rattle.iox2_domain.proofs.lemmas.fields.Standing.{some_is}
 use Rattle.iox2_closes.specs.Agreement.{IsOrphan, HasOwnedParts}
 use Rattle.iox2_closes.specs.Closes.{IsDeparted, IsBusy, IsLeftAt, IsStanding, FreesBook, ForgetsIfEmpty, LosesLeft, LosesWaiting, is_empty_link, shut_subscriber}
-use Rattle.iox2_closes.proofs.CloseSteps.{book, stays-busy, forgot-parts, book-left, others-busy, forgets-empty}
+use Rattle.iox2_closes.proofs.CloseSteps.{book, held-at, link-busy, link-empty, nothing-returned, stays-busy, forgot-parts, book-left, others-busy, forgets-empty}
+use Rattle.iox2_closes.proofs.FreedBooks.{can-go, frees}
 use Rattle.iox2_closes.proofs.CloseWalk.{IsClosing, closing-begins, closing-passes}
 use Rattle.iox2_closes.proofs.CloseKeys.{ExpiredBelow, ExpiredLeft, KeysLeft}
 use Rattle.iox2_domain.specs.OpenMarks.{IsUnmarkedReceiver}
@@ -67,13 +74,20 @@ module _ {T U : Type 0} (f : Fields T U) (parts : HasOwnedParts f) (place key : 
       departed c.home.publisher_place x.0 x.1 x.2)))
 
 module _ {T U : Type 0} (f : Fields T U) (place key : ℕ) (left : IsLeftAt f place key) where
+  -- its home, as it was read
+  pub home-read : (v : Fields T U) → v ≡ f → (c : Link) → get v.connections key ≡ Some c → c.home ≡ (left.link).home
+  home-read v same c at =
+      let one : Some c ≡ Some left.link = sym at ∙ ap (λ (g : Fields T U). get g.connections key) same ∙ left.link_stands in
+      let is : c ≡ left.link = cc in
+      ap (λ (d : Link). d.home) is
+
   -- what waits in it may be lost
   pub left-departed : IsSomeAnd (get f.connections key) (IsDeparted f.publishers)
   left-departed = rw left.link_stands left.departed
 
   module _ (between : Fields T U) (loses : LosesWaiting f key left.link between) where
     -- it may be forgotten then
-    pub left-after : IsLeftAt between place key
+    abbrev pub left-after : IsLeftAt between place key
     left-after = record {
       subscriber = left.subscriber;
       stands = ap (λ (ys : List (Option SubscriberFields)). get_or ys place None) loses.subscribers ∙ left.stands;
@@ -92,27 +106,11 @@ module _ {T U : Type 0} (f : Fields T U) (place key : ℕ) (left : IsLeftAt f pl
     -- so it is done with
     pub left-loses : (f' : Fields T U) → ((y : SubscriberFields) → get_or between.subscribers place None ≡ Some y → (c : Link) → get between.connections key ≡ Some c → ForgetsIfEmpty between place key y c f')
         → LosesLeft f place key f'
-    unfolding left-after
     left-loses f' forgets = record { left = left; between = between; loses = loses; forgets = forgets left.subscriber left-after.stands (without_waiting left.link) left-after.link_stands }
 
 -- ---- a connection that may be forgotten
 
 module _ {T U : Type 0} (f : Fields T U) (parts : HasOwnedParts f) (place key : ℕ) (left : IsLeftAt f place key) where
-  -- whether a connection that was read is empty
-  pub empty-read : (v : Fields T U) → v ≡ f → (b : Bool) → IsSomeAnd (get v.connections key) (λ c. b ≡ is_empty_link c) → is_empty_link left.link ≡ b
-  empty-read v same b read =
-      let c = some_is (λ (c : Link). b ≡ is_empty_link c) (get v.connections key) read in
-      let one : Some c.0 ≡ Some left.link = sym c.1 ∙ ap (λ (g : Fields T U). get g.connections key) same ∙ left.link_stands in
-      let is : c.0 ≡ left.link = cc in
-      sym (c.2 ∙ ap is_empty_link is)
-
-  -- the key of its book
-  pub book-read : (v : Fields T U) → v ≡ f → (c : Link) → get v.connections key ≡ Some c → c.home.book ≡ (left.link).home.book
-  book-read v same c at =
-      let one : Some c ≡ Some left.link = sym at ∙ ap (λ (g : Fields T U). get g.connections key) same ∙ left.link_stands in
-      let is : c ≡ left.link = cc in
-      ap (λ (d : Link). d.home.book) is
-
   module _ (y : SubscriberFields) (at_y : get_or f.subscribers place None ≡ Some y) (c : Link) (at_c : get f.connections key ≡ Some c) where
     same-link : left.link ≡ c
     same-link = let one : Some left.link ≡ Some c = sym left.link_stands ∙ at_c in cc
@@ -164,6 +162,85 @@ module _ {T U : Type 0} (f : Fields T U) (parts : HasOwnedParts f) (place key : 
         (subst (λ (z : SubscriberFields). ForgetsIfEmpty f place key z left.link f') (same-subscriber y at_y c at_c)
         (forgets-empty f parts key left.link left.link_stands left.departed place left.subscriber left.stands left.is_its none g.connections removed f'
         (subst (λ (h : Fields T U). FreesBook h (left.link).home.book f') fields (subst (λ (n : ℕ). FreesBook g n f') is frees))))
+
+module _ {T U : Type 0} (f : Fields T U) (parts : HasOwnedParts f) (place key : ℕ) (left : IsLeftAt f place key) (home : Home) (home_is : home ≡ (left.link).home) where
+  abbrev c : Link
+  c = left.link
+
+  -- its home is the connection's
+  pub left-home : IsSomeAnd (get f.connections key) (λ (d : Link). d.home ≡ home)
+  left-home = rw left.link_stands (sym home_is)
+
+  -- the subscriber stands at its place
+  left-place : home.subscriber_place ≡ place
+  left-place = ap (λ (h : Home). h.subscriber_place) home_is
+      ∙ sym (parts.parts.linked.knows.at key place c (details_of left.subscriber) left.link_stands
+      (map-at details_of f.subscribers place ∙ ap (option_map details_of) left.stands) (sym left.is_its)).0
+
+  pub left-within : home.subscriber_place < length f.subscribers
+  left-within = rw left-place (within_if_some f.subscribers place left.subscriber left.stands)
+
+  -- and has the key at the publisher's place alone
+  pub left-only : (y : SubscriberFields) → get_or f.subscribers home.subscriber_place None ≡ Some y → (i : ℕ) → get_or y.keys i None ≡ Some key → i ≡ home.publisher_place
+  left-only y at i at_k =
+      sym (parts.parts.linked.receiver_places home.subscriber_place i key y c at at_k left.link_stands) ∙ ap (λ (h : Home). h.publisher_place) (sym home_is)
+
+  module _ (mid : Fields T U) (empty : (d : Link) → get f.connections key ≡ Some d → load d ≡ 0 → ForgetsConnection f home.subscriber_place key mid)
+      (full : (d : Link) → get f.connections key ≡ Some d → (load d ≡ 0 → ⊥) → mid ≡ f)
+      (others : (k : ℕ) (d : Link) → k ≢ key → get f.connections k ≡ Some d → IsDeparted f.publishers d → IsBusy d) where
+    -- it was empty and is gone, or some slot stands in it and nothing changed
+    outcome : ((is_empty_link c ≡ true) × ForgetsConnection f place key mid) ⊎ ((is_empty_link c ≡ false) × (mid ≡ f))
+    outcome = by (load c) refl where
+      none : load c ≡ 0 → is_empty_link c ≡ true
+      none e = λ i. is_nil (no-length c.waiting (omega (arith, e)) i) && is_nil (no-length c.borrowed (omega (arith, e)) i)
+
+      some : (n : ℕ) → load c ≡ suc n → (b : Bool) → is_empty_link c ≡ b → is_empty_link c ≡ false
+      some n e false is = is
+      some n e true is =
+          let no = link-empty c is in
+          let back = nothing-returned f parts key c left.link_stands left.departed in
+          absurd (omega (arith, e, ap (λ (xs : List ℕ). length xs) no.0, ap (λ (xs : List ℕ). length xs) no.1, ap (λ (xs : List ℕ). length xs) back))
+
+      by : (n : ℕ) → load c ≡ n → ((is_empty_link c ≡ true) × ForgetsConnection f place key mid) ⊎ ((is_empty_link c ≡ false) × (mid ≡ f))
+      by zero e = inl (none e, subst (λ (n : ℕ). ForgetsConnection f n key mid) left-place (empty c left.link_stands e))
+      by (suc n) e = inr (some n e (is_empty_link c) refl, full c left.link_stands (λ zero. (let no : suc n ≡ 0 = sym e ∙ zero in absurd cc)))
+
+    book_is : home.book ≡ c.home.book
+    book_is = ap (λ (h : Home). h.book) home_is
+
+    its : IsBookOf f.books c.home.publisher home.book
+    its = subst (IsBookOf f.books c.home.publisher) (sym book_is) (book f parts key c left.link_stands)
+
+    -- its publisher's book may be settled
+    pub left-settles : CanGo mid home.book
+    left-settles = elim outcome [
+      | inl gone ↦ can-go mid (removed-agrees f parts place key left gone.0 mid gone.1.fields gone.1.removed) home.book
+          (removed-orphan f parts place key left gone.0 mid gone.1.fields gone.1.removed home.book book_is)
+          (removed-busy f parts place key left gone.0 mid gone.1.fields gone.1.removed others home.book book_is)
+      | inr same ↦ subst (λ (g : Fields T U). CanGo g home.book) (sym same.1) (record { stands = rw its.stands refl; contents = contents-within f parts.parts home.book its.book its.stands })
+    ]
+
+    -- where some slot stands in the connection it stays
+    held-book : is_empty_link c ≡ false → (f' : Fields T U) → SettlesBook f home.book f' → f' ≡ f
+    held-book some f' settles = elim settles.outcome [
+      | inl gone ↦
+          let busy = link-busy c some in
+          let held = (held-at f parts key c left.link_stands settles.book (ap (get f.books) (sym book_is) ∙ settles.stands)).at busy.slot in
+          let free = unused-book settles.book gone.0 busy.slot in
+          let standing = busy.stands in
+          absurd (omega (arith, held, free, standing))
+      | inr same ↦ same.1
+    ]
+
+    -- then all is done
+    pub left-settled : (f' : Fields T U) → SettlesBook mid home.book f' → (y : SubscriberFields) → get_or f.subscribers place None ≡ Some y → (d : Link) → get f.connections key ≡ Some d → ForgetsIfEmpty f place key y d f'
+    left-settled f' settles y at_y d at_d = elim outcome [
+      | inl gone ↦ removed-ends f parts place key left gone.0 mid gone.1.fields gone.1.removed y at_y d at_d home.book book_is f'
+          (frees mid (removed-agrees f parts place key left gone.0 mid gone.1.fields gone.1.removed) home.book
+          (removed-orphan f parts place key left gone.0 mid gone.1.fields gone.1.removed home.book book_is)
+          (removed-busy f parts place key left gone.0 mid gone.1.fields gone.1.removed others home.book book_is) f' settles)
+      | inr same ↦ used-ends f parts place key left y at_y d at_d f' (held-book same.0 f' (subst (λ (g : Fields T U). SettlesBook g home.book f') same.1 settles)) same.0
+    ]
 
 module _ {T U : Type 0} where
   -- the walk begins where the subscriber was shut, with its last expired key

@@ -1,6 +1,5 @@
 -- Ports forget connections, and connections that no port has any more go: what holds still.
 use Rattle.std.proofs.Common.{◌≡◌, ℕ, zero, suc, ◌+◌, ◌<◌, ◌≤◌, List, [], ◌∷◌, map, length, Bool, true, false, cond, eqb, get_or, refl, ap, sym, subst, ◌∙◌, inl, inr, ◌⊎◌, arith}
-use Rattle.std.proofs.lemmas.List.Sums.{sum_by-cons}
 use Rattle.std.specs.Prelude.{Contains, IsSomeAnd}
 use Rattle.std.specs.declared.option.Option.{Option}
 use Rattle.std.specs.declared.option.Option.TheVariants.{None, Some}
@@ -17,6 +16,7 @@ use Rattle.iox2_ends.proofs.LookUps.{look_up-there, look_up-none, look_up-found,
 use Rattle.iox2_domain.specs.Ports.{PublisherFields, SubscriberFields}
 use Rattle.iox2_domain.specs.Fields.{Fields, is_book_of}
 use Rattle.iox2_domain.specs.Invariant.{IsLinked, HasBook, HasBooks, IsCounted, HasPublisherRoom, IsPlain, IsPlainSubscriber, HasExpiredRoom, SenderHas, ReceiverHas, is_publisher, is_subscriber, own_holders, is_loan_in, details_of, connection_count, one_if_receivers, IsBetweenOpen}
+use Rattle.iox2_domain.proofs.lemmas.containers.FewerSums.{sum-fewer}
 use Rattle.iox2_domain.proofs.lemmas.slots.Recounts.{sum-alike}
 use Rattle.iox2_domain.proofs.lemmas.containers.LookUps.{map-at, viewed}
 use Rattle.iox2_closes.specs.Closes.{IsEmptyLink}
@@ -54,15 +54,6 @@ pub record Forgets {T U : Type 0} (f : Fields T U) (publishers : List (Option Pu
   pub ends : (key : ℕ) (c : Link) → get connections key ≡ Some c → SenderHas publishers key c ⊎ ReceiverHas subscribers key c
   pub returned : (key : ℕ) (c : Link) → get connections key ≡ Some c → SenderHas publishers key c ⊎ (c.returned ≡ [])
   pub marked : (key : ℕ) (c : Link) → get connections key ≡ Some c → c.is_open ≡ true → IsBetweenOpen publishers subscribers key c
-
--- ---- lists
-
--- a list has no greater sum where at each index stands what counts no more
-sum-fewer : {A : Type 0} (f : Option A → ℕ) → f None ≡ 0 → (xs ys : List (Option A)) → ((k : ℕ) → f (get_or ys k None) ≤ f (get_or xs k None)) → sum_by f ys ≤ sum_by f xs
-sum-fewer f nothing [] [] less = omega arith
-sum-fewer f nothing [] (y ∷ ys) less = omega (arith, sum_by-cons f y ys, sum-fewer f nothing [] ys (λ k. less (suc k)), less zero, nothing)
-sum-fewer f nothing (x ∷ xs) [] less = omega (arith, sum_by-cons f x xs, sum-fewer f nothing xs [] (λ k. less (suc k)), less zero, nothing)
-sum-fewer f nothing (x ∷ xs) (y ∷ ys) less = omega (arith, sum_by-cons f x xs, sum_by-cons f y ys, sum-fewer f nothing xs ys (λ k. less (suc k)), less zero)
 
 module _ {T U : Type 0} (f : Fields T U) (parts : HasOwnedParts f) (publishers : List (Option PublisherFields)) (subscribers : List (Option SubscriberFields)) (connections : Slab Link)
     (g : Forgets f publishers subscribers connections) where

@@ -2,11 +2,13 @@
 use Rattle.std.specs.Prelude.{◌≡◌, ◌⊎◌, ℕ, true, List, [], map, slice_index_or}
 use Rattle.std.specs.declared.option.Option.{Option}
 use Rattle.std.specs.declared.option.Option.TheVariants.{None, Some}
-use Rattle.slab.specs.Slab.{Slab, get}
+use Rattle.slab.specs.Slab.{Slab, Updates, get}
 use Rattle.iox2_store.specs.Link.{Link, has_borrowed_slots}
 use Rattle.iox2_store.specs.machine.Numbers.{without}
 use Rattle.iox2_store.specs.machine.Places.{vacated}
+use Rattle.iox2_domain.specs.Fields.{Fields}
 use Rattle.iox2_domain.specs.Invariant.{SenderHas}
+use Rattle.iox2_domain.specs.Updates.{changed_at}
 use Rattle.iox2_domain.specs.Ports.{PublisherFields, SubscriberFields}
 
 -- The key stands in the list.
@@ -43,3 +45,8 @@ pub record BorrowsSome (connections : Slab Link) (q : ℕ) : Type 0 where
   pub stands : get connections key ≡ Some connection
   pub its : connection.home.subscriber ≡ q
   pub some : has_borrowed_slots connection ≡ true
+
+-- The connection at the key is gone, and the subscriber at the place has forgotten it.
+pub record ForgetsConnection {T U : Type 0} (f : Fields T U) (place key : ℕ) (f' : Fields T U) : Type 0 where
+  pub fields : f' ≡ record f { subscribers = changed_at (key_forgotten key) f.subscribers place; connections = f'.connections }
+  pub removed : Updates f.connections f'.connections key None

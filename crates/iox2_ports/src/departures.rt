@@ -1,13 +1,12 @@
 //! Ports that were closed leave, and with them what nobody else needs.
-ghost use Rattle.std.specs.Prelude.{◌≡◌, ◌↔◌, ℕ, false, Some, None, map, slice_index_or, IsTrue, IsSomeAnd};
+ghost use Rattle.std.specs.Prelude.{◌≡◌, ◌<◌, ◌↔◌, ℕ, false, Some, None, length, map, slice_index_or, IsTrue, IsSomeAnd};
 ghost use Rattle.slab.specs.Slab.{get};
-ghost use Rattle.iox2_store.specs.Link.{Link, has_borrowed_slots};
-ghost use Rattle.iox2_store.specs.machine.Releases.{freed_if_unused, subscriber_pruned, unborrowed};
+ghost use Rattle.iox2_store.specs.Link.{Link, has_borrowed_slots, load};
+ghost use Rattle.iox2_store.specs.machine.Releases.{freed_if_unused};
 ghost use Rattle.iox2_store.specs.machine.WellFormed.{IsWellFormed, MailboxIsWellFormed};
-ghost use Rattle.iox2_ends.specs.LookUp.{look_up};
-ghost use Rattle.iox2_domain.specs.Departures.{BorrowsNothing, BorrowsSome, DropsUnshared, HasKey, IsUnshared, KnowsKey};
+ghost use Rattle.iox2_domain.specs.Departures.{BorrowsNothing, BorrowsSome, DropsUnshared, ForgetsConnection, HasKey, IsUnshared, KnowsKey};
 ghost use Rattle.iox2_domain.specs.Fields.{kept_of};
-ghost use Rattle.iox2_domain.specs.Invariant.{SenderHas, is_publisher, HasParts};
+ghost use Rattle.iox2_domain.specs.Invariant.{SenderHas, HasParts};
 ghost use Rattle.iox2_domain.specs.Kept.{state_of};
 ghost use Rattle.iox2_domain.specs.Reaches.{Reaches};
 ghost use Rattle.iox2_domain.specs.Midway.{ChangesBooks, IsMidway};
@@ -189,7 +188,7 @@ pub fn leave_if_unused<T: Drop, U: Default + Drop>(state: &mut DomainState<T, U>
 }
 
 /// The subscriber of the connection at a key, whose publisher is gone, forgets the connection where
-/// no slot stands in it.
+/// no slot stands in it, and the connection goes.
 ///
 /// iceoryx2's `Receiver::release_offset` (`src/port/details/receiver.rs`).
 pub fn forget_if_empty<T: Drop, U: Default + Drop>(
@@ -197,13 +196,11 @@ pub fn forget_if_empty<T: Drop, U: Default + Drop>(
     key: usize,
     home: Home,
 )
-    requires consistent { HasParts state.old }
     requires home { IsSomeAnd (get state.old.connections key) (λ c. c.home ≡ home) }
-    requires gone { look_up (is_publisher home.publisher) state.old.publishers ≡ None }
-    requires stands { (y : SubscriberFields) × (slice_index_or state.old.subscribers home.subscriber_place None ≡ Some y) × (y.id ≡ home.subscriber) }
-    ensures midway { (before : _) (s : _) (n book : ℕ) → IsWellFormed s → IsMidway before state.old (unborrowed s home.publisher home.subscriber n) book
-        → IsMidway before state.new (subscriber_pruned (unborrowed s home.publisher home.subscriber n) home.subscriber) book }
-    ensures stands { (y : SubscriberFields) × (slice_index_or state.new.subscribers home.subscriber_place None ≡ Some y) × (y.id ≡ home.subscriber) }
+    requires stands { home.subscriber_place < length state.old.subscribers }
+    requires only { (y : SubscriberFields) → slice_index_or state.old.subscribers home.subscriber_place None ≡ Some y → (i : ℕ) → slice_index_or y.keys i None ≡ Some key → i ≡ home.publisher_place }
+    ensures empty { (c : Link) → get state.old.connections key ≡ Some c → load c ≡ 0 → ForgetsConnection state.old home.subscriber_place key state.new }
+    ensures full { (c : Link) → get state.old.connections key ≡ Some c → (load c ≡ 0 → ⊥) → state.new ≡ state.old }
 {
     if state.connections[key].is_empty() {
         state.connections.remove(key);

@@ -15,7 +15,7 @@ ghost use Rattle.iox2_domain.specs.Updates.{changed_at};
 ghost use Rattle.iox2_closes.specs.Agreement.{HasOwnedParts, IsOrphan};
 ghost use Rattle.iox2_closes.specs.Closes.{shut_subscriber, is_empty_link, IsDeparted, IsBusy, IsLeftAt, IsStanding, LosesWaiting, FreesBook, ForgetsIfEmpty, LosesIfLeft};
 
-use crate::departures::leave_if_unused;
+use crate::departures::{forget_if_empty, leave_if_unused};
 use iox2_domain::{DomainState, SubscriberState, key_at, make_all_due, stands_at};
 use iox2_ends::drops::drop_waiting_at;
 use iox2_store::Connection;
@@ -84,88 +84,6 @@ fn lose_waiting<T: Drop, U: Default + Drop>(state: &mut DomainState<T, U>, key: 
     drop_waiting_at(&mut state.connections, key, &mut state.books[book]);
 }
 
-// The key goes from its place, if it stands there.
-fn clear_place(place: &mut Option<usize>, key: usize)
-    ensures { place.new ≡ cond (is_port place.old key) None place.old }
-{
-    if *place == Some(key) {
-        *place = None;
-    }
-}
-
-// The key goes from each place where it stands.
-fn clear_key(keys: &mut [Option<usize>], key: usize)
-    ensures { keys.new ≡ vacated key keys.old }
-{
-    for place in 0..keys.len() {
-        clear_place(&mut keys[place], key);
-    }
-}
-
-// A subscriber forgets a connection.
-fn forget_key(subscriber: &mut SubscriberState, key: usize)
-    ensures { subscriber.new ≡ key_forgotten key subscriber.old }
-{
-    clear_key(&mut subscriber.keys, key);
-    subscriber.expired.retain(|other| *other != key);
-}
-
-// The connection at a key goes, and the subscriber at a place forgets it.
-fn remove_connection<T: Drop, U: Default + Drop>(
-    state: &mut DomainState<T, U>,
-    place: usize,
-    key: usize,
-)
-    requires stands { place < length state.old.subscribers }
-    requires connection { ContainsKey state.old.connections key }
-    ensures fields { state.new ≡ record state.old { subscribers = changed_at (key_forgotten key) state.old.subscribers place; connections = state.new.connections } }
-    ensures removed { Updates state.old.connections state.new.connections key None }
-{
-    let _ = state.connections.remove(key);
-    if let Some(subscriber) = &mut state.subscribers[place] {
-        forget_key(subscriber, key);
-    }
-}
-
-// The book at a key, whose publisher is gone, goes where nothing holds a slot of it.
-fn free_book_if_unused<T: Drop, U: Default + Drop>(state: &mut DomainState<T, U>, key: usize)
-    requires parts { HasOwnedParts state.old }
-    requires orphan { IsSomeAnd (get state.old.books key) (IsOrphan state.old) }
-    requires busy { (k : _) (c : Link) → get state.old.connections k ≡ Some c → c.home.book ≡ key → IsBusy c }
-    ensures { FreesBook state.old key state.new }
-{
-    state.settle_book(key);
-}
-
-// Whether no slot waits in the connection at a key, and none is borrowed.
-fn is_empty(connections: &Slab<Connection>, key: usize) -> bool
-    requires { ContainsKey connections.now key }
-    ensures { IsSomeAnd (get connections.now key) (λ c. result ≡ is_empty_link c) }
-{
-    let connection = &connections[key];
-    !connection.has_data() && !connection.has_borrowed()
-}
-
-// The subscriber at a place forgets its connection at a key, whose publisher is gone, if no slot
-// stands in it. The connection goes then, and the book of its publisher with its last holder.
-fn forget_if_empty<T: Drop, U: Default + Drop>(
-    state: &mut DomainState<T, U>,
-    place: usize,
-    key: usize,
-)
-    requires parts { HasOwnedParts state.old }
-    requires left { IsLeftAt state.old place key }
-    requires others { (k : _) (c : Link) → k ≢ key → get state.old.connections k ≡ Some c → IsDeparted state.old.publishers c → IsBusy c }
-    ensures { (y : SubscriberFields) → slice_index_or state.old.subscribers place None ≡ Some y
-        → (c : Link) → get state.old.connections key ≡ Some c → ForgetsIfEmpty state.old place key y c state.new }
-{
-    if is_empty(&state.connections, key) {
-        let book = state.connections[key].home().book;
-        remove_connection(state, place, key);
-        free_book_if_unused(state, book);
-    }
-}
-
 // What waits for the subscriber at a place in its connection at a key is lost, if the publisher is
 // gone. It forgets the connection then, if it has borrowed nothing from it.
 fn lose_if_left<T: Drop, U: Default + Drop>(
@@ -182,8 +100,10 @@ fn lose_if_left<T: Drop, U: Default + Drop>(
         return;
     };
     if is_left(state, key) {
+        let home = state.connections[key].home();
         lose_waiting(state, key);
-        forget_if_empty(state, place, key);
+        forget_if_empty(state, key, home);
+        state.settle_book(home.book);
     }
 }
 

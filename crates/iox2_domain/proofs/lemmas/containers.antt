@@ -8,3 +8,4 @@ pub mod FreePlaces
 pub mod ConnectionKeys
 pub mod ForgottenKeys
 pub mod KeyWalks
+pub mod FewerSums

@@ -1,7 +1,6 @@
 -- The connections after a publisher left them.
-use Rattle.std.proofs.Common.{◌≡◌, ◌≢◌, ℕ, zero, suc, ◌≤◌, List, [], ◌∷◌, map, Bool, true, false, cond, not, ◌&&◌, eqb, get_or, refl, ap, sym, ◌∙◌, inl, inr, ◌⊎◌, arith}
+use Rattle.std.proofs.Common.{◌≡◌, ◌≢◌, ℕ, ◌≤◌, List, [], ◌∷◌, map, Bool, true, false, cond, not, ◌&&◌, eqb, get_or, refl, ap, sym, ◌∙◌, inl, inr, ◌⊎◌, arith}
 use Rattle.std.proofs.lemmas.Bool.{cases_eq, eqb-true, ne_eqb, eq-eqb}
-use Rattle.std.proofs.lemmas.List.Sums.{sum_by-cons}
 use Rattle.std.specs.declared.option.Option.{Option}
 use Rattle.std.specs.declared.option.Option.TheVariants.{None, Some}
 use Rattle.std.specs.Option.{option_and_then}
@@ -21,24 +20,11 @@ use Rattle.iox2_ends.proofs.Counts.{stands-own}
 use Rattle.iox2_ends.specs.Leaves.{left_link, holds_slots}
 use Rattle.iox2_domain.specs.Ports.{SubscriberFields}
 use Rattle.iox2_domain.specs.Invariant.{connection_count, one_if_receivers}
+use Rattle.iox2_domain.proofs.lemmas.containers.FewerSums.{sum-fewer}
+use Rattle.iox2_domain.proofs.lemmas.slots.Recounts.{sum-alike}
 use Rattle.iox2_domain.specs.Closes.{is_awaited, if_holding, after_close, LeavesConnections}
 
 -- ---- lists that lose records
-
--- a list in which each record counts no more than the one that stood there has no larger sum
-pub sum-fewer : {A : Type 0} (f : Option A → ℕ) → f None ≡ 0 → (xs ys : List (Option A)) → ((k : ℕ) → f (get_or ys k None) ≤ f (get_or xs k None)) → sum_by f ys ≤ sum_by f xs
-sum-fewer f nothing [] [] fewer = omega arith
-sum-fewer f nothing [] (y ∷ ys) fewer = omega (arith, sum_by-cons f y ys, nothing, fewer zero, sum-fewer f nothing [] ys (λ k. past k (fewer (suc k)))) where
-  past : (k : ℕ) → f (get_or (y ∷ ys) (suc k) None) ≤ f None → f (get_or ys k None) ≤ f (get_or [] k None)
-  past zero le = le
-  past (suc k) le = le
-sum-fewer f nothing (x ∷ xs) [] fewer = omega (arith, nothing, sum_by-cons f x xs)
-sum-fewer f nothing (x ∷ xs) (y ∷ ys) fewer = omega (arith, sum_by-cons f x xs, sum_by-cons f y ys, fewer zero, sum-fewer f nothing xs ys (λ k. fewer (suc k)))
-
--- where each record counts as much, the sums are the same
-pub sum-same : {A : Type 0} (f : Option A → ℕ) → f None ≡ 0 → (xs ys : List (Option A)) → ((k : ℕ) → f (get_or ys k None) ≡ f (get_or xs k None)) → sum_by f ys ≡ sum_by f xs
-sum-same f nothing xs ys same =
-    omega (arith, sum-fewer f nothing xs ys (λ k. omega (arith, same k)), sum-fewer f nothing ys xs (λ k. omega (arith, same k)))
 
 -- at most one record passes the test, still
 pub only-fewer : {A : Type 0} (test : A → Bool) (xs ys : List (Option A)) → ((k : ℕ) (y : A) → get_or ys k None ≡ Some y → (x : A) × (get_or xs k None ≡ Some x) × (test x ≡ test y))
@@ -119,7 +105,7 @@ module _ (p : ℕ) (subscribers : List (Option SubscriberFields)) (old new : Sla
 
   -- a slot of another publisher stands as often as before
   pub left-sums : (r slot : ℕ) → r ≢ p → sum_by (stands r slot) new.slots ≡ sum_by (stands r slot) old.slots
-  left-sums r slot away = sum-same (stands r slot) refl old.slots new.slots (λ key. by key (get old key) refl) where
+  left-sums r slot away = sum-alike (stands r slot) refl new.slots old.slots (λ key. by key (get old key) refl) where
     other : (o : Option Link) → ((d : Link) → o ≡ Some d → d.home.publisher ≡ p) → stands r slot o ≡ 0
     other None its = refl
     other (Some d) its = ap (λ t. cond {A = ℕ} t (stands_in slot d) 0) (ne_eqb d.home.publisher r (λ same. away (sym same ∙ its d refl)))

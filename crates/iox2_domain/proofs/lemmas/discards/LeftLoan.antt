@@ -41,7 +41,7 @@ use Rattle.iox2_domain.proofs.lemmas.slots.LeftConnections.{unknown, stands-nowh
 use Rattle.iox2_domain.proofs.lemmas.slots.LoneLoans.{is-loan}
 use Rattle.iox2_domain.proofs.lemmas.slots.SettledBooks.{settles}
 use Rattle.iox2_domain.proofs.lemmas.slots.Messages.{lies_at, message_in-parts, message_at-slot}
-use Rattle.iox2_domain.proofs.lemmas.slots.RecountedSound.{loan-publisher}
+use Rattle.iox2_domain.proofs.lemmas.slots.RecountedLoans.{loan-publisher}
 
 module _ {T U : Type 0} (f : Fields T U) (sound : IsDomain f) (p n key slot : ℕ) (at : LiesInSlot f p n key slot) (none : look_up (is_publisher p) f.publishers ≡ None) where
   abbrev b : Book

@@ -7,7 +7,7 @@ use Rattle.iox2_store.specs.machine.WellFormed.{IsWellFormed}
 use Rattle.iox2_domain.specs.Kept.{state_of}
 use Rattle.iox2_domain.specs.Fields.{Fields, kept_of}
 use Rattle.iox2_domain.specs.Shows.{KeepsEntries}
-use Rattle.iox2_domain.specs.Invariant.{IsDomain, IsSoundBut, HasParts, HasLoneLoans, KeepsBooks, IsOwned, IsLeft, IsGone}
+use Rattle.iox2_domain.specs.Invariant.{IsDomain, IsDomainBut, HasParts, HasLoneLoans, KeepsBooks, IsOwned, IsLeft, IsGone}
 use Rattle.iox2_domain.specs.Midway.{IsMidway}
 
 module _ {T U : Type 0} (f : Fields T U) where
@@ -58,7 +58,7 @@ module _ {T U : Type 0} (f : Fields T U) where
 
   -- and they are so but for one book where the others are
   pub but-of : (key : ℕ) → HasParts f → HasLoneLoans f.books → ((k : ℕ) (b : Book) → k ≢ key → get f.books k ≡ Some b → IsOwned f.publishers k b.publisher ⊎ IsLeft f.next_port f.publishers b)
-      → ((b : Book) → get f.books key ≡ Some b → IsGone f.next_port f.publishers b.publisher) → IsWellFormed (state_of (kept_of f)) → KeepsEntries (kept_of f) → IsSoundBut key f
+      → ((b : Book) → get f.books key ≡ Some b → IsGone f.next_port f.publishers b.publisher) → IsWellFormed (state_of (kept_of f)) → KeepsEntries (kept_of f) → IsDomainBut key f
   but-of key parts lone kept left well entries = record {
     publisher_ids = parts.publisher_ids;
     subscriber_ids = parts.subscriber_ids;
@@ -82,7 +82,7 @@ module _ {T U : Type 0} (f : Fields T U) where
     entries = entries;
   }
 
-  pub parts_but : (key : ℕ) → IsSoundBut key f → HasParts f
+  pub parts_but : (key : ℕ) → IsDomainBut key f → HasParts f
   parts_but key sound = record {
     publisher_ids = sound.publisher_ids;
     subscriber_ids = sound.subscriber_ids;
@@ -102,7 +102,7 @@ module _ {T U : Type 0} (f : Fields T U) where
   }
 
   -- it is a step midway, at which nothing is done yet
-  pub midway-but : (key : ℕ) → IsSoundBut key f → IsMidway f f (state_of (kept_of f)) key
+  pub midway-but : (key : ℕ) → IsDomainBut key f → IsMidway f f (state_of (kept_of f)) key
   midway-but key sound = record {
     consistent = parts_but key sound;
     lone = sound.lone;

@@ -29,7 +29,7 @@ use Rattle.iox2_domain.proofs.lemmas.slots.BookChanges.{book-was, book-here}
 use Rattle.iox2_domain.proofs.lemmas.slots.LoneLoans.{lone-counters}
 use Rattle.iox2_domain.proofs.lemmas.fields.Parts.{parts_of}
 use Rattle.iox2_domain.proofs.lemmas.receivers.DepartedEnds.{nothing-returned}
-use Rattle.iox2_domain.proofs.lemmas.slots.RecountedSound as counts
+use Rattle.iox2_domain.proofs.lemmas.slots.RecountedLoans as counts
 use Rattle.iox2_domain.proofs.lemmas.receivers.LeftEnds.{IsDeparted, LeavesReceiver, left_fields, left-parts, end-goes, expired-goes}
 use Rattle.iox2_domain.proofs.lemmas.receivers.LeftStates.{left-is, ends-left, expired-left}
 use mathlib.Core.Path.{fun_ext}

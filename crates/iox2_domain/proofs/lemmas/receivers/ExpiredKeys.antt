@@ -20,7 +20,7 @@ use Rattle.iox2_domain.specs.ReceiverSteps.{HasDepartedEnd}
 use Rattle.iox2_domain.proofs.lemmas.fields.Standing.{some_is}
 use Rattle.iox2_domain.proofs.lemmas.updates.MadeConnections.{sum-updated}
 use Rattle.iox2_domain.proofs.lemmas.fields.Parts.{parts_of}
-use Rattle.iox2_domain.proofs.lemmas.receivers.SoundStanding.{leads-among, receiver-link}
+use Rattle.iox2_domain.proofs.lemmas.receivers.PortsStanding.{leads-among, receiver-link}
 use Rattle.iox2_domain.proofs.lemmas.receivers.DepartedEnds.{among}
 use Rattle.iox2_domain.proofs.lemmas.receivers.LeftChanges.{present}
 use Rattle.iox2_domain.proofs.lemmas.receivers.Retirements.{unexpired}

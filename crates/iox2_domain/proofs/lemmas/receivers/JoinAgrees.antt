@@ -22,10 +22,10 @@ use Rattle.iox2_domain.proofs.lemmas.fields.Views.{held-before}
 use Rattle.iox2_domain.proofs.lemmas.containers.ChangedRecords.{changed-here, changed-stood, changed-still, changed-only}
 use Rattle.iox2_domain.proofs.lemmas.updates.Extensions.{sender_linked, receiver_linked}
 use Rattle.iox2_domain.proofs.lemmas.fields.Parts.{parts_of}
-use Rattle.iox2_domain.proofs.lemmas.receivers.SoundExtends.{mailboxes-same}
+use Rattle.iox2_domain.proofs.lemmas.receivers.MoreConnections.{mailboxes-same}
 use Rattle.iox2_domain.proofs.lemmas.updates.ReceiverChanges.{FitsReceiver, IsNewOfReceiver, with_keys, with_receiver}
 use Rattle.iox2_domain.proofs.lemmas.receivers.JoinChanges.{receiver-is}
-use Rattle.iox2_domain.proofs.lemmas.receivers.SoundStanding.{one-publisher, one-subscriber}
+use Rattle.iox2_domain.proofs.lemmas.receivers.PortsStanding.{one-publisher, one-subscriber}
 use Rattle.std.proofs.lemmas.Bool.{true≢false}
 use Rattle.iox2_domain.proofs.lemmas.fields.OpenReceivers.{open-changed}
 

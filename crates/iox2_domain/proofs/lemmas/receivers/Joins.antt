@@ -41,7 +41,7 @@ use Rattle.iox2_domain.proofs.lemmas.updates.MadeConnections.{made-extends, made
 use Rattle.iox2_domain.proofs.lemmas.updates.ReceiverActions.{connect-makes}
 use Rattle.iox2_domain.proofs.lemmas.updates.ReceiverChanges.{FitsReceiver}
 use Rattle.iox2_domain.proofs.lemmas.fields.Parts.{parts_of}
-use Rattle.iox2_domain.proofs.lemmas.receivers.SoundStanding.{publisher-stands, subscriber-stands, publisher-listed, subscriber-place, one-subscriber, sender-joins, no-connection}
+use Rattle.iox2_domain.proofs.lemmas.receivers.PortsStanding.{publisher-stands, subscriber-stands, publisher-listed, subscriber-place, one-subscriber, sender-joins, no-connection}
 use Rattle.iox2_domain.proofs.lemmas.receivers.LeftChanges.{present, side-sound}
 use Rattle.iox2_domain.proofs.lemmas.receivers.JoinChanges.{receiver-is, receiver_fits-same}
 use Rattle.iox2_domain.proofs.lemmas.receivers.JoinAgrees.{receiver-agrees}

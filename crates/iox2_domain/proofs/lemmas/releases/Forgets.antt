@@ -1,5 +1,5 @@
 -- A subscriber forgets the connection at a key, or not, after it gave something back to a departed publisher.
-use Rattle.std.proofs.Common.{◌≡◌, ℕ, get_or, slice_set, Option, None, Some, ap, sym, subst, ◌∙◌}
+use Rattle.std.proofs.Common.{◌≡◌, ℕ, zero, suc, get_or, slice_set, Option, None, Some, refl, ap, sym, subst, ◌∙◌}
 use Rattle.std.proofs.lemmas.List.{get_or-set_same}
 use Rattle.std.specs.Option.{option_map, IsSomeAnd}
 use Rattle.slab.specs.Slab.{Slab, Updates, get}
@@ -10,14 +10,14 @@ use Rattle.iox2_store.specs.machine.State.{State}
 use Rattle.iox2_store.specs.machine.WellFormed.{IsWellFormed}
 use Rattle.iox2_ends.specs.LookUp.{look_up}
 use Rattle.iox2_ends.proofs.MailboxChanges.{within_if_some}
-use Rattle.iox2_domain.specs.Departures.{key_forgotten}
+use Rattle.iox2_domain.specs.Departures.{ForgetsConnection, key_forgotten}
 use Rattle.iox2_domain.specs.Fields.{Fields}
 use Rattle.iox2_domain.specs.Invariant.{is_publisher, HasParts}
 use Rattle.iox2_domain.specs.Midway.{IsMidway}
 use Rattle.iox2_domain.specs.Ports.{SubscriberFields}
 use Rattle.iox2_domain.specs.Updates.{changed_at}
 use Rattle.iox2_domain.proofs.lemmas.fields.Standing.{some_is}
-use Rattle.iox2_domain.proofs.lemmas.releases.Departed.{departed-midway, left-midway}
+use Rattle.iox2_domain.proofs.lemmas.releases.Departed.{departed-midway, key-place, left-midway}
 
 -- the subscriber of a connection stands at its place
 abbrev pub ItsSubscriber : {T U : Type 0} → Fields T U → Home → Type 0
@@ -73,3 +73,27 @@ module _ {T U : Type 0} (f : Fields T U) (parts : HasParts f) (key : ℕ) (home 
         ∙ ap (option_map (key_forgotten key)) stands.1,
     stands.2,
   )
+
+  -- so it is forgotten if it is empty
+  pub prunes : (new : Fields T U) → ((c : Link) → get f.connections key ≡ Some c → load c ≡ 0 → ForgetsConnection f home.subscriber_place key new)
+      → ((c : Link) → get f.connections key ≡ Some c → (load c ≡ 0 → ⊥) → new ≡ f) → PrunesMidway f home new × ItsSubscriber new home
+  prunes new empty full = by (load own.0) refl where
+    is-own : (c : Link) → get f.connections key ≡ Some c → c ≡ own.0
+    is-own c at = let one : Some c ≡ Some own.0 = sym at ∙ own.1 in cc
+
+    by : (n : ℕ) → load own.0 ≡ n → PrunesMidway f home new × ItsSubscriber new home
+    by zero e =
+        let gone = empty own.0 own.1 e in (
+          subst (PrunesMidway f home) (sym gone.fields) (forgets (λ c at. ap load (is-own c at) ∙ e) new.connections gone.removed),
+          subst (λ (g : Fields T U). ItsSubscriber g home) (sym gone.fields) (stands-still new.connections),
+        )
+    by (suc n) e =
+        let some : load own.0 ≡ 0 → ⊥ = λ none. (let no : suc n ≡ 0 = sym e ∙ none in absurd cc) in
+        let same = full own.0 own.1 some in (
+          subst (PrunesMidway f home) (sym same) (keeps (λ c at none. some (sym (ap load (is-own c at)) ∙ none))),
+          subst (λ (g : Fields T U). ItsSubscriber g home) (sym same) stands,
+        )
+
+  -- its subscriber has its key at its publisher's place alone
+  pub its-place : (z : SubscriberFields) → get_or f.subscribers home.subscriber_place None ≡ Some z → (i : ℕ) → get_or z.keys i None ≡ Some key → i ≡ home.publisher_place
+  its-place z at i at_k = key-place f parts home.subscriber_place i key z own.0 at at_k own.1 ∙ ap (λ (h : Home). h.publisher_place) own.2

@@ -1,6 +1,5 @@
 -- Connections in which no slot stands, and which only a subscriber that leaves has, go with it.
-use Rattle.std.proofs.Common.{◌≡◌, ◌≤◌, ℕ, zero, suc, Bool, true, false, List, [], ◌∷◌, get_or, Option, None, Some, refl, ap, sym, ◌∙◌, inl, inr, arith}
-use Rattle.std.proofs.lemmas.List.Sums.{sum_by-cons}
+use Rattle.std.proofs.Common.{◌≡◌, ◌≤◌, ℕ, Bool, true, false, List, get_or, Option, None, Some, refl, ap, sym, ◌∙◌, inl, inr, arith}
 use Rattle.std.specs.List.{sum_by}
 use Rattle.slab.specs.Slab.{Slab, get}
 use Rattle.iox2_store.specs.Link.{Link, load}
@@ -13,6 +12,7 @@ use Rattle.iox2_domain.specs.Departures.{IsUnshared, DropsUnshared}
 use Rattle.iox2_domain.specs.Fields.{Fields}
 use Rattle.iox2_domain.specs.Invariant.{IsLinked, SenderHas, connection_count, one_if_receivers}
 use Rattle.iox2_domain.specs.Ports.{PublisherFields}
+use Rattle.iox2_domain.proofs.lemmas.containers.FewerSums.{sum-fewer}
 use Rattle.iox2_domain.proofs.lemmas.releases.OrphanRemoved.{no-length}
 use Rattle.iox2_domain.proofs.lemmas.slots.Recounts.{sum-alike}
 
@@ -27,13 +27,6 @@ key-sender f linked i place key x c at_x at_k at_c =
       is_its = sym own.publisher;
       has = ap (λ (n : ℕ). get_or x.keys n None) own.place ∙ at_k;
     }
-
--- a list has no greater sum than another where at each index stands what counts no more
-sum-fewer : {A : Type 0} (f : Option A → ℕ) → f None ≡ 0 → (xs ys : List (Option A)) → ((k : ℕ) → f (get_or ys k None) ≤ f (get_or xs k None)) → sum_by f ys ≤ sum_by f xs
-sum-fewer f nothing [] [] fewer = omega arith
-sum-fewer f nothing [] (y ∷ ys) fewer = omega (arith, sum_by-cons f y ys, sum-fewer f nothing [] ys (λ k. fewer (suc k)), fewer zero, nothing)
-sum-fewer f nothing (x ∷ xs) [] fewer = omega (arith, sum_by-cons f x xs)
-sum-fewer f nothing (x ∷ xs) (y ∷ ys) fewer = omega (arith, sum_by-cons f x xs, sum_by-cons f y ys, sum-fewer f nothing xs ys (λ k. fewer (suc k)), fewer zero)
 
 module _ (publishers : List (Option PublisherFields)) (q : ℕ) (keys : ℕ → Type 0) (old new : Slab Link) (drops : DropsUnshared publishers q keys old new) (apart : IsApart old)
     (idle : (key : ℕ) (c : Link) → get old key ≡ Some c → IsUnshared publishers q key c → load c ≡ 0) where

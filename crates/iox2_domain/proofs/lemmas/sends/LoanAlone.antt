@@ -22,7 +22,7 @@ use Rattle.iox2_domain.proofs.lemmas.loans.LoanSlots.{number-at, holders-at, loa
 use Rattle.iox2_domain.proofs.lemmas.fields.Parts.{parts_of}
 use Rattle.iox2_domain.proofs.lemmas.slots.PublisherBooks.{book-own}
 use Rattle.iox2_domain.proofs.lemmas.slots.HeldMessages.{slot_numbered, own-in_use, holders-there}
-use Rattle.iox2_domain.proofs.lemmas.slots.RecountedSound.{loan-publisher}
+use Rattle.iox2_domain.proofs.lemmas.slots.RecountedLoans.{loan-publisher}
 use Rattle.iox2_domain.proofs.lemmas.slots.LoneLoans.{is-loan}
 
 -- a slot whose number isn't in the list isn't among the slots

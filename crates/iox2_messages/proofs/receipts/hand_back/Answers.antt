@@ -3,8 +3,9 @@ use Rattle.std.proofs.lemmas.Bool.{true≢false}
 use Rattle.slab.specs.Slab.{ContainsKey, get}
 use Rattle.iox2_store.specs.Link.{Link}
 use Rattle.iox2_store.specs.machine.Numbers.{IsOnce}
+use Rattle.iox2_ends.proofs.MailboxChanges.{within_if_some}
 use Rattle.iox2_domain.specs.Fields.{Fields}
-use Rattle.iox2_domain.proofs.lemmas.releases.Forgets.{ItsSubscriber}
+use Rattle.iox2_domain.proofs.lemmas.releases.Forgets.{ItsSubscriber, its-place, prunes}
 use Rattle.iox2_domain.proofs.lemmas.releases.HandedBack.{book-there, borrowed-there, is-given-back, is-let-go, once-there, slot-in_use, subscriber-here}
 use Rattle.iox2_messages.proofs.receipts.hand_back.Goals as goal
 
@@ -53,29 +54,27 @@ let_go-requires-clause-in_use g c =
     slot-in_use c.args.state.now c.requires.agrees c.args.at.connection c.args.at.slot c.args.home c.requires.borrowed c.index_mut.result.now
     (ap (λ (f : Fields g.row.T.Denot g.row.U.Denot). get f.books (c.args.home).book) (sym c.state.view_is) ∙ c.index_mut.ensures.value)
 
-pub forget_if_empty-requires-clause-consistent : goal.forget_if_empty-requires-clause-consistent
-forget_if_empty-requires-clause-consistent g c =
-    (is-let-go _ c.args.state.now c.state.view_is c.requires.agrees c.args.at.connection c.args.at.slot c.args.home c.requires.borrowed c.index_mut.result.now c.let_go.new.book
-    c.index_mut.ensures.value c.let_go.ensures.book c.let_go.new.connections c.let_go.ensures.releases c.let_go.ensures.recounts c.let_go.ensures.left
-    c.deref.result.now c.deref.ensures.value (λ has. true≢false (sym (c.stands_at.ensures.1 has) ∙ c.if-stands_at.false)) c.requires.agrees.kept_books).midway.consistent
-
 pub forget_if_empty-requires-clause-home : goal.forget_if_empty-requires-clause-home
 forget_if_empty-requires-clause-home g c =
     (is-let-go _ c.args.state.now c.state.view_is c.requires.agrees c.args.at.connection c.args.at.slot c.args.home c.requires.borrowed c.index_mut.result.now c.let_go.new.book
     c.index_mut.ensures.value c.let_go.ensures.book c.let_go.new.connections c.let_go.ensures.releases c.let_go.ensures.recounts c.let_go.ensures.left
     c.deref.result.now c.deref.ensures.value (λ has. true≢false (sym (c.stands_at.ensures.1 has) ∙ c.if-stands_at.false)) c.requires.agrees.kept_books).home_is
 
-pub forget_if_empty-requires-clause-gone : goal.forget_if_empty-requires-clause-gone
-forget_if_empty-requires-clause-gone g c =
-    (is-let-go _ c.args.state.now c.state.view_is c.requires.agrees c.args.at.connection c.args.at.slot c.args.home c.requires.borrowed c.index_mut.result.now c.let_go.new.book
-    c.index_mut.ensures.value c.let_go.ensures.book c.let_go.new.connections c.let_go.ensures.releases c.let_go.ensures.recounts c.let_go.ensures.left
-    c.deref.result.now c.deref.ensures.value (λ has. true≢false (sym (c.stands_at.ensures.1 has) ∙ c.if-stands_at.false)) c.requires.agrees.kept_books).gone
-
 pub forget_if_empty-requires-clause-stands : goal.forget_if_empty-requires-clause-stands
 forget_if_empty-requires-clause-stands g c =
-    (is-let-go _ c.args.state.now c.state.view_is c.requires.agrees c.args.at.connection c.args.at.slot c.args.home c.requires.borrowed c.index_mut.result.now c.let_go.new.book
+    let gone =
+    is-let-go _ c.args.state.now c.state.view_is c.requires.agrees c.args.at.connection c.args.at.slot c.args.home c.requires.borrowed c.index_mut.result.now c.let_go.new.book
     c.index_mut.ensures.value c.let_go.ensures.book c.let_go.new.connections c.let_go.ensures.releases c.let_go.ensures.recounts c.let_go.ensures.left
-    c.deref.result.now c.deref.ensures.value (λ has. true≢false (sym (c.stands_at.ensures.1 has) ∙ c.if-stands_at.false)) c.requires.agrees.kept_books).stands
+    c.deref.result.now c.deref.ensures.value (λ has. true≢false (sym (c.stands_at.ensures.1 has) ∙ c.if-stands_at.false)) c.requires.agrees.kept_books in
+    within_if_some _ _ gone.stands.0 gone.stands.1
+
+pub forget_if_empty-requires-clause-only : goal.forget_if_empty-requires-clause-only
+forget_if_empty-requires-clause-only g c =
+    let gone =
+    is-let-go _ c.args.state.now c.state.view_is c.requires.agrees c.args.at.connection c.args.at.slot c.args.home c.requires.borrowed c.index_mut.result.now c.let_go.new.book
+    c.index_mut.ensures.value c.let_go.ensures.book c.let_go.new.connections c.let_go.ensures.releases c.let_go.ensures.recounts c.let_go.ensures.left
+    c.deref.result.now c.deref.ensures.value (λ has. true≢false (sym (c.stands_at.ensures.1 has) ∙ c.if-stands_at.false)) c.requires.agrees.kept_books in
+    its-place _ gone.midway.consistent c.args.at.connection c.args.home gone.home_is gone.gone gone.stands
 
 pub returns-else-stands_at-clause-midway : goal.returns-else-stands_at-clause-midway
 returns-else-stands_at-clause-midway g c =
@@ -83,6 +82,13 @@ returns-else-stands_at-clause-midway g c =
     is-let-go _ c.args.state.now c.state.view_is c.requires.agrees c.args.at.connection c.args.at.slot c.args.home c.requires.borrowed c.index_mut.result.now c.let_go.new.book
     c.index_mut.ensures.value c.let_go.ensures.book c.let_go.new.connections c.let_go.ensures.releases c.let_go.ensures.recounts c.let_go.ensures.left
     c.deref.result.now c.deref.ensures.value (λ has. true≢false (sym (c.stands_at.ensures.1 has) ∙ c.if-stands_at.false)) c.requires.agrees.kept_books in
-    c.forget_if_empty.ensures.midway c.args.state.now _ _ _ c.requires.agrees.well_formed gone.midway
+    (prunes _ gone.midway.consistent c.args.at.connection c.args.home gone.home_is gone.gone gone.stands c.forget_if_empty.new.state c.forget_if_empty.ensures.empty c.forget_if_empty.ensures.full).0
+    c.args.state.now _ _ _ c.requires.agrees.well_formed gone.midway
 
--- ---- where no port was closed
+pub returns-else-stands_at-clause-stands : goal.returns-else-stands_at-clause-stands
+returns-else-stands_at-clause-stands g c =
+    let gone =
+    is-let-go _ c.args.state.now c.state.view_is c.requires.agrees c.args.at.connection c.args.at.slot c.args.home c.requires.borrowed c.index_mut.result.now c.let_go.new.book
+    c.index_mut.ensures.value c.let_go.ensures.book c.let_go.new.connections c.let_go.ensures.releases c.let_go.ensures.recounts c.let_go.ensures.left
+    c.deref.result.now c.deref.ensures.value (λ has. true≢false (sym (c.stands_at.ensures.1 has) ∙ c.if-stands_at.false)) c.requires.agrees.kept_books in
+    (prunes _ gone.midway.consistent c.args.at.connection c.args.home gone.home_is gone.gone gone.stands c.forget_if_empty.new.state c.forget_if_empty.ensures.empty c.forget_if_empty.ensures.full).1

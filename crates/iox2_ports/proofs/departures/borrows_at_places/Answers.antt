@@ -1,6 +1,5 @@
 use Rattle.std.proofs.Common.{◌≡◌, ◌+◌, None, Some, arith}
 use Rattle.std.specs.Prelude.{slice_index_or}
-use Rattle.iox2_domain.specs.Departures.{HasKey}
 use Rattle.iox2_domain.proofs.lemmas.containers.KeyWalks.{HasKeyBelow, next-key, all-keys}
 use Rattle.iox2_domain.proofs.lemmas.releases.Drops.{nothing-both}
 use Rattle.iox2_ports.proofs.departures.borrows_at_places.Goals as goal

@@ -1,6 +1,5 @@
-use Rattle.std.proofs.Common.{◌≡◌, ◌+◌, map, length, None, Some, arith}
+use Rattle.std.proofs.Common.{◌≡◌, ◌+◌, map, Some, arith}
 use Rattle.std.specs.Prelude.{slice_index}
-use Rattle.iox2_domain.specs.Departures.{HasKey}
 use Rattle.iox2_domain.proofs.lemmas.containers.KeyWalks.{HasKeyBelow, next-listed, all-listed}
 use Rattle.iox2_domain.proofs.lemmas.releases.Drops.{nothing-both}
 use Rattle.iox2_ports.proofs.departures.borrows_expired.Goals as goal

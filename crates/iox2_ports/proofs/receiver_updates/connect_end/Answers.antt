@@ -15,7 +15,7 @@ use Rattle.iox2_domain.specs.ReceiverSteps.{NotJoined, JoinsAt}
 use Rattle.iox2_domain.specs.Updates.{changed_at, with_receiver_key}
 use Rattle.iox2_domain.proofs.lemmas.updates.SenderOutcomes.{answers-warn}
 use Rattle.iox2_domain.proofs.lemmas.fields.Parts.{parts_of}
-use Rattle.iox2_domain.proofs.lemmas.receivers.SoundStanding.{some-buffer, sender-joins, receiver-room}
+use Rattle.iox2_domain.proofs.lemmas.receivers.PortsStanding.{some-buffer, sender-joins, receiver-room}
 use Rattle.iox2_domain.proofs.lemmas.receivers.Outcomes.{joins-as, makes-as, misses-as}
 use Rattle.iox2_ports.proofs.receiver_updates.connect_end.Goals as goal
 

@@ -1,17 +1,55 @@
-use Rattle.std.proofs.Common.{inl, refl}
-use Rattle.std.specs.Prelude.{Some}
+use Rattle.std.proofs.Common.{inl, refl, ◌∙◌}
 use Rattle.iox2_closes.specs.Closes.{IsLeftAt}
-use Rattle.iox2_closes.proofs.CloseReads.{left-there, left-nowhere, left-departed, left-after, others-after, left-loses}
+use Rattle.iox2_closes.proofs.CloseReads.{home-read, left-there, left-after, left-loses, left-home, left-within, left-only, left-settles, left-settled, others-after}
 use Rattle.iox2_ports.proofs.subscriber_closes.lose_if_left.Goals as goal
 
-pub forget_if_empty-requires-clause-left : goal.forget_if_empty-requires-clause-left
-forget_if_empty-requires-clause-left g c =
+pub forget_if_empty-requires-clause-home : goal.forget_if_empty-requires-clause-home
+forget_if_empty-requires-clause-home g c =
     let left : IsLeftAt c.args.state.now c.args.place c.in-Some.key =
     left-there c.args.state.now c.requires.parts c.args.place c.in-Some.key (c.requires.known c.in-Some.key c.in-Some.is) c.args.state.now refl (c.is_left.ensures.0 c.if-is_left.true) in
-    left-after c.args.state.now c.args.place c.in-Some.key left c.lose_waiting.new.state (c.lose_waiting.ensures left.link left.link_stands)
+    let loses = c.lose_waiting.ensures left.link left.link_stands in
+    let after = left-after c.args.state.now c.args.place c.in-Some.key left c.lose_waiting.new.state loses in
+    let home = c.home-home.ensures.value ∙ home-read c.args.state.now c.args.place c.in-Some.key left _ c.state.view_is c.index.result.now c.index.ensures in
+    left-home c.lose_waiting.new.state loses.passes.parts c.args.place c.in-Some.key after c.home-home.result home
+
+pub forget_if_empty-requires-clause-stands : goal.forget_if_empty-requires-clause-stands
+forget_if_empty-requires-clause-stands g c =
+    let left : IsLeftAt c.args.state.now c.args.place c.in-Some.key =
+    left-there c.args.state.now c.requires.parts c.args.place c.in-Some.key (c.requires.known c.in-Some.key c.in-Some.is) c.args.state.now refl (c.is_left.ensures.0 c.if-is_left.true) in
+    let loses = c.lose_waiting.ensures left.link left.link_stands in
+    let after = left-after c.args.state.now c.args.place c.in-Some.key left c.lose_waiting.new.state loses in
+    let home = c.home-home.ensures.value ∙ home-read c.args.state.now c.args.place c.in-Some.key left _ c.state.view_is c.index.result.now c.index.ensures in
+    left-within c.lose_waiting.new.state loses.passes.parts c.args.place c.in-Some.key after c.home-home.result home
+
+pub forget_if_empty-requires-clause-only : goal.forget_if_empty-requires-clause-only
+forget_if_empty-requires-clause-only g c =
+    let left : IsLeftAt c.args.state.now c.args.place c.in-Some.key =
+    left-there c.args.state.now c.requires.parts c.args.place c.in-Some.key (c.requires.known c.in-Some.key c.in-Some.is) c.args.state.now refl (c.is_left.ensures.0 c.if-is_left.true) in
+    let loses = c.lose_waiting.ensures left.link left.link_stands in
+    let after = left-after c.args.state.now c.args.place c.in-Some.key left c.lose_waiting.new.state loses in
+    let home = c.home-home.ensures.value ∙ home-read c.args.state.now c.args.place c.in-Some.key left _ c.state.view_is c.index.result.now c.index.ensures in
+    left-only c.lose_waiting.new.state loses.passes.parts c.args.place c.in-Some.key after c.home-home.result home
+
+pub settle_book-requires : goal.settle_book-requires
+settle_book-requires g c =
+    let left : IsLeftAt c.args.state.now c.args.place c.in-Some.key =
+    left-there c.args.state.now c.requires.parts c.args.place c.in-Some.key (c.requires.known c.in-Some.key c.in-Some.is) c.args.state.now refl (c.is_left.ensures.0 c.if-is_left.true) in
+    let loses = c.lose_waiting.ensures left.link left.link_stands in
+    let after = left-after c.args.state.now c.args.place c.in-Some.key left c.lose_waiting.new.state loses in
+    let home = c.home-home.ensures.value ∙ home-read c.args.state.now c.args.place c.in-Some.key left _ c.state.view_is c.index.result.now c.index.ensures in
+    left-settles c.lose_waiting.new.state loses.passes.parts c.args.place c.in-Some.key after c.home-home.result home
+    c.forget_if_empty.new.state c.forget_if_empty.ensures.empty c.forget_if_empty.ensures.full
+    (others-after c.args.state.now c.args.place c.in-Some.key left c.lose_waiting.new.state loses c.requires.busy)
 
 pub returns-then-is_left : goal.returns-then-is_left
 returns-then-is_left g c =
     let left : IsLeftAt c.args.state.now c.args.place c.in-Some.key =
     left-there c.args.state.now c.requires.parts c.args.place c.in-Some.key (c.requires.known c.in-Some.key c.in-Some.is) c.args.state.now refl (c.is_left.ensures.0 c.if-is_left.true) in
-    rw c.in-Some.is (inl (left-loses c.args.state.now c.args.place c.in-Some.key left c.lose_waiting.new.state (c.lose_waiting.ensures left.link left.link_stands) c.forget_if_empty.new.state c.forget_if_empty.ensures))
+    let loses = c.lose_waiting.ensures left.link left.link_stands in
+    let after = left-after c.args.state.now c.args.place c.in-Some.key left c.lose_waiting.new.state loses in
+    let home = c.home-home.ensures.value ∙ home-read c.args.state.now c.args.place c.in-Some.key left _ c.state.view_is c.index.result.now c.index.ensures in
+    rw c.in-Some.is (inl (left-loses c.args.state.now c.args.place c.in-Some.key left c.lose_waiting.new.state loses c.settle_book.new.self
+    (left-settled c.lose_waiting.new.state loses.passes.parts c.args.place c.in-Some.key after c.home-home.result home
+    c.forget_if_empty.new.state c.forget_if_empty.ensures.empty c.forget_if_empty.ensures.full
+    (others-after c.args.state.now c.args.place c.in-Some.key left c.lose_waiting.new.state loses c.requires.busy)
+    c.settle_book.new.self c.settle_book.ensures)))
