@@ -42,7 +42,7 @@ module _ {T U : Type 0} (f : Fields T U) (sound : IsDomain f) where
 
   -- something stands in each connection with a publisher that is gone
   pub sound-busy : (key : ℕ) (c : Link) → get f.connections key ≡ Some c → IsDeparted f.publishers c → IsBusy c
-  sound-busy key c at departed = elim (sound.linked.ends key c at) [
+  sound-busy key c at departed = elim (sound.parts.linked.ends key c at) [
     | inl has ↦ absurd (departed c.home.publisher_place has.publisher has.stands has.is_its)
     | inr has ↦ busy (kept has has.has)
   ] where
@@ -101,10 +101,10 @@ module _ {T U : Type 0} (f : Fields T U) (sound : IsDomain f) (place : ℕ) (y :
 
   -- the subscriber knows each of its connections with a publisher that is gone
   left-known : (k : ℕ) (c : Link) → get f.connections k ≡ Some c → c.home.subscriber ≡ y.id → IsDeparted f.publishers c → KnowsKey y k
-  left-known k c at its departed = elim (sound.linked.ends k c at) [
+  left-known k c at its departed = elim (sound.parts.linked.ends k c at) [
     | inl has ↦ absurd (departed c.home.publisher_place has.publisher has.stands has.is_its)
     | inr has ↦
-        let same : c.home.subscriber_place ≡ place = (sound.subscriber_ids y.id).one c.home.subscriber_place place has.subscriber y has.stands at_y
+        let same : c.home.subscriber_place ≡ place = (sound.parts.subscriber_ids y.id).one c.home.subscriber_place place has.subscriber y has.stands at_y
         (eq-eqb has.subscriber.id y.id (has.is_its ∙ its)) (eq-eqb y.id y.id refl) in
         let one : Some has.subscriber ≡ Some y = sym has.stands ∙ ap (λ (n : ℕ). get_or f.subscribers n None) same ∙ at_y in
         let is : has.subscriber ≡ y = cc in

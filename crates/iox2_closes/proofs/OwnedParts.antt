@@ -5,14 +5,13 @@ use Rattle.slab.specs.Slab.{get}
 use Rattle.iox2_store.specs.SlotBook.{Book}
 use Rattle.iox2_domain.specs.Fields.{Fields}
 use Rattle.iox2_domain.specs.Invariant.{IsUsed, IsDomain}
-use Rattle.iox2_domain.proofs.lemmas.fields.Parts.{parts_of}
 use Rattle.iox2_closes.specs.Agreement.{IsOrphan, HasOwnedParts}
 
 module _ {T U : Type 0} (f : Fields T U) where
   -- a domain's fields agree
   pub owned_parts_of : IsDomain f → HasOwnedParts f
   owned_parts_of sound = record {
-    parts = parts_of f sound;
+    parts = sound.parts;
     lone = sound.lone;
     owners = record { at = λ key b at. elim (sound.kept_books.at key b at) [ inl has ↦ inl has | inr left ↦ inr left.0 ] };
   }

@@ -281,45 +281,17 @@ pub record HasParts {T U : Type 0} (f : Fields T U) : Type 0 where
 -- The fields agree with one another, and what they keep is a well-formed state with an entry for each message that
 -- somebody holds.
 pub record IsDomain {T U : Type 0} (f : Fields T U) : Type 0 where
-  pub publisher_ids : (p : ℕ) → IsOnly (is_publisher p) f.publishers
-  pub subscriber_ids : (q : ℕ) → IsOnly (is_subscriber q) f.subscribers
-  pub apart : IsApart f.connections
-  pub linked : IsLinked f
-  pub expired_room : HasExpiredRoom f.subscribers f.connections
-  pub books : HasBooks f
-  pub names : NamesBooks f.books f.connections
+  pub parts : HasParts f
   pub kept_books : KeepsBooks f.next_port f.publishers f.books
-  pub counted : IsCounted f
-  pub numbered : IsNumbered f.next_message f.books
   pub lone : HasLoneLoans f.books
-  pub publisher_room : (i : ℕ) (x : PublisherFields) → slice_index_or f.publishers i None ≡ Some x → HasPublisherRoom f.config x
-  pub warning_room : (f.warnings).capacity ≡ warning_limit
-  pub shapes : HasShapes f
-  pub supported : IsSupportedConfig f.config
-  pub plain : (i : ℕ) (x : PublisherFields) → slice_index_or f.publishers i None ≡ Some x → IsPlain x
-  pub plain_subscribers : (i : ℕ) (y : SubscriberFields) → slice_index_or f.subscribers i None ≡ Some y → IsPlainSubscriber y
   pub well_formed : IsWellFormed (state_of (kept_of f))
   pub entries : KeepsEntries (kept_of f)
 
 -- The same but for the book at the key, whose publisher is gone, and of which no slot may have a holder any more.
 pub record IsDomainBut {T U : Type 0} (key : ℕ) (f : Fields T U) : Type 0 where
-  pub publisher_ids : (p : ℕ) → IsOnly (is_publisher p) f.publishers
-  pub subscriber_ids : (q : ℕ) → IsOnly (is_subscriber q) f.subscribers
-  pub apart : IsApart f.connections
-  pub linked : IsLinked f
-  pub expired_room : HasExpiredRoom f.subscribers f.connections
-  pub books : HasBooks f
-  pub names : NamesBooks f.books f.connections
-  pub counted : IsCounted f
-  pub numbered : IsNumbered f.next_message f.books
-  pub lone : HasLoneLoans f.books
-  pub publisher_room : (i : ℕ) (x : PublisherFields) → slice_index_or f.publishers i None ≡ Some x → HasPublisherRoom f.config x
-  pub warning_room : (f.warnings).capacity ≡ warning_limit
-  pub shapes : HasShapes f
-  pub supported : IsSupportedConfig f.config
-  pub plain : (i : ℕ) (x : PublisherFields) → slice_index_or f.publishers i None ≡ Some x → IsPlain x
-  pub plain_subscribers : (i : ℕ) (y : SubscriberFields) → slice_index_or f.subscribers i None ≡ Some y → IsPlainSubscriber y
+  pub parts : HasParts f
   pub kept_books : (k : ℕ) (b : Book) → k ≢ key → get f.books k ≡ Some b → IsOwned f.publishers k b.publisher ⊎ IsLeft f.next_port f.publishers b
   pub left_book : (b : Book) → get f.books key ≡ Some b → IsGone f.next_port f.publishers b.publisher
+  pub lone : HasLoneLoans f.books
   pub well_formed : IsWellFormed (state_of (kept_of f))
   pub entries : KeepsEntries (kept_of f)

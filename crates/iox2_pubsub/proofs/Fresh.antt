@@ -85,23 +85,25 @@ module _ {T U : Type 0} (config : ServiceConfig) (v c v' c' : ℕ) where
 
   is_domain : IsSupportedConfig config → IsDomain empty_fields
   is_domain supported = record {
-    publisher_ids = λ p. none_only _;
-    subscriber_ids = λ q. none_only _;
-    apart = record { one = λ p q. none_only _ };
-    linked = linked;
-    expired_room = record { at = λ i y at. absurd (nothing_at i y at) };
-    books = has_books;
-    names = record { at = λ key c at. absurd (nothing_at key c at) };
+    parts = record {
+      publisher_ids = λ p. none_only _;
+      subscriber_ids = λ q. none_only _;
+      apart = record { one = λ p q. none_only _ };
+      linked = linked;
+      expired_room = record { at = λ i y at. absurd (nothing_at i y at) };
+      books = has_books;
+      names = record { at = λ key c at. absurd (nothing_at key c at) };
+      counted = record { at = λ p slot. refl };
+      numbered = numbered v' c';
+      publisher_room = λ i x at. absurd (nothing_at i x at);
+      warning_room = refl;
+      shapes = record { at = λ key slot b m at _. absurd (nothing_at key b at) };
+      supported = supported;
+      plain = λ i x at. absurd (nothing_at i x at);
+      plain_subscribers = λ i y at. absurd (nothing_at i y at);
+    };
     kept_books = record { at = λ key b at. absurd (nothing_at key b at) };
-    counted = record { at = λ p slot. refl };
-    numbered = numbered v' c';
     lone = record { at = λ key slot b at _. absurd (nothing_at key b at) };
-    publisher_room = λ i x at. absurd (nothing_at i x at);
-    warning_room = refl;
-    shapes = record { at = λ key slot b m at _. absurd (nothing_at key b at) };
-    supported = supported;
-    plain = λ i x at. absurd (nothing_at i x at);
-    plain_subscribers = λ i y at. absurd (nothing_at i y at);
     well_formed = fresh_is_well_formed config;
     entries = keeps_entries;
   }

@@ -68,8 +68,8 @@ module _ {T U : Type 0} where
     -- a publisher that has slots has contents, and a user header in each
     some_header : 0 < x.slots → U
     some_header some =
-        let has : HasBook f x = (sound.books).publishers i x at in
-        first_header (get_or f.contents x.book None) (length (has.book).holders) (omega (arith, some, has.slots)) ((sound.books).books x.book has.book has.stands).shaped
+        let has : HasBook f x = (sound.parts.books).publishers i x at in
+        first_header (get_or f.contents x.book None) (length (has.book).holders) (omega (arith, some, has.slots)) ((sound.parts.books).books x.book has.book has.stands).shaped
 
     -- what stands here is no refusal
     unrefused : (publisher : PublisherHandle) → x.id ≡ publisher.id → IsSureOfLoan (kept_of f) publisher

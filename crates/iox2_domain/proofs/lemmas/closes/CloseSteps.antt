@@ -19,7 +19,6 @@ use Rattle.iox2_domain.specs.Invariant.{IsDomain, ReceiverHas}
 use Rattle.iox2_domain.specs.Midway.{IsMidway}
 use Rattle.iox2_domain.specs.Reaches.{Reaches, ReachesBut}
 use Rattle.iox2_domain.specs.Closes.{FindsAll, LeavesConnections, LeavesSlots, SomeHasKey, left_subscriber, left_fields}
-use Rattle.iox2_domain.proofs.lemmas.fields.Parts.{parts_of, parts_but}
 use Rattle.iox2_domain.proofs.lemmas.slots.PublisherBooks.{book-there, book-covers}
 use Rattle.iox2_domain.proofs.lemmas.fields.OwnKeys.{listed-at}
 use Rattle.iox2_domain.proofs.lemmas.closes.ClosingPorts.{its-counters}
@@ -31,7 +30,7 @@ module _ {T U : Type 0} (key : ℕ) (old new : Fields T U) (s : State T U) (left
   -- the book may go then
   closes-midway : IsMidway old new s key
   closes-midway = record {
-    consistent = parts_but new key left.agrees;
+    consistent = left.agrees.parts;
     lone = left.agrees.lone;
     kept_books = record { own = λ b at. inr (left.agrees.left_book b at); others = λ k b away at. left.agrees.kept_books k b away at };
     state = left.state;
@@ -50,18 +49,18 @@ module _ {T U : Type 0} (key : ℕ) (old new : Fields T U) (s : State T U) (left
 module _ {T U : Type 0} (f : Fields T U) (sound : IsDomain f) (i : ℕ) (x : PublisherFields) (here : get_or f.publishers i None ≡ Some x) where
   -- its book is there
   pub leaver-book : ContainsKey f.books x.book
-  leaver-book = book-there f (parts_of f sound) i x here
+  leaver-book = book-there f sound.parts i x here
 
   -- each of its connections stands at one of its keys, or at one that a subscriber has at its place
   pub leaver-finds : FindsAll x i f.subscribers f.connections
   leaver-finds = record {
-    at = λ key c at mine. elim (sound.linked.ends key c at) [
+    at = λ key c at mine. elim (sound.parts.linked.ends key c at) [
       | inl has ↦
-          let place : i ≡ c.home.publisher_place = sound.linked.knows_publishers key i c x at here (sym mine) in
+          let place : i ≡ c.home.publisher_place = sound.parts.linked.knows_publishers key i c x at here (sym mine) in
           let one : Some has.publisher ≡ Some x = sym has.stands ∙ sym (ap (λ (n : ℕ). get_or f.publishers n None) place) ∙ here in
           let is : has.publisher ≡ x = cc in
           inl (c.home.subscriber_place, ap (λ (z : PublisherFields). get_or z.keys c.home.subscriber_place None) (sym is) ∙ has.has)
-      | inr has ↦ inr (theirs key c at mine has (sound.linked.knows_publishers key i c x at here (sym mine)) has.has)
+      | inr has ↦ inr (theirs key c at mine has (sound.parts.linked.knows_publishers key i c x at here (sym mine)) has.has)
     ];
   } where
     theirs : (key : ℕ) (c : Link) → get f.connections key ≡ Some c → c.home.publisher ≡ x.id → (has : ReceiverHas f.subscribers key c) → i ≡ c.home.publisher_place
@@ -77,7 +76,7 @@ module _ {T U : Type 0} (f : Fields T U) (sound : IsDomain f) (i : ℕ) (x : Pub
   module _ (b : Book) (at : get f.books x.book ≡ Some b) where
     -- its book counts each place where a slot of it stands
     pub leaver-covered : IsCovered x.id b.holders f.connections.slots
-    leaver-covered = book-covers f (parts_of f sound) i x here b at
+    leaver-covered = book-covers f sound.parts i x here b at
 
     module _ (c : Book) (is_c : c ≡ with_counters b c.holders) (new : Slab Link) (follow : CountersFollow x.id b.holders f.connections.slots c.holders new.slots) where
       -- the slots of its history still have holders after it left its connections

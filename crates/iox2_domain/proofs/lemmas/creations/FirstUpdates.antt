@@ -16,7 +16,7 @@ use Rattle.iox2_domain.specs.Invariant.{IsDomain}
 use Rattle.iox2_domain.specs.Reaches.{Reaches}
 use Rattle.iox2_domain.specs.ReceiverSteps.{UpdatesReceiver}
 use Rattle.iox2_domain.specs.SubscriberEntry.{FirstUpdates, failure_warned}
-use Rattle.iox2_domain.proofs.lemmas.fields.Parts.{parts_of, whole_of}
+use Rattle.iox2_domain.proofs.lemmas.fields.Parts.{whole_of}
 use Rattle.iox2_domain.proofs.lemmas.fields.ReachesShows.{reaches-then}
 use Rattle.iox2_domain.proofs.lemmas.fields.Views.{held-before}
 use Rattle.iox2_domain.proofs.lemmas.receivers.LeftChanges.{parts-warned}
@@ -27,7 +27,7 @@ module _ {T U : Type 0} where
   warned-reaches : (f : Fields T U) → IsDomain f → (warnings : Buffer Warning) → warnings.capacity ≡ warning_limit
       → Reaches f (record f { warnings = warnings }) (record (state_of (kept_of f)) { warnings = warnings.items })
   warned-reaches f sound warnings room = record {
-    agrees = whole_of (record f { warnings = warnings }) (parts-warned f warnings (parts_of f sound) room) sound.lone sound.kept_books
+    agrees = whole_of (record f { warnings = warnings }) (parts-warned f warnings sound.parts room) sound.lone sound.kept_books
         (with_warning_keeps (state_of (kept_of f)) sound.well_formed warnings.items)
         (λ p n held. sound.entries p n (held-before (state_of (kept_of f)) (record (state_of (kept_of f)) { warnings = warnings.items }) p n (λ q. refl)
         (λ x at. (x, at, record { history = refl; blocked = refl })) held));

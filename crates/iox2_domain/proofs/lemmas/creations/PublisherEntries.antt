@@ -51,23 +51,25 @@ module _ {T U : Type 0} (f : Fields T U) where
 
   room-agrees : (capacity : ℕ) → IsDomain f → IsDomain (with_room capacity)
   room-agrees capacity sound = record {
-    publisher_ids = sound.publisher_ids;
-    subscriber_ids = sound.subscriber_ids;
-    apart = sound.apart;
-    linked = linked sound.linked;
-    expired_room = sound.expired_room;
-    books = books sound.books;
-    names = names-books f.books _ f.connections (λ k b at. (b, at, refl)) sound.names;
+    parts = record {
+      publisher_ids = sound.parts.publisher_ids;
+      subscriber_ids = sound.parts.subscriber_ids;
+      apart = sound.parts.apart;
+      linked = linked sound.parts.linked;
+      expired_room = sound.parts.expired_room;
+      books = books sound.parts.books;
+      names = names-books f.books _ f.connections (λ k b at. (b, at, refl)) sound.parts.names;
+      counted = record { at = sound.parts.counted.at };
+      numbered = numbered sound.parts.numbered;
+      publisher_room = sound.parts.publisher_room;
+      warning_room = sound.parts.warning_room;
+      shapes = record { at = sound.parts.shapes.at };
+      supported = sound.parts.supported;
+      plain = sound.parts.plain;
+      plain_subscribers = sound.parts.plain_subscribers;
+    };
     kept_books = record { at = sound.kept_books.at };
-    counted = record { at = sound.counted.at };
-    numbered = numbered sound.numbered;
     lone = record { at = sound.lone.at };
-    publisher_room = sound.publisher_room;
-    warning_room = sound.warning_room;
-    shapes = record { at = sound.shapes.at };
-    supported = sound.supported;
-    plain = sound.plain;
-    plain_subscribers = sound.plain_subscribers;
     well_formed = sound.well_formed;
     entries = sound.entries;
   } where

@@ -16,7 +16,7 @@ use Rattle.iox2_domain.specs.Kept.{Named, state_of, port_named, ids, is_named}
 use Rattle.iox2_domain.specs.Fields.{Fields, kept_of, publisher_of, is_book_of}
 use Rattle.iox2_domain.specs.Invariant.{IsDomain, IsLinked, HasBooks, KeepsBooks, IsCounted, SenderHas, ReceiverHas, is_publisher, own_holders, is_loan_in, HasParts}
 use Rattle.iox2_domain.proofs.lemmas.containers.LookUps.{look_up-map, map-at, viewed, IsOnly-map}
-use Rattle.iox2_domain.proofs.lemmas.fields.Parts.{parts_of, whole_of}
+use Rattle.iox2_domain.proofs.lemmas.fields.Parts.{whole_of}
 use Rattle.iox2_domain.proofs.lemmas.fields.Views.{KeepsHeld, held-before}
 use Rattle.iox2_domain.proofs.lemmas.fields.KeptBooks.{kept-publishers}
 use mathlib.Core.Path.{fun_ext}
@@ -170,7 +170,7 @@ module _ {T U : Type 0} (f : Fields T U) where
   -- the invariant is kept
   pub publishers_due-agree : IsDomain f → IsDomain (with_publishers_due f)
   publishers_due-agree sound =
-      whole_of (with_publishers_due f) (publishers_due-consistent (parts_of f sound)) sound.lone
+      whole_of (with_publishers_due f) (publishers_due-consistent sound.parts) sound.lone
       (kept-due sound.kept_books)
       (rw publishers_due-are (publishers_due_keeps (state_of (kept_of f)) sound.well_formed))
       (λ p n held. sound.entries p n (held-due p n held))

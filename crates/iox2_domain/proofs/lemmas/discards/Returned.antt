@@ -31,7 +31,7 @@ use Rattle.iox2_domain.specs.Shows.{KeepsEntries}
 use Rattle.iox2_domain.proofs.lemmas.fields.ConnectionEnds.{publisher-stands}
 use Rattle.iox2_domain.proofs.lemmas.fields.KeptBooks.{kept-own}
 use Rattle.iox2_domain.proofs.lemmas.fields.NamedBooks.{names-books}
-use Rattle.iox2_domain.proofs.lemmas.fields.Parts.{parts_of, whole_of}
+use Rattle.iox2_domain.proofs.lemmas.fields.Parts.{whole_of}
 use Rattle.iox2_domain.proofs.lemmas.fields.Views.{KeepsHeld, held-before}
 use Rattle.iox2_domain.proofs.lemmas.loans.PublisherChanges.{KeepsSettings, changed-ids_apart, changed-is, changed-linked_same, changed-books, changed-room, changed-plain, changed-kept_books, changed-own}
 use Rattle.iox2_domain.proofs.lemmas.sends.LoanAlone.{loan-number, loan-is, loan-of, loan-slot, loan-once}
@@ -61,7 +61,7 @@ module _ {T U : Type 0} (f : Fields T U) (sound : IsDomain f) (i : ℕ) (x : Pub
   was = state_of (kept_of f)
 
   parts : HasParts f
-  parts = parts_of f sound
+  parts = sound.parts
 
   mine : b.publisher ≡ x.id
   mine = book-own f parts i x here b at

@@ -81,7 +81,7 @@ module _ {T U : Type 0} (f : Fields T U) (sound : IsDomain f) (key : ℕ) (c : L
       one = λ i j x y at_x at_y is_x is_y.
           let a = before i x at_x in
           let b = before j y at_y in
-          ((sound.apart).one p q).one i j a.0 b.0 a.1 b.1 (ap (λ (h : Home). is_between p q (record c { home = h })) a.2 ∙ is_x) (ap (λ (h : Home). is_between p q (record c { home = h })) b.2 ∙ is_y);
+          ((sound.parts.apart).one p q).one i j a.0 b.0 a.1 b.1 (ap (λ (h : Home). is_between p q (record c { home = h })) a.2 ∙ is_x) (ap (λ (h : Home). is_between p q (record c { home = h })) b.2 ∙ is_y);
     };
   } where
     before : (k : ℕ) (d : Link) → get new k ≡ Some d → (b : Link) × (get f.connections k ≡ Some b) × (b.home ≡ d.home)
@@ -92,11 +92,11 @@ module _ {T U : Type 0} (f : Fields T U) (sound : IsDomain f) (key : ℕ) (c : L
 
   returned : (k : ℕ) (d : Link) → get new k ≡ Some d → SenderHas f.publishers k d ⊎ (d.returned ≡ [])
   returned k d at_d = elim (mark-was k d at_d) [
-    | inl here ↦ elim (sound.linked.returned k c (ap (get f.connections) here.0 ∙ at)) [
+    | inl here ↦ elim (sound.parts.linked.returned k c (ap (get f.connections) here.0 ∙ at)) [
       | inl has ↦ inl (sender-seated f new seats k c d (ap seat_of (sym here.1)) has)
       | inr none ↦ inr (ap (λ (e : Link). e.returned) here.1 ∙ none)
     ]
-    | inr old ↦ sound.linked.returned k d old
+    | inr old ↦ sound.parts.linked.returned k d old
   ]
 
   marked : (k : ℕ) (d : Link) → get new k ≡ Some d → d.is_open ≡ true → IsBetweenOpen f.publishers f.subscribers k d
@@ -108,54 +108,54 @@ module _ {T U : Type 0} (f : Fields T U) (sound : IsDomain f) (key : ℕ) (c : L
           sender = sender-seated f new seats k c d seat (subst (λ (n : ℕ). SenderHas f.publishers n c) (sym here.0) both.sender);
           receiver = open-seated f new seats c d seat both.receiver;
         }
-    | inr old ↦ sound.linked.marked k d old is
+    | inr old ↦ sound.parts.linked.marked k d old is
   ]
 
   room : HasExpiredRoom f.subscribers new
   room = record {
-    at = λ i y at_y. subst (λ (n : ℕ). n ≤ y.expired_room) (sym (sum-alike (one_if_receivers y.id) refl new.slots f.connections.slots (alike (one_if_receivers y.id) refl))) (sound.expired_room.at i y at_y);
+    at = λ i y at_y. subst (λ (n : ℕ). n ≤ y.expired_room) (sym (sum-alike (one_if_receivers y.id) refl new.slots f.connections.slots (alike (one_if_receivers y.id) refl))) (sound.parts.expired_room.at i y at_y);
   }
 
   books : HasBooks with_mark
   books = record {
-    one_each = sound.books.one_each;
-    books = sound.books.books;
-    publishers = λ i x at_x. let has = sound.books.publishers i x at_x in
+    one_each = sound.parts.books.one_each;
+    books = sound.parts.books.books;
+    publishers = λ i x at_x. let has = sound.parts.books.publishers i x at_x in
         record { book = has.book; stands = has.stands; is_its = has.is_its; slots = has.slots; no_more = has.no_more; room = has.room };
-    no_others = sound.books.no_others;
+    no_others = sound.parts.books.no_others;
   }
 
   names : NamesBooks f.books new
   names = record {
     at = λ k d at_d. elim (mark-was k d at_d) [
-      | inl here ↦ subst (λ (e : Link). IsBookOf f.books e.home.publisher e.home.book) (sym here.1) (sound.names.at key c at)
-      | inr old ↦ sound.names.at k d old
+      | inl here ↦ subst (λ (e : Link). IsBookOf f.books e.home.publisher e.home.book) (sym here.1) (sound.parts.names.at key c at)
+      | inr old ↦ sound.parts.names.at k d old
     ];
   }
 
   counted : IsCounted with_mark
   counted = record {
-    at = λ p slot. sound.counted.at p slot
+    at = λ p slot. sound.parts.counted.at p slot
         ∙ ap (λ (n : ℕ). own_holders f p slot + n) (sym (sum-alike (stands p slot) refl new.slots f.connections.slots (alike (stands p slot) refl)));
   }
 
   consistent : HasParts with_mark
   consistent = record {
-    publisher_ids = sound.publisher_ids;
-    subscriber_ids = sound.subscriber_ids;
+    publisher_ids = sound.parts.publisher_ids;
+    subscriber_ids = sound.parts.subscriber_ids;
     apart = apart;
-    linked = linked-seated f new seats sound.linked returned marked;
+    linked = linked-seated f new seats sound.parts.linked returned marked;
     expired_room = room;
     books = books;
     names = names;
     counted = counted;
-    numbered = sound.numbered;
-    publisher_room = sound.publisher_room;
-    warning_room = sound.warning_room;
-    shapes = record { at = sound.shapes.at };
-    supported = sound.supported;
-    plain = sound.plain;
-    plain_subscribers = sound.plain_subscribers;
+    numbered = sound.parts.numbered;
+    publisher_room = sound.parts.publisher_room;
+    warning_room = sound.parts.warning_room;
+    shapes = record { at = sound.parts.shapes.at };
+    supported = sound.parts.supported;
+    plain = sound.parts.plain;
+    plain_subscribers = sound.parts.plain_subscribers;
   }
 
   -- nothing but the mark changed

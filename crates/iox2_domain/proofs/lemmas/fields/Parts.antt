@@ -11,47 +11,13 @@ use Rattle.iox2_domain.specs.Invariant.{IsDomain, IsDomainBut, HasParts, HasLone
 use Rattle.iox2_domain.specs.Midway.{IsMidway}
 
 module _ {T U : Type 0} (f : Fields T U) where
-  -- a domain's fields agree
-  pub parts_of : IsDomain f → HasParts f
-  parts_of sound = record {
-    publisher_ids = sound.publisher_ids;
-    subscriber_ids = sound.subscriber_ids;
-    apart = sound.apart;
-    linked = sound.linked;
-    expired_room = sound.expired_room;
-    books = sound.books;
-    names = sound.names;
-    counted = sound.counted;
-    numbered = sound.numbered;
-    publisher_room = sound.publisher_room;
-    warning_room = sound.warning_room;
-    shapes = sound.shapes;
-    supported = sound.supported;
-    plain = sound.plain;
-    plain_subscribers = sound.plain_subscribers;
-  }
-
   -- fields that agree are a domain's where each loan has one holder, each book is somebody's or left, and what they keep is
   -- well-formed and has its entries
   pub whole_of : HasParts f → HasLoneLoans f.books → KeepsBooks f.next_port f.publishers f.books → IsWellFormed (state_of (kept_of f)) → KeepsEntries (kept_of f) → IsDomain f
   whole_of parts lone kept well entries = record {
-    publisher_ids = parts.publisher_ids;
-    subscriber_ids = parts.subscriber_ids;
-    apart = parts.apart;
-    linked = parts.linked;
-    expired_room = parts.expired_room;
-    books = parts.books;
-    names = parts.names;
+    parts = parts;
     kept_books = kept;
-    counted = parts.counted;
-    numbered = parts.numbered;
     lone = lone;
-    publisher_room = parts.publisher_room;
-    warning_room = parts.warning_room;
-    shapes = parts.shapes;
-    supported = parts.supported;
-    plain = parts.plain;
-    plain_subscribers = parts.plain_subscribers;
     well_formed = well;
     entries = entries;
   }
@@ -60,51 +26,18 @@ module _ {T U : Type 0} (f : Fields T U) where
   pub but-of : (key : ℕ) → HasParts f → HasLoneLoans f.books → ((k : ℕ) (b : Book) → k ≢ key → get f.books k ≡ Some b → IsOwned f.publishers k b.publisher ⊎ IsLeft f.next_port f.publishers b)
       → ((b : Book) → get f.books key ≡ Some b → IsGone f.next_port f.publishers b.publisher) → IsWellFormed (state_of (kept_of f)) → KeepsEntries (kept_of f) → IsDomainBut key f
   but-of key parts lone kept left well entries = record {
-    publisher_ids = parts.publisher_ids;
-    subscriber_ids = parts.subscriber_ids;
-    apart = parts.apart;
-    linked = parts.linked;
-    expired_room = parts.expired_room;
-    books = parts.books;
-    names = parts.names;
-    counted = parts.counted;
-    numbered = parts.numbered;
-    publisher_room = parts.publisher_room;
-    warning_room = parts.warning_room;
-    shapes = parts.shapes;
-    supported = parts.supported;
-    plain = parts.plain;
-    plain_subscribers = parts.plain_subscribers;
-    lone = lone;
+    parts = parts;
     kept_books = kept;
     left_book = left;
+    lone = lone;
     well_formed = well;
     entries = entries;
-  }
-
-  pub parts_but : (key : ℕ) → IsDomainBut key f → HasParts f
-  parts_but key sound = record {
-    publisher_ids = sound.publisher_ids;
-    subscriber_ids = sound.subscriber_ids;
-    apart = sound.apart;
-    linked = sound.linked;
-    expired_room = sound.expired_room;
-    books = sound.books;
-    names = sound.names;
-    counted = sound.counted;
-    numbered = sound.numbered;
-    publisher_room = sound.publisher_room;
-    warning_room = sound.warning_room;
-    shapes = sound.shapes;
-    supported = sound.supported;
-    plain = sound.plain;
-    plain_subscribers = sound.plain_subscribers;
   }
 
   -- it is a step midway, at which nothing is done yet
   pub midway-but : (key : ℕ) → IsDomainBut key f → IsMidway f f (state_of (kept_of f)) key
   midway-but key sound = record {
-    consistent = parts_but key sound;
+    consistent = sound.parts;
     lone = sound.lone;
     kept_books = record { own = λ b at. inr (sound.left_book b at); others = λ k b away at. sound.kept_books k b away at };
     state = refl;

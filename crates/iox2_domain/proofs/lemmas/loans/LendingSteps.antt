@@ -22,7 +22,7 @@ use Rattle.iox2_domain.proofs.lemmas.slots.PublisherBooks.{read-there}
 module _ {T U : Type 0} (f : Fields T U) (sound : IsDomain f) (i : ℕ) (x : PublisherFields) (at : get_or f.publishers i None ≡ Some x) where
   -- its book has contents
   pub contents-of : (b : Book) → get f.books x.book ≡ Some b → (cs : List (ContentState T U)) × (get_or f.contents x.book None ≡ Some cs) × (length cs ≡ length b.holders)
-  contents-of b stands = by (get_or f.contents x.book None) refl (sound.books.books x.book b stands) where
+  contents-of b stands = by (get_or f.contents x.book None) refl (sound.parts.books.books x.book b stands) where
     by : (o : Option (List (ContentState T U))) → get_or f.contents x.book None ≡ o → IsBook b o
         → (cs : List (ContentState T U)) × (get_or f.contents x.book None ≡ Some cs) × (length cs ≡ length b.holders)
     by None e is = absurd is.shaped
@@ -30,7 +30,7 @@ module _ {T U : Type 0} (f : Fields T U) (sound : IsDomain f) (i : ℕ) (x : Pub
 
   pub contents-within : x.book < length f.contents
   contents-within =
-      let has : HasBook f x = sound.books.publishers i x at in
+      let has : HasBook f x = sound.parts.books.publishers i x at in
       let found = contents-of has.book has.stands in
       within_if_some f.contents x.book found.0 found.1
 
@@ -41,14 +41,14 @@ module _ {T U : Type 0} (f : Fields T U) (sound : IsDomain f) (i : ℕ) (x : Pub
   single-fits b stands slot low o read =
       let found = contents-of b stands in
       let is : get_or f.contents x.book None ≡ o = read-there f.contents x.book found.0 o found.1 read in
-      let has : HasBook f x = sound.books.publishers i x at in
+      let has : HasBook f x = sound.parts.books.publishers i x at in
       let some = slice_get-some found.0 slot (let e = found.2 in omega arith) in
       let room : All (λ content. x.initial_max_slice_len * (f.config).units_per_element ≤ content.room) found.0 =
       subst (λ (o : Option (List (ContentState T U))). IsSomeAnd o (All (λ content. x.initial_max_slice_len * (f.config).units_per_element ≤ content.room))) found.1 has.room in
       let here : x.initial_max_slice_len * (f.config).units_per_element ≤ (get_or found.0 slot some.0).room = room slot some.0 (let e = found.2 in omega arith) in
       let same : get_or found.0 slot some.0 ≡ some.0 = get_or_from_slice_get found.0 slot some.0 some.0 some.1 in
       let enough : x.initial_max_slice_len * (f.config).units_per_element ≤ (some.0).room = subst (λ (c : ContentState T U). x.initial_max_slice_len * (f.config).units_per_element ≤ c.room) same here in
-      let single : 1 * (f.config).units_per_element ≤ (some.0).room = subst (λ (n : ℕ). n * (f.config).units_per_element ≤ (some.0).room) (sound.plain i x at).length enough in
+      let single : 1 * (f.config).units_per_element ≤ (some.0).room = subst (λ (n : ℕ). n * (f.config).units_per_element ≤ (some.0).room) (sound.parts.plain i x at).length enough in
       let fits : (f.config).units_per_element ≤ (some.0).room = omega arith in
       subst (λ (o : Option (List (ContentState T U))). IsSomeAnd o (λ cs. SomeAt cs slot (λ content. (f.config).units_per_element ≤ content.room))) (sym found.1 ∙ is)
       (subst (λ (o : Option (ContentState T U)). IsSomeAnd o (λ content. (f.config).units_per_element ≤ content.room)) (sym some.1) fits)
@@ -59,7 +59,7 @@ module _ {T U : Type 0} (f : Fields T U) (sound : IsDomain f) (i : ℕ) (x : Pub
       let found : Some can.publisher ≡ Some x = sym can.stands ∙ at in
       let same : can.publisher ≡ x = cc in
       let few : length x.loans < x.max_loaned_samples = subst (λ (z : PublisherFields). length z.loans < z.max_loaned_samples) same can.few in
-      let room = (sound.publisher_room i x at).loans in
+      let room = (sound.parts.publisher_room i x at).loans in
       omega arith
 
   -- the steps together are a loan

@@ -32,7 +32,6 @@ use Rattle.iox2_domain.proofs.lemmas.slots.Messages.{message_in-parts, message_a
 use Rattle.iox2_domain.proofs.lemmas.slots.SlotsInUse.{its_book, size-full, size-free}
 use Rattle.iox2_domain.proofs.lemmas.loans.LendingSteps.{contents-of}
 use Rattle.iox2_domain.proofs.lemmas.slots.PublisherBooks.{book-own}
-use Rattle.iox2_domain.proofs.lemmas.fields.Parts.{parts_of}
 use Rattle.iox2_domain.proofs.lemmas.loans.Taken.{CanTakeSlot, taken_book, taken_books, begun_contents, lent, taken-stands, lent-lies}
 use Rattle.iox2_domain.proofs.lemmas.loans.Granted.{lender, with_granted, lends-limited, lends-full, lends-failed, lends-granted}
 use Rattle.iox2_domain.proofs.lemmas.loans.GrantedAgrees.{granted-reaches}
@@ -73,7 +72,7 @@ module _ {T U : Type 0} (f : Fields T U) (sound : IsDomain f) (i : ℕ) (x : Pub
   slots-are : (b : Book) → get f.books x.book ≡ Some b → length b.holders ≡ x.slots
   slots-are b stands =
       ap (λ (c : Book). length c.holders) (sym (its-book b stands))
-      ∙ (its_book f sound i x at).no_more (ap is_static (sound.plain i x at).allocation)
+      ∙ (its_book f sound i x at).no_more (ap is_static (sound.parts.plain i x at).allocation)
 
   module _ (few : length x.loans < x.max_loaned_samples) (b : Book) (stands : get f.books x.book ≡ Some b) where
     few_numbers : length machine.loans < machine.max_loaned_samples
@@ -82,7 +81,7 @@ module _ {T U : Type 0} (f : Fields T U) (sound : IsDomain f) (i : ℕ) (x : Pub
     -- each slot has a holder
     pub full : HasReclaimed f.connections x.keys → (user_header : U) → All (λ n. 0 < n) b.holders → GrantLoan ample_memory user_header false 1 state x.id state (Some OutOfMemory)
     full reclaimed user_header all =
-        lends-full ample_memory user_header state x.id machine here few_numbers (sound.plain i x at).allocation
+        lends-full ample_memory user_header state x.id machine here few_numbers (sound.parts.plain i x at).allocation
         (size-full f sound i x at reclaimed (subst (λ (c : Book). All (λ n. 0 < n) c.holders) (sym (its-book b stands)) all)
         ∙ ap (λ (c : Book). length c.holders) (its-book b stands) ∙ slots-are b stands)
 
@@ -100,7 +99,7 @@ module _ {T U : Type 0} (f : Fields T U) (sound : IsDomain f) (i : ℕ) (x : Pub
         → GrantLoan ample_memory user_header false 1 state x.id state (Some InternalFailure)
     failed user_header not_all last =
         let free = some_slot b.holders not_all in
-        lends-failed ample_memory user_header state x.id machine here few_numbers (sound.plain i x at).allocation (some_room free.0 free.1 free.2) last
+        lends-failed ample_memory user_header state x.id machine here few_numbers (sound.parts.plain i x at).allocation (some_room free.0 free.1 free.2) last
 
   -- ---- what is decided
 
@@ -135,9 +134,9 @@ module _ {T U : Type 0} (f : Fields T U) (sound : IsDomain f) (i : ℕ) (x : Pub
       book = lends.book;
       contents = lends.starts.contents;
       stands = lends.stood;
-      its = book-own f (parts_of f sound) i x at lends.book lends.stood;
+      its = book-own f sound.parts i x at lends.book lends.stood;
       has = lends.starts.had;
-      aligned = (sound.books.books x.book lends.book lends.stood).aligned;
+      aligned = (sound.parts.books.books x.book lends.book lends.stood).aligned;
       shaped = let same : Some found.0 ≡ Some lends.starts.contents = sym found.1 ∙ lends.starts.had in
           let is : found.0 ≡ lends.starts.contents = cc in
           ap (length {A = ContentState T U}) (sym is) ∙ found.2;
@@ -165,7 +164,7 @@ module _ {T U : Type 0} (f : Fields T U) (sound : IsDomain f) (i : ℕ) (x : Pub
 
     pub lent-grants : GrantLoan ample_memory user_header false 1 state x.id (loan_granted user_header state x.id machine 1 machine.segments) None
     lent-grants =
-        lends-granted ample_memory user_header state x.id machine here (few_numbers few lends.book lends.stood) (sound.plain i x at).allocation
+        lends-granted ample_memory user_header state x.id machine here (few_numbers few lends.book lends.stood) (sound.parts.plain i x at).allocation
         (some_room few lends.book lends.stood slot lends.within lends.free) more
 
     -- the loan lies in the slot

@@ -32,7 +32,7 @@ one-element (y ∷ z ∷ xs) x one at = absurd (omega arith)
 module _ {T U : Type 0} (f : Fields T U) (sound : IsDomain f) (key : ℕ) (b : Book) (at_b : get f.books key ≡ Some b) where
   -- a book has contents
   pub contents-there : (cs : List (ContentState T U)) × (get_or f.contents key None ≡ Some cs)
-  contents-there = by (get_or f.contents key None) refl (sound.books.books key b at_b).shaped where
+  contents-there = by (get_or f.contents key None) refl (sound.parts.books.books key b at_b).shaped where
     by : (o : Option (List (ContentState T U))) → get_or f.contents key None ≡ o → IsSomeAnd o (λ cs. length cs ≡ length b.holders)
         → (cs : List (ContentState T U)) × (get_or f.contents key None ≡ Some cs)
     by None e has = absurd has

@@ -77,8 +77,8 @@ module _ {T U : Type 0} (f : Fields T U) (sound : IsDomain f) (single : (f.confi
   -- the loan has one cell
   pub one-cell : length (at.loan).cells ≡ 1
   one-cell =
-      let shape : HasShape f.config (Lent_message n at.loan) = sound.shapes.at key slot at.book (Lent_message n at.loan) at.stands at.lies in
-      let one : ((at.loan).header).number_of_elements ≡ 1 = shape.single sound.supported.single_values in
+      let shape : HasShape f.config (Lent_message n at.loan) = sound.parts.shapes.at key slot at.book (Lent_message n at.loan) at.stands at.lies in
+      let one : ((at.loan).header).number_of_elements ≡ 1 = shape.single sound.parts.supported.single_values in
       shape.length ∙ ap (λ k. k * (f.config).units_per_element) one ∙ ap (λ k. 1 * k) single
 
   module _ (cs : List (ContentState T U)) (at_c : get_or f.contents key None ≡ Some cs) where
@@ -119,7 +119,7 @@ module _ {T U : Type 0} (f : Fields T U) (sound : IsDomain f) (single : (f.confi
 
       loan-was : message_numbered n (kept_of f).books ≡ Some (Lent_message n at.loan)
       loan-was =
-          message_numbered-found f.contents f.books f.next_message sound.numbered n key slot (Lent_message n at.loan)
+          message_numbered-found f.contents f.books f.next_message sound.parts.numbered n key slot (Lent_message n at.loan)
           (message_at-slot f.contents f.books key slot at.book at.stands ∙ at.lies) (eq-eqb n n refl)
 
       others-were : (k : ℕ) → k ≢ n → message_numbered k (kept_of with_write).books ≡ message_numbered k (kept_of f).books
@@ -171,12 +171,12 @@ module _ {T U : Type 0} (f : Fields T U) (sound : IsDomain f) (single : (f.confi
             ];
       } where
         shape : HasShape f.config (Lent_message n at.loan)
-        shape = sound.shapes.at key slot at.book (Lent_message n at.loan) at.stands at.lies
+        shape = sound.parts.shapes.at key slot at.book (Lent_message n at.loan) at.stands at.lies
 
         before : (k s : ℕ) (m : KeptMessage T U) → ((k ≡ key) × (s ≡ slot) → ⊥) → lies_at with_write k s ≡ Some m → HasShape f.config m
         before k s m away found =
             let was = message_at-book f.contents f.books k s m (sym (others-lie f sound key slot at.book at.stands cs at_c Written (written_content value) k s away) ∙ found) in
-            sound.shapes.at k s was.0 m was.1 was.2
+            sound.parts.shapes.at k s was.0 m was.1 was.2
 
       write-keeps_entries : KeepsEntries (kept_of with_write)
       write-keeps_entries p' k there =
@@ -189,42 +189,44 @@ module _ {T U : Type 0} (f : Fields T U) (sound : IsDomain f) (single : (f.confi
       -- the invariant is kept
       pub write-agrees : IsDomain with_write
       write-agrees = record {
-        publisher_ids = sound.publisher_ids;
-        subscriber_ids = sound.subscriber_ids;
-        apart = sound.apart;
-        linked = linked;
-        expired_room = sound.expired_room;
-        books = slot-books f sound key slot at.book at.stands cs at_c Written (written_content value) (λ c. refl);
-        names = names-books f.books _ f.connections
-            (book-after f key at.book (marked f sound key slot at.book at.stands cs at_c Written (written_content value)) at.stands
-            (marked-keeps f sound key slot at.book at.stands cs at_c Written (written_content value))) sound.names;
+        parts = record {
+          publisher_ids = sound.parts.publisher_ids;
+          subscriber_ids = sound.parts.subscriber_ids;
+          apart = sound.parts.apart;
+          linked = linked;
+          expired_room = sound.parts.expired_room;
+          books = slot-books f sound key slot at.book at.stands cs at_c Written (written_content value) (λ c. refl);
+          names = names-books f.books _ f.connections
+              (book-after f key at.book (marked f sound key slot at.book at.stands cs at_c Written (written_content value)) at.stands
+              (marked-keeps f sound key slot at.book at.stands cs at_c Written (written_content value))) sound.parts.names;
+          counted = slot-counted f sound key slot at.book at.stands cs at_c Written (written_content value) refl (at.loan_slot).lent;
+          numbered = slot-numbered f sound key slot at.book at.stands cs at_c Written (written_content value);
+          publisher_room = sound.parts.publisher_room;
+          warning_room = sound.parts.warning_room;
+          shapes = write-shapes;
+          supported = sound.parts.supported;
+          plain = sound.parts.plain;
+          plain_subscribers = sound.parts.plain_subscribers;
+        };
         kept_books = kept-used f.next_port f.publishers f.books key at.book (marked f sound key slot at.book at.stands cs at_c Written (written_content value)) at.stands refl refl sound.kept_books;
-        counted = slot-counted f sound key slot at.book at.stands cs at_c Written (written_content value) refl (at.loan_slot).lent;
-        numbered = slot-numbered f sound key slot at.book at.stands cs at_c Written (written_content value);
         lone = lone-marked f.books key slot n at.book Written at.stands sound.lone at.loan_slot;
-        publisher_room = sound.publisher_room;
-        warning_room = sound.warning_room;
-        shapes = write-shapes;
-        supported = sound.supported;
-        plain = sound.plain;
-        plain_subscribers = sound.plain_subscribers;
         well_formed = rw write-is (loan_written_keeps state sound.well_formed n at.loan at.is_out value);
         entries = write-keeps_entries;
       } where
         linked : IsLinked with_write
         linked = record {
-          senders = sound.linked.senders;
-          receivers = sound.linked.receivers;
-          expired = sound.linked.expired;
-          ends = sound.linked.ends;
-          receiver_places = sound.linked.receiver_places;
-          knows = sound.linked.knows;
-          knows_publishers = sound.linked.knows_publishers;
-          sender_rooms = sound.linked.sender_rooms;
-          receiver_rooms = sound.linked.receiver_rooms;
-          limits = sound.linked.limits;
-          returned = sound.linked.returned;
-          marked = sound.linked.marked;
+          senders = sound.parts.linked.senders;
+          receivers = sound.parts.linked.receivers;
+          expired = sound.parts.linked.expired;
+          ends = sound.parts.linked.ends;
+          receiver_places = sound.parts.linked.receiver_places;
+          knows = sound.parts.linked.knows;
+          knows_publishers = sound.parts.linked.knows_publishers;
+          sender_rooms = sound.parts.linked.sender_rooms;
+          receiver_rooms = sound.parts.linked.receiver_rooms;
+          limits = sound.parts.linked.limits;
+          returned = sound.parts.linked.returned;
+          marked = sound.parts.linked.marked;
         }
 
       -- the step

@@ -19,7 +19,6 @@ use Rattle.iox2_domain.specs.Invariant.{IsDomain}
 use Rattle.iox2_domain.specs.ReceiverSteps.{current_side, ChangesReceiver}
 use Rattle.iox2_domain.proofs.lemmas.containers.ChangedRecords.{changed-here}
 use Rattle.iox2_domain.proofs.lemmas.updates.SenderWalk.{put_at-twice}
-use Rattle.iox2_domain.proofs.lemmas.fields.Parts.{parts_of}
 use Rattle.iox2_domain.proofs.lemmas.receivers.PortsStanding.{subscriber-stands}
 use Rattle.iox2_domain.proofs.lemmas.receivers.LeftChanges.{present}
 use mathlib.Core.Path.{fun_ext}
@@ -58,7 +57,7 @@ module _ {T U : Type 0} (f : Fields T U) (sound : IsDomain f) (j : ℕ) (y : Sub
     after = record Q { ends = side.ends; expired = side.expired; is_due = side.is_due }
 
     pub port-is : (subscriber_of f'.books f'.connections changed).port ≡ record Q { ends = side.ends; expired = side.expired; is_due = side.is_due }
-    port-is = same_Some _ _ (sym (subscriber-stands f' (parts_of f' ch.agrees) j changed changed-stands)
+    port-is = same_Some _ _ (sym (subscriber-stands f' ch.agrees.parts j changed changed-stands)
         ∙ ap (λ (t : State T U). t.subscribers y.id) ch.state
         ∙ put_at-same s.subscribers y.id (Some after))
 

@@ -27,7 +27,6 @@ use Rattle.iox2_domain.specs.Updates.{publisher_but_room}
 use Rattle.iox2_domain.proofs.lemmas.containers.LookUps.{map-at, viewed}
 use Rattle.iox2_domain.proofs.lemmas.fields.Standing.{occupant-receiver_ends}
 use Rattle.iox2_domain.proofs.lemmas.updates.ReceiverActions.{connect-keeps, connect-makes}
-use Rattle.iox2_domain.proofs.lemmas.fields.Parts.{parts_of}
 use Rattle.iox2_domain.proofs.lemmas.receivers.PortsStanding.{publisher-at, publisher-listed, receiver-link}
 use Rattle.iox2_domain.proofs.lemmas.receivers.Retirements.{here}
 use Rattle.iox2_domain.proofs.lemmas.receivers.Compositions.{unchanged, changed, changed-stands, port-is, side-again, senders-again, config-again, changes-more}
@@ -70,7 +69,7 @@ module _ {T U : Type 0} (environment : Environment) (f : Fields T U) (sound : Is
   empty-place nobody = (
     side,
     unchanged f sound j y at,
-    subst (λ who. Step who (occupant Q.ends i) side None) (sym (publisher-at f (parts_of f sound) i ∙ ap (option_map (λ (x : PublisherFields). x.id)) nobody)) (refl, refl),
+    subst (λ who. Step who (occupant Q.ends i) side None) (sym (publisher-at f sound.parts i ∙ ap (option_map (λ (x : PublisherFields). x.id)) nobody)) (refl, refl),
   )
 
   module _ (x : PublisherFields) (at_x : get_or f.publishers i None ≡ Some x) where
@@ -80,7 +79,7 @@ module _ {T U : Type 0} (environment : Environment) (f : Fields T U) (sound : Is
       side,
       unchanged f sound j y at,
       connect-keeps environment (f.config).service_id y.id Q.degradation_handler (expired_limit f.config) (λ r. has_sender_end s r y.id) i x.id
-          (occupant s.publisher_places i) side (publisher-listed f (parts_of f sound) i x at_x)
+          (occupant s.publisher_places i) side (publisher-listed f sound.parts i x at_x)
           (occupant-receiver_ends f.connections y.keys i ∙ ap (publisher_of_key f.connections) has ∙ ap (option_map (λ (d : Link). d.home.publisher)) link ∙ ap Some its),
     )
 
@@ -90,7 +89,7 @@ module _ {T U : Type 0} (environment : Environment) (f : Fields T U) (sound : Is
       side',
       changes,
       connect-makes environment (f.config).service_id y.id Q.degradation_handler (expired_limit f.config) (λ r. has_sender_end s r y.id) i x.id
-          (occupant s.publisher_places i) side (publisher-listed f (parts_of f sound) i x at_x) side' failure
+          (occupant s.publisher_places i) side (publisher-listed f sound.parts i x at_x) side' failure
           (occupant-receiver_ends f.connections y.keys i ∙ ap (publisher_of_key f.connections) none) step,
     )
 
@@ -117,7 +116,7 @@ module _ {T U : Type 0} (environment : Environment) (f : Fields T U) (sound : Is
           → Retire environment (f.config).service_id y.id Q.degradation_handler (expired_limit f.config) (λ r. has_sender_end s r y.id) side i p side' failure (λ mid. Connects mid x.id side' failure)
           → Step (occupant s.publisher_places i) (occupant Q.ends i) side' failure
       at-step side' failure retire =
-          subst (λ who. Step who (occupant Q.ends i) side' failure) (sym (publisher-listed f (parts_of f sound) i x at_x))
+          subst (λ who. Step who (occupant Q.ends i) side' failure) (sym (publisher-listed f sound.parts i x at_x))
           (subst (λ there. Step (Some x.id) there side' failure) (sym (here f sound j i y key c end))
           (subst (λ b. MatchBool b ((side' ≡ side) × (failure ≡ None))
           (Retire environment (f.config).service_id y.id Q.degradation_handler (expired_limit f.config) (λ r. has_sender_end s r y.id) side i p side' failure (λ mid. Connects mid x.id side' failure)))
@@ -154,7 +153,7 @@ module _ {T U : Type 0} (environment : Environment) (f : Fields T U) (sound : Is
           by : (o : Option ℕ) → get_or mid.keys i None ≡ o → o ≡ None
           by None e = refl
           by (Some k) e =
-              let own = receiver-link f1 (parts_of f1 ch.agrees) j i k mid (changed-stands f sound j y at (retired f i y p how) f1 ch) e in
+              let own = receiver-link f1 ch.agrees.parts j i k mid (changed-stands f sound j y at (retired f i y p how) f1 ch) e in
               let leads : occupant (subscriber_of f1.books f1.connections mid).port.ends i ≡ Some own.0.home.publisher =
               occupant-receiver_ends f1.connections mid.keys i ∙ ap (publisher_of_key f1.connections) e ∙ ap (option_map (λ (d : Link). d.home.publisher)) own.1 in
               let no : None ≡ Some own.0.home.publisher = sym nothing ∙ leads in

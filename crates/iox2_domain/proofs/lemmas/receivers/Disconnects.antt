@@ -20,7 +20,6 @@ use Rattle.iox2_domain.specs.Fields.{Fields, kept_of, subscriber_of}
 use Rattle.iox2_domain.specs.Invariant.{IsDomain}
 use Rattle.iox2_domain.specs.ReceiverSteps.{current_side, HasDepartedEnd, RetiresReceiver, Retired, Refused, retired, refused, machine_retirement, DisconnectsAt}
 use Rattle.iox2_domain.proofs.lemmas.fields.Standing.{occupant-receiver_ends}
-use Rattle.iox2_domain.proofs.lemmas.fields.Parts.{parts_of}
 use Rattle.iox2_domain.proofs.lemmas.receivers.PortsStanding.{publisher-at, publisher-listed, receiver-link}
 use Rattle.iox2_domain.proofs.lemmas.receivers.Retirements.{here}
 use Rattle.iox2_domain.proofs.lemmas.receivers.Compositions.{unchanged}
@@ -49,7 +48,7 @@ module _ {T U : Type 0} (environment : Environment) (f : Fields T U) (sound : Is
   taken-place x at_x = (
     side,
     unchanged f sound j y at,
-    subst (λ who. Step who (occupant Q.ends i) side None) (sym (publisher-listed f (parts_of f sound) i x at_x)) (refl, refl),
+    subst (λ who. Step who (occupant Q.ends i) side None) (sym (publisher-listed f sound.parts i x at_x)) (refl, refl),
   )
 
   -- nor where there is no end
@@ -57,14 +56,14 @@ module _ {T U : Type 0} (environment : Environment) (f : Fields T U) (sound : Is
   no-end nobody none = (
     side,
     unchanged f sound j y at,
-    subst (λ who. Step who (occupant Q.ends i) side None) (sym (publisher-at f (parts_of f sound) i ∙ ap (option_map (λ (x : PublisherFields). x.id)) nobody))
+    subst (λ who. Step who (occupant Q.ends i) side None) (sym (publisher-at f sound.parts i ∙ ap (option_map (λ (x : PublisherFields). x.id)) nobody))
         (subst (λ end. Step None end side None) (sym (occupant-receiver_ends f.connections y.keys i ∙ ap (publisher_of_key f.connections) none)) (refl, refl)),
   )
 
   -- the end there is a departed publisher's
   pub departed-end : get_or f.publishers i None ≡ None → (key : ℕ) → get_or y.keys i None ≡ Some key → (c : Link) × HasDepartedEnd f j i y key c
   departed-end nobody key has =
-      let own = receiver-link f (parts_of f sound) j i key y at has in (
+      let own = receiver-link f sound.parts j i key y at has in (
         own.0,
         record { stands = at; has = has; link = own.1; gone = λ x at_x _. let no : None ≡ Some x = sym nobody ∙ at_x in absurd cc },
       )
@@ -75,7 +74,7 @@ module _ {T U : Type 0} (environment : Environment) (f : Fields T U) (sound : Is
   retired-there nobody key c end f' (Retired unrefused changes) = (
     retired f i y c.home.publisher (machine_retirement f y c.home.publisher),
     changes,
-    subst (λ who. Step who (occupant Q.ends i) (retired f i y c.home.publisher (machine_retirement f y c.home.publisher)) None) (sym (publisher-at f (parts_of f sound) i ∙ ap (option_map (λ (x : PublisherFields). x.id)) nobody))
+    subst (λ who. Step who (occupant Q.ends i) (retired f i y c.home.publisher (machine_retirement f y c.home.publisher)) None) (sym (publisher-at f sound.parts i ∙ ap (option_map (λ (x : PublisherFields). x.id)) nobody))
         (subst (λ there. Step None there (retired f i y c.home.publisher (machine_retirement f y c.home.publisher)) None) (sym (here f sound j i y key c end))
         (subst (λ b. MatchBool b
         ((retired f i y c.home.publisher (machine_retirement f y c.home.publisher) ≡ after_retirement y.id side c.home.publisher (machine_retirement f y c.home.publisher)) × (None ≡ Some expired_buffer_full))
@@ -88,7 +87,7 @@ module _ {T U : Type 0} (environment : Environment) (f : Fields T U) (sound : Is
   refused-there nobody key c end f' (Refused is changes) = (
     refused f y c.home.publisher,
     changes,
-    subst (λ who. Step who (occupant Q.ends i) (refused f y c.home.publisher) (Some expired_buffer_full)) (sym (publisher-at f (parts_of f sound) i ∙ ap (option_map (λ (x : PublisherFields). x.id)) nobody))
+    subst (λ who. Step who (occupant Q.ends i) (refused f y c.home.publisher) (Some expired_buffer_full)) (sym (publisher-at f sound.parts i ∙ ap (option_map (λ (x : PublisherFields). x.id)) nobody))
         (subst (λ there. Step None there (refused f y c.home.publisher) (Some expired_buffer_full)) (sym (here f sound j i y key c end))
         (subst (λ (how : Retirement). MatchBool (is_refused how)
         ((refused f y c.home.publisher ≡ after_retirement y.id side c.home.publisher how) × (◌≡◌ {A = Option ConnectionFailure} (Some expired_buffer_full) (Some expired_buffer_full)))

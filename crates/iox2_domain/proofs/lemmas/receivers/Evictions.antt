@@ -33,7 +33,7 @@ use Rattle.iox2_domain.proofs.lemmas.containers.ConnectionKeys.{map-set_place}
 use Rattle.iox2_domain.proofs.lemmas.fields.Standing.{some_is, occupant-receiver_ends}
 use Rattle.iox2_domain.proofs.lemmas.fields.Views.{held-before}
 use Rattle.iox2_domain.proofs.lemmas.updates.SenderWalk.{put_at-twice}
-use Rattle.iox2_domain.proofs.lemmas.fields.Parts.{but-of, parts_of}
+use Rattle.iox2_domain.proofs.lemmas.fields.Parts.{but-of}
 use Rattle.iox2_domain.proofs.lemmas.receivers.PortsStanding.{leads-among, expired-gone}
 use Rattle.iox2_domain.proofs.lemmas.receivers.DepartedEnds.{among, contained}
 use Rattle.iox2_domain.proofs.lemmas.receivers.LeftEnds.{IsDeparted, LeavesReceiver, left_fields, left-parts, end-expires}
@@ -63,7 +63,7 @@ module _ {T U : Type 0} (f : Fields T U) (sound : IsDomain f) (j i : ℕ) (y : S
   lost = d.home.publisher
 
   abbrev parts : HasParts f
-  parts = parts_of f sound
+  parts = sound.parts
 
   abbrev side : ReceiverSide
   side = current_side s y.id Q
@@ -73,7 +73,7 @@ module _ {T U : Type 0} (f : Fields T U) (sound : IsDomain f) (j i : ℕ) (y : S
   own : (k : ℕ) → contains y.expired k ≡ true → (e : Link) × (get f.connections k ≡ Some e) × IsReceivers y.id (f.config).subscriber_max_borrowed_samples e
   own k has =
       let there = among y.expired k has in
-      some_is (IsReceivers y.id (f.config).subscriber_max_borrowed_samples) (get f.connections k) ((sound.linked.expired j y end.stands).at there.0 k there.1)
+      some_is (IsReceivers y.id (f.config).subscriber_max_borrowed_samples) (get f.connections k) ((sound.parts.linked.expired j y end.stands).at there.0 k there.1)
 
   its : d.home.subscriber ≡ y.id
   its =
@@ -89,7 +89,7 @@ module _ {T U : Type 0} (f : Fields T U) (sound : IsDomain f) (j i : ℕ) (y : S
   pub lost-departed : IsDeparted f y d
   lost-departed = record {
     subscriber = its;
-    publisher = λ k x at_x. expired-gone f (parts_of f sound) sound.well_formed j first k y d x end.stands (contained y.expired first old.has) old.link at_x;
+    publisher = λ k x at_x. expired-gone f sound.parts sound.well_formed j first k y d x end.stands (contained y.expired first old.has) old.link at_x;
   }
 
   -- it is at no place

@@ -19,7 +19,6 @@ use Rattle.iox2_domain.specs.Invariant.{IsDomain, one_if_receivers, connection_c
 use Rattle.iox2_domain.specs.ReceiverSteps.{HasDepartedEnd}
 use Rattle.iox2_domain.proofs.lemmas.fields.Standing.{some_is}
 use Rattle.iox2_domain.proofs.lemmas.updates.MadeConnections.{sum-updated}
-use Rattle.iox2_domain.proofs.lemmas.fields.Parts.{parts_of}
 use Rattle.iox2_domain.proofs.lemmas.receivers.PortsStanding.{leads-among, receiver-link}
 use Rattle.iox2_domain.proofs.lemmas.receivers.DepartedEnds.{among}
 use Rattle.iox2_domain.proofs.lemmas.receivers.LeftChanges.{present}
@@ -63,7 +62,7 @@ module _ {T U : Type 0} (f : Fields T U) (sound : IsDomain f) (j i : ℕ) (y : S
   pub expired-link : (k : ℕ) → contains y.expired k ≡ true → (d : Link) × (get f.connections k ≡ Some d) × IsReceivers y.id most d
   expired-link k has =
       let there = among y.expired k has in
-      some_is (IsReceivers y.id most) (get f.connections k) ((sound.linked.expired j y end.stands).at there.0 k there.1)
+      some_is (IsReceivers y.id most) (get f.connections k) ((sound.parts.linked.expired j y end.stands).at there.0 k there.1)
 
   once : IsOnce (key ∷ y.expired)
   once = (
@@ -78,13 +77,13 @@ module _ {T U : Type 0} (f : Fields T U) (sound : IsDomain f) (j i : ℕ) (y : S
 
     by : (key ≡ k) ⊎ (contains y.expired k ≡ true) → one_if_receivers y.id (get f.connections k) ≡ 1
     by (inl here) =
-        let own = receiver-link f (parts_of f sound) j i key y end.stands end.has in
+        let own = receiver-link f sound.parts j i key y end.stands end.has in
         ap (λ (n : ℕ). one_if_receivers y.id (get f.connections n)) (sym here) ∙ one key own.0 own.1 own.2.subscriber
     by (inr later) = let d = expired-link k later in one k d.0 d.1 d.2.subscriber
 
   -- so there is room
   pub room-to-expire : length y.expired < y.expired_room
   room-to-expire =
-      let enough : connection_count f.connections y.id ≤ y.expired_room = sound.expired_room.at j y end.stands in
+      let enough : connection_count f.connections y.id ≤ y.expired_room = sound.parts.expired_room.at j y end.stands in
       let many = count-keys f.connections.slots y.id (key ∷ y.expired) once one-each in
       omega (arith, enough, many)

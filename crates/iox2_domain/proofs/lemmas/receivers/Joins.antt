@@ -40,7 +40,6 @@ use Rattle.iox2_domain.proofs.lemmas.updates.Extensions.{Extends, receiver_linke
 use Rattle.iox2_domain.proofs.lemmas.updates.MadeConnections.{made-extends, made-news}
 use Rattle.iox2_domain.proofs.lemmas.updates.ReceiverActions.{connect-makes}
 use Rattle.iox2_domain.proofs.lemmas.updates.ReceiverChanges.{FitsReceiver}
-use Rattle.iox2_domain.proofs.lemmas.fields.Parts.{parts_of}
 use Rattle.iox2_domain.proofs.lemmas.receivers.PortsStanding.{publisher-stands, subscriber-stands, publisher-listed, subscriber-place, one-subscriber, sender-joins, no-connection}
 use Rattle.iox2_domain.proofs.lemmas.receivers.LeftChanges.{present, side-sound}
 use Rattle.iox2_domain.proofs.lemmas.receivers.JoinChanges.{receiver-is, receiver_fits-same}
@@ -55,7 +54,7 @@ module _ {T U : Type 0} (environment : Environment) (f : Fields T U) (sound : Is
   Q = (subscriber_of f.books f.connections y).port
 
   abbrev parts : HasParts f
-  parts = parts_of f sound
+  parts = sound.parts
 
   abbrev most : ℕ
   most = (f.config).subscriber_max_borrowed_samples
@@ -97,7 +96,7 @@ module _ {T U : Type 0} (environment : Environment) (f : Fields T U) (sound : Is
   ) where
     state : state_of (kept_of (joined_fields keys connections warnings)) ≡ with_receiver_side s y.id Q (side_with keys connections warnings)
     state =
-        receiver-is f (parts_of f sound) j y at_y keys y.key_room y.expired_room y.is_due connections warnings fits
+        receiver-is f sound.parts j y at_y keys y.key_room y.expired_room y.is_due connections warnings fits
         ∙ (λ k. record s {
           subscribers = put_at s.subscribers y.id (Some (record Q { ends = receiver_ends connections keys; is_due = y.is_due }));
           mailboxes = λ p. put_at-own (s.mailboxes p) y.id k;
@@ -109,7 +108,7 @@ module _ {T U : Type 0} (environment : Environment) (f : Fields T U) (sound : Is
         (connect_at_place_keeps environment s sound.well_formed y.id Q.degradation_handler (λ r. has_sender_end s r y.id) i
         (current_side s y.id Q) (side_with keys connections warnings) failure (side-sound f sound j y at_y)
         (connect-makes environment (f.config).service_id y.id Q.degradation_handler (expired_limit f.config) (λ r. has_sender_end s r y.id) i x.id
-        (occupant s.publisher_places i) (current_side s y.id Q) (publisher-listed f (parts_of f sound) i x at_x) (side_with keys connections warnings) failure no_end step))
+        (occupant s.publisher_places i) (current_side s y.id Q) (publisher-listed f sound.parts i x at_x) (side_with keys connections warnings) failure no_end step))
 
   abbrev keys_with : (key : ℕ) → List (Option ℕ)
   keys_with key = set_place y.keys i (Some key)
@@ -140,10 +139,10 @@ module _ {T U : Type 0} (environment : Environment) (f : Fields T U) (sound : Is
         let is : d ≡ c = cc in
         ap (λ (e : Link). e.home.publisher_place) is ∙ here ∙ sym new.0
     | inr before ↦
-        let joined = some_is (IsReceivers y.id most) (get f.connections k) ((sound.linked.receivers j y at_y).at place k before) in
+        let joined = some_is (IsReceivers y.id most) (get f.connections k) ((sound.parts.linked.receivers j y at_y).at place k before) in
         let same : Some d ≡ Some joined.0 = sym at_d ∙ extends.grows k joined.0 joined.1 in
         let is : d ≡ joined.0 = cc in
-        ap (λ (e : Link). e.home.publisher_place) is ∙ sound.linked.receiver_places j place k y joined.0 at_y before joined.1
+        ap (λ (e : Link). e.home.publisher_place) is ∙ sound.parts.linked.receiver_places j place k y joined.0 at_y before joined.1
   ]
 
   -- the end is made where the keys lead to it
@@ -154,18 +153,18 @@ module _ {T U : Type 0} (environment : Environment) (f : Fields T U) (sound : Is
   pub joins-connection : (key : ℕ) (c : Link) → get_or x.keys j None ≡ Some key → get f.connections key ≡ Some c → c.home.subscriber ≡ y.id
       → ConnectsEnd environment f j i y x.id (joined_fields (set_place y.keys i (Some key)) f.connections f.warnings) None
   joins-connection key c at there its =
-      let own = sender-joins f (parts_of f sound) i j x y at_x at_y key c at there its in
-      let extends = (receiver_fits-same f (parts_of f sound) j y at_y f.connections.capacity).extends in
+      let own = sender-joins f sound.parts i j x y at_x at_y key c at there its in
+      let extends = (receiver_fits-same f sound.parts j y at_y f.connections.capacity).extends in
       steps-join (keys_with key) f.connections f.warnings None (record {
         extends = extends;
         grows = le_refl y.key_room;
         expired_grows = le_refl y.expired_room;
-        rooms = sound.expired_room;
-        linked = linked-with f.connections key c (sound.linked.receivers j y at_y) own.stands own.subscriber (sound.linked.limits key c own.stands);
+        rooms = sound.parts.expired_room;
+        linked = linked-with f.connections key c (sound.parts.linked.receivers j y at_y) own.stands own.subscriber (sound.parts.linked.limits key c own.stands);
         places = places-with f.connections key c extends own.stands own.publisher_place;
         keeps = set_place-keeps y.keys i key none;
         news = λ k d found. inl found;
-      }) sound.warning_room
+      }) sound.parts.warning_room
       (makes-end (keys_with key) f.connections (leads f.connections key c refl own.stands own.publisher))
 
   -- ---- the publisher has no end to the subscriber either
@@ -175,15 +174,15 @@ module _ {T U : Type 0} (environment : Environment) (f : Fields T U) (sound : Is
     link = empty_link (home_of i j x y) y.buffer most
 
     nobody : look_up (is_between x.id y.id) f.connections.slots ≡ None
-    nobody = no-connection f (parts_of f sound) i j x y at_x at_y sound.well_formed none_x (λ key c has _ _. let no : None ≡ Some key = sym none ∙ has in absurd cc)
+    nobody = no-connection f sound.parts i j x y at_x at_y sound.well_formed none_x (λ key c has _ _. let no : None ≡ Some key = sym none ∙ has in absurd cc)
 
     extends-made : (key : ℕ) (new : Slab Link) → MakesConnection f.connections (home_of i j x y) y.buffer most key new → Extends f.connections new
-    extends-made key new made = made-extends f.connections new (home_of i j x y) y.buffer most key sound.apart nobody made
+    extends-made key new made = made-extends f.connections new (home_of i j x y) y.buffer most key sound.parts.apart nobody made
 
     -- no other subscriber has the id
     room-here : connection_count f.connections y.id < y.expired_room → (k : ℕ) (z : SubscriberFields) → get_or f.subscribers k None ≡ Some z → z.id ≡ y.id → connection_count f.connections z.id < z.expired_room
     room-here more k z at_z same =
-        let place : k ≡ j = one-subscriber f (parts_of f sound) k j z y at_z at_y same in
+        let place : k ≡ j = one-subscriber f sound.parts k j z y at_z at_y same in
         let one : Some z ≡ Some y = sym at_z ∙ ap (λ (n : ℕ). get_or f.subscribers n None) place ∙ at_y in
         let is : z ≡ y = cc in
         rw is more
@@ -197,11 +196,11 @@ module _ {T U : Type 0} (environment : Environment) (f : Fields T U) (sound : Is
           extends = extends-made key new made;
           grows = le_refl y.key_room;
           expired_grows = le_refl y.expired_room;
-          rooms = room-made f.subscribers f.connections new key link made.was_free made.made (room-here room_expired) sound.expired_room;
-          linked = linked-with new key link (receiver_linked f.connections new (extends-made key new made) y.id most y.keys (sound.linked.receivers j y at_y)) made.made.changed refl refl;
+          rooms = room-made f.subscribers f.connections new key link made.was_free made.made (room-here room_expired) sound.parts.expired_room;
+          linked = linked-with new key link (receiver_linked f.connections new (extends-made key new made) y.id most y.keys (sound.parts.linked.receivers j y at_y)) made.made.changed refl refl;
           places = places-with new key link (extends-made key new made) made.made.changed refl;
           keeps = set_place-keeps y.keys i key none;
-          news = λ k c at. elim (made-news f.connections new (home_of i j x y) y.buffer most key sound.apart nobody made k c at) [
+          news = λ k c at. elim (made-news f.connections new (home_of i j x y) y.buffer most key sound.parts.apart nobody made k c at) [
             | inl old ↦ inl old
             | inr is ↦ inr (rw (is.0, is.1) (record {
               subscriber = refl;
@@ -219,16 +218,16 @@ module _ {T U : Type 0} (environment : Environment) (f : Fields T U) (sound : Is
               publisher_room = room_x;
             }))
           ];
-        }) sound.warning_room
+        }) sound.parts.warning_room
         (makes-end (keys_with key) new
-        (leads new key link (receiver_ends-same f.connections new (extends-made key new made) y.id most y.keys (sound.linked.receivers j y at_y)) made.made.changed refl))
+        (leads new key link (receiver_ends-same f.connections new (extends-made key new made) y.id most y.keys (sound.parts.linked.receivers j y at_y)) made.made.changed refl))
 
     no_sender : has_sender_end s x.id y.id ≡ false
     no_sender =
-        ap (λ o. option_map_or (λ (w : Publisher). option_map_or (λ (z : Subscriber). is_port (occupant w.ends z.place) y.id) (s.subscribers y.id) false) o false) (publisher-stands f (parts_of f sound) i x at_x)
-        ∙ ap (λ o. option_map_or (λ (z : Subscriber). is_port (occupant ((publisher_of f.books f.connections x).port).ends z.place) y.id) o false) (subscriber-stands f (parts_of f sound) j y at_y)
+        ap (λ o. option_map_or (λ (w : Publisher). option_map_or (λ (z : Subscriber). is_port (occupant w.ends z.place) y.id) (s.subscribers y.id) false) o false) (publisher-stands f sound.parts i x at_x)
+        ∙ ap (λ o. option_map_or (λ (z : Subscriber). is_port (occupant ((publisher_of f.books f.connections x).port).ends z.place) y.id) o false) (subscriber-stands f sound.parts j y at_y)
         ∙ ap (λ o. is_port o y.id)
-        (ap (occupant ((publisher_of f.books f.connections x).port).ends) (subscriber-place f (parts_of f sound) sound.well_formed j y at_y)
+        (ap (occupant ((publisher_of f.books f.connections x).port).ends) (subscriber-place f sound.parts sound.well_formed j y at_y)
         ∙ occupant-sender_ends f.connections x.keys j)
         ∙ by (get_or x.keys j None) refl
       where
@@ -256,5 +255,5 @@ module _ {T U : Type 0} (environment : Environment) (f : Fields T U) (sound : Is
           warnings = buffer (warnings_after x.id y.id action f.warnings.items) warning_limit;
         })
         (steps-join y.keys (record f.connections { capacity = n }) (buffer (warnings_after x.id y.id action f.warnings.items) warning_limit) (failure_of action)
-        (receiver_fits-same f (parts_of f sound) j y at_y n) refl
+        (receiver_fits-same f sound.parts j y at_y n) refl
         (inr (no_sender, warnings_after x.id y.id action f.warnings.items, (action, may, answers, refl, refl), refl)))

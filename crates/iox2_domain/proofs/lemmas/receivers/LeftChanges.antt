@@ -17,7 +17,7 @@ use Rattle.iox2_domain.specs.Invariant.{HasParts, IsDomain}
 use Rattle.iox2_domain.specs.Fields.{Fields, kept_of, subscriber_of}
 use Rattle.iox2_domain.specs.ReceiverSteps.{current_side, ChangesReceiver}
 use Rattle.iox2_domain.proofs.lemmas.fields.Views.{held-before}
-use Rattle.iox2_domain.proofs.lemmas.fields.Parts.{parts_of, whole_of}
+use Rattle.iox2_domain.proofs.lemmas.fields.Parts.{whole_of}
 use Rattle.iox2_domain.proofs.lemmas.receivers.PortsStanding.{subscriber-stands}
 use Rattle.iox2_domain.proofs.lemmas.receivers.LeftEnds.{LeavesReceiver, left_fields, left-parts}
 use Rattle.iox2_domain.proofs.lemmas.receivers.LeftStates.{left-is, left_port}
@@ -69,10 +69,10 @@ module _ {T U : Type 0} (f : Fields T U) (sound : IsDomain f) (j : ℕ) (y : Sub
   Q = (subscriber_of f.books f.connections y).port
 
   abbrev parts : HasParts f
-  parts = parts_of f sound
+  parts = sound.parts
 
   pub present : s.subscribers y.id ≡ Some Q
-  present = subscriber-stands f (parts_of f sound) j y at
+  present = subscriber-stands f sound.parts j y at
 
   -- its side is well-formed
   pub side-sound : ReceiverSideIsWellFormed s y.id (current_side s y.id Q)
@@ -80,8 +80,8 @@ module _ {T U : Type 0} (f : Fields T U) (sound : IsDomain f) (j : ℕ) (y : Sub
 
   -- its ends change, and no connection goes
   pub left-changes : (keys : List (Option ℕ)) (expired : List ℕ) (fits : LeavesReceiver f y keys expired f.connections) (side : ReceiverSide) → ReceiverSideIsWellFormed s y.id side
-      → state_of (kept_of (left_fields f (parts_of f sound) j y at keys expired side.is_due f.connections fits)) ≡ with_receiver_side s y.id Q side
-      → ChangesReceiver f j y side (left_fields f (parts_of f sound) j y at keys expired side.is_due f.connections fits)
+      → state_of (kept_of (left_fields f sound.parts j y at keys expired side.is_due f.connections fits)) ≡ with_receiver_side s y.id Q side
+      → ChangesReceiver f j y side (left_fields f sound.parts j y at keys expired side.is_due f.connections fits)
   left-changes keys expired fits side well state = record {
     agrees = whole_of after (left-parts f parts j y at keys expired side.is_due f.connections fits) sound.lone (record { at = sound.kept_books.at })
         (rw state (with_receiver_side_keeps s sound.well_formed y.id Q side present well))
@@ -100,5 +100,5 @@ module _ {T U : Type 0} (f : Fields T U) (sound : IsDomain f) (j : ℕ) (y : Sub
     after : Fields T U
     after = left_fields f parts j y at keys expired side.is_due f.connections fits
 
-    is : state_of (kept_of after) ≡ record s { subscribers = put_at s.subscribers y.id (Some (left_port f (parts_of f sound) j y at keys expired side.is_due f.connections fits)) }
+    is : state_of (kept_of after) ≡ record s { subscribers = put_at s.subscribers y.id (Some (left_port f sound.parts j y at keys expired side.is_due f.connections fits)) }
     is = left-is f parts j y at keys expired side.is_due f.connections fits

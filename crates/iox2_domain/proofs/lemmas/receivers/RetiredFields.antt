@@ -87,7 +87,7 @@ module _ {T U : Type 0} (f f' f'' : Fields T U) (j : ℕ) (y : SubscriberFields)
 -- the connections of a sound domain have their books, which hold what stands in them
 module _ {T U : Type 0} (f : Fields T U) (sound : IsDomain f) (key : ℕ) (c : Link) (at : get f.connections key ≡ Some c) where
   pub its-book : IsBookOf f.books c.home.publisher c.home.book
-  its-book = sound.names.at key c at
+  its-book = sound.parts.names.at key c at
 
   pub book-stands : ContainsKey f.books c.home.book
   book-stands = rw its-book.stands refl
@@ -101,8 +101,8 @@ module _ {T U : Type 0} (f : Fields T U) (sound : IsDomain f) (key : ℕ) (c : L
         at = λ slot.
             let here : holders_of f.books c.home.publisher slot ≡ holders_at b slot =
             ap (λ o. option_map_or (λ (d : Book). holders_at d slot) o 0)
-            (look_up-found (is_book_of c.home.publisher) f.books.slots c.home.book b (sound.books.one_each c.home.publisher) at_b (eq-eqb b.publisher c.home.publisher its)) in
-            omega (arith, sound.counted.at c.home.publisher slot, here);
+            (look_up-found (is_book_of c.home.publisher) f.books.slots c.home.book b (sound.parts.books.one_each c.home.publisher) at_b (eq-eqb b.publisher c.home.publisher its)) in
+            omega (arith, sound.parts.counted.at c.home.publisher slot, here);
       }) at refl
 
 module _ {T U : Type 0} (f : Fields T U) (sound : IsDomain f) (j i : ℕ) (y : SubscriberFields) (key : ℕ) (c : Link) (end : HasDepartedEnd f j i y key c) where

@@ -32,7 +32,7 @@ use Rattle.iox2_domain.proofs.lemmas.containers.LookUps.{look_up-map}
 use Rattle.iox2_domain.proofs.lemmas.containers.ConnectionKeys.{map-set_place}
 use Rattle.iox2_domain.proofs.lemmas.fields.Standing.{occupant-receiver_ends}
 use Rattle.iox2_domain.proofs.lemmas.fields.Views.{held-before}
-use Rattle.iox2_domain.proofs.lemmas.fields.Parts.{but-of, parts_of}
+use Rattle.iox2_domain.proofs.lemmas.fields.Parts.{but-of}
 use Rattle.iox2_domain.proofs.lemmas.receivers.PortsStanding.{receiver-link, leads-among}
 use Rattle.iox2_domain.proofs.lemmas.receivers.DepartedEnds.{StandsNowhere, departed-nowhere}
 use Rattle.iox2_domain.proofs.lemmas.receivers.LeftEnds.{IsDeparted, LeavesReceiver, left_fields, end-expires, nothing-leaves}
@@ -51,7 +51,7 @@ module _ {T U : Type 0} (f : Fields T U) (sound : IsDomain f) (j i : ℕ) (y : S
   p = c.home.publisher
 
   abbrev parts : HasParts f
-  parts = parts_of f sound
+  parts = sound.parts
 
   abbrev side : ReceiverSide
   side = current_side s y.id Q
@@ -63,11 +63,11 @@ module _ {T U : Type 0} (f : Fields T U) (sound : IsDomain f) (j i : ℕ) (y : S
   -- ---- the end
 
   pub nowhere : StandsNowhere f.publishers p
-  nowhere = departed-nowhere f (parts_of f sound) j i key y c end.stands end.has end.link end.gone
+  nowhere = departed-nowhere f sound.parts j i key y c end.stands end.has end.link end.gone
 
   pub departed : IsDeparted f y c
   departed =
-      let own = receiver-link f (parts_of f sound) j i key y end.stands end.has in
+      let own = receiver-link f sound.parts j i key y end.stands end.has in
       let same : Some own.0 ≡ Some c = sym own.1 ∙ end.link in
       let is : own.0 ≡ c = cc in
       record { subscriber = ap (λ (d : Link). d.home.subscriber) (sym is) ∙ own.2.subscriber; publisher = nowhere }
@@ -92,7 +92,7 @@ module _ {T U : Type 0} (f : Fields T U) (sound : IsDomain f) (j i : ℕ) (y : S
 
   abbrev pub expired_fields : Fields T U
   expired_fields =
-      left_fields f (parts_of f sound) j y end.stands (set_place y.keys i None) (y.expired ++ key ∷ []) y.is_due f.connections (end-expires f (parts_of f sound) j y end.stands i key end.has)
+      left_fields f sound.parts j y end.stands (set_place y.keys i None) (y.expired ++ key ∷ []) y.is_due f.connections (end-expires f sound.parts j y end.stands i key end.has)
 
   pub expires : length Q.expired < expired_limit f.config → ChangesReceiver f j y (retired_side Keep_expired) expired_fields
   expires room =
@@ -111,7 +111,7 @@ module _ {T U : Type 0} (f : Fields T U) (sound : IsDomain f) (j i : ℕ) (y : S
   -- ---- it is refused
 
   abbrev pub refused_fields : Fields T U
-  refused_fields = left_fields f (parts_of f sound) j y end.stands y.keys y.expired true f.connections (nothing-leaves f (parts_of f sound) j y end.stands)
+  refused_fields = left_fields f sound.parts j y end.stands y.keys y.expired true f.connections (nothing-leaves f sound.parts j y end.stands)
 
   pub refuses : ChangesReceiver f j y (after_retirement y.id side p Refuse) refused_fields
   refuses =

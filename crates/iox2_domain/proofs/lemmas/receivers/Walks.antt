@@ -24,7 +24,6 @@ use Rattle.iox2_domain.specs.Invariant.{IsDomain}
 use Rattle.iox2_domain.specs.Updates.{publisher_but_room, changed_at, is_subscriber_due}
 use Rattle.iox2_domain.specs.ReceiverSteps.{current_side, ChangesReceiver, ConnectsAt, DisconnectsAt, UpdatesReceiver}
 use Rattle.iox2_domain.proofs.lemmas.updates.SenderWalk.{occupant-get_or, first_failure-none, first_failure-assoc}
-use Rattle.iox2_domain.proofs.lemmas.fields.Parts.{parts_of}
 use Rattle.iox2_domain.proofs.lemmas.receivers.LeftChanges.{present, left-changes}
 use Rattle.iox2_domain.proofs.lemmas.receivers.LeftEnds.{nothing-leaves}
 use Rattle.iox2_domain.proofs.lemmas.receivers.LeftStates.{left-is}
@@ -74,9 +73,9 @@ module _ {T U : Type 0} (environment : Environment) (f : Fields T U) (sound : Is
 
   pub settles : ChangesReceiver f j y (receiver_side s y.id Q) settled
   settles =
-      left-changes f sound j y at y.keys y.expired (nothing-leaves f (parts_of f sound) j y at) (receiver_side s y.id Q)
+      left-changes f sound j y at y.keys y.expired (nothing-leaves f sound.parts j y at) (receiver_side s y.id Q)
       (receiver_side_begins s sound.well_formed y.id Q (present f sound j y at))
-      (left-is f (parts_of f sound) j y at y.keys y.expired false f.connections (nothing-leaves f (parts_of f sound) j y at)
+      (left-is f sound.parts j y at y.keys y.expired false f.connections (nothing-leaves f sound.parts j y at)
       ∙ (λ k. record s { subscribers = put_at s.subscribers y.id (Some (record Q { is_due = false })); mailboxes = λ r. put_at-own (s.mailboxes r) y.id k }))
 
   -- a walk begins with any side

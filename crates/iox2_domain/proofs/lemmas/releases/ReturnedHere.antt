@@ -55,7 +55,7 @@ module _ {T U : Type 0} (f : Fields T U) (sample : SampleAt) (lies : LiesAtHint 
 module _ {T U : Type 0} (f : Fields T U) (sound : IsDomain f) (sample : SampleAt) (may : IsReturnable f sample) where
   -- both of its ports stay
   both : IsBetweenOpen f.publishers f.subscribers sample.connection (may.lies).connection
-  both = sound.linked.marked sample.connection (may.lies).connection (may.lies).has_connection may.marked
+  both = sound.parts.linked.marked sample.connection (may.lies).connection (may.lies).has_connection may.marked
 
   its-publisher : IsSomeAnd (get_or f.publishers (home f sound sample may.lies).publisher_place None) (λ (x : PublisherFields). x.id ≡ (home f sound sample may.lies).publisher)
   its-publisher = rw both.sender.stands both.sender.is_its

@@ -49,7 +49,7 @@ module _ {T U : Type 0} (f now : Fields T U) (q n : ℕ) (at : SampleSlot) (ther
 
   -- the book has contents
   has-contents : (cs : List (ContentState T U)) × (get_or now.contents at.book None ≡ Some cs)
-  has-contents = by (get_or now.contents at.book None) refl (((there.sound).books.books at.book (there.lies).book (there.lies).has_book).shaped) where
+  has-contents = by (get_or now.contents at.book None) refl (((there.sound).parts.books.books at.book (there.lies).book (there.lies).has_book).shaped) where
     by : (o : Option (List (ContentState T U))) → get_or now.contents at.book None ≡ o → IsSomeAnd o (λ cs. length cs ≡ length ((there.lies).book).holders)
         → (cs : List (ContentState T U)) × (get_or now.contents at.book None ≡ Some cs)
     by None e h = absurd h

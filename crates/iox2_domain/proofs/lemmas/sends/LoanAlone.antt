@@ -19,7 +19,6 @@ use Rattle.iox2_domain.specs.Invariant.{IsDomain, is_publisher, own_holders, hol
 use Rattle.iox2_domain.proofs.lemmas.fields.ConnectionEnds.{publisher-stands}
 use Rattle.iox2_domain.proofs.lemmas.slots.Messages.{lies_at, message_in-parts, message_at-book, message_at-slot, has_number, loan-found}
 use Rattle.iox2_domain.proofs.lemmas.loans.LoanSlots.{number-at, holders-at, loan-lent}
-use Rattle.iox2_domain.proofs.lemmas.fields.Parts.{parts_of}
 use Rattle.iox2_domain.proofs.lemmas.slots.PublisherBooks.{book-own}
 use Rattle.iox2_domain.proofs.lemmas.slots.HeldMessages.{slot_numbered, own-in_use, holders-there}
 use Rattle.iox2_domain.proofs.lemmas.slots.RecountedLoans.{loan-publisher}
@@ -53,19 +52,19 @@ module _ {T U : Type 0} (f : Fields T U) (sound : IsDomain f) (i : ℕ) (x : Pub
   its : (b : Book) × (get f.books x.book ≡ Some b) × (b.publisher ≡ x.id) × (l.publisher ≡ x.id)
   its =
       let there = message_at-book f.contents f.books x.book slot (Lent_message n l) lies in
-      let own = book-own f (parts_of f sound) i x here there.0 there.1 in
+      let own = book-own f sound.parts i x here there.0 there.1 in
       (there.0, there.1, own, loan-publisher there.0 _ slot n l (message_in-parts there.0 _ slot (Lent_message n l) there.2) ∙ own)
 
   -- its slot has its number
   pub loan-number : numbers_of f.books x.id slot ≡ n
   loan-number =
       let has = has_number f.contents f.books x.book slot n (Lent_message n l) lies (eq-eqb n n refl) in
-      ap (λ (p : ℕ). numbers_of f.books p slot) (sym (book-own f (parts_of f sound) i x here has.book has.stands))
+      ap (λ (p : ℕ). numbers_of f.books p slot) (sym (book-own f sound.parts i x here has.book has.stands))
       ∙ number-at f sound x.book slot has.book has.stands ∙ has.number
 
   -- the loan is the state's
   pub loan-is : (state_of (kept_of f)).loans n ≡ Some l
-  loan-is = loan-found f sound.numbered x.book slot n l lies
+  loan-is = loan-found f sound.parts.numbered x.book slot n l lies
 
   -- its publisher
   pub loan-of : l.publisher ≡ x.id
@@ -80,8 +79,8 @@ module _ {T U : Type 0} (f : Fields T U) (sound : IsDomain f) (i : ℕ) (x : Pub
   -- its slot is the one of its publisher's loans that has its number
   pub loan-slot : (s : ℕ) → 0 < times s x.loans → numbers_of f.books x.id s ≡ n → s ≡ slot
   loan-slot s some is =
-      let there = holders-there f x.id s (own-in_use f sound.counted sound.publisher_ids i s x here (omega (arith, some))) in
-      (sound.numbered.one there.0 x.book s slot n (record { book = there.1; stands = there.2; in_use = there.4; number = there.5 ∙ is })
+      let there = holders-there f x.id s (own-in_use f sound.parts.counted sound.parts.publisher_ids i s x here (omega (arith, some))) in
+      (sound.parts.numbered.one there.0 x.book s slot n (record { book = there.1; stands = there.2; in_use = there.4; number = there.5 ∙ is })
       (has_number f.contents f.books x.book slot n (Lent_message n l) lies (eq-eqb n n refl))).1
 
   -- it stands there once
@@ -104,10 +103,10 @@ module _ {T U : Type 0} (f : Fields T U) (sound : IsDomain f) (i : ℕ) (x : Pub
   -- which its publisher is itself
   pub loan-own : (b : Book) → get f.books x.book ≡ Some b → HoldsItself x.id slot b.holders f.connections.slots
   loan-own b at =
-      let own = book-own f (parts_of f sound) i x here b at in
+      let own = book-own f sound.parts i x here b at in
       let now : holders_of f.books x.id slot ≡ holders_at b slot = ap (λ (p : ℕ). holders_of f.books p slot) (sym own) ∙ holders-at f sound x.book slot b at in
       let mine : own_holders f x.id slot ≡ times slot x.loans + times slot (x.history).items =
       ap (λ o. option_map_or (λ (z : PublisherFields). times slot z.loans + times slot (z.history).items) o
       (option_map_or (λ c. cond (is_loan_in c slot) 1 0) (look_up (is_book_of x.id) f.books.slots) 0))
-      (look_up-found (is_publisher x.id) f.publishers i x (sound.publisher_ids x.id) here (eq-eqb x.id x.id refl)) in
-      record { more = omega (arith, now, mine, sound.counted.at x.id slot, loan-once) }
+      (look_up-found (is_publisher x.id) f.publishers i x (sound.parts.publisher_ids x.id) here (eq-eqb x.id x.id refl)) in
+      record { more = omega (arith, now, mine, sound.parts.counted.at x.id slot, loan-once) }

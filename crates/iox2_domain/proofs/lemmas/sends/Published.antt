@@ -40,7 +40,7 @@ use Rattle.iox2_domain.proofs.lemmas.fields.Views.{mailboxes-are, unblocked}
 use Rattle.iox2_domain.proofs.lemmas.fields.ConnectionEnds.{publisher-stands}
 use Rattle.iox2_domain.proofs.lemmas.slots.Messages.{lies_at, in_use_within, has_number, entry-found}
 use Rattle.iox2_domain.proofs.lemmas.fields.KeptBooks.{kept-own}
-use Rattle.iox2_domain.proofs.lemmas.fields.Parts.{parts_of, whole_of}
+use Rattle.iox2_domain.proofs.lemmas.fields.Parts.{whole_of}
 use Rattle.iox2_domain.proofs.lemmas.loans.PublisherChanges.{changed-kept_books, changed-here}
 use Rattle.iox2_domain.proofs.lemmas.slots.BookChanges.{KeepsSlots, book-here, holders-here}
 use Rattle.iox2_domain.proofs.lemmas.fields.SameEnds.{with_connections, same-subscriber_of_key}
@@ -88,10 +88,10 @@ module _ {T U : Type 0} (environment : Environment) (f : Fields T U) (sound : Is
     (count : ℕ) (g : Fields T U) (d : DeliversTo environment f x slot count g) where
   -- the book is the publisher's
   pub own : (d.book).publisher ≡ x.id
-  own = book-own f (parts_of f sound) i x here d.book d.stands
+  own = book-own f sound.parts i x here d.book d.stands
 
   pub owned : IsOwned f.publishers x.book x.id
-  owned = book-owned f (parts_of f sound) i x here
+  owned = book-owned f sound.parts i x here
 
   -- the fields after the delivery
   abbrev mid : Fields T U
@@ -115,7 +115,7 @@ module _ {T U : Type 0} (environment : Environment) (f : Fields T U) (sound : Is
   in_use : 0 < holders_at book slot
   in_use =
       let some : 0 < holders_of mid.books x.id slot = own-in_use mid parts.counted parts.publisher_ids i slot x here (omega (arith, once)) in
-      omega (arith, some, holders-here (with_connections f d.connections d.recounts.homes) x.book d.book book d.stands keeps sound.books.one_each x.id slot own)
+      omega (arith, some, holders-here (with_connections f d.connections d.recounts.homes) x.book d.book book d.stands keeps sound.parts.books.one_each x.id slot own)
 
   is_in_use : IsInUse book slot
   is_in_use = record { in_bounds = in_use_within {T = T} {U = U} book [] slot in_use; in_use = in_use }
@@ -128,7 +128,7 @@ module _ {T U : Type 0} (environment : Environment) (f : Fields T U) (sound : Is
       ap (λ (c : Book). get_or c.numbers slot 0) is ∙ has.number
 
   lies-still : lies_at mid x.book slot ≡ Some (Lent_message n l)
-  lies-still = forth f (parts_of f sound) x.id x.book d.book d.stands own d.holders d.connections d.recounts x.book slot n (Lent_message n l)
+  lies-still = forth f sound.parts x.id x.book d.book d.stands own d.holders d.connections d.recounts x.book slot n (Lent_message n l)
       (record { book = book; stands = book-stands; in_use = in_use; number = number }) lies
 
   -- the publisher and the fields where the history has the message, which may be one too many
@@ -142,7 +142,7 @@ module _ {T U : Type 0} (environment : Environment) (f : Fields T U) (sound : Is
   parts-remembered = ended-parts mid parts i x here book book-stands own slot n l is_in_use lies-still is_written once
 
   low : slot < length book.marks
-  low = omega (arith, is_in_use.in_bounds, d.recounts.slots, (sound.books.books x.book d.book d.stands).aligned.marks)
+  low = omega (arith, is_in_use.in_bounds, d.recounts.slots, (sound.parts.books.books x.book d.book d.stands).aligned.marks)
 
   lone-remembered : HasLoneLoans remembered.books
   lone-remembered =
@@ -222,7 +222,7 @@ module _ {T U : Type 0} (environment : Environment) (f : Fields T U) (sound : Is
       in-history away is =
           let in_mid : lies_at mid x.book oldest ≡ Some (Lent_message m k) =
           sym (others-lie mid parts i x here book book-stands own slot n l is_in_use lies-still is_written once x.book oldest (λ both. away both.1)) ∙ lying in
-          let lay : lies_at f x.book oldest ≡ Some (Lent_message m k) = back f (parts_of f sound) x.id x.book d.book d.stands own d.holders d.connections d.recounts x.book oldest (Lent_message m k) in_mid in
+          let lay : lies_at f x.book oldest ≡ Some (Lent_message m k) = back f sound.parts x.id x.book d.book d.stands own d.holders d.connections d.recounts x.book oldest (Lent_message m k) in_mid in
           let out = (sound.well_formed.loans m k (loan-is f sound i x here oldest m k lay)).is_out port (ap s.publishers (loan-of f sound i x here oldest m k lay) ∙ stands) in
           let there : contains port.history m ≡ true =
           ap (contains port.history) (sym (loan-number f sound i x here oldest m k lay)) ∙ contains-map (numbers_of f.books x.id) (x.history).items oldest is in
@@ -236,7 +236,7 @@ module _ {T U : Type 0} (environment : Environment) (f : Fields T U) (sound : Is
           in-history away (ap (λ (xs : List ℕ). contains xs oldest) e ∙ ap (λ t. t || contains os oldest) (eq-eqb o oldest same))
 
   room : (x.history).capacity ≡ (f.config).history_size
-  room = (sound.publisher_room i x here).history
+  room = (sound.parts.publisher_room i x here).history
 
   fits-history : length (x.history).items ≤ (x.history).capacity
   fits-history =
@@ -297,7 +297,7 @@ module _ {T U : Type 0} (environment : Environment) (f : Fields T U) (sound : Is
   without_loan y = record y { loans = without n y.loans; blocked = None }
 
   sender-is : without_loan (with_message port) ≡ sender
-  sender-is = λ t. record sender { blocked = sym (unblocked f.books f.connections x (sound.plain i x here)) t }
+  sender-is = λ t. record sender { blocked = sym (unblocked f.books f.connections x (sound.parts.plain i x here)) t }
 
   publishers-are : (q : ℕ) → put_at s.publishers x.id (Some sender) q ≡ (send_ended (with_mailboxes (published s x.id n) x.id (boxes x.id)) x.id n).publishers q
   publishers-are q =
@@ -309,7 +309,7 @@ module _ {T U : Type 0} (environment : Environment) (f : Fields T U) (sound : Is
 
   other-boxes : (q r : ℕ) → q ≢ x.id → boxes q r ≡ s.mailboxes q r
   other-boxes q r away =
-      others-stay (numbers_of f.books) f.connections d.connections x.id q r sound.apart d.recounts.homes d.recounts.others away ∙ sym (mailboxes-are f q r)
+      others-stay (numbers_of f.books) f.connections d.connections x.id q r sound.parts.apart d.recounts.homes d.recounts.others away ∙ sym (mailboxes-are f q r)
 
   boxes-are : (q r : ℕ) → boxes q r ≡ put_at s.mailboxes x.id (boxes x.id) q r
   boxes-are q r = elim (cases_eq q x.id) [
@@ -342,7 +342,7 @@ module _ {T U : Type 0} (environment : Environment) (f : Fields T U) (sound : Is
       (Complete count false, boxes x.id, delivers, (ended-state, refl)))
 
   well : IsWellFormed (state_of (kept_of after))
-  well = publish_keeps s sound.well_formed x.id n l (loan-is f sound i x here slot n l lies) (loan-of f sound i x here slot n l lies) port stands (unblocked f.books f.connections x (sound.plain i x here))
+  well = publish_keeps s sound.well_formed x.id n l (loan-is f sound i x here slot n l lies) (loan-of f sound i x here slot n l lies) port stands (unblocked f.books f.connections x (sound.parts.plain i x here))
       environment (state_of (kept_of after)) (Delivered_to count) publishes
 
   -- ---- entries

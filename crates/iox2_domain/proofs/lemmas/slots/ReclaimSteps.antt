@@ -11,7 +11,6 @@ use Rattle.iox2_domain.specs.Kept.{state_of}
 use Rattle.iox2_domain.specs.Fields.{Fields, kept_of}
 use Rattle.iox2_domain.specs.Invariant.{IsDomain}
 use Rattle.iox2_domain.specs.Reaches.{Reaches}
-use Rattle.iox2_domain.proofs.lemmas.fields.Parts.{parts_of}
 use Rattle.iox2_domain.proofs.lemmas.slots.PublisherBooks.{book-own, book-owned}
 use Rattle.iox2_domain.proofs.lemmas.slots.RecountedState.{reclaimed-reaches}
 
@@ -22,4 +21,4 @@ module _ {T U : Type 0} (before f : Fields T U) (same : f ≡ before) (sound : I
   publisher-reclaims b book at new is r =
       subst (λ (h : Fields T U). Reaches h (record f { connections = new; books = with_value f.books x.book book }) (state_of (kept_of h))) same
       (subst (λ (c : Book). Reaches f (record f { connections = new; books = with_value f.books x.book c }) (state_of (kept_of f))) (sym is)
-      (reclaimed-reaches f sound x.id x.book b at (book-own f (parts_of f sound) i x stands b at) (book-owned f (parts_of f sound) i x stands) book.holders new r))
+      (reclaimed-reaches f sound x.id x.book b at (book-own f sound.parts i x stands b at) (book-owned f sound.parts i x stands) book.holders new r))

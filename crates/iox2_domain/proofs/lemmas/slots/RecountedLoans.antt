@@ -27,7 +27,6 @@ use Rattle.iox2_domain.specs.Kept.{KeptMessage, Lent_message, Sent_message, Name
 use Rattle.iox2_domain.specs.Fields.{Fields, kept_of, numbers_of, message_of, contents_at, is_book_of, publisher_of}
 use Rattle.iox2_domain.specs.Invariant.{IsDomain, HasLoneLoans, HasNumber, is_publisher, is_lent, is_loan_in, holders_of, own_holders, HasParts}
 use Rattle.iox2_domain.proofs.lemmas.containers.LookUps.{look_up-map}
-use Rattle.iox2_domain.proofs.lemmas.fields.Parts.{parts_of}
 use Rattle.iox2_domain.proofs.lemmas.fields.SameEnds.{with_connections}
 use Rattle.iox2_domain.proofs.lemmas.slots.Messages.{LiesIn, message_in-parts, lies_at, message_at-book, message_at-slot, has_number}
 use Rattle.iox2_domain.proofs.lemmas.slots.BookChanges.{KeepsSlots, books-apart, book-here, book-others}
@@ -143,7 +142,7 @@ module _ {T U : Type 0} (f : Fields T U) (parts : HasParts f) (lone : HasLoneLoa
 module _ {T U : Type 0} (f : Fields T U) (sound : IsDomain f) (p key : ℕ) (b : Book) (at : get f.books key ≡ Some b) (mine : b.publisher ≡ p)
     (holders : List ℕ) (new : Slab Link) (r : Recounts p b.holders f.connections holders new) where
   abbrev parts : HasParts f
-  parts = parts_of f sound
+  parts = sound.parts
 
   -- the fields with these connections and these counters
   abbrev pub recounted_fields : Fields T U

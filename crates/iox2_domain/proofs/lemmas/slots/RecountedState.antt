@@ -18,7 +18,7 @@ use Rattle.iox2_domain.specs.Invariant.{IsDomain, IsOwned, KeepsBooks, HasParts}
 use Rattle.iox2_domain.specs.Reaches.{Reaches}
 use Rattle.iox2_domain.proofs.lemmas.fields.Views.{mailboxes-are}
 use Rattle.iox2_domain.proofs.lemmas.fields.KeptBooks.{kept-own}
-use Rattle.iox2_domain.proofs.lemmas.fields.Parts.{whole_of, parts_of}
+use Rattle.iox2_domain.proofs.lemmas.fields.Parts.{whole_of}
 use Rattle.iox2_domain.proofs.lemmas.slots.RecountedFields as fields
 use Rattle.iox2_domain.proofs.lemmas.slots.RecountedLoans as counts
 use Rattle.iox2_domain.proofs.lemmas.slots.LoneLoans.{lone-counters}
@@ -40,7 +40,7 @@ module _ {T U : Type 0} (f : Fields T U) (sound : IsDomain f) (p key : ℕ) (b :
 
   -- each slot has its number
   pub same-numbers : numbers_of recounted_fields.books ≡ numbers_of f.books
-  same-numbers = fields.same-numbers f (parts_of f sound) p key b at mine holders new r
+  same-numbers = fields.same-numbers f sound.parts p key b at mine holders new r
 
   -- the machine sees the mailboxes alone
   pub recounted-is : state_of (kept_of recounted_fields) ≡ record (state_of (kept_of f)) { mailboxes = mailboxes_of (numbers_of f.books) new }

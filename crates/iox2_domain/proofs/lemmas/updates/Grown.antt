@@ -21,7 +21,6 @@ use Rattle.iox2_domain.proofs.lemmas.updates.SenderChanges.{fits-grown}
 use Rattle.iox2_domain.proofs.lemmas.updates.SenderAgrees.{sender-agrees}
 use Rattle.iox2_domain.proofs.lemmas.receivers.JoinChanges.{receiver_fits-grown}
 use Rattle.iox2_domain.proofs.lemmas.receivers.JoinAgrees.{receiver-agrees}
-use Rattle.iox2_domain.proofs.lemmas.fields.Parts.{parts_of}
 
 -- a record that changes in what a view doesn't show
 pub same-shown : {A B : Type 0} (g : A → B) (xs : List (Option A)) (i : ℕ) (x z : A) → get_or xs i None ≡ Some x → g z ≡ g x
@@ -59,13 +58,13 @@ module _ {T U : Type 0} (f : Fields T U) (i j : ℕ) (x : PublisherFields) (y : 
 
     sender-sound : IsDomain sender
     sender-sound =
-        sender-agrees f sound i x at_x x.keys n x.is_due f.connections f.warnings (fits-grown f sound i x at_x f.connections.capacity n more_x) sound.warning_room
+        sender-agrees f sound i x at_x x.keys n x.is_due f.connections f.warnings (fits-grown f sound i x at_x f.connections.capacity n more_x) sound.parts.warning_room
         (subst IsWellFormed (sym sender-state) sound.well_formed)
 
     -- the fields agree
     pub grown-sound : IsDomain grown
     grown-sound =
-        receiver-agrees sender sender-sound j y at_y y.keys m e y.is_due f.connections f.warnings (receiver_fits-grown sender (parts_of sender sender-sound) j y at_y f.connections.capacity m e more_y more_e) sound.warning_room
+        receiver-agrees sender sender-sound j y at_y y.keys m e y.is_due f.connections f.warnings (receiver_fits-grown sender sender-sound.parts j y at_y f.connections.capacity m e more_y more_e) sound.parts.warning_room
         (subst IsWellFormed (sym grown-state) sound.well_formed)
 
     abbrev P : Publisher

@@ -30,7 +30,6 @@ use Rattle.iox2_domain.specs.Invariant.{IsDomain}
 use Rattle.iox2_domain.specs.Connects.{MakesSenderEnd, ConnectsSender}
 use Rattle.iox2_domain.specs.Histories.{with_history_waiting, HasNewEnd, HandsOut}
 use Rattle.iox2_domain.proofs.lemmas.fields.ConnectionEnds.{publisher-stands}
-use Rattle.iox2_domain.proofs.lemmas.fields.Parts.{parts_of}
 use Rattle.iox2_domain.proofs.lemmas.fields.Standing.{place-within}
 use Rattle.iox2_domain.proofs.lemmas.fields.Views.{unblocked}
 use Rattle.iox2_domain.proofs.lemmas.slots.BookChanges.{book-here}
@@ -46,21 +45,21 @@ module _ {T U : Type 0} (before f : Fields T U) (same : f ≡ before) (sound : I
     (key : ℕ) (c : Link) (there : get f.connections key ≡ Some c) (its : c.home.publisher ≡ x.id) (empty : load c ≡ 0)
     (b : Book) (at : get f.books x.book ≡ Some b) (b1 : Book) (is1 : b1 ≡ with_counters b b1.holders) (new : Slab Link) (r : Reclaims x.id b.holders f.connections b1.holders new) where
   abbrev mine : b.publisher ≡ x.id
-  mine = book-own f (parts_of f sound) i x here b at
+  mine = book-own f sound.parts i x here b at
 
   -- the fields without what was given back
   abbrev g : Fields T U
-  g = with_reclaimed f sound x.id x.book b at (book-own f (parts_of f sound) i x here b at) (book-owned f (parts_of f sound) i x here) b1.holders new r
+  g = with_reclaimed f sound x.id x.book b at (book-own f sound.parts i x here b at) (book-owned f sound.parts i x here) b1.holders new r
 
-  g-sound : IsDomain (with_reclaimed f sound x.id x.book b at (book-own f (parts_of f sound) i x here b at) (book-owned f (parts_of f sound) i x here) b1.holders new r)
-  g-sound = (reclaimed-reaches f sound x.id x.book b at (book-own f (parts_of f sound) i x here b at) (book-owned f (parts_of f sound) i x here) b1.holders new r).agrees
+  g-sound : IsDomain (with_reclaimed f sound x.id x.book b at (book-own f sound.parts i x here b at) (book-owned f sound.parts i x here) b1.holders new r)
+  g-sound = (reclaimed-reaches f sound x.id x.book b at (book-own f sound.parts i x here b at) (book-owned f sound.parts i x here) b1.holders new r).agrees
 
   at-g : get g.books x.book ≡ Some (with_counters b b1.holders)
   at-g = book-here f x.book b (with_counters b b1.holders) at (record { publisher = refl; numbers = refl; slots = r.recounts.slots })
 
   -- the connection is still there
   pub new-there : get new key ≡ Some c
-  new-there = still-empty x.id b.holders b1.holders f.connections new sound.apart r key c there empty
+  new-there = still-empty x.id b.holders b1.holders f.connections new sound.parts.apart r key c there empty
 
   -- each slot of the history has a holder, and may have one more
   pub new-in_use : (slot : ℕ) → 0 < times slot (x.history).items → 0 < holders_at b1 slot
@@ -75,11 +74,11 @@ module _ {T U : Type 0} (before f : Fields T U) (same : f ≡ before) (sound : I
   waiting-same = λ t. record (state t) {
     mailboxes = with_box (state t).mailboxes x.id c.home.subscriber (with_waiting (last_n c.buffer (map (numbers t x.id) (x.history).items)) ((state t).mailboxes x.id c.home.subscriber));
   } where
-    state : state_of (kept_of (with_reclaimed f sound x.id x.book b at (book-own f (parts_of f sound) i x here b at) (book-owned f (parts_of f sound) i x here) b1.holders new r)) ≡ state_of (kept_of f)
-    state = reclaimed-is f sound x.id x.book b at (book-own f (parts_of f sound) i x here b at) (book-owned f (parts_of f sound) i x here) b1.holders new r
+    state : state_of (kept_of (with_reclaimed f sound x.id x.book b at (book-own f sound.parts i x here b at) (book-owned f sound.parts i x here) b1.holders new r)) ≡ state_of (kept_of f)
+    state = reclaimed-is f sound x.id x.book b at (book-own f sound.parts i x here b at) (book-owned f sound.parts i x here) b1.holders new r
 
     numbers : numbers_of (with_value f.books x.book (with_counters b b1.holders)) ≡ numbers_of f.books
-    numbers = same-numbers f sound x.id x.book b at (book-own f (parts_of f sound) i x here b at) (book-owned f (parts_of f sound) i x here) b1.holders new r.recounts
+    numbers = same-numbers f sound x.id x.book b at (book-own f sound.parts i x here b at) (book-owned f sound.parts i x here) b1.holders new r.recounts
 
   -- it waits in the connection
   pub reclaimed-hands-out : (b2 : Book) → b2 ≡ with_counters b1 b2.holders → length b2.holders ≡ length b1.holders
@@ -91,7 +90,7 @@ module _ {T U : Type 0} (before f : Fields T U) (same : f ≡ before) (sound : I
         agrees = out.agrees;
         fields = refl;
         state = out.state ∙ waiting-same;
-        entries = λ n entry e. (reclaimed-reaches f sound x.id x.book b at (book-own f (parts_of f sound) i x here b at) (book-owned f (parts_of f sound) i x here) b1.holders new r).entries n entry (out.entries n entry e);
+        entries = λ n entry e. (reclaimed-reaches f sound x.id x.book b at (book-own f sound.parts i x here b at) (book-owned f sound.parts i x here) b1.holders new r).entries n entry (out.entries n entry e);
       }))
     where
       after : Fields T U
@@ -230,7 +229,7 @@ module _ {T U : Type 0} (environment : Environment) (f : Fields T U) (sound : Is
 
   well : IsWellFormed (with_sender_side s x.id P full)
   well =
-      with_sender_side_keeps s sound.well_formed x.id P present (unblocked f.books f.connections x (sound.plain i x at)) full
+      with_sender_side_keeps s sound.well_formed x.id P present (unblocked f.books f.connections x (sound.parts.plain i x at)) full
       (performed_keeps s sound.well_formed x.id P present environment j _ _ (sender_side s x.id P) full None
       (place-within f j low) refl refl (sender_side_begins s sound.well_formed x.id P present) made.steps)
 

@@ -76,7 +76,7 @@ module _ {T U : Type 0} (f : Fields T U) (sound : IsDomain f) (i j key : ℕ) (n
     by (Some x) e h = (x, e, h)
 
   link : (c : Link) × (get f.connections key ≡ Some c) × IsSenders (holder.0).id j c
-  link = some_is (IsSenders (holder.0).id j) (get f.connections key) ((sound.linked.senders i holder.0 holder.1).at j key holder.2)
+  link = some_is (IsSenders (holder.0).id j) (get f.connections key) ((sound.parts.linked.senders i holder.0 holder.1).at j key holder.2)
 
   -- it leads to a connection
   pub end-there : ContainsKey f.connections key
@@ -92,7 +92,7 @@ module _ {T U : Type 0} (f : Fields T U) (sound : IsDomain f) (i j key : ℕ) (n
     end-open stands is_open =
         let y = some_is (λ (y : SubscriberFields). y.id ≡ c.home.subscriber) (get_or f.subscribers j None) stands in
         record {
-          sender = key-sender f sound.linked i j key holder.0 c holder.1 holder.2 at;
+          sender = key-sender f sound.parts.linked i j key holder.0 c holder.1 holder.2 at;
           receiver = record {
             subscriber = y.0;
             stands = ap (λ (n : ℕ). get_or f.subscribers n None) own.place ∙ y.1;
@@ -127,7 +127,7 @@ module _ {T U : Type 0} (f : Fields T U) (sound : IsDomain f) (i j key : ℕ) (n
       -- the connection at the place is the one that was cleared
       its : (k : ℕ) (e : Link) → get f.connections k ≡ Some e → e.is_open ≡ true → e.home.publisher_place ≡ i → e.home.subscriber_place ≡ j → k ≡ key
       its k e old marked here there =
-          let has = (sound.linked.marked k e old marked).sender in
+          let has = (sound.parts.linked.marked k e old marked).sender in
           let one : has.publisher ≡ holder.0 = same_Some has.publisher holder.0 (sym has.stands ∙ ap (λ (n : ℕ). get_or f.publishers n None) here ∙ holder.1) in
           same_Some k key (sym has.has ∙ ap (λ (n : ℕ). get_or has.publisher.keys n None) there ∙ ap (λ (x : PublisherFields). get_or x.keys j None) one ∙ holder.2)
 
@@ -142,7 +142,7 @@ pub none-cleared : {T U : Type 0} (f : Fields T U) → IsDomain f → (i j : ℕ
 none-cleared f sound i j none = record {
   clears = clears-none f sound;
   done = λ key c at marked here there.
-      let has = (sound.linked.marked key c at marked).sender in
+      let has = (sound.parts.linked.marked key c at marked).sender in
       let named : sender_key f.publishers i j ≡ Some key = ap (option_and_then (λ (x : PublisherFields). get_or x.keys j None)) (ap (λ (n : ℕ). get_or f.publishers n None) (sym here) ∙ has.stands)
       ∙ ap (λ (n : ℕ). get_or has.publisher.keys n None) (sym there) ∙ has.has in
       let no : None ≡ Some key = sym none ∙ named in
@@ -177,7 +177,7 @@ module _ {T U : Type 0} (f : Fields T U) where
   pub sender-cleared : (i n : ℕ) (g : Fields T U) → ClearsSender f i n g → length f.subscribers ≤ n → IsUnmarkedSender g.connections i
   sender-cleared i n g all long = record {
     at = λ key c at marked here.
-        let received = ((all.clears.changes.agrees).linked.marked key c at marked).receiver in
+        let received = ((all.clears.changes.agrees).parts.linked.marked key c at marked).receiver in
         let low : c.home.subscriber_place < length g.subscribers = within_if_some g.subscribers c.home.subscriber_place received.subscriber received.stands in
         let same : length g.subscribers ≡ length f.subscribers = ap (λ (h : Fields T U). length h.subscribers) all.clears.changes.fields in
         let high : n ≤ c.home.subscriber_place = all.done key c at marked here in
@@ -196,7 +196,7 @@ module _ {T U : Type 0} (f : Fields T U) where
   pub receiver-cleared : (j n : ℕ) (g : Fields T U) → ClearsReceiver f j n g → length f.publishers ≤ n → IsUnmarkedReceiver g.connections j
   receiver-cleared j n g all long = record {
     at = λ key c at marked here.
-        let has = ((all.clears.changes.agrees).linked.marked key c at marked).sender in
+        let has = ((all.clears.changes.agrees).parts.linked.marked key c at marked).sender in
         let low : c.home.publisher_place < length g.publishers = within_if_some g.publishers c.home.publisher_place has.publisher has.stands in
         let same : length g.publishers ≡ length f.publishers = ap (λ (h : Fields T U). length h.publishers) all.clears.changes.fields in
         let high : n ≤ c.home.publisher_place = all.done key c at marked here in

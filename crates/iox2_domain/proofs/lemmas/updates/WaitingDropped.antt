@@ -29,7 +29,7 @@ use Rattle.iox2_domain.specs.Invariant.{IsDomain}
 use Rattle.iox2_domain.specs.Reaches.{Reaches}
 use Rattle.iox2_domain.specs.Drops.{with_waiting_dropped}
 use Rattle.iox2_domain.proofs.lemmas.fields.ConnectionEnds.{publisher-stands, occupant-sender_ends}
-use Rattle.iox2_domain.proofs.lemmas.fields.Parts.{parts_of, whole_of}
+use Rattle.iox2_domain.proofs.lemmas.fields.Parts.{whole_of}
 use Rattle.iox2_domain.proofs.lemmas.fields.Standing.{some_is}
 use Rattle.iox2_domain.proofs.lemmas.fields.Views.{mailboxes-are, unblocked}
 use Rattle.iox2_domain.proofs.lemmas.slots.LoneLoans.{lone-counters}
@@ -49,11 +49,11 @@ module _ {T U : Type 0} (f : Fields T U) (sound : IsDomain f) (i : ℕ) (x : Pub
   q = (drops.link).home.subscriber
 
   mine : b.publisher ≡ x.id
-  mine = book-own f (parts_of f sound) i x here b at
+  mine = book-own f sound.parts i x here b at
 
   -- the fields without what waited
   abbrev pub dropped_fields : Fields T U
-  dropped_fields = recounted_fields f sound x.id x.book b at (book-own f (parts_of f sound) i x here b at) (book-owned f (parts_of f sound) i x here) holders new drops.recounts
+  dropped_fields = recounted_fields f sound x.id x.book b at (book-own f sound.parts i x here b at) (book-owned f sound.parts i x here) holders new drops.recounts
 
   same_boxes : mailboxes_of (numbers_of f.books) f.connections ≡ s.mailboxes
   same_boxes = sym (fun_ext (λ p. fun_ext (λ r. mailboxes-are f p r)))
@@ -61,7 +61,7 @@ module _ {T U : Type 0} (f : Fields T U) (sound : IsDomain f) (i : ℕ) (x : Pub
   -- the machine sees one mailbox changed
   pub dropped-is : state_of (kept_of dropped_fields) ≡ with_waiting_dropped f x drops.link
   dropped-is =
-      recounted-is f sound x.id x.book b at (book-own f (parts_of f sound) i x here b at) (book-owned f (parts_of f sound) i x here) holders new drops.recounts
+      recounted-is f sound x.id x.book b at (book-own f sound.parts i x here b at) (book-owned f sound.parts i x here) holders new drops.recounts
       ∙ ap (λ (boxes : ℕ → ℕ → Mailbox). record s { mailboxes = boxes })
       (drops.mailboxes (numbers_of f.books) ∙ ap (λ (boxes : ℕ → ℕ → Mailbox). with_box boxes x.id q (waiting_dropped (boxes x.id q))) same_boxes)
 
@@ -78,15 +78,15 @@ module _ {T U : Type 0} (f : Fields T U) (sound : IsDomain f) (i : ℕ) (x : Pub
   -- what always holds is kept where the state is well-formed
   pub dropped-reaches : IsWellFormed (with_waiting_dropped f x drops.link) → Reaches f dropped_fields (with_waiting_dropped f x drops.link)
   dropped-reaches well = record {
-    agrees = whole_of dropped_fields (parts-recounted f sound x.id x.book b at (book-own f (parts_of f sound) i x here b at) (book-owned f (parts_of f sound) i x here) holders new drops.recounts)
+    agrees = whole_of dropped_fields (parts-recounted f sound x.id x.book b at (book-own f sound.parts i x here b at) (book-owned f sound.parts i x here) holders new drops.recounts)
         (lone-counters f.books x.book b holders at sound.lone drops.shrinks)
-        (recounted-kept f sound x.id x.book b at (book-own f (parts_of f sound) i x here b at) (book-owned f (parts_of f sound) i x here) holders new drops.recounts)
+        (recounted-kept f sound x.id x.book b at (book-own f sound.parts i x here b at) (book-owned f sound.parts i x here) holders new drops.recounts)
         (subst IsWellFormed (sym dropped-is) well)
         (λ p n held.
         let old = sound.entries p n (held-before p n (subst (λ (t : State T U). IsHeldMessage t p n) dropped-is held)) in
-        (old.0, recounted-keeps f sound x.id x.book b at (book-own f (parts_of f sound) i x here b at) (book-owned f (parts_of f sound) i x here) holders new drops.recounts p n old.0 held old.1, old.2));
+        (old.0, recounted-keeps f sound x.id x.book b at (book-own f sound.parts i x here b at) (book-owned f sound.parts i x here) holders new drops.recounts p n old.0 held old.1, old.2));
     state = dropped-is;
-    entries = recounted-entries f sound x.id x.book b at (book-own f (parts_of f sound) i x here b at) (book-owned f (parts_of f sound) i x here) holders new drops.recounts;
+    entries = recounted-entries f sound x.id x.book b at (book-own f sound.parts i x here b at) (book-owned f sound.parts i x here) holders new drops.recounts;
   }
 
 module _ {T U : Type 0} (f : Fields T U) (sound : IsDomain f) (i j : ℕ) (x : PublisherFields) (here : get_or f.publishers i None ≡ Some x) (due : x.is_due ≡ false)
@@ -103,7 +103,7 @@ module _ {T U : Type 0} (f : Fields T U) (sound : IsDomain f) (i j : ℕ) (x : P
   -- the connection is the publisher's, at that place
   pub end-own : IsSenders x.id j c
   end-own =
-      let is = some_is (IsSenders x.id j) (get f.connections key) ((sound.linked.senders i x here).at j key has) in
+      let is = some_is (IsSenders x.id j) (get f.connections key) ((sound.parts.linked.senders i x here).at j key has) in
       let both : Some is.0 ≡ Some c = sym is.1 ∙ there in
       let one : is.0 ≡ c = cc in
       subst (IsSenders x.id j) one is.2
@@ -124,5 +124,5 @@ module _ {T U : Type 0} (f : Fields T U) (sound : IsDomain f) (i j : ℕ) (x : P
   pub dropped-well : IsWellFormed (with_waiting_dropped f x c)
   dropped-well =
       subst IsWellFormed (sym dropped-side)
-      (with_sender_side_keeps before sound.well_formed x.id port present (unblocked f.books f.connections x (sound.plain i x here)) (dropped (sender_side before x.id port) to)
+      (with_sender_side_keeps before sound.well_formed x.id port present (unblocked f.books f.connections x (sound.parts.plain i x here)) (dropped (sender_side before x.id port) to)
       (dropped_keeps before sound.well_formed x.id port present (sender_side before x.id port) j to end-leads (sender_side_begins before sound.well_formed x.id port present)))

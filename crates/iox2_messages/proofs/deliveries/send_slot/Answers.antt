@@ -5,7 +5,6 @@ use Rattle.iox2_domain.specs.Deliveries.{with_loan_out, pushed, leaving, with_se
 use Rattle.iox2_domain.specs.Ports.{PublisherFields}
 use Rattle.iox2_domain.specs.Fields.{Fields}
 use Rattle.iox2_domain.specs.Invariant.{IsDomain}
-use Rattle.iox2_domain.proofs.lemmas.fields.Parts.{parts_of}
 use Rattle.iox2_domain.proofs.lemmas.slots.PublisherBooks.{read-there, book-covers}
 use Rattle.iox2_domain.proofs.lemmas.sends.DeliverySteps.{never-waits, ready-to-deliver, sends-slot, sent-once, sent-alone, sent-own, leaves-in_use}
 use Rattle.iox2_messages.proofs.deliveries.send_slot.Goals as goal
@@ -13,7 +12,7 @@ use Rattle.iox2_messages.proofs.deliveries.send_slot.Goals as goal
 pub deliver-outcome-requires-clause-ready : goal.deliver-outcome-requires-clause-ready
 deliver-outcome-requires-clause-ready g c =
     rw (c.value.ensures, c.deref.ensures.value, c.deref-2.ensures.value)
-    (ready-to-deliver _ (parts_of _ (subst (IsDomain {T = g.row.T.Denot} {U = g.row.U.Denot}) (sym c.state.view_is) c.requires.agrees)) c.args.place _
+    (ready-to-deliver _ (subst (IsDomain {T = g.row.T.Denot} {U = g.row.U.Denot}) (sym c.state.view_is) c.requires.agrees).parts c.args.place _
     (read-there _ c.args.place _ _ (ap (λ (f : Fields g.row.T.Denot g.row.U.Denot). slice_index_or f.publishers c.args.place None) c.state.view_is ∙ c.requires.can.1) c.index_mut.ensures.value ∙ c.in-Some.is ∙ ap Some (sym c.publisher.view_is)))
 
 pub deliver-outcome-requires-clause-own : goal.deliver-outcome-requires-clause-own
@@ -33,7 +32,7 @@ deliver-outcome-requires-clause-fits g c =
 pub deliver-outcome-requires-clause-covered : goal.deliver-outcome-requires-clause-covered
 deliver-outcome-requires-clause-covered g c =
     rw c.value.ensures
-    (book-covers _ (parts_of _ (subst (IsDomain {T = g.row.T.Denot} {U = g.row.U.Denot}) (sym c.state.view_is) c.requires.agrees)) c.args.place _
+    (book-covers _ (subst (IsDomain {T = g.row.T.Denot} {U = g.row.U.Denot}) (sym c.state.view_is) c.requires.agrees).parts c.args.place _
     (read-there _ c.args.place _ _ (ap (λ (f : Fields g.row.T.Denot g.row.U.Denot). slice_index_or f.publishers c.args.place None) c.state.view_is ∙ c.requires.can.1) c.index_mut.ensures.value ∙ c.in-Some.is ∙ ap Some (sym c.publisher.view_is))
     _ c.index_mut-book.ensures.value)
 

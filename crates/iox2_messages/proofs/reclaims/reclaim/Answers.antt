@@ -4,26 +4,25 @@ use Rattle.iox2_ends.specs.Receivers.{HasReclaimed}
 use Rattle.iox2_domain.specs.Ports.{PublisherFields}
 use Rattle.iox2_domain.specs.Fields.{Fields}
 use Rattle.iox2_domain.specs.Invariant.{IsDomain}
-use Rattle.iox2_domain.proofs.lemmas.fields.Parts.{parts_of}
 use Rattle.iox2_domain.proofs.lemmas.slots.PublisherBooks.{read-there, book-there, sender-linked, book-covers}
 use Rattle.iox2_domain.proofs.lemmas.slots.ReclaimSteps.{publisher-reclaims}
 use Rattle.iox2_messages.proofs.reclaims.reclaim.Goals as goal
 
 pub index_mut-requires : goal.index_mut-requires
 index_mut-requires g c =
-    book-there _ (parts_of _ (subst (IsDomain {T = g.row.T.Denot} {U = g.row.U.Denot}) (sym c.state.view_is) c.requires.agrees)) c.args.place _
+    book-there _ (subst (IsDomain {T = g.row.T.Denot} {U = g.row.U.Denot}) (sym c.state.view_is) c.requires.agrees).parts c.args.place _
     (read-there _ c.args.place _ _ (ap (λ (f : Fields g.row.T.Denot g.row.U.Denot). slice_index_or f.publishers c.args.place None) c.state.view_is ∙ c.requires.stands.1) c.index.ensures ∙ c.in-Some.is ∙ ap Some (sym c.publisher.view_is))
 
 pub reclaim_all-requires-clause-linked : goal.reclaim_all-requires-clause-linked
 reclaim_all-requires-clause-linked g c =
     rw (c.value.ensures, c.deref.ensures.value)
-    (sender-linked _ (parts_of _ (subst (IsDomain {T = g.row.T.Denot} {U = g.row.U.Denot}) (sym c.state.view_is) c.requires.agrees)) c.args.place _
+    (sender-linked _ (subst (IsDomain {T = g.row.T.Denot} {U = g.row.U.Denot}) (sym c.state.view_is) c.requires.agrees).parts c.args.place _
     (read-there _ c.args.place _ _ (ap (λ (f : Fields g.row.T.Denot g.row.U.Denot). slice_index_or f.publishers c.args.place None) c.state.view_is ∙ c.requires.stands.1) c.index.ensures ∙ c.in-Some.is ∙ ap Some (sym c.publisher.view_is)))
 
 pub reclaim_all-requires-clause-covered : goal.reclaim_all-requires-clause-covered
 reclaim_all-requires-clause-covered g c =
     rw c.value.ensures
-    (book-covers _ (parts_of _ (subst (IsDomain {T = g.row.T.Denot} {U = g.row.U.Denot}) (sym c.state.view_is) c.requires.agrees)) c.args.place _
+    (book-covers _ (subst (IsDomain {T = g.row.T.Denot} {U = g.row.U.Denot}) (sym c.state.view_is) c.requires.agrees).parts c.args.place _
     (read-there _ c.args.place _ _ (ap (λ (f : Fields g.row.T.Denot g.row.U.Denot). slice_index_or f.publishers c.args.place None) c.state.view_is ∙ c.requires.stands.1) c.index.ensures ∙ c.in-Some.is ∙ ap Some (sym c.publisher.view_is)) _ c.index_mut.ensures.value)
 
 pub returns-clause-reaches : goal.returns-clause-reaches

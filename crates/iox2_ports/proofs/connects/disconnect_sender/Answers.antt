@@ -9,14 +9,13 @@ use Rattle.iox2_domain.specs.Updates.{changed_at, without_sender_key}
 use Rattle.iox2_domain.specs.contracts.state.DomainState.{the_view}
 use denote.Param.{param}
 use Rattle.iox2_domain.specs.Invariant.{IsDomain}
-use Rattle.iox2_domain.proofs.lemmas.fields.Parts.{parts_of}
 use Rattle.iox2_domain.proofs.lemmas.slots.PublisherBooks.{read-there, book-there, book-covers}
 use Rattle.iox2_domain.proofs.lemmas.updates.DropCalls.{end-its, end-lost}
 use Rattle.iox2_ports.proofs.connects.disconnect_sender.Goals as goal
 
 pub index_mut-book-requires : goal.index_mut-book-requires
 index_mut-book-requires g c =
-    book-there _ (parts_of _ (subst (IsDomain {T = g.row.T.Denot} {U = g.row.U.Denot}) (sym c.state.view_is) c.requires.agrees)) c.args.publisher_place _
+    book-there _ (subst (IsDomain {T = g.row.T.Denot} {U = g.row.U.Denot}) (sym c.state.view_is) c.requires.agrees).parts c.args.publisher_place _
     (read-there _ c.args.publisher_place _ _ (ap (λ (f : Fields g.row.T.Denot g.row.U.Denot). slice_index_or f.publishers c.args.publisher_place None) c.state.view_is ∙ c.requires.end.stands) c.index.ensures ∙ c.in-Some.is ∙ ap Some (sym c.publisher.view_is))
 
 pub remove_connection-requires-clause-own : goal.remove_connection-requires-clause-own
@@ -28,7 +27,7 @@ remove_connection-requires-clause-own g c =
 pub remove_connection-requires-clause-covered : goal.remove_connection-requires-clause-covered
 remove_connection-requires-clause-covered g c =
     rw c.value.ensures
-    (book-covers _ (parts_of _ (subst (IsDomain {T = g.row.T.Denot} {U = g.row.U.Denot}) (sym c.state.view_is) c.requires.agrees)) c.args.publisher_place _
+    (book-covers _ (subst (IsDomain {T = g.row.T.Denot} {U = g.row.U.Denot}) (sym c.state.view_is) c.requires.agrees).parts c.args.publisher_place _
     (read-there _ c.args.publisher_place _ _ (ap (λ (f : Fields g.row.T.Denot g.row.U.Denot). slice_index_or f.publishers c.args.publisher_place None) c.state.view_is ∙ c.requires.end.stands) c.index.ensures ∙ c.in-Some.is ∙ ap Some (sym c.publisher.view_is))
     _ c.index_mut-book.ensures.value)
 

@@ -1,14 +1,13 @@
 use Rattle.std.proofs.Common.{None, slice_index_or, sym, ◌∙◌, ap, subst, Some}
 use Rattle.iox2_domain.specs.Fields.{Fields}
 use Rattle.iox2_domain.specs.Invariant.{IsDomain}
-use Rattle.iox2_domain.proofs.lemmas.fields.Parts.{parts_of}
 use Rattle.iox2_domain.proofs.lemmas.slots.PublisherBooks.{read-there, book-there, book-covers}
 use Rattle.iox2_domain.proofs.lemmas.updates.DropCalls.{end-its, waiting-lost}
 use Rattle.iox2_ports.proofs.connects.drop_waiting_at.Goals as goal
 
 pub index_mut-book-requires : goal.index_mut-book-requires
 index_mut-book-requires g c =
-    book-there _ (parts_of _ (subst (IsDomain {T = g.row.T.Denot} {U = g.row.U.Denot}) (sym c.state.view_is) c.requires.agrees)) c.args.publisher_place _
+    book-there _ (subst (IsDomain {T = g.row.T.Denot} {U = g.row.U.Denot}) (sym c.state.view_is) c.requires.agrees).parts c.args.publisher_place _
     (read-there _ c.args.publisher_place _ _ (ap (λ (f : Fields g.row.T.Denot g.row.U.Denot). slice_index_or f.publishers c.args.publisher_place None) c.state.view_is ∙ c.requires.end.1.stands) c.index.ensures ∙ c.in-Some.is ∙ ap Some (sym c.publisher.view_is))
 
 pub drop_all-requires-clause-own : goal.drop_all-requires-clause-own
@@ -20,7 +19,7 @@ drop_all-requires-clause-own g c =
 pub drop_all-requires-clause-covered : goal.drop_all-requires-clause-covered
 drop_all-requires-clause-covered g c =
     rw c.value.ensures
-    (book-covers _ (parts_of _ (subst (IsDomain {T = g.row.T.Denot} {U = g.row.U.Denot}) (sym c.state.view_is) c.requires.agrees)) c.args.publisher_place _
+    (book-covers _ (subst (IsDomain {T = g.row.T.Denot} {U = g.row.U.Denot}) (sym c.state.view_is) c.requires.agrees).parts c.args.publisher_place _
     (read-there _ c.args.publisher_place _ _ (ap (λ (f : Fields g.row.T.Denot g.row.U.Denot). slice_index_or f.publishers c.args.publisher_place None) c.state.view_is ∙ c.requires.end.1.stands) c.index.ensures ∙ c.in-Some.is ∙ ap Some (sym c.publisher.view_is))
     _ c.index_mut-book.ensures.value)
 

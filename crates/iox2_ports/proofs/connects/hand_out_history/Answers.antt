@@ -1,26 +1,25 @@
 use Rattle.std.proofs.Common.{None, Some, slice_index_or, sym, ◌∙◌, ap, subst, arith}
 use Rattle.iox2_domain.specs.Fields.{Fields}
 use Rattle.iox2_domain.specs.Invariant.{IsDomain}
-use Rattle.iox2_domain.proofs.lemmas.fields.Parts.{parts_of}
 use Rattle.iox2_domain.proofs.lemmas.slots.PublisherBooks.{read-there, book-there, sender-linked, book-covers}
 use Rattle.iox2_domain.proofs.lemmas.updates.HistoryConnects.{end-there, end-empty, end-in_use, end-fits, end-handed}
 use Rattle.iox2_ports.proofs.connects.hand_out_history.Goals as goal
 
 pub index_mut-book-requires : goal.index_mut-book-requires
 index_mut-book-requires g c =
-    book-there _ (parts_of _ (subst (IsDomain {T = g.row.T.Denot} {U = g.row.U.Denot}) (sym c.state.view_is) c.requires.agrees)) c.args.publisher_place _
+    book-there _ (subst (IsDomain {T = g.row.T.Denot} {U = g.row.U.Denot}) (sym c.state.view_is) c.requires.agrees).parts c.args.publisher_place _
     (read-there _ c.args.publisher_place _ _ (ap (λ (f : Fields g.row.T.Denot g.row.U.Denot). slice_index_or f.publishers c.args.publisher_place None) c.state.view_is ∙ c.requires.new_end.stands) c.index.ensures ∙ c.in-Some.is ∙ ap Some (sym c.publisher.view_is))
 
 pub reclaim_all-requires-clause-linked : goal.reclaim_all-requires-clause-linked
 reclaim_all-requires-clause-linked g c =
     rw (c.value.ensures, c.deref.ensures.value)
-    (sender-linked _ (parts_of _ (subst (IsDomain {T = g.row.T.Denot} {U = g.row.U.Denot}) (sym c.state.view_is) c.requires.agrees)) c.args.publisher_place _
+    (sender-linked _ (subst (IsDomain {T = g.row.T.Denot} {U = g.row.U.Denot}) (sym c.state.view_is) c.requires.agrees).parts c.args.publisher_place _
     (read-there _ c.args.publisher_place _ _ (ap (λ (f : Fields g.row.T.Denot g.row.U.Denot). slice_index_or f.publishers c.args.publisher_place None) c.state.view_is ∙ c.requires.new_end.stands) c.index.ensures ∙ c.in-Some.is ∙ ap Some (sym c.publisher.view_is)))
 
 pub reclaim_all-requires-clause-covered : goal.reclaim_all-requires-clause-covered
 reclaim_all-requires-clause-covered g c =
     rw c.value.ensures
-    (book-covers _ (parts_of _ (subst (IsDomain {T = g.row.T.Denot} {U = g.row.U.Denot}) (sym c.state.view_is) c.requires.agrees)) c.args.publisher_place _
+    (book-covers _ (subst (IsDomain {T = g.row.T.Denot} {U = g.row.U.Denot}) (sym c.state.view_is) c.requires.agrees).parts c.args.publisher_place _
     (read-there _ c.args.publisher_place _ _ (ap (λ (f : Fields g.row.T.Denot g.row.U.Denot). slice_index_or f.publishers c.args.publisher_place None) c.state.view_is ∙ c.requires.new_end.stands) c.index.ensures ∙ c.in-Some.is ∙ ap Some (sym c.publisher.view_is))
     _ c.index_mut-book.ensures.value)
 

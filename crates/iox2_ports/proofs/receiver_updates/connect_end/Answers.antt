@@ -14,7 +14,6 @@ use Rattle.iox2_domain.specs.Fields.{Fields}
 use Rattle.iox2_domain.specs.ReceiverSteps.{NotJoined, JoinsAt}
 use Rattle.iox2_domain.specs.Updates.{changed_at, with_receiver_key}
 use Rattle.iox2_domain.proofs.lemmas.updates.SenderOutcomes.{answers-warn}
-use Rattle.iox2_domain.proofs.lemmas.fields.Parts.{parts_of}
 use Rattle.iox2_domain.proofs.lemmas.receivers.PortsStanding.{some-buffer, sender-joins, receiver-room}
 use Rattle.iox2_domain.proofs.lemmas.receivers.Outcomes.{joins-as, makes-as, misses-as}
 use Rattle.iox2_ports.proofs.receiver_updates.connect_end.Goals as goal
@@ -31,8 +30,8 @@ set_key_at-requires-clause-room g c = λ z at.
     subst (λ o. MatchOption o (NotJoined old x0.0 c.args.subscriber_place c.between-buffer.result.0.subscriber) (λ key. JoinsAt old x0.0 c.args.subscriber_place c.between-buffer.result.0.subscriber key)) c.in-Some.is (c.joined_key.ensures x0.0 x0.1) in
     let own = ap (λ (h : Home). h.subscriber) (c.between-buffer.ensures x0.0 y0.0 x0.1 y0.1).0 in
     subst (λ (w : SubscriberFields). c.args.publisher_place < w.key_room) is
-    (receiver-room old (parts_of old c.requires.agrees) c.args.publisher_place c.args.subscriber_place x0.0 y0.0 x0.1 y0.1 c.in-Some.key joins.link
-    (sender-joins old (parts_of old c.requires.agrees) c.args.publisher_place c.args.subscriber_place x0.0 y0.0 x0.1 y0.1 c.in-Some.key joins.link joins.has joins.stands (joins.its ∙ own)))
+    (receiver-room old c.requires.agrees.parts c.args.publisher_place c.args.subscriber_place x0.0 y0.0 x0.1 y0.1 c.in-Some.key joins.link
+    (sender-joins old c.requires.agrees.parts c.args.publisher_place c.args.subscriber_place x0.0 y0.0 x0.1 y0.1 c.in-Some.key joins.link joins.has joins.stands (joins.its ∙ own)))
 
 pub returns-in-Some : goal.returns-in-Some
 returns-in-Some g c = λ x y at_x at_y.
@@ -59,7 +58,7 @@ make_between-requires-clause-buffer g c =
     let old = c.args.state.now in
     let x0 = c.requires.publisher in
     let y0 = c.requires.subscriber in
-    rw (c.between-buffer.ensures x0.0 y0.0 x0.1 y0.1).1 (some-buffer old (parts_of old c.requires.agrees) (c.requires.agrees).well_formed c.args.subscriber_place y0.0 y0.1)
+    rw (c.between-buffer.ensures x0.0 y0.0 x0.1 y0.1).1 (some-buffer old c.requires.agrees.parts (c.requires.agrees).well_formed c.args.subscriber_place y0.0 y0.1)
 
 pub returns-in_default-make_between : goal.returns-in_default-make_between
 returns-in_default-make_between g c = λ x y at_x at_y.

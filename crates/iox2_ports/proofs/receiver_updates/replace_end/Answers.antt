@@ -5,7 +5,6 @@ use Rattle.iox2_store.specs.machine.Environments.{fixed_handlers}
 use Rattle.iox2_store.specs.declared.errors.ConnectionFailure.{ConnectionFailure}
 use Rattle.iox2_domain.specs.Ports.{SubscriberFields}
 use Rattle.iox2_domain.specs.ReceiverSteps.{RetiresReceiver, ConnectsAt, ConnectsEnd}
-use Rattle.iox2_domain.proofs.lemmas.fields.Parts.{parts_of}
 use Rattle.iox2_domain.proofs.lemmas.receivers.PortsStanding.{receiver-link}
 use Rattle.iox2_domain.proofs.lemmas.receivers.FoundEnds.{receiver-stands}
 use Rattle.iox2_domain.proofs.lemmas.receivers.Connects.{keeps-end, departed-end, refused-there, after-retirement}
@@ -24,7 +23,7 @@ returns-then-is_publishers g c = λ y at.
     let both : Some z.0 ≡ Some y = sym z.1 ∙ at in
     let is : z.0 ≡ y = cc in
     let has = ap (λ (w : SubscriberFields). get_or w.keys c.args.publisher_place None) (sym is) ∙ z.2 in
-    let own = receiver-link old (parts_of old c.requires.agrees) c.args.subscriber_place c.args.publisher_place c.args.key y at has in
+    let own = receiver-link old c.requires.agrees.parts c.args.subscriber_place c.args.publisher_place c.args.key y at has in
     keeps-end fixed_handlers old c.requires.agrees c.args.subscriber_place c.args.publisher_place y at x.0 x.1 c.args.key own.0 has own.1
     (eqb-true own.0.home.publisher c.args.publisher (sym (c.is_publishers.ensures own.0 own.1) ∙ c.if-is_publishers.true) ∙ sym x.2)
 
@@ -33,7 +32,7 @@ retire-requires-clause-end g c =
     let old = c.args.state.now in
     let x = c.requires.publisher in
     let z = c.requires.subscriber in
-    let own = receiver-link old (parts_of old c.requires.agrees) c.args.subscriber_place c.args.publisher_place c.args.key z.0 z.1 z.2 in (
+    let own = receiver-link old c.requires.agrees.parts c.args.subscriber_place c.args.publisher_place c.args.key z.0 z.1 z.2 in (
       z.0,
       own.0,
       departed-end fixed_handlers old c.requires.agrees c.args.subscriber_place c.args.publisher_place z.0 z.1 x.0 x.1 c.args.key own.0 z.2 own.1
@@ -45,7 +44,7 @@ connect_end-requires-clause-agrees g c =
     let old = c.args.state.now in
     let x = c.requires.publisher in
     let z = c.requires.subscriber in
-    let own = receiver-link old (parts_of old c.requires.agrees) c.args.subscriber_place c.args.publisher_place c.args.key z.0 z.1 z.2 in
+    let own = receiver-link old c.requires.agrees.parts c.args.subscriber_place c.args.publisher_place c.args.key z.0 z.1 z.2 in
     let end = departed-end fixed_handlers old c.requires.agrees c.args.subscriber_place c.args.publisher_place z.0 z.1 x.0 x.1 c.args.key own.0 z.2 own.1
     (λ same. eqb-false own.0.home.publisher c.args.publisher (sym (c.is_publishers.ensures own.0 own.1) ∙ c.if-is_publishers.false) (same ∙ x.2)) in
     (after-retirement fixed_handlers old c.requires.agrees c.args.subscriber_place c.args.publisher_place z.0 z.1 x.0 x.1 c.args.key own.0 end c.retire.new.state
@@ -56,7 +55,7 @@ connect_end-requires-clause-publisher g c =
     let old = c.args.state.now in
     let x = c.requires.publisher in
     let z = c.requires.subscriber in
-    let own = receiver-link old (parts_of old c.requires.agrees) c.args.subscriber_place c.args.publisher_place c.args.key z.0 z.1 z.2 in
+    let own = receiver-link old c.requires.agrees.parts c.args.subscriber_place c.args.publisher_place c.args.key z.0 z.1 z.2 in
     let end = departed-end fixed_handlers old c.requires.agrees c.args.subscriber_place c.args.publisher_place z.0 z.1 x.0 x.1 c.args.key own.0 z.2 own.1
     (λ same. eqb-false own.0.home.publisher c.args.publisher (sym (c.is_publishers.ensures own.0 own.1) ∙ c.if-is_publishers.false) (same ∙ x.2)) in
     let after = after-retirement fixed_handlers old c.requires.agrees c.args.subscriber_place c.args.publisher_place z.0 z.1 x.0 x.1 c.args.key own.0 end c.retire.new.state
@@ -68,7 +67,7 @@ connect_end-requires-clause-subscriber g c =
     let old = c.args.state.now in
     let x = c.requires.publisher in
     let z = c.requires.subscriber in
-    let own = receiver-link old (parts_of old c.requires.agrees) c.args.subscriber_place c.args.publisher_place c.args.key z.0 z.1 z.2 in
+    let own = receiver-link old c.requires.agrees.parts c.args.subscriber_place c.args.publisher_place c.args.key z.0 z.1 z.2 in
     let end = departed-end fixed_handlers old c.requires.agrees c.args.subscriber_place c.args.publisher_place z.0 z.1 x.0 x.1 c.args.key own.0 z.2 own.1
     (λ same. eqb-false own.0.home.publisher c.args.publisher (sym (c.is_publishers.ensures own.0 own.1) ∙ c.if-is_publishers.false) (same ∙ x.2)) in
     (after-retirement fixed_handlers old c.requires.agrees c.args.subscriber_place c.args.publisher_place z.0 z.1 x.0 x.1 c.args.key own.0 end c.retire.new.state
@@ -81,7 +80,7 @@ returns-then-retire g c = λ y at.
     let z = c.requires.subscriber in
     let both : Some z.0 ≡ Some y = sym z.1 ∙ at in
     let is : z.0 ≡ y = cc in
-    let own = receiver-link old (parts_of old c.requires.agrees) c.args.subscriber_place c.args.publisher_place c.args.key z.0 z.1 z.2 in
+    let own = receiver-link old c.requires.agrees.parts c.args.subscriber_place c.args.publisher_place c.args.key z.0 z.1 z.2 in
     let end = departed-end fixed_handlers old c.requires.agrees c.args.subscriber_place c.args.publisher_place z.0 z.1 x.0 x.1 c.args.key own.0 z.2 own.1
     (λ same. eqb-false own.0.home.publisher c.args.publisher (sym (c.is_publishers.ensures own.0 own.1) ∙ c.if-is_publishers.false) (same ∙ x.2)) in
     let after = after-retirement fixed_handlers old c.requires.agrees c.args.subscriber_place c.args.publisher_place z.0 z.1 x.0 x.1 c.args.key own.0 end c.retire.new.state
@@ -98,7 +97,7 @@ returns-else-retire g c = λ y at.
     let z = c.requires.subscriber in
     let both : Some z.0 ≡ Some y = sym z.1 ∙ at in
     let is : z.0 ≡ y = cc in
-    let own = receiver-link old (parts_of old c.requires.agrees) c.args.subscriber_place c.args.publisher_place c.args.key z.0 z.1 z.2 in
+    let own = receiver-link old c.requires.agrees.parts c.args.subscriber_place c.args.publisher_place c.args.key z.0 z.1 z.2 in
     let end = departed-end fixed_handlers old c.requires.agrees c.args.subscriber_place c.args.publisher_place z.0 z.1 x.0 x.1 c.args.key own.0 z.2 own.1
     (λ same. eqb-false own.0.home.publisher c.args.publisher (sym (c.is_publishers.ensures own.0 own.1) ∙ c.if-is_publishers.false) (same ∙ x.2)) in
     subst (λ (w : SubscriberFields). ConnectsAt fixed_handlers old c.args.subscriber_place c.args.publisher_place w c.retire.new.state (Some c.expired_full.result)) is

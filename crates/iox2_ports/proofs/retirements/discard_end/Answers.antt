@@ -5,7 +5,6 @@ use Rattle.iox2_ends.proofs.MailboxChanges.{within_if_some}
 use Rattle.iox2_domain.specs.Fields.{Fields}
 use Rattle.iox2_domain.specs.Updates.{changed_at, without_receiver_key}
 use Rattle.iox2_domain.proofs.lemmas.receivers.RetiredFields.{its-book, discarded-changes, frees-book, frees-changes, spares-same}
-use Rattle.iox2_domain.proofs.lemmas.fields.Parts.{parts_but}
 use Rattle.iox2_ports.proofs.retirements.discard_end.Goals as goal
 
 pub lose_connection-book-requires-clause-stands : goal.lose_connection-book-requires-clause-stands
@@ -28,9 +27,9 @@ free_book_if_unused-requires g c =
     let written : _ ≡ changed_at (without_receiver_key c.args.publisher_place) (c.lose_connection-book.new.state).subscribers c.args.subscriber_place =
     with_items_is c.state.inside.subscribers c.clear_key_at.new.ports (c.clear_key_at.auto.ports ∙ c.deref_mut.ensures.len)
     ∙ c.clear_key_at.ensures ∙ ap (λ xs. changed_at (without_receiver_key c.args.publisher_place) xs c.args.subscriber_place) (c.deref_mut.ensures.value ∙ ap (λ (f : Fields g.row.T.Denot g.row.U.Denot). f.subscribers) c.state.view_is) in
-    parts_but _ _ (spares-same _ _ c.requires.end.1.home.book lost.0
+    (spares-same _ _ c.requires.end.1.home.book lost.0
     (discarded-changes old c.requires.agrees c.args.subscriber_place c.args.publisher_place c.requires.end.0 c.args.key c.requires.end.1 end c.requires.unborrowed book.book book.stands c.lose_connection-book.new.state lost.1
-    _ (λ k. record (c.state.view_is k) { subscribers = written k })).agrees)
+    _ (λ k. record (c.state.view_is k) { subscribers = written k })).agrees).parts
 
 pub returns : goal.returns
 returns g c = λ y d end.

@@ -8,7 +8,6 @@ use Rattle.iox2_domain.specs.ReceiverSteps.{replacing_expired}
 use Rattle.iox2_domain.specs.Updates.{changed_at}
 use Rattle.iox2_domain.proofs.lemmas.receivers.ExpiredKeys.{expired-link, room-to-expire}
 use Rattle.iox2_domain.proofs.lemmas.receivers.RetiredFields.{its-book, evicted-changes, frees-book, frees-changes, spares-same}
-use Rattle.iox2_domain.proofs.lemmas.fields.Parts.{parts_but}
 use Rattle.iox2_ports.proofs.retirements.replace_expired.Goals as goal
 
 pub lose_connection-book-requires-clause-stands : goal.lose_connection-book-requires-clause-stands
@@ -67,9 +66,9 @@ free_book_if_unused-requires g c =
     let written : _ ≡ changed_at (replacing_expired c.args.publisher_place c.args.key c.args.first) (c.lose_connection-book.new.state).subscribers c.args.subscriber_place =
     with_items_is c.state.inside.subscribers c.replace_expired_at.new.subscribers (c.replace_expired_at.auto.subscribers ∙ c.deref_mut.ensures.len)
     ∙ c.replace_expired_at.ensures ∙ ap (λ xs. changed_at (replacing_expired c.args.publisher_place c.args.key c.args.first) xs c.args.subscriber_place) (c.deref_mut.ensures.value ∙ ap (λ (f : Fields g.row.T.Denot g.row.U.Denot). f.subscribers) c.state.view_is) in
-    parts_but _ _ (spares-same _ _ d.0.home.book lost.0
+    (spares-same _ _ d.0.home.book lost.0
     (evicted-changes old c.requires.agrees c.args.subscriber_place c.args.publisher_place y c.args.key c.requires.end.1 end c.args.first d.0 (c.requires.first y end.stands) d.1 c.requires.unborrowed book.book book.stands c.lose_connection-book.new.state lost.1
-    _ (λ k. record (c.state.view_is k) { subscribers = written k })).agrees)
+    _ (λ k. record (c.state.view_is k) { subscribers = written k })).agrees).parts
 
 pub returns : goal.returns
 returns g c = λ y e d end at_d.
