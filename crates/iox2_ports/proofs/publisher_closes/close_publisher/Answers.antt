@@ -4,7 +4,7 @@ use Rattle.iox2_ports.proofs.publisher_closes.close_publisher.Goals as goal
 pub free_book_if_unused-requires : goal.free_book_if_unused-requires
 free_book_if_unused-requires g c =
     let left = c.leave_domain-key.ensures c.requires.stands.0 c.requires.stands.1 in
-    parts_but c.leave_domain-key.new.state c.requires.stands.0.book left.1.agrees
+    left.1.agrees.parts
 
 pub returns : goal.returns
 returns g c = λ x at.

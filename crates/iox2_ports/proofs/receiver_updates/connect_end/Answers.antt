@@ -76,7 +76,7 @@ returns-in_default-make_between g c = λ x y at_x at_y.
     let mid = c.make_between.new.state in
     misses-as fixed_handlers old c.requires.agrees c.args.publisher_place c.args.subscriber_place x y at_x at_y vacant (λ key l has st its. apart.at key l has st (its ∙ sym own))
     c.between-buffer.result.0 c.between-buffer.result.1 home size mid c.make_between.ensures.grows tt Warn
-    (answers-warn fixed_handlers y.id y.degradation_handler _ (c.requires.agrees.plain_subscribers c.args.subscriber_place y at_y).degradation) c.warn.new.warnings
+    (answers-warn fixed_handlers y.id y.degradation_handler _ (c.requires.agrees.parts.plain_subscribers c.args.subscriber_place y at_y).degradation) c.warn.new.warnings
     c.in_default-make_between.ensures.refused
     (c.warn.ensures ∙ (λ k. buffer (warned (c.state-2.view_is k).warnings.items (c.not_made.ensures k)) warning_limit)
     ∙ ap (λ (f : Fields g.row.T.Denot g.row.U.Denot). buffer (warned f.warnings.items (ConnectionNotMade c.between-buffer.result.0.publisher c.between-buffer.result.0.subscriber)) warning_limit) c.make_between.ensures.grows.fields)
