@@ -36,15 +36,23 @@ pub extern "C" fn close_ports(alloc: Global, closing: &Closing) -> usize {
     close_all(alloc, closing).unwrap_or(0)
 }
 
-// Makes the domain and its ports, and passes the messages. `None` where something is refused.
+// Makes the domain, and passes the messages. `None` where something is refused.
 fn pass_under_load(alloc: Global, load: &Load, messages: u64) -> Option<u64>
     ensures { IfSome result (λ arrived. arrived ≤ messages) }
 {
     let mut domain = Domain::<u64, ()>::new(alloc, load.config()?).ok()?;
-    keep_publishers(&mut domain, load.idle_publishers)?;
-    let receivers = create_receivers(alloc, &mut domain, load.subscribers)?;
-    let publisher = domain.publisher_builder().create(&mut domain).ok()?;
-    let arrived = pass_between(&mut domain, &publisher, &receivers, load, messages);
+    pass_in(alloc, &mut domain, load, messages)
+}
+
+// Makes the ports of a domain, and passes the messages. `None` where something is refused.
+fn pass_in(alloc: Global, domain: &mut Domain<u64, ()>, load: &Load, messages: u64) -> Option<u64>
+    requires single_valued { IsSingleValued domain.old }
+    ensures { IfSome result (λ arrived. arrived ≤ messages) }
+{
+    keep_publishers(domain, load.idle_publishers)?;
+    let receivers = create_receivers(alloc, domain, load.subscribers)?;
+    let publisher = domain.publisher_builder().create(domain).ok()?;
+    let arrived = pass_between(domain, &publisher, &receivers, load, messages);
     publisher.disown();
     arrived
 }
