@@ -23,3 +23,4 @@ pub mod ClosesWait
 pub mod LoansLeft
 pub mod LoansLeftShown
 pub mod SureLoans
+pub mod KeptCounts

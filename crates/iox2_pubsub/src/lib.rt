@@ -9,8 +9,6 @@ mod sample_mut;
 mod sample_mut_uninit;
 mod send_outcome;
 mod subscriber;
-#[cfg(test)]
-mod tests;
 mod update_connections;
 
 pub use domain::Domain;
