@@ -73,4 +73,11 @@ impl<T: Drop, U: Default + Drop> DomainState<T, U> {
     {
         &self.config
     }
+
+    /// How many connections were refused memory: `u64::MAX` says at least so many.
+    pub fn refused_connections(&self) -> u64
+        ensures { result ≡ (self.now.warnings).items.refused_connections }
+    {
+        self.warnings.refused_connections()
+    }
 }
