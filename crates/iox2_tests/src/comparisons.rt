@@ -1,3 +1,8 @@
+ghost use Rattle.std.specs.Prelude.{◌≡◌, true};
+ghost use Rattle.std.specs.List.{All};
+ghost use Rattle.iox2_commands.specs.Refusals.{TellNoRefusal};
+ghost use Rattle.iox2_runs.specs.Supported.{IsSupportedCommand};
+
 use crate::fixtures::settings;
 use iox2_pubsub::Domain;
 use iox2_runs::{Command, Reply, compare_runs};
@@ -5,6 +10,8 @@ use iox2_store::{
     AllocationStrategy, BackpressureStrategy, DegradationAction, ServiceConfig,
     SubscriberCreateError, UniquePublisherId, UniqueSubscriberId,
 };
+use std::alloc::Global;
+use std::process::Abort;
 
 type End = (Domain<u64, u8>, Vec<Reply<u64, u8>>);
 
@@ -234,4 +241,83 @@ fn a_subscriber_that_keeps_a_sample_keeps_its_place(rt: HostRuntime) {
     keeping[16] = Reply::Skipped;
     assert!(rt; replies.as_slice() == answers().as_slice());
     assert!(rt; others.as_slice() == keeping.as_slice());
+}
+
+// Before these, 33 subscribers were made. The first of the two that follow receives a message.
+const WITH_A_LATE_RECEIVE: [Command<u64, u8>; 9] = [
+    SUBSCRIBER,
+    SUBSCRIBER,
+    PUBLISHER,
+    Command::LoanUninit { of: 35 },
+    Command::WriteAll { of: 36, value: 1 },
+    Command::Send { of: 36 },
+    Command::Receive { of: 33 },
+    Command::Receive { of: 34 },
+    Command::Read { of: 40, at: 0 },
+];
+
+// The same, but it receives nothing.
+const WITHOUT_IT_LATE: [Command<u64, u8>; 9] = [
+    SUBSCRIBER,
+    SUBSCRIBER,
+    PUBLISHER,
+    Command::LoanUninit { of: 35 },
+    Command::WriteAll { of: 36, value: 1 },
+    Command::Send { of: 36 },
+    Command::Nothing,
+    Command::Receive { of: 34 },
+    Command::Read { of: 40, at: 0 },
+];
+
+// The commands, after those that make 33 subscribers.
+fn after_many_subscribers(
+    rt: &impl Abort,
+    alloc: Global,
+    last: &[Command<u64, u8>],
+) -> Vec<Command<u64, u8>>
+    requires { All IsSupportedCommand last.now }
+    ensures { All IsSupportedCommand result.items }
+{
+    let mut commands = Vec::from_array(alloc, [SUBSCRIBER; 33]).expect(rt, "subscribers");
+    commands.extend_from_slice(last).expect(rt, "commands");
+    commands
+}
+
+// Whether the domain of a run was refused no connection, as the law of two runs asks.
+fn met_no_refusal(end: &End) -> bool
+    ensures { result ≡ true → TellNoRefusal (end.now.0).warnings }
+{
+    end.0.refused_connections() == 0
+}
+
+// Of each subscriber there is a warning, so that more are told than a domain keeps. No connection is refused.
+#[test]
+fn runs_are_compared_after_more_warnings_than_are_kept(rt: HostRuntime) {
+    let config = ServiceConfig {
+        max_subscribers: 35,
+        subscriber_max_buffer_size: 1,
+        subscriber_max_borrowed_samples: 1,
+        subscriber_expired_connection_buffer: 0,
+        ..settings()
+    };
+    let commands = after_many_subscribers(&rt, rt.alloc(), &WITH_A_LATE_RECEIVE);
+    let reduced = after_many_subscribers(&rt, rt.alloc(), &WITHOUT_IT_LATE);
+    let ends: Option<(End, End)> = compare_runs(rt.alloc(), &config, commands, reduced);
+    let (first, second) = ends.expect(&rt, "two runs");
+    assert!(rt; met_no_refusal(&first) && met_no_refusal(&second));
+    let replies = replies_of(first);
+    let others = replies_of(second);
+    let publisher = UniquePublisherId::new(36);
+    let expected: [Reply<u64, u8>; 6] = [
+        Reply::Loaned,
+        Reply::Done,
+        Reply::Delivered(35),
+        Reply::Sample(publisher),
+        Reply::Sample(publisher),
+        Reply::Cell(Some(1)),
+    ];
+    let mut without = expected;
+    without[3] = Reply::Done;
+    assert!(rt; replies[36..] == expected);
+    assert!(rt; others[36..] == without);
 }
