@@ -17,6 +17,7 @@ pub mod LoanSlots
 pub mod Connects
 pub mod Histories
 pub mod LoanCalls
+pub mod LoanLends
 pub mod Deliveries
 pub mod SentLoans
 pub mod Discards

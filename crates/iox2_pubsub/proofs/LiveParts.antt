@@ -6,8 +6,8 @@ use Rattle.iox2_store.specs.machine.SingleCalls.{HoldsPublisher, HoldsSubscriber
 use Rattle.iox2_store.specs.declared.key.Key.{Key}
 use Rattle.iox2_store.specs.declared.service_config.TypeVariant.TheVariants.{FixedSize}
 use Rattle.iox2_domain.specs.Kept.{Kept, state_of, entries_of}
-use Rattle.iox2_domain.specs.LoanCalls.{HasCell, HoldsUnwritten, HoldsWritten}
-use Rattle.iox2_pubsub.specs.Live.{IsSingleValued, IsPublisherKey, IsSubscriberKey, IsLoanKey, IsSampleKey, HasMark, IsFromOrigin, LoanReads, SampleReads, IsUnwrittenLoan, IsWrittenLoan}
+use Rattle.iox2_domain.specs.LoanCalls.{HasCell, HasLoanUserHeader, HoldsUnwritten, HoldsWritten}
+use Rattle.iox2_pubsub.specs.Live.{IsSingleValued, IsPublisherKey, IsSubscriberKey, IsLoanKey, IsSampleKey, HasMark, IsFromOrigin, LoanReads, UninitReads, HasUserHeader, SampleReads, IsUnwrittenLoan, IsWrittenLoan}
 use Rattle.iox2_pubsub.specs.declared.sample.Sample.{Sample}
 use Rattle.iox2_pubsub.specs.declared.sample_mut.SampleMut.{SampleMut}
 use Rattle.iox2_pubsub.specs.declared.sample_mut_uninit.SampleMutUninit.{SampleMutUninit}
@@ -100,6 +100,22 @@ module _ {T U : Type 0} (kept : Kept T U) where
   pub loan-cell : (loan : SampleMut) (value : T) → LoanReads kept loan value → HasCell (state_of kept) loan.loan.number (Some value)
   unfolding LoanReads
   loan-cell loan value reads = reads
+
+  pub uninit-reads : (loan : SampleMutUninit) (cell : Option T) → HasCell (state_of kept) loan.loan.number cell → UninitReads kept loan cell
+  unfolding UninitReads
+  uninit-reads loan cell has = has
+
+  pub uninit-cell : (loan : SampleMutUninit) (cell : Option T) → UninitReads kept loan cell → HasCell (state_of kept) loan.loan.number cell
+  unfolding UninitReads
+  uninit-cell loan cell reads = reads
+
+  pub has-header : (number : ℕ) (user_header : U) → HasLoanUserHeader (state_of kept) number user_header → HasUserHeader kept number user_header
+  unfolding HasUserHeader
+  has-header number user_header has = has
+
+  pub header-parts : (number : ℕ) (user_header : U) → HasUserHeader kept number user_header → HasLoanUserHeader (state_of kept) number user_header
+  unfolding HasUserHeader
+  header-parts number user_header has = has
 
   -- a loan reads as one value
   pub loan-reads-one : (loan : SampleMut) (value value' : T) → LoanReads kept loan value → LoanReads kept loan value' → value ≡ value'

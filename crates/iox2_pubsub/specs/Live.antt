@@ -1,5 +1,6 @@
 -- What handles name in a domain, and what of it a call leaves.
 use Rattle.std.specs.Prelude.{ℕ, Bool, [], ◌∷◌, ◌≡◌, ◌≢◌, ◌⊎◌, true, false, IsTrue}
+use Rattle.std.specs.declared.option.Option.{Option}
 use Rattle.std.specs.declared.option.Option.TheVariants.{Some}
 use Rattle.iox2_store.specs.machine.Mailbox.{is_borrowed}
 use Rattle.iox2_store.specs.machine.Records.{Entry, Loan}
@@ -7,7 +8,7 @@ use Rattle.iox2_store.specs.machine.SingleCalls.{HoldsPublisher, HoldsSubscriber
 use Rattle.iox2_store.specs.declared.key.Key.{Key}
 use Rattle.iox2_store.specs.declared.service_config.TypeVariant.TheVariants.{FixedSize}
 use Rattle.iox2_domain.specs.Kept.{Kept, state_of, entries_of}
-use Rattle.iox2_domain.specs.LoanCalls.{HasCell}
+use Rattle.iox2_domain.specs.LoanCalls.{HasCell, HasLoanUserHeader}
 use Rattle.iox2_pubsub.specs.declared.publisher.Publisher.{Publisher}
 use Rattle.iox2_pubsub.specs.declared.subscriber.Subscriber.{Subscriber}
 use Rattle.iox2_pubsub.specs.declared.sample_mut_uninit.SampleMutUninit.{SampleMutUninit}
@@ -95,6 +96,14 @@ module _ {T U : Type 0} (domain : Kept T U) where
   -- The written loan's payload is this value.
   unfoldable pub LoanReads : SampleMut → T → Type 0
   LoanReads loan value = HasCell (state_of domain) loan.loan.number (Some value)
+
+  -- The unwritten loan's single cell is this.
+  unfoldable pub UninitReads : SampleMutUninit → Option T → Type 0
+  UninitReads loan cell = HasCell (state_of domain) loan.loan.number cell
+
+  -- The loan with this number has this user header.
+  unfoldable pub HasUserHeader : (number : ℕ) → U → Type 0
+  HasUserHeader number user_header = HasLoanUserHeader (state_of domain) number user_header
 
   -- The sample's payload is this value.
   unfoldable pub SampleReads : Sample → T → Type 0

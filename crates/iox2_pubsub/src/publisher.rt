@@ -3,6 +3,8 @@ ghost use Rattle.std.specs.Prelude.{◌≡◌};
 ghost use Rattle.iox2_pubsub.specs.Live.{publisher_key};
 
 mod loan;
+mod loan_default;
+mod send_copy;
 mod update_connections;
 
 use crate::domain::Domain;

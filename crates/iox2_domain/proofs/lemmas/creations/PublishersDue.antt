@@ -150,6 +150,7 @@ module _ {T U : Type 0} (f : Fields T U) where
         rw was.2 (record { loans = has.loans; history = has.history });
     warning_room = sound.warning_room;
     shapes = record { at = sound.shapes.at };
+    forms = sound.forms;
     supported = sound.supported;
     plain = λ i x at. let was = is_due i x at in let has = sound.plain i was.0 was.1 in
         rw was.2 (record { strategy = has.strategy; backpressure = has.backpressure; degradation = has.degradation; unblocked = has.unblocked; allocation = has.allocation; length = has.length });

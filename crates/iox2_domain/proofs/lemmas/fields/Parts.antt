@@ -9,7 +9,7 @@ use Rattle.iox2_domain.specs.Ports.{PublisherFields, SubscriberFields}
 use Rattle.iox2_domain.specs.Kept.{state_of}
 use Rattle.iox2_domain.specs.Fields.{Fields, kept_of}
 use Rattle.iox2_domain.specs.Shows.{KeepsEntries}
-use Rattle.iox2_domain.specs.Invariant.{IsDomain, HasLoneLoans, IsLinked, HasExpiredRoom, HasBooks, NamesBooks, IsCounted, IsNumbered, HasPublisherRoom, HasShapes, IsSupportedConfig, IsPlain, IsPlainSubscriber, HasOnlyOpenPorts, is_publisher, is_subscriber}
+use Rattle.iox2_domain.specs.Invariant.{IsDomain, HasLoneLoans, IsLinked, HasExpiredRoom, HasBooks, NamesBooks, IsCounted, IsNumbered, HasPublisherRoom, HasShapes, HasForms, IsSupportedConfig, IsPlain, IsPlainSubscriber, HasOnlyOpenPorts, is_publisher, is_subscriber}
 
 -- the fields agree with one another, in the midst of a step
 pub record HasParts {T U : Type 0} (f : Fields T U) : Type 0 where
@@ -25,6 +25,7 @@ pub record HasParts {T U : Type 0} (f : Fields T U) : Type 0 where
   pub publisher_room : (i : ℕ) (x : PublisherFields) → slice_index_or f.publishers i None ≡ Some x → HasPublisherRoom f.config x
   pub warning_room : (f.warnings).capacity ≡ warning_limit
   pub shapes : HasShapes f
+  pub forms : HasForms f.config f.contents
   pub supported : IsSupportedConfig f.config
   pub plain : (i : ℕ) (x : PublisherFields) → slice_index_or f.publishers i None ≡ Some x → IsPlain x
   pub plain_subscribers : (i : ℕ) (y : SubscriberFields) → slice_index_or f.subscribers i None ≡ Some y → IsPlainSubscriber y
@@ -46,6 +47,7 @@ module _ {T U : Type 0} (f : Fields T U) where
     publisher_room = sound.publisher_room;
     warning_room = sound.warning_room;
     shapes = sound.shapes;
+    forms = sound.forms;
     supported = sound.supported;
     plain = sound.plain;
     plain_subscribers = sound.plain_subscribers;
@@ -68,6 +70,7 @@ module _ {T U : Type 0} (f : Fields T U) where
     publisher_room = parts.publisher_room;
     warning_room = parts.warning_room;
     shapes = parts.shapes;
+    forms = parts.forms;
     supported = parts.supported;
     plain = parts.plain;
     plain_subscribers = parts.plain_subscribers;

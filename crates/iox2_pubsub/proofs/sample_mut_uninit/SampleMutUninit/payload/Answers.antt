@@ -19,3 +19,7 @@ returns g c =
 pub loan_cell-requires-clause-single : goal.loan_cell-requires-clause-single
 loan_cell-requires-clause-single g c =
     ap (λ (k : Kept g.row.T.Denot g.row.U.Denot). (k.config).units_per_element) c.domain.view_is ∙ (single-parts c.args.domain.now c.requires.single_valued).1
+
+pub loan_cell-requires-clause-fixed_size : goal.loan_cell-requires-clause-fixed_size
+loan_cell-requires-clause-fixed_size g c =
+    ap (λ (k : Kept g.row.T.Denot g.row.U.Denot). (k.config).variant) c.domain.view_is ∙ (single-parts c.args.domain.now c.requires.single_valued).0
