@@ -317,6 +317,7 @@ module _ {T U : Type 0} (f : Fields T U) (parts : HasOwnedParts f) (publishers :
           subst (λ (z : PublisherFields). HasPublisherRoom f.config z) (sym was.2.fields) (record { loans = has.loans; history = has.history });
       warning_room = parts.parts.warning_room;
       shapes = record { at = parts.parts.shapes.at };
+      forms = parts.parts.forms;
       supported = parts.parts.supported;
       plain = λ i x at. let was = g.senders i x at in let has = parts.parts.plain i was.0 was.1 in
           subst IsPlain (sym was.2.fields)

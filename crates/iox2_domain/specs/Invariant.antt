@@ -7,6 +7,7 @@ use Rattle.std.specs.Option.{option_map, option_map_or}
 use Rattle.slab.specs.Slab.{Slab, get}
 use Rattle.iox2_store.specs.machine.Limits.{warning_limit}
 use Rattle.iox2_store.specs.Link.{Link}
+use Rattle.iox2_store.specs.SingleValues.{is_single_valued}
 use Rattle.iox2_store.specs.SlotBook.{Book, IsAligned, holders_at}
 use Rattle.iox2_store.specs.SlotContents.{ContentState}
 use Rattle.iox2_store.specs.machine.Loans.{is_static}
@@ -224,6 +225,10 @@ pub record HasShapes {T U : Type 0} (f : Fields T U) : Type 0 where
   pub at : (key slot : ℕ) (b : Book) (m : KeptMessage T U) → get f.books key ≡ Some b
       → message_in b (contents_at f.contents key) slot ≡ Some m → HasShape f.config m
 
+-- What lies in slots lies in lists, so that it can be handed out as a slice, but in a domain of single values.
+pub record HasForms {T U : Type 0} (c : ServiceConfig) (contents : List (Option (List (ContentState T U)))) : Type 0 where
+  pub at : is_single_valued c ≡ false → (key : ℕ) (cs : List (ContentState T U)) → slice_index_or contents key None ≡ Some cs → All (λ content. content.is_in_place ≡ false) cs
+
 -- ---- what isn't there yet
 
 -- The settings that a domain may have.
@@ -260,6 +265,7 @@ pub record HasParts {T U : Type 0} (f : Fields T U) : Type 0 where
   pub publisher_room : (i : ℕ) (x : PublisherFields) → slice_index_or f.publishers i None ≡ Some x → HasPublisherRoom f.config x
   pub warning_room : (f.warnings).capacity ≡ warning_limit
   pub shapes : HasShapes f
+  pub forms : HasForms f.config f.contents
   pub supported : IsSupportedConfig f.config
   pub plain : (i : ℕ) (x : PublisherFields) → slice_index_or f.publishers i None ≡ Some x → IsPlain x
   pub plain_subscribers : (i : ℕ) (y : SubscriberFields) → slice_index_or f.subscribers i None ≡ Some y → IsPlainSubscriber y
@@ -281,6 +287,7 @@ pub record IsDomain {T U : Type 0} (f : Fields T U) : Type 0 where
   pub publisher_room : (i : ℕ) (x : PublisherFields) → slice_index_or f.publishers i None ≡ Some x → HasPublisherRoom f.config x
   pub warning_room : (f.warnings).capacity ≡ warning_limit
   pub shapes : HasShapes f
+  pub forms : HasForms f.config f.contents
   pub supported : IsSupportedConfig f.config
   pub plain : (i : ℕ) (x : PublisherFields) → slice_index_or f.publishers i None ≡ Some x → IsPlain x
   pub plain_subscribers : (i : ℕ) (y : SubscriberFields) → slice_index_or f.subscribers i None ≡ Some y → IsPlainSubscriber y
@@ -302,6 +309,7 @@ pub record IsSoundBut {T U : Type 0} (key : ℕ) (f : Fields T U) : Type 0 where
   pub publisher_room : (i : ℕ) (x : PublisherFields) → slice_index_or f.publishers i None ≡ Some x → HasPublisherRoom f.config x
   pub warning_room : (f.warnings).capacity ≡ warning_limit
   pub shapes : HasShapes f
+  pub forms : HasForms f.config f.contents
   pub supported : IsSupportedConfig f.config
   pub plain : (i : ℕ) (x : PublisherFields) → slice_index_or f.publishers i None ≡ Some x → IsPlain x
   pub plain_subscribers : (i : ℕ) (y : SubscriberFields) → slice_index_or f.subscribers i None ≡ Some y → IsPlainSubscriber y

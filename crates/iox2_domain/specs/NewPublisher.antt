@@ -1,5 +1,5 @@
 -- A publisher enters a domain, with its book and the contents of its slots.
-use Rattle.std.specs.Prelude.{◌≡◌, ◌≢◌, ◌≤◌, ◌==◌, ℕ, true, cond, nat_lt, List, [], length, replicate, slice_index_or}
+use Rattle.std.specs.Prelude.{◌≡◌, ◌≢◌, ◌≤◌, ◌==◌, ℕ, Bool, true, false, cond, nat_lt, List, [], length, replicate, slice_index_or}
 use Rattle.std.specs.List.{All}
 use Rattle.std.specs.declared.option.Option.{Option}
 use Rattle.std.specs.declared.option.Option.TheVariants.{None, Some}
@@ -68,13 +68,15 @@ module _ {T U : Type 0} where
 abbrev pub subscriber_due : SubscriberFields → SubscriberFields
 subscriber_due y = record y { is_due = true }
 
--- A book of so many slots of the publisher, none of which is in use, and their contents, each with room for so many elements.
-pub record IsNewSegment {T U : Type 0} (book : Book) (contents : List (ContentState T U)) (publisher slots room : ℕ) : Type 0 where
+-- A book of so many slots of the publisher, none of which is in use, and their contents, each with room for so many elements,
+-- which lie in lists where they are to.
+pub record IsNewSegment {T U : Type 0} (book : Book) (contents : List (ContentState T U)) (publisher slots room : ℕ) (in_lists : Bool) : Type 0 where
   pub is_its : book.publisher ≡ publisher
   pub unused : book.holders ≡ replicate slots 0
   pub aligned : IsAligned book
   pub contents_length : length contents ≡ slots
   pub contents_room : All (λ content. content.room ≡ room) contents
+  pub contents_form : in_lists ≡ true → All (λ content. content.is_in_place ≡ false) contents
 
 -- A book of the publisher, none of whose slots is in use, is among the books now, at a key that had none. At that key are
 -- contents for its slots, each with room for so many elements. Nothing else changes.

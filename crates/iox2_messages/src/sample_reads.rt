@@ -1,5 +1,6 @@
 //! What is read of borrowed messages.
-ghost use Rattle.std.specs.Prelude.{◌≡◌, Some, [], ◌∷◌};
+ghost use Rattle.std.specs.Prelude.{◌≡◌, Some, [], ◌∷◌, false};
+ghost use Rattle.iox2_store.specs.SingleValues.{is_single_valued};
 ghost use Rattle.iox2_store.specs.machine.Records.{Entry};
 ghost use Rattle.iox2_store.specs.machine.SingleCalls.{HoldsSample};
 ghost use Rattle.iox2_domain.specs.Kept.{state_of, entries_of};
@@ -24,6 +25,23 @@ pub fn sample_payload<'a, T: Drop, U: Default + Drop>(
         unreachable!()
     };
     contents.value(at.slot)
+}
+
+/// The values of a borrowed message, where messages aren't single values.
+pub fn sample_payloads<'a, T: Drop, U: Default + Drop>(
+    state: &'a DomainState<T, U>,
+    sample: &SampleAt,
+) -> &'a [T]
+    requires agrees { IsDomain state.now }
+    requires several { is_single_valued state.now.config ≡ false }
+    requires live { HoldsSample (state_of (kept_of state.now)) sample.now.subscriber sample.now.number }
+    ensures { (entry : Entry T U) × (entries_of (kept_of state.now) sample.now.number ≡ Some entry) × (entry.values ≡ result.now) }
+{
+    let at = state.find_message(sample);
+    let Some(contents) = &state.contents[at.book] else {
+        unreachable!()
+    };
+    contents.values(at.slot)
 }
 
 /// The header of a borrowed message.

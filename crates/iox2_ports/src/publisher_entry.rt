@@ -54,7 +54,8 @@ pub(crate) fn admit_publisher<T: Drop, U: Default + Drop>(
     let id = UniquePublisherId::new(state.next_port);
     let key = state.books.vacant_key();
     let room = state.config.units_per_element;
-    let Ok(segment) = Segment::new(state.alloc, id, slots, room) else {
+    let in_lists = !state.config.is_single_valued();
+    let Ok(segment) = Segment::new(state.alloc, id, slots, room, in_lists) else {
         return Err(PublisherCreateError::UnableToCreateDataSegment);
     };
     let entering = PublisherState::new(

@@ -43,17 +43,19 @@ pub(crate) struct Segment<T, U> {
 }
 
 impl<T: Drop, U: Default + Drop> Segment<T, U> {
-    /// So many slots of a publisher without holders, each with room for so many elements.
+    /// So many slots of a publisher without holders, each with room for so many elements, which lie
+    /// in lists where they are to be handed out as slices.
     pub(crate) fn new(
         alloc: Global,
         publisher: UniquePublisherId,
         slots: usize,
         room: usize,
+        in_lists: bool,
     ) -> Result<Self, AllocError>
-        ensures { IfOk result (λ segment. IsNewSegment segment.book segment.contents publisher slots room) }
+        ensures { IfOk result (λ segment. IsNewSegment segment.book segment.contents publisher slots room in_lists) }
     {
         let book = SlotBook::new(alloc, publisher, slots)?;
-        let contents = Contents::new(alloc, slots, room)?;
+        let contents = Contents::new(alloc, slots, room, in_lists)?;
         Ok(Segment { book, contents })
     }
 }

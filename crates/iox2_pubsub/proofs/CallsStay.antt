@@ -3,7 +3,7 @@ use Rattle.std.proofs.Common.{◌≡◌, ℕ, ◌<◌, List, true, false, sym, a
 use Rattle.std.specs.Prelude.{◌≢◌}
 use Rattle.std.proofs.lemmas.Bool.{cases_eq, ne_eqb, true≢false}
 use Rattle.iox2_store.specs.machine.Environments.{ample_memory, fixed_handlers}
-use Rattle.iox2_store.specs.machine.Loans.{written, entry_of}
+use Rattle.iox2_store.specs.machine.Loans.{entry_of}
 use Rattle.iox2_store.specs.machine.Mailbox.{is_borrowed}
 use Rattle.iox2_store.specs.machine.Numbers.{put_at, contains}
 use Rattle.iox2_store.specs.machine.Ports.{CreatePublisher, CreateSubscriber}
@@ -151,13 +151,13 @@ module _ {T U : Type 0} (old new : Kept T U) (m : Messages T U) (s : State T U) 
           let next : s.next_message ≡ old.next_message = ap (λ (t : State T U). t.next_message) shown.state in
           omega arith
 
-  -- a loan is written
-  pub write-stays : (n : ℕ) (l : Loan T U) (value : T) → Shows new m (with_loan s n (Some (written l value))) → StaysBut (A_loan n) old new
-  write-stays n l value shown' =
-      let s' : State T U = with_loan s n (Some (written l value)) in
-      let stay : PortsStay s s' = loan_set_stays s n (Some (written l value)) in
+  -- a loan is changed
+  pub change-stays : (n : ℕ) (l : Loan T U) → Shows new m (with_loan s n (Some l)) → StaysBut (A_loan n) old new
+  change-stays n l shown' =
+      let s' : State T U = with_loan s n (Some l) in
+      let stay : PortsStay s s' = loan_set_stays s n (Some l) in
       stays-between (A_loan n) old new m m s s' shown shown' (λ n entry at. at) (ports-remain _ s s' stay.remain)
-      (λ k loan at other. put_at-other s.loans n (Some (written l value)) k (ne_eqb k n other) ∙ at)
+      (λ k loan at other. put_at-other s.loans n (Some l) k (ne_eqb k n other) ∙ at)
       (λ i j k at _. same_borrowed s s' stay i j k ∙ at)
 
   -- a loan is sent

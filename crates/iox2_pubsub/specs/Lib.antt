@@ -4,3 +4,6 @@ pub mod SendCalls
 pub mod QuestionCalls
 pub mod UpdateCalls
 pub mod Payloads
+pub mod ChangedLoans
+pub mod LoanLends
+pub mod Slices

@@ -2,7 +2,9 @@
 ghost use Rattle.std.specs.Prelude.{◌≡◌};
 
 mod discard;
+mod payload_mut;
 mod send;
+mod user_header_mut;
 
 use crate::domain::Domain;
 use iox2_domain::LoanAt;

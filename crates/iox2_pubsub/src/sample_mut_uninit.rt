@@ -1,7 +1,10 @@
 //! A loan that isn't written.
 ghost use Rattle.std.specs.Prelude.{◌≡◌};
 
+mod assume_init;
 mod discard;
+mod payload_mut;
+mod user_header_mut;
 mod write_payload;
 
 use crate::domain::Domain;

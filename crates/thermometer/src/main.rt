@@ -7,6 +7,7 @@
 
 ghost use Rattle.iox2_pubsub.specs.Live.{IsLiveSubscriber, IsSingleValued, Stays};
 
+mod correction;
 mod failure;
 mod reading;
 mod report;

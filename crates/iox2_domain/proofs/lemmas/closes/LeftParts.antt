@@ -431,6 +431,7 @@ module _ {T U : Type 0} (f : Fields T U) (sound : IsDomain f) (i : ℕ) (x : Pub
     publisher_room = λ k y at_y. sound.publisher_room k y (publisher-was k y at_y).1;
     warning_room = sound.warning_room;
     shapes = shapes;
+    forms = sound.forms;
     supported = sound.supported;
     plain = plain;
     plain_subscribers = λ k y at_y. let was = subscriber-was k y at_y in

@@ -15,7 +15,7 @@ use Rattle.iox2_laws.proofs.PortLaws.{new_publisher_keeps}
 use Rattle.iox2_domain.specs.Ports.{PublisherFields}
 use Rattle.iox2_domain.specs.Kept.{Named, state_of, ids}
 use Rattle.iox2_domain.specs.Fields.{Fields, kept_of, publisher_of}
-use Rattle.iox2_domain.specs.Invariant.{IsDomain, HasPublisherRoom}
+use Rattle.iox2_domain.specs.Invariant.{HasForms, IsDomain, HasPublisherRoom}
 use Rattle.iox2_domain.specs.NewPublisher.{BookEnters, plain_publisher}
 use Rattle.iox2_domain.specs.Reaches.{Reaches}
 use Rattle.iox2_domain.proofs.lemmas.creations.SubscribersDue.{with_subscribers_due, subscribers_due-are, subscribers_due-agree}
@@ -33,10 +33,10 @@ module _ {T U : Type 0} (f : Fields T U) where
 
 module _ {T U : Type 0} (f : Fields T U) (sound : IsDomain f) (place loans loan_room key_room key : ℕ) (books : Slab Book) (contents : List (Option (List (ContentState T U))))
     (free : get_or f.publishers place None ≡ None)
-    (book : BookEnters f.next_port (worst_case f.config loans) (f.config).units_per_element key f.books f.contents books contents) where
+    (book : BookEnters f.next_port (worst_case f.config loans) (f.config).units_per_element key f.books f.contents books contents) (forms : HasForms f.config contents) where
   -- the new publisher among the fields whose subscribers are due
   abbrev pub enters : PublisherEnters (with_subscribers_due f) place loans loan_room key_room key books contents
-  enters = record { sound = subscribers_due-agree f sound; free = free; book = book }
+  enters = record { sound = subscribers_due-agree f sound; free = free; book = book; forms = forms }
 
   -- the fields with every subscriber due, and with the new publisher
   abbrev pub with_admitted : Fields T U

@@ -19,7 +19,7 @@ use Rattle.iox2_laws.proofs.PortLaws.{no_publisher_yet}
 use Rattle.iox2_domain.specs.Ports.{PublisherFields}
 use Rattle.iox2_domain.specs.Kept.{Named, Between, state_of, port_named, ids, is_named, loan_in, stands_between, box_if_any}
 use Rattle.iox2_domain.specs.Fields.{Fields, kept_of, publisher_of}
-use Rattle.iox2_domain.specs.Invariant.{IsDomain, is_publisher}
+use Rattle.iox2_domain.specs.Invariant.{IsDomain, HasForms, is_publisher}
 use Rattle.iox2_domain.specs.Placed.{placed}
 use Rattle.iox2_domain.specs.NewPublisher.{BookEnters, entering_publisher, plain_publisher}
 use Rattle.iox2_domain.proofs.lemmas.containers.LookUps.{look_up-map, look_up-written, IsOnly-inserted}
@@ -33,6 +33,7 @@ pub record PublisherEnters {T U : Type 0} (f : Fields T U) (place loans loan_roo
   pub sound : IsDomain f
   pub free : get_or f.publishers place None ≡ None
   pub book : BookEnters f.next_port (worst_case f.config loans) (f.config).units_per_element key f.books f.contents books contents
+  pub forms : HasForms f.config contents
 
 module _ {T U : Type 0} (f : Fields T U) (place loans loan_room key_room key : ℕ) (books : Slab Book) (contents : List (Option (List (ContentState T U))))
     (enters : PublisherEnters f place loans loan_room key_room key books contents) where

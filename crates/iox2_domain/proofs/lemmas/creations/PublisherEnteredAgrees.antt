@@ -270,6 +270,7 @@ module _ {T U : Type 0} (f : Fields T U) (place loans loan_room key_room key : �
     publisher_room = λ i x at. elim (was i x at) [ inl e ↦ rw e.1 rooms | inr old ↦ enters.sound.publisher_room i x old ];
     warning_room = enters.sound.warning_room;
     shapes = record { at = shaped };
+    forms = enters.forms;
     supported = enters.sound.supported;
     plain = λ i x at. elim (was i x at) [ inl e ↦ rw e.1 (record { strategy = refl; backpressure = refl; degradation = refl; unblocked = refl; allocation = refl; length = refl }) | inr old ↦ enters.sound.plain i x old ];
     plain_subscribers = enters.sound.plain_subscribers;

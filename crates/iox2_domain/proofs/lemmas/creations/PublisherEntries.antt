@@ -1,6 +1,6 @@
 -- A publisher enters a domain at the place that it has, or it is refused.
-use Rattle.std.proofs.Common.{◌≡◌, ◌≢◌, ℕ, suc, ◌+◌, ◌≤◌, ◌==◌, Bool, true, false, cond, nat_lt, List, [], length, map, get_or, replicate, refl, ap, sym, subst, ◌∙◌, arith}
-use Rattle.std.proofs.lemmas.Bool.{ltb-true, eq-eqb}
+use Rattle.std.proofs.Common.{◌≡◌, ◌≢◌, ℕ, suc, ◌+◌, ◌≤◌, ◌==◌, Bool, true, false, cond, nat_lt, List, [], length, map, get_or, replicate, refl, ap, sym, subst, ◌∙◌, inl, inr, arith}
+use Rattle.std.proofs.lemmas.Bool.{cases_eq, ltb-true, eq-eqb}
 use Rattle.std.specs.List.{All}
 use Rattle.std.specs.declared.option.Option.{Option}
 use Rattle.std.specs.declared.option.Option.TheVariants.{None, Some}
@@ -10,6 +10,7 @@ use Rattle.slab.specs.Slab.{Slab, get, Updates}
 use Rattle.circular_buffer.specs.Buffer.{buffer}
 use Rattle.iox2_store.specs.machine.Limits.{worst_case, last_number}
 use Rattle.iox2_store.specs.machine.Ports.{with_new_publisher}
+use Rattle.iox2_store.specs.SingleValues.{is_single_valued}
 use Rattle.iox2_store.specs.SlotBook.{Book, IsAligned}
 use Rattle.iox2_store.specs.SlotContents.{ContentState}
 use Rattle.iox2_store.specs.declared.errors.PublisherCreateError.TheVariants.{UnableToCreatePortTag, ExceedsMaxSupportedPublishers}
@@ -65,6 +66,7 @@ module _ {T U : Type 0} (f : Fields T U) where
     publisher_room = sound.publisher_room;
     warning_room = sound.warning_room;
     shapes = record { at = sound.shapes.at };
+    forms = sound.forms;
     supported = sound.supported;
     plain = sound.plain;
     plain_subscribers = sound.plain_subscribers;
@@ -122,6 +124,7 @@ module _ {T U : Type 0} (f : Fields T U) where
     pub aligned : IsAligned book
     pub contents_length : length slot_contents ≡ slots
     pub contents_room : All (λ content. content.room ≡ (before.config).units_per_element) slot_contents
+    pub contents_form : is_single_valued before.config ≡ false → All (λ content. content.is_in_place ≡ false) slot_contents
     pub vacant : get before.books (before.books).vacant_key ≡ None
     pub updates : Updates before.books books (before.books).vacant_key (Some book)
     pub changed : new ≡ record before {
@@ -156,7 +159,16 @@ module _ {T U : Type 0} (f : Fields T U) where
       } in
       let is : x ≡ entering_publisher f.next_port place key loans (worst_case f.config loans) x.loan_room (buffer [] (f.config).history_size) x.key_room =
       e.publisher ∙ ap (λ n. entering_publisher f.next_port place key loans n x.loan_room (buffer [] (f.config).history_size) x.key_room) count in
-      let after : Fields T U = with_admitted f sound place loans x.loan_room x.key_room key books contents free enters in
+      let forms : HasForms f.config contents = record {
+        at = λ several k zs there. elim (cases_eq k key) [
+          | inl here ↦
+              let found : Some slot_contents ≡ Some zs = sym (placed-here slot_contents f.contents key) ∙ sym (ap (λ (j : ℕ). get_or contents j None) here) ∙ there in
+              let is : slot_contents ≡ zs = cc in
+              subst (All (λ content. content.is_in_place ≡ false)) is (e.contents_form several)
+          | inr away ↦ sound.forms.at several k zs (sym (placed-others slot_contents f.contents key k away) ∙ there)
+        ];
+      } in
+      let after : Fields T U = with_admitted f sound place loans x.loan_room x.key_room key books contents free enters forms in
       let same : new ≡ after = e.changed ∙ ap (λ (z : PublisherFields). record f {
         next_port = f.next_port + 1;
         publishers = placed f.publishers place z;
@@ -165,7 +177,7 @@ module _ {T U : Type 0} (f : Fields T U) where
         contents = contents;
       }) is in
       subst (λ (g : Fields T U). Reaches f g (with_new_publisher (state_of (kept_of f)) (plain_publisher loans) place)) (sym same)
-      (admitted-reaches f sound place loans x.loan_room x.key_room key books contents free enters (subst (HasPublisherRoom f.config) is e.room)
+      (admitted-reaches f sound place loans x.loan_room x.key_room key books contents free enters forms (subst (HasPublisherRoom f.config) is e.room)
       (subst (λ (p : ℕ). suc p ≤ (f.config).max_publishers) has.lowest (ltb-true _ _ has.low)) next)
 
   -- the same, where the fields are known by another name

@@ -142,6 +142,7 @@ module _ {T U : Type 0} (f : Fields T U) where
         rw was.2 (record { loans = has.loans; history = has.history });
     warning_room = parts.warning_room;
     shapes = record { at = parts.shapes.at };
+    forms = parts.forms;
     supported = parts.supported;
     plain = λ i x at. let was = is_due i x at in let has = parts.plain i was.0 was.1 in
         rw was.2 (record { strategy = has.strategy; backpressure = has.backpressure; degradation = has.degradation; unblocked = has.unblocked; allocation = has.allocation; length = has.length });

@@ -124,6 +124,7 @@ module _ {T U : Type 0} (f : Fields T U) where
     publisher_room = sound.publisher_room;
     warning_room = sound.warning_room;
     shapes = record { at = sound.shapes.at };
+    forms = sound.forms;
     supported = sound.supported;
     plain = sound.plain;
     plain_subscribers = λ i y at. let was = was_there i y at in rw was.2 (record { degradation = (sound.plain_subscribers i was.0 was.1).degradation });

@@ -139,6 +139,7 @@ module _ {T U : Type 0} (f : Fields T U) (sound : IsDomain f) (p n key slot : â„
     publisher_room = sound.publisher_room;
     warning_room = sound.warning_room;
     shapes = left-shapes f parts key at.book at.stands slot n at.loan lies alone;
+    forms = sound.forms;
     supported = sound.supported;
     plain = sound.plain;
     plain_subscribers = sound.plain_subscribers;

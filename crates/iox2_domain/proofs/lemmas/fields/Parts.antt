@@ -26,6 +26,7 @@ module _ {T U : Type 0} (f : Fields T U) where
     publisher_room = sound.publisher_room;
     warning_room = sound.warning_room;
     shapes = sound.shapes;
+    forms = sound.forms;
     supported = sound.supported;
     plain = sound.plain;
     plain_subscribers = sound.plain_subscribers;
@@ -49,6 +50,7 @@ module _ {T U : Type 0} (f : Fields T U) where
     publisher_room = parts.publisher_room;
     warning_room = parts.warning_room;
     shapes = parts.shapes;
+    forms = parts.forms;
     supported = parts.supported;
     plain = parts.plain;
     plain_subscribers = parts.plain_subscribers;
@@ -72,6 +74,7 @@ module _ {T U : Type 0} (f : Fields T U) where
     publisher_room = parts.publisher_room;
     warning_room = parts.warning_room;
     shapes = parts.shapes;
+    forms = parts.forms;
     supported = parts.supported;
     plain = parts.plain;
     plain_subscribers = parts.plain_subscribers;
@@ -96,6 +99,7 @@ module _ {T U : Type 0} (f : Fields T U) where
     publisher_room = sound.publisher_room;
     warning_room = sound.warning_room;
     shapes = sound.shapes;
+    forms = sound.forms;
     supported = sound.supported;
     plain = sound.plain;
     plain_subscribers = sound.plain_subscribers;

@@ -36,6 +36,7 @@ use Rattle.iox2_domain.proofs.lemmas.fields.ConnectionEnds.{publisher-stands}
 use Rattle.iox2_domain.proofs.lemmas.slots.SlotsInUse.{its_book, slot-counted, size-free}
 use Rattle.iox2_domain.proofs.lemmas.slots.Messages.{lies_at, message_at-book, message_at-slot}
 use Rattle.iox2_domain.proofs.lemmas.loans.PublisherChanges.{KeepsSettings, changed-ids_apart, look_up-publisher, changed-linked_same, changed-books, changed-room, changed-plain, changed-kept_books, changed-entries}
+use Rattle.iox2_domain.proofs.lemmas.slots.SlotChanges.{forms-changed}
 use Rattle.iox2_domain.proofs.lemmas.loans.Taken.{taken-after, CanTakeSlot, with_taken, taken_book, taken_books, begun, begun_contents, lent, next_header, taken-stands, others-stand, begun-has, others-have, taken-one_each, taken-found, taken-holders, taken-numbered, taken-entries, lent-lies, others-lie, length-with_changed, room-with_changed, taken-lone}
 use Rattle.iox2_domain.proofs.lemmas.loans.Granted.{lender, with_granted, granted-is, taken-is, lends-granted}
 use Rattle.iox2_domain.proofs.lemmas.fields.Views.{held-before}
@@ -278,6 +279,7 @@ module _ {T U : Type 0} (f : Fields T U) (sound : IsDomain f) (i : ℕ) (x : Pub
       publisher_room = changed-room mid i x new_lender at refl sound.publisher_room keeps;
       warning_room = sound.warning_room;
       shapes = granted-shapes;
+      forms = forms-changed f.config f.contents x.book slot can.contents can.has (unwritten_content user_header (1 * (f.config).units_per_element)) (λ c. refl) sound.forms;
       supported = sound.supported;
       plain = changed-plain mid i x new_lender at refl sound.plain keeps;
       plain_subscribers = sound.plain_subscribers;

@@ -202,6 +202,7 @@ module _ {T U : Type 0} (f : Fields T U) (sound : IsDomain f) (j : ℕ) (y : Sub
     publisher_room = sound.publisher_room;
     warning_room = room;
     shapes = record { at = sound.shapes.at };
+    forms = sound.forms;
     supported = sound.supported;
     plain = sound.plain;
     plain_subscribers = λ k z at_z. elim (stood k z at_z) [

@@ -96,6 +96,7 @@ module _ {T U : Type 0} (f : Fields T U) (sound : IsDomain f) (key : ℕ) (c : L
     publisher_room = sound.publisher_room;
     warning_room = sound.warning_room;
     shapes = record { at = sound.shapes.at };
+    forms = sound.forms;
     supported = sound.supported;
     plain = sound.plain;
     plain_subscribers = sound.plain_subscribers;

@@ -1,12 +1,14 @@
 -- What is read of a borrowed message is its entry's.
-use Rattle.std.proofs.Common.{◌≡◌, ℕ, ◌<◌, List, [], ◌∷◌, length, get_or, refl, ap, sym, subst, ◌∙◌, arith, Option, Some, None, IsSomeAnd}
+use Rattle.std.proofs.Common.{◌≡◌, ℕ, ◌<◌, List, [], ◌∷◌, false, length, get_or, refl, ap, sym, subst, ◌∙◌, arith, Option, Some, None, IsSomeAnd}
 use Rattle.std.proofs.lemmas.List.{get_or_read}
+use Rattle.std.proofs.lemmas.Option.{slice_get_within, get_or_from_slice_get}
 use Rattle.std.specs.Prelude.{slice_get}
-use Rattle.std.specs.Option.{option_and_then}
+use Rattle.std.specs.Option.{option_map, option_and_then}
 use Rattle.slab.specs.Slab.{get}
 use Rattle.iox2_store.specs.machine.Records.{Entry}
+use Rattle.iox2_store.specs.SingleValues.{is_single_valued}
 use Rattle.iox2_store.specs.SlotBook.{Book}
-use Rattle.iox2_store.specs.SlotContents.{ContentState, SomeAt, first_value_at}
+use Rattle.iox2_store.specs.SlotContents.{ContentState, SomeAt, first_value_at, values_at}
 use Rattle.iox2_store.specs.declared.header.Header.{Header}
 use Rattle.iox2_ends.proofs.MailboxChanges.{within_if_some}
 use Rattle.iox2_domain.specs.Kept.{entries_of}
@@ -80,6 +82,22 @@ module _ {T U : Type 0} (f now : Fields T U) (q n : ℕ) (at : SampleSlot) (ther
           let single : length (its-entry.entry).values ≡ 1 = its-entry.one_value one in
           let some : 0 < length (its-entry.content).values = subst (λ (xs : List T). 0 < length xs) its-entry.values_are (omega (arith, single)) in
           rw its-contents some
+
+      -- where messages aren't single values they lie in lists
+      pub values-there : is_single_valued now.config ≡ false → SomeAt cs at.slot (λ content. content.is_in_place ≡ false)
+      values-there several =
+          let one : Some has-contents.0 ≡ Some cs = sym read-contents ∙ is in
+          let same : has-contents.0 ≡ cs = cc in
+          let listed : (its-entry.content).is_in_place ≡ false =
+          subst (λ (c : ContentState T U). c.is_in_place ≡ false) (get_or_from_slice_get cs at.slot its-entry.content its-entry.content its-contents)
+          (((there.sound).forms.at several at.book cs (has-contents.1 ∙ ap Some same)) at.slot its-entry.content (slice_get_within cs at.slot its-entry.content its-contents)) in
+          rw its-contents listed
+
+      pub values-read : (xs : List T) → values_at cs at.slot ≡ Some xs → (entry : Entry T U) × (entries_of (kept_of now) n ≡ Some entry) × (entry.values ≡ xs)
+      values-read xs read-at =
+          let got : Some (its-entry.content).values ≡ Some xs = sym (ap (option_map (λ (content : ContentState T U). content.values)) its-contents) ∙ read-at in
+          let values : (its-entry.content).values ≡ xs = cc in
+          (its-entry.entry, its-entry.is_kept, its-entry.values_are ∙ values)
 
       pub value-read : (now.config).units_per_element ≡ 1 → (x : T) → first_value_at cs at.slot ≡ Some x
           → (entry : Entry T U) × (entries_of (kept_of now) n ≡ Some entry) × (entry.values ≡ x ∷ [])

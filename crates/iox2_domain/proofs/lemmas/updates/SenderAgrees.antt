@@ -231,6 +231,7 @@ module _ {T U : Type 0} (f : Fields T U) (sound : IsDomain f) (i : ℕ) (x : Pub
     ];
     warning_room = room;
     shapes = record { at = sound.shapes.at };
+    forms = sound.forms;
     supported = sound.supported;
     plain = λ k z at_z. elim (stood k z at_z) [
       | inl here ↦ rw here.1 (let has = sound.plain i x at in record { strategy = has.strategy; backpressure = has.backpressure; degradation = has.degradation; unblocked = has.unblocked; allocation = has.allocation; length = has.length })

@@ -328,6 +328,7 @@ module _ {T U : Type 0} (f : Fields T U) (sound : IsDomain f) (i j : ℕ) (x : P
     ];
     warning_room = sound.warning_room;
     shapes = record { at = sound.shapes.at };
+    forms = sound.forms;
     supported = sound.supported;
     plain = λ k z at_z. elim (stood k z at_z) [
       | inl is ↦ rw is.1 (let has = sound.plain i x leaves.here in record { strategy = has.strategy; backpressure = has.backpressure; degradation = has.degradation; unblocked = has.unblocked; allocation = has.allocation; length = has.length })

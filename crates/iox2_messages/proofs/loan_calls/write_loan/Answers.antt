@@ -1,13 +1,26 @@
-use Rattle.iox2_domain.proofs.lemmas.loans.LoanCalls.{is-unwritten, can-write, write-done}
+use Rattle.std.proofs.Common.{sym}
+use Rattle.iox2_domain.proofs.lemmas.loans.ChangedLoan.{one-cell}
+use Rattle.iox2_domain.proofs.lemmas.loans.LoanCalls.{contents-still, one-writable, one-written}
 use Rattle.iox2_messages.proofs.loan_calls.write_loan.Goals as goal
 
-pub write_slot-requires : goal.write_slot-requires
-write_slot-requires g c =
-    can-write {T = g.row.T.Denot} {U = g.row.U.Denot} c.args.state.now c.requires.agrees c.args.loan.publisher c.args.loan.number c.find_live_loan-at.result.book c.find_live_loan-at.result.slot c.find_live_loan-at.ensures
-    c.requires.single (is-unwritten c.args.state.now c.requires.agrees c.args.loan.publisher c.args.loan.number c.find_live_loan-at.result.book c.find_live_loan-at.result.slot c.find_live_loan-at.ensures c.requires.live)
+pub mark_written-requires : goal.mark_written-requires
+mark_written-requires g c = let at = c.find_live_loan-at.ensures in (at.book, at.stands, (at.loan_slot).in_bounds)
+
+pub contents_mut-requires : goal.contents_mut-requires
+contents_mut-requires g c =
+    contents-still {T = g.row.T.Denot} {U = g.row.U.Denot} c.args.state.now c.requires.agrees c.args.loan.publisher c.args.loan.number c.find_live_loan-at.result.book c.find_live_loan-at.result.slot c.find_live_loan-at.ensures
+    c.mark_written.new.state (c.mark_written.ensures (c.find_live_loan-at.ensures).book (c.find_live_loan-at.ensures).stands)
+
+pub write_payload-requires : goal.write_payload-requires
+write_payload-requires g c =
+    one-writable {T = g.row.T.Denot} {U = g.row.U.Denot} c.args.state.now c.requires.agrees c.args.loan.publisher c.args.loan.number c.find_live_loan-at.result.book c.find_live_loan-at.result.slot c.find_live_loan-at.ensures
+    c.mark_written.new.state (c.mark_written.ensures (c.find_live_loan-at.ensures).book (c.find_live_loan-at.ensures).stands)
+    c.contents_mut.result.now c.contents_mut.ensures.value c.requires.live
+    (one-cell {T = g.row.T.Denot} {U = g.row.U.Denot} c.args.state.now c.requires.agrees c.args.loan.publisher c.args.loan.number c.find_live_loan-at.result.book c.find_live_loan-at.result.slot c.find_live_loan-at.ensures c.requires.fixed_size c.requires.single)
 
 pub returns-clause-writes : goal.returns-clause-writes
 returns-clause-writes g c =
-    write-done {T = g.row.T.Denot} {U = g.row.U.Denot} c.args.state.now c.requires.agrees c.args.loan.publisher c.args.loan.number c.find_live_loan-at.result.book c.find_live_loan-at.result.slot c.find_live_loan-at.ensures
-    c.requires.single (is-unwritten c.args.state.now c.requires.agrees c.args.loan.publisher c.args.loan.number c.find_live_loan-at.result.book c.find_live_loan-at.result.slot c.find_live_loan-at.ensures c.requires.live)
-    c.write_slot.new.state c.args.value c.write_slot.ensures
+    one-written {T = g.row.T.Denot} {U = g.row.U.Denot} c.args.state.now c.requires.agrees c.args.loan.publisher c.args.loan.number c.find_live_loan-at.result.book c.find_live_loan-at.result.slot c.find_live_loan-at.ensures
+    c.mark_written.new.state (c.mark_written.ensures (c.find_live_loan-at.ensures).book (c.find_live_loan-at.ensures).stands)
+    c.contents_mut.result.now c.contents_mut.ensures.value c.requires.live
+    (one-cell {T = g.row.T.Denot} {U = g.row.U.Denot} c.args.state.now c.requires.agrees c.args.loan.publisher c.args.loan.number c.find_live_loan-at.result.book c.find_live_loan-at.result.slot c.find_live_loan-at.ensures c.requires.fixed_size c.requires.single) c.args.value c.write_payload.new.self c.write_payload.ensures

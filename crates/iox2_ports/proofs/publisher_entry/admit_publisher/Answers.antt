@@ -67,6 +67,7 @@ returns-clause-step g c =
       aligned = c.in-Ok.ensures.aligned;
       contents_length = c.in-Ok.ensures.contents_length;
       contents_room = c.in-Ok.ensures.contents_room;
+      contents_form = λ several. c.in-Ok.ensures.contents_form (let single = c.is_single_valued-in_lists.ensures ∙ several in search rules);
       vacant = c.in-Ok-add_segment.ensures.vacant;
       updates = c.in-Ok-add_segment.ensures.updates;
       changed = λ i. record {
