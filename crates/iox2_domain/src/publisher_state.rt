@@ -113,14 +113,14 @@ impl PublisherState {
     ghost use Rattle.iox2_domain.specs.Lending.{lending};
     ghost use Rattle.iox2_domain.specs.Deliveries.{with_loan_out};
 
-    /// The slot is a loan that is out, of one element.
-    pub fn lend(&mut self, slot: usize)
+    /// The slot is a loan that is out, of so many elements.
+    pub fn lend(&mut self, slot: usize, len: usize)
         requires { length self.old.loans < self.old.loan_room }
-        ensures { self.new ≡ lending slot self.old }
+        ensures { self.new ≡ lending len slot self.old }
     {
         self.loans.push_reserved(slot);
-        if self.longest_granted == 0 {
-            self.longest_granted = 1;
+        if self.longest_granted < len {
+            self.longest_granted = len;
         }
     }
 

@@ -30,7 +30,7 @@ map_from-map f' f k start (x ∷ xs) each =
     let here : start + zero ≡ start = omega arith in
     let head = subst (λ (n : ℕ). f' n x ≡ k (f n x)) here (each zero x refl) in
     let tail = map_from-map f' f k (start + 1) xs (λ i y at.
-        let next : start + suc i ≡ start + 1 + i = omega arith in subst (λ (n : ℕ). f' n y ≡ k (f n y)) next (each (suc i) y at)) in
+    let next : start + suc i ≡ start + 1 + i = omega arith in subst (λ (n : ℕ). f' n y ≡ k (f n y)) next (each (suc i) y at)) in
     λ t. head t ∷ tail t
 
 -- the same from index 0 on

@@ -1,5 +1,5 @@
 -- What the steps of a loan need and come to.
-use Rattle.std.proofs.Common.{◌≡◌, ℕ, ◌+◌, ◌*◌, ◌<◌, ◌≤◌, List, length, get_or, slice_set, refl, ap, sym, subst, ◌∙◌, arith}
+use Rattle.std.proofs.Common.{◌≡◌, Bool, ℕ, ◌+◌, ◌*◌, ◌<◌, ◌≤◌, List, length, get_or, slice_set, refl, ap, sym, subst, ◌∙◌, arith}
 use Rattle.std.specs.declared.option.Option.{Option}
 use Rattle.std.specs.declared.option.Option.TheVariants.{None, Some}
 use Rattle.std.specs.Option.{option_map}
@@ -54,8 +54,8 @@ module _ {T U : Type 0} (f : Fields T U) (sound : IsDomain f) (i : ℕ) (x : Pub
       (subst (λ (o : Option (ContentState T U)). IsSomeAnd o (λ content. (f.config).units_per_element ≤ content.room)) (sym some.1) fits)
 
   -- it has room for a loan more
-  pub loan-fits : CanLend f i → length x.loans < x.loan_room
-  loan-fits can =
+  pub loan-fits : (checks : Bool) (len : ℕ) → CanLend f checks len i → length x.loans < x.loan_room
+  loan-fits checks len can =
       let found : Some can.publisher ≡ Some x = sym can.stands ∙ at in
       let same : can.publisher ≡ x = cc in
       let few : length x.loans < x.max_loaned_samples = subst (λ (z : PublisherFields). length z.loans < z.max_loaned_samples) same can.few in
@@ -63,17 +63,17 @@ module _ {T U : Type 0} (f : Fields T U) (sound : IsDomain f) (i : ℕ) (x : Pub
       omega arith
 
   -- the steps together are a loan
-  pub lends-from : (is_default : U → Type 0) (b b' : Book) (slot : ℕ) (header : Header) → get f.books x.book ≡ Some b
-      → header ≡ header_for f.config x.id → TakesFreeSlot b b' slot f.next_message header
-      → (o started : Option (List (ContentState T U))) → o ≡ get_or f.contents x.book o → Starts is_default o started slot (f.config).units_per_element
-      → (y y' : Option PublisherFields) → y ≡ get_or f.publishers i y → y' ≡ option_map (lending slot) y
-      → Lends is_default f i x slot (record f {
+  pub lends-from : (len : ℕ) (is_default : U → Type 0) (b b' : Book) (slot : ℕ) (header : Header) → get f.books x.book ≡ Some b
+      → header ≡ header_for f.config x.id len → TakesFreeSlot b b' slot f.next_message header
+      → (o started : Option (List (ContentState T U))) → o ≡ get_or f.contents x.book o → Starts is_default o started slot (len * (f.config).units_per_element)
+      → (y y' : Option PublisherFields) → y ≡ get_or f.publishers i y → y' ≡ option_map (lending len slot) y
+      → Lends is_default f i x slot len (record f {
         next_message = f.next_message + 1;
         books = with_value f.books x.book b';
         contents = slice_set f.contents x.book started;
         publishers = slice_set f.publishers i y';
       })
-  lends-from is_default b b' slot header stands its takes o started read starts y y' read_y lent =
+  lends-from len is_default b b' slot header stands its takes o started read starts y y' read_y lent =
       let found = contents-of b stands in
       record {
         book = b;
@@ -81,7 +81,7 @@ module _ {T U : Type 0} (f : Fields T U) (sound : IsDomain f) (i : ℕ) (x : Pub
         within = takes.in_bounds;
         free = takes.was_unused;
         started = started;
-        starts = subst (λ (p : Option (List (ContentState T U))). Starts is_default p started slot (f.config).units_per_element)
+        starts = subst (λ (p : Option (List (ContentState T U))). Starts is_default p started slot (len * (f.config).units_per_element))
             (sym (read-there f.contents x.book found.0 o found.1 read)) starts;
         lent = λ t. record f {
           next_message = f.next_message + 1;
@@ -91,11 +91,11 @@ module _ {T U : Type 0} (f : Fields T U) (sound : IsDomain f) (i : ℕ) (x : Pub
         };
       }
     where
-      book : b' ≡ with_taken_slot b slot f.next_message (header_for f.config x.id)
+      book : b' ≡ with_taken_slot b slot f.next_message (header_for f.config x.id len)
       book = takes.taken ∙ ap (with_taken_slot b slot f.next_message) its
 
-      lender : y' ≡ Some (lending slot x)
-      lender = lent ∙ ap (option_map (lending slot)) (sym (read-there f.publishers i x y at read_y) ∙ at)
+      lender : y' ≡ Some (lending len slot x)
+      lender = lent ∙ ap (option_map (lending len slot)) (sym (read-there f.publishers i x y at read_y) ∙ at)
 
 -- the loan is the publisher's, seen from the fields before
 pub named-seen : {T U : Type 0} (f old : Fields T U) (i : ℕ) (x : PublisherFields) (loan : LoanAt) → f ≡ old → get_or f.publishers i None ≡ Some x
@@ -105,8 +105,8 @@ named-seen {T} {U} f old i x loan view at named =
     (subst (λ (o : Option PublisherFields). IsSomeAnd o (λ z. IsNamed f z loan)) (sym at) named)
 
 -- seen from the fields before
-pub lends-seen : {T U : Type 0} (is_default : U → Type 0) (f old new : Fields T U) (i slot : ℕ) (x : PublisherFields) → f ≡ old → get_or f.publishers i None ≡ Some x
-    → Lends is_default f i x slot new → IsSomeAnd (get_or old.publishers i None) (λ z. Lends is_default old i z slot new)
-lends-seen {T} {U} is_default f old new i slot x view at lends =
-    subst (λ (g : Fields T U). IsSomeAnd (get_or g.publishers i None) (λ z. Lends is_default g i z slot new)) view
-    (subst (λ (o : Option PublisherFields). IsSomeAnd o (λ z. Lends is_default f i z slot new)) (sym at) lends)
+pub lends-seen : {T U : Type 0} (is_default : U → Type 0) (f old new : Fields T U) (i slot len : ℕ) (x : PublisherFields) → f ≡ old → get_or f.publishers i None ≡ Some x
+    → Lends is_default f i x slot len new → IsSomeAnd (get_or old.publishers i None) (λ z. Lends is_default old i z slot len new)
+lends-seen {T} {U} is_default f old new i slot len x view at lends =
+    subst (λ (g : Fields T U). IsSomeAnd (get_or g.publishers i None) (λ z. Lends is_default g i z slot len new)) view
+    (subst (λ (o : Option PublisherFields). IsSomeAnd o (λ z. Lends is_default f i z slot len new)) (sym at) lends)
