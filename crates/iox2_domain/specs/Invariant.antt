@@ -5,7 +5,7 @@ use Rattle.std.specs.declared.option.Option.{Option}
 use Rattle.std.specs.declared.option.Option.TheVariants.{None, Some}
 use Rattle.std.specs.Option.{option_map, option_map_or}
 use Rattle.slab.specs.Slab.{Slab, get}
-use Rattle.iox2_store.specs.machine.Limits.{warning_limit}
+use Rattle.iox2_store.specs.machine.Limits.{warning_limit, segment_fits}
 use Rattle.iox2_store.specs.Link.{Link}
 use Rattle.iox2_store.specs.SingleValues.{is_single_valued}
 use Rattle.iox2_store.specs.SlotBook.{Book, IsAligned, holders_at}
@@ -45,10 +45,13 @@ is_subscriber q y = y.id == q
 abbrev pub details_of : SubscriberFields → ReceiverDetails
 details_of y = record { port_id = y.id; buffer_size = y.buffer; is_open = y.is_open }
 
--- No call that can't fail has to make room for the publisher.
+-- No call that can't fail has to make room for the publisher. The size of its slots fits a machine word, and where messages are
+-- single values, so are its longest loans.
 pub record HasPublisherRoom (config : ServiceConfig) (x : PublisherFields) : Type 0 where
   pub loans : x.max_loaned_samples ≤ x.loan_room
   pub history : (x.history).capacity ≡ config.history_size
+  pub size : segment_fits config x.slots x.initial_max_slice_len ≡ true
+  pub single : config.variant ≡ FixedSize → x.initial_max_slice_len ≡ 1
 
 -- ---- connections
 
@@ -235,15 +238,13 @@ pub record HasForms {T U : Type 0} (c : ServiceConfig) (contents : List (Option 
 pub record IsSupportedConfig (c : ServiceConfig) : Type 0 where
   pub single_values : c.variant ≡ FixedSize
 
--- The publisher discards what a full receiver doesn't take, has one segment, of single values, and no handlers, and no
--- delivery of it is blocked.
+-- The publisher discards what a full receiver doesn't take, has one segment and no handlers, and no delivery of it is blocked.
 pub record IsPlain (x : PublisherFields) : Type 0 where
   pub strategy : x.strategy ≡ DiscardData
   pub backpressure : x.backpressure_handler ≡ None
   pub degradation : x.degradation_handler ≡ Fixed Warn
   pub unblocked : x.blocked ≡ None
   pub allocation : x.allocation ≡ Static
-  pub length : x.initial_max_slice_len ≡ 1
 
 -- The subscriber has no handler.
 pub record IsPlainSubscriber (y : SubscriberFields) : Type 0 where

@@ -20,22 +20,23 @@ use Rattle.iox2_domain.specs.Ports.{PublisherFields, SubscriberFields}
 use Rattle.iox2_domain.specs.Fields.{Fields}
 use Rattle.iox2_domain.specs.Placed.{lowest_empty}
 
--- The settings of a publisher that discards what a full receiver doesn't take, has one segment of single values, and no
--- handlers.
-abbrev pub plain_publisher : (max_loaned_samples : ℕ) → PublisherSettings
-plain_publisher max_loaned_samples = record {
+-- The settings of a publisher that discards what a full receiver doesn't take, has one segment for messages of so many elements,
+-- and no handlers.
+abbrev pub plain_publisher : (max_loaned_samples initial_max_slice_len : ℕ) → PublisherSettings
+plain_publisher max_loaned_samples initial_max_slice_len = record {
   max_loaned_samples = max_loaned_samples;
   backpressure_strategy = DiscardData;
   allocation_strategy = Static;
-  initial_max_slice_len = 1;
+  initial_max_slice_len = initial_max_slice_len;
   asked_slots = None;
   degradation_handler = Fixed Warn;
   backpressure_handler = None;
 }
 
--- A publisher that was just made, without handlers, with these slots and with room for so many loans and connections.
-abbrev pub entering_publisher : (id place book max_loaned_samples slots : ℕ) (loan_room : ℕ) (history : Buffer ℕ) (key_room : ℕ) → PublisherFields
-entering_publisher id place book max_loaned_samples slots loan_room history key_room = record {
+-- A publisher that was just made, without handlers, with these slots for messages of so many elements, and with room for so many
+-- loans and connections.
+abbrev pub entering_publisher : (id place book max_loaned_samples slots initial_max_slice_len loan_room : ℕ) (history : Buffer ℕ) (key_room : ℕ) → PublisherFields
+entering_publisher id place book max_loaned_samples slots initial_max_slice_len loan_room history key_room = record {
   id = id;
   place = place;
   book = book;
@@ -45,7 +46,7 @@ entering_publisher id place book max_loaned_samples slots loan_room history key_
   backpressure_handler = None;
   degradation_handler = Fixed Warn;
   allocation = Static;
-  initial_max_slice_len = 1;
+  initial_max_slice_len = initial_max_slice_len;
   longest_granted = 0;
   segments = 1;
   loans = [];

@@ -78,6 +78,9 @@ module _ {T U : Type 0} (f : Fields T U) (sound : IsDomain f) (p n key slot : �
     pub some-at : (P : ContentState T U → Type 0) → P parts.content → SomeAt cs slot P
     some-at P holds = subst (λ o. IsSomeAnd o P) (sym parts.contains) holds
 
+    pub slot-within : slot < length cs
+    slot-within = slice_get_within cs slot parts.content parts.contains
+
     -- its user header
     pub user_header-read : (user_header : U) → user_header_at cs slot ≡ Some user_header → HasLoanUserHeader (state_of (kept_of f)) n user_header
     user_header-read user_header there =

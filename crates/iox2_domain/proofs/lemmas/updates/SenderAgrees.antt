@@ -226,7 +226,7 @@ module _ {T U : Type 0} (f : Fields T U) (sound : IsDomain f) (i : ℕ) (x : Pub
     numbered = sound.numbered;
     lone = sound.lone;
     publisher_room = λ k z at_z. elim (stood k z at_z) [
-      | inl here ↦ rw here.1 (let has = sound.publisher_room i x at in record { loans = has.loans; history = has.history })
+      | inl here ↦ rw here.1 (let has = sound.publisher_room i x at in record { loans = has.loans; history = has.history; size = has.size; single = has.single })
       | inr old ↦ sound.publisher_room k z old
     ];
     warning_room = room;
@@ -234,7 +234,7 @@ module _ {T U : Type 0} (f : Fields T U) (sound : IsDomain f) (i : ℕ) (x : Pub
     forms = sound.forms;
     supported = sound.supported;
     plain = λ k z at_z. elim (stood k z at_z) [
-      | inl here ↦ rw here.1 (let has = sound.plain i x at in record { strategy = has.strategy; backpressure = has.backpressure; degradation = has.degradation; unblocked = has.unblocked; allocation = has.allocation; length = has.length })
+      | inl here ↦ rw here.1 (let has = sound.plain i x at in record { strategy = has.strategy; backpressure = has.backpressure; degradation = has.degradation; unblocked = has.unblocked; allocation = has.allocation })
       | inr old ↦ sound.plain k z old
     ];
     plain_subscribers = sound.plain_subscribers;

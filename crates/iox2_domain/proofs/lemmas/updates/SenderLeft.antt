@@ -323,7 +323,7 @@ module _ {T U : Type 0} (f : Fields T U) (sound : IsDomain f) (i j : ℕ) (x : P
     numbered = sound.numbered;
     lone = sound.lone;
     publisher_room = λ k z at_z. elim (stood k z at_z) [
-      | inl is ↦ rw is.1 (let has = sound.publisher_room i x leaves.here in record { loans = has.loans; history = has.history })
+      | inl is ↦ rw is.1 (let has = sound.publisher_room i x leaves.here in record { loans = has.loans; history = has.history; size = has.size; single = has.single })
       | inr old ↦ sound.publisher_room k z old
     ];
     warning_room = sound.warning_room;
@@ -331,7 +331,7 @@ module _ {T U : Type 0} (f : Fields T U) (sound : IsDomain f) (i j : ℕ) (x : P
     forms = sound.forms;
     supported = sound.supported;
     plain = λ k z at_z. elim (stood k z at_z) [
-      | inl is ↦ rw is.1 (let has = sound.plain i x leaves.here in record { strategy = has.strategy; backpressure = has.backpressure; degradation = has.degradation; unblocked = has.unblocked; allocation = has.allocation; length = has.length })
+      | inl is ↦ rw is.1 (let has = sound.plain i x leaves.here in record { strategy = has.strategy; backpressure = has.backpressure; degradation = has.degradation; unblocked = has.unblocked; allocation = has.allocation })
       | inr old ↦ sound.plain k z old
     ];
     plain_subscribers = sound.plain_subscribers;
