@@ -20,11 +20,11 @@ pub use contents::{
 };
 pub use discards::discard_loan;
 pub use loan_calls::{
-    assume_loan, loan_cell, loan_cells, loan_header, loan_value, loan_values, write_loan,
-    write_loan_from_fn, write_loan_from_slice,
+    assume_loan, loan_cell, loan_cells, loan_header, loan_user_header, loan_value, loan_values,
+    write_loan, write_loan_from_fn, write_loan_from_slice,
 };
 pub use loans::loan;
 pub use questions::has_samples_at;
 pub use receipts::{give_back, receive_at};
-pub use sample_reads::{sample_header, sample_payload, sample_payloads};
+pub use sample_reads::{sample_header, sample_payload, sample_payloads, sample_user_header};
 pub use sends::send_loan;

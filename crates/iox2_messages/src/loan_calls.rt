@@ -8,7 +8,7 @@ ghost use Rattle.iox2_store.specs.declared.service_config.TypeVariant.TheVariant
 ghost use Rattle.iox2_domain.specs.Kept.{state_of};
 ghost use Rattle.iox2_domain.specs.Fields.{kept_of};
 ghost use Rattle.iox2_domain.specs.Invariant.{IsDomain};
-ghost use Rattle.iox2_domain.specs.LoanCalls.{HoldsUnwritten, HoldsWritten, HasCells, HasCell, HasLoanHeader, WritesLoan, AssumesLoan};
+ghost use Rattle.iox2_domain.specs.LoanCalls.{HoldsUnwritten, HoldsWritten, HasCells, HasCell, HasLoanHeader, HasLoanUserHeader, WritesLoan, AssumesLoan};
 ghost use Rattle.iox2_domain.specs.LoanSlots.{LiesInSlot};
 
 use crate::contents::{contents_mut, mark_written};
@@ -187,4 +187,20 @@ pub fn loan_header<'a, T: Drop, U: Default + Drop>(
 {
     let at = state.find_live_loan(loan);
     state.books[at.book].header(at.slot)
+}
+
+/// The user header of a publisher's loan.
+pub fn loan_user_header<'a, T: Drop, U: Default + Drop>(
+    state: &'a DomainState<T, U>,
+    loan: &LoanAt,
+) -> &'a U
+    requires agrees { IsDomain state.now }
+    requires live { HoldsLoan (state_of (kept_of state.now)) loan.now.publisher loan.now.number }
+    ensures { HasLoanUserHeader (state_of (kept_of state.now)) loan.now.number result.now }
+{
+    let at = state.find_live_loan(loan);
+    let Some(contents) = &state.contents[at.book] else {
+        unreachable!()
+    };
+    contents.user_header(at.slot)
 }

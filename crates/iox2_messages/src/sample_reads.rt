@@ -3,6 +3,7 @@ ghost use Rattle.std.specs.Prelude.{◌≡◌, Some, [], ◌∷◌, false};
 ghost use Rattle.iox2_store.specs.SingleValues.{is_single_valued};
 ghost use Rattle.iox2_store.specs.machine.Records.{Entry};
 ghost use Rattle.iox2_store.specs.machine.SingleCalls.{HoldsSample};
+ghost use Rattle.iox2_store.specs.declared.service_config.TypeVariant.TheVariants.{FixedSize};
 ghost use Rattle.iox2_domain.specs.Kept.{state_of, entries_of};
 ghost use Rattle.iox2_domain.specs.Fields.{kept_of};
 ghost use Rattle.iox2_domain.specs.Invariant.{IsDomain};
@@ -16,6 +17,7 @@ pub fn sample_payload<'a, T: Drop, U: Default + Drop>(
     sample: &SampleAt,
 ) -> &'a T
     requires agrees { IsDomain state.now }
+    requires fixed_size { (state.now.config).variant ≡ FixedSize }
     requires single { (state.now.config).units_per_element ≡ 1 }
     requires live { HoldsSample (state_of (kept_of state.now)) sample.now.subscriber sample.now.number }
     ensures { (entry : Entry T U) × (entries_of (kept_of state.now) sample.now.number ≡ Some entry) × (entry.values ≡ result.now ∷ []) }
@@ -55,4 +57,20 @@ pub fn sample_header<'a, T: Drop, U: Default + Drop>(
 {
     let at = state.find_message(sample);
     state.books[at.book].header(at.slot)
+}
+
+/// The user header of a borrowed message.
+pub fn sample_user_header<'a, T: Drop, U: Default + Drop>(
+    state: &'a DomainState<T, U>,
+    sample: &SampleAt,
+) -> &'a U
+    requires agrees { IsDomain state.now }
+    requires live { HoldsSample (state_of (kept_of state.now)) sample.now.subscriber sample.now.number }
+    ensures { (entry : Entry T U) × (entries_of (kept_of state.now) sample.now.number ≡ Some entry) × (entry.user_header ≡ result.now) }
+{
+    let at = state.find_message(sample);
+    let Some(contents) = &state.contents[at.book] else {
+        unreachable!()
+    };
+    contents.user_header(at.slot)
 }
