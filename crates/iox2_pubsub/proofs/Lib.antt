@@ -6,6 +6,7 @@ pub mod SubscribersShown
 pub mod LoanHandles
 pub mod LentHandles
 pub mod AssumedLoans
+pub mod WrittenLoanCalls
 pub mod SliceParts
 pub mod SendShown
 pub mod AlwaysShows

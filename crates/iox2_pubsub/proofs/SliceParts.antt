@@ -1,13 +1,14 @@
 -- What the words of slices say, part by part.
-use Rattle.std.proofs.Common.{◌≡◌, ℕ, List, map, length, true, false, ap, sym, subst, ◌∙◌, Option, Some}
+use Rattle.std.proofs.Common.{◌≡◌, ℕ, List, map, length, true, false, refl, ap, sym, subst, ◌∙◌, Option, Some}
 use Rattle.iox2_store.specs.SingleValues.{is_single_valued}
 use Rattle.iox2_store.specs.machine.Records.{Loan}
-use Rattle.iox2_store.specs.machine.SingleCalls.{HoldsLoan}
-use Rattle.iox2_store.specs.machine.State.{State}
+use Rattle.iox2_store.specs.machine.SingleCalls.{HoldsLoan, WriteAllFrom}
+use Rattle.iox2_store.specs.machine.State.{State, Messages, with_loan}
 use Rattle.iox2_domain.specs.Kept.{Kept, state_of}
 use Rattle.iox2_domain.specs.Fields.{Fields, kept_of}
 use Rattle.iox2_domain.specs.Invariant.{IsDomain}
 use Rattle.iox2_domain.specs.LoanCalls.{HasCells, WritesLoan}
+use Rattle.iox2_domain.specs.Shows.{Shows}
 use Rattle.iox2_pubsub.specs.Live.{IsUnwrittenLoan, IsWrittenLoan, A_loan, StaysBut}
 use Rattle.iox2_pubsub.specs.Slices.{IsSliced, HasUnwrittenCells, HasValues}
 use Rattle.iox2_pubsub.specs.declared.sample_mut.SampleMut.{SampleMut}
@@ -38,6 +39,12 @@ module _ {T U : Type 0} (kept : Kept T U) where
 module _ {T U : Type 0} (f g : Fields T U) (sound : IsDomain f) (kept : Kept T U) (view : kept_of f ≡ kept) (n : ℕ) (values : List T) (writes : WritesLoan f g n values) where
   abbrev filled : Loan T U
   filled = record (writes.0) { cells = map Some values; is_written = true }
+
+  -- the domain shows the machine's step
+  pub filled-shown : (m : Messages T U) (s : State T U) → Shows kept m s → (l : Loan T U) × (s.loans n ≡ Some l) × (s' : State T U) × WriteAllFrom s n l values s' × Shows (kept_of g) m s'
+  filled-shown m s shown =
+      let both = change-shown f g kept view n writes.0 filled writes.1 writes.3 m s shown in
+      (writes.0, both.0, with_loan s n (Some filled), (writes.2, refl), both.1)
 
   pub filled-values : (m : ℕ) → m ≡ n → HasValues (kept_of g) m values
   filled-values m its = has-values (kept_of g) m values

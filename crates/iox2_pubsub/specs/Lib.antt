@@ -7,3 +7,4 @@ pub mod Payloads
 pub mod ChangedLoans
 pub mod LoanLends
 pub mod Slices
+pub mod WrittenLoans

@@ -1,5 +1,5 @@
 //! A publisher lends a message.
-ghost use Rattle.std.specs.Prelude.{◌≡◌, IfOk};
+ghost use Rattle.std.specs.Prelude.{◌≡◌, IfOk, false};
 
 use crate::domain::Domain;
 use crate::publisher::Publisher;
@@ -31,7 +31,7 @@ impl Publisher {
     ) -> Result<SampleMutUninit, LoanError>
         requires live { IsLivePublisher domain.old self.now }
         requires single_valued { IsSingleValued domain.old }
-        ensures lends { (m : Messages T U) (s : State T U) → Shows domain.old m s → (s' : State T U) × Shows domain.new m s' × LoanCall U.is_default s self.now.id result s' }
+        ensures lends { (m : Messages T U) (s : State T U) → Shows domain.old m s → (s' : State T U) × Shows domain.new m s' × LoanCall U.is_default false 1 s self.now.id result s' }
         ensures live { IfOk result (λ loan. IsUnwrittenLoan domain.new loan) }
         ensures new { IfOk result (λ loan. IsNewIn domain.old (unwritten_loan loan)) }
         ensures number { IfOk result (λ loan. loan.loan.number ≡ domain.old.next_message) }
@@ -43,7 +43,7 @@ impl Publisher {
         ensures stays { Stays domain.old domain.new }
     {
         let place = domain.state.find_live_publisher(self.id, self.place);
-        let loan = loan(&mut domain.state, place)?;
+        let loan = loan(&mut domain.state, place, false, 1)?;
         Ok(SampleMutUninit {
             service_id: self.service_id,
             loan,
