@@ -15,3 +15,8 @@ pub mod CarriedSamples
 pub mod CarriedUpdates
 pub mod LeavingSteps
 pub mod CarriedCloses
+pub mod TableCopies
+pub mod TableChanges
+pub mod CarriedCopies
+pub mod CarriedChanges
+pub mod CarriedHeaders
