@@ -185,8 +185,8 @@ module _ {T U : Type 0} (f : Fields T U) (sound : IsDomain f) (place : ℕ) (y :
     lone = g-parts.lone;
     kept_books = kept-but g.next_port g.publishers g.books book kept;
     state = g-is;
-    entries = keeps-entries f g sound.numbered g-parts keeps;
-    complete = keeps-complete f g sound.numbered g-parts keeps sound.entries (λ p n held.
+    entries = keeps-entries f g sound.parts.numbered g-parts keeps;
+    complete = keeps-complete f g sound.parts.numbered g-parts keeps sound.entries (λ p n held.
         held-less s t p n same-publishers (λ q. fewer p q n) (subst (λ (v : State T U). IsHeldMessage v p n) (publishers_due-are f') held));
   }
 

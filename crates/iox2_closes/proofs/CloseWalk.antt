@@ -55,7 +55,7 @@ module _ {T U : Type 0} (f : Fields T U) (sound : IsDomain f) where
 
   -- something stands in each connection with a publisher that is gone
   pub sound-busy : (key : ℕ) (c : Link) → get f.connections key ≡ Some c → IsDeparted f.publishers c → IsBusy c
-  sound-busy key c at departed = elim (sound.linked.ends key c at) [
+  sound-busy key c at departed = elim (sound.parts.linked.ends key c at) [
     | inl has ↦ absurd (departed c.home.publisher_place has.publisher has.stands has.is_its)
     | inr has ↦ busy (kept has has.has)
   ] where

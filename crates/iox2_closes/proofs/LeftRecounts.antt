@@ -15,7 +15,7 @@ use Rattle.iox2_domain.proofs.lemmas.fields.SameEnds.{with_connections}
 use Rattle.iox2_domain.proofs.lemmas.slots.BookChanges.{book-was}
 use Rattle.iox2_domain.proofs.lemmas.slots.LoneLoans.{lone-counters}
 use Rattle.iox2_domain.proofs.lemmas.slots.RecountedFields as fields
-use Rattle.iox2_domain.proofs.lemmas.slots.RecountedSound.{own-stays, gone-stays}
+use Rattle.iox2_domain.proofs.lemmas.slots.RecountedLoans.{own-stays, gone-stays}
 use Rattle.iox2_domain.proofs.lemmas.slots.Recounts.{OwnStays}
 use Rattle.iox2_closes.specs.Agreement.{HasOwners, HasOwnedParts, KeepsMessages}
 

@@ -296,7 +296,7 @@ pub record IsDomain {T U : Type 0} (f : Fields T U) : Type 0 where
   pub entries : KeepsEntries (kept_of f)
 
 -- The same but for the book at the key, whose publisher is gone, and of which no slot may have a holder any more.
-pub record IsSoundBut {T U : Type 0} (key : ℕ) (f : Fields T U) : Type 0 where
+pub record IsDomainBut {T U : Type 0} (key : ℕ) (f : Fields T U) : Type 0 where
   pub publisher_ids : (p : ℕ) → IsOnly (is_publisher p) f.publishers
   pub subscriber_ids : (q : ℕ) → IsOnly (is_subscriber q) f.subscribers
   pub apart : IsApart f.connections

@@ -5,7 +5,7 @@ use Rattle.iox2_store.specs.machine.Records.{Entry}
 use Rattle.iox2_store.specs.machine.State.{State}
 use Rattle.iox2_domain.specs.Kept.{state_of, entries_of}
 use Rattle.iox2_domain.specs.Fields.{Fields, kept_of}
-use Rattle.iox2_domain.specs.Invariant.{IsDomain, IsSoundBut}
+use Rattle.iox2_domain.specs.Invariant.{IsDomain, IsDomainBut}
 
 -- The fields agree and keep this state afterwards, and keep no entry that they didn't keep before.
 pub record Reaches {T U : Type 0} (old new : Fields T U) (s : State T U) : Type 0 where
@@ -16,6 +16,6 @@ pub record Reaches {T U : Type 0} (old new : Fields T U) (s : State T U) : Type 
 -- The fields keep this state afterwards, and no entry that they didn't keep before. They agree, but that nobody may hold a
 -- slot of the book at the key.
 pub record ReachesBut {T U : Type 0} (key : ℕ) (old new : Fields T U) (s : State T U) : Type 0 where
-  pub agrees : IsSoundBut key new
+  pub agrees : IsDomainBut key new
   pub state : state_of (kept_of new) ≡ s
   pub entries : (n : ℕ) (entry : Entry T U) → entries_of (kept_of new) n ≡ Some entry → entries_of (kept_of old) n ≡ Some entry

@@ -81,7 +81,7 @@ impl<T: Drop, U: Default + Drop> DomainState<T, U> {
 
     // Where a live loan's book and slot say that it lies, if it lies there. No loan is gone through:
     // no other slot in use has its number.
-    fn loan_at_hint(&self, loan: &LoanAt) -> Option<MessageSlot>
+    fn is_loan_at_hint(&self, loan: &LoanAt) -> Option<MessageSlot>
         requires domain { IsDomain self.now }
         requires live { HoldsLoan (state_of (kept_of self.now)) loan.now.publisher loan.now.number }
         ensures { IfSome result (λ at. LiesInSlot self.now loan.now.publisher loan.now.number at.book at.slot) }
@@ -101,7 +101,7 @@ impl<T: Drop, U: Default + Drop> DomainState<T, U> {
         requires live { HoldsLoan (state_of (kept_of self.now)) loan.now.publisher loan.now.number }
         ensures { LiesInSlot self.now loan.now.publisher loan.now.number result.book result.slot }
     {
-        if let Some(at) = self.loan_at_hint(loan) {
+        if let Some(at) = self.is_loan_at_hint(loan) {
             return at;
         }
         self.search_loan(loan)

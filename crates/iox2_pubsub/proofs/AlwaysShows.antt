@@ -16,7 +16,7 @@ module _ {T U : Type 0} (f : Fields T U) (sound : IsDomain f) where
   kept_below : (n : ℕ) (m : KeptMessage T U) → message_numbered n (kept_of f).books ≡ Some m → n < f.next_message
   kept_below n m at =
       let v = message_numbered-there f.contents f.books n m at in
-      sound.numbered.below v.0 v.1 n (has_number f.contents f.books v.0 v.1 n m v.2 v.3)
+      sound.parts.numbered.below v.0 v.1 n (has_number f.contents f.books v.0 v.1 n m v.2 v.3)
 
   -- a message that lies under a number is a loan or a sent message, and not both
   not_both : (o : Option (KeptMessage T U)) (l : Loan T U) → option_and_then loan_in o ≡ Some l → option_and_then entry_in o ≡ None

@@ -1,5 +1,5 @@
 -- A subscriber's update, whichever publishers were closed.
-pub mod SoundStanding
+pub mod PortsStanding
 pub mod DepartedEnds
 pub mod LeftEnds
 pub mod LeftStates
@@ -12,7 +12,7 @@ pub mod Choices
 pub mod RetiredFields
 pub mod Compositions
 pub mod Disconnects
-pub mod SoundExtends
+pub mod MoreConnections
 pub mod JoinChanges
 pub mod JoinAgrees
 pub mod GrownRoom

@@ -18,6 +18,6 @@ pub mod SlotsInUse
 pub mod Renumbered
 pub mod Recounts
 pub mod RecountedFields
-pub mod RecountedSound
+pub mod RecountedLoans
 pub mod RecountedState
 pub mod ReclaimSteps

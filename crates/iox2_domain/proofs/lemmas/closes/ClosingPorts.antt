@@ -38,7 +38,7 @@ module _ {T U : Type 0} (f : Fields T U) (sound : IsDomain f) where
   module _ (i : ℕ) (x : PublisherFields) (here : get_or f.publishers i None ≡ Some x) where
     -- the look-up finds it
     its-book_found : (b : Book) → get f.books x.book ≡ Some b → look_up (is_book_of x.id) f.books.slots ≡ Some b
-    its-book_found b at = look_up-found (is_book_of x.id) f.books.slots x.book b (sound.books.one_each x.id) at (eq-eqb b.publisher x.id (book-own f (parts_of f sound) i x here b at))
+    its-book_found b at = look_up-found (is_book_of x.id) f.books.slots x.book b (sound.parts.books.one_each x.id) at (eq-eqb b.publisher x.id (book-own f (parts_of f sound) i x here b at))
 
     -- it counts how often each slot stands among the loans, in the history and in connections
     pub its-counters : (b : Book) → get f.books x.book ≡ Some b → (slot : ℕ)
@@ -48,8 +48,8 @@ module _ {T U : Type 0} (f : Fields T U) (sound : IsDomain f) where
         let mine : own_holders f x.id slot ≡ times slot x.loans + times slot (x.history).items =
         ap (λ o. option_map_or (λ (z : PublisherFields). times slot z.loans + times slot (z.history).items) o
         (option_map_or (λ c. cond (is_loan_in c slot) 1 0) (look_up (is_book_of x.id) f.books.slots) 0))
-        (look_up-found (is_publisher x.id) f.publishers i x (sound.publisher_ids x.id) here (eq-eqb x.id x.id refl)) in
-        omega (arith, now, mine, sound.counted.at x.id slot)
+        (look_up-found (is_publisher x.id) f.publishers i x (sound.parts.publisher_ids x.id) here (eq-eqb x.id x.id refl)) in
+        omega (arith, now, mine, sound.parts.counted.at x.id slot)
 
     -- the number of each of its slots
     pub its-number : (b : Book) → get f.books x.book ≡ Some b → (slot : ℕ) → numbers_of f.books x.id slot ≡ slice_index b.numbers slot

@@ -100,7 +100,7 @@ module _ {T U : Type 0} (f : Fields T U) (sound : IsDomain f) (i : ℕ) (x : Pub
   borrowed-joined key c at mine some =
       let s = state_of (kept_of f) in
       let box : s.mailboxes x.id c.home.subscriber ≡ mailbox_of (numbers_of f.books x.id) c =
-      mailboxes-are f x.id c.home.subscriber ∙ mailbox-there (numbers_of f.books) f.connections key x.id c.home.subscriber c sound.apart at mine refl in
+      mailboxes-are f x.id c.home.subscriber ∙ mailbox-there (numbers_of f.books) f.connections key x.id c.home.subscriber c sound.parts.apart at mine refl in
       let borrows : has_borrows (s.mailboxes x.id c.home.subscriber) ≡ true = ap has_borrows box ∙ has c.borrowed some in
       let known = (sound.well_formed.mailboxes x.id c.home.subscriber).receiver_end borrows in
       let there = subscriber-there f sound c.home.subscriber known.0 known.1 in
@@ -114,11 +114,11 @@ module _ {T U : Type 0} (f : Fields T U) (sound : IsDomain f) (i : ℕ) (x : Pub
           → (o : Option ℕ) → get_or y.keys place None ≡ o → publisher_of_key f.connections o ≡ Some x.id → get_or y.keys c.home.publisher_place None ≡ Some key
       at_end j y at_y its place None e leads = absurd cc
       at_end j y at_y its place (Some k) e leads =
-          let own = some_is (IsReceivers y.id (f.config).subscriber_max_borrowed_samples) (get f.connections k) ((sound.linked.receivers j y at_y).at place k e) in
+          let own = some_is (IsReceivers y.id (f.config).subscriber_max_borrowed_samples) (get f.connections k) ((sound.parts.linked.receivers j y at_y).at place k e) in
           let to : Some (own.0).home.publisher ≡ Some x.id = sym (ap (option_map (λ (d : Link). d.home.publisher)) own.1) ∙ leads in
-          let same : k ≡ key = (sound.apart.one x.id c.home.subscriber).one k key own.0 c own.1 at
+          let same : k ≡ key = (sound.parts.apart.one x.id c.home.subscriber).one k key own.0 c own.1 at
           (is_between-own x.id c.home.subscriber own.0 (let is : (own.0).home.publisher ≡ x.id = cc in is) (own.2.subscriber ∙ its)) (is_between-own x.id c.home.subscriber c mine refl) in
-          let placed : c.home.publisher_place ≡ place = sound.linked.receiver_places j place key y c at_y (e ∙ ap Some same) at in
+          let placed : c.home.publisher_place ≡ place = sound.parts.linked.receiver_places j place key y c at_y (e ∙ ap Some same) at in
           ap (λ (n : ℕ). get_or y.keys n None) placed ∙ e ∙ ap Some same
 
       at_place : (z : Subscriber) → (state_of (kept_of f)).subscribers c.home.subscriber ≡ Some z → (j : ℕ) (y : SubscriberFields) → get_or f.subscribers j None ≡ Some y → y.id ≡ c.home.subscriber
@@ -127,7 +127,7 @@ module _ {T U : Type 0} (f : Fields T U) (sound : IsDomain f) (i : ℕ) (x : Pub
           absurd (let gone : (state_of (kept_of f)).publishers x.id ≡ None = (sound.well_formed.subscribers c.home.subscriber z found).expired_gone x.id among in
           let no : None ≡ Some ((publisher_of f.books f.connections x).port) = sym gone ∙ publisher-stands f sound i x here in cc)
       at_place z found j y at_y its is (inr leads) =
-          let place : j ≡ c.home.subscriber_place = (sound.linked.knows.at key j c (details_of y) at (map-at details_of f.subscribers j ∙ ap (option_map details_of) at_y) its).0 in
+          let place : j ≡ c.home.subscriber_place = (sound.parts.linked.knows.at key j c (details_of y) at (map-at details_of f.subscribers j ∙ ap (option_map details_of) at_y) its).0 in
           let end : publisher_of_key f.connections (get_or y.keys leads.0 None) ≡ Some x.id =
           sym (occupant-receiver_ends f.connections y.keys leads.0) ∙ ap (λ (w : Subscriber). occupant w.ends leads.0) (sym is) ∙ leads.1 in
           (y, ap (λ (n : ℕ). get_or f.subscribers n None) (sym place) ∙ at_y, its, at_end j y at_y its leads.0 (get_or y.keys leads.0 None) refl end)
@@ -150,7 +150,7 @@ module _ {T U : Type 0} (f : Fields T U) (sound : IsDomain f) (i : ℕ) (x : Pub
     other-place : (j place key : ℕ) (y : SubscriberFields) (c : Link) → get_or f.subscribers j None ≡ Some y → get_or y.keys place None ≡ Some key → get f.connections key ≡ Some c → place ≢ i
         → c.home.publisher ≢ x.id
     other-place j place key y c at_y at_key at_c away mine =
-        away (sym (sound.linked.receiver_places j place key y c at_y at_key at_c) ∙ sym (sound.linked.knows_publishers key i c x at_c here (sym mine)))
+        away (sym (sound.parts.linked.receiver_places j place key y c at_y at_key at_c) ∙ sym (sound.parts.linked.knows_publishers key i c x at_c here (sym mine)))
 
     -- each key that a subscriber keeps leads to a connection
     pub key-leads : (j place key : ℕ) (y : SubscriberFields) → get_or f.subscribers j None ≡ Some y → get_or (keys_left new i y.keys) place None ≡ Some key → (d : Link) × (get new key ≡ Some d)
@@ -158,7 +158,7 @@ module _ {T U : Type 0} (f : Fields T U) (sound : IsDomain f) (i : ℕ) (x : Pub
       | inl same ↦ keys_left-here new i y.keys key (ap (λ (k : ℕ). get_or (keys_left new i y.keys) k None) (sym same) ∙ at_key)
       | inr away ↦
           let was = keys_left-was new i y.keys place key at_key in
-          let own = some_is (IsReceivers y.id (f.config).subscriber_max_borrowed_samples) (get f.connections key) ((sound.linked.receivers j y at_y).at place key was) in
+          let own = some_is (IsReceivers y.id (f.config).subscriber_max_borrowed_samples) (get f.connections key) ((sound.parts.linked.receivers j y at_y).at place key was) in
           (own.0, left-others x.id f.subscribers f.connections new left key own.0 own.1 (other-place j place key y own.0 at_y was own.1 away))
     ]
 

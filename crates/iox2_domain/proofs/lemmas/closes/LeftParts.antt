@@ -23,7 +23,7 @@ use Rattle.iox2_domain.specs.Ports.{PublisherFields, SubscriberFields}
 use Rattle.iox2_domain.specs.Kept.{KeptMessage, state_of}
 use Rattle.iox2_domain.specs.Fields.{Fields, kept_of, message_in, contents_at, is_book_of}
 use Rattle.iox2_domain.specs.Shows.{KeepsEntries}
-use Rattle.iox2_domain.specs.Invariant.{IsLinked, HasExpiredRoom, NamesBooks, HasBooks, IsCounted, IsNumbered, HasNumber, HasBook, HasShapes, SenderHas, ReceiverHas, IsPlain, IsPlainSubscriber, is_publisher, is_subscriber, own_holders, holders_of, is_loan_in, details_of, connection_count, IsBookOf, IsDomain, IsSoundBut, IsGone, IsOwned, IsLeft}
+use Rattle.iox2_domain.specs.Invariant.{IsLinked, HasExpiredRoom, NamesBooks, HasBooks, IsCounted, IsNumbered, HasNumber, HasBook, HasShapes, SenderHas, ReceiverHas, IsPlain, IsPlainSubscriber, is_publisher, is_subscriber, own_holders, holders_of, is_loan_in, details_of, connection_count, IsBookOf, IsDomain, IsDomainBut, IsGone, IsOwned, IsLeft}
 use Rattle.iox2_domain.proofs.lemmas.fields.Parts.{parts_of}
 use Rattle.iox2_domain.proofs.lemmas.containers.LookUps.{map-at, viewed, look_up-removed}
 use Rattle.iox2_domain.proofs.lemmas.fields.NamedBooks.{names-books}
@@ -73,7 +73,7 @@ module _ {T U : Type 0} (f : Fields T U) (sound : IsDomain f) (i : ℕ) (x : Pub
   ]
 
   pub publishers-apart : (p : ℕ) → IsOnly (is_publisher p) after.publishers
-  publishers-apart p = only-fewer (is_publisher p) f.publishers after.publishers (λ k y at_y. (y, (publisher-was k y at_y).1, refl)) (sound.publisher_ids p)
+  publishers-apart p = only-fewer (is_publisher p) f.publishers after.publishers (λ k y at_y. (y, (publisher-was k y at_y).1, refl)) (sound.parts.publisher_ids p)
 
   -- nobody has its id
   pub publisher-gone : look_up (is_publisher x.id) after.publishers ≡ None
@@ -91,7 +91,7 @@ module _ {T U : Type 0} (f : Fields T U) (sound : IsDomain f) (i : ℕ) (x : Pub
 
   pub subscribers-apart : (q : ℕ) → IsOnly (is_subscriber q) after.subscribers
   subscribers-apart q = only-fewer (is_subscriber q) f.subscribers after.subscribers
-      (λ k y at_y. let was = subscriber-was k y at_y in (was.0, was.1, ap (is_subscriber q) (sym was.2))) (sound.subscriber_ids q)
+      (λ k y at_y. let was = subscriber-was k y at_y in (was.0, was.1, ap (is_subscriber q) (sym was.2))) (sound.parts.subscriber_ids q)
 
   -- ---- ports and connections
 
@@ -142,7 +142,7 @@ module _ {T U : Type 0} (f : Fields T U) (sound : IsDomain f) (i : ℕ) (x : Pub
     senders = λ k y at_y. record {
       at = λ place key at_key.
           let was = publisher-was k y at_y in
-          let own = some_is (IsSenders y.id place) (get f.connections key) ((sound.linked.senders k y was.1).at place key at_key) in
+          let own = some_is (IsSenders y.id place) (get f.connections key) ((sound.parts.linked.senders k y was.1).at place key at_key) in
           subst (λ o. IsSomeAnd o (IsSenders y.id place)) (sym (others key own.0 own.1 (λ same. was.2 (sym own.2.publisher ∙ same)))) own.2;
     };
     receivers = λ k y at_y. let was = subscriber-was k y at_y in
@@ -154,24 +154,24 @@ module _ {T U : Type 0} (f : Fields T U) (sound : IsDomain f) (i : ℕ) (x : Pub
         let was = subscriber-was k y at_y in
         let then = before key d at_d in
         let had : get_or (was.0).keys place None ≡ Some key = keys_left-was new i (was.0).keys place key (ap (λ (z : SubscriberFields). get_or z.keys place None) (sym was.2) ∙ at_key) in
-        sym (ap (λ (t : Home × ℕ × ℕ). t.0.publisher_place) then.2) ∙ sound.linked.receiver_places k place key was.0 then.0 was.1 had then.1;
+        sym (ap (λ (t : Home × ℕ × ℕ). t.0.publisher_place) then.2) ∙ sound.parts.linked.receiver_places k place key was.0 then.0 was.1 had then.1;
     knows = record { at = λ key k d r at_d at_r same. knows-of key k d r at_d (viewed details_of after.subscribers k r at_r) same };
     knows_publishers = λ key k d y at_d at_y same.
         let then = before key d at_d in
-        sound.linked.knows_publishers key k then.0 y then.1 (publisher-was k y at_y).1 (same ∙ sym (ap (λ (t : Home × ℕ × ℕ). t.0.publisher) then.2))
+        sound.parts.linked.knows_publishers key k then.0 y then.1 (publisher-was k y at_y).1 (same ∙ sym (ap (λ (t : Home × ℕ × ℕ). t.0.publisher) then.2))
         ∙ ap (λ (t : Home × ℕ × ℕ). t.0.publisher_place) then.2;
     sender_rooms = λ key k d y at_d at_y same.
         let then = before key d at_d in
         subst (λ (n : ℕ). n < y.key_room) (ap (λ (t : Home × ℕ × ℕ). t.0.subscriber_place) then.2)
-        (sound.linked.sender_rooms key k then.0 y then.1 (publisher-was k y at_y).1 (same ∙ sym (ap (λ (t : Home × ℕ × ℕ). t.0.publisher) then.2)));
+        (sound.parts.linked.sender_rooms key k then.0 y then.1 (publisher-was k y at_y).1 (same ∙ sym (ap (λ (t : Home × ℕ × ℕ). t.0.publisher) then.2)));
     receiver_rooms = λ key k d y at_d at_y same.
         let then = before key d at_d in
         let was = subscriber-was k y at_y in
         subst (λ (z : SubscriberFields). d.home.publisher_place < z.key_room) (sym was.2)
         (subst (λ (n : ℕ). n < (was.0).key_room) (ap (λ (t : Home × ℕ × ℕ). t.0.publisher_place) then.2)
-        (sound.linked.receiver_rooms key k then.0 was.0 then.1 was.1
+        (sound.parts.linked.receiver_rooms key k then.0 was.0 then.1 was.1
         (sym (ap (λ (z : SubscriberFields). z.id) was.2) ∙ same ∙ sym (ap (λ (t : Home × ℕ × ℕ). t.0.subscriber) then.2))));
-    limits = λ key d at_d. let then = before key d at_d in sym (ap (λ (t : Home × ℕ × ℕ). t.2) then.2) ∙ sound.linked.limits key then.0 then.1;
+    limits = λ key d at_d. let then = before key d at_d in sym (ap (λ (t : Home × ℕ × ℕ). t.2) then.2) ∙ sound.parts.linked.limits key then.0 then.1;
     returned = λ key d at_d. returned-of key d (left-was x.id f.subscribers f.connections new left key d at_d);
   } where
     receivers-of : (k : ℕ) (z : SubscriberFields) → get_or f.subscribers k None ≡ Some z
@@ -179,22 +179,22 @@ module _ {T U : Type 0} (f : Fields T U) (sound : IsDomain f) (i : ℕ) (x : Pub
     receivers-of k z at_z = record {
       at = λ place key at_key.
           let leads = key-leads f sound i x here new left k place key z at_z at_key in
-          receivers-still z.id key leads.0 leads.1 ((sound.linked.receivers k z at_z).at place key (keys_left-was new i z.keys place key at_key));
+          receivers-still z.id key leads.0 leads.1 ((sound.parts.linked.receivers k z at_z).at place key (keys_left-was new i z.keys place key at_key));
     }
 
     expired-of : (k : ℕ) (z : SubscriberFields) → get_or f.subscribers k None ≡ Some z
         → IsReceiverLinked z.id (f.config).subscriber_max_borrowed_samples new (map Some z.expired)
     expired-of k z at_z = record {
       at = λ place key at_key.
-          let own = some_is (IsReceivers z.id (f.config).subscriber_max_borrowed_samples) (get f.connections key) ((sound.linked.expired k z at_z).at place key at_key) in
-          receivers-still z.id key own.0 (expired-still f sound i x here new left k place key z own.0 at_z at_key own.1) ((sound.linked.expired k z at_z).at place key at_key);
+          let own = some_is (IsReceivers z.id (f.config).subscriber_max_borrowed_samples) (get f.connections key) ((sound.parts.linked.expired k z at_z).at place key at_key) in
+          receivers-still z.id key own.0 (expired-still f sound i x here new left k place key z own.0 at_z at_key own.1) ((sound.parts.linked.expired k z at_z).at place key at_key);
     }
 
     ends-of : (key : ℕ) (d : Link) → get new key ≡ Some d
         → (c : Link) × (get f.connections key ≡ Some c) × (((c.home.publisher ≢ x.id) × (d ≡ c)) ⊎ ((c.home.publisher ≡ x.id) × (d ≡ left_link (is_awaited f.subscribers key c) c) × (holds_slots d ≡ true)))
         → SenderHas after.publishers key d ⊎ ReceiverHas after.subscribers key d
     ends-of key d at_d was = elim was.2 [
-      | inl other ↦ elim (sound.linked.ends key was.0 was.1) [
+      | inl other ↦ elim (sound.parts.linked.ends key was.0 was.1) [
         | inl has ↦ inl (subst (SenderHas after.publishers key) (sym other.1) (sender-still key was.0 other.0 has))
         | inr has ↦ inr (receiver-still key was.0 d at_d (ap fixed_of (sym other.1)) has)
       ]
@@ -208,7 +208,7 @@ module _ {T U : Type 0} (f : Fields T U) (sound : IsDomain f) (i : ℕ) (x : Pub
     knows-of key k d r at_d there same =
         let then = before key d at_d in
         let was = subscriber-was k there.0 there.1 in
-        let known = sound.linked.knows.at key k then.0 r then.1
+        let known = sound.parts.linked.knows.at key k then.0 r then.1
         (map-at details_of f.subscribers k ∙ ap (option_map details_of) was.1 ∙ ap Some (sym (there.2 ∙ ap details_of was.2)))
         (same ∙ sym (ap (λ (t : Home × ℕ × ℕ). t.0.subscriber) then.2)) in
         (known.0 ∙ ap (λ (t : Home × ℕ × ℕ). t.0.subscriber_place) then.2, sym (ap (λ (t : Home × ℕ × ℕ). t.1) then.2) ∙ known.1)
@@ -217,7 +217,7 @@ module _ {T U : Type 0} (f : Fields T U) (sound : IsDomain f) (i : ℕ) (x : Pub
         → (c : Link) × (get f.connections key ≡ Some c) × (((c.home.publisher ≢ x.id) × (d ≡ c)) ⊎ ((c.home.publisher ≡ x.id) × (d ≡ left_link (is_awaited f.subscribers key c) c) × (holds_slots d ≡ true)))
         → SenderHas after.publishers key d ⊎ (d.returned ≡ [])
     returned-of key d was = elim was.2 [
-      | inl other ↦ subst (λ (e : Link). SenderHas after.publishers key e ⊎ (e.returned ≡ [])) (sym other.1) (elim (sound.linked.returned key was.0 was.1) [
+      | inl other ↦ subst (λ (e : Link). SenderHas after.publishers key e ⊎ (e.returned ≡ [])) (sym other.1) (elim (sound.parts.linked.returned key was.0 was.1) [
         | inl has ↦ inl (sender-still key was.0 other.0 has)
         | inr none ↦ inr none
       ])
@@ -229,7 +229,7 @@ module _ {T U : Type 0} (f : Fields T U) (sound : IsDomain f) (i : ℕ) (x : Pub
     at = λ k y at_y.
         let was = subscriber-was k y at_y in
         let fewer = left-count x.id f.subscribers f.connections new left (was.0).id in
-        let enough = sound.expired_room.at k was.0 was.1 in
+        let enough = sound.parts.expired_room.at k was.0 was.1 in
         subst (λ (z : SubscriberFields). connection_count new z.id ≤ z.expired_room) (sym was.2) (omega (arith, fewer, enough));
   }
 
@@ -241,16 +241,16 @@ module _ {T U : Type 0} (f : Fields T U) (sound : IsDomain f) (i : ℕ) (x : Pub
 
   books-between : HasBooks between
   books-between = record {
-    one_each = sound.books.one_each;
-    books = sound.books.books;
-    publishers = λ k y at_y. let has = sound.books.publishers k y (publisher-was k y at_y).1 in
+    one_each = sound.parts.books.one_each;
+    books = sound.parts.books.books;
+    publishers = λ k y at_y. let has = sound.parts.books.publishers k y (publisher-was k y at_y).1 in
         record { book = has.book; stands = has.stands; is_its = has.is_its; slots = has.slots; no_more = has.no_more; room = has.room };
-    no_others = sound.books.no_others;
+    no_others = sound.parts.books.no_others;
   }
 
   aligned : IsAligned counted_book
   aligned =
-      let old : IsAligned b = (sound.books.books x.book b at).aligned in
+      let old : IsAligned b = (sound.parts.books.books x.book b at).aligned in
       record { numbers = old.numbers ∙ sym slots.slots; headers = old.headers ∙ sym slots.slots; marks = old.marks ∙ sym slots.slots }
 
   left-books : HasBooks after
@@ -265,7 +265,7 @@ module _ {T U : Type 0} (f : Fields T U) (sound : IsDomain f) (i : ℕ) (x : Pub
   names = names-books f.books _ new (book-after between x.book b counted_book at keeps_slots) (record {
     at = λ key d at_d.
         let then = before key d at_d in
-        subst (λ (h : Home). IsBookOf f.books h.publisher h.book) (ap (λ (t : Home × ℕ × ℕ). t.0) then.2) (sound.names.at key then.0 then.1);
+        subst (λ (h : Home). IsBookOf f.books h.publisher h.book) (ap (λ (t : Home × ℕ × ℕ). t.0) then.2) (sound.parts.names.at key then.0 then.1);
   })
 
   fewer : (slot : ℕ) → holders_at counted_book slot ≤ holders_at b slot
@@ -287,13 +287,13 @@ module _ {T U : Type 0} (f : Fields T U) (sound : IsDomain f) (i : ℕ) (x : Pub
 
   pub numbered : IsNumbered after.next_message after.books
   numbered = record {
-    one = λ k k' slot slot' n one two. sound.numbered.one k k' slot slot' n (number-back k slot n one) (number-back k' slot' n two);
-    below = λ k slot n has. sound.numbered.below k slot n (number-back k slot n has);
+    one = λ k k' slot slot' n one two. sound.parts.numbered.one k k' slot slot' n (number-back k slot n one) (number-back k' slot' n two);
+    below = λ k slot n has. sound.parts.numbered.below k slot n (number-back k slot n has);
   }
 
   -- a publisher that stands is plain
   pub plain : (k : ℕ) (y : PublisherFields) → get_or after.publishers k None ≡ Some y → IsPlain y
-  plain k y at_y = sound.plain k y (publisher-was k y at_y).1
+  plain k y at_y = sound.parts.plain k y (publisher-was k y at_y).1
 
   -- ---- counters
 
@@ -307,7 +307,7 @@ module _ {T U : Type 0} (f : Fields T U) (sound : IsDomain f) (i : ℕ) (x : Pub
     its : (slot : ℕ) → holders_of after.books x.id slot ≡ own_holders after x.id slot + sum_by (stands x.id slot) new.slots
     its slot =
         let now : holders_of after.books x.id slot ≡ holders_at counted_book slot =
-        holders-here between x.book b counted_book at keeps_slots sound.books.one_each x.id slot (book-own f (parts_of f sound) i x here b at) in
+        holders-here between x.book b counted_book at keeps_slots sound.parts.books.one_each x.id slot (book-own f (parts_of f sound) i x here b at) in
         let book : look_up (is_book_of x.id) after.books.slots ≡ Some counted_book =
         look_up-found (is_book_of x.id) after.books.slots x.book counted_book (left-books.one_each x.id)
         (book-here between x.book b counted_book at keeps_slots) (eq-eqb b.publisher x.id (book-own f (parts_of f sound) i x here b at)) in
@@ -316,18 +316,18 @@ module _ {T U : Type 0} (f : Fields T U) (sound : IsDomain f) (i : ℕ) (x : Pub
         omega (arith, now, mine, left-counters f sound i x here b at new left holders slots slot, left-loans f sound i x here b at new left holders slots slot)
 
     look_up-others : (q : ℕ) → q ≢ x.id → look_up (is_publisher q) after.publishers ≡ look_up (is_publisher q) f.publishers
-    look_up-others q away = look_up-removed (is_publisher q) f.publishers after.publishers i x (sound.publisher_ids q) (publishers-apart q) here (set-none f.publishers i)
+    look_up-others q away = look_up-removed (is_publisher q) f.publishers after.publishers i x (sound.parts.publisher_ids q) (publishers-apart q) here (set-none f.publishers i)
         (λ k differs. get_or-set_other f.publishers i k None None differs)
         ∙ ap (λ t. cond t None (look_up (is_publisher q) f.publishers)) (ne_eqb x.id q (λ same. away (sym same)))
 
     of_others : (q slot : ℕ) → q ≢ x.id → holders_of after.books q slot ≡ own_holders after q slot + sum_by (stands q slot) new.slots
     of_others q slot away =
         let book : look_up (is_book_of q) after.books.slots ≡ look_up (is_book_of q) f.books.slots =
-        other-book between x.book b counted_book at keeps_slots sound.books.one_each q (ne_eqb b.publisher q (λ same. away (sym same ∙ book-own f (parts_of f sound) i x here b at))) in
+        other-book between x.book b counted_book at keeps_slots sound.parts.books.one_each q (ne_eqb b.publisher q (λ same. away (sym same ∙ book-own f (parts_of f sound) i x here b at))) in
         let now : holders_of after.books q slot ≡ holders_of f.books q slot = ap (λ o. option_map_or (λ (c : Book). holders_at c slot) o 0) book in
         let same : own_holders after q slot ≡ own_holders f q slot =
         ap (own slot (look_up (is_publisher q) after.publishers)) book ∙ ap (λ o. own slot o (look_up (is_book_of q) f.books.slots)) (look_up-others q away) in
-        omega (arith, now, same, sound.counted.at q slot, left-sums x.id f.subscribers f.connections new left q slot away)
+        omega (arith, now, same, sound.parts.counted.at q slot, left-sums x.id f.subscribers f.connections new left q slot away)
 
   -- ---- messages
 
@@ -380,7 +380,7 @@ module _ {T U : Type 0} (f : Fields T U) (sound : IsDomain f) (i : ℕ) (x : Pub
   shapes = record {
     at = λ k slot c m stands lies.
         let there = message_at-book f.contents f.books k slot m (back k slot m (message_at-slot f.contents after.books k slot c stands ∙ lies)) in
-        sound.shapes.at k slot there.0 m there.1 there.2;
+        sound.parts.shapes.at k slot there.0 m there.1 there.2;
   }
 
   -- ---- which books are kept
@@ -416,11 +416,11 @@ module _ {T U : Type 0} (f : Fields T U) (sound : IsDomain f) (i : ℕ) (x : Pub
   -- ---- the whole
 
   -- the fields agree, where what they keep does
-  pub left-sound : IsWellFormed (state_of (kept_of after)) → KeepsEntries (kept_of after) → IsSoundBut x.book after
+  pub left-sound : IsWellFormed (state_of (kept_of after)) → KeepsEntries (kept_of after) → IsDomainBut x.book after
   left-sound well entries = record {
     publisher_ids = publishers-apart;
     subscriber_ids = subscribers-apart;
-    apart = left-apart x.id f.subscribers f.connections new left sound.apart;
+    apart = left-apart x.id f.subscribers f.connections new left sound.parts.apart;
     linked = linked;
     expired_room = room;
     books = left-books;
@@ -428,14 +428,14 @@ module _ {T U : Type 0} (f : Fields T U) (sound : IsDomain f) (i : ℕ) (x : Pub
     counted = counted;
     numbered = numbered;
     lone = lone-counters f.books x.book b holders at sound.lone fewer;
-    publisher_room = λ k y at_y. sound.publisher_room k y (publisher-was k y at_y).1;
-    warning_room = sound.warning_room;
+    publisher_room = λ k y at_y. sound.parts.publisher_room k y (publisher-was k y at_y).1;
+    warning_room = sound.parts.warning_room;
     shapes = shapes;
-    forms = sound.forms;
-    supported = sound.supported;
+    forms = sound.parts.forms;
+    supported = sound.parts.supported;
     plain = plain;
     plain_subscribers = λ k y at_y. let was = subscriber-was k y at_y in
-        subst IsPlainSubscriber (sym was.2) (record { degradation = (sound.plain_subscribers k was.0 was.1).degradation });
+        subst IsPlainSubscriber (sym was.2) (record { degradation = (sound.parts.plain_subscribers k was.0 was.1).degradation });
     kept_books = kept;
     left_book = left_book;
     well_formed = well;

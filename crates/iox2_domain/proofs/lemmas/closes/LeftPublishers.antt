@@ -71,11 +71,11 @@ module _ {T U : Type 0} (f : Fields T U) (sound : IsDomain f) (i : ℕ) (x : Pub
   } where
     ends : sender_ends new y.keys ≡ sender_ends f.connections y.keys
     ends = ends-agree (subscriber_of_key new) (subscriber_of_key f.connections) refl y.keys (λ place key at_key.
-        let own = some_is (IsSenders y.id place) (get f.connections key) ((sound.linked.senders k y at_y).at place key at_key) in
+        let own = some_is (IsSenders y.id place) (get f.connections key) ((sound.parts.linked.senders k y at_y).at place key at_key) in
         ap (option_map (λ (c : Link). c.home.subscriber)) (left-others x.id f.subscribers f.connections new left key own.0 own.1 (λ same. away (sym own.2.publisher ∙ same)) ∙ sym own.1))
 
     blocked : option_map (blocked_send (numbers_of f.books y.id) (sender_ends new y.keys)) y.blocked ≡ option_map (blocked_send (numbers_of f.books y.id) (sender_ends f.connections y.keys)) y.blocked
-    blocked = nothing-blocked (blocked_send (numbers_of f.books y.id) (sender_ends new y.keys)) (blocked_send (numbers_of f.books y.id) (sender_ends f.connections y.keys)) y.blocked (sound.plain k y at_y).unblocked
+    blocked = nothing-blocked (blocked_send (numbers_of f.books y.id) (sender_ends new y.keys)) (blocked_send (numbers_of f.books y.id) (sender_ends f.connections y.keys)) y.blocked (sound.parts.plain k y at_y).unblocked
 
   abbrev port : Option (Named Publisher) → Option Publisher
   port o = option_map (λ (z : Named Publisher). z.port) o
@@ -94,8 +94,8 @@ module _ {T U : Type 0} (f : Fields T U) (sound : IsDomain f) (i : ℕ) (x : Pub
       others k away = get_or-set_other f.publishers i k None None away
 
       removed : (p : ℕ) → look_up (is_publisher p) (slice_set f.publishers i None) ≡ cond (eqb x.id p) None (look_up (is_publisher p) f.publishers)
-      removed p = look_up-removed (is_publisher p) f.publishers (slice_set f.publishers i None) i x (sound.publisher_ids p)
-          (IsOnly-removed (is_publisher p) f.publishers (slice_set f.publishers i None) i (sound.publisher_ids p) (set-none f.publishers i) others) here (set-none f.publishers i) others
+      removed p = look_up-removed (is_publisher p) f.publishers (slice_set f.publishers i None) i x (sound.parts.publisher_ids p)
+          (IsOnly-removed (is_publisher p) f.publishers (slice_set f.publishers i None) i (sound.parts.publisher_ids p) (set-none f.publishers i) others) here (set-none f.publishers i) others
 
       seen : (p : ℕ) → eqb x.id p ≡ false → (o : Option PublisherFields) → look_up (is_publisher p) f.publishers ≡ o
           → port (option_map (publisher_of f.books new) o) ≡ port (option_map (publisher_of f.books f.connections) o)

@@ -81,7 +81,7 @@ module _ {T U : Type 0} (f : Fields T U) (sound : IsDomain f) (i : ℕ) (x : Pub
   loan-was : (n : ℕ) (l : Loan T U) → (state_of (kept_of g)).loans n ≡ Some l → before.loans n ≡ Some l
   loan-was n l found =
       let there = loan-there g n l found in
-      loan-found f sound.numbered there.0 there.1 n l (back f sound i x here b at new left holders slots there.0 there.1 (Lent_message n l) there.2)
+      loan-found f sound.parts.numbered there.0 there.1 n l (back f sound i x here b at new left holders slots there.0 there.1 (Lent_message n l) there.2)
 
   loans-same : (state_of (kept_of g)).loans ≡ before.loans
   loans-same = fun_ext (λ n. by n (before.loans n) ((state_of (kept_of g)).loans n) refl refl) where
@@ -101,7 +101,7 @@ module _ {T U : Type 0} (f : Fields T U) (sound : IsDomain f) (i : ℕ) (x : Pub
 
   -- but for the loans, the changed book tells nothing
   mid-is : state_of (kept_of g) ≡ record (state_of (kept_of mid)) { loans = (state_of (kept_of g)).loans }
-  mid-is = book-state mid x.book b (with_counters b holders) at (keeps_slots f sound i x here b at new left holders slots) sound.books.one_each
+  mid-is = book-state mid x.book b (with_counters b holders) at (keeps_slots f sound i x here b at new left holders slots) sound.parts.books.one_each
 
   -- the machine's state after the close
   pub left-is : state_of (kept_of g) ≡ publisher_closed before x.id (leaver f sound i x here)
@@ -120,7 +120,7 @@ module _ {T U : Type 0} (f : Fields T U) (sound : IsDomain f) (i : ℕ) (x : Pub
   pub left-entries : (n : ℕ) (entry : Entry T U) → entries_of (kept_of g) n ≡ Some entry → entries_of (kept_of f) n ≡ Some entry
   left-entries n entry e =
       let there = entry-there g n entry e in
-      entry-found f sound.numbered there.0 there.1 n entry (back f sound i x here b at new left holders slots there.0 there.1 (Sent_message n entry) there.2)
+      entry-found f sound.parts.numbered there.0 there.1 n entry (back f sound i x here b at new left holders slots there.0 there.1 (Sent_message n entry) there.2)
 
   -- who holds a message afterwards held it before
   held-closed : (q n : ℕ) → IsHeldMessage (publisher_closed before x.id (leaver f sound i x here)) q n → IsHeldMessage before q n
@@ -144,7 +144,7 @@ module _ {T U : Type 0} (f : Fields T U) (sound : IsDomain f) (i : ℕ) (x : Pub
       let there = entry-there f n was.0 was.1 in
       let has = held-message-slot g (counted f sound i x here b at new left holders slots) (publishers-apart f sound i x here b at new left holders slots)
       (plain f sound i x here b at new left holders slots) q n held in
-      let same = sound.numbered.one has.0 there.0 has.1 there.1 n (number-back f sound i x here b at new left holders slots has.0 has.1 n has.2)
+      let same = sound.parts.numbered.one has.0 there.0 has.1 there.1 n (number-back f sound i x here b at new left holders slots has.0 has.1 n has.2)
       (has_number f.contents f.books there.0 there.1 n (Sent_message n was.0) there.2 (eq-eqb n n refl)) in
       let now : HasNumber g.books there.0 there.1 n =
       subst (λ (k : ℕ). HasNumber g.books k there.1 n) same.0 (subst (λ (s : ℕ). HasNumber g.books has.0 s n) same.1 has.2) in (

@@ -99,7 +99,7 @@ module _ {T U : Type 0} (f : Fields T U) (sound : IsDomain f) (i : ℕ) (x : Pub
 
     -- what the key at a place of it leads to
     connection : (place key : ℕ) → get_or y.keys place None ≡ Some key → (c : Link) × (get f.connections key ≡ Some c) × IsReceivers y.id (f.config).subscriber_max_borrowed_samples c
-    connection place key at_key = some_is (IsReceivers y.id (f.config).subscriber_max_borrowed_samples) (get f.connections key) ((sound.linked.receivers j y at_y).at place key at_key)
+    connection place key at_key = some_is (IsReceivers y.id (f.config).subscriber_max_borrowed_samples) (get f.connections key) ((sound.parts.linked.receivers j y at_y).at place key at_key)
 
     -- another publisher at an end stands, or has numbers left
     other-connected : (place p : ℕ) → occupant (receiver_ends f.connections y.keys) place ≡ Some p → p ≢ x.id → is_connected gone y.id p ≡ true
@@ -174,7 +174,7 @@ module _ {T U : Type 0} (f : Fields T U) (sound : IsDomain f) (i : ℕ) (x : Pub
 
     expired-same : receiver_ends new (map Some y.expired) ≡ receiver_ends f.connections (map Some y.expired)
     expired-same = ends-agree (publisher_of_key new) (publisher_of_key f.connections) refl (map Some y.expired) (λ idx key at_key.
-        let own = some_is (IsReceivers y.id (f.config).subscriber_max_borrowed_samples) (get f.connections key) ((sound.linked.expired j y at_y).at idx key at_key) in
+        let own = some_is (IsReceivers y.id (f.config).subscriber_max_borrowed_samples) (get f.connections key) ((sound.parts.linked.expired j y at_y).at idx key at_key) in
         ap (option_map (λ (c : Link). c.home.publisher)) (expired-still f sound i x here new left j idx key y own.0 at_y at_key own.1 ∙ sym own.1))
 
     abbrev expired_ids : List ℕ

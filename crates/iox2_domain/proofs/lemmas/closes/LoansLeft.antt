@@ -49,19 +49,19 @@ module _ {T U : Type 0} (f : Fields T U) (sound : IsDomain f) (i : ℕ) (x : Pub
         → option_map_or is_lent (slice_get b.marks slot) false ≡ true
     by (inl held) =
         let there = loan-there f n held.0 held.1 in
-        let same = sound.numbered.one there.0 x.book there.1 slot n (has_number f.contents f.books there.0 there.1 n (Lent_message n held.0) there.2 (eq-eqb n n refl)) has in
+        let same = sound.parts.numbered.one there.0 x.book there.1 slot n (has_number f.contents f.books there.0 there.1 n (Lent_message n held.0) there.2 (eq-eqb n n refl)) has in
         let lies : lies_at f x.book slot ≡ Some (Lent_message n held.0) =
         sym (ap (λ (k : ℕ). lies_at f k slot) same.0) ∙ sym (ap (lies_at f there.0) same.1) ∙ there.2 in
         (loan-lent b (contents_at f.contents x.book) slot n held.0
         (message_in-parts b (contents_at f.contents x.book) slot (Lent_message n held.0) (sym (message_at-slot f.contents f.books x.book slot b at) ∙ lies))).0.lent
-    by (inr is) = absurd (let no : None ≡ Some is.0 = sym (unblocked f.books f.connections x (sound.plain i x here)) ∙ is.1 in cc)
+    by (inr is) = absurd (let no : None ≡ Some is.0 = sym (unblocked f.books f.connections x (sound.parts.plain i x here)) ∙ is.1 in cc)
 
   -- a slot in use that is marked as a loan stands among the loans, once
   pub marked-loan : (slot : ℕ) → 0 < holders_at b slot → option_map_or is_lent (slice_get b.marks slot) false ≡ true → times slot x.loans ≡ 1
   marked-loan slot in_use lent =
       let n : ℕ = slice_index b.numbers slot in
       let has : HasNumber f.books x.book slot n = record { book = b; stands = at; in_use = in_use; number = refl } in
-      let m = held-message f.contents f.books x.book slot n (λ c there. sound.books.books x.book c there) has in
+      let m = held-message f.contents f.books x.book slot n (λ c there. sound.parts.books.books x.book c there) has in
       let is : IsLoanSlot b slot n = record { in_bounds = in_use_within b (contents_at f.contents x.book) slot in_use; in_use = in_use; lent = lent; numbered = refl } in
       let loan = lent-loan b (contents_at f.contents x.book) slot n m.0
       (message_in-parts b (contents_at f.contents x.book) slot m.0 (sym (message_at-slot f.contents f.books x.book slot b at) ∙ m.1)) is in

@@ -60,7 +60,7 @@ module _ {T U : Type 0} (f : Fields T U) (place loans len loan_room key_room key
 
   pub ids_apart : (p : ℕ) → IsOnly (is_publisher p) (placed f.publishers place newcomer)
   ids_apart p =
-      IsOnly-inserted (is_publisher p) f.publishers (placed f.publishers place newcomer) place newcomer (enters.sound.publisher_ids p)
+      IsOnly-inserted (is_publisher p) f.publishers (placed f.publishers place newcomer) place newcomer (enters.sound.parts.publisher_ids p)
       (λ e. let here : f.next_port ≡ p = eqb-true f.next_port p e in subst (λ r. look_up (is_publisher r) f.publishers ≡ None) here no_such)
       (placed-here newcomer f.publishers place) (λ k away. placed-others newcomer f.publishers place k away)
 

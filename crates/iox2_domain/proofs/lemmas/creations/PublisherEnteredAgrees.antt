@@ -70,29 +70,29 @@ module _ {T U : Type 0} (f : Fields T U) (place loans len loan_room key_room key
 
   linked : IsLinked after
   linked = record {
-    senders = λ i x at. elim (was i x at) [ inl e ↦ rw e.1 (unlinked f.next_port) | inr old ↦ enters.sound.linked.senders i x old ];
-    receivers = enters.sound.linked.receivers;
-    expired = enters.sound.linked.expired;
-    ends = λ k c at. by k c (enters.sound.linked.ends k c at);
-    receiver_places = enters.sound.linked.receiver_places;
-    knows = enters.sound.linked.knows;
+    senders = λ i x at. elim (was i x at) [ inl e ↦ rw e.1 (unlinked f.next_port) | inr old ↦ enters.sound.parts.linked.senders i x old ];
+    receivers = enters.sound.parts.linked.receivers;
+    expired = enters.sound.parts.linked.expired;
+    ends = λ k c at. by k c (enters.sound.parts.linked.ends k c at);
+    receiver_places = enters.sound.parts.linked.receiver_places;
+    knows = enters.sound.parts.linked.knows;
     knows_publishers = λ k i c x at_c at_x same. elim (was i x at_x) [
       | inl e ↦
           let next : x.id ≡ f.next_port = ap (λ (z : PublisherFields). z.id) e.1 in
           let low : c.home.publisher < f.next_port = sender_before f enters.sound slots needed key books contents enters.book k c at_c in
           absurd (omega arith)
-      | inr old ↦ enters.sound.linked.knows_publishers k i c x at_c old same
+      | inr old ↦ enters.sound.parts.linked.knows_publishers k i c x at_c old same
     ];
     sender_rooms = λ k i c x at_c at_x same. elim (was i x at_x) [
       | inl e ↦
           let next : x.id ≡ f.next_port = ap (λ (z : PublisherFields). z.id) e.1 in
           let low : c.home.publisher < f.next_port = sender_before f enters.sound slots needed key books contents enters.book k c at_c in
           absurd (omega arith)
-      | inr old ↦ enters.sound.linked.sender_rooms k i c x at_c old same
+      | inr old ↦ enters.sound.parts.linked.sender_rooms k i c x at_c old same
     ];
-    receiver_rooms = enters.sound.linked.receiver_rooms;
-    limits = enters.sound.linked.limits;
-    returned = λ k c at. reclaims k c (enters.sound.linked.returned k c at);
+    receiver_rooms = enters.sound.parts.linked.receiver_rooms;
+    limits = enters.sound.parts.linked.limits;
+    returned = λ k c at. reclaims k c (enters.sound.parts.linked.returned k c at);
   } where
     sender : (k : ℕ) (c : Link) → SenderHas f.publishers k c → SenderHas (placed f.publishers place new) k c
     sender k c has = record { publisher = has.publisher; stands = stands_still c.home.publisher_place has.publisher has.stands; is_its = has.is_its; has = has.has }
@@ -121,15 +121,15 @@ module _ {T U : Type 0} (f : Fields T U) (place loans len loan_room key_room key
     one_each = books-apart f enters.sound slots needed key books contents enters.book;
     books = λ k b at. elim (was_book f enters.sound slots needed key books contents enters.book k b at) [
       | inl e ↦ subst (λ (b : Book). IsBook b (get_or contents k None)) (sym e.1) (subst (λ (j : ℕ). IsBook enters.book.book (get_or contents j None)) (sym e.0) own)
-      | inr old ↦ subst (IsBook b) (sym (enters.book.contents_others k old.0)) (enters.sound.books.books k b old.1)
+      | inr old ↦ subst (IsBook b) (sym (enters.book.contents_others k old.0)) (enters.sound.parts.books.books k b old.1)
     ];
     publishers = λ i x at. elim (was i x at) [
       | inl e ↦ subst (HasBook after) (sym e.1) its_book
-      | inr old ↦ kept x (enters.sound.books.publishers i x old)
+      | inr old ↦ kept x (enters.sound.parts.books.publishers i x old)
     ];
     no_others = λ k none. elim (cases_eq k key) [
       | inl here ↦ absurd (let no : None ≡ Some enters.book.book = sym none ∙ ap (get books) here ∙ enters.book.updates.changed in cc)
-      | inr away ↦ enters.book.contents_others k away ∙ enters.sound.books.no_others k (sym (enters.book.updates.others k away) ∙ none)
+      | inr away ↦ enters.book.contents_others k away ∙ enters.sound.parts.books.no_others k (sym (enters.book.updates.others k away) ∙ none)
     ];
   } where
     own : IsBook enters.book.book (get_or contents key None)
@@ -175,10 +175,10 @@ module _ {T U : Type 0} (f : Fields T U) (place loans len loan_room key_room key
         let no_other : look_up (is_book_of p) f.books.slots ≡ None =
         subst (λ (r : ℕ). look_up (is_book_of r) f.books.slots ≡ None) here (no_book f enters.sound slots needed key books contents enters.book) in
         let none : holders_of f.books p slot ≡ 0 = ap (λ o. option_map_or (λ b. holders_at b slot) o 0) no_other in
-        let old : holders_of f.books p slot ≡ own_holders f p slot + sum_by (stands p slot) f.connections.slots = enters.sound.counted.at p slot in
+        let old : holders_of f.books p slot ≡ own_holders f p slot + sum_by (stands p slot) f.connections.slots = enters.sound.parts.counted.at p slot in
         let mine : holders_at enters.book.book slot ≡ 0 = unheld f enters.sound slots needed key books contents enters.book slot in
         omega arith
-    by p slot false e = enters.sound.counted.at p slot
+    by p slot false e = enters.sound.parts.counted.at p slot
 
   -- what lies in slots lay there before
   shaped : (k slot : ℕ) (b : Book) (m : KeptMessage T U) → get books k ≡ Some b → message_in b (contents_at contents k) slot ≡ Some m → HasShape f.config m
@@ -187,7 +187,7 @@ module _ {T U : Type 0} (f : Fields T U) (place loans len loan_room key_room key
         let none : None ≡ Some m =
         sym (nothing_in f enters.sound slots needed key books contents enters.book (contents_at contents k) slot)
         ∙ ap (λ (b : Book). message_in b (contents_at contents k) slot) (sym e.1) ∙ lies in absurd cc
-    | inr old ↦ enters.sound.shapes.at k slot b m old.1
+    | inr old ↦ enters.sound.parts.shapes.at k slot b m old.1
         (ap (λ cs. message_in b cs slot) (sym (contents-same f enters.sound slots needed key books contents enters.book k old.0)) ∙ lies)
   ]
 
@@ -256,24 +256,24 @@ module _ {T U : Type 0} (f : Fields T U) (place loans len loan_room key_room key
   pub entered-agrees : HasPublisherRoom f.config new → place ≤ length f.publishers → IsWellFormed (state_of (kept_of after)) → IsDomain after
   entered-agrees rooms low well = record {
     publisher_ids = ids_apart f place loans len loan_room key_room key books contents enters;
-    subscriber_ids = enters.sound.subscriber_ids;
-    apart = enters.sound.apart;
+    subscriber_ids = enters.sound.parts.subscriber_ids;
+    apart = enters.sound.parts.apart;
     linked = linked;
-    expired_room = enters.sound.expired_room;
+    expired_room = enters.sound.parts.expired_room;
     books = has_books;
     names = names-books f.books books f.connections
-        (λ k b at. (b, still_book f enters.sound slots needed key books contents enters.book k b at, refl)) enters.sound.names;
+        (λ k b at. (b, still_book f enters.sound slots needed key books contents enters.book k b at, refl)) enters.sound.parts.names;
     kept_books = kept_books;
     counted = counted;
     numbered = numbered-still f enters.sound slots needed key books contents enters.book;
     lone = lone-still f enters.sound slots needed key books contents enters.book;
-    publisher_room = λ i x at. elim (was i x at) [ inl e ↦ rw e.1 rooms | inr old ↦ enters.sound.publisher_room i x old ];
-    warning_room = enters.sound.warning_room;
+    publisher_room = λ i x at. elim (was i x at) [ inl e ↦ rw e.1 rooms | inr old ↦ enters.sound.parts.publisher_room i x old ];
+    warning_room = enters.sound.parts.warning_room;
     shapes = record { at = shaped };
     forms = enters.forms;
-    supported = enters.sound.supported;
-    plain = λ i x at. elim (was i x at) [ inl e ↦ rw e.1 (record { strategy = refl; backpressure = refl; degradation = refl; unblocked = refl; allocation = refl }) | inr old ↦ enters.sound.plain i x old ];
-    plain_subscribers = enters.sound.plain_subscribers;
+    supported = enters.sound.parts.supported;
+    plain = λ i x at. elim (was i x at) [ inl e ↦ rw e.1 (record { strategy = refl; backpressure = refl; degradation = refl; unblocked = refl; allocation = refl }) | inr old ↦ enters.sound.parts.plain i x old ];
+    plain_subscribers = enters.sound.parts.plain_subscribers;
     well_formed = well;
     entries = λ p n held. let has = enters.sound.entries p n (held_still p n held) in (has.0, entries_same n ∙ has.1, has.2);
   }

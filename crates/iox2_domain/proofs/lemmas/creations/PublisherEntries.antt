@@ -52,24 +52,24 @@ module _ {T U : Type 0} (f : Fields T U) where
 
   room-agrees : (capacity : ℕ) → IsDomain f → IsDomain (with_room capacity)
   room-agrees capacity sound = record {
-    publisher_ids = sound.publisher_ids;
-    subscriber_ids = sound.subscriber_ids;
-    apart = sound.apart;
-    linked = linked sound.linked;
-    expired_room = sound.expired_room;
-    books = books sound.books;
-    names = names-books f.books _ f.connections (λ k b at. (b, at, refl)) sound.names;
+    publisher_ids = sound.parts.publisher_ids;
+    subscriber_ids = sound.parts.subscriber_ids;
+    apart = sound.parts.apart;
+    linked = linked sound.parts.linked;
+    expired_room = sound.parts.expired_room;
+    books = books sound.parts.books;
+    names = names-books f.books _ f.connections (λ k b at. (b, at, refl)) sound.parts.names;
     kept_books = record { at = sound.kept_books.at };
-    counted = record { at = sound.counted.at };
-    numbered = numbered sound.numbered;
+    counted = record { at = sound.parts.counted.at };
+    numbered = numbered sound.parts.numbered;
     lone = record { at = sound.lone.at };
-    publisher_room = sound.publisher_room;
-    warning_room = sound.warning_room;
-    shapes = record { at = sound.shapes.at };
-    forms = sound.forms;
-    supported = sound.supported;
-    plain = sound.plain;
-    plain_subscribers = sound.plain_subscribers;
+    publisher_room = sound.parts.publisher_room;
+    warning_room = sound.parts.warning_room;
+    shapes = record { at = sound.parts.shapes.at };
+    forms = sound.parts.forms;
+    supported = sound.parts.supported;
+    plain = sound.parts.plain;
+    plain_subscribers = sound.parts.plain_subscribers;
     well_formed = sound.well_formed;
     entries = sound.entries;
   } where
@@ -165,7 +165,7 @@ module _ {T U : Type 0} (f : Fields T U) where
               let found : Some slot_contents ≡ Some zs = sym (placed-here slot_contents f.contents key) ∙ sym (ap (λ (j : ℕ). get_or contents j None) here) ∙ there in
               let is : slot_contents ≡ zs = cc in
               subst (All (λ content. content.is_in_place ≡ false)) is (e.contents_form several)
-          | inr away ↦ sound.forms.at several k zs (sym (placed-others slot_contents f.contents key k away) ∙ there)
+          | inr away ↦ sound.parts.forms.at several k zs (sym (placed-others slot_contents f.contents key k away) ∙ there)
         ];
       } in
       let after : Fields T U = with_admitted f sound place loans len x.loan_room x.key_room key books contents free enters forms in

@@ -46,7 +46,7 @@ module _ {T U : Type 0} (f : Fields T U) (sound : IsDomain f) (warnings : Buffer
 
   pub ids_apart : (q : ℕ) → IsOnly (is_subscriber q) (placed f.subscribers place newcomer)
   ids_apart q =
-      IsOnly-inserted (is_subscriber q) f.subscribers (placed f.subscribers place newcomer) place newcomer (sound.subscriber_ids q)
+      IsOnly-inserted (is_subscriber q) f.subscribers (placed f.subscribers place newcomer) place newcomer (sound.parts.subscriber_ids q)
       (λ e. let here : f.next_port ≡ q = eqb-true f.next_port q e in subst (λ r. look_up (is_subscriber r) f.subscribers ≡ None) here no_such)
       (placed-here newcomer f.subscribers place) (λ k away. placed-others newcomer f.subscribers place k away)
 

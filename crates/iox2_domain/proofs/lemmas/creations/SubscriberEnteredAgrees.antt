@@ -43,22 +43,22 @@ module _ {T U : Type 0} (f : Fields T U) (sound : IsDomain f) (warnings : Buffer
 
   linked : IsLinked after
   linked = record {
-    senders = sound.linked.senders;
-    receivers = λ i y at. elim (was i y at) [ inl e ↦ rw e (unlinked f.next_port (f.config).subscriber_max_borrowed_samples) | inr old ↦ sound.linked.receivers i y old ];
-    expired = λ i y at. elim (was i y at) [ inl e ↦ rw e (unlinked f.next_port (f.config).subscriber_max_borrowed_samples) | inr old ↦ sound.linked.expired i y old ];
-    ends = λ key c at. by key c (sound.linked.ends key c at);
+    senders = sound.parts.linked.senders;
+    receivers = λ i y at. elim (was i y at) [ inl e ↦ rw e (unlinked f.next_port (f.config).subscriber_max_borrowed_samples) | inr old ↦ sound.parts.linked.receivers i y old ];
+    expired = λ i y at. elim (was i y at) [ inl e ↦ rw e (unlinked f.next_port (f.config).subscriber_max_borrowed_samples) | inr old ↦ sound.parts.linked.expired i y old ];
+    ends = λ key c at. by key c (sound.parts.linked.ends key c at);
     receiver_places = λ i at key y c at_y at_key at_c. places i at key y c (was i y at_y) at_key at_c;
-    knows_publishers = sound.linked.knows_publishers;
-    sender_rooms = sound.linked.sender_rooms;
+    knows_publishers = sound.parts.linked.knows_publishers;
+    sender_rooms = sound.parts.linked.sender_rooms;
     receiver_rooms = λ key i c y at_c at_y same. elim (was i y at_y) [
       | inl e ↦
           let next : y.id ≡ f.next_port = ap (λ (z : SubscriberFields). z.id) e in
           let low : c.home.subscriber < f.next_port = subscriber-known f sound key c at_c in
           absurd (omega arith)
-      | inr old ↦ sound.linked.receiver_rooms key i c y at_c old same
+      | inr old ↦ sound.parts.linked.receiver_rooms key i c y at_c old same
     ];
-    limits = sound.linked.limits;
-    returned = sound.linked.returned;
+    limits = sound.parts.linked.limits;
+    returned = sound.parts.linked.returned;
     knows = record { at = λ key i c d at_c at_d same. knows key i c d at_c (viewed details_of (placed f.subscribers place new) i d at_d) same };
   } where
     by : (key : ℕ) (c : Link) → SenderHas f.publishers key c ⊎ ReceiverHas f.subscribers key c → SenderHas f.publishers key c ⊎ ReceiverHas (placed f.subscribers place new) key c
@@ -75,7 +75,7 @@ module _ {T U : Type 0} (f : Fields T U) (sound : IsDomain f) (warnings : Buffer
     places i at key y c (inl e) at_key at_c =
         let none : get_or {A = Option ℕ} [] at None ≡ Some key = subst (λ (z : SubscriberFields). get_or z.keys at None ≡ Some key) e at_key in
         absurd (nothing_at at key none)
-    places i at key y c (inr old) at_key at_c = sound.linked.receiver_places i at key y c old at_key at_c
+    places i at key y c (inr old) at_key at_c = sound.parts.linked.receiver_places i at key y c old at_key at_c
 
     knows : (key i : ℕ) (c : Link) (d : ReceiverDetails) → get f.connections key ≡ Some c
         → (y : SubscriberFields) × (get_or (placed f.subscribers place new) i None ≡ Some y) × (d ≡ details_of y)
@@ -85,7 +85,7 @@ module _ {T U : Type 0} (f : Fields T U) (sound : IsDomain f) (warnings : Buffer
           let next : d.port_id ≡ f.next_port = ap (λ (z : ReceiverDetails). z.port_id) there.2 ∙ ap (λ (z : SubscriberFields). z.id) e in
           let low : c.home.subscriber < f.next_port = subscriber-known f sound key c at_c in
           absurd (omega arith)
-      | inr old ↦ sound.linked.knows.at key i c d at_c (map-at details_of f.subscribers i ∙ ap (option_map details_of) old ∙ ap Some (sym there.2)) same
+      | inr old ↦ sound.parts.linked.knows.at key i c d at_c (map-at details_of f.subscribers i ∙ ap (option_map details_of) old ∙ ap Some (sym there.2)) same
     ]
 
   expired_room-entered : HasExpiredRoom (placed f.subscribers place new) f.connections
@@ -94,16 +94,16 @@ module _ {T U : Type 0} (f : Fields T U) (sound : IsDomain f) (warnings : Buffer
       | inl e ↦ rw e (let none = count-none f.connections f.next_port (λ key c at_c same.
           let low : c.home.subscriber < f.next_port = subscriber-known f sound key c at_c in
           absurd (omega arith)) in omega arith)
-      | inr old ↦ sound.expired_room.at i y old
+      | inr old ↦ sound.parts.expired_room.at i y old
     ];
   }
 
   books : HasBooks after
   books = record {
-    one_each = sound.books.one_each;
-    books = sound.books.books;
-    publishers = λ i x at. let has = sound.books.publishers i x at in record { book = has.book; stands = has.stands; is_its = has.is_its; slots = has.slots; no_more = has.no_more; room = has.room };
-    no_others = sound.books.no_others;
+    one_each = sound.parts.books.one_each;
+    books = sound.parts.books.books;
+    publishers = λ i x at. let has = sound.parts.books.publishers i x at in record { book = has.book; stands = has.stands; is_its = has.is_its; slots = has.slots; no_more = has.no_more; room = has.room };
+    no_others = sound.parts.books.no_others;
   }
 
   -- the new list has no more places than it had, or the new one
@@ -118,25 +118,25 @@ module _ {T U : Type 0} (f : Fields T U) (sound : IsDomain f) (warnings : Buffer
   -- the invariant is kept
   pub entered-agrees : warnings.capacity ≡ warning_limit → place ≤ length f.subscribers → IsWellFormed (state_of (kept_of after)) → IsDomain after
   entered-agrees room low well = record {
-    publisher_ids = sound.publisher_ids;
+    publisher_ids = sound.parts.publisher_ids;
     subscriber_ids = ids_apart f sound warnings place asked key_room expired_room free;
-    apart = sound.apart;
+    apart = sound.parts.apart;
     linked = linked;
     expired_room = expired_room-entered;
     books = books;
-    names = sound.names;
+    names = sound.parts.names;
     kept_books = kept-publishers f.next_port (f.next_port + 1) f.publishers f.publishers (omega arith)
         (λ i x at. (x, at, refl, refl)) (λ i y at. inl (y, at, refl)) f.books sound.kept_books;
-    counted = record { at = sound.counted.at };
-    numbered = sound.numbered;
+    counted = record { at = sound.parts.counted.at };
+    numbered = sound.parts.numbered;
     lone = sound.lone;
-    publisher_room = sound.publisher_room;
+    publisher_room = sound.parts.publisher_room;
     warning_room = room;
-    shapes = record { at = sound.shapes.at };
-    forms = sound.forms;
-    supported = sound.supported;
-    plain = sound.plain;
-    plain_subscribers = λ i y at. elim (was i y at) [ inl e ↦ rw e (record { degradation = refl }) | inr old ↦ sound.plain_subscribers i y old ];
+    shapes = record { at = sound.parts.shapes.at };
+    forms = sound.parts.forms;
+    supported = sound.parts.supported;
+    plain = sound.parts.plain;
+    plain_subscribers = λ i y at. elim (was i y at) [ inl e ↦ rw e (record { degradation = refl }) | inr old ↦ sound.parts.plain_subscribers i y old ];
     well_formed = well;
     entries = λ p n held. sound.entries p n (held-before (state_of (kept_of f)) (state_of (kept_of after)) p n (λ q. refl) (λ y at. (y, at, record { history = refl; blocked = refl })) held);
   }

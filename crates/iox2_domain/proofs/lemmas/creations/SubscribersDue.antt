@@ -110,24 +110,24 @@ module _ {T U : Type 0} (f : Fields T U) where
   -- the invariant is kept
   pub subscribers_due-agree : IsDomain f → IsDomain (with_subscribers_due f)
   subscribers_due-agree sound = record {
-    publisher_ids = sound.publisher_ids;
-    subscriber_ids = λ q. IsOnly-map subscriber_due (is_subscriber q) (is_subscriber q) (λ y. refl) f.subscribers (sound.subscriber_ids q);
-    apart = sound.apart;
-    linked = linked-due sound.linked;
-    expired_room = record { at = λ i y at. let was = was_there i y at in rw was.2 (sound.expired_room.at i was.0 was.1) };
-    books = books-due sound.books;
+    publisher_ids = sound.parts.publisher_ids;
+    subscriber_ids = λ q. IsOnly-map subscriber_due (is_subscriber q) (is_subscriber q) (λ y. refl) f.subscribers (sound.parts.subscriber_ids q);
+    apart = sound.parts.apart;
+    linked = linked-due sound.parts.linked;
+    expired_room = record { at = λ i y at. let was = was_there i y at in rw was.2 (sound.parts.expired_room.at i was.0 was.1) };
+    books = books-due sound.parts.books;
     kept_books = sound.kept_books;
-    names = sound.names;
-    counted = record { at = sound.counted.at };
-    numbered = sound.numbered;
+    names = sound.parts.names;
+    counted = record { at = sound.parts.counted.at };
+    numbered = sound.parts.numbered;
     lone = sound.lone;
-    publisher_room = sound.publisher_room;
-    warning_room = sound.warning_room;
-    shapes = record { at = sound.shapes.at };
-    forms = sound.forms;
-    supported = sound.supported;
-    plain = sound.plain;
-    plain_subscribers = λ i y at. let was = was_there i y at in rw was.2 (record { degradation = (sound.plain_subscribers i was.0 was.1).degradation });
+    publisher_room = sound.parts.publisher_room;
+    warning_room = sound.parts.warning_room;
+    shapes = record { at = sound.parts.shapes.at };
+    forms = sound.parts.forms;
+    supported = sound.parts.supported;
+    plain = sound.parts.plain;
+    plain_subscribers = λ i y at. let was = was_there i y at in rw was.2 (record { degradation = (sound.parts.plain_subscribers i was.0 was.1).degradation });
     well_formed = rw subscribers_due-are (subscribers_due_keeps (state_of (kept_of f)) sound.well_formed);
     entries = λ p n held. sound.entries p n (held-before (state_of (kept_of f)) (state_of (kept_of (with_subscribers_due f))) p n (λ q. refl)
         (λ y at. (y, at, record { history = refl; blocked = refl })) held);

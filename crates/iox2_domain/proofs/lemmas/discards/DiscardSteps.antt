@@ -28,8 +28,8 @@ module _ {T U : Type 0} (f : Fields T U) (sound : IsDomain f) (p n place : ℕ) 
 
   key-is : key ≡ (found.0).book
   key-is =
-      let has = sound.books.publishers place found.0 found.1 in
-      (sound.books.one_each p).one key (found.0).book at.book has.book at.stands has.stands (eq-eqb (at.book).publisher p at.is_its) (eq-eqb (has.book).publisher p (has.is_its ∙ found.2))
+      let has = sound.parts.books.publishers place found.0 found.1 in
+      (sound.parts.books.one_each p).one key (found.0).book at.book has.book at.stands has.stands (eq-eqb (at.book).publisher p at.is_its) (eq-eqb (has.book).publisher p (has.is_its ∙ found.2))
 
   stands : get f.books (found.0).book ≡ Some at.book
   stands = sym (ap (get f.books) key-is) ∙ at.stands

@@ -41,7 +41,7 @@ use Rattle.iox2_domain.proofs.lemmas.slots.LeftConnections.{unknown, stands-nowh
 use Rattle.iox2_domain.proofs.lemmas.slots.LoneLoans.{is-loan}
 use Rattle.iox2_domain.proofs.lemmas.slots.SettledBooks.{settles}
 use Rattle.iox2_domain.proofs.lemmas.slots.Messages.{lies_at, message_in-parts, message_at-slot}
-use Rattle.iox2_domain.proofs.lemmas.slots.RecountedSound.{loan-publisher}
+use Rattle.iox2_domain.proofs.lemmas.slots.RecountedLoans.{loan-publisher}
 
 module _ {T U : Type 0} (f : Fields T U) (sound : IsDomain f) (p n key slot : ℕ) (at : LiesInSlot f p n key slot) (none : look_up (is_publisher p) f.publishers ≡ None) where
   abbrev b : Book
@@ -90,9 +90,9 @@ module _ {T U : Type 0} (f : Fields T U) (sound : IsDomain f) (p n key slot : �
     its : (s : ℕ) → holders_of after.books (at.book).publisher s ≡ own_holders after (at.book).publisher s + sum_by (stands (at.book).publisher s) f.connections.slots
     its s =
         let found : look_up (is_book_of (at.book).publisher) f.books.slots ≡ Some at.book =
-        look_up-found (is_book_of (at.book).publisher) f.books.slots key at.book (sound.books.one_each (at.book).publisher) at.stands (eq-eqb (at.book).publisher (at.book).publisher refl) in
+        look_up-found (is_book_of (at.book).publisher) f.books.slots key at.book (sound.parts.books.one_each (at.book).publisher) at.stands (eq-eqb (at.book).publisher (at.book).publisher refl) in
         let is : look_up (is_book_of (at.book).publisher) after.books.slots ≡ Some now =
-        look_up-found (is_book_of (at.book).publisher) after.books.slots key now (books-apart f key at.book now at.stands keeps sound.books.one_each (at.book).publisher)
+        look_up-found (is_book_of (at.book).publisher) after.books.slots key now (books-apart f key at.book now at.stands keeps sound.parts.books.one_each (at.book).publisher)
         (book-here f key at.book now at.stands keeps) (eq-eqb (at.book).publisher (at.book).publisher refl) in
         let holders : holders_of after.books (at.book).publisher s ≡ holders_at now s = ap (λ o. option_map_or (λ (c : Book). holders_at c s) o 0) is in
         let held : holders_of f.books (at.book).publisher s ≡ holders_at at.book s = ap (λ o. option_map_or (λ (c : Book). holders_at c s) o 0) found in
@@ -109,40 +109,40 @@ module _ {T U : Type 0} (f : Fields T U) (sound : IsDomain f) (p n key slot : �
             let one_then : holders_at at.book s ≡ 1 = ap (holders_at at.book) same ∙ alone in
             let no : cond {A = ℕ} (is_loan_in now s) 1 0 ≡ 0 = ap (λ h. cond {A = ℕ} (nat_lt 0 h && option_map_or is_lent (slice_get (at.book).marks s) false) 1 0) none_now in
             let yes : cond {A = ℕ} (is_loan_in at.book s) 1 0 ≡ 1 = ap (λ t. cond {A = ℕ} t 1 0) (ap (is_loan_in at.book) same ∙ is_loan) in
-            omega (arith, holders, held, owns, owned, none_now, one_then, no, yes, sound.counted.at (at.book).publisher s)
+            omega (arith, holders, held, owns, owned, none_now, one_then, no, yes, sound.parts.counted.at (at.book).publisher s)
         by s holders held owns owned (inr away) =
             let alike : holders_at now s ≡ holders_at at.book s = others-held f parts key at.book at.stands slot n at.loan lies alone s away in
             let same : cond {A = ℕ} (is_loan_in now s) 1 0 ≡ cond {A = ℕ} (is_loan_in at.book s) 1 0 = ap (λ h. cond {A = ℕ} (nat_lt 0 h && option_map_or is_lent (slice_get (at.book).marks s) false) 1 0) alike in
-            omega (arith, holders, held, owns, owned, alike, same, sound.counted.at (at.book).publisher s)
+            omega (arith, holders, held, owns, owned, alike, same, sound.parts.counted.at (at.book).publisher s)
 
     others : (q s : ℕ) → q ≢ (at.book).publisher → holders_of after.books q s ≡ own_holders after q s + sum_by (stands q s) f.connections.slots
     others q s away =
         let book : look_up (is_book_of q) after.books.slots ≡ look_up (is_book_of q) f.books.slots =
-        other-book f key at.book now at.stands keeps sound.books.one_each q (ne_eqb (at.book).publisher q (λ same. away (sym same))) in
+        other-book f key at.book now at.stands keeps sound.parts.books.one_each q (ne_eqb (at.book).publisher q (λ same. away (sym same))) in
         ap (λ o. option_map_or (λ (c : Book). holders_at c s) o 0) book
-        ∙ sound.counted.at q s
+        ∙ sound.parts.counted.at q s
         ∙ ap (λ k. k + sum_by (stands q s) f.connections.slots) (sym (ap (own s (look_up (is_publisher q) f.publishers)) book))
 
   -- ---- the parts
 
   left-parts : HasParts after
   left-parts = record {
-    publisher_ids = sound.publisher_ids;
-    subscriber_ids = sound.subscriber_ids;
-    apart = sound.apart;
-    linked = linked-book f key at.book now at.stands keeps sound.linked;
-    expired_room = sound.expired_room;
-    books = books-changed f key at.book now at.stands keeps sound.books (given-aligned f parts key at.book at.stands slot n at.loan lies alone);
-    names = names-books f.books _ f.connections (book-after f key at.book now at.stands keeps) sound.names;
+    publisher_ids = sound.parts.publisher_ids;
+    subscriber_ids = sound.parts.subscriber_ids;
+    apart = sound.parts.apart;
+    linked = linked-book f key at.book now at.stands keeps sound.parts.linked;
+    expired_room = sound.parts.expired_room;
+    books = books-changed f key at.book now at.stands keeps sound.parts.books (given-aligned f parts key at.book at.stands slot n at.loan lies alone);
+    names = names-books f.books _ f.connections (book-after f key at.book now at.stands keeps) sound.parts.names;
     counted = counted;
     numbered = left-numbered f parts key at.book at.stands slot n at.loan lies alone;
-    publisher_room = sound.publisher_room;
-    warning_room = sound.warning_room;
+    publisher_room = sound.parts.publisher_room;
+    warning_room = sound.parts.warning_room;
     shapes = left-shapes f parts key at.book at.stands slot n at.loan lies alone;
-    forms = sound.forms;
-    supported = sound.supported;
-    plain = sound.plain;
-    plain_subscribers = sound.plain_subscribers;
+    forms = sound.parts.forms;
+    supported = sound.parts.supported;
+    plain = sound.parts.plain;
+    plain_subscribers = sound.parts.plain_subscribers;
   }
 
   -- ---- the state
@@ -153,7 +153,7 @@ module _ {T U : Type 0} (f : Fields T U) (sound : IsDomain f) (p n key slot : �
 
   left-is : state_of (kept_of after) ≡ lost
   left-is =
-      book-state f key at.book now at.stands keeps sound.books.one_each
+      book-state f key at.book now at.stands keeps sound.parts.books.one_each
       ∙ ap (λ (loans : ℕ → Option (Loan T U)). record was { loans = loans }) (left-loans f parts key at.book at.stands slot n at.loan lies alone)
 
   lent-by : at.loan.publisher ≡ p
@@ -180,7 +180,7 @@ module _ {T U : Type 0} (f : Fields T U) (sound : IsDomain f) (p n key slot : �
   entries-kept : KeepsEntries (kept_of after)
   entries-kept q m is = elim (cases_eq m n) [
     | inl same ↦
-        let there = held-message-slot after counted sound.publisher_ids sound.plain q m is in
+        let there = held-message-slot after counted sound.parts.publisher_ids sound.parts.plain q m is in
         absurd (unnumbered f parts key at.book at.stands slot n at.loan lies alone there.0 there.1 (subst (HasNumber after.books there.0 there.1) same there.2))
     | inr away ↦
         let old = sound.entries q m (held-still q m (subst (λ (s : State T U). IsHeldMessage s q m) left-is is)) in
@@ -204,7 +204,7 @@ module _ {T U : Type 0} (f : Fields T U) (sound : IsDomain f) (p n key slot : �
     book = at.book;
     stands = at.stands;
     in_use = record { in_bounds = at.loan_slot.in_bounds; in_use = at.loan_slot.in_use };
-    contents = low (get_or f.contents key None) refl (sound.books.books key at.book at.stands).shaped;
+    contents = low (get_or f.contents key None) refl (sound.parts.books.books key at.book at.stands).shaped;
   } where
     low : (o : Option (List (ContentState T U))) → get_or f.contents key None ≡ o → IsSomeAnd o (λ cs. length cs ≡ length (at.book).holders) → key < length f.contents
     low None e h = absurd h

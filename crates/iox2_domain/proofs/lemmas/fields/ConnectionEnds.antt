@@ -30,7 +30,7 @@ module _ {T U : Type 0} (f : Fields T U) (sound : IsDomain f) where
   publisher-stands i x at =
       ap (option_map (λ (z : Named Publisher). z.port))
       (look_up-map (is_named x.id) (publisher_of f.books f.connections) f.publishers
-      ∙ ap (option_map (publisher_of f.books f.connections)) (look_up-found (is_publisher x.id) f.publishers i x (sound.publisher_ids x.id) at (eq-eqb x.id x.id refl)))
+      ∙ ap (option_map (publisher_of f.books f.connections)) (look_up-found (is_publisher x.id) f.publishers i x (sound.parts.publisher_ids x.id) at (eq-eqb x.id x.id refl)))
 
   -- a subscriber that stands somewhere is in the state
   pub subscriber-stands : (i : ℕ) (y : SubscriberFields) → get_or f.subscribers i None ≡ Some y
@@ -38,11 +38,11 @@ module _ {T U : Type 0} (f : Fields T U) (sound : IsDomain f) where
   subscriber-stands i y at =
       ap (option_map (λ (z : Named Subscriber). z.port))
       (look_up-map (is_named y.id) (subscriber_of f.books f.connections) f.subscribers
-      ∙ ap (option_map (subscriber_of f.books f.connections)) (look_up-found (is_subscriber y.id) f.subscribers i y (sound.subscriber_ids y.id) at (eq-eqb y.id y.id refl)))
+      ∙ ap (option_map (subscriber_of f.books f.connections)) (look_up-found (is_subscriber y.id) f.subscribers i y (sound.parts.subscriber_ids y.id) at (eq-eqb y.id y.id refl)))
 
   -- the subscriber of a connection was made before
   pub subscriber-known : (key : ℕ) (c : Link) → get f.connections key ≡ Some c → c.home.subscriber < f.next_port
-  subscriber-known key c at = by (sound.linked.ends key c at) where
+  subscriber-known key c at = by (sound.parts.linked.ends key c at) where
     by : SenderHas f.publishers key c ⊎ ReceiverHas f.subscribers key c → c.home.subscriber < f.next_port
     by (inl has) =
         let x = has.publisher in

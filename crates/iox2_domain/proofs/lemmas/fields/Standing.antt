@@ -89,10 +89,10 @@ module _ {T U : Type 0} (f : Fields T U) (sound : IsDomain f) where
 
   -- of one id there is one port
   pub one-publisher : (j k : ℕ) (y z : PublisherFields) → get_or f.publishers j None ≡ Some y → get_or f.publishers k None ≡ Some z → y.id ≡ z.id → j ≡ k
-  one-publisher j k y z at_y at_z same = (sound.publisher_ids z.id).one j k y z at_y at_z (eq-eqb y.id z.id same) (eq-eqb z.id z.id refl)
+  one-publisher j k y z at_y at_z same = (sound.parts.publisher_ids z.id).one j k y z at_y at_z (eq-eqb y.id z.id same) (eq-eqb z.id z.id refl)
 
   pub one-subscriber : (j k : ℕ) (y z : SubscriberFields) → get_or f.subscribers j None ≡ Some y → get_or f.subscribers k None ≡ Some z → y.id ≡ z.id → j ≡ k
-  one-subscriber j k y z at_y at_z same = (sound.subscriber_ids z.id).one j k y z at_y at_z (eq-eqb y.id z.id same) (eq-eqb z.id z.id refl)
+  one-subscriber j k y z at_y at_z same = (sound.parts.subscriber_ids z.id).one j k y z at_y at_z (eq-eqb y.id z.id same) (eq-eqb z.id z.id refl)
 
   -- a subscriber has some room for messages
   pub some-buffer : (j : ℕ) (y : SubscriberFields) → get_or f.subscribers j None ≡ Some y → 0 < y.buffer
@@ -120,7 +120,7 @@ module _ {T U : Type 0} (f : Fields T U) (sound : IsDomain f) where
     -- the publisher's connection, where it leads to this subscriber
     pub sender-joined : (key : ℕ) (c : Link) → get_or x.keys j None ≡ Some key → get f.connections key ≡ Some c → c.home.subscriber ≡ y.id → Joins key c
     sender-joined key c has at to =
-        let own = some_is (IsSenders x.id j) (get f.connections key) ((sound.linked.senders i x at_x).at j key has) in
+        let own = some_is (IsSenders x.id j) (get f.connections key) ((sound.parts.linked.senders i x at_x).at j key has) in
         let both : Some own.0 ≡ Some c = sym own.1 ∙ at in
         let is : own.0 ≡ c = cc in
         let its : IsSenders x.id j c = subst (IsSenders x.id j) is own.2 in
@@ -128,17 +128,17 @@ module _ {T U : Type 0} (f : Fields T U) (sound : IsDomain f) where
           stands = at;
           publisher = its.publisher;
           subscriber = to;
-          publisher_place = sym (sound.linked.knows_publishers key i c x at at_x (sym its.publisher));
+          publisher_place = sym (sound.parts.linked.knows_publishers key i c x at at_x (sym its.publisher));
           subscriber_place = its.place;
         }
 
     known-place : (key : ℕ) (c : Link) → get f.connections key ≡ Some c → c.home.subscriber ≡ y.id → c.home.subscriber_place ≡ j
-    known-place key c at to = sym (sound.linked.knows.at key j c (details_of y) at (map-at details_of f.subscribers j ∙ ap (option_map details_of) at_y) (sym to)).0
+    known-place key c at to = sym (sound.parts.linked.knows.at key j c (details_of y) at (map-at details_of f.subscribers j ∙ ap (option_map details_of) at_y) (sym to)).0
 
     -- the subscriber's connection, where it comes from this publisher
     pub receiver-joined : (key : ℕ) (c : Link) → get_or y.keys i None ≡ Some key → get f.connections key ≡ Some c → c.home.publisher ≡ x.id → Joins key c
     receiver-joined key c has at from =
-        let own = some_is (IsReceivers y.id (f.config).subscriber_max_borrowed_samples) (get f.connections key) ((sound.linked.receivers j y at_y).at i key has) in
+        let own = some_is (IsReceivers y.id (f.config).subscriber_max_borrowed_samples) (get f.connections key) ((sound.parts.linked.receivers j y at_y).at i key has) in
         let both : Some own.0 ≡ Some c = sym own.1 ∙ at in
         let is : own.0 ≡ c = cc in
         let its : c.home.subscriber ≡ y.id = sym (ap (λ (d : Link). d.home.subscriber) is) ∙ own.2.subscriber in
@@ -146,7 +146,7 @@ module _ {T U : Type 0} (f : Fields T U) (sound : IsDomain f) where
           stands = at;
           publisher = from;
           subscriber = its;
-          publisher_place = sound.linked.receiver_places j i key y c at_y has at;
+          publisher_place = sound.parts.linked.receiver_places j i key y c at_y has at;
           subscriber_place = known-place key c at its;
         }
 
@@ -177,7 +177,7 @@ module _ {T U : Type 0} (f : Fields T U) (sound : IsDomain f) where
           none-some key
           (sym none_x ∙ ap (λ (z : PublisherFields). get_or z.keys j None) (sym is) ∙ ap (λ (n : ℕ). get_or has.publisher.keys n None) (sym (known-place key c at q)) ∙ has.has)
       ends key c at p q (inr has) =
-          let place : c.home.publisher_place ≡ i = sym (sound.linked.knows_publishers key i c x at at_x (sym p)) in
+          let place : c.home.publisher_place ≡ i = sym (sound.parts.linked.knows_publishers key i c x at at_x (sym p)) in
           let is : has.subscriber ≡ y = same-subscriber c.home.subscriber_place has.subscriber has.stands (known-place key c at q) in
           kept has.has is place
         where
@@ -191,11 +191,11 @@ module _ {T U : Type 0} (f : Fields T U) (sound : IsDomain f) where
       by : (key : ℕ) (c : Link) → get f.connections key ≡ Some c → (b : Bool) → is_between x.id y.id c ≡ b → b ≡ false
       by key c at true e =
           let parts = parts_of_and _ _ e in
-          absurd (ends key c at (eqb-true c.home.publisher x.id parts.0) (eqb-true c.home.subscriber y.id parts.1) (sound.linked.ends key c at))
+          absurd (ends key c at (eqb-true c.home.publisher x.id parts.0) (eqb-true c.home.subscriber y.id parts.1) (sound.parts.linked.ends key c at))
       by key c at false e = refl
 
     -- there is room for the key of a connection that the subscriber has
     pub joined-room : (key : ℕ) (c : Link) → get_or y.keys i None ≡ Some key → get f.connections key ≡ Some c → c.home.publisher ≡ x.id → j < x.key_room
     joined-room key c has at from =
         let joined = receiver-joined key c has at from in
-        subst (λ (n : ℕ). n < x.key_room) joined.subscriber_place (sound.linked.sender_rooms key i c x at at_x (sym from))
+        subst (λ (n : ℕ). n < x.key_room) joined.subscriber_place (sound.parts.linked.sender_rooms key i c x at at_x (sym from))

@@ -117,7 +117,7 @@ pub record ChangesTo {T U : Type 0} (publisher n : ℕ) (header : Header) (conte
 
 module _ {T U : Type 0} (f : Fields T U) (sound : IsDomain f) (p n key slot : ℕ) (at : LiesInSlot f p n key slot) where
   shape : HasShape f.config (Lent_message n at.loan)
-  shape = sound.shapes.at key slot at.book (Lent_message n at.loan) at.stands at.lies
+  shape = sound.parts.shapes.at key slot at.book (Lent_message n at.loan) at.stands at.lies
 
   -- the loan has one cell where each message is a single value
   pub one-cell : (f.config).variant ≡ FixedSize → (f.config).units_per_element ≡ 1 → length (at.loan).cells ≡ 1
@@ -156,7 +156,7 @@ module _ {T U : Type 0} (f : Fields T U) (sound : IsDomain f) (p n key slot : �
 
       loan-was : message_numbered n (kept_of f).books ≡ Some (Lent_message n at.loan)
       loan-was =
-          message_numbered-found f.contents f.books f.next_message sound.numbered n key slot (Lent_message n at.loan)
+          message_numbered-found f.contents f.books f.next_message sound.parts.numbered n key slot (Lent_message n at.loan)
           (message_at-slot f.contents f.books key slot at.book at.stands ∙ at.lies) (eq-eqb n n refl)
 
       others-were : (k : ℕ) → k ≢ n → message_numbered k (kept_of with_change).books ≡ message_numbered k (kept_of f).books
@@ -213,7 +213,7 @@ module _ {T U : Type 0} (f : Fields T U) (sound : IsDomain f) (p n key slot : �
         before : (k s : ℕ) (m : KeptMessage T U) → ((k ≡ key) × (s ≡ slot) → ⊥) → lies_at with_change k s ≡ Some m → HasShape f.config m
         before k s m away found =
             let was = message_at-book f.contents f.books k s m (sym (others-lie f sound key slot at.book at.stands cs at_c mark g k s away) ∙ found) in
-            sound.shapes.at k s was.0 m was.1 was.2
+            sound.parts.shapes.at k s was.0 m was.1 was.2
 
       change-keeps_entries : KeepsEntries (kept_of with_change)
       change-keeps_entries p' k there =
@@ -226,26 +226,26 @@ module _ {T U : Type 0} (f : Fields T U) (sound : IsDomain f) (p n key slot : �
       -- the invariant is kept
       pub change-agrees : IsDomain with_change
       change-agrees = record {
-        publisher_ids = sound.publisher_ids;
-        subscriber_ids = sound.subscriber_ids;
-        apart = sound.apart;
+        publisher_ids = sound.parts.publisher_ids;
+        subscriber_ids = sound.parts.subscriber_ids;
+        apart = sound.parts.apart;
         linked = linked;
-        expired_room = sound.expired_room;
+        expired_room = sound.parts.expired_room;
         books = slot-books f sound key slot at.book at.stands cs at_c mark g change.room;
         names = names-books f.books _ f.connections
             (book-after f key at.book (marked f sound key slot at.book at.stands cs at_c mark g) at.stands
-            (marked-keeps f sound key slot at.book at.stands cs at_c mark g)) sound.names;
+            (marked-keeps f sound key slot at.book at.stands cs at_c mark g)) sound.parts.names;
         kept_books = kept-used f.next_port f.publishers f.books key at.book (marked f sound key slot at.book at.stands cs at_c mark g) at.stands refl refl sound.kept_books;
         counted = slot-counted f sound key slot at.book at.stands cs at_c mark g (lent mark change.is) (at.loan_slot).lent;
         numbered = slot-numbered f sound key slot at.book at.stands cs at_c mark g;
         lone = lone-marked f.books key slot n at.book mark at.stands sound.lone at.loan_slot;
-        publisher_room = sound.publisher_room;
-        warning_room = sound.warning_room;
+        publisher_room = sound.parts.publisher_room;
+        warning_room = sound.parts.warning_room;
         shapes = change-shapes;
-        forms = slot-forms f sound key slot at.book at.stands cs at_c mark g change.form sound.forms;
-        supported = sound.supported;
-        plain = sound.plain;
-        plain_subscribers = sound.plain_subscribers;
+        forms = slot-forms f sound key slot at.book at.stands cs at_c mark g change.form sound.parts.forms;
+        supported = sound.parts.supported;
+        plain = sound.parts.plain;
+        plain_subscribers = sound.parts.plain_subscribers;
         well_formed = rw change-is (with_loan_keeps state sound.well_formed n at.loan at.is_out changed (change.loan).publisher (change.loan).header (change.loan).cells (change.loan).complete);
         entries = change-keeps_entries;
       } where
@@ -257,17 +257,17 @@ module _ {T U : Type 0} (f : Fields T U) (sound : IsDomain f) (p n key slot : �
 
         linked : IsLinked with_change
         linked = record {
-          senders = sound.linked.senders;
-          receivers = sound.linked.receivers;
-          expired = sound.linked.expired;
-          ends = sound.linked.ends;
-          receiver_places = sound.linked.receiver_places;
-          knows = sound.linked.knows;
-          knows_publishers = sound.linked.knows_publishers;
-          sender_rooms = sound.linked.sender_rooms;
-          receiver_rooms = sound.linked.receiver_rooms;
-          limits = sound.linked.limits;
-          returned = sound.linked.returned;
+          senders = sound.parts.linked.senders;
+          receivers = sound.parts.linked.receivers;
+          expired = sound.parts.linked.expired;
+          ends = sound.parts.linked.ends;
+          receiver_places = sound.parts.linked.receiver_places;
+          knows = sound.parts.linked.knows;
+          knows_publishers = sound.parts.linked.knows_publishers;
+          sender_rooms = sound.parts.linked.sender_rooms;
+          receiver_rooms = sound.parts.linked.receiver_rooms;
+          limits = sound.parts.linked.limits;
+          returned = sound.parts.linked.returned;
         }
 
       -- the step
@@ -290,7 +290,7 @@ module _ {T U : Type 0} (f : Fields T U) (sound : IsDomain f) (p n key slot : �
           by : (o : Option (KeptMessage T U)) → lies_at f k s ≡ o → o ≡ change-message o
           by None e = refl
           by (Some m) e = ap Some (sym (other-message m (false_from_ne_true (is_numbered n m) (λ yes.
-              away (sound.numbered.one k key s slot n (has_number f.contents f.books k s n m e yes)
+              away (sound.parts.numbered.one k key s slot n (has_number f.contents f.books k s n m e yes)
               (has_number f.contents f.books key slot n (Lent_message n at.loan) (message_at-slot f.contents f.books key slot at.book at.stands ∙ at.lies) (eq-eqb n n refl)))))))
 
         -- in the slot lies the changed loan

@@ -144,7 +144,7 @@ module _ {T U : Type 0} (f : Fields T U) (sound : IsDomain f) (i : ℕ) (x : Pub
     history = map-numbers f sound books_after keeps x.id (x.history).items (λ k e. rw (holders-are f sound i x at k) (history-in_use f sound i x at k e))
 
     blocked : ((publisher_of books_after f.connections lender).port).blocked ≡ machine.blocked
-    blocked = nothing-blocked _ _ x.blocked (sound.plain i x at).unblocked
+    blocked = nothing-blocked _ _ x.blocked (sound.parts.plain i x at).unblocked
 
   -- the state before the publisher has the loan
   pub taken-is : state_of (kept_of (with_taken f sound x slot can user_header len)) ≡ record state {
@@ -158,7 +158,7 @@ module _ {T U : Type 0} (f : Fields T U) (sound : IsDomain f) (i : ℕ) (x : Pub
   -- the machine's step
   pub granted-is : state_of (kept_of with_granted) ≡ loan_granted user_header state x.id machine len machine.segments
   granted-is =
-      changed-is (with_taken f sound x slot can user_header len) i x lender at refl sound.publisher_ids
+      changed-is (with_taken f sound x slot can user_header len) i x lender at refl sound.parts.publisher_ids
       ∙ ap (λ (s : State T U). record s { publishers = put_at s.publishers x.id (Some ((publisher_of books_after f.connections lender).port)) }) taken-is
       ∙ ap (λ (y : Publisher). record state {
         next_message = f.next_message + 1;

@@ -123,7 +123,7 @@ module _ {T U : Type 0} (f : Fields T U) (sound : IsDomain f) (i : ℕ) (x : Pub
     one_each = taken-one_each f sound x slot can user_header len;
     books = λ key b there. elim (cases_eq key x.book) [
       | inr away ↦ subst (λ (o : Option (List (ContentState T U))). IsBook b o) (sym (others-have f sound x slot can user_header len key away))
-          (sound.books.books key b (sym (others-stand f sound x slot can user_header len key away) ∙ there))
+          (sound.parts.books.books key b (sym (others-stand f sound x slot can user_header len key away) ∙ there))
       | inl here ↦
           let found : Some new_book ≡ Some b = sym (taken-stands f sound x slot can user_header len) ∙ sym (ap (get (taken_books f sound x slot can user_header len)) here) ∙ there in
           let is : new_book ≡ b = cc in
@@ -132,9 +132,9 @@ module _ {T U : Type 0} (f : Fields T U) (sound : IsDomain f) (i : ℕ) (x : Pub
           subst (λ (z : Book). IsBook z (get_or (begun_contents f sound x slot can user_header len) key None)) is
           (subst (λ (o : Option (List (ContentState T U))). IsBook new_book o) (sym has) new_is_book)
     ];
-    publishers = λ k z there. book-still z (sound.books.publishers k z there);
+    publishers = λ k z there. book-still z (sound.parts.books.publishers k z there);
     no_others = λ key none. elim (cases_eq key x.book) [
-      | inr away ↦ others-have f sound x slot can user_header len key away ∙ sound.books.no_others key (sym (others-stand f sound x slot can user_header len key away) ∙ none)
+      | inr away ↦ others-have f sound x slot can user_header len key away ∙ sound.parts.books.no_others key (sym (others-stand f sound x slot can user_header len key away) ∙ none)
       | inl here ↦
           let clash : Some new_book ≡ None = sym (taken-stands f sound x slot can user_header len) ∙ sym (ap (get (taken_books f sound x slot can user_header len)) here) ∙ none in
           absurd cc
@@ -175,7 +175,7 @@ module _ {T U : Type 0} (f : Fields T U) (sound : IsDomain f) (i : ℕ) (x : Pub
     found-lender : (p : ℕ) (t : Bool) → eqb x.id p ≡ t
         → look_up (is_publisher p) granted.publishers ≡ cond t (Some new_lender) (look_up (is_publisher p) f.publishers)
     found-lender p t e =
-        look_up-publisher mid i x new_lender at refl sound.publisher_ids p
+        look_up-publisher mid i x new_lender at refl sound.parts.publisher_ids p
         ∙ ap (λ b. cond b (Some new_lender) (look_up (is_publisher p) f.publishers)) e
 
     counted-here : (k : ℕ) → holders_at new_book k ≡ times k (x.loans ++ slot ∷ []) + times k (x.history).items + sum_by (stands x.id k) f.connections.slots
@@ -202,7 +202,7 @@ module _ {T U : Type 0} (f : Fields T U) (sound : IsDomain f) (i : ℕ) (x : Pub
         (sym (ap (own (look_up (is_book_of p) (taken_books f sound x slot can user_header len).slots) k) (found-lender p true e)))
     by p k false e =
         ap (holders_in k) (found-book p false e)
-        ∙ sound.counted.at p k
+        ∙ sound.parts.counted.at p k
         ∙ ap (λ n. n + sum_by (stands p k) f.connections.slots)
         (sym (ap (own (look_up (is_book_of p) (taken_books f sound x slot can user_header len).slots) k) (found-lender p false e)
         ∙ ap (λ o. own o k (look_up (is_publisher p) f.publishers)) (found-book p false e)))
@@ -230,7 +230,7 @@ module _ {T U : Type 0} (f : Fields T U) (sound : IsDomain f) (i : ℕ) (x : Pub
     before : (key k : ℕ) (m : KeptMessage T U) → ((key ≡ x.book) × (k ≡ slot) → ⊥) → lies_at mid key k ≡ Some m → HasShape f.config m
     before key k m away found =
         let was = message_at-book f.contents f.books key k m (sym (others-lie f sound x slot can user_header len key k away) ∙ found) in
-        sound.shapes.at key k was.0 m was.1 was.2
+        sound.parts.shapes.at key k was.0 m was.1 was.2
 
   taken-keeps_entries : KeepsEntries (kept_of mid)
   taken-keeps_entries p n there =
@@ -254,52 +254,52 @@ module _ {T U : Type 0} (f : Fields T U) (sound : IsDomain f) (i : ℕ) (x : Pub
         let low : slot < length (has.book).holders = rw same can.within in
         let free : holders_at has.book slot ≡ 0 = rw same can.free in
         let fewer = size-free f sound i x at slot low free in
-        let long : length (has.book).holders ≡ x.slots = has.no_more (rw (sound.plain i x at).allocation refl) in
+        let long : length (has.book).holders ≡ x.slots = has.no_more (rw (sound.parts.plain i x at).allocation refl) in
         omega arith
 
     granted-well_formed : IsWellFormed (loan_granted user_header state x.id machine len machine.segments)
     granted-well_formed =
         grant_loan_keeps ample_memory user_header false len state x.id (loan_granted user_header state x.id machine len machine.segments) None sound.well_formed
-        (lends-granted ample_memory user_header state x.id machine (publisher-stands f sound i x at) false len refl few_numbers (sound.plain i x at).allocation some_free more)
+        (lends-granted ample_memory user_header state x.id machine (publisher-stands f sound i x at) false len refl few_numbers (sound.parts.plain i x at).allocation some_free more)
 
     -- the invariant is kept
     pub granted-agrees : IsDomain granted
     granted-agrees = record {
-      publisher_ids = changed-ids_apart mid i x new_lender at refl sound.publisher_ids;
-      subscriber_ids = sound.subscriber_ids;
-      apart = sound.apart;
+      publisher_ids = changed-ids_apart mid i x new_lender at refl sound.parts.publisher_ids;
+      subscriber_ids = sound.parts.subscriber_ids;
+      apart = sound.parts.apart;
       linked = changed-linked_same mid i x new_lender at refl linked keeps.key_room refl;
-      expired_room = sound.expired_room;
+      expired_room = sound.parts.expired_room;
       books = changed-books mid i x new_lender at refl taken-books keeps;
-      names = names-books f.books _ f.connections (taken-after f sound x slot can user_header len) sound.names;
+      names = names-books f.books _ f.connections (taken-after f sound x slot can user_header len) sound.parts.names;
       kept_books = changed-kept_books mid i x new_lender at refl (taken_books f sound x slot can user_header len) refl
           (kept-own f.next_port f.publishers f.books x.book can.book new_book can.stands refl (subst (IsOwned f.publishers x.book) (sym can.its) (book-owned f (parts_of f sound) i x at)) sound.kept_books);
       counted = granted-counted;
       numbered = taken-numbered f sound x slot can user_header len;
       lone = taken-lone f sound x slot can user_header len;
-      publisher_room = changed-room mid i x new_lender at refl sound.publisher_room keeps;
-      warning_room = sound.warning_room;
+      publisher_room = changed-room mid i x new_lender at refl sound.parts.publisher_room keeps;
+      warning_room = sound.parts.warning_room;
       shapes = granted-shapes;
-      forms = forms-changed f.config f.contents x.book slot can.contents can.has (unwritten_content user_header (len * (f.config).units_per_element)) (λ c. refl) sound.forms;
-      supported = sound.supported;
-      plain = changed-plain mid i x new_lender at refl sound.plain keeps;
-      plain_subscribers = sound.plain_subscribers;
+      forms = forms-changed f.config f.contents x.book slot can.contents can.has (unwritten_content user_header (len * (f.config).units_per_element)) (λ c. refl) sound.parts.forms;
+      supported = sound.parts.supported;
+      plain = changed-plain mid i x new_lender at refl sound.parts.plain keeps;
+      plain_subscribers = sound.parts.plain_subscribers;
       well_formed = rw (granted-is f sound i x at slot can user_header len) granted-well_formed;
-      entries = changed-entries mid i x new_lender at refl sound.publisher_ids taken-keeps_entries refl refl;
+      entries = changed-entries mid i x new_lender at refl sound.parts.publisher_ids taken-keeps_entries refl refl;
     } where
       linked : IsLinked mid
       linked = record {
-        senders = sound.linked.senders;
-        receivers = sound.linked.receivers;
-        expired = sound.linked.expired;
-        ends = sound.linked.ends;
-        receiver_places = sound.linked.receiver_places;
-        knows = sound.linked.knows;
-        knows_publishers = sound.linked.knows_publishers;
-        sender_rooms = sound.linked.sender_rooms;
-        receiver_rooms = sound.linked.receiver_rooms;
-        limits = sound.linked.limits;
-        returned = sound.linked.returned;
+        senders = sound.parts.linked.senders;
+        receivers = sound.parts.linked.receivers;
+        expired = sound.parts.linked.expired;
+        ends = sound.parts.linked.ends;
+        receiver_places = sound.parts.linked.receiver_places;
+        knows = sound.parts.linked.knows;
+        knows_publishers = sound.parts.linked.knows_publishers;
+        sender_rooms = sound.parts.linked.sender_rooms;
+        receiver_rooms = sound.parts.linked.receiver_rooms;
+        limits = sound.parts.linked.limits;
+        returned = sound.parts.linked.returned;
       }
 
     -- the loan's step

@@ -27,7 +27,7 @@ use Rattle.iox2_domain.proofs.lemmas.slots.SlotRoom.{slot-fits}
 module _ {T U : Type 0} (f : Fields T U) (sound : IsDomain f) (i : ℕ) (x : PublisherFields) (at : get_or f.publishers i None ≡ Some x) where
   -- its book has contents
   pub contents-of : (b : Book) → get f.books x.book ≡ Some b → (cs : List (ContentState T U)) × (get_or f.contents x.book None ≡ Some cs) × (length cs ≡ length b.holders)
-  contents-of b stands = by (get_or f.contents x.book None) refl (sound.books.books x.book b stands) where
+  contents-of b stands = by (get_or f.contents x.book None) refl (sound.parts.books.books x.book b stands) where
     by : (o : Option (List (ContentState T U))) → get_or f.contents x.book None ≡ o → IsBook b o
         → (cs : List (ContentState T U)) × (get_or f.contents x.book None ≡ Some cs) × (length cs ≡ length b.holders)
     by None e is = absurd is.shaped
@@ -35,7 +35,7 @@ module _ {T U : Type 0} (f : Fields T U) (sound : IsDomain f) (i : ℕ) (x : Pub
 
   pub contents-within : x.book < length f.contents
   contents-within =
-      let has : HasBook f x = sound.books.publishers i x at in
+      let has : HasBook f x = sound.parts.books.publishers i x at in
       let found = contents-of has.book has.stands in
       within_if_some f.contents x.book found.0 found.1
 
@@ -46,7 +46,7 @@ module _ {T U : Type 0} (f : Fields T U) (sound : IsDomain f) (i : ℕ) (x : Pub
   length-fits len short b stands slot low o read =
       let found = contents-of b stands in
       let is : get_or f.contents x.book None ≡ o = read-there f.contents x.book found.0 o found.1 read in
-      let has : HasBook f x = sound.books.publishers i x at in
+      let has : HasBook f x = sound.parts.books.publishers i x at in
       let some = slice_get-some found.0 slot (let e = found.2 in omega arith) in
       let room : All (λ content. x.initial_max_slice_len * (f.config).units_per_element ≤ content.room) found.0 =
       subst (λ (o : Option (List (ContentState T U))). IsSomeAnd o (All (λ content. x.initial_max_slice_len * (f.config).units_per_element ≤ content.room))) found.1 has.room in
@@ -69,25 +69,25 @@ module _ {T U : Type 0} (f : Fields T U) (sound : IsDomain f) (i : ℕ) (x : Pub
       by true e =
           let short : (checks && is_static x.allocation && nat_lt x.initial_max_slice_len len) ≡ false =
           subst (λ (z : PublisherFields). (checks && is_static z.allocation && nat_lt z.initial_max_slice_len len) ≡ false) is-lender can.short in
-          let static : is_static x.allocation ≡ true = ap is_static (sound.plain i x at).allocation in
+          let static : is_static x.allocation ≡ true = ap is_static (sound.parts.plain i x at).allocation in
           let no : nat_lt x.initial_max_slice_len len ≡ false =
           sym (ap (λ (b : Bool). b && is_static x.allocation && nat_lt x.initial_max_slice_len len) e ∙ ap (λ (b : Bool). b && nat_lt x.initial_max_slice_len len) static) ∙ short in
           ltb-false x.initial_max_slice_len len no
       by false e =
           let fixed : (f.config).variant ≡ FixedSize = unchecked e in
-          let single : x.initial_max_slice_len ≡ 1 = (sound.publisher_room i x at).single fixed in
+          let single : x.initial_max_slice_len ≡ 1 = (sound.parts.publisher_room i x at).single fixed in
           let its : len ≡ 1 = one fixed in
           omega (arith, single, its)
 
     -- so many elements fit a machine word
     pub lent-fits : len ≤ x.initial_max_slice_len → len * (f.config).units_per_element < 2 ^ 64
     lent-fits short =
-        let has : HasBook f x = sound.books.publishers i x at in
+        let has : HasBook f x = sound.parts.books.publishers i x at in
         let found : Some can.book ≡ Some has.book = sym can.its ∙ ap (λ (z : PublisherFields). get f.books z.book) is-lender ∙ has.stands in
         let same : can.book ≡ has.book = cc in
-        let count : length (can.book).holders ≡ x.slots = ap (λ (b : Book). length b.holders) same ∙ has.no_more (ap is_static (sound.plain i x at).allocation) in
+        let count : length (can.book).holders ≡ x.slots = ap (λ (b : Book). length b.holders) same ∙ has.no_more (ap is_static (sound.parts.plain i x at).allocation) in
         let some : 0 < length (can.book).holders = not-none (can.book).holders can.some_free in
-        let low : x.initial_max_slice_len * (f.config).units_per_element < 2 ^ 64 = slot-fits f.config x.slots x.initial_max_slice_len (sound.publisher_room i x at).size (omega (arith, count, some)) in
+        let low : x.initial_max_slice_len * (f.config).units_per_element < 2 ^ 64 = slot-fits f.config x.slots x.initial_max_slice_len (sound.parts.publisher_room i x at).size (omega (arith, count, some)) in
         let less : len * (f.config).units_per_element ≤ x.initial_max_slice_len * (f.config).units_per_element = mul-le-mul_right (f.config).units_per_element short in
         omega (arith, low, less)
       where
@@ -101,7 +101,7 @@ module _ {T U : Type 0} (f : Fields T U) (sound : IsDomain f) (i : ℕ) (x : Pub
       let found : Some can.publisher ≡ Some x = sym can.stands ∙ at in
       let same : can.publisher ≡ x = cc in
       let few : length x.loans < x.max_loaned_samples = subst (λ (z : PublisherFields). length z.loans < z.max_loaned_samples) same can.few in
-      let room = (sound.publisher_room i x at).loans in
+      let room = (sound.parts.publisher_room i x at).loans in
       omega arith
 
   -- the steps together are a loan

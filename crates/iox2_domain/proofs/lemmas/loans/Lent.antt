@@ -81,7 +81,7 @@ module _ {T U : Type 0} (f : Fields T U) (sound : IsDomain f) (i : ℕ) (x : Pub
   slots-are : (b : Book) → get f.books x.book ≡ Some b → length b.holders ≡ x.slots
   slots-are b stands =
       ap (λ (c : Book). length c.holders) (sym (its-book b stands))
-      ∙ (its_book f sound i x at).no_more (ap is_static (sound.plain i x at).allocation)
+      ∙ (its_book f sound i x at).no_more (ap is_static (sound.parts.plain i x at).allocation)
 
   module _ (short : is_too_long ≡ false) (few : length x.loans < x.max_loaned_samples) (b : Book) (stands : get f.books x.book ≡ Some b) where
     few_numbers : length machine.loans < machine.max_loaned_samples
@@ -90,7 +90,7 @@ module _ {T U : Type 0} (f : Fields T U) (sound : IsDomain f) (i : ℕ) (x : Pub
     -- each slot has a holder
     pub full : HasReclaimed f.connections x.keys → (user_header : U) → All (λ n. 0 < n) b.holders → GrantLoan ample_memory user_header checks len state x.id state (Some OutOfMemory)
     full reclaimed user_header all =
-        lends-full ample_memory user_header state x.id machine here checks len short few_numbers (sound.plain i x at).allocation
+        lends-full ample_memory user_header state x.id machine here checks len short few_numbers (sound.parts.plain i x at).allocation
         (size-full f sound i x at reclaimed (subst (λ (c : Book). All (λ n. 0 < n) c.holders) (sym (its-book b stands)) all)
         ∙ ap (λ (c : Book). length c.holders) (its-book b stands) ∙ slots-are b stands)
 
@@ -108,7 +108,7 @@ module _ {T U : Type 0} (f : Fields T U) (sound : IsDomain f) (i : ℕ) (x : Pub
         → GrantLoan ample_memory user_header checks len state x.id state (Some InternalFailure)
     failed user_header not_all last =
         let free = some_slot b.holders not_all in
-        lends-failed ample_memory user_header state x.id machine here checks len short few_numbers (sound.plain i x at).allocation (some_room free.0 free.1 free.2) last
+        lends-failed ample_memory user_header state x.id machine here checks len short few_numbers (sound.parts.plain i x at).allocation (some_room free.0 free.1 free.2) last
 
   -- ---- what is decided
 
@@ -148,7 +148,7 @@ module _ {T U : Type 0} (f : Fields T U) (sound : IsDomain f) (i : ℕ) (x : Pub
       stands = lends.stood;
       its = book-own f (parts_of f sound) i x at lends.book lends.stood;
       has = lends.starts.had;
-      aligned = (sound.books.books x.book lends.book lends.stood).aligned;
+      aligned = (sound.parts.books.books x.book lends.book lends.stood).aligned;
       shaped = let same : Some found.0 ≡ Some lends.starts.contents = sym found.1 ∙ lends.starts.had in
           let is : found.0 ≡ lends.starts.contents = cc in
           ap (length {A = ContentState T U}) (sym is) ∙ found.2;
@@ -173,7 +173,7 @@ module _ {T U : Type 0} (f : Fields T U) (sound : IsDomain f) (i : ℕ) (x : Pub
 
     pub lent-grants : GrantLoan ample_memory user_header checks len state x.id (loan_granted user_header state x.id machine len machine.segments) None
     lent-grants =
-        lends-granted ample_memory user_header state x.id machine here checks len short (few_numbers short few lends.book lends.stood) (sound.plain i x at).allocation
+        lends-granted ample_memory user_header state x.id machine here checks len short (few_numbers short few lends.book lends.stood) (sound.parts.plain i x at).allocation
         (some_room short few lends.book lends.stood slot lends.within lends.free) more
 
     -- the loan lies in the slot

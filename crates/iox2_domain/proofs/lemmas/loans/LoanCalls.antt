@@ -41,7 +41,7 @@ one-element (y ∷ z ∷ xs) x one at = absurd (omega arith)
 module _ {T U : Type 0} (f : Fields T U) (sound : IsDomain f) (key : ℕ) (b : Book) (at_b : get f.books key ≡ Some b) where
   -- a book has contents
   pub contents-there : (cs : List (ContentState T U)) × (get_or f.contents key None ≡ Some cs)
-  contents-there = by (get_or f.contents key None) refl (sound.books.books key b at_b).shaped where
+  contents-there = by (get_or f.contents key None) refl (sound.parts.books.books key b at_b).shaped where
     by : (o : Option (List (ContentState T U))) → get_or f.contents key None ≡ o → IsSomeAnd o (λ cs. length cs ≡ length b.holders)
         → (cs : List (ContentState T U)) × (get_or f.contents key None ≡ Some cs)
     by None e has = absurd has
@@ -92,7 +92,7 @@ module _ {T U : Type 0} (f : Fields T U) (sound : IsDomain f) (p n key slot : �
     pub in-lists : is_single_valued f.config ≡ false → (parts.content).is_in_place ≡ false
     in-lists several =
         subst (λ (c : ContentState T U). c.is_in_place ≡ false) (get_or_from_slice_get cs slot parts.content parts.content parts.contains)
-        (sound.forms.at several key cs at_c slot parts.content (slice_get_within cs slot parts.content parts.contains))
+        (sound.parts.forms.at several key cs at_c slot parts.content (slice_get_within cs slot parts.content parts.contains))
 
     module _ (unwritten : (at.loan).is_written ≡ false) where
       pub cells : (at.loan).cells ≡ (parts.content).cells

@@ -85,18 +85,18 @@ module _ {T U : Type 0} (f : Fields T U) (sound : IsDomain f) where
   pub number-at : (key slot : ℕ) (b : Book) → get f.books key ≡ Some b → numbers_of f.books b.publisher slot ≡ slice_index b.numbers slot
   number-at key slot b stands =
       ap (λ o. option_map_or (λ (c : Book). slice_index c.numbers slot) o 0)
-      (look_up-found (is_book_of b.publisher) f.books.slots key b (sound.books.one_each b.publisher) stands (eq-eqb b.publisher b.publisher refl))
+      (look_up-found (is_book_of b.publisher) f.books.slots key b (sound.parts.books.one_each b.publisher) stands (eq-eqb b.publisher b.publisher refl))
 
   -- how many hold a slot of the book at the key
   pub holders-at : (key slot : ℕ) (b : Book) → get f.books key ≡ Some b → holders_of f.books b.publisher slot ≡ holders_at b slot
   holders-at key slot b stands =
       ap (λ o. option_map_or (λ (c : Book). holders_at c slot) o 0)
-      (look_up-found (is_book_of b.publisher) f.books.slots key b (sound.books.one_each b.publisher) stands (eq-eqb b.publisher b.publisher refl))
+      (look_up-found (is_book_of b.publisher) f.books.slots key b (sound.parts.books.one_each b.publisher) stands (eq-eqb b.publisher b.publisher refl))
 
   -- a publisher's book is its own
   pub book-its : (i : ℕ) (x : PublisherFields) (b : Book) → get_or f.publishers i None ≡ Some x → get f.books x.book ≡ Some b → b.publisher ≡ x.id
   book-its i x b at here =
-      let has = sound.books.publishers i x at in
+      let has = sound.parts.books.publishers i x at in
       let books : Some b ≡ Some has.book = sym here ∙ has.stands in
       let book : b ≡ has.book = cc in
       ap (λ (c : Book). c.publisher) book ∙ has.is_its
@@ -107,8 +107,8 @@ module _ {T U : Type 0} (f : Fields T U) (sound : IsDomain f) where
   loans-in_use i j x b at here its lt =
       let slot : ℕ = slice_index x.loans j in
       let some : 0 < times slot x.loans = times-some x.loans j lt in
-      let counted : holders_of f.books x.id slot ≡ own_holders f x.id slot + sum_by (stands x.id slot) f.connections.slots = sound.counted.at x.id slot in
-      let found : look_up (is_publisher x.id) f.publishers ≡ Some x = look_up-found (is_publisher x.id) f.publishers i x (sound.publisher_ids x.id) at (eq-eqb x.id x.id refl) in
+      let counted : holders_of f.books x.id slot ≡ own_holders f x.id slot + sum_by (stands x.id slot) f.connections.slots = sound.parts.counted.at x.id slot in
+      let found : look_up (is_publisher x.id) f.publishers ≡ Some x = look_up-found (is_publisher x.id) f.publishers i x (sound.parts.publisher_ids x.id) at (eq-eqb x.id x.id refl) in
       let own : own_holders f x.id slot ≡ times slot x.loans + times slot x.history.items =
       ap (λ o. option_map_or (λ (z : PublisherFields). times slot z.loans + times slot (z.history).items) o (option_map_or (λ c. cond (is_loan_in c slot) 1 0) (look_up (is_book_of x.id) f.books.slots) 0)) found in
       let same : holders_of f.books x.id slot ≡ holders_at b slot = ap (λ p. holders_of f.books p slot) (sym its) ∙ holders-at x.book slot b here in
@@ -140,7 +140,7 @@ module _ {T U : Type 0} (f : Fields T U) (sound : IsDomain f) where
       let there = mapped-there (numbers_of f.books x.id) x.loans n out in
       let slot : ℕ = slice_index x.loans there.0 in
       let number : slice_index b.numbers slot ≡ n = sym (number-at x.book slot b here) ∙ ap (λ p. numbers_of f.books p slot) its ∙ there.2 in
-      let same = sound.numbered.one lies.0 x.book lies.1 slot n
+      let same = sound.parts.numbered.one lies.0 x.book lies.1 slot n
       (record { book = lies.2; stands = lies.3; in_use = lies.5.in_use; number = lies.5.numbered })
       (record { book = b; stands = here; in_use = loans-in_use i there.0 x b at here its there.1; number = number }) in
       let books : Some lies.2 ≡ Some b = sym lies.3 ∙ ap (λ (key : ℕ). get f.books key) same.0 ∙ here in
@@ -150,7 +150,7 @@ module _ {T U : Type 0} (f : Fields T U) (sound : IsDomain f) where
   -- a slot of a book in which a loan lies
   pub lies-in-book : (key slot n : ℕ) (b : Book) → get f.books key ≡ Some b → IsLoanSlot b slot n → LiesInSlot f b.publisher n key slot
   lies-in-book key slot n b here is =
-      let found = held-message f.contents f.books key slot n (λ c at_c. sound.books.books key c at_c)
+      let found = held-message f.contents f.books key slot n (λ c at_c. sound.parts.books.books key c at_c)
       (record { book = b; stands = here; in_use = is.in_use; number = is.numbered }) in
       let lies : message_in b (contents_at f.contents key) slot ≡ Some found.0 = sym (message_at-slot f.contents f.books key slot b here) ∙ found.1 in
       let loan = lent-loan b (contents_at f.contents key) slot n found.0 (message_in-parts b (contents_at f.contents key) slot found.0 lies) is in
@@ -161,7 +161,7 @@ module _ {T U : Type 0} (f : Fields T U) (sound : IsDomain f) where
         loan_slot = is;
         loan = loan.0;
         lies = lies ∙ ap Some loan.1;
-        is_out = loan-found f sound.numbered key slot n loan.0 (found.1 ∙ ap Some loan.1);
+        is_out = loan-found f sound.parts.numbered key slot n loan.0 (found.1 ∙ ap Some loan.1);
       }
 
   -- a slot of a publisher that stands, in which a loan lies
@@ -173,7 +173,7 @@ module _ {T U : Type 0} (f : Fields T U) (sound : IsDomain f) where
   pub live-lies : (p n : ℕ) → HoldsLoan (state_of (kept_of f)) p n → (key slot : ℕ) (b : Book) → get f.books key ≡ Some b → IsUsedFor b n slot → LiesInSlot f p n key slot
   live-lies p n live key slot b at used =
       let lies = loan-lies p n live in
-      let same = sound.numbered.one lies.0 key lies.1 slot n
+      let same = sound.parts.numbered.one lies.0 key lies.1 slot n
       (record { book = lies.2; stands = lies.3; in_use = lies.5.in_use; number = lies.5.numbered })
       (record { book = b; stands = at; in_use = used.in_use; number = used.number_is }) in
       subst (λ (s : ℕ). LiesInSlot f p n key s) same.1
@@ -230,7 +230,7 @@ module _ {T U : Type 0} (f v : Fields T U) (view : v ≡ f) (place p : ℕ) (fou
     -- its book is there
     pub book-read : ContainsKey v.books w.book
     book-read =
-        let has = sound.books.publishers place w publisher-read.0 in
+        let has = sound.parts.books.publishers place w publisher-read.0 in
         ap is_some (ap (λ (g : Fields T U). get g.books w.book) view ∙ has.stands)
 
     module _ (n : ℕ) (b : Book) (at_b : get v.books w.book ≡ Some b) where

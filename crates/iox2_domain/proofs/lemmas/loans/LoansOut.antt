@@ -9,7 +9,7 @@ use Rattle.iox2_domain.specs.Fields.{Fields, kept_of, contents_at}
 use Rattle.iox2_domain.specs.LoanSlots.{LiesInSlot}
 use Rattle.iox2_domain.specs.declared.message_slots.MessageSlot.{MessageSlot}
 use Rattle.iox2_domain.proofs.lemmas.slots.Messages.{message_in-parts}
-use Rattle.iox2_domain.proofs.lemmas.slots.RecountedSound.{loan-publisher}
+use Rattle.iox2_domain.proofs.lemmas.slots.RecountedLoans.{loan-publisher}
 
 module _ {T U : Type 0} (f : Fields T U) (p n : ℕ) where
   -- a loan that lies in a slot is out

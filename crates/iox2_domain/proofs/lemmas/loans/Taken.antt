@@ -145,11 +145,11 @@ module _ {T U : Type 0} (f : Fields T U) (sound : IsDomain f) (x : PublisherFiel
   ]
 
   pub taken-one_each : (p : ℕ) → IsOnly (is_book_of p) taken_books.slots
-  taken-one_each p = IsOnly-set f.books.slots x.book can.book taken_book can.stands (is_book_of p) refl (sound.books.one_each p)
+  taken-one_each p = IsOnly-set f.books.slots x.book can.book taken_book can.stands (is_book_of p) refl (sound.parts.books.one_each p)
 
   -- the book of a publisher
   pub taken-found : (p : ℕ) → look_up (is_book_of p) taken_books.slots ≡ cond (eqb (can.book).publisher p) (Some taken_book) (look_up (is_book_of p) f.books.slots)
-  taken-found p = look_up-set f.books.slots x.book can.book taken_book can.stands (is_book_of p) refl (sound.books.one_each p)
+  taken-found p = look_up-set f.books.slots x.book can.book taken_book can.stands (is_book_of p) refl (sound.parts.books.one_each p)
 
   -- the slot has a holder now, and the others have those that they had
   pub taken-holders : (k : ℕ) → ((k ≡ slot) × (holders_at taken_book k ≡ 1)) ⊎ ((k ≢ slot) × (holders_at taken_book k ≡ holders_at can.book k))
@@ -173,7 +173,7 @@ module _ {T U : Type 0} (f : Fields T U) (sound : IsDomain f) (x : PublisherFiel
     by : (t : Bool) → eqb (can.book).publisher p ≡ t → number_in (cond t (Some taken_book) (look_up (is_book_of p) f.books.slots)) ≡ number_in (look_up (is_book_of p) f.books.slots)
     by false e = refl
     by true e =
-        let found : look_up (is_book_of p) f.books.slots ≡ Some can.book = look_up-found (is_book_of p) f.books.slots x.book can.book (sound.books.one_each p) can.stands e in
+        let found : look_up (is_book_of p) f.books.slots ≡ Some can.book = look_up-found (is_book_of p) f.books.slots x.book can.book (sound.parts.books.one_each p) can.stands e in
         let here : 0 < holders_at can.book k = subst (λ o. 0 < option_map_or (λ b. holders_at b k) o 0) found in_use in
         taken-number_others k (λ same. let none : holders_at can.book k ≡ 0 = ap (λ (j : ℕ). holders_at can.book j) same ∙ can.free in absurd (omega arith))
         ∙ sym (ap number_in found)
@@ -295,16 +295,16 @@ module _ {T U : Type 0} (f : Fields T U) (sound : IsDomain f) (x : PublisherFiel
     one = λ key key' k k' n here there. elim (number-was key k n here) [
       | inl new ↦ elim (number-was key' k' n there) [
         | inl new' ↦ (new.0 ∙ sym new'.0, new.1 ∙ sym new'.1)
-        | inr old' ↦ let low = sound.numbered.below key' k' n old' in let same = new.2 in absurd (omega arith)
+        | inr old' ↦ let low = sound.parts.numbered.below key' k' n old' in let same = new.2 in absurd (omega arith)
       ]
       | inr old ↦ elim (number-was key' k' n there) [
-        | inl new' ↦ let low = sound.numbered.below key k n old in let same = new'.2 in absurd (omega arith)
-        | inr old' ↦ sound.numbered.one key key' k k' n old old'
+        | inl new' ↦ let low = sound.parts.numbered.below key k n old in let same = new'.2 in absurd (omega arith)
+        | inr old' ↦ sound.parts.numbered.one key key' k k' n old old'
       ]
     ];
     below = λ key k n here. elim (number-was key k n here) [
       | inl new ↦ let same = new.2 in omega arith
-      | inr old ↦ let low = sound.numbered.below key k n old in omega arith
+      | inr old ↦ let low = sound.parts.numbered.below key k n old in omega arith
     ];
   }
 
@@ -329,7 +329,7 @@ module _ {T U : Type 0} (f : Fields T U) (sound : IsDomain f) (x : PublisherFiel
   next-none = message_numbered-nothing f.contents f.books f.next_message (λ key k m at. by key k m at (is_numbered f.next_message m) refl) where
     by : (key k : ℕ) (m : KeptMessage T U) → lies_at f key k ≡ Some m → (b : Bool) → is_numbered f.next_message m ≡ b → b ≡ false
     by key k m at false e = refl
-    by key k m at true e = let low = sound.numbered.below key k f.next_message (has_number f.contents f.books key k f.next_message m at e) in absurd (omega arith)
+    by key k m at true e = let low = sound.parts.numbered.below key k f.next_message (has_number f.contents f.books key k f.next_message m at e) in absurd (omega arith)
 
   -- all else is found as before
   others-found : (n : ℕ) → n ≢ f.next_message → message_numbered n (kept_of with_taken).books ≡ message_numbered n (kept_of f).books

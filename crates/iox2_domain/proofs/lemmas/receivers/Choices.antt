@@ -96,7 +96,7 @@ module _ {T U : Type 0} (f : Fields T U) (sound : IsDomain f) (j i : ℕ) (y : S
   -- what is borrowed of a connection
   pub borrows-are : (k : ℕ) (d : Link) → get f.connections k ≡ Some d → d.home.subscriber ≡ y.id → has_borrows ((state_of (kept_of f)).mailboxes d.home.publisher y.id) ≡ has_borrowed (get f.connections k)
   borrows-are k d at its =
-      ap has_borrows (mailboxes-are f d.home.publisher y.id ∙ mailbox-there (numbers_of f.books) f.connections k d.home.publisher y.id d sound.apart at refl its)
+      ap has_borrows (mailboxes-are f d.home.publisher y.id ∙ mailbox-there (numbers_of f.books) f.connections k d.home.publisher y.id d sound.parts.apart at refl its)
       ∙ some-borrowed (numbers_of f.books d.home.publisher) d ∙ sym (ap has_borrowed at)
 
   abbrev Each : List ℕ → Type 0

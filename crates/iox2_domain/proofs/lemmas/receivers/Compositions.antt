@@ -20,7 +20,7 @@ use Rattle.iox2_domain.specs.ReceiverSteps.{current_side, ChangesReceiver}
 use Rattle.iox2_domain.proofs.lemmas.containers.ChangedRecords.{changed-here}
 use Rattle.iox2_domain.proofs.lemmas.updates.SenderWalk.{put_at-twice}
 use Rattle.iox2_domain.proofs.lemmas.fields.Parts.{parts_of}
-use Rattle.iox2_domain.proofs.lemmas.receivers.SoundStanding.{subscriber-stands}
+use Rattle.iox2_domain.proofs.lemmas.receivers.PortsStanding.{subscriber-stands}
 use Rattle.iox2_domain.proofs.lemmas.receivers.LeftChanges.{present}
 use mathlib.Core.Path.{fun_ext}
 

@@ -28,7 +28,7 @@ use Rattle.iox2_domain.proofs.lemmas.containers.LookUps.{map-at, viewed}
 use Rattle.iox2_domain.proofs.lemmas.fields.Standing.{occupant-receiver_ends}
 use Rattle.iox2_domain.proofs.lemmas.updates.ReceiverActions.{connect-keeps, connect-makes}
 use Rattle.iox2_domain.proofs.lemmas.fields.Parts.{parts_of}
-use Rattle.iox2_domain.proofs.lemmas.receivers.SoundStanding.{publisher-at, publisher-listed, receiver-link}
+use Rattle.iox2_domain.proofs.lemmas.receivers.PortsStanding.{publisher-at, publisher-listed, receiver-link}
 use Rattle.iox2_domain.proofs.lemmas.receivers.Retirements.{here}
 use Rattle.iox2_domain.proofs.lemmas.receivers.Compositions.{unchanged, changed, changed-stands, port-is, side-again, senders-again, config-again, changes-more}
 

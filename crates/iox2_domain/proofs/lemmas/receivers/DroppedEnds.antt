@@ -29,7 +29,7 @@ use Rattle.iox2_domain.proofs.lemmas.slots.BookChanges.{book-was, book-here}
 use Rattle.iox2_domain.proofs.lemmas.slots.LoneLoans.{lone-counters}
 use Rattle.iox2_domain.proofs.lemmas.fields.Parts.{parts_of}
 use Rattle.iox2_domain.proofs.lemmas.receivers.DepartedEnds.{nothing-returned}
-use Rattle.iox2_domain.proofs.lemmas.slots.RecountedSound as counts
+use Rattle.iox2_domain.proofs.lemmas.slots.RecountedLoans as counts
 use Rattle.iox2_domain.proofs.lemmas.receivers.LeftEnds.{IsDeparted, LeavesReceiver, left_fields, left-parts, end-goes, expired-goes}
 use Rattle.iox2_domain.proofs.lemmas.receivers.LeftStates.{left-is, ends-left, expired-left}
 use mathlib.Core.Path.{fun_ext}
@@ -90,14 +90,14 @@ module _ {T U : Type 0} (f : Fields T U) (sound : IsDomain f) (j : ℕ) (y : Sub
   -- the waiting messages of one mailbox are lost
   boxes-dropped : mailboxes_of (numbers_of f.books) between ≡ with_box s.mailboxes p y.id (waiting_dropped (s.mailboxes p y.id))
   boxes-dropped =
-      mailboxes-changed (numbers_of f.books) f.connections between key c emptied sound.apart link refl (Updates-with_value f.connections key c emptied link)
+      mailboxes-changed (numbers_of f.books) f.connections between key c emptied sound.parts.apart link refl (Updates-with_value f.connections key c emptied link)
       ∙ (λ k. with_box (are k) p (departed.subscriber k) (waiting_dropped (box k)))
     where
       are : mailboxes_of (numbers_of f.books) f.connections ≡ s.mailboxes
       are = fun_ext (λ r. fun_ext (λ q. sym (mailboxes-are f r q)))
 
       box : mailbox_of (numbers_of f.books p) c ≡ s.mailboxes p y.id
-      box = sym (mailboxes-are f p y.id ∙ mailbox-there (numbers_of f.books) f.connections key p y.id c sound.apart link refl departed.subscriber)
+      box = sym (mailboxes-are f p y.id ∙ mailbox-there (numbers_of f.books) f.connections key p y.id c sound.parts.apart link refl departed.subscriber)
 
   pub dropped-is : state_of (kept_of dropped_fields) ≡ record s { mailboxes = with_box s.mailboxes p y.id (waiting_dropped (s.mailboxes p y.id)) }
   dropped-is =

@@ -25,7 +25,7 @@ use Rattle.iox2_ends.specs.Mailboxes.{publisher_of_key, receiver_ends, with_box}
 use Rattle.iox2_ends.proofs.MailboxChanges.{Updates-with_value}
 use Rattle.iox2_domain.specs.Ports.{SubscriberFields}
 use Rattle.iox2_domain.specs.Kept.{state_of}
-use Rattle.iox2_domain.specs.Invariant.{HasParts, IsDomain, IsSoundBut}
+use Rattle.iox2_domain.specs.Invariant.{HasParts, IsDomain, IsDomainBut}
 use Rattle.iox2_domain.specs.Fields.{Fields, kept_of, subscriber_of}
 use Rattle.iox2_domain.specs.ReceiverSteps.{current_side, HasDepartedEnd, ChangesReceiverTo}
 use Rattle.iox2_domain.proofs.lemmas.containers.ChangedRecords.{changed-here}
@@ -34,7 +34,7 @@ use Rattle.iox2_domain.proofs.lemmas.fields.Standing.{some_is, occupant-receiver
 use Rattle.iox2_domain.proofs.lemmas.fields.Views.{held-before}
 use Rattle.iox2_domain.proofs.lemmas.updates.SenderWalk.{put_at-twice}
 use Rattle.iox2_domain.proofs.lemmas.fields.Parts.{but-of, parts_of}
-use Rattle.iox2_domain.proofs.lemmas.receivers.SoundStanding.{leads-among, expired-gone}
+use Rattle.iox2_domain.proofs.lemmas.receivers.PortsStanding.{leads-among, expired-gone}
 use Rattle.iox2_domain.proofs.lemmas.receivers.DepartedEnds.{among, contained}
 use Rattle.iox2_domain.proofs.lemmas.receivers.LeftEnds.{IsDeparted, LeavesReceiver, left_fields, left-parts, end-expires}
 use Rattle.iox2_domain.proofs.lemmas.receivers.LeftStates.{left-is, occupants-pushed, occupants-without, same-lead}
@@ -73,7 +73,7 @@ module _ {T U : Type 0} (f : Fields T U) (sound : IsDomain f) (j i : ℕ) (y : S
   own : (k : ℕ) → contains y.expired k ≡ true → (e : Link) × (get f.connections k ≡ Some e) × IsReceivers y.id (f.config).subscriber_max_borrowed_samples e
   own k has =
       let there = among y.expired k has in
-      some_is (IsReceivers y.id (f.config).subscriber_max_borrowed_samples) (get f.connections k) ((sound.linked.expired j y end.stands).at there.0 k there.1)
+      some_is (IsReceivers y.id (f.config).subscriber_max_borrowed_samples) (get f.connections k) ((sound.parts.linked.expired j y end.stands).at there.0 k there.1)
 
   its : d.home.subscriber ≡ y.id
   its =
@@ -165,7 +165,7 @@ module _ {T U : Type 0} (f : Fields T U) (sound : IsDomain f) (j i : ℕ) (y : S
           subscribers = put_at-twice s.subscribers y.id (Some (record Q { ends = receiver_ends f.connections y.keys; expired = occupants (receiver_ends f.connections (map Some (without first y.expired))); is_due = y.is_due })) (Some (record Q { ends = set_place Q.ends i None; expired = without lost Q.expired ++ p ∷ []; is_due = y.is_due })) k;
         })
 
-    pub evicts : ChangesReceiverTo (IsSoundBut d.home.book) f j y (retired_side f sound j i y key c end (Evict lost)) replaced_fields
+    pub evicts : ChangesReceiverTo (IsDomainBut d.home.book) f j y (retired_side f sound j i y key c end (Evict lost)) replaced_fields
     evicts = record {
       agrees = but-of replaced_fields d.home.book
           (parts-warned _ told (left-parts evicted evicted-parts j mid mid-stands (set_place y.keys i None) (without first y.expired ++ key ∷ []) y.is_due new end-fits) refl)

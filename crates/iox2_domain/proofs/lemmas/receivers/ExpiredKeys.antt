@@ -20,7 +20,7 @@ use Rattle.iox2_domain.specs.ReceiverSteps.{HasDepartedEnd}
 use Rattle.iox2_domain.proofs.lemmas.fields.Standing.{some_is}
 use Rattle.iox2_domain.proofs.lemmas.updates.MadeConnections.{sum-updated}
 use Rattle.iox2_domain.proofs.lemmas.fields.Parts.{parts_of}
-use Rattle.iox2_domain.proofs.lemmas.receivers.SoundStanding.{leads-among, receiver-link}
+use Rattle.iox2_domain.proofs.lemmas.receivers.PortsStanding.{leads-among, receiver-link}
 use Rattle.iox2_domain.proofs.lemmas.receivers.DepartedEnds.{among}
 use Rattle.iox2_domain.proofs.lemmas.receivers.LeftChanges.{present}
 use Rattle.iox2_domain.proofs.lemmas.receivers.Retirements.{unexpired}
@@ -63,7 +63,7 @@ module _ {T U : Type 0} (f : Fields T U) (sound : IsDomain f) (j i : ℕ) (y : S
   pub expired-link : (k : ℕ) → contains y.expired k ≡ true → (d : Link) × (get f.connections k ≡ Some d) × IsReceivers y.id most d
   expired-link k has =
       let there = among y.expired k has in
-      some_is (IsReceivers y.id most) (get f.connections k) ((sound.linked.expired j y end.stands).at there.0 k there.1)
+      some_is (IsReceivers y.id most) (get f.connections k) ((sound.parts.linked.expired j y end.stands).at there.0 k there.1)
 
   once : IsOnce (key ∷ y.expired)
   once = (
@@ -85,6 +85,6 @@ module _ {T U : Type 0} (f : Fields T U) (sound : IsDomain f) (j i : ℕ) (y : S
   -- so there is room
   pub room-to-expire : length y.expired < y.expired_room
   room-to-expire =
-      let enough : connection_count f.connections y.id ≤ y.expired_room = sound.expired_room.at j y end.stands in
+      let enough : connection_count f.connections y.id ≤ y.expired_room = sound.parts.expired_room.at j y end.stands in
       let many = count-keys f.connections.slots y.id (key ∷ y.expired) once one-each in
       omega (arith, enough, many)

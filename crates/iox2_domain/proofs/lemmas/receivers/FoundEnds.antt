@@ -52,8 +52,8 @@ module _ {T U : Type 0} (f : Fields T U) (sound : IsDomain f) where
   sender-stands i j key = by (get_or f.publishers i None) refl where
     by : (o : Option PublisherFields) → get_or f.publishers i None ≡ o → option_and_then (λ (x : PublisherFields). get_or x.keys j None) o ≡ Some key → ContainsKey f.connections key
     by None at e = absurd cc
-    by (Some x) at e = some-there (IsSenders x.id j) (get f.connections key) ((sound.linked.senders i x at).at j key e)
+    by (Some x) at e = some-there (IsSenders x.id j) (get f.connections key) ((sound.parts.linked.senders i x at).at j key e)
 
   -- and so does the key that a subscriber has
   pub receiver-stands : (j i key : ℕ) (y : SubscriberFields) → get_or f.subscribers j None ≡ Some y → get_or y.keys i None ≡ Some key → ContainsKey f.connections key
-  receiver-stands j i key y at has = some-there (IsReceivers y.id (f.config).subscriber_max_borrowed_samples) (get f.connections key) ((sound.linked.receivers j y at).at i key has)
+  receiver-stands j i key y at has = some-there (IsReceivers y.id (f.config).subscriber_max_borrowed_samples) (get f.connections key) ((sound.parts.linked.receivers j y at).at i key has)

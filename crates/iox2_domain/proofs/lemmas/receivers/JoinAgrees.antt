@@ -22,10 +22,10 @@ use Rattle.iox2_domain.proofs.lemmas.fields.Views.{held-before}
 use Rattle.iox2_domain.proofs.lemmas.containers.ChangedRecords.{changed-here, changed-stood, changed-still, changed-only}
 use Rattle.iox2_domain.proofs.lemmas.updates.Extensions.{sender_linked, receiver_linked}
 use Rattle.iox2_domain.proofs.lemmas.fields.Parts.{parts_of}
-use Rattle.iox2_domain.proofs.lemmas.receivers.SoundExtends.{mailboxes-same}
+use Rattle.iox2_domain.proofs.lemmas.receivers.MoreConnections.{mailboxes-same}
 use Rattle.iox2_domain.proofs.lemmas.updates.ReceiverChanges.{FitsReceiver, IsNewOfReceiver, with_keys, with_receiver}
 use Rattle.iox2_domain.proofs.lemmas.receivers.JoinChanges.{receiver-is}
-use Rattle.iox2_domain.proofs.lemmas.receivers.SoundStanding.{one-publisher, one-subscriber}
+use Rattle.iox2_domain.proofs.lemmas.receivers.PortsStanding.{one-publisher, one-subscriber}
 
 module _ {T U : Type 0} (f : Fields T U) (sound : IsDomain f) (j : ℕ) (y : SubscriberFields) (at : get_or f.subscribers j None ≡ Some y)
     (keys : List (Option ℕ)) (key_room expired_room : ℕ) (is_due : Bool) (connections : Slab Link) (warnings : Buffer Warning) (fits : FitsReceiver f j y keys key_room expired_room connections) where
@@ -96,7 +96,7 @@ module _ {T U : Type 0} (f : Fields T U) (sound : IsDomain f) (j : ℕ) (y : Sub
       → get connections key ≡ Some c → c.home.publisher_place ≡ place
   places k place key z c (inl here) at_key at_c = fits.places place key c (sym (ap (λ (w : SubscriberFields). get_or w.keys place None) here.1) ∙ at_key) at_c
   places k place key z c (inr old) at_key at_c =
-      sound.linked.receiver_places k place key z c old at_key (known key z.id c at_c (get f.connections key) refl ((sound.linked.receivers k z old).at place key at_key))
+      sound.parts.linked.receiver_places k place key z c old at_key (known key z.id c at_c (get f.connections key) refl ((sound.parts.linked.receivers k z old).at place key at_key))
 
   knows : (key k : ℕ) (c : Link) (d : ReceiverDetails) → get connections key ≡ Some c → (z : SubscriberFields) × (get_or subscribers k None ≡ Some z) × (d ≡ details_of z)
       → d.port_id ≡ c.home.subscriber → (k ≡ c.home.subscriber_place) × (c.buffer ≡ d.buffer_size)
@@ -104,7 +104,7 @@ module _ {T U : Type 0} (f : Fields T U) (sound : IsDomain f) (j : ℕ) (y : Sub
       let w = was k there.0 there.1 in
       let details : details_of w.0 ≡ d = w.2 ∙ sym there.2 in
       elim (fits.news key c at_c) [
-        | inl old ↦ sound.linked.knows.at key k c d old (map-at details_of f.subscribers k ∙ ap (option_map details_of) w.1 ∙ ap Some details) same
+        | inl old ↦ sound.parts.linked.knows.at key k c d old (map-at details_of f.subscribers k ∙ ap (option_map details_of) w.1 ∙ ap Some details) same
         | inr new ↦
             let id : w.0.id ≡ y.id = ap (λ (r : ReceiverDetails). r.port_id) details ∙ same ∙ new.subscriber in
             let place : k ≡ j = one-subscriber f (parts_of f sound) k j w.0 y w.1 at id in
@@ -116,11 +116,11 @@ module _ {T U : Type 0} (f : Fields T U) (sound : IsDomain f) (j : ℕ) (y : Sub
   receiver_room : (key k : ℕ) (c : Link) (z : SubscriberFields) → get_or subscribers k None ≡ Some z → z.id ≡ c.home.subscriber
       → (get f.connections key ≡ Some c) ⊎ New key c → ((k ≡ j) × (z ≡ changed)) ⊎ (get_or f.subscribers k None ≡ Some z) → c.home.publisher_place < z.key_room
   receiver_room key k c z at_z same (inl old) (inl here) =
-      let low : c.home.publisher_place < y.key_room = sound.linked.receiver_rooms key j c y old at (sym (ap (λ (w : SubscriberFields). w.id) here.1) ∙ same) in
+      let low : c.home.publisher_place < y.key_room = sound.parts.linked.receiver_rooms key j c y old at (sym (ap (λ (w : SubscriberFields). w.id) here.1) ∙ same) in
       let grows = fits.grows in
       let enough : c.home.publisher_place < key_room = omega arith in
       rw here.1 enough
-  receiver_room key k c z at_z same (inl old) (inr was_there) = sound.linked.receiver_rooms key k c z old was_there same
+  receiver_room key k c z at_z same (inl old) (inr was_there) = sound.parts.linked.receiver_rooms key k c z old was_there same
   receiver_room key k c z at_z same (inr new) _ =
       let w = was k z at_z in
       let id : w.0.id ≡ y.id = ap (λ (r : ReceiverDetails). r.port_id) w.2 ∙ same ∙ new.subscriber in
@@ -131,27 +131,27 @@ module _ {T U : Type 0} (f : Fields T U) (sound : IsDomain f) (j : ℕ) (y : Sub
 
   linked : IsLinked after
   linked = record {
-    senders = λ k z at_z. sender_linked f.connections connections fits.extends z.id z.keys (sound.linked.senders k z at_z);
+    senders = λ k z at_z. sender_linked f.connections connections fits.extends z.id z.keys (sound.parts.linked.senders k z at_z);
     receivers = λ k z at_z. elim (stood k z at_z) [
       | inl here ↦ rw here.1 fits.linked
-      | inr old ↦ receiver_linked f.connections connections fits.extends z.id _ z.keys (sound.linked.receivers k z old)
+      | inr old ↦ receiver_linked f.connections connections fits.extends z.id _ z.keys (sound.parts.linked.receivers k z old)
     ];
     expired = λ k z at_z. elim (stood k z at_z) [
-      | inl here ↦ rw here.1 (receiver_linked f.connections connections fits.extends y.id _ _ (sound.linked.expired j y at))
-      | inr old ↦ receiver_linked f.connections connections fits.extends z.id _ _ (sound.linked.expired k z old)
+      | inl here ↦ rw here.1 (receiver_linked f.connections connections fits.extends y.id _ _ (sound.parts.linked.expired j y at))
+      | inr old ↦ receiver_linked f.connections connections fits.extends z.id _ _ (sound.parts.linked.expired k z old)
     ];
     ends = λ key c at_c. elim (fits.news key c at_c) [
-      | inl old ↦ elim (sound.linked.ends key c old) [ inl has ↦ inl has | inr has ↦ inr (has-still key c has) ]
+      | inl old ↦ elim (sound.parts.linked.ends key c old) [ inl has ↦ inl has | inr has ↦ inr (has-still key c has) ]
       | inr new ↦ inr (has-new key c new)
     ];
     receiver_places = λ k place key z c at_z at_key at_c. places k place key z c (stood k z at_z) at_key at_c;
     knows = record { at = λ key k c d at_c at_d same. knows key k c d at_c (viewed details_of subscribers k d at_d) same };
     knows_publishers = λ key k c z at_c at_z same. elim (fits.news key c at_c) [
-      | inl old ↦ sound.linked.knows_publishers key k c z old at_z same
+      | inl old ↦ sound.parts.linked.knows_publishers key k c z old at_z same
       | inr new ↦ one-publisher f (parts_of f sound) k c.home.publisher_place z new.publisher at_z new.stands (same ∙ sym new.is_its)
     ];
     sender_rooms = λ key k c z at_c at_z same. elim (fits.news key c at_c) [
-      | inl old ↦ sound.linked.sender_rooms key k c z old at_z same
+      | inl old ↦ sound.parts.linked.sender_rooms key k c z old at_z same
       | inr new ↦
           let place : k ≡ c.home.publisher_place = one-publisher f (parts_of f sound) k c.home.publisher_place z new.publisher at_z new.stands (same ∙ sym new.is_its) in
           let one : Some z ≡ Some new.publisher = sym at_z ∙ ap (λ (n : ℕ). get_or f.publishers n None) place ∙ new.stands in
@@ -159,27 +159,27 @@ module _ {T U : Type 0} (f : Fields T U) (sound : IsDomain f) (j : ℕ) (y : Sub
           rw is new.publisher_room
     ];
     receiver_rooms = λ key k c z at_c at_z same. receiver_room key k c z at_z same (fits.news key c at_c) (stood k z at_z);
-    limits = λ key c at_c. elim (fits.news key c at_c) [ inl old ↦ sound.linked.limits key c old | inr new ↦ new.limit ];
-    returned = λ key c at_c. elim (fits.news key c at_c) [ inl old ↦ sound.linked.returned key c old | inr new ↦ inr new.returned ];
+    limits = λ key c at_c. elim (fits.news key c at_c) [ inl old ↦ sound.parts.linked.limits key c old | inr new ↦ new.limit ];
+    returned = λ key c at_c. elim (fits.news key c at_c) [ inl old ↦ sound.parts.linked.returned key c old | inr new ↦ inr new.returned ];
   }
 
   books : HasBooks after
   books = record {
-    one_each = sound.books.one_each;
-    books = sound.books.books;
-    publishers = λ k z at_z. let has = sound.books.publishers k z at_z in
+    one_each = sound.parts.books.one_each;
+    books = sound.parts.books.books;
+    publishers = λ k z at_z. let has = sound.parts.books.publishers k z at_z in
         record { book = has.book; stands = has.stands; is_its = has.is_its; slots = has.slots; no_more = has.no_more; room = has.room };
-    no_others = sound.books.no_others;
+    no_others = sound.parts.books.no_others;
   }
 
   counted : IsCounted after
-  counted = record { at = λ p slot. sound.counted.at p slot ∙ ap (λ n. own_holders f p slot + n) (sym (fits.extends.sums p slot)) }
+  counted = record { at = λ p slot. sound.parts.counted.at p slot ∙ ap (λ n. own_holders f p slot + n) (sym (fits.extends.sums p slot)) }
 
   -- the invariant is kept
   pub receiver-agrees : warnings.capacity ≡ warning_limit → IsWellFormed (state_of (kept_of after)) → IsDomain after
   receiver-agrees room well = record {
-    publisher_ids = sound.publisher_ids;
-    subscriber_ids = λ q. changed-only f.subscribers j y changed at (is_subscriber q) refl (sound.subscriber_ids q);
+    publisher_ids = sound.parts.publisher_ids;
+    subscriber_ids = λ q. changed-only f.subscribers j y changed at (is_subscriber q) refl (sound.parts.subscriber_ids q);
     apart = fits.extends.apart;
     linked = linked;
     expired_room = record {
@@ -191,23 +191,23 @@ module _ {T U : Type 0} (f : Fields T U) (sound : IsDomain f) (j : ℕ) (y : Sub
     books = books;
     names = record {
       at = λ key c at_c. elim (fits.news key c at_c) [
-        | inl old ↦ sound.names.at key c old
-        | inr new ↦ let has = sound.books.publishers c.home.publisher_place new.publisher new.stands in
+        | inl old ↦ sound.parts.names.at key c old
+        | inr new ↦ let has = sound.parts.books.publishers c.home.publisher_place new.publisher new.stands in
             rw new.book (record { book = has.book; stands = has.stands; is_its = has.is_its ∙ new.is_its })
       ];
     };
     counted = counted;
-    numbered = sound.numbered;
+    numbered = sound.parts.numbered;
     lone = sound.lone;
-    publisher_room = sound.publisher_room;
+    publisher_room = sound.parts.publisher_room;
     warning_room = room;
-    shapes = record { at = sound.shapes.at };
-    forms = sound.forms;
-    supported = sound.supported;
-    plain = sound.plain;
+    shapes = record { at = sound.parts.shapes.at };
+    forms = sound.parts.forms;
+    supported = sound.parts.supported;
+    plain = sound.parts.plain;
     plain_subscribers = λ k z at_z. elim (stood k z at_z) [
-      | inl here ↦ rw here.1 (record { degradation = (sound.plain_subscribers j y at).degradation })
-      | inr old ↦ sound.plain_subscribers k z old
+      | inl here ↦ rw here.1 (record { degradation = (sound.parts.plain_subscribers j y at).degradation })
+      | inr old ↦ sound.parts.plain_subscribers k z old
     ];
     kept_books = record { at = sound.kept_books.at };
     well_formed = well;

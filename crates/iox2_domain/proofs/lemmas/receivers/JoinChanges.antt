@@ -17,7 +17,7 @@ use Rattle.iox2_domain.specs.Invariant.{HasParts, is_subscriber}
 use Rattle.iox2_domain.specs.Fields.{Fields, kept_of, subscriber_of}
 use Rattle.iox2_domain.proofs.lemmas.containers.LookUps.{IsOnly-map, map-at}
 use Rattle.iox2_domain.proofs.lemmas.containers.ChangedRecords.{changed-ids, changed-ports}
-use Rattle.iox2_domain.proofs.lemmas.receivers.SoundExtends.{publishers-same, subscribers-same, mailboxes-same, subscriber-same}
+use Rattle.iox2_domain.proofs.lemmas.receivers.MoreConnections.{publishers-same, subscribers-same, mailboxes-same, subscriber-same}
 use Rattle.iox2_domain.proofs.lemmas.updates.ReceiverChanges.{FitsReceiver, with_keys, with_receiver}
 use mathlib.Core.Path.{fun_ext}
 

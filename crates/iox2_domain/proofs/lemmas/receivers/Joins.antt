@@ -41,7 +41,7 @@ use Rattle.iox2_domain.proofs.lemmas.updates.MadeConnections.{made-extends, made
 use Rattle.iox2_domain.proofs.lemmas.updates.ReceiverActions.{connect-makes}
 use Rattle.iox2_domain.proofs.lemmas.updates.ReceiverChanges.{FitsReceiver}
 use Rattle.iox2_domain.proofs.lemmas.fields.Parts.{parts_of}
-use Rattle.iox2_domain.proofs.lemmas.receivers.SoundStanding.{publisher-stands, subscriber-stands, publisher-listed, subscriber-place, one-subscriber, sender-joins, no-connection}
+use Rattle.iox2_domain.proofs.lemmas.receivers.PortsStanding.{publisher-stands, subscriber-stands, publisher-listed, subscriber-place, one-subscriber, sender-joins, no-connection}
 use Rattle.iox2_domain.proofs.lemmas.receivers.LeftChanges.{present, side-sound}
 use Rattle.iox2_domain.proofs.lemmas.receivers.JoinChanges.{receiver-is, receiver_fits-same}
 use Rattle.iox2_domain.proofs.lemmas.receivers.JoinAgrees.{receiver-agrees}
@@ -140,10 +140,10 @@ module _ {T U : Type 0} (environment : Environment) (f : Fields T U) (sound : Is
         let is : d ≡ c = cc in
         ap (λ (e : Link). e.home.publisher_place) is ∙ here ∙ sym new.0
     | inr before ↦
-        let joined = some_is (IsReceivers y.id most) (get f.connections k) ((sound.linked.receivers j y at_y).at place k before) in
+        let joined = some_is (IsReceivers y.id most) (get f.connections k) ((sound.parts.linked.receivers j y at_y).at place k before) in
         let same : Some d ≡ Some joined.0 = sym at_d ∙ extends.grows k joined.0 joined.1 in
         let is : d ≡ joined.0 = cc in
-        ap (λ (e : Link). e.home.publisher_place) is ∙ sound.linked.receiver_places j place k y joined.0 at_y before joined.1
+        ap (λ (e : Link). e.home.publisher_place) is ∙ sound.parts.linked.receiver_places j place k y joined.0 at_y before joined.1
   ]
 
   -- the end is made where the keys lead to it
@@ -160,12 +160,12 @@ module _ {T U : Type 0} (environment : Environment) (f : Fields T U) (sound : Is
         extends = extends;
         grows = le_refl y.key_room;
         expired_grows = le_refl y.expired_room;
-        rooms = sound.expired_room;
-        linked = linked-with f.connections key c (sound.linked.receivers j y at_y) own.stands own.subscriber (sound.linked.limits key c own.stands);
+        rooms = sound.parts.expired_room;
+        linked = linked-with f.connections key c (sound.parts.linked.receivers j y at_y) own.stands own.subscriber (sound.parts.linked.limits key c own.stands);
         places = places-with f.connections key c extends own.stands own.publisher_place;
         keeps = set_place-keeps y.keys i key none;
         news = λ k d found. inl found;
-      }) sound.warning_room
+      }) sound.parts.warning_room
       (makes-end (keys_with key) f.connections (leads f.connections key c refl own.stands own.publisher))
 
   -- ---- the publisher has no end to the subscriber either
@@ -178,7 +178,7 @@ module _ {T U : Type 0} (environment : Environment) (f : Fields T U) (sound : Is
     nobody = no-connection f (parts_of f sound) i j x y at_x at_y sound.well_formed none_x (λ key c has _ _. let no : None ≡ Some key = sym none ∙ has in absurd cc)
 
     extends-made : (key : ℕ) (new : Slab Link) → MakesConnection f.connections (home_of i j x y) y.buffer most key new → Extends f.connections new
-    extends-made key new made = made-extends f.connections new (home_of i j x y) y.buffer most key sound.apart nobody made
+    extends-made key new made = made-extends f.connections new (home_of i j x y) y.buffer most key sound.parts.apart nobody made
 
     -- no other subscriber has the id
     room-here : connection_count f.connections y.id < y.expired_room → (k : ℕ) (z : SubscriberFields) → get_or f.subscribers k None ≡ Some z → z.id ≡ y.id → connection_count f.connections z.id < z.expired_room
@@ -197,11 +197,11 @@ module _ {T U : Type 0} (environment : Environment) (f : Fields T U) (sound : Is
           extends = extends-made key new made;
           grows = le_refl y.key_room;
           expired_grows = le_refl y.expired_room;
-          rooms = room-made f.subscribers f.connections new key link made.was_free made.made (room-here room_expired) sound.expired_room;
-          linked = linked-with new key link (receiver_linked f.connections new (extends-made key new made) y.id most y.keys (sound.linked.receivers j y at_y)) made.made.changed refl refl;
+          rooms = room-made f.subscribers f.connections new key link made.was_free made.made (room-here room_expired) sound.parts.expired_room;
+          linked = linked-with new key link (receiver_linked f.connections new (extends-made key new made) y.id most y.keys (sound.parts.linked.receivers j y at_y)) made.made.changed refl refl;
           places = places-with new key link (extends-made key new made) made.made.changed refl;
           keeps = set_place-keeps y.keys i key none;
-          news = λ k c at. elim (made-news f.connections new (home_of i j x y) y.buffer most key sound.apart nobody made k c at) [
+          news = λ k c at. elim (made-news f.connections new (home_of i j x y) y.buffer most key sound.parts.apart nobody made k c at) [
             | inl old ↦ inl old
             | inr is ↦ inr (rw (is.0, is.1) (record {
               subscriber = refl;
@@ -218,9 +218,9 @@ module _ {T U : Type 0} (environment : Environment) (f : Fields T U) (sound : Is
               publisher_room = room_x;
             }))
           ];
-        }) sound.warning_room
+        }) sound.parts.warning_room
         (makes-end (keys_with key) new
-        (leads new key link (receiver_ends-same f.connections new (extends-made key new made) y.id most y.keys (sound.linked.receivers j y at_y)) made.made.changed refl))
+        (leads new key link (receiver_ends-same f.connections new (extends-made key new made) y.id most y.keys (sound.parts.linked.receivers j y at_y)) made.made.changed refl))
 
     no_sender : has_sender_end s x.id y.id ≡ false
     no_sender =

@@ -18,7 +18,7 @@ use Rattle.iox2_domain.specs.Fields.{Fields, kept_of, subscriber_of}
 use Rattle.iox2_domain.specs.ReceiverSteps.{current_side, ChangesReceiver}
 use Rattle.iox2_domain.proofs.lemmas.fields.Views.{held-before}
 use Rattle.iox2_domain.proofs.lemmas.fields.Parts.{parts_of, whole_of}
-use Rattle.iox2_domain.proofs.lemmas.receivers.SoundStanding.{subscriber-stands}
+use Rattle.iox2_domain.proofs.lemmas.receivers.PortsStanding.{subscriber-stands}
 use Rattle.iox2_domain.proofs.lemmas.receivers.LeftEnds.{LeavesReceiver, left_fields, left-parts}
 use Rattle.iox2_domain.proofs.lemmas.receivers.LeftStates.{left-is, left_port}
 

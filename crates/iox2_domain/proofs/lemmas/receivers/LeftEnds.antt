@@ -29,7 +29,7 @@ use Rattle.iox2_domain.proofs.lemmas.containers.ChangedRecords.{changed-here, ch
 use Rattle.iox2_domain.proofs.lemmas.containers.ConnectionKeys.{set_place-here, set_place-others}
 use Rattle.iox2_domain.proofs.lemmas.updates.MadeConnections.{sum-updated}
 use Rattle.iox2_domain.proofs.lemmas.fields.Standing.{some_is}
-use Rattle.iox2_domain.proofs.lemmas.receivers.SoundStanding.{one-subscriber}
+use Rattle.iox2_domain.proofs.lemmas.receivers.PortsStanding.{one-subscriber}
 use Rattle.iox2_domain.proofs.lemmas.receivers.DepartedEnds.{StandsNowhere, among, is-among, contained}
 
 -- The connection is the subscriber y's, and its publisher is gone.

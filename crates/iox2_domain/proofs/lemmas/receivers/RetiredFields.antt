@@ -24,7 +24,7 @@ use Rattle.std.proofs.lemmas.Bool.{eq-eqb}
 use Rattle.iox2_domain.specs.Ports.{SubscriberFields}
 use Rattle.iox2_domain.specs.Kept.{state_of}
 use Rattle.iox2_domain.specs.Fields.{Fields, kept_of, is_book_of}
-use Rattle.iox2_domain.specs.Invariant.{IsDomain, IsSoundBut, IsBookOf, holders_of}
+use Rattle.iox2_domain.specs.Invariant.{IsDomain, IsDomainBut, IsBookOf, holders_of}
 use Rattle.iox2_domain.specs.Updates.{changed_at, publisher_but_room, without_receiver_key}
 use Rattle.iox2_domain.specs.Reaches.{Reaches}
 use Rattle.iox2_domain.specs.Midway.{ChangesBooks, IsMidway}
@@ -39,18 +39,18 @@ use Rattle.iox2_domain.proofs.lemmas.receivers.ExpiredKeys.{expired-link}
 use Rattle.iox2_domain.proofs.lemmas.receivers.Choices.{none-borrowed, borrows-are, publisher_at, in_machine, length-expired, chosen-is}
 
 -- the same book is spared
-pub spares-same : {T U : Type 0} (f : Fields T U) (k key : ℕ) → k ≡ key → IsSoundBut key f → IsSoundBut k f
-spares-same f k key same sound = subst (λ (n : ℕ). IsSoundBut n f) (sym same) sound
+pub spares-same : {T U : Type 0} (f : Fields T U) (k key : ℕ) → k ≡ key → IsDomainBut key f → IsDomainBut k f
+spares-same f k key same sound = subst (λ (n : ℕ). IsDomainBut n f) (sym same) sound
 
 -- a book that is freed changes nothing else
 -- a book was freed where the step keeps the fields but for the books
-pub frees-book : {T U : Type 0} (f f' : Fields T U) (key : ℕ) → IsSoundBut key f
+pub frees-book : {T U : Type 0} (f f' : Fields T U) (key : ℕ) → IsDomainBut key f
     → ((before : Fields T U) (s : State T U) → IsMidway before f s key → IsWellFormed s → Reaches before f' s) → ChangesBooks f f' → FreesBook f f'
 frees-book f f' key sound kept books =
     let attained = kept f (state_of (kept_of f)) (midway-but f key sound) sound.well_formed in
     record { agrees = attained.agrees; fields = books; state = attained.state; entries = attained.entries }
 
-module _ {T U : Type 0} (f f' f'' : Fields T U) (j : ℕ) (y : SubscriberFields) (side : ReceiverSide) (key : ℕ) (changes : ChangesReceiverTo (IsSoundBut key) f j y side f') (frees : FreesBook f' f'') where
+module _ {T U : Type 0} (f f' f'' : Fields T U) (j : ℕ) (y : SubscriberFields) (side : ReceiverSide) (key : ℕ) (changes : ChangesReceiverTo (IsDomainBut key) f j y side f') (frees : FreesBook f' f'') where
   publishers : f'.publishers ≡ f''.publishers
   publishers = sym (ap (λ (g : Fields T U). g.publishers) frees.fields)
 
@@ -87,7 +87,7 @@ module _ {T U : Type 0} (f f' f'' : Fields T U) (j : ℕ) (y : SubscriberFields)
 -- the connections of a sound domain have their books, which hold what stands in them
 module _ {T U : Type 0} (f : Fields T U) (sound : IsDomain f) (key : ℕ) (c : Link) (at : get f.connections key ≡ Some c) where
   pub its-book : IsBookOf f.books c.home.publisher c.home.book
-  its-book = sound.names.at key c at
+  its-book = sound.parts.names.at key c at
 
   pub book-stands : ContainsKey f.books c.home.book
   book-stands = rw its-book.stands refl
@@ -101,8 +101,8 @@ module _ {T U : Type 0} (f : Fields T U) (sound : IsDomain f) (key : ℕ) (c : L
         at = λ slot.
             let here : holders_of f.books c.home.publisher slot ≡ holders_at b slot =
             ap (λ o. option_map_or (λ (d : Book). holders_at d slot) o 0)
-            (look_up-found (is_book_of c.home.publisher) f.books.slots c.home.book b (sound.books.one_each c.home.publisher) at_b (eq-eqb b.publisher c.home.publisher its)) in
-            omega (arith, sound.counted.at c.home.publisher slot, here);
+            (look_up-found (is_book_of c.home.publisher) f.books.slots c.home.book b (sound.parts.books.one_each c.home.publisher) at_b (eq-eqb b.publisher c.home.publisher its)) in
+            omega (arith, sound.parts.counted.at c.home.publisher slot, here);
       }) at refl
 
 module _ {T U : Type 0} (f : Fields T U) (sound : IsDomain f) (j i : ℕ) (y : SubscriberFields) (key : ℕ) (c : Link) (end : HasDepartedEnd f j i y key c) where
@@ -133,9 +133,9 @@ module _ {T U : Type 0} (f : Fields T U) (sound : IsDomain f) (j i : ℕ) (y : S
   -- what waits is lost
   pub discarded-changes : has_borrowed (get f.connections key) ≡ false → (b : Book) → get f.books c.home.book ≡ Some b → (f1 : Fields T U) → LosesConnection f key c b f1
       → (f' : Fields T U) → f' ≡ record f1 { subscribers = changed_at (without_receiver_key i) f1.subscribers j }
-      → ChangesReceiverTo (IsSoundBut c.home.book) f j y (retired f i y c.home.publisher Discard_data) f'
+      → ChangesReceiverTo (IsDomainBut c.home.book) f j y (retired f i y c.home.publisher Discard_data) f'
   discarded-changes unborrowed b at_b f1 loses f' is =
-      subst (λ (h : Fields T U). ChangesReceiverTo (IsSoundBut c.home.book) f j y (retired f i y c.home.publisher Discard_data) h)
+      subst (λ (h : Fields T U). ChangesReceiverTo (IsDomainBut c.home.book) f j y (retired f i y c.home.publisher Discard_data) h)
       (sym (is
       ∙ (λ k. record (loses.fields k) { subscribers = changed_at (without_receiver_key i) ((loses.fields k).subscribers) j })
       ∙ (λ k. record f {
@@ -160,9 +160,9 @@ module _ {T U : Type 0} (f : Fields T U) (sound : IsDomain f) (j i : ℕ) (y : S
   pub evicted-changes : (first : ℕ) (d : Link) → contains y.expired first ≡ true → get f.connections first ≡ Some d → has_borrowed (get f.connections first) ≡ false
       → (b : Book) → get f.books d.home.book ≡ Some b → (f1 : Fields T U) → LosesConnection f first d b f1
       → (f' : Fields T U) → f' ≡ record f1 { subscribers = changed_at (replacing_expired i key first) f1.subscribers j }
-      → ChangesReceiverTo (IsSoundBut d.home.book) f j y (retired f i y c.home.publisher (Evict d.home.publisher)) f'
+      → ChangesReceiverTo (IsDomainBut d.home.book) f j y (retired f i y c.home.publisher (Evict d.home.publisher)) f'
   evicted-changes first d has at_d unborrowed b at_b f1 loses f' is =
-      subst (λ (h : Fields T U). ChangesReceiverTo (IsSoundBut d.home.book) f j y (retired f i y c.home.publisher (Evict d.home.publisher)) h)
+      subst (λ (h : Fields T U). ChangesReceiverTo (IsDomainBut d.home.book) f j y (retired f i y c.home.publisher (Evict d.home.publisher)) h)
       (sym (is
       ∙ (λ k. record (loses.fields k) { subscribers = changed_at (replacing_expired i key first) ((loses.fields k).subscribers) j })
       ∙ (λ k. record f {

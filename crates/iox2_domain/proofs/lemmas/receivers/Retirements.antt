@@ -25,7 +25,7 @@ use Rattle.iox2_ends.proofs.LookUps.{look_up-nothing}
 use Rattle.iox2_ends.proofs.MailboxChanges.{put_at-own}
 use Rattle.iox2_domain.specs.Ports.{SubscriberFields}
 use Rattle.iox2_domain.specs.Kept.{Named, state_of, is_named}
-use Rattle.iox2_domain.specs.Invariant.{HasParts, IsDomain, IsSoundBut, is_publisher}
+use Rattle.iox2_domain.specs.Invariant.{HasParts, IsDomain, IsDomainBut, is_publisher}
 use Rattle.iox2_domain.specs.Fields.{Fields, kept_of, publisher_of, subscriber_of}
 use Rattle.iox2_domain.specs.ReceiverSteps.{current_side, HasDepartedEnd, ChangesReceiverTo, ChangesReceiver}
 use Rattle.iox2_domain.proofs.lemmas.containers.LookUps.{look_up-map}
@@ -33,7 +33,7 @@ use Rattle.iox2_domain.proofs.lemmas.containers.ConnectionKeys.{map-set_place}
 use Rattle.iox2_domain.proofs.lemmas.fields.Standing.{occupant-receiver_ends}
 use Rattle.iox2_domain.proofs.lemmas.fields.Views.{held-before}
 use Rattle.iox2_domain.proofs.lemmas.fields.Parts.{but-of, parts_of}
-use Rattle.iox2_domain.proofs.lemmas.receivers.SoundStanding.{receiver-link, leads-among}
+use Rattle.iox2_domain.proofs.lemmas.receivers.PortsStanding.{receiver-link, leads-among}
 use Rattle.iox2_domain.proofs.lemmas.receivers.DepartedEnds.{StandsNowhere, departed-nowhere}
 use Rattle.iox2_domain.proofs.lemmas.receivers.LeftEnds.{IsDeparted, LeavesReceiver, left_fields, end-expires, nothing-leaves}
 use Rattle.iox2_domain.proofs.lemmas.receivers.LeftStates.{left-is, occupants-pushed}
@@ -142,7 +142,7 @@ module _ {T U : Type 0} (f : Fields T U) (sound : IsDomain f) (j i : ℕ) (y : S
           subscribers = put_at s.subscribers y.id (Some (record Q { ends = map-set_place (publisher_of_key f.connections) refl y.keys i None k; is_due = y.is_due }));
         })
 
-    pub discards : ChangesReceiverTo (IsSoundBut c.home.book) f j y (retired_side Discard_data) without_end
+    pub discards : ChangesReceiverTo (IsDomainBut c.home.book) f j y (retired_side Discard_data) without_end
     discards = record {
       agrees = but-of without_end c.home.book
           (parts-warned _ told (removed-parts f sound j y end.stands key c end.link departed unborrowed b at_b mine holders new removes (set_place y.keys i None) y.expired fits) refl)

@@ -45,7 +45,7 @@ module _ {T U : Type 0} (f now : Fields T U) (key : ℕ) (home : Home) (c : Link
   link-stands = ap (λ (h : Fields T U). get h.connections key) (sym same) ∙ at
 
   of-book : IsBookOf now.books c.home.publisher home.book
-  of-book = subst (λ (h : Home). IsBookOf now.books c.home.publisher h.book) (sym is) (sound.names.at key c link-stands)
+  of-book = subst (λ (h : Home). IsBookOf now.books c.home.publisher h.book) (sym is) (sound.parts.names.at key c link-stands)
 
   -- the book that it names is there
   pub names-book : ContainsKey f.books home.book
@@ -127,7 +127,7 @@ module _ {T U : Type 0} (f : Fields T U) (sound : IsDomain f) (i : ℕ) (y : Sub
             (subst (λ (p : ℕ). TakeSample (state_of (kept_of f)) y.id (receiver f sound i y at_y) (with_all_mailboxes (state_of (kept_of f)) (mailboxes_of (numbers_of f.books) new.connections)) (Got_sample p receipt.sample.number)) (sym from.publisher_is)
             (subst (λ (n : ℕ). TakeSample (state_of (kept_of f)) y.id (receiver f sound i y at_y) (with_all_mailboxes (state_of (kept_of f)) (mailboxes_of (numbers_of f.books) new.connections)) (Got_sample (from.link).home.publisher n)) (sym from.number_is)
             (takes-message f sound i y at_y key receipt.sample.slot from.link from.stands new.connections finds from.takes))),
-        lies-there f.connections new.connections key receipt.sample.slot from.link from.stands from.homes reached.agrees.apart from.takes new y.id receipt refl from.connection_is refl from.publisher_is from.subscriber_is from.book_is
+        lies-there f.connections new.connections key receipt.sample.slot from.link from.stands from.homes reached.agrees.parts.apart from.takes new y.id receipt refl from.connection_is refl from.publisher_is from.subscriber_is from.book_is
             (found-ready f sound i y at_y key receipt.sample.slot from.link from.stands new.connections finds from.takes).0,
       )
 
@@ -173,12 +173,12 @@ module _ {T U : Type 0} (f now : Fields T U) (place : ℕ) (z : SubscriberFields
   pub connected-places : HasConnections f.connections places
   connected-places =
       subst (HasConnections f.connections) (sym has.places_is)
-      (keys-connected (now.config).subscriber_max_borrowed_samples z.id z.keys ((has.sound).linked.receivers place z has.stands))
+      (keys-connected (now.config).subscriber_max_borrowed_samples z.id z.keys ((has.sound).parts.linked.receivers place z has.stands))
 
   pub connected-expired : HasConnections f.connections (map Some expired)
   connected-expired =
       subst (λ (keys : List ℕ). HasConnections f.connections (map Some keys)) (sym has.expired_is)
-      (keys-connected (now.config).subscriber_max_borrowed_samples z.id (map Some z.expired) ((has.sound).linked.expired place z has.stands))
+      (keys-connected (now.config).subscriber_max_borrowed_samples z.id (map Some z.expired) ((has.sound).parts.linked.expired place z has.stands))
 
   pub finds-now : (found : Found) → Finds f.connections expired places found → Finds now.connections z.expired z.keys found
   finds-now found finds =

@@ -44,7 +44,7 @@ module _ {T U : Type 0} (f : Fields T U) (sound : IsDomain f) (i : ℕ) (y : Sub
   found-for found finds =
       subst (λ (boxes : ℕ → ℕ → Mailbox). FindsFor y.id (f.config).subscriber_max_borrowed_samples f.connections receiver (λ p. boxes p y.id) found) (boxes-are f)
       (finds.finds y.id (f.config).subscriber_max_borrowed_samples receiver
-      (record { apart = sound.apart; kept = sound.linked.expired i y at_y; linked = sound.linked.receivers i y at_y; expired = refl; ends = refl })
+      (record { apart = sound.parts.apart; kept = sound.parts.linked.expired i y at_y; linked = sound.parts.linked.receivers i y at_y; expired = refl; ends = refl })
       (numbers_of f.books))
 
   -- nothing waits
@@ -85,7 +85,7 @@ module _ {T U : Type 0} (f : Fields T U) (sound : IsDomain f) (i : ℕ) (y : Sub
         → Reaches f (with_connections f new same) (with_all_mailboxes (state_of (kept_of f)) (mailboxes_of (numbers_of f.books) new))
     takes-reaches same others keeps stay =
         reconnected-reaches f sound key c at_c new same others stay
-        (returned-still f key c at_c new same keeps (sound.linked.returned key c at_c))
+        (returned-still f key c at_c new same keeps (sound.parts.linked.returned key c at_c))
         (take_sample_keeps (state_of (kept_of f)) sound.well_formed y.id receiver _ (Got_sample c.home.publisher number_taken) (subscriber-stands f sound i y at_y) takes-message)
         (λ p q n. subst (λ (boxes : ℕ → ℕ → Mailbox). contains (numbers_in (boxes p q)) n ≡ true → contains (numbers_in ((state_of (kept_of f)).mailboxes p q)) n ≡ true)
         (sym (ap (λ (s : State T U). s.mailboxes) borrows.2))

@@ -61,22 +61,22 @@ module _ {T U : Type 0} (f : Fields T U) (sound : IsDomain f) (key : ℕ) (c : L
   still-returned : (k : ℕ) (d : Link) → get new k ≡ Some d → SenderHas f.publishers k d ⊎ (d.returned ≡ [])
   still-returned k d at_d = elim (cases_eq k key) [
     | inl here ↦ subst (λ (i : ℕ). SenderHas f.publishers i d ⊎ (d.returned ≡ [])) (sym here) (returned d (sym (ap (get new) here) ∙ at_d))
-    | inr away ↦ sound.linked.returned k d (sym (others.others k away) ∙ at_d)
+    | inr away ↦ sound.parts.linked.returned k d (sym (others.others k away) ∙ at_d)
   ]
 
   books-still : HasBooks (with_connections f new same)
   books-still = record {
-    one_each = sound.books.one_each;
-    books = sound.books.books;
-    publishers = λ i x at_x. let has = sound.books.publishers i x at_x in
+    one_each = sound.parts.books.one_each;
+    books = sound.parts.books.books;
+    publishers = λ i x at_x. let has = sound.parts.books.publishers i x at_x in
         record { book = has.book; stands = has.stands; is_its = has.is_its; slots = has.slots; no_more = has.no_more; room = has.room };
-    no_others = sound.books.no_others;
+    no_others = sound.parts.books.no_others;
   }
 
   counted-still : IsCounted (with_connections f new same)
   counted-still = record {
     at = λ p slot.
-        let before = sound.counted.at p slot in
+        let before = sound.parts.counted.at p slot in
         let moved = (stay.follows p []).at slot in
         before ∙ ap (λ n. own_holders f p slot + n) (let e : sum_by (stands p slot) f.connections.slots ≡ sum_by (stands p slot) new.slots = omega (arith, moved) in e);
   }
@@ -84,22 +84,22 @@ module _ {T U : Type 0} (f : Fields T U) (sound : IsDomain f) (key : ℕ) (c : L
   -- the fields with the changed connection agree with one another
   pub reconnected-consistent : HasParts (with_connections f new same)
   reconnected-consistent = record {
-    publisher_ids = sound.publisher_ids;
-    subscriber_ids = sound.subscriber_ids;
-    apart = IsApart-same f.connections new sound.apart same;
-    linked = linked-still f new same sound.linked still-returned;
-    expired_room = room-still f.subscribers f.connections new same sound.expired_room;
+    publisher_ids = sound.parts.publisher_ids;
+    subscriber_ids = sound.parts.subscriber_ids;
+    apart = IsApart-same f.connections new sound.parts.apart same;
+    linked = linked-still f new same sound.parts.linked still-returned;
+    expired_room = room-still f.subscribers f.connections new same sound.parts.expired_room;
     books = books-still;
-    names = names-still f.books f.connections new same sound.names;
+    names = names-still f.books f.connections new same sound.parts.names;
     counted = counted-still;
-    numbered = sound.numbered;
-    publisher_room = sound.publisher_room;
-    warning_room = sound.warning_room;
-    shapes = record { at = sound.shapes.at };
-    forms = sound.forms;
-    supported = sound.supported;
-    plain = sound.plain;
-    plain_subscribers = sound.plain_subscribers;
+    numbered = sound.parts.numbered;
+    publisher_room = sound.parts.publisher_room;
+    warning_room = sound.parts.warning_room;
+    shapes = record { at = sound.parts.shapes.at };
+    forms = sound.parts.forms;
+    supported = sound.parts.supported;
+    plain = sound.parts.plain;
+    plain_subscribers = sound.parts.plain_subscribers;
   }
 
   -- whoever holds a message has its entry

@@ -50,6 +50,6 @@ module _ {T U : Type 0} (f : Fields T U) where
       → has_numbers ((state_of (kept_of f)).mailboxes c.home.publisher c.home.subscriber) ≡ true
       → (i : ℕ) (x : PublisherFields) → get_or f.publishers i None ≡ Some x → x.id ≡ c.home.publisher → SenderHas f.publishers key c
   sender-has sound key c at some i x at_x is =
-      leads-has sound.linked sound.apart key c at i x at_x is
+      leads-has sound.parts.linked sound.parts.apart key c at i x at_x is
       ((sound.well_formed.mailboxes c.home.publisher c.home.subscriber).sender_end _
       (ap (state_of (kept_of f)).publishers (sym is) ∙ publisher-stands f sound i x at_x) some)

@@ -65,10 +65,10 @@ module _ {T U : Type 0} (f : Fields T U) (sound : IsDomain f) (key slot : ℕ) (
   -- ---- what is there
 
   its-book : IsBookOf f.books c.home.publisher c.home.book
-  its-book = sound.names.at key c own.1
+  its-book = sound.parts.names.at key c own.1
 
   box-is : (state_of (kept_of f)).mailboxes c.home.publisher c.home.subscriber ≡ mailbox_of (numbers_of f.books c.home.publisher) c
-  box-is = mailboxes-are f c.home.publisher c.home.subscriber ∙ mailbox-there (numbers_of f.books) f.connections key c.home.publisher c.home.subscriber c sound.apart own.1 refl refl
+  box-is = mailboxes-are f c.home.publisher c.home.subscriber ∙ mailbox-there (numbers_of f.books) f.connections key c.home.publisher c.home.subscriber c sound.parts.apart own.1 refl refl
 
   held : is_borrowed (numbers_of f.books c.home.publisher slot) ((state_of (kept_of f)).mailboxes c.home.publisher c.home.subscriber) ≡ true
   held = ap (is_borrowed (numbers_of f.books c.home.publisher slot)) box-is ∙ contains-one (numbers_of f.books c.home.publisher) c.borrowed slot own.2.1
@@ -112,7 +112,7 @@ module _ {T U : Type 0} (f : Fields T U) (sound : IsDomain f) (key slot : ℕ) (
     is_z = (subscriber-there f c.home.subscriber machine.0 machine.1).3
 
     place : (subscriber-there f c.home.subscriber machine.0 machine.1).0 ≡ c.home.subscriber_place
-    place = (sound.linked.knows.at key _ c (details_of z) own.1 (map-at details_of f.subscribers _ ∙ ap (option_map details_of) at_z) is_z).0
+    place = (sound.parts.linked.knows.at key _ c (details_of z) own.1 (map-at details_of f.subscribers _ ∙ ap (option_map details_of) at_z) is_z).0
 
   -- ---- a publisher that is there
 
@@ -132,7 +132,7 @@ module _ {T U : Type 0} (f : Fields T U) (sound : IsDomain f) (key slot : ℕ) (
     by i x at_x false e = e
     by i x at_x true e =
         let is : x.id ≡ home.publisher = eqb-true x.id home.publisher e in
-        let place : i ≡ home.publisher_place = sound.linked.knows_publishers key i c x own.1 at_x (is ∙ sym (ap (λ (h : Home). h.publisher) own.2.0)) ∙ ap (λ (h : Home). h.publisher_place) own.2.0 in
+        let place : i ≡ home.publisher_place = sound.parts.linked.knows_publishers key i c x own.1 at_x (is ∙ sym (ap (λ (h : Home). h.publisher) own.2.0)) ∙ ap (λ (h : Home). h.publisher_place) own.2.0 in
         absurd (absent (rw (sym (ap (λ (n : ℕ). get_or f.publishers n None) place) ∙ at_x) is))
 
   -- the fields in which the slot has one holder less

@@ -20,7 +20,7 @@ use Rattle.iox2_domain.proofs.lemmas.releases.Released.{unborrowed_here, unborro
 use Rattle.iox2_domain.proofs.lemmas.receives.Reconnected.{held-within}
 use Rattle.iox2_domain.proofs.lemmas.slots.BookChanges.{KeepsSlots, book-here, book-others}
 use Rattle.iox2_domain.proofs.lemmas.slots.LoneLoans.{lone-counters}
-use Rattle.iox2_domain.proofs.lemmas.slots.RecountedSound as counts
+use Rattle.iox2_domain.proofs.lemmas.slots.RecountedLoans as counts
 
 module _ {T U : Type 0} (f : Fields T U) (sound : IsDomain f) (key slot : ℕ) (c : Link) (at_c : get f.connections key ≡ Some c)
     (b : Book) (at_b : get f.books c.home.book ≡ Some b) (its : b.publisher ≡ c.home.publisher)

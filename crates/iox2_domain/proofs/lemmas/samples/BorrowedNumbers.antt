@@ -59,7 +59,7 @@ module _ {T U : Type 0} (f : Fields T U) (sound : IsDomain f) (q n : ℕ) where
   in-its-mailbox : (key : ℕ) (borrows : BorrowsAt f key q n) → is_borrowed n ((state_of (kept_of f)).mailboxes (borrows.connection).home.publisher q) ≡ true
   in-its-mailbox key borrows =
       ap (is_borrowed n) (mailboxes-are f (borrows.connection).home.publisher q
-      ∙ mailbox-there (numbers_of f.books) f.connections key (borrows.connection).home.publisher q borrows.connection sound.apart borrows.stands refl borrows.subscriber_is)
+      ∙ mailbox-there (numbers_of f.books) f.connections key (borrows.connection).home.publisher q borrows.connection sound.parts.apart borrows.stands refl borrows.subscriber_is)
       ∙ borrows.is_borrowed
 
   -- a sample that is live is borrowed in some connection

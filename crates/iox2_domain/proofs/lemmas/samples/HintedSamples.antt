@@ -27,7 +27,7 @@ module _ {T U : Type 0} (f : Fields T U) (sound : IsDomain f) (q n : ℕ) (live 
       let there = live-borrows f sound q n live in
       let borrows = there.2 in
       let key : ℕ = (borrows.connection).home.book in
-      let has = sound.names.at there.0 borrows.connection borrows.stands in
+      let has = sound.parts.names.at there.0 borrows.connection borrows.stands in
       let slot = contains-map_there (numbers_of f.books (borrows.connection).home.publisher) (borrows.connection).borrowed n borrows.is_borrowed in (
         record { connection = there.0; book = key; slot = slot.0 },
         record {
@@ -49,7 +49,7 @@ module _ {T U : Type 0} (f : Fields T U) (sound : IsDomain f) (q n : ℕ) (live 
   lies-in-slot book slot has =
       let at = live-lies.0 in
       let lies = live-lies.1 in
-      let same = sound.numbered.one at.book book at.slot slot n (its-slot f sound q n at lies) has in
+      let same = sound.parts.numbered.one at.book book at.slot slot n (its-slot f sound q n at lies) has in
       let there : at ≡ record { connection = at.connection; book = book; slot = slot } = λ i. record { connection = at.connection; book = same.0 i; slot = same.1 i } in
       (at.connection, subst (LiesBorrowed f q n) there lies)
 
@@ -59,12 +59,12 @@ module _ {T U : Type 0} (f : Fields T U) (sound : IsDomain f) (q n : ℕ) (live 
   lies-at-hint key book slot c at mine book_is has =
       let found = lies-in-slot book slot has in
       let lies = found.1 in
-      let named = sound.names.at key c at in
+      let named = sound.parts.names.at key c at in
       let books : Some lies.book ≡ Some named.book = sym lies.has_book ∙ ap (get f.books) (sym book_is) ∙ named.stands in
       let one_book : lies.book ≡ named.book = cc in
       let publisher : c.home.publisher ≡ (lies.connection).home.publisher = sym named.is_its ∙ ap (λ (d : Book). d.publisher) (sym one_book) ∙ lies.book_is in
       let keys : found.0 ≡ key =
-      (sound.apart.one (lies.connection).home.publisher q).one found.0 key lies.connection c lies.has_connection at
+      (sound.parts.apart.one (lies.connection).home.publisher q).one found.0 key lies.connection c lies.has_connection at
       (and_from _ _ (eq-eqb (lies.connection).home.publisher (lies.connection).home.publisher refl) (eq-eqb (lies.connection).home.subscriber q lies.subscriber_is))
       (and_from _ _ (eq-eqb c.home.publisher (lies.connection).home.publisher publisher) (eq-eqb c.home.subscriber q mine)) in
       subst (λ (k : ℕ). LiesBorrowed f q n (record { connection = k; book = book; slot = slot })) keys lies

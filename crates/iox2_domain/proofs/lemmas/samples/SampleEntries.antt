@@ -81,7 +81,7 @@ module _ {T U : Type 0} (f : Fields T U) (sound : IsDomain f) (q n : ℕ) (at : 
           let here = sym (message_at-slot f.contents f.books at.book at.slot lies.book lies.has_book) ∙ there in
           let parts = message_in-parts lies.book (contents_at f.contents at.book) at.slot (Sent_message n entry) here in
           let sent = sent-parts (lies.book).publisher (slice_index (lies.book).numbers at.slot) n parts.header parts.content parts.mark entry parts.is in
-          let shape = sound.shapes.at at.book at.slot lies.book (Sent_message n entry) lies.has_book here in
+          let shape = sound.parts.shapes.at at.book at.slot lies.book (Sent_message n entry) lies.has_book here in
           record {
             entry = entry;
             is_kept = is;
@@ -98,7 +98,7 @@ module _ {T U : Type 0} (f : Fields T U) (sound : IsDomain f) (q n : ℕ) (at : 
       by : (entry : Entry T U) → entries_of (kept_of f) n ≡ Some entry → (entry.header).publisher_id ≡ its-publisher
           → (key slot : ℕ) × (lies_at f key slot ≡ Some (Sent_message n entry)) → SampleEntry f its-publisher n at lies.book
       by entry is origin there =
-          let same = sound.numbered.one there.0 at.book there.1 at.slot n (has_number f.contents f.books there.0 there.1 n (Sent_message n entry) there.2 (eq-eqb n n refl)) its-slot in
+          let same = sound.parts.numbered.one there.0 at.book there.1 at.slot n (has_number f.contents f.books there.0 there.1 n (Sent_message n entry) there.2 (eq-eqb n n refl)) its-slot in
           in_slot entry is origin (sym (ap (λ (s : ℕ). lies_at f at.book s) same.1) ∙ sym (ap (λ (k : ℕ). lies_at f k there.1) same.0) ∙ there.2)
 
   -- whoever it is borrowed from, it is that connection's publisher

@@ -52,7 +52,7 @@ module _ {T U : Type 0} (f now : Fields T U) (q n : ℕ) (at : SampleSlot) (ther
 
   -- the book has contents
   has-contents : (cs : List (ContentState T U)) × (get_or now.contents at.book None ≡ Some cs)
-  has-contents = by (get_or now.contents at.book None) refl (((there.sound).books.books at.book (there.lies).book (there.lies).has_book).shaped) where
+  has-contents = by (get_or now.contents at.book None) refl (((there.sound).parts.books.books at.book (there.lies).book (there.lies).has_book).shaped) where
     by : (o : Option (List (ContentState T U))) → get_or now.contents at.book None ≡ o → IsSomeAnd o (λ cs. length cs ≡ length ((there.lies).book).holders)
         → (cs : List (ContentState T U)) × (get_or now.contents at.book None ≡ Some cs)
     by None e h = absurd h
@@ -91,7 +91,7 @@ module _ {T U : Type 0} (f now : Fields T U) (q n : ℕ) (at : SampleSlot) (ther
           let same : has-contents.0 ≡ cs = cc in
           let listed : (its-entry.content).is_in_place ≡ false =
           subst (λ (c : ContentState T U). c.is_in_place ≡ false) (get_or_from_slice_get cs at.slot its-entry.content its-entry.content its-contents)
-          (((there.sound).forms.at several at.book cs (has-contents.1 ∙ ap Some same)) at.slot its-entry.content (slice_get_within cs at.slot its-entry.content its-contents)) in
+          (((there.sound).parts.forms.at several at.book cs (has-contents.1 ∙ ap Some same)) at.slot its-entry.content (slice_get_within cs at.slot its-entry.content its-contents)) in
           rw its-contents listed
 
       pub values-read : (xs : List T) → values_at cs at.slot ≡ Some xs → (entry : Entry T U) × (entries_of (kept_of now) n ≡ Some entry) × (entry.values ≡ xs)

@@ -22,7 +22,7 @@ use Rattle.iox2_domain.proofs.lemmas.loans.LoanSlots.{number-at, holders-at, loa
 use Rattle.iox2_domain.proofs.lemmas.fields.Parts.{parts_of}
 use Rattle.iox2_domain.proofs.lemmas.slots.PublisherBooks.{book-own}
 use Rattle.iox2_domain.proofs.lemmas.slots.HeldMessages.{slot_numbered, own-in_use, holders-there}
-use Rattle.iox2_domain.proofs.lemmas.slots.RecountedSound.{loan-publisher}
+use Rattle.iox2_domain.proofs.lemmas.slots.RecountedLoans.{loan-publisher}
 use Rattle.iox2_domain.proofs.lemmas.slots.LoneLoans.{is-loan}
 
 -- a slot whose number isn't in the list isn't among the slots
@@ -65,7 +65,7 @@ module _ {T U : Type 0} (f : Fields T U) (sound : IsDomain f) (i : ℕ) (x : Pub
 
   -- the loan is the state's
   pub loan-is : (state_of (kept_of f)).loans n ≡ Some l
-  loan-is = loan-found f sound.numbered x.book slot n l lies
+  loan-is = loan-found f sound.parts.numbered x.book slot n l lies
 
   -- its publisher
   pub loan-of : l.publisher ≡ x.id
@@ -80,8 +80,8 @@ module _ {T U : Type 0} (f : Fields T U) (sound : IsDomain f) (i : ℕ) (x : Pub
   -- its slot is the one of its publisher's loans that has its number
   pub loan-slot : (s : ℕ) → 0 < times s x.loans → numbers_of f.books x.id s ≡ n → s ≡ slot
   loan-slot s some is =
-      let there = holders-there f x.id s (own-in_use f sound.counted sound.publisher_ids i s x here (omega (arith, some))) in
-      (sound.numbered.one there.0 x.book s slot n (record { book = there.1; stands = there.2; in_use = there.4; number = there.5 ∙ is })
+      let there = holders-there f x.id s (own-in_use f sound.parts.counted sound.parts.publisher_ids i s x here (omega (arith, some))) in
+      (sound.parts.numbered.one there.0 x.book s slot n (record { book = there.1; stands = there.2; in_use = there.4; number = there.5 ∙ is })
       (has_number f.contents f.books x.book slot n (Lent_message n l) lies (eq-eqb n n refl))).1
 
   -- it stands there once
@@ -109,5 +109,5 @@ module _ {T U : Type 0} (f : Fields T U) (sound : IsDomain f) (i : ℕ) (x : Pub
       let mine : own_holders f x.id slot ≡ times slot x.loans + times slot (x.history).items =
       ap (λ o. option_map_or (λ (z : PublisherFields). times slot z.loans + times slot (z.history).items) o
       (option_map_or (λ c. cond (is_loan_in c slot) 1 0) (look_up (is_book_of x.id) f.books.slots) 0))
-      (look_up-found (is_publisher x.id) f.publishers i x (sound.publisher_ids x.id) here (eq-eqb x.id x.id refl)) in
-      record { more = omega (arith, now, mine, sound.counted.at x.id slot, loan-once) }
+      (look_up-found (is_publisher x.id) f.publishers i x (sound.parts.publisher_ids x.id) here (eq-eqb x.id x.id refl)) in
+      record { more = omega (arith, now, mine, sound.parts.counted.at x.id slot, loan-once) }

@@ -41,13 +41,13 @@ module _ {T U : Type 0} (f : Fields T U) (sound : IsDomain f) (i : ℕ) (x : Pub
   lent-marked slot some = elim ((sound.well_formed.publishers x.id _ (publisher-stands f sound i x here)).loans_held n in_loans) [
     | inl held ↦
         let lies = loan-lies f sound x.id n (held.0, held.1, held.2) in
-        let same = sound.numbered.one lies.0 x.book lies.1 slot n
+        let same = sound.parts.numbered.one lies.0 x.book lies.1 slot n
         (record { book = lies.2; stands = lies.3; in_use = lies.5.in_use; number = lies.5.numbered })
         (record { book = b; stands = at; in_use = used; number = number }) in
         let both : Some lies.2 ≡ Some b = sym lies.3 ∙ ap (get f.books) same.0 ∙ at in
         let book : lies.2 ≡ b = cc in
         is-loan b slot n (subst (λ (s : ℕ). IsLoanSlot b s n) same.1 (subst (λ (c : Book). IsLoanSlot c lies.1 n) book lies.5))
-    | inr blocked ↦ absurd (let no : None ≡ Some blocked.0 = sym (unblocked f.books f.connections x (sound.plain i x here)) ∙ blocked.1 in cc)
+    | inr blocked ↦ absurd (let no : None ≡ Some blocked.0 = sym (unblocked f.books f.connections x (sound.parts.plain i x here)) ∙ blocked.1 in cc)
   ] where
     n : ℕ
     n = numbers_of f.books x.id slot
@@ -57,7 +57,7 @@ module _ {T U : Type 0} (f : Fields T U) (sound : IsDomain f) (i : ℕ) (x : Pub
 
     used : 0 < holders_at b slot
     used =
-        let held : 0 < holders_of f.books x.id slot = own-in_use f sound.counted sound.publisher_ids i slot x here (omega (arith, some)) in
+        let held : 0 < holders_of f.books x.id slot = own-in_use f sound.parts.counted sound.parts.publisher_ids i slot x here (omega (arith, some)) in
         let same : holders_of f.books x.id slot ≡ holders_at b slot = ap (λ (p : ℕ). holders_of f.books p slot) (sym mine) ∙ holders-at f sound x.book slot b at in
         omega arith
 

@@ -115,7 +115,7 @@ module _ {T U : Type 0} (environment : Environment) (f : Fields T U) (sound : Is
   in_use : 0 < holders_at book slot
   in_use =
       let some : 0 < holders_of mid.books x.id slot = own-in_use mid parts.counted parts.publisher_ids i slot x here (omega (arith, once)) in
-      omega (arith, some, holders-here (with_connections f d.connections d.recounts.homes) x.book d.book book d.stands keeps sound.books.one_each x.id slot own)
+      omega (arith, some, holders-here (with_connections f d.connections d.recounts.homes) x.book d.book book d.stands keeps sound.parts.books.one_each x.id slot own)
 
   is_in_use : IsInUse book slot
   is_in_use = record { in_bounds = in_use_within {T = T} {U = U} book [] slot in_use; in_use = in_use }
@@ -142,7 +142,7 @@ module _ {T U : Type 0} (environment : Environment) (f : Fields T U) (sound : Is
   parts-remembered = ended-parts mid parts i x here book book-stands own slot n l is_in_use lies-still is_written once
 
   low : slot < length book.marks
-  low = omega (arith, is_in_use.in_bounds, d.recounts.slots, (sound.books.books x.book d.book d.stands).aligned.marks)
+  low = omega (arith, is_in_use.in_bounds, d.recounts.slots, (sound.parts.books.books x.book d.book d.stands).aligned.marks)
 
   lone-remembered : HasLoneLoans remembered.books
   lone-remembered =
@@ -236,7 +236,7 @@ module _ {T U : Type 0} (environment : Environment) (f : Fields T U) (sound : Is
           in-history away (ap (λ (xs : List ℕ). contains xs oldest) e ∙ ap (λ t. t || contains os oldest) (eq-eqb o oldest same))
 
   room : (x.history).capacity ≡ (f.config).history_size
-  room = (sound.publisher_room i x here).history
+  room = (sound.parts.publisher_room i x here).history
 
   fits-history : length (x.history).items ≤ (x.history).capacity
   fits-history =
@@ -297,7 +297,7 @@ module _ {T U : Type 0} (environment : Environment) (f : Fields T U) (sound : Is
   without_loan y = record y { loans = without n y.loans; blocked = None }
 
   sender-is : without_loan (with_message port) ≡ sender
-  sender-is = λ t. record sender { blocked = sym (unblocked f.books f.connections x (sound.plain i x here)) t }
+  sender-is = λ t. record sender { blocked = sym (unblocked f.books f.connections x (sound.parts.plain i x here)) t }
 
   publishers-are : (q : ℕ) → put_at s.publishers x.id (Some sender) q ≡ (send_ended (with_mailboxes (published s x.id n) x.id (boxes x.id)) x.id n).publishers q
   publishers-are q =
@@ -309,7 +309,7 @@ module _ {T U : Type 0} (environment : Environment) (f : Fields T U) (sound : Is
 
   other-boxes : (q r : ℕ) → q ≢ x.id → boxes q r ≡ s.mailboxes q r
   other-boxes q r away =
-      others-stay (numbers_of f.books) f.connections d.connections x.id q r sound.apart d.recounts.homes d.recounts.others away ∙ sym (mailboxes-are f q r)
+      others-stay (numbers_of f.books) f.connections d.connections x.id q r sound.parts.apart d.recounts.homes d.recounts.others away ∙ sym (mailboxes-are f q r)
 
   boxes-are : (q r : ℕ) → boxes q r ≡ put_at s.mailboxes x.id (boxes x.id) q r
   boxes-are q r = elim (cases_eq q x.id) [
@@ -342,7 +342,7 @@ module _ {T U : Type 0} (environment : Environment) (f : Fields T U) (sound : Is
       (Complete count false, boxes x.id, delivers, (ended-state, refl)))
 
   well : IsWellFormed (state_of (kept_of after))
-  well = publish_keeps s sound.well_formed x.id n l (loan-is f sound i x here slot n l lies) (loan-of f sound i x here slot n l lies) port stands (unblocked f.books f.connections x (sound.plain i x here))
+  well = publish_keeps s sound.well_formed x.id n l (loan-is f sound i x here slot n l lies) (loan-of f sound i x here slot n l lies) port stands (unblocked f.books f.connections x (sound.parts.plain i x here))
       environment (state_of (kept_of after)) (Delivered_to count) publishes
 
   -- ---- entries

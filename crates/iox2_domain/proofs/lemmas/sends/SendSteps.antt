@@ -82,8 +82,8 @@ module _ {T U : Type 0} (environment : Environment) (f0 : Fields T U) (sound : I
 
     key-is : key ≡ sender.book
     key-is =
-        let has = updated-agrees.books.publishers place sender sender-stands in
-        (updated-agrees.books.one_each p).one key sender.book at.book has.book at.stands has.stands (eq-eqb (at.book).publisher p at.is_its) (eq-eqb (has.book).publisher p (has.is_its ∙ found.2))
+        let has = updated-agrees.parts.books.publishers place sender sender-stands in
+        (updated-agrees.parts.books.one_each p).one key sender.book at.book has.book at.stands has.stands (eq-eqb (at.book).publisher p at.is_its) (eq-eqb (has.book).publisher p (has.is_its ∙ found.2))
 
     lies : lies_at f1 sender.book slot ≡ Some (Lent_message n holds.0)
     lies = sym (ap (λ k. lies_at f1 k slot) key-is) ∙ message_at-slot f1.contents f1.books key slot at.book at.stands ∙ at.lies ∙ ap (λ (l : Loan T U). Some (Lent_message n l)) loan-same

@@ -28,7 +28,7 @@ times-some slot slots has = by slots (contains-from slots slot has) where
 module _ {T U : Type 0} (f : Fields T U) (sound : IsDomain f) (key book : ℕ) (c : Link) (b : Book) (at : get f.connections key ≡ Some c) (at_b : get f.books book ≡ Some b)
     (its : b.publisher ≡ c.home.publisher) where
   found-book : look_up (is_book_of c.home.publisher) f.books.slots ≡ Some b
-  found-book = look_up-found (is_book_of c.home.publisher) f.books.slots book b (sound.books.one_each c.home.publisher) at_b (eq-eqb b.publisher c.home.publisher its)
+  found-book = look_up-found (is_book_of c.home.publisher) f.books.slots book b (sound.parts.books.one_each c.home.publisher) at_b (eq-eqb b.publisher c.home.publisher its)
 
   -- the book has the numbers of the connection's slots
   pub book-numbers : (slot : ℕ) → numbers_of f.books c.home.publisher slot ≡ slice_index b.numbers slot
@@ -37,7 +37,7 @@ module _ {T U : Type 0} (f : Fields T U) (sound : IsDomain f) (key book : ℕ) (
   book-covers : IsCovered c.home.publisher b.holders f.connections.slots
   book-covers = record {
     at = λ slot.
-        let counted = sound.counted.at c.home.publisher slot in
+        let counted = sound.parts.counted.at c.home.publisher slot in
         let here : holders_of f.books c.home.publisher slot ≡ holders_at b slot = ap (λ o. option_map_or (λ (d : Book). holders_at d slot) o 0) found-book in
         omega (arith, counted, here);
   }

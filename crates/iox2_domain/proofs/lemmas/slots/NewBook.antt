@@ -45,7 +45,7 @@ module _ {T U : Type 0} (f : Fields T U) (sound : IsDomain f) (slots room key : 
   -- and that of a connection
   pub sender_before : (k : ℕ) (c : Link) → get f.connections k ≡ Some c → c.home.publisher < f.next_port
   sender_before k c at =
-      let has = sound.names.at k c at in subst (λ (p : ℕ). p < f.next_port) has.is_its (owner_before c.home.book has.book has.stands)
+      let has = sound.parts.names.at k c at in subst (λ (p : ℕ). p < f.next_port) has.is_its (owner_before c.home.book has.book has.stands)
 
   -- no book is the new publisher's yet
   pub no_book : look_up (is_book_of f.next_port) f.books.slots ≡ None
@@ -60,7 +60,7 @@ module _ {T U : Type 0} (f : Fields T U) (sound : IsDomain f) (slots room key : 
   -- each publisher has one book still
   pub books-apart : (p : ℕ) → IsOnly (is_book_of p) books.slots
   books-apart p =
-      IsOnly-inserted (is_book_of p) f.books.slots books.slots key enters.book (sound.books.one_each p) (no_book_of p) enters.updates.changed enters.updates.others
+      IsOnly-inserted (is_book_of p) f.books.slots books.slots key enters.book (sound.parts.books.one_each p) (no_book_of p) enters.updates.changed enters.updates.others
 
   -- the books by publisher
   pub book-found : (p : ℕ) → look_up (is_book_of p) books.slots ≡ cond (eqb f.next_port p) (Some enters.book) (look_up (is_book_of p) f.books.slots)
@@ -147,8 +147,8 @@ module _ {T U : Type 0} (f : Fields T U) (sound : IsDomain f) (slots room key : 
 
   pub numbered-still : IsNumbered f.next_message books
   numbered-still = record {
-    one = λ k k' slot slot' n here there. sound.numbered.one k k' slot slot' n (had_number k slot n here) (had_number k' slot' n there);
-    below = λ k slot n here. sound.numbered.below k slot n (had_number k slot n here);
+    one = λ k k' slot slot' n here there. sound.parts.numbered.one k k' slot slot' n (had_number k slot n here) (had_number k' slot' n there);
+    below = λ k slot n here. sound.parts.numbered.below k slot n (had_number k slot n here);
   }
 
   pub lone-still : HasLoneLoans books

@@ -20,7 +20,7 @@ use Rattle.iox2_domain.proofs.lemmas.fields.Views.{mailboxes-are}
 use Rattle.iox2_domain.proofs.lemmas.fields.KeptBooks.{kept-own}
 use Rattle.iox2_domain.proofs.lemmas.fields.Parts.{whole_of, parts_of}
 use Rattle.iox2_domain.proofs.lemmas.slots.RecountedFields as fields
-use Rattle.iox2_domain.proofs.lemmas.slots.RecountedSound as counts
+use Rattle.iox2_domain.proofs.lemmas.slots.RecountedLoans as counts
 use Rattle.iox2_domain.proofs.lemmas.slots.LoneLoans.{lone-counters}
 use mathlib.Core.Path.{fun_ext}
 

@@ -45,7 +45,7 @@ module _ {T U : Type 0} (f : Fields T U) (sound : IsDomain f) (new : Slab Book)
       history = map-numbers x.id (x.history).items (λ slot e. rw (holders-are f sound i x at slot) (history-in_use f sound i x at slot e))
 
       blocked : ((publisher_of new f.connections x).port).blocked ≡ ((publisher_of f.books f.connections x).port).blocked
-      blocked = nothing-blocked _ _ x.blocked (sound.plain i x at).unblocked
+      blocked = nothing-blocked _ _ x.blocked (sound.parts.plain i x at).unblocked
 
   -- in a connection lies what lay there
   between-same : (key : ℕ) (c : Link) → get f.connections key ≡ Some c → between_of new f.connections c ≡ between_of f.books f.connections c

@@ -117,10 +117,10 @@ module _ {T U : Type 0} (f : Fields T U) (sound : IsDomain f) (key slot : ℕ) (
     ];
   } where
     old : IsBook b (get_or f.contents key None)
-    old = sound.books.books key b at_b
+    old = sound.parts.books.books key b at_b
 
     base : HasBooks (with_book f key marked)
-    base = books-changed f key b marked at_b marked-keeps sound.books (record {
+    base = books-changed f key b marked at_b marked-keeps sound.parts.books (record {
       numbers = old.aligned.numbers;
       headers = old.aligned.headers;
       marks = length-set b.marks slot mark ∙ old.aligned.marks;
@@ -146,8 +146,8 @@ module _ {T U : Type 0} (f : Fields T U) (sound : IsDomain f) (key slot : ℕ) (
   -- numbers stay apart
   pub slot-numbered : IsNumbered f.next_message (with_value f.books key marked)
   slot-numbered = record {
-    one = λ k k' s s' n here there. sound.numbered.one k k' s s' n (number-was k s n here) (number-was k' s' n there);
-    below = λ k s n here. sound.numbered.below k s n (number-was k s n here);
+    one = λ k k' s s' n here there. sound.parts.numbered.one k k' s s' n (number-was k s n here) (number-was k' s' n there);
+    below = λ k s n here. sound.parts.numbered.below k s n (number-was k s n here);
   }
 
   -- a loan's slot with the mark of a loan is a loan's still
@@ -179,24 +179,24 @@ module _ {T U : Type 0} (f : Fields T U) (sound : IsDomain f) (key slot : ℕ) (
 
     by : (p s : ℕ) (t : Bool) → eqb b.publisher p ≡ t → holders_of books p s ≡ own_holders with_slot p s + sum_by (stands p s) f.connections.slots
     by p s true e =
-        let was : look_up (is_book_of p) f.books.slots ≡ Some b = look_up-found (is_book_of p) f.books.slots key b (sound.books.one_each p) at_b e in
+        let was : look_up (is_book_of p) f.books.slots ≡ Some b = look_up-found (is_book_of p) f.books.slots key b (sound.parts.books.one_each p) at_b e in
         let is : look_up (is_book_of p) books.slots ≡ Some marked =
-        look_up-found (is_book_of p) books.slots key marked (books-apart f key b marked at_b marked-keeps sound.books.one_each p) (book-here f key b marked at_b marked-keeps) e in
+        look_up-found (is_book_of p) books.slots key marked (books-apart f key b marked at_b marked-keeps sound.parts.books.one_each p) (book-here f key b marked at_b marked-keeps) e in
         let owner : Option PublisherFields = look_up (is_publisher p) f.publishers in
-        holders-here f key b marked at_b marked-keeps sound.books.one_each p s (eqb-true b.publisher p e)
+        holders-here f key b marked at_b marked-keeps sound.parts.books.one_each p s (eqb-true b.publisher p e)
         ∙ sym (ap (holders_in s) was)
-        ∙ sound.counted.at p s
+        ∙ sound.parts.counted.at p s
         ∙ ap (λ n. n + sum_by (stands p s) f.connections.slots)
         (ap (λ o. own s o owner) was ∙ sym (same-own s owner) ∙ sym (ap (λ o. own s o owner) is))
     by p s false e =
-        let same : look_up (is_book_of p) books.slots ≡ look_up (is_book_of p) f.books.slots = other-book f key b marked at_b marked-keeps sound.books.one_each p e in
+        let same : look_up (is_book_of p) books.slots ≡ look_up (is_book_of p) f.books.slots = other-book f key b marked at_b marked-keeps sound.parts.books.one_each p e in
         ap (holders_in s) same
-        ∙ sound.counted.at p s
+        ∙ sound.parts.counted.at p s
         ∙ ap (λ n. n + sum_by (stands p s) f.connections.slots) (sym (ap (λ o. own s o (look_up (is_publisher p) f.publishers)) same))
 
   -- the machine knows of the slot by its loans alone
   pub slot-state : state_of (kept_of with_slot) ≡ record (state_of (kept_of f)) { loans = (state_of (kept_of with_slot)).loans }
-  slot-state = λ i. record (book-state f key b marked at_b marked-keeps sound.books.one_each i) { loans = (state_of (kept_of with_slot)).loans }
+  slot-state = λ i. record (book-state f key b marked at_b marked-keeps sound.parts.books.one_each i) { loans = (state_of (kept_of with_slot)).loans }
 
   -- ---- messages
 

@@ -41,17 +41,17 @@ module _ {T U : Type 0} (f : Fields T U) (sound : IsDomain f) where
   connected-in_use key slot c at some =
       let part : stands c.home.publisher slot (Some c) ≤ sum_by (stands c.home.publisher slot) f.connections.slots =
       rw at at (get_or-le-sum_by (stands c.home.publisher slot) f.connections.slots key None (within_if_some f.connections.slots key c at)) in
-      omega (arith, part, sound.counted.at c.home.publisher slot, stands-own c.home.publisher slot c refl)
+      omega (arith, part, sound.parts.counted.at c.home.publisher slot, stands-own c.home.publisher slot c refl)
 
   module _ (i : ℕ) (x : PublisherFields) (at : get_or f.publishers i None ≡ Some x) where
     -- the publisher's book
     pub its_book : HasBook f x
-    its_book = sound.books.publishers i x at
+    its_book = sound.parts.books.publishers i x at
 
     -- it is found by the publisher's id
     pub book-found : look_up (is_book_of x.id) f.books.slots ≡ Some its_book.book
     book-found =
-        look_up-found (is_book_of x.id) f.books.slots x.book its_book.book (sound.books.one_each x.id) its_book.stands
+        look_up-found (is_book_of x.id) f.books.slots x.book its_book.book (sound.parts.books.one_each x.id) its_book.stands
         (eq-eqb (its_book.book).publisher x.id its_book.is_its)
 
     -- the number of a slot is the one in the book
@@ -67,11 +67,11 @@ module _ {T U : Type 0} (f : Fields T U) (sound : IsDomain f) where
     own-are slot =
         ap (λ o. option_map_or (λ (z : PublisherFields). times slot z.loans + times slot (z.history).items) o
         (option_map_or (λ b. cond (is_loan_in b slot) 1 0) (look_up (is_book_of x.id) f.books.slots) 0))
-        (look_up-found (is_publisher x.id) f.publishers i x (sound.publisher_ids x.id) at (eq-eqb x.id x.id refl))
+        (look_up-found (is_publisher x.id) f.publishers i x (sound.parts.publisher_ids x.id) at (eq-eqb x.id x.id refl))
 
     -- each slot has as many holders as there are places where it stands
     pub slot-counted : (slot : ℕ) → holders_at its_book.book slot ≡ times slot x.loans + times slot (x.history).items + sum_by (stands x.id slot) f.connections.slots
-    slot-counted slot = sym (holders-are slot) ∙ sound.counted.at x.id slot ∙ ap (λ n. n + sum_by (stands x.id slot) f.connections.slots) (own-are slot)
+    slot-counted slot = sym (holders-are slot) ∙ sound.parts.counted.at x.id slot ∙ ap (λ n. n + sum_by (stands x.id slot) f.connections.slots) (own-are slot)
 
     -- a slot among the loans has a holder
     pub loan-in_use : (slot : ℕ) → contains x.loans slot ≡ true → 0 < holders_at its_book.book slot
@@ -133,7 +133,7 @@ module _ {T U : Type 0} (f : Fields T U) (sound : IsDomain f) where
 
     -- the slots of the book have different numbers
     numbers-apart : HasApart (its_book.book).holders number
-    numbers-apart j k held_j held_k same = (sound.numbered.one x.book x.book j k (number k)
+    numbers-apart j k held_j held_k same = (sound.parts.numbered.one x.book x.book j k (number k)
         (record { book = its_book.book; stands = its_book.stands; in_use = held_j; number = sym (numbers-are j) ∙ same })
         (record { book = its_book.book; stands = its_book.stands; in_use = held_k; number = sym (numbers-are k) })).1
 
@@ -153,11 +153,11 @@ module _ {T U : Type 0} (f : Fields T U) (sound : IsDomain f) where
     module _ (reclaimed : HasReclaimed f.connections x.keys) where
       -- no slot of it that was given back isn't reclaimed
       none_returned : (key : ℕ) (c : Link) → get f.connections key ≡ Some c → c.home.publisher ≡ x.id → c.returned ≡ []
-      none_returned key c at_c its = elim (sound.linked.returned key c at_c) [
+      none_returned key c at_c its = elim (sound.parts.linked.returned key c at_c) [
         | inl has ↦
             let same_id : is_publisher x.id has.publisher ≡ true = eq-eqb (has.publisher).id x.id (has.is_its ∙ its) in
             let here : c.home.publisher_place ≡ i =
-            (sound.publisher_ids x.id).one c.home.publisher_place i has.publisher x has.stands at same_id (eq-eqb x.id x.id refl) in
+            (sound.parts.publisher_ids x.id).one c.home.publisher_place i has.publisher x has.stands at same_id (eq-eqb x.id x.id refl) in
             let stood : get_or f.publishers i None ≡ Some has.publisher = subst (λ (k : ℕ). get_or f.publishers k None ≡ Some has.publisher) here has.stands in
             let same : Some has.publisher ≡ Some x = sym stood ∙ at in
             let is : has.publisher ≡ x = cc in
@@ -172,7 +172,7 @@ module _ {T U : Type 0} (f : Fields T U) (sound : IsDomain f) where
           let none : times slot c.returned ≡ 0 = ap (times slot) (none_returned key c at_c its) in
           let waits_or_not : (0 < times slot c.waiting) ⊎ (0 < times slot c.borrowed) = either (times slot c.waiting) (times slot c.borrowed) (omega (arith, some, none)) in
           let here : look_up (is_between x.id c.home.subscriber) f.connections.slots ≡ Some c =
-          look_up-found (is_between x.id c.home.subscriber) f.connections.slots key c (sound.apart.one x.id c.home.subscriber) at_c
+          look_up-found (is_between x.id c.home.subscriber) f.connections.slots key c (sound.parts.apart.one x.id c.home.subscriber) at_c
           (and_from (eqb c.home.publisher x.id) (eqb c.home.subscriber c.home.subscriber) (eq-eqb c.home.publisher x.id its) (eq-eqb c.home.subscriber c.home.subscriber refl)) in
           let box_is : state.mailboxes x.id c.home.subscriber ≡ mailbox_of number c = mailboxes-are f x.id c.home.subscriber ∙ ap (mailbox_if_any number) here in
           let in_box : contains (numbers_in (mailbox_of number c)) (number slot) ≡ true = elim waits_or_not [

@@ -59,13 +59,13 @@ module _ {T U : Type 0} (f : Fields T U) (i j : ℕ) (x : PublisherFields) (y : 
 
     sender-sound : IsDomain sender
     sender-sound =
-        sender-agrees f sound i x at_x x.keys n x.is_due f.connections f.warnings (fits-grown f sound i x at_x f.connections.capacity n more_x) sound.warning_room
+        sender-agrees f sound i x at_x x.keys n x.is_due f.connections f.warnings (fits-grown f sound i x at_x f.connections.capacity n more_x) sound.parts.warning_room
         (subst IsWellFormed (sym sender-state) sound.well_formed)
 
     -- the fields agree
     pub grown-sound : IsDomain grown
     grown-sound =
-        receiver-agrees sender sender-sound j y at_y y.keys m e y.is_due f.connections f.warnings (receiver_fits-grown sender (parts_of sender sender-sound) j y at_y f.connections.capacity m e more_y more_e) sound.warning_room
+        receiver-agrees sender sender-sound j y at_y y.keys m e y.is_due f.connections f.warnings (receiver_fits-grown sender (parts_of sender sender-sound) j y at_y f.connections.capacity m e more_y more_e) sound.parts.warning_room
         (subst IsWellFormed (sym grown-state) sound.well_formed)
 
     abbrev P : Publisher

@@ -50,22 +50,22 @@ module _ {T U : Type 0} (f : Fields T U) (sound : IsDomain f) (i : ℕ) (x : Pub
   mine = book-own f (parts_of f sound) i x here b at
 
   counts : (slot : ℕ) → holders_of f.books x.id slot ≡ holders_at b slot
-  counts slot = ap (λ o. option_map_or (λ (e : Book). holders_at e slot) o 0) (look_up-found (is_book_of x.id) f.books.slots x.book b (sound.books.one_each x.id) at (eq-eqb b.publisher x.id mine))
+  counts slot = ap (λ o. option_map_or (λ (e : Book). holders_at e slot) o 0) (look_up-found (is_book_of x.id) f.books.slots x.book b (sound.parts.books.one_each x.id) at (eq-eqb b.publisher x.id mine))
 
   -- each slot of the history has a holder
   pub remembered-in_use : (slot : ℕ) → 0 < times slot (x.history).items → 0 < holders_at b slot
   remembered-in_use slot some =
-      let held : 0 < holders_of f.books x.id slot = own-in_use f sound.counted sound.publisher_ids i slot x here (omega (arith, some)) in
+      let held : 0 < holders_of f.books x.id slot = own-in_use f sound.parts.counted sound.parts.publisher_ids i slot x here (omega (arith, some)) in
       omega (arith, held, counts slot)
 
   -- ---- how often a slot stands in one connection
 
   box-is : (key : ℕ) (c : Link) → get f.connections key ≡ Some c → c.home.publisher ≡ x.id → s.mailboxes x.id c.home.subscriber ≡ mailbox_of (numbers_of f.books x.id) c
-  box-is key c there its = mailboxes-are f x.id c.home.subscriber ∙ mailbox-there (numbers_of f.books) f.connections key x.id c.home.subscriber c sound.apart there its refl
+  box-is key c there its = mailboxes-are f x.id c.home.subscriber ∙ mailbox-there (numbers_of f.books) f.connections key x.id c.home.subscriber c sound.parts.apart there its refl
 
   module _ (reclaimed : HasReclaimed f.connections x.keys) where
     nothing-returned : (key : ℕ) (c : Link) → get f.connections key ≡ Some c → c.home.publisher ≡ x.id → c.returned ≡ []
-    nothing-returned key c there its = elim (sound.linked.returned key c there) [
+    nothing-returned key c there its = elim (sound.parts.linked.returned key c there) [
       | inr none ↦ none
       | inl has ↦
           let place : c.home.publisher_place ≡ i = one-publisher f sound c.home.publisher_place i has.publisher x has.stands here (has.is_its ∙ its) in
@@ -105,10 +105,10 @@ module _ {T U : Type 0} (f : Fields T U) (sound : IsDomain f) (i : ℕ) (x : Pub
       leading : (c : Link) → get f.connections key ≡ Some c → c.home.publisher ≡ x.id → (j : ℕ) → (o : Option ℕ) → get_or x.keys j None ≡ o → subscriber_of_key f.connections o ≡ Some c.home.subscriber → get_or x.keys j None ≡ Some key
       leading c there its j None e to = absurd cc
       leading c there its j (Some k) e to =
-          let own = some_is (IsSenders x.id j) (get f.connections k) ((sound.linked.senders i x here).at j k e) in
+          let own = some_is (IsSenders x.id j) (get f.connections k) ((sound.parts.linked.senders i x here).at j k e) in
           let same : Some own.0.home.subscriber ≡ Some c.home.subscriber = sym (ap (option_map (λ (d : Link). d.home.subscriber)) own.1) ∙ to in
           let subscriber : own.0.home.subscriber ≡ c.home.subscriber = cc in
-          let one : k ≡ key = (sound.apart.one x.id c.home.subscriber).one k key own.0 c own.1 there (is_between-own x.id c.home.subscriber own.0 own.2.publisher subscriber) (is_between-own x.id c.home.subscriber c its refl) in
+          let one : k ≡ key = (sound.parts.apart.one x.id c.home.subscriber).one k key own.0 c own.1 there (is_between-own x.id c.home.subscriber own.0 own.2.publisher subscriber) (is_between-own x.id c.home.subscriber c its refl) in
           e ∙ ap Some one
 
       by : (o : Option Link) → get f.connections key ≡ o → 0 < stands x.id slot o → (j : ℕ) × (get_or x.keys j None ≡ Some key)
@@ -129,9 +129,9 @@ module _ {T U : Type 0} (f : Fields T U) (sound : IsDomain f) (i : ℕ) (x : Pub
         let own : own_holders f x.id slot ≡ times slot x.loans + times slot (x.history).items =
         ap (λ o. option_map_or (λ (z : PublisherFields). times slot z.loans + times slot (z.history).items) o
         (option_map_or (λ e. cond (is_loan_in e slot) 1 0) (look_up (is_book_of x.id) f.books.slots) 0))
-        (look_up-found (is_publisher x.id) f.publishers i x (sound.publisher_ids x.id) here (eq-eqb x.id x.id refl)) in
+        (look_up-found (is_publisher x.id) f.publishers i x (sound.parts.publisher_ids x.id) here (eq-eqb x.id x.id refl)) in
         let u = sound.well_formed.publishers x.id P present in
         let lent : times slot x.loans ≤ 1 = once-times (numbers_of f.books x.id) slot x.loans u.loans_once in
         let remembered : times slot (x.history).items ≤ 1 = once-times (numbers_of f.books x.id) slot (x.history).items u.history_once in
         let standing : sum_by (stands x.id slot) f.connections.slots ≤ length x.keys = sum-keys (stands x.id slot) refl x.keys f.connections.slots (few slot) (known slot) in
-        omega (arith, counts slot, own, lent, remembered, standing, short, sound.counted.at x.id slot)
+        omega (arith, counts slot, own, lent, remembered, standing, short, sound.parts.counted.at x.id slot)

@@ -60,7 +60,7 @@ module _ {T U : Type 0} (before f : Fields T U) (same : f ≡ before) (sound : I
 
   -- the connection is still there
   pub new-there : get new key ≡ Some c
-  new-there = still-empty x.id b.holders b1.holders f.connections new sound.apart r key c there empty
+  new-there = still-empty x.id b.holders b1.holders f.connections new sound.parts.apart r key c there empty
 
   -- each slot of the history has a holder, and may have one more
   pub new-in_use : (slot : ℕ) → 0 < times slot (x.history).items → 0 < holders_at b1 slot
@@ -230,7 +230,7 @@ module _ {T U : Type 0} (environment : Environment) (f : Fields T U) (sound : Is
 
   well : IsWellFormed (with_sender_side s x.id P full)
   well =
-      with_sender_side_keeps s sound.well_formed x.id P present (unblocked f.books f.connections x (sound.plain i x at)) full
+      with_sender_side_keeps s sound.well_formed x.id P present (unblocked f.books f.connections x (sound.parts.plain i x at)) full
       (performed_keeps s sound.well_formed x.id P present environment j _ _ (sender_side s x.id P) full None
       (place-within f j low) refl refl (sender_side_begins s sound.well_formed x.id P present) made.steps)
 

@@ -123,7 +123,7 @@ module _ {T U : Type 0} (f : Fields T U) (sound : IsDomain f) (i : ℕ) (x : Pub
   -- ---- the state
 
   box-is : s.mailboxes x.id c.home.subscriber ≡ mailbox_of (numbers_of f.books x.id) c
-  box-is = mailboxes-are f x.id c.home.subscriber ∙ mailbox-there (numbers_of f.books) f.connections key x.id c.home.subscriber c sound.apart there its refl
+  box-is = mailboxes-are f x.id c.home.subscriber ∙ mailbox-there (numbers_of f.books) f.connections key x.id c.home.subscriber c sound.parts.apart there its refl
 
   filled-is : mailbox_of (numbers_of f.books x.id) filled ≡ with_waiting (last_n c.buffer P.history) (s.mailboxes x.id c.home.subscriber)
   filled-is =
@@ -134,7 +134,7 @@ module _ {T U : Type 0} (f : Fields T U) (sound : IsDomain f) (i : ℕ) (x : Pub
   handed-is =
       recounted-is f sound x.id x.book b at mine owned holders connections recounts
       ∙ ap (λ (boxes : ℕ → ℕ → Mailbox). record s { mailboxes = boxes })
-      (mailboxes-changed (numbers_of f.books) f.connections connections key c filled sound.apart there refl (Updates-with_value f.connections key c filled there)
+      (mailboxes-changed (numbers_of f.books) f.connections connections key c filled sound.parts.apart there refl (Updates-with_value f.connections key c filled there)
       ∙ ap (λ (p : ℕ). with_box (mailboxes_of (numbers_of f.books) f.connections) p c.home.subscriber (mailbox_of (numbers_of f.books p) filled)) its
       ∙ ap (λ (boxes : ℕ → ℕ → Mailbox). with_box boxes x.id c.home.subscriber (mailbox_of (numbers_of f.books x.id) filled)) (sym (fun_ext (λ p. fun_ext (λ q. mailboxes-are f p q))))
       ∙ ap (with_box s.mailboxes x.id c.home.subscriber) filled-is)
@@ -170,7 +170,7 @@ module _ {T U : Type 0} (f : Fields T U) (sound : IsDomain f) (i : ℕ) (x : Pub
       let kept = sound.entries x.id n (In_history P present (contains-map (numbers_of f.books x.id) (x.history).items slot (times-stands slot (x.history).items some))) in
       let place = entry-there f n kept.0 kept.1 in
       let has : HasNumber f.books x.book slot n = record { book = b; stands = at; in_use = remembered-in_use f sound i x here b at slot some; number = sym number ∙ ap (λ (p : ℕ). numbers_of f.books p slot) mine } in
-      let same = sound.numbered.one place.0 x.book place.1 slot n (has_number f.contents f.books place.0 place.1 n (Sent_message n kept.0) place.2 (eq-eqb n n refl)) has in
+      let same = sound.parts.numbered.one place.0 x.book place.1 slot n (has_number f.contents f.books place.0 place.1 n (Sent_message n kept.0) place.2 (eq-eqb n n refl)) has in
       let lies : lies_at f x.book slot ≡ Some (Sent_message n kept.0) = sym (ap (λ j. lies_at f x.book j) same.1) ∙ sym (ap (λ k. lies_at f k place.1) same.0) ∙ place.2 in
       let parts = message_in-parts b (contents_at f.contents x.book) slot (Sent_message n kept.0) (sym (message_at-slot f.contents f.books x.book slot b at) ∙ lies) in
       by parts parts.mark parts.is parts.marks

@@ -47,7 +47,7 @@ module _ {T U : Type 0} (f : Fields T U) (sound : IsDomain f) (i j : ℕ) (x : P
     -- the publisher has an end there
     pub end-at : HasEnd f i j key
     end-at =
-        let own = some_is (IsSenders x.id j) (get f.connections key) ((sound.linked.senders i x at_x).at j key (own-key (Some key) named)) in
+        let own = some_is (IsSenders x.id j) (get f.connections key) ((sound.parts.linked.senders i x at_x).at j key (own-key (Some key) named)) in
         record { publisher = x; stands = at_x; settled = due; has = own-key (Some key) named; link = own.0; connected = own.1 }
 
     pub end-stands : ContainsKey f.connections key

@@ -88,51 +88,51 @@ module _ {T U : Type 0} (f : Fields T U) (sound : IsDomain f) (i : ℕ) (x : Pub
   linked = record {
     senders = λ k z at_z. elim (stood k z at_z) [
       | inl here ↦ rw here.1 fits.linked
-      | inr old ↦ sender_linked f.connections connections fits.extends z.id z.keys (sound.linked.senders k z old)
+      | inr old ↦ sender_linked f.connections connections fits.extends z.id z.keys (sound.parts.linked.senders k z old)
     ];
-    receivers = λ k y at_y. receiver_linked f.connections connections fits.extends y.id _ y.keys (sound.linked.receivers k y at_y);
-    expired = λ k y at_y. receiver_linked f.connections connections fits.extends y.id _ _ (sound.linked.expired k y at_y);
+    receivers = λ k y at_y. receiver_linked f.connections connections fits.extends y.id _ y.keys (sound.parts.linked.receivers k y at_y);
+    expired = λ k y at_y. receiver_linked f.connections connections fits.extends y.id _ _ (sound.parts.linked.expired k y at_y);
     ends = λ key c at_c. elim (fits.news key c at_c) [
-      | inl old ↦ elim (sound.linked.ends key c old) [ inl has ↦ inl (has-still key c has) | inr has ↦ inr has ]
+      | inl old ↦ elim (sound.parts.linked.ends key c old) [ inl has ↦ inl (has-still key c has) | inr has ↦ inr has ]
       | inr new ↦ inl (has-new key c new)
     ];
-    receiver_places = λ k place key y c at_y at_key at_c. sound.linked.receiver_places k place key y c at_y at_key
-        (known key y.id c at_c (get f.connections key) refl ((sound.linked.receivers k y at_y).at place key at_key));
+    receiver_places = λ k place key y c at_y at_key at_c. sound.parts.linked.receiver_places k place key y c at_y at_key
+        (known key y.id c at_c (get f.connections key) refl ((sound.parts.linked.receivers k y at_y).at place key at_key));
     knows = record {
       at = λ key k c d at_c at_d same. elim (fits.news key c at_c) [
-        | inl old ↦ sound.linked.knows.at key k c d old at_d same
+        | inl old ↦ sound.parts.linked.knows.at key k c d old at_d same
         | inr new ↦ knows key k c d new (viewed details_of f.subscribers k d at_d) same
       ];
     };
     knows_publishers = λ key k c z at_c at_z same.
         let old_z = was k z at_z in
         elim (fits.news key c at_c) [
-          | inl old ↦ sound.linked.knows_publishers key k c old_z.0 old old_z.1 (old_z.2 ∙ same)
+          | inl old ↦ sound.parts.linked.knows_publishers key k c old_z.0 old old_z.1 (old_z.2 ∙ same)
           | inr new ↦ one-publisher f sound k i old_z.0 x old_z.1 at (old_z.2 ∙ same ∙ new.publisher) ∙ sym new.publisher_place
         ];
     sender_rooms = λ key k c z at_c at_z same. sender_room key k c z at_z same (fits.news key c at_c) (stood k z at_z);
     receiver_rooms = λ key k c y at_c at_y same. elim (fits.news key c at_c) [
-      | inl old ↦ sound.linked.receiver_rooms key k c y old at_y same
+      | inl old ↦ sound.parts.linked.receiver_rooms key k c y old at_y same
       | inr new ↦
           let place : k ≡ c.home.subscriber_place = one-subscriber f sound k c.home.subscriber_place y new.subscriber at_y new.stands (same ∙ sym new.is_its) in
           let one : Some y ≡ Some new.subscriber = sym at_y ∙ ap (λ (n : ℕ). get_or f.subscribers n None) place ∙ new.stands in
           let is : y ≡ new.subscriber = cc in
           rw is new.subscriber_room
     ];
-    limits = λ key c at_c. elim (fits.news key c at_c) [ inl old ↦ sound.linked.limits key c old | inr new ↦ new.limit ];
+    limits = λ key c at_c. elim (fits.news key c at_c) [ inl old ↦ sound.parts.linked.limits key c old | inr new ↦ new.limit ];
     returned = λ key c at_c. elim (fits.news key c at_c) [
-      | inl old ↦ elim (sound.linked.returned key c old) [ inl has ↦ inl (has-still key c has) | inr none ↦ inr none ]
+      | inl old ↦ elim (sound.parts.linked.returned key c old) [ inl has ↦ inl (has-still key c has) | inr none ↦ inr none ]
       | inr new ↦ inl (has-new key c new)
     ];
   } where
     sender_room : (key k : ℕ) (c : Link) (z : PublisherFields) → get_or publishers k None ≡ Some z → z.id ≡ c.home.publisher
         → (get f.connections key ≡ Some c) ⊎ New key c → ((k ≡ i) × (z ≡ changed)) ⊎ (get_or f.publishers k None ≡ Some z) → c.home.subscriber_place < z.key_room
     sender_room key k c z at_z same (inl old) (inl here) =
-        let low : c.home.subscriber_place < x.key_room = sound.linked.sender_rooms key i c x old at (sym (ap (λ (w : PublisherFields). w.id) here.1) ∙ same) in
+        let low : c.home.subscriber_place < x.key_room = sound.parts.linked.sender_rooms key i c x old at (sym (ap (λ (w : PublisherFields). w.id) here.1) ∙ same) in
         let grows = fits.grows in
         let enough : c.home.subscriber_place < key_room = omega arith in
         rw here.1 enough
-    sender_room key k c z at_z same (inl old) (inr was_there) = sound.linked.sender_rooms key k c z old was_there same
+    sender_room key k c z at_z same (inl old) (inr was_there) = sound.parts.linked.sender_rooms key k c z old was_there same
     sender_room key k c z at_z same (inr new) _ =
         let old_z = was k z at_z in
         let place : k ≡ i = one-publisher f sound k i old_z.0 x old_z.1 at (old_z.2 ∙ same ∙ new.publisher) in
@@ -155,13 +155,13 @@ module _ {T U : Type 0} (f : Fields T U) (sound : IsDomain f) (i : ℕ) (x : Pub
 
   books : HasBooks after
   books = record {
-    one_each = sound.books.one_each;
-    books = sound.books.books;
+    one_each = sound.parts.books.one_each;
+    books = sound.parts.books.books;
     publishers = λ k z at_z. elim (stood k z at_z) [
-      | inl here ↦ rw here.1 (let has = sound.books.publishers i x at in rebuilt changed refl refl refl refl refl has)
-      | inr old ↦ rebuilt z refl refl refl refl refl (sound.books.publishers k z old)
+      | inl here ↦ rw here.1 (let has = sound.parts.books.publishers i x at in rebuilt changed refl refl refl refl refl has)
+      | inr old ↦ rebuilt z refl refl refl refl refl (sound.parts.books.publishers k z old)
     ];
-    no_others = sound.books.no_others;
+    no_others = sound.parts.books.no_others;
   } where
     rebuilt : (z : PublisherFields) {y : PublisherFields} → z.id ≡ y.id → z.book ≡ y.book → z.slots ≡ y.slots → z.allocation ≡ y.allocation → z.initial_max_slice_len ≡ y.initial_max_slice_len
         → HasBook f y → HasBook after z
@@ -182,18 +182,18 @@ module _ {T U : Type 0} (f : Fields T U) (sound : IsDomain f) (i : ℕ) (x : Pub
 
   same-own : (p slot : ℕ) → own_holders after p slot ≡ own_holders f p slot
   same-own p slot =
-      ap (own p slot) (look_up-changed (is_publisher p) f.publishers publishers i x changed (sound.publisher_ids p)
-      (changed-only f.publishers i x changed at (is_publisher p) refl (sound.publisher_ids p)) at
+      ap (own p slot) (look_up-changed (is_publisher p) f.publishers publishers i x changed (sound.parts.publisher_ids p)
+      (changed-only f.publishers i x changed at (is_publisher p) refl (sound.parts.publisher_ids p)) at
       (changed-here f.publishers i x changed at) (changed-others f.publishers i x changed at) refl)
       ∙ by (eqb x.id p) refl
     where
       by : (b : Bool) → eqb x.id p ≡ b → own p slot (cond b (Some changed) (look_up (is_publisher p) f.publishers)) ≡ own p slot (look_up (is_publisher p) f.publishers)
-      by true e = ap (own p slot) (sym (look_up-found (is_publisher p) f.publishers i x (sound.publisher_ids p) at e))
+      by true e = ap (own p slot) (sym (look_up-found (is_publisher p) f.publishers i x (sound.parts.publisher_ids p) at e))
       by false e = refl
 
   counted : IsCounted after
   counted = record {
-    at = λ p slot. sound.counted.at p slot ∙ sym (λ k. same-own p slot k + fits.extends.sums p slot k);
+    at = λ p slot. sound.parts.counted.at p slot ∙ sym (λ k. same-own p slot k + fits.extends.sums p slot k);
   }
 
   -- a publisher holds what it held
@@ -208,36 +208,36 @@ module _ {T U : Type 0} (f : Fields T U) (sound : IsDomain f) (i : ℕ) (x : Pub
   -- the invariant is kept
   pub sender-agrees : warnings.capacity ≡ warning_limit → IsWellFormed (state_of (kept_of after)) → IsDomain after
   sender-agrees room well = record {
-    publisher_ids = λ p. changed-only f.publishers i x changed at (is_publisher p) refl (sound.publisher_ids p);
-    subscriber_ids = sound.subscriber_ids;
+    publisher_ids = λ p. changed-only f.publishers i x changed at (is_publisher p) refl (sound.parts.publisher_ids p);
+    subscriber_ids = sound.parts.subscriber_ids;
     apart = fits.extends.apart;
     linked = linked;
     expired_room = fits.rooms;
     books = books;
     names = record {
       at = λ key c at_c. elim (fits.news key c at_c) [
-        | inl old ↦ sound.names.at key c old
-        | inr new ↦ let has = sound.books.publishers i x at in
+        | inl old ↦ sound.parts.names.at key c old
+        | inr new ↦ let has = sound.parts.books.publishers i x at in
             rw new.book (record { book = has.book; stands = has.stands; is_its = has.is_its ∙ sym new.publisher })
       ];
     };
     kept_books = changed-kept_books f i x changed at refl f.books refl sound.kept_books;
     counted = counted;
-    numbered = sound.numbered;
+    numbered = sound.parts.numbered;
     lone = sound.lone;
     publisher_room = λ k z at_z. elim (stood k z at_z) [
-      | inl here ↦ rw here.1 (let has = sound.publisher_room i x at in record { loans = has.loans; history = has.history; size = has.size; single = has.single })
-      | inr old ↦ sound.publisher_room k z old
+      | inl here ↦ rw here.1 (let has = sound.parts.publisher_room i x at in record { loans = has.loans; history = has.history; size = has.size; single = has.single })
+      | inr old ↦ sound.parts.publisher_room k z old
     ];
     warning_room = room;
-    shapes = record { at = sound.shapes.at };
-    forms = sound.forms;
-    supported = sound.supported;
+    shapes = record { at = sound.parts.shapes.at };
+    forms = sound.parts.forms;
+    supported = sound.parts.supported;
     plain = λ k z at_z. elim (stood k z at_z) [
-      | inl here ↦ rw here.1 (let has = sound.plain i x at in record { strategy = has.strategy; backpressure = has.backpressure; degradation = has.degradation; unblocked = has.unblocked; allocation = has.allocation })
-      | inr old ↦ sound.plain k z old
+      | inl here ↦ rw here.1 (let has = sound.parts.plain i x at in record { strategy = has.strategy; backpressure = has.backpressure; degradation = has.degradation; unblocked = has.unblocked; allocation = has.allocation })
+      | inr old ↦ sound.parts.plain k z old
     ];
-    plain_subscribers = sound.plain_subscribers;
+    plain_subscribers = sound.parts.plain_subscribers;
     well_formed = well;
     entries = λ p n held_now. sound.entries p n (held-before (state_of (kept_of f)) (state_of (kept_of after)) p n
         (λ q. ap (λ (boxes : ℕ → ℕ → Mailbox). boxes p q) (mailboxes-same f sound connections fits.extends)) (held p) held_now);

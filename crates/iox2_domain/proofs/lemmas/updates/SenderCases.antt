@@ -60,7 +60,7 @@ module _ {T U : Type 0} (environment : Environment) (f : Fields T U) (sound : Is
       occupant-sender_ends f.connections x.keys j ∙ ap (subscriber_of_key f.connections) has
       ∙ ap (option_map (λ (c : Link). c.home.subscriber)) at ∙ ap Some to in
       subst (λ (h : Fields T U). ConnectsSender environment f i j x h None) (λ k. record f { publishers = same_publishers k })
-      (steps-connect environment f sound i j x y at_x at_y due opened x.keys f.connections f.warnings None (fits-same f sound i x at_x f.connections.capacity) sound.warning_room
+      (steps-connect environment f sound i j x y at_x at_y due opened x.keys f.connections f.warnings None (fits-same f sound i x at_x f.connections.capacity) sound.parts.warning_room
       (keeps-end environment f sound i j x y at_x at_y due opened there))
 
   -- ---- the subscriber has its end
@@ -97,11 +97,11 @@ module _ {T U : Type 0} (environment : Environment) (f : Fields T U) (sound : Is
     nobody-in : (key : ℕ) (c : Link) → get f.connections key ≡ Some c → c.home.publisher ≡ x.id → c.home.subscriber ≡ y.id → c.home.subscriber_place ≡ j → load c ≡ 0
     nobody-in key c at its to place =
         let box : s.mailboxes x.id y.id ≡ mailbox_of (numbers_of f.books x.id) c =
-        mailboxes-are f x.id y.id ∙ ap (mailbox_if_any (numbers_of f.books x.id)) (look_up-found (is_between x.id y.id) f.connections.slots key c (sound.apart.one x.id y.id) at (and_from _ _ (eq-eqb c.home.publisher x.id its) (eq-eqb c.home.subscriber y.id to))) in
+        mailboxes-are f x.id y.id ∙ ap (mailbox_if_any (numbers_of f.books x.id)) (look_up-found (is_between x.id y.id) f.connections.slots key c (sound.parts.apart.one x.id y.id) at (and_from _ _ (eq-eqb c.home.publisher x.id its) (eq-eqb c.home.subscriber y.id to))) in
         let none_in = no-numbers environment f sound i j x y at_x at_y due opened none in
         let waits : length c.waiting ≡ 0 = nil-map (numbers_of f.books x.id) c.waiting (ap (λ (m : Mailbox). m.waiting) (sym box) ∙ none_in.0) in
         let lent : length c.borrowed ≡ 0 = nil-map (numbers_of f.books x.id) c.borrowed (ap (λ (m : Mailbox). m.borrowed) (sym box) ∙ none_in.1) in
-        let back : length c.returned ≡ 0 = elim (sound.linked.returned key c at) [
+        let back : length c.returned ≡ 0 = elim (sound.parts.linked.returned key c at) [
           | inl has ↦ absurd (unknown has)
           | inr none ↦ ap (length {A = ℕ}) none
         ] in
@@ -122,12 +122,12 @@ module _ {T U : Type 0} (environment : Environment) (f : Fields T U) (sound : Is
         makes-empty environment f sound i j x y at_x at_y due opened none (keys_with key) f.connections (record {
           extends = (fits-same f sound i x at_x f.connections.capacity).extends;
           grows = le_refl x.key_room;
-          rooms = sound.expired_room;
-          linked = linked-with f.connections key joined (sound.linked.senders i x at_x) own.stands own.publisher own.subscriber_place;
+          rooms = sound.parts.expired_room;
+          linked = linked-with f.connections key joined (sound.parts.linked.senders i x at_x) own.stands own.publisher own.subscriber_place;
           keeps = set_place-keeps x.keys j key none;
           news = λ k c there. inl there;
         }) (leads f.connections key joined refl own.stands own.subscriber) key joined own.stands own.publisher own.subscriber
-        (sound.linked.knows.at key j joined (details_of y) own.stands (details-at y at_y) (sym own.subscriber)).1
+        (sound.parts.linked.knows.at key j joined (details_of y) own.stands (details-at y at_y) (sym own.subscriber)).1
         (nobody-in key joined own.stands own.publisher own.subscriber own.subscriber_place)
 
     -- ---- nobody has an end
@@ -143,7 +143,7 @@ module _ {T U : Type 0} (environment : Environment) (f : Fields T U) (sound : Is
       nobody = not-joined f sound i j x y at_x at_y none none_y
 
       extends : (key : ℕ) (new : Slab Link) → MakesConnection f.connections (home_of i j x y) y.buffer most key new → Extends f.connections new
-      extends key new made = made-extends f.connections new (home_of i j x y) y.buffer most key sound.apart nobody made
+      extends key new made = made-extends f.connections new (home_of i j x y) y.buffer most key sound.parts.apart nobody made
 
       -- a connection is made
       pub makes-connection : j < x.key_room → i < y.key_room → connection_count f.connections y.id < y.expired_room → (key : ℕ) (new : Slab Link) → MakesConnection f.connections (home_of i j x y) y.buffer (f.config).subscriber_max_borrowed_samples key new
@@ -152,10 +152,10 @@ module _ {T U : Type 0} (environment : Environment) (f : Fields T U) (sound : Is
           makes-empty environment f sound i j x y at_x at_y due opened none (keys_with key) new (record {
             extends = extends key new made;
             grows = le_refl x.key_room;
-            rooms = room-made f.subscribers f.connections new key link made.was_free made.made (room-here f sound j y at_y room_expired) sound.expired_room;
-            linked = linked-with new key link (sender_linked f.connections new (extends key new made) x.id x.keys (sound.linked.senders i x at_x)) made.made.changed refl refl;
+            rooms = room-made f.subscribers f.connections new key link made.was_free made.made (room-here f sound j y at_y room_expired) sound.parts.expired_room;
+            linked = linked-with new key link (sender_linked f.connections new (extends key new made) x.id x.keys (sound.parts.linked.senders i x at_x)) made.made.changed refl refl;
             keeps = set_place-keeps x.keys j key none;
-            news = λ k c at. elim (made-news f.connections new (home_of i j x y) y.buffer most key sound.apart nobody made k c at) [
+            news = λ k c at. elim (made-news f.connections new (home_of i j x y) y.buffer most key sound.parts.apart nobody made k c at) [
               | inl old ↦ inl old
               | inr is ↦ inr (rw (is.0, is.1) (record {
                 publisher = refl;
@@ -171,7 +171,7 @@ module _ {T U : Type 0} (environment : Environment) (f : Fields T U) (sound : Is
                 buffer = refl;
               }))
             ];
-          }) (leads new key link (sender_ends-same f.connections new (extends key new made) x.id x.keys (sound.linked.senders i x at_x)) made.made.changed refl)
+          }) (leads new key link (sender_ends-same f.connections new (extends key new made) x.id x.keys (sound.parts.linked.senders i x at_x)) made.made.changed refl)
           key link made.made.changed refl refl refl refl
 
       -- a key that isn't from the publisher leads to another

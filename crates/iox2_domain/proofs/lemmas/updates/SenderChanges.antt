@@ -58,7 +58,7 @@ pub record FitsSender {T U : Type 0} (f : Fields T U) (i : ℕ) (x : PublisherFi
 -- what the connections are to the receivers
 module _ {T U : Type 0} (f : Fields T U) (sound : IsDomain f) (connections : Slab Link) (e : Extends f.connections connections) where
   pub publisher-same : (k : ℕ) (z : PublisherFields) → get_or f.publishers k None ≡ Some z → publisher_of f.books connections z ≡ publisher_of f.books f.connections z
-  publisher-same k z at = ap named (sender_ends-same f.connections connections e z.id z.keys (sound.linked.senders k z at)) where
+  publisher-same k z at = ap named (sender_ends-same f.connections connections e z.id z.keys (sound.parts.linked.senders k z at)) where
     named : List (Option ℕ) → Named Publisher
     named ends = record (publisher_of f.books f.connections z) { port = record (publisher_of f.books f.connections z).port { ends = ends; blocked = option_map (blocked_send (numbers_of f.books z.id) ends) z.blocked } }
 
@@ -70,10 +70,10 @@ module _ {T U : Type 0} (f : Fields T U) (sound : IsDomain f) (connections : Sla
       most = (f.config).subscriber_max_borrowed_samples
 
       ends : receiver_ends connections y.keys ≡ receiver_ends f.connections y.keys
-      ends = receiver_ends-same f.connections connections e y.id (f.config).subscriber_max_borrowed_samples y.keys (sound.linked.receivers k y at)
+      ends = receiver_ends-same f.connections connections e y.id (f.config).subscriber_max_borrowed_samples y.keys (sound.parts.linked.receivers k y at)
 
       expired : receiver_ends connections (map Some y.expired) ≡ receiver_ends f.connections (map Some y.expired)
-      expired = receiver_ends-same f.connections connections e y.id (f.config).subscriber_max_borrowed_samples (map Some y.expired) (sound.linked.expired k y at)
+      expired = receiver_ends-same f.connections connections e y.id (f.config).subscriber_max_borrowed_samples (map Some y.expired) (sound.parts.linked.expired k y at)
 
   pub publishers-same : map (option_map (publisher_of f.books connections)) f.publishers ≡ map (option_map (publisher_of f.books f.connections)) f.publishers
   publishers-same = map-agrees (publisher_of f.books connections) (publisher_of f.books f.connections) f.publishers publisher-same
@@ -105,7 +105,7 @@ module _ {T U : Type 0} (f : Fields T U) (sound : IsDomain f) (i : ℕ) (x : Pub
 
   -- the machine's publisher afterwards, since nothing is blocked
   after-port : (publisher_of f.books connections (with_keys x keys key_room is_due)).port ≡ port_after
-  after-port = λ k. record port_after { blocked = nothing-blocked (blocked_send (numbers_of f.books x.id) (sender_ends connections keys)) (blocked_send (numbers_of f.books x.id) (sender_ends f.connections x.keys)) x.blocked (sound.plain i x at).unblocked k }
+  after-port = λ k. record port_after { blocked = nothing-blocked (blocked_send (numbers_of f.books x.id) (sender_ends connections keys)) (blocked_send (numbers_of f.books x.id) (sender_ends f.connections x.keys)) x.blocked (sound.parts.plain i x at).unblocked k }
 
   stands-shown : get_or shown i None ≡ Some (publisher_of f.books f.connections x)
   stands-shown = map-at (publisher_of f.books f.connections) f.publishers i ∙ ap (option_map (publisher_of f.books f.connections)) at
@@ -126,7 +126,7 @@ module _ {T U : Type 0} (f : Fields T U) (sound : IsDomain f) (i : ℕ) (x : Pub
     all : (state_of (kept_of (with_sender f i x keys key_room is_due connections warnings))).publishers ≡ put_at (state_of (kept_of f)).publishers x.id (Some port_after)
     all = fun_ext (λ p. ap (port_named p) after-shown
         ∙ changed-ports shown i (publisher_of f.books f.connections x) (publisher_of f.books connections (with_keys x keys key_room is_due)) stands-shown refl
-        (λ id. IsOnly-map (publisher_of f.books f.connections) (is_publisher id) (is_named id) (λ z. refl) f.publishers (sound.publisher_ids id)) p
+        (λ id. IsOnly-map (publisher_of f.books f.connections) (is_publisher id) (is_named id) (λ z. refl) f.publishers (sound.parts.publisher_ids id)) p
         ∙ ap (λ (w : Publisher). put_at (state_of (kept_of f)).publishers x.id (Some w) p) after-port)
 
     places : (state_of (kept_of (with_sender f i x keys key_room is_due connections warnings))).publisher_places ≡ (state_of (kept_of f)).publisher_places
@@ -137,9 +137,9 @@ module _ {T U : Type 0} (f : Fields T U) (sound : IsDomain f) (i : ℕ) (x : Pub
   pub fits-grown : (n key_room : ℕ) → x.key_room ≤ key_room → FitsSender f i x x.keys key_room (record f.connections { capacity = n })
   fits-grown n key_room grows = record {
     grows = grows;
-    rooms = record { at = sound.expired_room.at };
-    extends = record { apart = record { one = sound.apart.one }; sums = λ p slot. refl; boxes = λ number p q. refl; grows = λ key c at. at };
-    linked = record { at = (sound.linked.senders i x at).at };
+    rooms = record { at = sound.parts.expired_room.at };
+    extends = record { apart = record { one = sound.parts.apart.one }; sums = λ p slot. refl; boxes = λ number p q. refl; grows = λ key c at. at };
+    linked = record { at = (sound.parts.linked.senders i x at).at };
     keeps = λ place key at. at;
     news = λ key c at. inl at;
   }

@@ -58,7 +58,7 @@ module _ {T U : Type 0} (f : Fields T U) (sound : IsDomain f) where
   gone-from key j c at place other = record {
     nobody = λ k y at_y same.
         let details : get_or (map (option_map details_of) f.subscribers) k None ≡ Some (details_of y) = map-at details_of f.subscribers k ∙ ap (option_map details_of) at_y in
-        let here : k ≡ j = (sound.linked.knows.at key k c (details_of y) at details same).0 ∙ place in
+        let here : k ≡ j = (sound.parts.linked.knows.at key k c (details_of y) at details same).0 ∙ place in
         other y (ap (λ (n : ℕ). get_or f.subscribers n None) (sym here) ∙ at_y) same;
   }
 
@@ -70,7 +70,7 @@ module _ {T U : Type 0} (f : Fields T U) (sound : IsDomain f) where
   pub gone-unused : (key : ℕ) (c : Link) → get f.connections key ≡ Some c → IsGone f.subscribers c.home.subscriber → c.borrowed ≡ []
   gone-unused key c at gone = by c.borrowed refl where
     box : (state_of (kept_of f)).mailboxes c.home.publisher c.home.subscriber ≡ mailbox_of (numbers_of f.books c.home.publisher) c
-    box = mailboxes-are f c.home.publisher c.home.subscriber ∙ mailbox-there (numbers_of f.books) f.connections key c.home.publisher c.home.subscriber c sound.apart at refl refl
+    box = mailboxes-are f c.home.publisher c.home.subscriber ∙ mailbox-there (numbers_of f.books) f.connections key c.home.publisher c.home.subscriber c sound.parts.apart at refl refl
 
     by : (slots : List ℕ) → c.borrowed ≡ slots → c.borrowed ≡ []
     by [] e = e
@@ -153,7 +153,7 @@ module _ {T U : Type 0} (f : Fields T U) (sound : IsDomain f) (i j : ℕ) (x : P
   unused lent =
       let own = end-own f sound i j x here due key has c r.drops.stood in
       let box : s.mailboxes x.id c.home.subscriber ≡ mailbox_of (numbers_of f.books x.id) c =
-      mailboxes-are f x.id c.home.subscriber ∙ mailbox-there (numbers_of f.books) f.connections key x.id c.home.subscriber c sound.apart r.drops.stood own.publisher refl in
+      mailboxes-are f x.id c.home.subscriber ∙ mailbox-there (numbers_of f.books) f.connections key x.id c.home.subscriber c sound.parts.apart r.drops.stood own.publisher refl in
       let none : false ≡ true = sym (ap (λ (ns : List ℕ). not (is_nil (map (numbers_of f.books x.id) ns))) r.unused) ∙ sym (ap has_borrows box) ∙ lent in
       absurd cc
 
@@ -162,7 +162,7 @@ module _ {T U : Type 0} (f : Fields T U) (sound : IsDomain f) (i j : ℕ) (x : P
 
   well : IsWellFormed (with_sender_side s x.id P (disconnected side j (occupant P.ends j)))
   well = subst (λ (end : Option ℕ). IsWellFormed (with_sender_side s x.id P (disconnected side j end))) (sym leads)
-      (with_sender_side_keeps s sound.well_formed x.id P present (unblocked f.books f.connections x (sound.plain i x here)) (disconnected side j (Some c.home.subscriber)) keeps)
+      (with_sender_side_keeps s sound.well_formed x.id P present (unblocked f.books f.connections x (sound.parts.plain i x here)) (disconnected side j (Some c.home.subscriber)) keeps)
 
   -- the machine's step is done
   pub loses-end : LosesSenderEnd f i j x disconnected_fields

@@ -75,7 +75,7 @@ module _ {T U : Type 0} (f : Fields T U) (sound : IsDomain f) (i j : ℕ) (x : P
 
   -- the connection is the publisher's, at that place
   own : IsSenders x.id j c
-  own = let is = some_is (IsSenders x.id j) (get f.connections key) ((sound.linked.senders i x leaves.here).at j key leaves.has) in
+  own = let is = some_is (IsSenders x.id j) (get f.connections key) ((sound.parts.linked.senders i x leaves.here).at j key leaves.has) in
       let both : Some is.0 ≡ Some c = sym is.1 ∙ leaves.there in
       let one : is.0 ≡ c = cc in
       subst (IsSenders x.id j) one is.2
@@ -99,7 +99,7 @@ module _ {T U : Type 0} (f : Fields T U) (sound : IsDomain f) (i j : ℕ) (x : P
   -- a publisher that has the key has it at that place
   named-at : (k : ℕ) (z : PublisherFields) (place : ℕ) → get_or f.publishers k None ≡ Some z → get_or z.keys place None ≡ Some key → (k ≡ i) × (place ≡ j)
   named-at k z place at_z at =
-      let is = some_is (IsSenders z.id place) (get f.connections key) ((sound.linked.senders k z at_z).at place key at) in
+      let is = some_is (IsSenders z.id place) (get f.connections key) ((sound.parts.linked.senders k z at_z).at place key at) in
       let both : Some is.0 ≡ Some c = sym is.1 ∙ leaves.there in
       let one : is.0 ≡ c = cc in
       let its : IsSenders z.id place c = subst (IsSenders z.id place) one is.2 in
@@ -118,10 +118,10 @@ module _ {T U : Type 0} (f : Fields T U) (sound : IsDomain f) (i j : ℕ) (x : P
       | inr away ↦ record { at = λ place at. away (named-at k z place (sym (changed-others f.publishers i x changed leaves.here k away) ∙ at_z) at).0 }
     ];
     receivers = λ k y at_y. record {
-      at = λ place at. not-its k y at_y ((sound.linked.receivers k y at_y).at place key at)
-          (inl (ap (λ (n : ℕ). get_or y.keys n None) (sound.linked.receiver_places k place key y c at_y at leaves.there) ∙ at));
+      at = λ place at. not-its k y at_y ((sound.parts.linked.receivers k y at_y).at place key at)
+          (inl (ap (λ (n : ℕ). get_or y.keys n None) (sound.parts.linked.receiver_places k place key y c at_y at leaves.there) ∙ at));
     };
-    expired = λ k y at_y. record { at = λ place at. not-its k y at_y ((sound.linked.expired k y at_y).at place key at) (inr (named-among y.expired place key at)) };
+    expired = λ k y at_y. record { at = λ place at. not-its k y at_y ((sound.parts.linked.expired k y at_y).at place key at) (inr (named-among y.expired place key at)) };
   } where
     not-its : (k : ℕ) (y : SubscriberFields) → get_or f.subscribers k None ≡ Some y → IsSomeAnd (get f.connections key) (IsReceivers y.id (f.config).subscriber_max_borrowed_samples)
         → (get_or y.keys c.home.publisher_place None ≡ Some key) ⊎ Contains y.expired key → ⊥
@@ -131,7 +131,7 @@ module _ {T U : Type 0} (f : Fields T U) (sound : IsDomain f) (i j : ℕ) (x : P
         let one : is.0 ≡ c = cc in
         let its : y.id ≡ c.home.subscriber = sym is.2.subscriber ∙ ap (λ (d : Link). d.home.subscriber) one in
         let place : k ≡ c.home.subscriber_place =
-        (sound.linked.knows.at key k c (details_of y) leaves.there (map-at details_of f.subscribers k ∙ ap (option_map details_of) at_y) its).0 in
+        (sound.parts.linked.knows.at key k c (details_of y) leaves.there (map-at details_of f.subscribers k ∙ ap (option_map details_of) at_y) its).0 in
         leaves.nobody (record { subscriber = y; stands = ap (λ (n : ℕ). get_or f.subscribers n None) (sym place) ∙ at_y; is_its = its; has = has })
 
   -- ---- the state
@@ -175,7 +175,7 @@ module _ {T U : Type 0} (f : Fields T U) (sound : IsDomain f) (i j : ℕ) (x : P
   after-port : named_after.port ≡ port_after
   after-port = λ t. record port_after {
     ends = map-set_place (subscriber_of_key f.connections) refl x.keys j None t;
-    blocked = nothing-blocked (blocked_send (numbers_of f.books x.id) (sender_ends f.connections keys)) (blocked_send (numbers_of f.books x.id) (sender_ends f.connections x.keys)) x.blocked (sound.plain i x leaves.here).unblocked t;
+    blocked = nothing-blocked (blocked_send (numbers_of f.books x.id) (sender_ends f.connections keys)) (blocked_send (numbers_of f.books x.id) (sender_ends f.connections x.keys)) x.blocked (sound.parts.plain i x leaves.here).unblocked t;
   }
 
   stands-shown : get_or shown i None ≡ Some (publisher_of f.books f.connections x)
@@ -186,7 +186,7 @@ module _ {T U : Type 0} (f : Fields T U) (sound : IsDomain f) (i j : ℕ) (x : P
 
   mailboxes-same : (state_of (kept_of left)).mailboxes ≡ s.mailboxes
   mailboxes-same = fun_ext (λ p. fun_ext (λ q.
-      mailboxes-are left p q ∙ removed-boxes f.connections new key gone c leaves.there leaves.empty sound.apart (numbers_of f.books) p q ∙ sym (mailboxes-are f p q)))
+      mailboxes-are left p q ∙ removed-boxes f.connections new key gone c leaves.there leaves.empty sound.parts.apart (numbers_of f.books) p q ∙ sym (mailboxes-are f p q)))
 
   -- the machine sees that the end is gone
   pub left-is : state_of (kept_of left) ≡ record s { publishers = put_at s.publishers x.id (Some port_after) }
@@ -200,7 +200,7 @@ module _ {T U : Type 0} (f : Fields T U) (sound : IsDomain f) (i j : ℕ) (x : P
     all : (state_of (kept_of left)).publishers ≡ put_at s.publishers x.id (Some port_after)
     all = fun_ext (λ p. ap (port_named p) after-shown
         ∙ changed-ports shown i (publisher_of f.books f.connections x) named_after stands-shown refl
-        (λ id. IsOnly-map (publisher_of f.books f.connections) (is_publisher id) (is_named id) (λ z. refl) f.publishers (sound.publisher_ids id)) p
+        (λ id. IsOnly-map (publisher_of f.books f.connections) (is_publisher id) (is_named id) (λ z. refl) f.publishers (sound.parts.publisher_ids id)) p
         ∙ ap (λ (w : Publisher). put_at s.publishers x.id (Some w) p) after-port)
 
     places : (state_of (kept_of left)).publisher_places ≡ s.publisher_places
@@ -238,20 +238,20 @@ module _ {T U : Type 0} (f : Fields T U) (sound : IsDomain f) (i j : ℕ) (x : P
   linked-but : IsLinkedBut (record f { publishers = slice_set f.publishers i (Some (record x { keys = set_place x.keys j None })) }) key
   linked-but = record {
     senders = λ k z at_z. elim (stood k z at_z) [
-      | inl is ↦ rw is.1 (record { at = λ place other at. (sound.linked.senders i x leaves.here).at place other (fewer place other at).0 })
-      | inr old ↦ sound.linked.senders k z old
+      | inl is ↦ rw is.1 (record { at = λ place other at. (sound.parts.linked.senders i x leaves.here).at place other (fewer place other at).0 })
+      | inr old ↦ sound.parts.linked.senders k z old
     ];
-    receivers = sound.linked.receivers;
-    expired = sound.linked.expired;
-    ends = λ k d away at. elim (sound.linked.ends k d at) [ inl has ↦ inl (has-still k d away has) | inr has ↦ inr has ];
-    receiver_places = sound.linked.receiver_places;
-    knows = sound.linked.knows;
-    knows_publishers = λ k n d z at_d at_z same. let y = was n z at_z in sound.linked.knows_publishers k n d y.0 at_d y.1 (y.2 ∙ same);
+    receivers = sound.parts.linked.receivers;
+    expired = sound.parts.linked.expired;
+    ends = λ k d away at. elim (sound.parts.linked.ends k d at) [ inl has ↦ inl (has-still k d away has) | inr has ↦ inr has ];
+    receiver_places = sound.parts.linked.receiver_places;
+    knows = sound.parts.linked.knows;
+    knows_publishers = λ k n d z at_d at_z same. let y = was n z at_z in sound.parts.linked.knows_publishers k n d y.0 at_d y.1 (y.2 ∙ same);
     sender_rooms = λ k n d z at_d at_z same. let y = was n z at_z in
-        subst (λ (room : ℕ). d.home.subscriber_place < room) y.3 (sound.linked.sender_rooms k n d y.0 at_d y.1 (y.2 ∙ same));
-    receiver_rooms = sound.linked.receiver_rooms;
-    limits = sound.linked.limits;
-    returned = λ k d away at. elim (sound.linked.returned k d at) [ inl has ↦ inl (has-still k d away has) | inr none ↦ inr none ];
+        subst (λ (room : ℕ). d.home.subscriber_place < room) y.3 (sound.parts.linked.sender_rooms k n d y.0 at_d y.1 (y.2 ∙ same));
+    receiver_rooms = sound.parts.linked.receiver_rooms;
+    limits = sound.parts.linked.limits;
+    returned = λ k d away at. elim (sound.parts.linked.returned k d at) [ inl has ↦ inl (has-still k d away has) | inr none ↦ inr none ];
   }
 
   linked : IsLinked left
@@ -259,13 +259,13 @@ module _ {T U : Type 0} (f : Fields T U) (sound : IsDomain f) (i j : ℕ) (x : P
 
   books : HasBooks left
   books = record {
-    one_each = sound.books.one_each;
-    books = sound.books.books;
+    one_each = sound.parts.books.one_each;
+    books = sound.parts.books.books;
     publishers = λ k z at_z. elim (stood k z at_z) [
-      | inl is ↦ rw is.1 (let has = sound.books.publishers i x leaves.here in rebuilt changed refl refl refl refl refl has)
-      | inr old ↦ rebuilt z refl refl refl refl refl (sound.books.publishers k z old)
+      | inl is ↦ rw is.1 (let has = sound.parts.books.publishers i x leaves.here in rebuilt changed refl refl refl refl refl has)
+      | inr old ↦ rebuilt z refl refl refl refl refl (sound.parts.books.publishers k z old)
     ];
-    no_others = sound.books.no_others;
+    no_others = sound.parts.books.no_others;
   } where
     rebuilt : (z : PublisherFields) {y : PublisherFields} → z.id ≡ y.id → z.book ≡ y.book → z.slots ≡ y.slots → z.allocation ≡ y.allocation → z.initial_max_slice_len ≡ y.initial_max_slice_len
         → HasBook f y → HasBook left z
@@ -286,18 +286,18 @@ module _ {T U : Type 0} (f : Fields T U) (sound : IsDomain f) (i j : ℕ) (x : P
 
   same-own : (p slot : ℕ) → own_holders left p slot ≡ own_holders f p slot
   same-own p slot =
-      ap (own_of p slot) (look_up-changed (is_publisher p) f.publishers publishers i x changed (sound.publisher_ids p)
-      (changed-only f.publishers i x changed leaves.here (is_publisher p) refl (sound.publisher_ids p)) leaves.here
+      ap (own_of p slot) (look_up-changed (is_publisher p) f.publishers publishers i x changed (sound.parts.publisher_ids p)
+      (changed-only f.publishers i x changed leaves.here (is_publisher p) refl (sound.parts.publisher_ids p)) leaves.here
       (changed-here f.publishers i x changed leaves.here) (changed-others f.publishers i x changed leaves.here) refl)
       ∙ by (eqb x.id p) refl
     where
       by : (b : Bool) → eqb x.id p ≡ b → own_of p slot (cond b (Some changed) (look_up (is_publisher p) f.publishers)) ≡ own_of p slot (look_up (is_publisher p) f.publishers)
-      by true e = ap (own_of p slot) (sym (look_up-found (is_publisher p) f.publishers i x (sound.publisher_ids p) leaves.here e))
+      by true e = ap (own_of p slot) (sym (look_up-found (is_publisher p) f.publishers i x (sound.parts.publisher_ids p) leaves.here e))
       by false e = refl
 
   counted : IsCounted left
   counted = record {
-    at = λ p slot. sound.counted.at p slot ∙ sym (λ k. same-own p slot k + removed-sums f.connections new key gone c leaves.there leaves.empty p slot k);
+    at = λ p slot. sound.parts.counted.at p slot ∙ sym (λ k. same-own p slot k + removed-sums f.connections new key gone c leaves.there leaves.empty p slot k);
   }
 
   -- a publisher holds what it held
@@ -312,29 +312,29 @@ module _ {T U : Type 0} (f : Fields T U) (sound : IsDomain f) (i j : ℕ) (x : P
   -- the invariant is kept
   pub left-agrees : IsWellFormed (state_of (kept_of left)) → IsDomain left
   left-agrees well = record {
-    publisher_ids = λ p. changed-only f.publishers i x changed leaves.here (is_publisher p) refl (sound.publisher_ids p);
-    subscriber_ids = sound.subscriber_ids;
-    apart = removed-apart f.connections new key gone sound.apart;
+    publisher_ids = λ p. changed-only f.publishers i x changed leaves.here (is_publisher p) refl (sound.parts.publisher_ids p);
+    subscriber_ids = sound.parts.subscriber_ids;
+    apart = removed-apart f.connections new key gone sound.parts.apart;
     linked = linked;
-    expired_room = removed-rooms f.connections new key gone f.subscribers sound.expired_room;
+    expired_room = removed-rooms f.connections new key gone f.subscribers sound.parts.expired_room;
     books = books;
-    names = record { at = λ k d at. sound.names.at k d (removed-was f.connections new key gone k d at).0 };
+    names = record { at = λ k d at. sound.parts.names.at k d (removed-was f.connections new key gone k d at).0 };
     counted = counted;
-    numbered = sound.numbered;
+    numbered = sound.parts.numbered;
     lone = sound.lone;
     publisher_room = λ k z at_z. elim (stood k z at_z) [
-      | inl is ↦ rw is.1 (let has = sound.publisher_room i x leaves.here in record { loans = has.loans; history = has.history; size = has.size; single = has.single })
-      | inr old ↦ sound.publisher_room k z old
+      | inl is ↦ rw is.1 (let has = sound.parts.publisher_room i x leaves.here in record { loans = has.loans; history = has.history; size = has.size; single = has.single })
+      | inr old ↦ sound.parts.publisher_room k z old
     ];
-    warning_room = sound.warning_room;
-    shapes = record { at = sound.shapes.at };
-    forms = sound.forms;
-    supported = sound.supported;
+    warning_room = sound.parts.warning_room;
+    shapes = record { at = sound.parts.shapes.at };
+    forms = sound.parts.forms;
+    supported = sound.parts.supported;
     plain = λ k z at_z. elim (stood k z at_z) [
-      | inl is ↦ rw is.1 (let has = sound.plain i x leaves.here in record { strategy = has.strategy; backpressure = has.backpressure; degradation = has.degradation; unblocked = has.unblocked; allocation = has.allocation })
-      | inr old ↦ sound.plain k z old
+      | inl is ↦ rw is.1 (let has = sound.parts.plain i x leaves.here in record { strategy = has.strategy; backpressure = has.backpressure; degradation = has.degradation; unblocked = has.unblocked; allocation = has.allocation })
+      | inr old ↦ sound.parts.plain k z old
     ];
-    plain_subscribers = sound.plain_subscribers;
+    plain_subscribers = sound.parts.plain_subscribers;
     kept_books = changed-kept_books f i x changed leaves.here refl f.books refl sound.kept_books;
     well_formed = well;
     entries = λ p n held_now. sound.entries p n (held-before s (state_of (kept_of left)) p n

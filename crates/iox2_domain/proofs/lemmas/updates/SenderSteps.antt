@@ -95,7 +95,7 @@ module _ {T U : Type 0} (environment : Environment) (f : Fields T U) (sound : Is
         })
 
     well : IsWellFormed (with_sender_side s x.id P (side_with f x keys connections warnings))
-    well = with_sender_side_keeps s sound.well_formed x.id P present (unblocked f.books f.connections x (sound.plain i x at_x)) (side_with f x keys connections warnings)
+    well = with_sender_side_keeps s sound.well_formed x.id P present (unblocked f.books f.connections x (sound.parts.plain i x at_x)) (side_with f x keys connections warnings)
         (performed_keeps s sound.well_formed x.id P present environment j _ _ (sender_side s x.id P) (side_with f x keys connections warnings) failure
         (occupied_within s.subscriber_places j y.id (subscriber-listed f sound j y at_y)) refl refl (sender_side_begins s sound.well_formed x.id P present) step)
 
@@ -170,7 +170,7 @@ module _ {T U : Type 0} (environment : Environment) (f : Fields T U) (sound : Is
       → (key : ℕ) (c : Link) → get connections key ≡ Some c → c.home.publisher ≡ x.id → c.home.subscriber ≡ y.id → c.buffer ≡ y.buffer → load c ≡ 0
       → MakesSenderEnd environment f i j x key (connected_sender f i x keys connections f.warnings)
   makes-empty none keys connections fits leads key c at its to size nobody = record {
-    agrees = sender-agrees f sound i x at_x keys x.key_room x.is_due connections f.warnings fits sound.warning_room (rw state well);
+    agrees = sender-agrees f sound i x at_x keys x.key_room x.is_due connections f.warnings fits sound.parts.warning_room (rw state well);
     keys = keys;
     key_room = x.key_room;
     fields = refl;
@@ -205,7 +205,7 @@ module _ {T U : Type 0} (environment : Environment) (f : Fields T U) (sound : Is
         ∙ ap (with_sender_side s x.id P) side-is
 
     well : IsWellFormed (with_sender_side s x.id P (connected [] (sender_side s x.id P) j y.id y.buffer))
-    well = with_sender_side_keeps s sound.well_formed x.id P present (unblocked f.books f.connections x (sound.plain i x at_x)) (connected [] (sender_side s x.id P) j y.id y.buffer)
+    well = with_sender_side_keeps s sound.well_formed x.id P present (unblocked f.books f.connections x (sound.parts.plain i x at_x)) (connected [] (sender_side s x.id P) j y.id y.buffer)
         (connected_with_keeps s sound.well_formed x.id P present [] tt (λ n no. absurd cc) (sender_side s x.id P) j y.id y.buffer
         (occupied_within s.subscriber_places j y.id (subscriber-listed f sound j y at_y)) (subscriber-listed f sound j y at_y) open_buffer (no_end none)
         (sender_side_begins s sound.well_formed x.id P present))

@@ -103,7 +103,7 @@ module _ {T U : Type 0} (f : Fields T U) (sound : IsDomain f) (i j : ℕ) (x : P
   -- the connection is the publisher's, at that place
   pub end-own : IsSenders x.id j c
   end-own =
-      let is = some_is (IsSenders x.id j) (get f.connections key) ((sound.linked.senders i x here).at j key has) in
+      let is = some_is (IsSenders x.id j) (get f.connections key) ((sound.parts.linked.senders i x here).at j key has) in
       let both : Some is.0 ≡ Some c = sym is.1 ∙ there in
       let one : is.0 ≡ c = cc in
       subst (IsSenders x.id j) one is.2
@@ -124,5 +124,5 @@ module _ {T U : Type 0} (f : Fields T U) (sound : IsDomain f) (i j : ℕ) (x : P
   pub dropped-well : IsWellFormed (with_waiting_dropped f x c)
   dropped-well =
       subst IsWellFormed (sym dropped-side)
-      (with_sender_side_keeps before sound.well_formed x.id port present (unblocked f.books f.connections x (sound.plain i x here)) (dropped (sender_side before x.id port) to)
+      (with_sender_side_keeps before sound.well_formed x.id port present (unblocked f.books f.connections x (sound.parts.plain i x here)) (dropped (sender_side before x.id port) to)
       (dropped_keeps before sound.well_formed x.id port present (sender_side before x.id port) j to end-leads (sender_side_begins before sound.well_formed x.id port present)))

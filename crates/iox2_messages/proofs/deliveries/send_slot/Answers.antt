@@ -40,7 +40,7 @@ deliver-outcome-requires-clause-covered g c =
 pub unreachable-requires-in_default-outcome : goal.unreachable-requires-in_default-outcome
 unreachable-requires-in_default-outcome g c =
     let stands = (read-there _ c.args.place _ _ (ap (λ (f : Fields g.row.T.Denot g.row.U.Denot). slice_index_or f.publishers c.args.place None) c.state.view_is ∙ c.requires.can.1) c.index_mut.ensures.value ∙ c.in-Some.is) in
-    let plain = c.requires.agrees.plain c.args.place c.in-Some.publisher (sym (ap (λ (f : Fields g.row.T.Denot g.row.U.Denot). slice_index_or f.publishers c.args.place None) c.state.view_is) ∙ stands) in
+    let plain = c.requires.agrees.parts.plain c.args.place c.in-Some.publisher (sym (ap (λ (f : Fields g.row.T.Denot g.row.U.Denot). slice_index_or f.publishers c.args.place None) c.state.view_is) ∙ stands) in
     let discards : c.publisher.inside.strategy ≡ DiscardData = ap (λ (y : PublisherFields). y.strategy) c.publisher.view_is ∙ plain.strategy in
     never-waits fixed_handlers c.state.inside.config c.value.result c.publisher.inside.strategy _ _ _ _ _ _ discards (c.in_default-outcome.ensures.delivers (λ p s. s))
 

@@ -67,7 +67,7 @@ returns-in_default-make_between g c = λ x at due.
     let mid = c.make_between.new.state in
     misses-as fixed_handlers old c.requires.agrees c.args.publisher_place c.args.subscriber_place x at due _ _ c.ports_at-buffer.ensures c.requires.none c.requires.opened
     looked mid c.make_between.ensures.grows tt Warn
-    (answers-warn fixed_handlers x.id x.degradation_handler _ (c.requires.agrees.plain c.args.publisher_place x at).degradation) c.warn.new.warnings
+    (answers-warn fixed_handlers x.id x.degradation_handler _ (c.requires.agrees.parts.plain c.args.publisher_place x at).degradation) c.warn.new.warnings
     c.in_default-make_between.ensures.refused
     (c.warn.ensures ∙ (λ k. buffer (warned (c.state-2.view_is k).warnings.items (c.not_made.ensures k)) warning_limit) ∙ ap (λ (f : Fields g.row.T.Denot g.row.U.Denot). buffer (warned f.warnings.items (ConnectionNotMade c.ports_at-buffer.result.0.publisher c.ports_at-buffer.result.0.subscriber)) warning_limit) c.make_between.ensures.grows.fields)
     _ (λ k. record (c.state-2.view_is k) { warnings = c.warn.new.warnings })

@@ -15,7 +15,7 @@ use Rattle.iox2_domain.specs.ReceiverSteps.{NotJoined, JoinsAt}
 use Rattle.iox2_domain.specs.Updates.{changed_at, with_receiver_key}
 use Rattle.iox2_domain.proofs.lemmas.updates.SenderOutcomes.{answers-warn}
 use Rattle.iox2_domain.proofs.lemmas.fields.Parts.{parts_of}
-use Rattle.iox2_domain.proofs.lemmas.receivers.SoundStanding.{some-buffer, sender-joins, receiver-room}
+use Rattle.iox2_domain.proofs.lemmas.receivers.PortsStanding.{some-buffer, sender-joins, receiver-room}
 use Rattle.iox2_domain.proofs.lemmas.receivers.Outcomes.{joins-as, makes-as, misses-as}
 use Rattle.iox2_ports.proofs.receiver_updates.connect_end.Goals as goal
 
@@ -77,7 +77,7 @@ returns-in_default-make_between g c = λ x y at_x at_y.
     let mid = c.make_between.new.state in
     misses-as fixed_handlers old c.requires.agrees c.args.publisher_place c.args.subscriber_place x y at_x at_y vacant (λ key l has st its. apart.at key l has st (its ∙ sym own))
     c.between-buffer.result.0 c.between-buffer.result.1 home size mid c.make_between.ensures.grows tt Warn
-    (answers-warn fixed_handlers y.id y.degradation_handler _ (c.requires.agrees.plain_subscribers c.args.subscriber_place y at_y).degradation) c.warn.new.warnings
+    (answers-warn fixed_handlers y.id y.degradation_handler _ (c.requires.agrees.parts.plain_subscribers c.args.subscriber_place y at_y).degradation) c.warn.new.warnings
     c.in_default-make_between.ensures.refused
     (c.warn.ensures ∙ (λ k. buffer (warned (c.state-2.view_is k).warnings.items (c.not_made.ensures k)) warning_limit)
     ∙ ap (λ (f : Fields g.row.T.Denot g.row.U.Denot). buffer (warned f.warnings.items (ConnectionNotMade c.between-buffer.result.0.publisher c.between-buffer.result.0.subscriber)) warning_limit) c.make_between.ensures.grows.fields)

@@ -14,7 +14,7 @@ update_subscriber-failure-requires-clause-stands g c = (c.requires.stands.0, c.r
 pub warn_of_failure-requires : goal.warn_of_failure-requires
 warn_of_failure-requires g c =
     ap (λ (f : Fields g.row.T.Denot g.row.U.Denot). f.warnings.capacity) c.state.view_is
-    ∙ (c.update_subscriber-failure.ensures c.requires.stands.0 c.requires.stands.1).changes.agrees.warning_room
+    ∙ (c.update_subscriber-failure.ensures c.requires.stands.0 c.requires.stands.1).changes.agrees.parts.warning_room
 
 pub returns : goal.returns
 returns g c = λ y at.

@@ -2,7 +2,7 @@ use Rattle.std.proofs.Common.{ap, sym, ◌∙◌}
 use Rattle.slab.specs.Slab.{get}
 use Rattle.iox2_domain.specs.Fields.{Fields}
 use Rattle.iox2_domain.proofs.lemmas.loans.LoanSlots.{live-lies}
-use Rattle.iox2_domain.proofs.state.DomainState.loan_at_hint.Goals as goal
+use Rattle.iox2_domain.proofs.state.DomainState.is_loan_at_hint.Goals as goal
 
 pub returns-then-has : goal.returns-then-has
 returns-then-has g c =

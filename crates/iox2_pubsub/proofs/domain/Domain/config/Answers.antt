@@ -14,7 +14,7 @@ returns-clause-shown g c =
     rw (← c.self.view_is) (entries_of (kept_of c.self.inside.state), shows_itself {T = g.row.T.Denot} {U = g.row.U.Denot} c.self.inside.state c.self.invariant)
 
 pub returns-clause-supported : goal.returns-clause-supported
-returns-clause-supported g c = rw (← c.self.view_is) c.self.invariant.supported
+returns-clause-supported g c = rw (← c.self.view_is) c.self.invariant.parts.supported
 
 pub returns-clause-single_valued : goal.returns-clause-single_valued
 returns-clause-single_valued g c = λ units.

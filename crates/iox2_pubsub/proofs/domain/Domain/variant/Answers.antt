@@ -9,4 +9,4 @@ returns-clause-value g c =
     (c.config.ensures ∙ ap (λ (k : Kept g.row.T.Denot g.row.U.Denot). k.config) c.self.view_is)
 
 pub returns-clause-single : goal.returns-clause-single
-returns-clause-single g c = rw (← c.self.view_is) c.self.invariant.supported.single_values
+returns-clause-single g c = rw (← c.self.view_is) c.self.invariant.parts.supported.single_values
