@@ -292,13 +292,14 @@ module _ {T U : Type 0} (f : Fields T U) (parts : HasOwnedParts f) (publishers :
       counted = counted;
       numbered = parts.parts.numbered;
       publisher_room = λ i x at. let was = g.senders i x at in let has = parts.parts.publisher_room i was.0 was.1 in
-          subst (λ (z : PublisherFields). HasPublisherRoom f.config z) (sym was.2.fields) (record { loans = has.loans; history = has.history });
+          subst (λ (z : PublisherFields). HasPublisherRoom f.config z) (sym was.2.fields) (record { loans = has.loans; history = has.history; size = has.size; single = has.single });
       warning_room = parts.parts.warning_room;
       shapes = record { at = parts.parts.shapes.at };
+      forms = parts.parts.forms;
       supported = parts.parts.supported;
       plain = λ i x at. let was = g.senders i x at in let has = parts.parts.plain i was.0 was.1 in
           subst IsPlain (sym was.2.fields)
-          (record { strategy = has.strategy; backpressure = has.backpressure; degradation = has.degradation; unblocked = has.unblocked; allocation = has.allocation; length = has.length });
+          (record { strategy = has.strategy; backpressure = has.backpressure; degradation = has.degradation; unblocked = has.unblocked; allocation = has.allocation });
       plain_subscribers = λ i y at. let was = g.receivers i y at in let has = parts.parts.plain_subscribers i was.0 was.1 in
           subst IsPlainSubscriber (sym was.2.fields) (record { degradation = has.degradation });
     };

@@ -140,12 +140,13 @@ module _ {T U : Type 0} (f : Fields T U) where
     counted = counted-due parts.counted;
     numbered = parts.numbered;
     publisher_room = λ i x at. let was = is_due i x at in let has = parts.publisher_room i was.0 was.1 in
-        rw was.2 (record { loans = has.loans; history = has.history });
+        rw was.2 (record { loans = has.loans; history = has.history; size = has.size; single = has.single });
     warning_room = parts.warning_room;
     shapes = record { at = parts.shapes.at };
+    forms = parts.forms;
     supported = parts.supported;
     plain = λ i x at. let was = is_due i x at in let has = parts.plain i was.0 was.1 in
-        rw was.2 (record { strategy = has.strategy; backpressure = has.backpressure; degradation = has.degradation; unblocked = has.unblocked; allocation = has.allocation; length = has.length });
+        rw was.2 (record { strategy = has.strategy; backpressure = has.backpressure; degradation = has.degradation; unblocked = has.unblocked; allocation = has.allocation });
     plain_subscribers = parts.plain_subscribers;
   }
 

@@ -187,6 +187,7 @@ module _ {T U : Type 0} (f : Fields T U) (parts : HasParts f) (j : ℕ) (y : Sub
     publisher_room = parts.publisher_room;
     warning_room = parts.warning_room;
     shapes = record { at = parts.shapes.at };
+    forms = parts.forms;
     supported = parts.supported;
     plain = parts.plain;
     plain_subscribers = λ k z at_z. parts.plain_subscribers k z (stood k z at_z).1;
