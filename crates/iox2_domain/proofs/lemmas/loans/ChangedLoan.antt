@@ -226,26 +226,28 @@ module _ {T U : Type 0} (f : Fields T U) (sound : IsDomain f) (p n key slot : â„
       -- the invariant is kept
       pub change-agrees : IsDomain with_change
       change-agrees = record {
-        publisher_ids = sound.parts.publisher_ids;
-        subscriber_ids = sound.parts.subscriber_ids;
-        apart = sound.parts.apart;
-        linked = linked;
-        expired_room = sound.parts.expired_room;
-        books = slot-books f sound key slot at.book at.stands cs at_c mark g change.room;
-        names = names-books f.books _ f.connections
-            (book-after f key at.book (marked f sound key slot at.book at.stands cs at_c mark g) at.stands
-            (marked-keeps f sound key slot at.book at.stands cs at_c mark g)) sound.parts.names;
+        parts = record {
+          publisher_ids = sound.parts.publisher_ids;
+          subscriber_ids = sound.parts.subscriber_ids;
+          apart = sound.parts.apart;
+          linked = linked;
+          expired_room = sound.parts.expired_room;
+          books = slot-books f sound key slot at.book at.stands cs at_c mark g change.room;
+          names = names-books f.books _ f.connections
+              (book-after f key at.book (marked f sound key slot at.book at.stands cs at_c mark g) at.stands
+              (marked-keeps f sound key slot at.book at.stands cs at_c mark g)) sound.parts.names;
+          counted = slot-counted f sound key slot at.book at.stands cs at_c mark g (lent mark change.is) (at.loan_slot).lent;
+          numbered = slot-numbered f sound key slot at.book at.stands cs at_c mark g;
+          publisher_room = sound.parts.publisher_room;
+          warning_room = sound.parts.warning_room;
+          shapes = change-shapes;
+          forms = slot-forms f sound key slot at.book at.stands cs at_c mark g change.form sound.parts.forms;
+          supported = sound.parts.supported;
+          plain = sound.parts.plain;
+          plain_subscribers = sound.parts.plain_subscribers;
+        };
         kept_books = kept-used f.next_port f.publishers f.books key at.book (marked f sound key slot at.book at.stands cs at_c mark g) at.stands refl refl sound.kept_books;
-        counted = slot-counted f sound key slot at.book at.stands cs at_c mark g (lent mark change.is) (at.loan_slot).lent;
-        numbered = slot-numbered f sound key slot at.book at.stands cs at_c mark g;
         lone = lone-marked f.books key slot n at.book mark at.stands sound.lone at.loan_slot;
-        publisher_room = sound.parts.publisher_room;
-        warning_room = sound.parts.warning_room;
-        shapes = change-shapes;
-        forms = slot-forms f sound key slot at.book at.stands cs at_c mark g change.form sound.parts.forms;
-        supported = sound.parts.supported;
-        plain = sound.parts.plain;
-        plain_subscribers = sound.parts.plain_subscribers;
         well_formed = rw change-is (with_loan_keeps state sound.well_formed n at.loan at.is_out changed (change.loan).publisher (change.loan).header (change.loan).cells (change.loan).complete);
         entries = change-keeps_entries;
       } where
@@ -268,6 +270,7 @@ module _ {T U : Type 0} (f : Fields T U) (sound : IsDomain f) (p n key slot : â„
           receiver_rooms = sound.parts.linked.receiver_rooms;
           limits = sound.parts.linked.limits;
           returned = sound.parts.linked.returned;
+          marked = sound.parts.linked.marked;
         }
 
       -- the step
