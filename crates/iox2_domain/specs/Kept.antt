@@ -1,5 +1,5 @@
 -- What a domain keeps, and the machine's state that this is. No key of a connection, no hint and no room stands here.
-use Rattle.std.specs.Prelude.{ℕ, Bool, ◌&&◌, ◌==◌, List, [], ◌∷◌, length, map}
+use Rattle.std.specs.Prelude.{ℕ, Bool, ◌&&◌, ◌==◌, cond, List, [], ◌∷◌, length, map}
 use Rattle.std.specs.declared.option.Option.{Option}
 use Rattle.std.specs.declared.option.Option.TheVariants.{None, Some}
 use Rattle.std.specs.Option.{option_map, option_and_then}
@@ -121,3 +121,16 @@ module _ {T U : Type 0} where
   -- The messages that are kept.
   abbrev pub entries_of : Kept T U → Messages T U
   entries_of kept = λ n. option_and_then entry_in (message_numbered n kept.books)
+
+  -- ---- changes of a loan
+
+  -- What lies there, with the loan n changed so.
+  abbrev pub loan_changed : (n : ℕ) → (Loan T U → Loan T U) → KeptMessage T U → KeptMessage T U
+  loan_changed n change (Lent_message number l) = Lent_message number (cond (number == n) (change l) l)
+  loan_changed n change (Sent_message number entry) = Sent_message number entry
+
+  -- What is kept, with the loan n changed so. Nothing else changes.
+  abbrev pub with_loan_changed : (n : ℕ) → (Loan T U → Loan T U) → Kept T U → Kept T U
+  with_loan_changed n change kept = record kept {
+    books = map (option_map (λ (book : KeptBook T U). record book { slots = map (option_map (loan_changed n change)) book.slots })) kept.books;
+  }

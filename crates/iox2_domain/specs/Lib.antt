@@ -22,6 +22,7 @@ pub mod LeftBooks
 pub mod Connects
 pub mod Histories
 pub mod LoanCalls
+pub mod LoanLends
 pub mod Deliveries
 pub mod SentLoans
 pub mod Discards

@@ -98,6 +98,7 @@ module _ {T U : Type 0} (config : ServiceConfig) (v c v' c' : ℕ) where
       publisher_room = λ i x at. absurd (nothing_at i x at);
       warning_room = refl;
       shapes = record { at = λ key slot b m at _. absurd (nothing_at key b at) };
+      forms = record { at = λ several key cs at. absurd cc };
       supported = supported;
       plain = λ i x at. absurd (nothing_at i x at);
       plain_subscribers = λ i y at. absurd (nothing_at i y at);

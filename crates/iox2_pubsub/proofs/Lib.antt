@@ -4,6 +4,10 @@ pub mod SampleOrigins
 pub mod UninitLoans
 pub mod SubscribersShown
 pub mod LoanHandles
+pub mod LentHandles
+pub mod AssumedLoans
+pub mod WrittenLoanCalls
+pub mod SliceParts
 pub mod SendShown
 pub mod AlwaysShows
 pub mod PublishersShown

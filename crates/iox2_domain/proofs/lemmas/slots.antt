@@ -13,6 +13,7 @@ pub mod ConnectionSlots
 pub mod PublisherBooks
 pub mod NewBook
 pub mod NumbersInUse
+pub mod SlotRoom
 pub mod SlotsInUse
 pub mod Renumbered
 pub mod Recounts

@@ -1,5 +1,5 @@
 //! A publisher lends a message.
-ghost use Rattle.std.specs.Prelude.{◌≡◌, ◌+◌, ℕ, IfOk, IsOk};
+ghost use Rattle.std.specs.Prelude.{◌≡◌, ◌+◌, ℕ, IfOk, IsOk, false};
 
 use crate::domain::Domain;
 use crate::publisher::Publisher;
@@ -36,7 +36,7 @@ impl Publisher {
     ) -> Result<SampleMutUninit, LoanError>
         requires live { IsLivePublisher domain.old self.now }
         requires single_valued { IsSingleValued domain.old }
-        ensures lends { (m : Messages T U) (s : State T U) → Shows domain.old m s → (s' : State T U) × Shows domain.new m s' × LoanCall U.is_default s self.now.id result s' }
+        ensures lends { (m : Messages T U) (s : State T U) → Shows domain.old m s → (s' : State T U) × Shows domain.new m s' × LoanCall U.is_default false 1 s self.now.id result s' }
         ensures granted { (loans numbers : ℕ) → HasLoansLeft domain.old self.now (loans + 1) → HasNumbersLeft domain.old (numbers + 1) → IsOk result }
         ensures live { IfOk result (λ loan. IsUnwrittenLoan domain.new loan) }
         ensures new { IfOk result (λ loan. IsNewIn domain.old (unwritten_loan loan)) }
@@ -50,7 +50,7 @@ impl Publisher {
         ensures stays { Stays domain.old domain.new }
     {
         let place = domain.state.find_live_publisher(self.id, self.place);
-        let loan = loan(&mut domain.state, place)?;
+        let loan = loan(&mut domain.state, place, false, 1)?;
         Ok(SampleMutUninit {
             service_id: self.service_id,
             loan,

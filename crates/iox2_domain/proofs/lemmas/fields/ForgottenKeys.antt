@@ -265,13 +265,14 @@ module _ {T U : Type 0} (f : Fields T U) (parts : HasParts f) (publishers : List
     counted = counted;
     numbered = parts.numbered;
     publisher_room = λ i x at. let was = g.senders i x at in let has = parts.publisher_room i was.0 was.1 in
-        subst (λ (z : PublisherFields). HasPublisherRoom f.config z) (sym was.2.fields) (record { loans = has.loans; history = has.history });
+        subst (λ (z : PublisherFields). HasPublisherRoom f.config z) (sym was.2.fields) (record { loans = has.loans; history = has.history; size = has.size; single = has.single });
     warning_room = parts.warning_room;
     shapes = record { at = parts.shapes.at };
+    forms = parts.forms;
     supported = parts.supported;
     plain = λ i x at. let was = g.senders i x at in let has = parts.plain i was.0 was.1 in
         subst IsPlain (sym was.2.fields)
-        (record { strategy = has.strategy; backpressure = has.backpressure; degradation = has.degradation; unblocked = has.unblocked; allocation = has.allocation; length = has.length });
+        (record { strategy = has.strategy; backpressure = has.backpressure; degradation = has.degradation; unblocked = has.unblocked; allocation = has.allocation });
     plain_subscribers = λ i y at. let was = g.receivers i y at in let has = parts.plain_subscribers i was.0 was.1 in
         subst IsPlainSubscriber (sym was.2.fields) (record { degradation = has.degradation });
   }

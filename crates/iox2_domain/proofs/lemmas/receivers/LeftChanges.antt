@@ -55,6 +55,7 @@ parts-warned f warnings parts room = record {
   publisher_room = parts.publisher_room;
   warning_room = room;
   shapes = record { at = parts.shapes.at };
+  forms = parts.forms;
   supported = parts.supported;
   plain = parts.plain;
   plain_subscribers = parts.plain_subscribers;
