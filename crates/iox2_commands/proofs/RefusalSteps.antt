@@ -181,8 +181,7 @@ module _ {T U : Type 0} where
     make_publisher_ample : (refusal : Option PublisherCreateError) (place : ℕ) → (refusal ≡ Some UnableToCreateDataSegment → ⊥) → (refusal ≡ Some NoPublisherState → ⊥)
         → MakePublisher fixed_handlers s given place s' refusal → MakePublisher ample_memory s given place s' refusal × TellNoRefusal s.warnings
     make_publisher_ample None place segment port h =
-        let told_mid : TellNoRefusal (h.0).warnings = failure_told h.0 _ h.1 (subst (λ (z : State T U). TellNoRefusal z.warnings) h.3 told) in
-        (
+        let told_mid : TellNoRefusal (h.0).warnings = failure_told h.0 _ h.1 (subst (λ (z : State T U). TellNoRefusal z.warnings) h.3 told) in (
           (h.0, h.1, update_publisher_ample (with_new_publisher s given place) h.0 s.next_port h.1 told_mid h.2, h.3),
           update_publisher_told (with_new_publisher s given place) h.0 s.next_port h.1 told_mid h.2,
         )
@@ -219,8 +218,7 @@ module _ {T U : Type 0} where
     make_subscriber_ample : (refusal : Option SubscriberCreateError) (place : ℕ) → (refusal ≡ Some NoSubscriberState → ⊥)
         → MakeSubscriber fixed_handlers s given place s' refusal → MakeSubscriber ample_memory s given place s' refusal × TellNoRefusal s.warnings
     make_subscriber_ample None place port h =
-        let told_mid : TellNoRefusal (h.0).warnings = failure_told h.0 _ h.1 (subst (λ (z : State T U). TellNoRefusal z.warnings) h.3 told) in
-        (
+        let told_mid : TellNoRefusal (h.0).warnings = failure_told h.0 _ h.1 (subst (λ (z : State T U). TellNoRefusal z.warnings) h.3 told) in (
           (h.0, h.1, update_subscriber_ample (with_new_subscriber s given place) h.0 s.next_port h.1 told_mid h.2, h.3),
           raised_told place (update_subscriber_told (with_new_subscriber s given place) h.0 s.next_port h.1 told_mid h.2),
         )
