@@ -26,3 +26,4 @@ pub mod UpToDateShown
 pub mod ClosesWait
 pub mod LoansLeftShown
 pub mod SureLoans
+pub mod KeptCounts

@@ -1,5 +1,7 @@
 //! A domain: all ports of a service, and what lies between them.
 ghost use Rattle.std.specs.Prelude.{◌≡◌, ◌<◌, ℕ, IfOk};
+ghost use Rattle.std.specs.List.{count_by};
+ghost use Rattle.std.specs.Option.{is_some};
 ghost use Rattle.iox2_store.specs.machine.Limits.{last_number};
 ghost use Rattle.iox2_store.specs.machine.State.{Messages, fresh, no_messages};
 ghost use Rattle.iox2_domain.specs.Kept.{state_of};
@@ -101,5 +103,21 @@ impl<T: Drop, U: Default + Drop, F: BackpressureFn, G: DegradationFn> Domain<T, 
         ensures single { (self.now.config).variant ≡ FixedSize }
     {
         self.state.config().variant
+    }
+
+    /// How many connections the domain keeps. One whose ports are both closed goes with the last
+    /// message that is borrowed there, and at once where none is.
+    pub fn connection_count(&self) -> usize
+        ensures { result ≡ count_by is_some self.now.connections }
+    {
+        self.state.connections.len()
+    }
+
+    /// How many books of slots the domain keeps: that of each publisher, and that of a closed one
+    /// until nobody holds a slot of it.
+    pub fn book_count(&self) -> usize
+        ensures { result ≡ count_by is_some self.now.books }
+    {
+        self.state.books.len()
     }
 }

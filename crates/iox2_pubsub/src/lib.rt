@@ -10,8 +10,6 @@ mod sample_mut_uninit;
 mod send_outcome;
 pub mod slice;
 mod subscriber;
-#[cfg(test)]
-mod tests;
 mod update_connections;
 
 pub use domain::Domain;

@@ -24,8 +24,21 @@ pub(super) fn connection(rt: &impl Abort, alloc: Global) -> Connection
 fn a_connection_knows_its_ports(rt: HostRuntime) {
     let connection = connection(&rt, rt.alloc());
     let home = connection.home();
+    let buffer = connection.buffer();
     drop(connection);
-    assert!(rt; home == HOME);
+    assert!(rt; home == HOME && buffer == 2);
+}
+
+#[test]
+fn a_connection_has_the_mark_that_was_set_last(rt: HostRuntime) {
+    let mut connection = connection(&rt, rt.alloc());
+    let unmarked = connection.is_open();
+    connection.set_open(true);
+    let marked = connection.is_open();
+    connection.set_open(false);
+    let cleared = connection.is_open();
+    drop(connection);
+    assert!(rt; [unmarked, marked, cleared] == [false, true, false]);
 }
 
 #[test]
@@ -55,6 +68,20 @@ fn a_borrowed_slot_goes_back(rt: HostRuntime) {
     let reclaimed = [connection.reclaim(), connection.reclaim()];
     drop(connection);
     assert!(rt; !borrowed && reclaimed == [Some(7), None]);
+}
+
+#[test]
+fn a_borrowed_slot_is_let_go(rt: HostRuntime) {
+    let mut connection = connection(&rt, rt.alloc());
+    connection.put(7, false);
+    connection.take();
+    assert!(rt; connection.borrowed() == [7].as_slice());
+    let held = connection.is_empty();
+    connection.let_go(7);
+    let left = [connection.is_borrowed(7), connection.is_empty()];
+    let reclaimed = connection.reclaim();
+    drop(connection);
+    assert!(rt; !held && left == [false, true] && reclaimed == None);
 }
 
 #[test]

@@ -1,4 +1,4 @@
-//! Runs that end with two ports, a sample and a loan, in every order.
+//! Two ports, a sample and a loan end in every order, and nothing is left of them.
 ghost use Rattle.std.specs.Prelude.{IfOk};
 ghost use Rattle.std.specs.List.{All};
 ghost use Rattle.iox2_runs.specs.Supported.{IsSupportedCommand};
@@ -9,7 +9,7 @@ use iox2_pubsub::Domain;
 use iox2_runs::{Command, Reply};
 use iox2_store::{ServiceConfig, UniquePublisherId, UniqueSubscriberId};
 use std::alloc::{AllocError, Global};
-use std::test::Fail;
+use std::process::Abort;
 
 /// The subscriber and the publisher are closed, the sample is released, and the loan discarded.
 const ENDINGS: usize = 4;
@@ -46,6 +46,9 @@ const ORDERS: [Order; 24] = [
 
 const RELEASE: usize = 2;
 
+/// None of the four ends.
+const NO_ORDER: Order = [ENDINGS; ENDINGS];
+
 fn ending(index: usize) -> Command<u64, u8>
     ensures { IsSupportedCommand result }
 {
@@ -53,14 +56,14 @@ fn ending(index: usize) -> Command<u64, u8>
         0 => Command::Close { of: 0 },
         1 => Command::Close { of: 1 },
         RELEASE => Command::Release { of: 5 },
-        _ => Command::Discard { of: 6 },
+        3 => Command::Discard { of: 6 },
+        _ => Command::Nothing,
     }
 }
 
 const READ: Command<u64, u8> = Command::Read { of: 5, at: 0 };
 
 /// A message is received and a loan is out. Then the four end, and the message is read before each.
-/// Then the next two ports carry a message.
 fn commands_in_order(alloc: Global, order: Order) -> Result<Vec<Command<u64, u8>>, AllocError>
     ensures { IfOk result (λ commands. All IsSupportedCommand commands.items) }
 {
@@ -80,13 +83,22 @@ fn commands_in_order(alloc: Global, order: Order) -> Result<Vec<Command<u64, u8>
         ending(order[2]),
         READ,
         ending(order[3]),
+    ];
+    Ok(Vec::from_array(alloc, commands)?)
+}
+
+/// The next two ports carry a message.
+fn next_commands(alloc: Global) -> Result<Vec<Command<u64, u8>>, AllocError>
+    ensures { IfOk result (λ commands. All IsSupportedCommand commands.items) }
+{
+    let commands = [
         create_publisher(2),
         CREATE_SUBSCRIBER,
-        Command::LoanUninit { of: 15 },
-        Command::WriteAll { of: 17, value: 6 },
-        Command::Send { of: 17 },
-        Command::Receive { of: 16 },
-        Command::Read { of: 20, at: 0 },
+        Command::LoanUninit { of: 0 },
+        Command::WriteAll { of: 2, value: 6 },
+        Command::Send { of: 2 },
+        Command::Receive { of: 1 },
+        Command::Read { of: 5, at: 0 },
     ];
     Ok(Vec::from_array(alloc, commands)?)
 }
@@ -100,7 +112,7 @@ fn read_after(ended: &[usize]) -> Reply<u64, u8> {
     }
 }
 
-fn replies_in_order(order: Order) -> [Reply<u64, u8>; 22] {
+fn replies_in_order(order: Order) -> [Reply<u64, u8>; 15] {
     [
         Reply::SubscriberMade(UniqueSubscriberId::new(1)),
         Reply::PublisherMade(UniquePublisherId::new(2)),
@@ -117,6 +129,11 @@ fn replies_in_order(order: Order) -> [Reply<u64, u8>; 22] {
         Reply::Done,
         read_after(&order[..3]),
         Reply::Done,
+    ]
+}
+
+fn next_replies() -> [Reply<u64, u8>; 7] {
+    [
         Reply::PublisherMade(UniquePublisherId::new(3)),
         Reply::SubscriberMade(UniqueSubscriberId::new(4)),
         Reply::Loaned,
@@ -127,26 +144,67 @@ fn replies_in_order(order: Order) -> [Reply<u64, u8>; 22] {
     ]
 }
 
-#[test]
-fn ports_close_in_every_order(rt: HostRuntime) -> Result<(), Fail> {
+/// A domain of these settings, its replies to the commands in this order, and how many connections
+/// and books it keeps then.
+#[derive(Drop)]
+struct Ended {
+    domain: Domain<u64, u8>,
+    replies: Vec<Reply<u64, u8>>,
+    kept: [usize; 2],
+}
+
+fn end_in(rt: &impl Abort, alloc: Global, order: Order) -> Ended {
     let config = ServiceConfig {
         subscriber_max_buffer_size: 1,
         subscriber_max_borrowed_samples: 1,
         history_size: 1,
         ..settings()
     };
+    let mut domain: Domain<u64, u8> = Domain::new(alloc, config).expect(rt, "a domain");
+    let commands = commands_in_order(alloc, order).expect(rt, "commands");
+    let outcome = replies_to_numbers(alloc, &mut domain, commands);
+    let replies = outcome.ok().expect(rt, "replies");
+    let kept = [domain.connection_count(), domain.book_count()];
+    Ended {
+        domain,
+        replies,
+        kept,
+    }
+}
+
+#[test]
+fn a_connection_and_a_book_are_kept_while_ports_stand(rt: HostRuntime) {
+    let ended = end_in(&rt, rt.alloc(), NO_ORDER);
+    assert_eq!(rt; ended.kept, [1, 1]);
+    assert_eq!(rt;
+        ended.replies.as_slice(),
+        replies_in_order(NO_ORDER).as_slice()
+    );
+}
+
+#[test]
+fn nothing_is_left_in_whatever_order_all_ends(rt: HostRuntime) {
     for order in ORDERS {
-        let mut domain: Domain<u64, u8> = Domain::new(rt.alloc(), config).expect(&rt, "a domain");
-        let commands = commands_in_order(rt.alloc(), order)?;
+        let ended = end_in(&rt, rt.alloc(), order);
+        let Ended {
+            mut domain,
+            replies,
+            kept,
+        } = ended;
+        let commands = next_commands(rt.alloc()).expect(&rt, "commands");
         let outcome = replies_to_numbers(rt.alloc(), &mut domain, commands);
         drop(domain);
-        let replies = outcome.ok().expect(&rt, "replies");
+        let later = outcome.ok().expect(&rt, "replies");
         let expected = replies_in_order(order);
+        assert_eq!(rt; kept, [0, 0], "in the order {order:?}");
         assert_eq!(rt;
             replies.as_slice(),
             expected.as_slice(),
             "in the order {order:?}"
         );
+        assert!(rt;
+            later.as_slice() == next_replies().as_slice(),
+            "in the order {order:?}"
+        );
     }
-    Ok(())
 }

@@ -1,6 +1,6 @@
 //! Tests of the ends, the laws, the domain's calls, the commands and the runs, which call their
 //! public items as a user does. It holds nothing else: a crate with tests is proved twice, so the
-//! libraries have none but of what no call shows.
+//! libraries have none.
 #![tactic(auto)]
 
 #[cfg(test)]
