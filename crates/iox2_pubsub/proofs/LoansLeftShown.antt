@@ -1,5 +1,5 @@
 -- What calls leave of the loans that publishers may still take, seen from outside.
-use Rattle.std.proofs.Common.{◌≡◌, ℕ, false, ◌+◌, ◌≤◌, ◌<◌, refl, sym, ap, subst, ◌∙◌, arith, Option, None, Some, Result, Ok, Err, ◌⊎◌, inl, inr}
+use Rattle.std.proofs.Common.{◌≡◌, ℕ, Bool, ◌+◌, ◌≤◌, ◌<◌, refl, sym, ap, subst, ◌∙◌, arith, Option, None, Some, Result, Ok, Err, ◌⊎◌, inl, inr}
 use Rattle.std.specs.Prelude.{◌≢◌}
 use Rattle.std.proofs.lemmas.Bool.{cases_eq}
 use Rattle.iox2_store.specs.machine.Environments.{ample_memory}
@@ -101,18 +101,18 @@ module _ {T U : Type 0} (old new : Kept T U) (m m' : Messages T U) (s s' : State
   subscriber-creation-left environment given refusal h = all-left (create_subscriber_kept environment s given s' refusal h)
 
   -- a publisher as factories make it so far
-  pub created-left : (environment : Environment) (loans : ℕ) (given : PublisherSettings) → plain_publisher loans ≡ given → (publisher : Publisher) → publisher.id ≡ s.next_port
+  pub created-left : (environment : Environment) (loans : ℕ) (given : PublisherSettings) → plain_publisher loans 1 ≡ given → (publisher : Publisher) → publisher.id ≡ s.next_port
       → CreatePublisher environment s given s' None → HasLoansLeft new publisher given.max_loaned_samples
   created-left environment loans given is publisher its h =
       subst (λ (z : PublisherSettings). HasLoansLeft new publisher z.max_loaned_samples) is
       (lends-from new m' s' shown' publisher loans
-      (subst (λ (p : ℕ). CanLend s' p loans) (sym its) (created_lends environment s (plain_publisher loans) s' refl (omega arith)
+      (subst (λ (p : ℕ). CanLend s' p loans) (sym its) (created_lends environment s (plain_publisher loans 1) s' refl (omega arith)
       (subst (λ (z : PublisherSettings). CreatePublisher environment s z s' None) (sym is) h))))
 
   -- a loan is granted, or refused
-  pub loan-takes : {A : Type 0} (is_default : U → Type 0) (publisher : Publisher) (answer : Result A LoanError) → LoanCall is_default s publisher.id answer s' → TakesOneLeft publisher old new
-  loan-takes is_default publisher (Ok a) h =
-      let taken : LoanTaken publisher.id s s' = loan_taken ample_memory h.0 false 1 s publisher.id s' h.2 in record {
+  pub loan-takes : {A : Type 0} (is_default : U → Type 0) (checks : Bool) (len : ℕ) (publisher : Publisher) (answer : Result A LoanError) → LoanCall is_default checks len s publisher.id answer s' → TakesOneLeft publisher old new
+  loan-takes is_default checks len publisher (Ok a) h =
+      let taken : LoanTaken publisher.id s s' = loan_taken ample_memory h.0 checks len s publisher.id s' h.2 in record {
         loans = λ n left. lends-from new m' s' shown' publisher n (taken.own n (lends-at old m s shown publisher (n + 1) left));
         others = λ other n away left.
             let can : CanLend s other.id n = lends-at old m s shown other n left in
@@ -126,7 +126,7 @@ module _ {T U : Type 0} (old new : Kept T U) (m m' : Messages T U) (s s' : State
         numbers = λ n left. numbers-out new n (fewer_numbers new.next_message old.next_message n last_number
             (sym (next-at new m' s' shown') ∙ taken.numbers ∙ ap (λ (k : ℕ). k + 1) (next-at old m s shown)) (numbers-in old (n + 1) left));
       }
-  loan-takes is_default publisher (Err e) h =
+  loan-takes is_default checks len publisher (Err e) h =
       let stay : LoansLeftStay old new = all-left (subst (LoansKept s) (sym h.0) (kept_itself s)) in record {
         loans = λ n left. stay.loans publisher n (lends-out old publisher n (lends_fewer (state_of old) publisher.id n (n + 1) (omega arith) (lends-in old publisher (n + 1) left)));
         others = λ other n away left. stay.loans other n left;

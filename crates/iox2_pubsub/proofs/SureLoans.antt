@@ -89,9 +89,9 @@ module _ {T U : Type 0} where
   -- no loan is refused to a publisher that can't be
   pub sure-granted : (is_default : U → Type 0) (f new : Fields T U) → IsDomain f → (i : ℕ) (publisher : PublisherHandle)
       → ((x : PublisherFields) × (get_or f.publishers i None ≡ Some x) × (x.id ≡ publisher.id)) → (answer : Result LoanAt LoanError)
-      → IsSomeAnd (get_or f.publishers i None) (λ z. LoanReaches is_default f z answer new) → (e : LoanError) → answer ≡ Err e
+      → IsSomeAnd (get_or f.publishers i None) (λ z. LoanReaches is_default false 1 f z answer new) → (e : LoanError) → answer ≡ Err e
       → (kept : Kept T U) → kept_of f ≡ kept → IsSureOfLoan kept publisher → ⊥
   sure-granted is_default f new sound i publisher stands answer reaches e is kept view sure =
-      let here : LoanReaches is_default f stands.0 answer new = subst (λ (o : Option PublisherFields). IsSomeAnd o (λ z. LoanReaches is_default f z answer new)) stands.1 reaches in
-      let refused : LoanReaches {A = LoanAt} is_default f stands.0 (Err e) new = subst (λ (r : Result LoanAt LoanError). LoanReaches is_default f stands.0 r new) is here in
+      let here : LoanReaches is_default false 1 f stands.0 answer new = subst (λ (o : Option PublisherFields). IsSomeAnd o (λ z. LoanReaches is_default false 1 f z answer new)) stands.1 reaches in
+      let refused : LoanReaches {A = LoanAt} is_default false 1 f stands.0 (Err e) new = subst (λ (r : Result LoanAt LoanError). LoanReaches is_default false 1 f stands.0 r new) is here in
       unrefused f sound i stands.0 stands.1 publisher stands.2 (subst (λ (k : Kept T U). IsSureOfLoan k publisher) (sym view) sure) e refused.0

@@ -98,8 +98,8 @@ returns-in_err-port-clause-loans_left g c =
     let made = c.in_err-port.ensures.step in
     let why = c.in_err-port.field-0.0 in
     let shown : Shows (kept_of c.domain.inside.state) it.0 it.1 = subst (λ (kept : Kept g.row.T.Denot g.row.U.Denot). Shows kept it.0 it.1) (sym c.domain.view_is) it.2 in
-    let next = created-shows {T = g.row.T.Denot} {U = g.row.U.Denot} c.domain.inside.state c.create_publisher.new.state c.self.inside.max_loaned_samples fixed_handlers it.0 it.1 _ (Some why) shown made.0 made.1 in
-    publisher-creation-left {T = g.row.T.Denot} {U = g.row.U.Denot} c.args.domain.now _ it.0 it.0 it.1 _ it.2 next.0 fixed_handlers (plain_publisher c.self.inside.max_loaned_samples) (Some why) next.1
+    let next = created-shows {T = g.row.T.Denot} {U = g.row.U.Denot} c.domain.inside.state c.create_publisher.new.state c.self.inside.max_loaned_samples 1 fixed_handlers it.0 it.1 _ (Some why) shown made.0 made.1 in
+    publisher-creation-left {T = g.row.T.Denot} {U = g.row.U.Denot} c.args.domain.now _ it.0 it.0 it.1 _ it.2 next.0 fixed_handlers (plain_publisher c.self.inside.max_loaned_samples 1) (Some why) next.1
 
 pub returns-clause-loans_left : goal.returns-clause-loans_left
 returns-clause-loans_left g c =
