@@ -41,7 +41,7 @@ fn draw_commands(
     let mut mood = first_mood(config);
     for index in 0..length {
         let stays = mood == Mood::Crowd && index < config.max_subscribers;
-        if !stays && chance.one_in(patience) {
+        if !stays && chance.one_in(patience_of(mood, patience)) {
             mood = draw_mood(chance);
         }
         let wish = draw_wish(chance, mood);
@@ -76,5 +76,14 @@ fn first_mood(config: &ServiceConfig) -> Mood {
         Mood::Crowd
     } else {
         Mood::Ports
+    }
+}
+
+// Ports are soon as many as there may be.
+fn patience_of(mood: Mood, patience: usize) -> usize {
+    match mood {
+        Mood::Crowd => 2,
+        Mood::Ports => patience.min(6),
+        _ => patience,
     }
 }

@@ -20,10 +20,7 @@ pub(crate) struct Difference {
 }
 
 // The commands, where each is a word that exists.
-fn words(
-    alloc: Global,
-    commands: &[Command<u64, u64>],
-) -> Result<Vec<Command<u64, u64>>, Failure>
+fn words(alloc: Global, commands: &[Command<u64, u64>]) -> Result<Vec<Command<u64, u64>>, Failure>
     ensures { IfOk result (λ words. All IsSupportedCommand words.items) }
 {
     let mut words = Vec::new(alloc);

@@ -53,11 +53,7 @@ fn check(
     )
 }
 
-fn print_difference(
-    rt: &HostRuntime,
-    number: u64,
-    difference: &Difference,
-) -> Result<(), Failure> {
+fn print_difference(rt: &HostRuntime, number: u64, difference: &Difference) -> Result<(), Failure> {
     let line = difference.position.saturating_add(1);
     let run = difference.run;
     let model = difference.model;

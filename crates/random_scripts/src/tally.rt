@@ -38,6 +38,7 @@ const KINDS: [&str; 25] = [
 const OTHER: usize = 24;
 
 /// How often each kind of reply was met.
+#[derive(Drop)]
 pub(crate) struct Tally {
     counts: [u64; 25],
 }
