@@ -19,5 +19,4 @@ pub mod Renumbered
 pub mod Recounts
 pub mod RecountedFields
 pub mod RecountedLoans
-pub mod RecountedState
 pub mod ReclaimSteps
