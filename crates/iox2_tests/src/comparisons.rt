@@ -318,6 +318,6 @@ fn runs_are_compared_after_more_warnings_than_are_kept(rt: HostRuntime) {
     ];
     let mut without = expected;
     without[3] = Reply::Done;
-    assert!(rt; replies[36..] == expected);
-    assert!(rt; others[36..] == without);
+    assert!(rt; replies[36..] == expected[..]);
+    assert!(rt; others[36..] == without[..]);
 }
