@@ -292,6 +292,6 @@ fn runs_are_compared_after_more_warnings_than_are_kept(rt: HostRuntime) {
     without[3] = Reply::Done;
     let replies = replies_of(first);
     let others = replies_of(second);
-    assert!(rt; &replies[36..] == expected.as_slice());
-    assert!(rt; &others[36..] == without.as_slice());
+    assert!(rt; replies[36..] == expected[..]);
+    assert!(rt; others[36..] == without[..]);
 }
