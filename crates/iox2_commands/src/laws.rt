@@ -70,20 +70,20 @@ pub fn worst_case_is_least<T, U>()
     ensures { WorstCaseIsLeast T U }
 {}
 
-/// With ample memory and no closed subscriber left, a subscriber's receive, `HasSamples`, update, read or release leaves the
-/// view of each other subscriber as it was.
+/// With ample memory and no closed subscriber left but the one that looks, a subscriber's receive, `HasSamples`, update, read
+/// or release leaves the view of that one as it was.
 pub fn calls_leave_others_views<T, U>()
     ensures { CallsLeaveOthersViews T U }
 {}
 
-/// With ample memory, one command from two independent states with equal views ends in equal views. A subscriber that it
+/// With ample memory, one command from two independent states with equal views ends in equal views. Another subscriber that it
 /// closes must have borrowed nothing, in either state. If it is the subscriber's own receive, the replies must be equal.
 pub fn alike_states_stay_alike<T, U>()
     ensures { AlikeStatesStayAlike T U }
 {}
 
-/// With ample memory, static publishers with the worst case of slots that never block, and subscribers that release their
-/// samples before they are closed: a subscriber's view, and all reads through its samples, are the same after a list of
+/// With ample memory, static publishers with the worst case of slots that never block, and other subscribers that release
+/// their samples before they are closed: a subscriber's view, and all reads through its samples, are the same after a list of
 /// commands and after that list with some calls of other subscribers replaced by `Nothing`, as long as its own receives get
 /// the same replies.
 pub fn subscribers_are_isolated<T, U>()
