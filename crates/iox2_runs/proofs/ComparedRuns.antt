@@ -10,7 +10,7 @@ use Rattle.iox2_commands.specs.Refusals.{WarnsOfRefusals, MetNoRefusal}
 use Rattle.iox2_commands.specs.Runs.{only_defaults}
 use Rattle.iox2_commands.specs.Views.{OmitsOthersFrom}
 use Rattle.iox2_commands.specs.declared.command.Command.{Command}
-use Rattle.iox2_commands.specs.declared.command.Command.TheVariants.{Nothing, CreatePublisher, CreateSubscriber, LoanUninit, WriteAll, Send, Discard, Update, Receive, HasSamples, Read, Release, Close}
+use Rattle.iox2_commands.specs.declared.command.Command.TheVariants.{Nothing, CreatePublisher, CreateSubscriber, LoanUninit, Loan, WriteCell, WriteAll, AssumeInit, WriteHeader, SetPayload, Send, SendCopy, Discard, Update, Receive, HasSamples, Read, ReadHeader, ReadUserHeader, Release, Close}
 use Rattle.iox2_commands.specs.declared.reply.Reply.{Reply}
 use Rattle.iox2_commands.proofs.RefusalRuns.{isolated_without_refusals, views_without_refusals}
 use Rattle.iox2_runs.specs.Compared.{AreCompared}
@@ -24,13 +24,21 @@ module _ {T U : Type 0} where
   supported_warns (CreatePublisher loans strategy allocation len override_slots degradation backpressure) h = (h.1, h.3)
   supported_warns (CreateSubscriber buffer degradation) h = h
   supported_warns (LoanUninit of) h = tt
+  supported_warns (Loan of) h = tt
+  supported_warns (WriteCell of at value) h = tt
   supported_warns (WriteAll of value) h = tt
+  supported_warns (AssumeInit of) h = tt
+  supported_warns (WriteHeader of value) h = tt
+  supported_warns (SetPayload of at value) h = tt
   supported_warns (Send of) h = tt
+  supported_warns (SendCopy of value) h = tt
   supported_warns (Discard of) h = tt
   supported_warns (Update of) h = tt
   supported_warns (Receive of) h = tt
   supported_warns (HasSamples of) h = tt
   supported_warns (Read of at) h = tt
+  supported_warns (ReadHeader of) h = tt
+  supported_warns (ReadUserHeader of) h = tt
   supported_warns (Release of) h = tt
   supported_warns (Close of) h = tt
   supported_warns _ h = absurd h
