@@ -6,6 +6,7 @@ use Rattle.std.proofs.lemmas.Bool.{true≢false}
 use Rattle.iox2_store.specs.machine.Limits.{buffer_limit, last_number}
 use Rattle.iox2_store.specs.machine.Numbers.{put_at, size, without, last_n}
 use Rattle.iox2_store.specs.machine.Places.{free_place}
+use Rattle.iox2_store.specs.machine.SingleCalls.{GrantWrittenLoan}
 use Rattle.iox2_store.specs.machine.Records.{Loan, Publisher, Subscriber, Environment, PublisherSettings, SubscriberSettings, BlockedSend, Fixed}
 use Rattle.iox2_store.specs.machine.State.{State, held, with_loan, publisher_changed}
 use Rattle.iox2_store.specs.machine.Delivery.{DeliveryEnd, Complete, Suspended}
@@ -166,6 +167,14 @@ module _ {T U : Type 0} where
       }))))
       (λ dynamic _. absurd (true≢false (sym (k.publishers p x e).static ∙ dynamic))))
       (λ limit _ h. subst AllWarn (sym h.0) k))
+
+  pub grant_written_loan_warn : (environment : Environment) (value : T) (default_header : U) (checks_length : Bool) (len : ℕ) (s s' : State T U) (p : ℕ) (refusal : Option LoanError)
+      → GrantWrittenLoan environment value default_header checks_length len s p s' refusal → AllWarn s → AllWarn s'
+  grant_written_loan_warn environment value default_header checks_length len s s' p refusal h k =
+      let mid : AllWarn h.0 = grant_loan_warn environment default_header checks_length len s h.0 p refusal h.1 k in
+      by_option (AllWarn s') refusal _ _ h.2
+      (λ _ j. by_option (AllWarn s') ((h.0).loans s.next_message) _ _ j (λ _ v. absurd v) (λ l _ j. subst AllWarn (sym j) (with_loan_warn h.0 s.next_message _ mid)))
+      (λ e _ j. subst AllWarn (sym j) mid)
 
   pub loan_discarded_warn : (s : State T U) (n : ℕ) (l : Loan T U) → AllWarn s → AllWarn (loan_discarded s n l)
   loan_discarded_warn s n l k =

@@ -20,7 +20,7 @@ use Rattle.iox2_commands.specs.Step.{publisher_settings}
 use Rattle.iox2_commands.specs.Isolation.{AreIndependent, reads_at}
 use Rattle.iox2_commands.specs.Views.{SameView, OmitsOthersFrom}
 use Rattle.iox2_commands.specs.declared.command.Command.{Command}
-use Rattle.iox2_commands.specs.declared.command.Command.TheVariants.{Nothing, CreatePublisher, CreateSubscriber, LoanUninit, WriteAll, Send, Discard, Update, Receive, HasSamples, Read, Release, Close}
+use Rattle.iox2_commands.specs.declared.command.Command.TheVariants.{Nothing, CreatePublisher, CreateSubscriber, LoanUninit, Loan, WriteCell, WriteAll, AssumeInit, WriteHeader, SetPayload, Send, SendCopy, Discard, Update, Receive, HasSamples, Read, ReadHeader, ReadUserHeader, Release, Close}
 use Rattle.iox2_commands.specs.declared.reply.Reply.{Reply}
 use Rattle.iox2_commands.specs.declared.reply.Reply.TheVariants.{SubscriberMade, PublisherRefused, SubscriberRefused}
 
@@ -42,13 +42,21 @@ module _ {T U : Type 0} where
   WarnsOfRefusals (CreatePublisher loans strategy allocation len override_slots degradation backpressure) = (allocation ≡ Static) × (degradation ≡ Warn)
   WarnsOfRefusals (CreateSubscriber buffer degradation) = degradation ≡ Warn
   WarnsOfRefusals (LoanUninit of) = Unit {0}
+  WarnsOfRefusals (Loan of) = Unit {0}
+  WarnsOfRefusals (WriteCell of at value) = Unit {0}
   WarnsOfRefusals (WriteAll of value) = Unit {0}
+  WarnsOfRefusals (AssumeInit of) = Unit {0}
+  WarnsOfRefusals (WriteHeader of value) = Unit {0}
+  WarnsOfRefusals (SetPayload of at value) = Unit {0}
   WarnsOfRefusals (Send of) = Unit {0}
+  WarnsOfRefusals (SendCopy of value) = Unit {0}
   WarnsOfRefusals (Discard of) = Unit {0}
   WarnsOfRefusals (Update of) = Unit {0}
   WarnsOfRefusals (Receive of) = Unit {0}
   WarnsOfRefusals (HasSamples of) = Unit {0}
   WarnsOfRefusals (Read of at) = Unit {0}
+  WarnsOfRefusals (ReadHeader of) = Unit {0}
+  WarnsOfRefusals (ReadUserHeader of) = Unit {0}
   WarnsOfRefusals (Release of) = Unit {0}
   WarnsOfRefusals (Close of) = Unit {0}
   WarnsOfRefusals _ = ⊥
