@@ -1,5 +1,5 @@
 -- A run whose replies and count of refused connections tell of no refused memory is one with ample memory.
-use Rattle.std.proofs.Common.{◌≡◌, ℕ, zero, suc, false, List, [], ◌∷◌, ◌++◌, take, drop, refl, sym, ap, subst, ◌∙◌, Option, None, Some}
+use Rattle.std.proofs.Common.{◌≡◌, ℕ, zero, suc, true, false, cond, List, [], ◌∷◌, ◌++◌, take, drop, refl, sym, ap, subst, ◌∙◌, Option, None, Some}
 use Rattle.std.specs.Prelude.{MatchOption, slice_get}
 use Rattle.std.specs.List.{All}
 use Rattle.std.proofs.lemmas.List.Elements.{All-head, All-tail, All-take, All-drop}
@@ -8,7 +8,7 @@ use Rattle.iox2_store.specs.machine.Limits.{buffer_limit}
 use Rattle.iox2_store.specs.machine.Records.{Publisher, Subscriber, SubscriberSettings, PublisherSettings, Fixed}
 use Rattle.iox2_store.specs.machine.State.{State, Messages, fresh, no_messages}
 use Rattle.iox2_store.specs.machine.WellFormed.{IsWellFormed}
-use Rattle.iox2_store.specs.machine.Loans.{is_static}
+use Rattle.iox2_store.specs.machine.Loans.{is_static, is_initialized, initialized}
 use Rattle.iox2_store.specs.machine.Ports.{first_segment_fits, publisher_closed, subscriber_closed}
 use Rattle.iox2_store.specs.machine.Environments.{fixed_handlers, ample_memory}
 use Rattle.iox2_store.specs.declared.degradation.DegradationAction.{DegradationAction}
@@ -21,22 +21,23 @@ use Rattle.iox2_store.specs.declared.service_config.ServiceConfig.{ServiceConfig
 use Rattle.iox2_laws.specs.Laws.{Advances}
 use Rattle.iox2_laws.proofs.Cases.{by_option}
 use Rattle.iox2_laws.proofs.Enough.{fresh_is_well_formed}
-use Rattle.iox2_commands.specs.Outcomes.{Handle, Event, Outcome, messages_after, done, skipped}
-use Rattle.iox2_commands.specs.Step.{Step, after_publisher, after_subscriber, publisher_settings, unblocked_at, subscriber_at, loan_at, unwritten_at, with_cell_at, sendable_at, sample_at, if_single_units, if_fixed_size}
+use Rattle.iox2_commands.specs.Outcomes.{Handle, Event, Outcome, messages_after, done, replied, skipped}
+use Rattle.iox2_commands.specs.Step.{Step, after_publisher, after_subscriber, publisher_settings, unblocked_at, subscriber_at, loan_at, unwritten_at, written_at, with_cell_at, sendable_at, sample_at, if_single_units, if_fixed_size}
 use Rattle.iox2_commands.specs.Points.{PointOf}
 use Rattle.iox2_commands.specs.Runs.{Defaults, RunFrom, RunTo, only_defaults}
 use Rattle.iox2_commands.specs.Refusals.{TellNoRefusal, TellsOfRefusals, RefusesPort, RefuseNoPort, MetNoRefusal, RunsWithoutRefusalsAreAmple, SubscribersAreIsolatedWithoutRefusals, ViewsStayAlikeWithoutRefusals}
 use Rattle.iox2_commands.specs.declared.command.Command.{Command}
-use Rattle.iox2_commands.specs.declared.command.Command.TheVariants.{Nothing, CreatePublisher, CreateSubscriber, LoanUninit, WriteAll, Send, Discard, Update, Receive, HasSamples, Read, Release, Close}
+use Rattle.iox2_commands.specs.declared.command.Command.TheVariants.{Nothing, CreatePublisher, CreateSubscriber, LoanUninit, Loan as LoanDefault, WriteCell, WriteAll, AssumeInit, WriteHeader, SetPayload, Send, SendCopy, Discard, Update, Receive, HasSamples, Read, ReadHeader, ReadUserHeader, Release, Close}
 use Rattle.iox2_commands.specs.declared.reply.Reply.{Reply}
+use Rattle.iox2_commands.specs.declared.reply.Reply.TheVariants.{Unwritten}
 use Rattle.iox2_commands.proofs.EnoughRuns.{run_sound}
 use Rattle.iox2_commands.proofs.Isolation.{subscribers_are_isolated, views_stay_alike}
 use Rattle.iox2_commands.proofs.Points.{run_to, run_from}
 use Rattle.iox2_commands.proofs.StepLaws.{IsSound, step_sound}
 use Rattle.iox2_commands.proofs.AlikeOpen.{state_publisher, state_subscriber, state_loan, state_update, state_question, state_receive, state_send}
 use Rattle.iox2_commands.proofs.RefusalUpdates.{option_maps, update_publisher_ample, update_publisher_told, update_subscriber_ample, update_subscriber_told}
-use Rattle.iox2_commands.proofs.RefusalStates.{AllStatic, update_publisher_static, update_subscriber_static, receive_static, released_static, with_loan_static, grant_loan_static, loan_discarded_static, send_static, create_publisher_static, create_subscriber_static, publisher_closed_static, subscriber_closed_static}
-use Rattle.iox2_commands.proofs.RefusalSteps.{released_same, subscriber_closed_same, grant_loan_ample, send_ample, receive_ample, create_publisher_ample, create_subscriber_ample}
+use Rattle.iox2_commands.proofs.RefusalStates.{AllStatic, update_publisher_static, update_subscriber_static, receive_static, released_static, with_loan_static, grant_loan_static, grant_written_loan_static, loan_discarded_static, send_static, create_publisher_static, create_subscriber_static, publisher_closed_static, subscriber_closed_static}
+use Rattle.iox2_commands.proofs.RefusalSteps.{released_same, subscriber_closed_same, grant_loan_ample, grant_written_loan_ample, send_ample, receive_ample, create_publisher_ample, create_subscriber_ample}
 
 module _ {T U : Type 0} (default_value : T) (default_header : U) (m : Messages T U) (s : State T U) (handles : List Handle) (k : AllStatic s) where
   -- what holds of a state holds of that of an outcome
@@ -68,9 +69,26 @@ module _ {T U : Type 0} (default_value : T) (default_header : U) (m : Messages T
   step_static (LoanUninit of) o plain h =
       live_static o (if_single_units s (if_fixed_size s (unblocked_at s handles of))) _ h (λ publisher j.
       by AllStatic o _ j.0 j.3 (state_loan j.0 s.next_message j.1) (grant_loan_static fixed_handlers default_header false 1 s j.0 publisher.0 j.1 j.2 k))
+  step_static (LoanDefault of) o plain h =
+      live_static o (if_single_units s (if_fixed_size s (unblocked_at s handles of))) _ h (λ publisher j.
+      by AllStatic o _ j.0 j.3 (state_loan j.0 s.next_message j.1) (grant_written_loan_static fixed_handlers default_value default_header false 1 s j.0 publisher.0 j.1 j.2 k))
+  step_static (WriteCell of at value) o plain h = live_static o (with_cell_at at (unwritten_at s handles of)) _ h (λ loan j. by AllStatic o _ _ j refl (with_loan_static s loan.0 _ k))
   step_static (WriteAll of value) o plain h = live_static o (unwritten_at s handles of) _ h (λ loan j. by AllStatic o _ _ j refl (with_loan_static s loan.0 _ k))
+  step_static (AssumeInit of) o plain h =
+      live_static o (unwritten_at s handles of) _ h (λ loan j.
+      subst (λ (v : Outcome T U). AllStatic v.state) (sym j)
+      (elim (is_initialized loan.1) as (λ c. AllStatic (cond c (done (initialized s loan.0 loan.1)) (replied Unwritten s)).state) [ true ↦ with_loan_static s loan.0 _ k | false ↦ k ]))
+  step_static (WriteHeader of value) o plain h = live_static o (loan_at s handles of) _ h (λ loan j. by AllStatic o _ _ j refl (with_loan_static s loan.0 _ k))
+  step_static (SetPayload of at value) o plain h = live_static o (with_cell_at at (written_at s handles of)) _ h (λ loan j. by AllStatic o _ _ j refl (with_loan_static s loan.0 _ k))
   step_static (Send of) o plain h =
       live_static o (sendable_at s handles of) _ h (λ loan j. by AllStatic o _ j.0 j.3 (state_send j.0 _ _ _ j.1) (send_static fixed_handlers s j.0 loan.0 loan.1 j.1 j.2 k))
+  step_static (SendCopy of value) o plain h =
+      live_static o (if_single_units s (if_fixed_size s (unblocked_at s handles of))) _ h (λ publisher j.
+      let mid : AllStatic j.0 = grant_written_loan_static fixed_handlers value default_header false 1 s j.0 publisher.0 j.1 j.2 k in
+      by_option (AllStatic o.state) j.1 _ _ j.3
+      (λ _ i. by_option (AllStatic o.state) ((j.0).loans s.next_message) _ _ i (λ _ v. absurd v) (λ loan _ i.
+      by AllStatic o _ i.0 i.3 (state_send i.0 _ _ _ i.1) (send_static fixed_handlers j.0 i.0 s.next_message loan i.1 i.2 mid)))
+      (λ e _ i. by AllStatic o _ j.0 i refl mid))
   step_static (Discard of) o plain h = live_static o (loan_at s handles of) _ h (λ loan j. by AllStatic o _ _ j refl (loan_discarded_static s loan.0 loan.1 k))
   step_static (Update of) o plain h =
       by_option (AllStatic o.state) (unblocked_at s handles of) _ _ h
@@ -88,6 +106,14 @@ module _ {T U : Type 0} (default_value : T) (default_header : U) (m : Messages T
       by_option (AllStatic o.state) (slice_get (loan.1).cells at) _ _ j (λ _ v. absurd v) (λ cell _ e. by AllStatic o _ s e refl k)))
       (λ sample _ j. by_option (AllStatic o.state) (m sample.2) _ _ j (λ _ v. absurd v)
       (λ entry _ j. live_static o (slice_get entry.values at) _ j (λ value e. by AllStatic o _ s e refl k)))
+  step_static (ReadHeader of) o plain h =
+      by_option (AllStatic o.state) (sample_at s handles of) _ _ h
+      (λ _ j. live_static o (loan_at s handles of) _ j (λ loan e. by AllStatic o _ s e refl k))
+      (λ sample _ j. by_option (AllStatic o.state) (m sample.2) _ _ j (λ _ v. absurd v) (λ entry _ e. by AllStatic o _ s e refl k))
+  step_static (ReadUserHeader of) o plain h =
+      by_option (AllStatic o.state) (sample_at s handles of) _ _ h
+      (λ _ j. live_static o (loan_at s handles of) _ j (λ loan e. by AllStatic o _ s e refl k))
+      (λ sample _ j. by_option (AllStatic o.state) (m sample.2) _ _ j (λ _ v. absurd v) (λ entry _ e. by AllStatic o _ s e refl k))
   step_static (Release of) o plain h = live_static o (sample_at s handles of) _ h (λ sample j. by AllStatic o _ _ j refl (released_static s sample.0 sample.1 sample.2 k))
   step_static (Close of) o plain h =
       by_option (AllStatic o.state) (unblocked_at s handles of) _ _ h
@@ -124,11 +150,41 @@ module _ {T U : Type 0} (default_value : T) (default_header : U) (m : Messages T
     live_told o (if_single_units s (if_fixed_size s (unblocked_at s handles of))) _ h told (λ publisher j.
         subst TellNoRefusal (grant_loan_ample default_header false 1 s j.0 publisher.0 j.1 k j.2).1 (back Told o _ j.0 j.3 (state_loan j.0 s.next_message j.1) told)),
   )
+  step_ample (LoanDefault of) o plain port told h = (
+    option_maps (if_single_units s (if_fixed_size s (unblocked_at s handles of))) _ _ _ _ h (λ e. e)
+        (λ publisher _ j. (j.0, j.1, (grant_written_loan_ample default_value default_header false 1 s j.0 publisher.0 j.1 k j.2).0, j.3)),
+    live_told o (if_single_units s (if_fixed_size s (unblocked_at s handles of))) _ h told (λ publisher j.
+        subst TellNoRefusal (grant_written_loan_ample default_value default_header false 1 s j.0 publisher.0 j.1 k j.2).1 (back Told o _ j.0 j.3 (state_loan j.0 s.next_message j.1) told)),
+  )
+  step_ample (WriteCell of at value) o plain port told h = (h, live_told o (with_cell_at at (unwritten_at s handles of)) _ h told (λ loan j. back Told o _ _ j refl told))
   step_ample (WriteAll of value) o plain port told h = (h, live_told o (unwritten_at s handles of) _ h told (λ loan j. back Told o _ _ j refl told))
+  step_ample (AssumeInit of) o plain port told h = (
+    h,
+    live_told o (unwritten_at s handles of) _ h told (λ loan j.
+        (elim (is_initialized loan.1) as (λ c. TellNoRefusal ((cond c (done (initialized s loan.0 loan.1)) (replied Unwritten s)).state).warnings → TellNoRefusal s.warnings) [ true ↦ λ after. after | false ↦ λ after. after ])
+        (subst (λ (v : Outcome T U). TellNoRefusal (v.state).warnings) j told)),
+  )
+  step_ample (WriteHeader of value) o plain port told h = (h, live_told o (loan_at s handles of) _ h told (λ loan j. back Told o _ _ j refl told))
+  step_ample (SetPayload of at value) o plain port told h = (h, live_told o (with_cell_at at (written_at s handles of)) _ h told (λ loan j. back Told o _ _ j refl told))
   step_ample (Send of) o plain port told h = (
     option_maps (sendable_at s handles of) _ _ _ _ h (λ e. e)
         (λ loan _ j. (j.0, j.1, (send_ample s j.0 loan.0 loan.1 j.1 (back Told o _ j.0 j.3 (state_send j.0 _ _ _ j.1) told) j.2).0, j.3)),
     live_told o (sendable_at s handles of) _ h told (λ loan j. (send_ample s j.0 loan.0 loan.1 j.1 (back Told o _ j.0 j.3 (state_send j.0 _ _ _ j.1) told) j.2).1),
+  )
+  step_ample (SendCopy of value) o plain port told h = (
+    option_maps (if_single_units s (if_fixed_size s (unblocked_at s handles of))) _ _ _ _ h (λ e. e) (λ publisher _ j. (
+      j.0,
+      j.1,
+      (grant_written_loan_ample value default_header false 1 s j.0 publisher.0 j.1 k j.2).0,
+      option_maps j.1 _ _ _ _ j.3
+          (λ i. option_maps ((j.0).loans s.next_message) _ _ _ _ i (λ v. v) (λ loan _ i. (i.0, i.1, (send_ample j.0 i.0 s.next_message loan i.1 (back Told o _ i.0 i.3 (state_send i.0 _ _ _ i.1) told) i.2).0, i.3)))
+          (λ e _ i. i),
+    )),
+    live_told o (if_single_units s (if_fixed_size s (unblocked_at s handles of))) _ h told (λ publisher j.
+        subst TellNoRefusal (grant_written_loan_ample value default_header false 1 s j.0 publisher.0 j.1 k j.2).1
+        (by_option (TellNoRefusal (j.0).warnings) j.1 _ _ j.3
+        (λ _ i. by_option (TellNoRefusal (j.0).warnings) ((j.0).loans s.next_message) _ _ i (λ _ v. absurd v) (λ loan _ i. (send_ample j.0 i.0 s.next_message loan i.1 (back Told o _ i.0 i.3 (state_send i.0 _ _ _ i.1) told) i.2).1))
+        (λ e _ i. back Told o _ j.0 i refl told))),
   )
   step_ample (Discard of) o plain port told h = (h, live_told o (loan_at s handles of) _ h told (λ loan j. back Told o _ _ j refl told))
   step_ample (Update of) o plain port told h = (
@@ -166,6 +222,18 @@ module _ {T U : Type 0} (default_value : T) (default_header : U) (m : Messages T
         by_option (TellNoRefusal s.warnings) (slice_get (loan.1).cells at) _ _ j (λ _ v. absurd v) (λ cell _ e. back Told o _ s e refl told)))
         (λ sample _ j. by_option (TellNoRefusal s.warnings) (m sample.2) _ _ j (λ _ v. absurd v)
         (λ entry _ j. live_told o (slice_get entry.values at) _ j told (λ value e. back Told o _ s e refl told))),
+  )
+  step_ample (ReadHeader of) o plain port told h = (
+    h,
+    by_option (TellNoRefusal s.warnings) (sample_at s handles of) _ _ h
+        (λ _ j. live_told o (loan_at s handles of) _ j told (λ loan e. back Told o _ s e refl told))
+        (λ sample _ j. by_option (TellNoRefusal s.warnings) (m sample.2) _ _ j (λ _ v. absurd v) (λ entry _ e. back Told o _ s e refl told)),
+  )
+  step_ample (ReadUserHeader of) o plain port told h = (
+    h,
+    by_option (TellNoRefusal s.warnings) (sample_at s handles of) _ _ h
+        (λ _ j. live_told o (loan_at s handles of) _ j told (λ loan e. back Told o _ s e refl told))
+        (λ sample _ j. by_option (TellNoRefusal s.warnings) (m sample.2) _ _ j (λ _ v. absurd v) (λ entry _ e. back Told o _ s e refl told)),
   )
   step_ample (Release of) o plain port told h =
       (h, live_told o (sample_at s handles of) _ h told (λ sample j. subst TellNoRefusal (released_same s sample.0 sample.1 sample.2) (back Told o _ _ j refl told)))

@@ -8,6 +8,7 @@ use Rattle.iox2_store.specs.machine.Limits.{buffer_limit, last_number}
 use Rattle.iox2_store.specs.machine.Mailbox.{Mailbox, has_room}
 use Rattle.iox2_store.specs.machine.Numbers.{size}
 use Rattle.iox2_store.specs.machine.Places.{free_place}
+use Rattle.iox2_store.specs.machine.SingleCalls.{GrantWrittenLoan}
 use Rattle.iox2_store.specs.machine.Records.{Loan, Publisher, Subscriber, Environment, Handler, Fixed, Custom, PublisherSettings, SubscriberSettings}
 use Rattle.iox2_store.specs.machine.State.{State, held, with_loan, warned, receiving_buffer}
 use Rattle.iox2_store.specs.machine.Delivery.{PutResult, DeliveryEnd, Complete, Suspended, Decides, Put, PutAtEnd, Deliver, is_blocking, is_failed, accepted_count, no_time}
@@ -109,6 +110,17 @@ module _ {T U : Type 0} where
       static_only : (x : Publisher) → s.publishers p ≡ Some x → (P Q Q' : Type 0) → MatchBool (is_static x.allocation_strategy) P Q → MatchBool (is_static x.allocation_strategy) P Q'
       static_only x e P Q Q' h =
           subst (λ (b : Bool). MatchBool b P Q') (sym (k.publishers p x e)) (subst (λ (b : Bool). MatchBool b P Q) (k.publishers p x e) h)
+
+  pub grant_written_loan_ample : (value : T) (default_header : U) (checks_length : Bool) (len : ℕ) (s s' : State T U) (p : ℕ) (refusal : Option LoanError) → AllStatic s
+      → GrantWrittenLoan fixed_handlers value default_header checks_length len s p s' refusal
+      → GrantWrittenLoan ample_memory value default_header checks_length len s p s' refusal × (s'.warnings ≡ s.warnings)
+  grant_written_loan_ample value default_header checks_length len s s' p refusal k h =
+      let granted = grant_loan_ample default_header checks_length len s h.0 p refusal k h.1 in (
+        (h.0, granted.0, h.2),
+        by_option (s'.warnings ≡ s.warnings) refusal _ _ h.2
+            (λ _ j. by_option (s'.warnings ≡ s.warnings) ((h.0).loans s.next_message) _ _ j (λ _ v. absurd v) (λ l _ j. ap (λ (z : State T U). z.warnings) j ∙ granted.1))
+            (λ e _ j. ap (λ (z : State T U). z.warnings) j ∙ granted.1),
+      )
 
   -- ---- sends
 

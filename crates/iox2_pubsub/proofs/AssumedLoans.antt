@@ -21,6 +21,8 @@ use Rattle.iox2_pubsub.proofs.CallsStay.{always-shown, change-stays}
 use Rattle.iox2_pubsub.proofs.LiveParts.{unwritten-parts, unwritten-cell}
 use Rattle.iox2_pubsub.proofs.LoanHandles.{change-shown, change-written, change-cells}
 use Rattle.iox2_pubsub.proofs.StaysBut.{unchanged-stays}
+use Rattle.iox2_pubsub.specs.LoansLeft.{LoansLeftStay}
+use Rattle.iox2_pubsub.proofs.LoansLeftShown.{set-left}
 
 module _ {T U : Type 0} (f g : Fields T U) (sound : IsDomain f) (kept : Kept T U) (view : kept_of f ≡ kept) (n : ℕ) (b : Bool) (assumes : AssumesLoan f g n b) where
   abbrev assumed : Loan T U
@@ -69,6 +71,12 @@ module _ {T U : Type 0} (f g : Fields T U) (sound : IsDomain f) (kept : Kept T U
         let step = taken-shown it.0 it.1 it.2 in
         change-stays kept (kept_of g) it.0 it.1 it.2 n (record (step.0) { is_written = true }) step.3
 
+    pub taken-left : LoansLeftStay kept (kept_of g)
+    taken-left =
+        let it = always-shown f kept sound view in
+        let step = taken-shown it.0 it.1 it.2 in
+        set-left kept (kept_of g) it.0 it.0 it.1 (initialized it.1 n step.0) it.2 step.3 n (Some (record (step.0) { is_written = true })) refl
+
   -- ---- it is handed back
 
   module _ (no : b ≡ false) where
@@ -88,3 +96,6 @@ module _ {T U : Type 0} (f g : Fields T U) (sound : IsDomain f) (kept : Kept T U
 
     pub left-stays : StaysBut (A_loan n) kept (kept_of g)
     left-stays = subst (StaysBut (A_loan n) kept) (sym left-same) (unchanged-stays (A_loan n) kept)
+
+    pub left-loans : LoansLeftStay kept (kept_of g)
+    left-loans = subst (LoansLeftStay kept) (sym left-same) (record { loans = λ publisher more left. left; numbers = λ more left. left })

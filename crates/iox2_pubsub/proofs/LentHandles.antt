@@ -23,6 +23,8 @@ use Rattle.iox2_pubsub.specs.declared.sample_mut_uninit.SampleMutUninit.{SampleM
 use Rattle.iox2_pubsub.proofs.CallsStay.{always-shown, change-stays}
 use Rattle.iox2_pubsub.proofs.LiveParts.{written-parts, unwritten-parts, loan-reads, loan-cell, unwritten-reads, unwritten-cell, loan-user-header}
 use Rattle.iox2_pubsub.proofs.LoanHandles.{change-shown, changed-out, change-unwritten, change-written}
+use Rattle.iox2_pubsub.specs.LoansLeft.{LoansLeftStay}
+use Rattle.iox2_pubsub.proofs.LoansLeftShown.{set-left}
 
 -- ---- the words
 
@@ -71,6 +73,12 @@ module _ {T U : Type 0} (f g : Fields T U) (sound : IsDomain f) (kept : Kept T U
       let it = always-shown f kept sound view in
       let step = lent-shown it.0 it.1 it.2 in
       change-stays kept after it.0 it.1 it.2 n (h step.0) step.2
+
+  pub lent-left : LoansLeftStay kept after
+  lent-left =
+      let it = always-shown f kept sound view in
+      let step = lent-shown it.0 it.1 it.2 in
+      set-left kept after it.0 it.0 it.1 (with_loan it.1 n (Some (h step.0))) it.2 step.2 n (Some (h step.0)) refl
 
   -- the changed loan is the one that is kept
   lent-there : (state_of after).loans n ≡ Some (h l)

@@ -1,6 +1,6 @@
 -- What calls leave of the loans that publishers may still take, seen from outside.
 use Rattle.std.proofs.Common.{◌≡◌, ℕ, Bool, ◌+◌, ◌≤◌, ◌<◌, refl, sym, ap, subst, ◌∙◌, arith, Option, None, Some, Result, Ok, Err, ◌⊎◌, inl, inr}
-use Rattle.std.specs.Prelude.{◌≢◌}
+use Rattle.std.specs.Prelude.{◌≢◌, OnErr}
 use Rattle.std.proofs.lemmas.Bool.{cases_eq}
 use Rattle.iox2_store.specs.machine.Environments.{ample_memory}
 use Rattle.iox2_store.specs.machine.Limits.{last_number, worst_case}
@@ -109,6 +109,10 @@ module _ {T U : Type 0} (old new : Kept T U) (m m' : Messages T U) (s s' : State
       (subst (λ (p : ℕ). CanLend s' p loans) (sym its) (created_lends environment s (plain_publisher loans 1) s' refl (omega arith)
       (subst (λ (z : PublisherSettings). CreatePublisher environment s z s' None) (sym is) h))))
 
+  -- a call that changes nothing
+  pub same-left : s' ≡ s → LoansLeftStay old new
+  same-left is = all-left (subst (LoansKept s) (sym is) (kept_itself s))
+
   -- a loan is granted, or refused
   pub loan-takes : {A : Type 0} (is_default : U → Type 0) (checks : Bool) (len : ℕ) (publisher : Publisher) (answer : Result A LoanError) → LoanCall is_default checks len s publisher.id answer s' → TakesOneLeft publisher old new
   loan-takes is_default checks len publisher (Ok a) h =
@@ -127,11 +131,15 @@ module _ {T U : Type 0} (old new : Kept T U) (m m' : Messages T U) (s s' : State
             (sym (next-at new m' s' shown') ∙ taken.numbers ∙ ap (λ (k : ℕ). k + 1) (next-at old m s shown)) (numbers-in old (n + 1) left));
       }
   loan-takes is_default checks len publisher (Err e) h =
-      let stay : LoansLeftStay old new = all-left (subst (LoansKept s) (sym h.0) (kept_itself s)) in record {
+      let stay : LoansLeftStay old new = same-left h.0 in record {
         loans = λ n left. stay.loans publisher n (lends-out old publisher n (lends_fewer (state_of old) publisher.id n (n + 1) (omega arith) (lends-in old publisher (n + 1) left)));
         others = λ other n away left. stay.loans other n left;
         numbers = λ n left. stay.numbers n (numbers-out old n (one_less old.next_message n last_number (numbers-in old (n + 1) left)));
       }
+
+  pub refused-left : {A : Type 0} (is_default : U → Type 0) (checks : Bool) (len p : ℕ) (answer : Result A LoanError) → LoanCall is_default checks len s p answer s' → OnErr answer (LoansLeftStay old new)
+  refused-left is_default checks len p (Ok a) h = tt
+  refused-left is_default checks len p (Err e) h = same-left h.0
 
   -- a loan ends
   module _ (n : ℕ) (l : Loan T U) (out : s.loans n ≡ Some l) (p : ℕ) (its : l.publisher ≡ p) (ends : LoanEnds l.publisher n s s') where

@@ -16,6 +16,8 @@ use Rattle.iox2_pubsub.specs.declared.sample_mut_uninit.SampleMutUninit.{SampleM
 use Rattle.iox2_pubsub.proofs.CallsStay.{always-shown, change-stays}
 use Rattle.iox2_pubsub.proofs.LiveParts.{unwritten-parts}
 use Rattle.iox2_pubsub.proofs.LoanHandles.{change-shown, change-written, changed-out}
+use Rattle.iox2_pubsub.specs.LoansLeft.{LoansLeftStay}
+use Rattle.iox2_pubsub.proofs.LoansLeftShown.{set-left}
 
 module _ {T U : Type 0} (kept : Kept T U) where
   pub sliced-parts : IsSliced kept → is_single_valued kept.config ≡ false
@@ -63,3 +65,9 @@ module _ {T U : Type 0} (f g : Fields T U) (sound : IsDomain f) (kept : Kept T U
       let it = always-shown f kept sound view in
       let step = change-shown f g kept view n writes.0 filled writes.1 writes.3 it.0 it.1 it.2 in
       change-stays kept (kept_of g) it.0 it.1 it.2 n filled step.1
+
+  pub filled-left : LoansLeftStay kept (kept_of g)
+  filled-left =
+      let it = always-shown f kept sound view in
+      let step = change-shown f g kept view n writes.0 filled writes.1 writes.3 it.0 it.1 it.2 in
+      set-left kept (kept_of g) it.0 it.0 it.1 (with_loan it.1 n (Some filled)) it.2 step.1 n (Some filled) refl

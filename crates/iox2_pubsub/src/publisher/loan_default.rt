@@ -1,5 +1,5 @@
 //! A publisher lends a message that has a default value.
-ghost use Rattle.std.specs.Prelude.{◌≡◌, IfOk};
+ghost use Rattle.std.specs.Prelude.{◌≡◌, ◌+◌, ℕ, IfOk, IsOk, OnErr};
 
 use crate::domain::Domain;
 use crate::publisher::Publisher;
@@ -10,6 +10,7 @@ impl Publisher {
     ghost use Rattle.iox2_store.specs.machine.State.{State, Messages};
     ghost use Rattle.iox2_domain.specs.Shows.{Shows};
     ghost use Rattle.iox2_pubsub.specs.Live.{HasLender, IsLivePublisher, IsNewIn, IsSingleValued, IsWrittenLoan, LoanReads, Stays, UpToDateStay, lender_key, payloads, publisher_key, written_key, written_loan};
+    ghost use Rattle.iox2_pubsub.specs.LoansLeft.{HasLoansLeft, HasNumbersLeft, LoansLeftStay, TakesOneLeft};
     ghost use Rattle.iox2_pubsub.specs.WrittenLoans.{WrittenLoanCall};
 
     /// Lends a message of one element whose payload and user header have their default values, so
@@ -32,6 +33,9 @@ impl Publisher {
         ensures lender { IfOk result (λ loan. lender_key (written_key loan) ≡ publisher_key self.now) }
         ensures waits { payloads domain.new ≡ payloads domain.old }
         ensures up_to_date { UpToDateStay domain.old domain.new }
+        ensures granted { (loans numbers : ℕ) → HasLoansLeft domain.old self.now (loans + 1) → HasNumbersLeft domain.old (numbers + 1) → IsOk result }
+        ensures loans_left { TakesOneLeft self.now domain.old domain.new }
+        ensures refused { OnErr result (LoansLeftStay domain.old domain.new) }
         ensures stays { Stays domain.old domain.new }
     {
         let loan = self.loan_uninit(domain)?;

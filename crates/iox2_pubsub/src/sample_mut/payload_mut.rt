@@ -16,6 +16,7 @@ impl SampleMut {
     ghost use Rattle.iox2_pubsub.specs.ChangedLoans.{with_payload};
     ghost use Rattle.iox2_pubsub.specs.Live.{IsSingleValued, IsWrittenLoan, LoanReads, StaysBut, written_loan};
     ghost use Rattle.iox2_pubsub.specs.LoanLends.{LendsPayload};
+    ghost use Rattle.iox2_pubsub.specs.LoansLeft.{LoansLeftStay};
 
     /// The payload, in a domain of single values, to be changed where it lies. What is left behind
     /// the reference is the loan's payload from then on, and nothing else of the domain changes.
@@ -36,6 +37,7 @@ impl SampleMut {
             × Shows (with_payload domain.old sample.old.loan.number value) m (with_loan s sample.old.loan.number (Some (first_cell_changed (Some value) l))) }
         ensures live { (value : T) → IsWrittenLoan (with_payload domain.old sample.old.loan.number value) sample.old }
         ensures reads { (value : T) → LoanReads (with_payload domain.old sample.old.loan.number value) sample.old value }
+        ensures loans_left { (value : T) → LoansLeftStay domain.old (with_payload domain.old sample.old.loan.number value) }
         ensures stays { (value : T) → StaysBut (written_loan sample.old) domain.old (with_payload domain.old sample.old.loan.number value) }
     {
         let at = domain.state.find_live_loan(&sample.loan);

@@ -14,6 +14,7 @@ impl SampleMutUninit {
     ghost use Rattle.iox2_store.specs.machine.State.{State, Messages};
     ghost use Rattle.iox2_domain.specs.Shows.{Shows};
     ghost use Rattle.iox2_pubsub.specs.Live.{IsUnwrittenLoan, IsWrittenLoan, LoanReads, StaysBut, UnwrittenReads, unwritten_key, unwritten_loan, written_key};
+    ghost use Rattle.iox2_pubsub.specs.LoansLeft.{LoansLeftStay};
 
     /// Makes the loan one that may be sent, where each of its cells is written. Else the loan is
     /// handed back as it was, and nothing changes. No value is copied.
@@ -34,6 +35,7 @@ impl SampleMutUninit {
         ensures reads { (value : T) → UnwrittenReads domain.old self (Some value) → IsOkAnd result (λ sample. LoanReads domain.new sample value) }
         ensures refused { UnwrittenReads domain.old self None → IsErr result }
         ensures handed_back { MatchResult result (λ _. self ≡ self) (λ loan. (loan ≡ self) × (domain.new ≡ domain.old)) }
+        ensures loans_left { LoansLeftStay domain.old domain.new }
         ensures stays { StaysBut (unwritten_loan self) domain.old domain.new }
     {
         if !assume_loan(&mut domain.state, &self.loan) {

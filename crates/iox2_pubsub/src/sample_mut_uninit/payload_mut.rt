@@ -16,6 +16,7 @@ impl SampleMutUninit {
     ghost use Rattle.iox2_pubsub.specs.ChangedLoans.{with_cell};
     ghost use Rattle.iox2_pubsub.specs.Live.{IsSingleValued, IsUnwrittenLoan, UnwrittenReads, StaysBut, unwritten_loan};
     ghost use Rattle.iox2_pubsub.specs.LoanLends.{LendsCell};
+    ghost use Rattle.iox2_pubsub.specs.LoansLeft.{LoansLeftStay};
 
     /// The payload's cell, in a domain of single values, to be written, changed or emptied where it
     /// lies. What is left behind the reference is the loan's cell from then on, and nothing else of
@@ -37,6 +38,7 @@ impl SampleMutUninit {
             × Shows (with_cell domain.old sample.old.loan.number cell) m (with_loan s sample.old.loan.number (Some (first_cell_changed cell l))) }
         ensures live { (cell : Option T) → IsUnwrittenLoan (with_cell domain.old sample.old.loan.number cell) sample.old }
         ensures reads { (cell : Option T) → UnwrittenReads (with_cell domain.old sample.old.loan.number cell) sample.old cell }
+        ensures loans_left { (cell : Option T) → LoansLeftStay domain.old (with_cell domain.old sample.old.loan.number cell) }
         ensures stays { (cell : Option T) → StaysBut (unwritten_loan sample.old) domain.old (with_cell domain.old sample.old.loan.number cell) }
     {
         let at = domain.state.find_live_loan(&sample.loan);

@@ -16,6 +16,7 @@ impl SampleMutUninit {
     ghost use Rattle.iox2_pubsub.specs.ChangedLoans.{with_user_header};
     ghost use Rattle.iox2_pubsub.specs.Live.{IsUnwrittenLoan, LoanHasUserHeader, UnwrittenReads, StaysBut, unwritten_key, unwritten_loan};
     ghost use Rattle.iox2_pubsub.specs.LoanLends.{LendsUserHeader};
+    ghost use Rattle.iox2_pubsub.specs.LoansLeft.{LoansLeftStay};
 
     /// The user header, to be changed where it lies. What is left behind the reference is the loan's
     /// user header from then on, and nothing else of the domain changes.
@@ -35,6 +36,7 @@ impl SampleMutUninit {
             × Shows (with_user_header domain.old sample.old.loan.number user_header) m (with_loan s sample.old.loan.number (Some (user_header_changed user_header l))) }
         ensures live { (user_header : U) → IsUnwrittenLoan (with_user_header domain.old sample.old.loan.number user_header) sample.old }
         ensures is { (user_header : U) → LoanHasUserHeader (with_user_header domain.old sample.old.loan.number user_header) (unwritten_key sample.old) user_header }
+        ensures loans_left { (user_header : U) → LoansLeftStay domain.old (with_user_header domain.old sample.old.loan.number user_header) }
         ensures stays { (user_header : U) → StaysBut (unwritten_loan sample.old) domain.old (with_user_header domain.old sample.old.loan.number user_header) }
         ensures payloads { (user_header : U) (cell : Option T) → UnwrittenReads domain.old sample.old cell → UnwrittenReads (with_user_header domain.old sample.old.loan.number user_header) sample.old cell }
     {

@@ -22,6 +22,7 @@ impl Sample {
     ghost use Rattle.iox2_domain.specs.Shows.{Shows};
     ghost use Rattle.iox2_domain.specs.Kept.{entries_of};
     ghost use Rattle.iox2_pubsub.specs.Live.{IsFromOrigin, IsLiveSample, SampleHasHeader, SampleHasUserHeader, StaysBut, UpToDateStay, payloads, received_sample, sample_key};
+    ghost use Rattle.iox2_pubsub.specs.LoansLeft.{LoansLeftStay};
     ghost use Rattle.iox2_pubsub.specs.Slices.{IsSliced};
 
     /// The message's values as they lie in their slot.
@@ -50,6 +51,7 @@ impl Sample {
         ensures spent { IsLiveSample domain.new self.sample → ⊥ }
         ensures waits { payloads domain.new ≡ payloads domain.old }
         ensures up_to_date { UpToDateStay domain.old domain.new }
+        ensures loans_left { LoansLeftStay domain.old domain.new }
         ensures stays { StaysBut (received_sample self.sample) domain.old domain.new }
     {
         let Sample { sample } = self;

@@ -23,6 +23,7 @@ impl SampleMut {
     ghost use Rattle.iox2_store.specs.machine.State.{State, Messages};
     ghost use Rattle.iox2_domain.specs.Shows.{Shows};
     ghost use Rattle.iox2_pubsub.specs.Live.{AddAtMost, HasLender, IsLoanKey, IsWrittenLoan, LoanHasHeader, LoanHasUserHeader, StaysBut, UpToDateStay, payloads, written_key, written_loan};
+    ghost use Rattle.iox2_pubsub.specs.LoansLeft.{HasOneMoreLeft, LoansLeftStay};
     ghost use Rattle.iox2_pubsub.specs.SendCalls.{Sends, messages_after};
     ghost use Rattle.iox2_pubsub.specs.Slices.{HasValues, IsSliced};
 
@@ -53,6 +54,8 @@ impl SampleMut {
         ensures spent { IsLoanKey domain.new (written_key self.sample) → ⊥ }
         ensures adds { AddAtMost ((domain.old.config).history_size + 1) domain.old domain.new }
         ensures up_to_date { UpToDateStay domain.old domain.new }
+        ensures loans_left { LoansLeftStay domain.old domain.new }
+        ensures given_back { HasOneMoreLeft self.sample.loan.publisher domain.old domain.new }
         ensures stays { StaysBut (written_loan self.sample) domain.old domain.new }
     {
         let SampleMut { sample } = self;
@@ -70,6 +73,8 @@ impl SampleMut {
         ensures waits { payloads domain.new ≡ payloads domain.old }
         ensures up_to_date { UpToDateStay domain.old domain.new }
         ensures spent { IsLoanKey domain.new (written_key self.sample) → ⊥ }
+        ensures loans_left { LoansLeftStay domain.old domain.new }
+        ensures given_back { HasOneMoreLeft self.sample.loan.publisher domain.old domain.new }
         ensures stays { StaysBut (written_loan self.sample) domain.old domain.new }
     {
         let SampleMut { sample } = self;

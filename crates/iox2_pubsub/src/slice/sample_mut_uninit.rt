@@ -25,6 +25,7 @@ impl SampleMutUninit {
     ghost use Rattle.iox2_store.specs.machine.SingleCalls.{WriteAllFrom};
     ghost use Rattle.iox2_domain.specs.Shows.{Shows};
     ghost use Rattle.iox2_pubsub.specs.Live.{IsLoanKey, IsUnwrittenLoan, IsWrittenLoan, LoanHasHeader, LoanHasUserHeader, StaysBut, UpToDateStay, payloads, unwritten_key, unwritten_loan, written_key};
+    ghost use Rattle.iox2_pubsub.specs.LoansLeft.{HasOneMoreLeft, LoansLeftStay};
     ghost use Rattle.iox2_pubsub.specs.Slices.{HasUnwrittenCells, HasValues, IsSliced};
 
     /// The cells as they lie in their slot: `None` where one isn't written.
@@ -61,6 +62,7 @@ impl SampleMutUninit {
             × (s' : State T U) × WriteAllFrom s self.sample.loan.number l answers s' × Shows domain.new m s') }
         ensures live { IsWrittenLoan domain.new result.sample }
         ensures key { written_key result.sample ≡ unwritten_key self.sample }
+        ensures loans_left { LoansLeftStay domain.old domain.new }
         ensures stays { StaysBut (unwritten_loan self.sample) domain.old domain.new }
     {
         let SampleMutUninit { sample } = self;
@@ -88,6 +90,7 @@ impl SampleMutUninit {
         ensures written { HasValues domain.new result.sample.loan.number values.now }
         ensures live { IsWrittenLoan domain.new result.sample }
         ensures key { written_key result.sample ≡ unwritten_key self.sample }
+        ensures loans_left { LoansLeftStay domain.old domain.new }
         ensures stays { StaysBut (unwritten_loan self.sample) domain.old domain.new }
     {
         let SampleMutUninit { sample } = self;
@@ -115,6 +118,7 @@ impl SampleMutUninit {
         ensures live { IfOk result (λ it. IsWrittenLoan domain.new it.sample) }
         ensures key { IfOk result (λ it. written_key it.sample ≡ unwritten_key self.sample) }
         ensures handed_back { MatchResult result (λ _. self ≡ self) (λ it. (it.sample ≡ self.sample) × (domain.new ≡ domain.old)) }
+        ensures loans_left { LoansLeftStay domain.old domain.new }
         ensures stays { StaysBut (unwritten_loan self.sample) domain.old domain.new }
     {
         let SampleMutUninit { sample } = self;
@@ -135,6 +139,8 @@ impl SampleMutUninit {
         ensures waits { payloads domain.new ≡ payloads domain.old }
         ensures up_to_date { UpToDateStay domain.old domain.new }
         ensures spent { IsLoanKey domain.new (unwritten_key self.sample) → ⊥ }
+        ensures loans_left { LoansLeftStay domain.old domain.new }
+        ensures given_back { HasOneMoreLeft self.sample.loan.publisher domain.old domain.new }
         ensures stays { StaysBut (unwritten_loan self.sample) domain.old domain.new }
     {
         let SampleMutUninit { sample } = self;

@@ -16,6 +16,7 @@ impl SampleMut {
     ghost use Rattle.iox2_pubsub.specs.ChangedLoans.{with_payloads};
     ghost use Rattle.iox2_pubsub.specs.Live.{IsWrittenLoan, StaysBut, written_loan};
     ghost use Rattle.iox2_pubsub.specs.LoanLends.{LendsPayloads};
+    ghost use Rattle.iox2_pubsub.specs.LoansLeft.{LoansLeftStay};
     ghost use Rattle.iox2_pubsub.specs.Slices.{HasValues, IsSliced};
 
     /// The payload, to be changed where it lies. What is left behind the reference is the loan's
@@ -35,6 +36,7 @@ impl SampleMut {
             → (l : Loan T U) × (s.loans sample.old.sample.loan.number ≡ Some l)
             × Shows (with_payloads domain.old sample.old.sample.loan.number left) m (with_loan s sample.old.sample.loan.number (Some (cells_changed (map Some left) l))) }
         ensures live { (left : List T) → IsWrittenLoan (with_payloads domain.old sample.old.sample.loan.number left) sample.old.sample }
+        ensures loans_left { (left : List T) → LoansLeftStay domain.old (with_payloads domain.old sample.old.sample.loan.number left) }
         ensures stays { (left : List T) → StaysBut (written_loan sample.old.sample) domain.old (with_payloads domain.old sample.old.sample.loan.number left) }
     {
         let at = domain.state.find_live_loan(&sample.sample.loan);

@@ -16,6 +16,7 @@ impl SampleMutUninit {
     ghost use Rattle.iox2_pubsub.specs.ChangedLoans.{with_cells};
     ghost use Rattle.iox2_pubsub.specs.Live.{IsUnwrittenLoan, StaysBut, unwritten_loan};
     ghost use Rattle.iox2_pubsub.specs.LoanLends.{LendsCells};
+    ghost use Rattle.iox2_pubsub.specs.LoansLeft.{LoansLeftStay};
     ghost use Rattle.iox2_pubsub.specs.Slices.{HasUnwrittenCells, IsSliced};
 
     /// The cells, to be written, changed or emptied where they lie. What is left behind the reference
@@ -35,6 +36,7 @@ impl SampleMutUninit {
             → (l : Loan T U) × (s.loans sample.old.sample.loan.number ≡ Some l)
             × Shows (with_cells domain.old sample.old.sample.loan.number left) m (with_loan s sample.old.sample.loan.number (Some (cells_changed left l))) }
         ensures live { (left : List (Option T)) → IsUnwrittenLoan (with_cells domain.old sample.old.sample.loan.number left) sample.old.sample }
+        ensures loans_left { (left : List (Option T)) → LoansLeftStay domain.old (with_cells domain.old sample.old.sample.loan.number left) }
         ensures stays { (left : List (Option T)) → StaysBut (unwritten_loan sample.old.sample) domain.old (with_cells domain.old sample.old.sample.loan.number left) }
     {
         let at = domain.state.find_live_loan(&sample.sample.loan);

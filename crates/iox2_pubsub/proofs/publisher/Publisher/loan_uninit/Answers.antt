@@ -8,7 +8,7 @@ use Rattle.iox2_pubsub.proofs.LiveParts.{publisher-parts, single-parts}
 use Rattle.iox2_pubsub.proofs.WaitingShown.{loan-waits}
 use Rattle.iox2_pubsub.proofs.UpToDateShown.{loan-leaves}
 use Rattle.iox2_pubsub.proofs.SureLoans.{sure-granted, sure-of-loan}
-use Rattle.iox2_pubsub.proofs.LoansLeftShown.{loan-takes}
+use Rattle.iox2_pubsub.proofs.LoansLeftShown.{loan-takes, refused-left}
 use Rattle.iox2_pubsub.proofs.publisher.Publisher.loan_uninit.Goals as goal
 
 pub returns-in_err-loan-clause-lends : goal.returns-in_err-loan-clause-lends
@@ -110,3 +110,9 @@ returns-clause-loans_left g c =
 
 pub loan-requires-clause-unchecked : goal.loan-requires-clause-unchecked
 loan-requires-clause-unchecked g c = λ unchecked. ap (λ (k : Kept g.row.T.Denot g.row.U.Denot). (k.config).variant) c.domain.view_is ∙ (single-parts c.args.domain.now c.requires.single_valued).0
+
+pub returns-in_err-loan-clause-refused : goal.returns-in_err-loan-clause-refused
+returns-in_err-loan-clause-refused g c =
+    let it = always-shown {T = g.row.T.Denot} {U = g.row.U.Denot} c.domain.inside.state c.args.domain.now c.domain.invariant c.domain.view_is in
+    let step = returns-in_err-loan-clause-lends g c it.0 it.1 it.2 in
+    refused-left {T = g.row.T.Denot} {U = g.row.U.Denot} c.args.domain.now _ it.0 it.0 it.1 step.0 it.2 step.1 g.U.Default.is_default false 1 c.args.self.now.id c.from_residual.result step.2

@@ -7,7 +7,7 @@ use Rattle.iox2_pubsub.specs.ChangedLoans.{with_user_header}
 use Rattle.iox2_pubsub.specs.Live.{written_key}
 use Rattle.iox2_pubsub.proofs.LiveParts.{loan-user-header}
 use Rattle.iox2_pubsub.proofs.LoanHandles.{written-out, unwritten-out, loan-out}
-use Rattle.iox2_pubsub.proofs.LentHandles.{user_header-word, header-there, header-known, header-lends, lent-is, lent-header, lent-shown, lent-written, lent-payload, lent-stays}
+use Rattle.iox2_pubsub.proofs.LentHandles.{user_header-word, header-there, header-known, header-lends, lent-is, lent-header, lent-shown, lent-written, lent-payload, lent-stays, lent-left}
 use Rattle.iox2_pubsub.proofs.sample_mut.SampleMut.user_header_mut.Goals as goal
 
 pub find_live_loan-at-requires-clause-live : goal.find_live_loan-at-requires-clause-live
@@ -30,6 +30,7 @@ returns g c =
         changes = λ m s w shown. lent-shown {T = g.row.T.Denot} {U = g.row.U.Denot} c.domain.inside.state _ c.domain.invariant c.args.domain.now c.domain.view_is c.args.sample.now.loan.number (c.find_live_loan-at.ensures).loan (c.find_live_loan-at.ensures).is_out (user_header_changed w) (header-lends {T = g.row.T.Denot} {U = g.row.U.Denot} c.domain.inside.state c.domain.invariant c.args.sample.now.loan.publisher c.args.sample.now.loan.number c.find_live_loan-at.result.book c.find_live_loan-at.result.slot c.find_live_loan-at.ensures w) (with_user_header c.args.domain.now c.args.sample.now.loan.number w) (user_header-word c.args.domain.now c.args.sample.now.loan.number w) m s shown;
         live = λ w. lent-written {T = g.row.T.Denot} {U = g.row.U.Denot} c.domain.inside.state _ c.domain.invariant c.args.domain.now c.domain.view_is c.args.sample.now.loan.number (c.find_live_loan-at.ensures).loan (c.find_live_loan-at.ensures).is_out (user_header_changed w) (header-lends {T = g.row.T.Denot} {U = g.row.U.Denot} c.domain.inside.state c.domain.invariant c.args.sample.now.loan.publisher c.args.sample.now.loan.number c.find_live_loan-at.result.book c.find_live_loan-at.result.slot c.find_live_loan-at.ensures w) (with_user_header c.args.domain.now c.args.sample.now.loan.number w) (user_header-word c.args.domain.now c.args.sample.now.loan.number w) refl refl c.args.sample.now refl c.requires;
         is = λ w. lent-header {T = g.row.T.Denot} {U = g.row.U.Denot} c.domain.inside.state _ c.domain.invariant c.args.domain.now c.domain.view_is c.args.sample.now.loan.number (c.find_live_loan-at.ensures).loan (c.find_live_loan-at.ensures).is_out (user_header_changed w) (header-lends {T = g.row.T.Denot} {U = g.row.U.Denot} c.domain.inside.state c.domain.invariant c.args.sample.now.loan.publisher c.args.sample.now.loan.number c.find_live_loan-at.result.book c.find_live_loan-at.result.slot c.find_live_loan-at.ensures w) (with_user_header c.args.domain.now c.args.sample.now.loan.number w) (user_header-word c.args.domain.now c.args.sample.now.loan.number w) (written_key c.args.sample.now) w refl refl;
+        loans_left = λ w. lent-left {T = g.row.T.Denot} {U = g.row.U.Denot} c.domain.inside.state _ c.domain.invariant c.args.domain.now c.domain.view_is c.args.sample.now.loan.number (c.find_live_loan-at.ensures).loan (c.find_live_loan-at.ensures).is_out (user_header_changed w) (header-lends {T = g.row.T.Denot} {U = g.row.U.Denot} c.domain.inside.state c.domain.invariant c.args.sample.now.loan.publisher c.args.sample.now.loan.number c.find_live_loan-at.result.book c.find_live_loan-at.result.slot c.find_live_loan-at.ensures w) (with_user_header c.args.domain.now c.args.sample.now.loan.number w) (user_header-word c.args.domain.now c.args.sample.now.loan.number w);
         stays = λ w. lent-stays {T = g.row.T.Denot} {U = g.row.U.Denot} c.domain.inside.state _ c.domain.invariant c.args.domain.now c.domain.view_is c.args.sample.now.loan.number (c.find_live_loan-at.ensures).loan (c.find_live_loan-at.ensures).is_out (user_header_changed w) (header-lends {T = g.row.T.Denot} {U = g.row.U.Denot} c.domain.inside.state c.domain.invariant c.args.sample.now.loan.publisher c.args.sample.now.loan.number c.find_live_loan-at.result.book c.find_live_loan-at.result.slot c.find_live_loan-at.ensures w) (with_user_header c.args.domain.now c.args.sample.now.loan.number w) (user_header-word c.args.domain.now c.args.sample.now.loan.number w);
         payloads = λ w value reads. lent-payload {T = g.row.T.Denot} {U = g.row.U.Denot} c.domain.inside.state _ c.domain.invariant c.args.domain.now c.domain.view_is c.args.sample.now.loan.number (c.find_live_loan-at.ensures).loan (c.find_live_loan-at.ensures).is_out (user_header_changed w) (header-lends {T = g.row.T.Denot} {U = g.row.U.Denot} c.domain.inside.state c.domain.invariant c.args.sample.now.loan.publisher c.args.sample.now.loan.number c.find_live_loan-at.result.book c.find_live_loan-at.result.slot c.find_live_loan-at.ensures w) (with_user_header c.args.domain.now c.args.sample.now.loan.number w) (user_header-word c.args.domain.now c.args.sample.now.loan.number w) refl c.args.sample.now value refl reads;
       },

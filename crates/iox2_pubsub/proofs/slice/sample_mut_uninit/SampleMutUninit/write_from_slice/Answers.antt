@@ -4,7 +4,7 @@ use Rattle.iox2_domain.specs.Kept.{Kept, state_of}
 use Rattle.iox2_domain.specs.LoanCalls.{HasCells, cells_changed}
 use Rattle.iox2_domain.specs.declared.loan_slots.LoanAt.{LoanAt}
 use Rattle.iox2_pubsub.proofs.LoanHandles.{written-out, unwritten-out, loan-out}
-use Rattle.iox2_pubsub.proofs.SliceParts.{sliced-parts, cells-parts, has-cells, has-values, filled-shown, filled-values, filled-live, filled-stays}
+use Rattle.iox2_pubsub.proofs.SliceParts.{sliced-parts, cells-parts, has-cells, has-values, filled-shown, filled-values, filled-live, filled-stays, filled-left}
 use Rattle.iox2_pubsub.proofs.slice.sample_mut_uninit.SampleMutUninit.write_from_slice.Goals as goal
 
 pub write_loan_from_slice-loan-requires-clause-live : goal.write_loan_from_slice-loan-requires-clause-live
@@ -27,3 +27,6 @@ returns-clause-stays g c = filled-stays {T = g.row.T.Denot} {U = g.row.U.Denot} 
 
 pub returns-clause-step : goal.returns-clause-step
 returns-clause-step g c = filled-shown {T = g.row.T.Denot} {U = g.row.U.Denot} c.domain.inside.state c.write_loan_from_slice-loan.new.state c.domain.invariant c.args.domain.now c.domain.view_is c.args.self.sample.loan.number c.args.values.now c.write_loan_from_slice-loan.ensures.writes
+
+pub returns-clause-loans_left : goal.returns-clause-loans_left
+returns-clause-loans_left g c = filled-left {T = g.row.T.Denot} {U = g.row.U.Denot} c.domain.inside.state c.write_loan_from_slice-loan.new.state c.domain.invariant c.args.domain.now c.domain.view_is c.args.self.sample.loan.number c.args.values.now c.write_loan_from_slice-loan.ensures.writes
