@@ -74,3 +74,20 @@ pub(crate) fn first_difference(
     }
     Ok(None)
 }
+
+/// Runs the commands. Whether some reply isn't one that the model has.
+pub(crate) fn is_refuted(
+    alloc: Global,
+    config: ServiceConfig,
+    commands: &[Command<u64, u64>],
+) -> Result<bool, Failure> {
+    let replies = replies_of(alloc, config, commands)?;
+    let difference = first_difference(
+        alloc,
+        config,
+        commands,
+        replies.as_slice(),
+        Memory::ample(),
+    )?;
+    Ok(difference.is_some())
+}

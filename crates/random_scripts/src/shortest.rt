@@ -1,7 +1,6 @@
 //! The shortest failing script that leaving out lines gives.
-use crate::comparison::{Difference, first_difference, replies_of};
+use crate::comparison::is_refuted;
 use crate::failure::Failure;
-use iox2_model::Memory;
 use iox2_pubsub::ServiceConfig;
 use iox2_runs::Command;
 use random_commands::without;
@@ -9,16 +8,6 @@ use std::alloc::Global;
 
 // How many lines are left out at once.
 const COUNTS: [usize; 8] = [128, 64, 32, 16, 8, 4, 2, 1];
-
-/// Runs the script, and returns the first reply that isn't one that the model has.
-pub(crate) fn refuted(
-    alloc: Global,
-    config: ServiceConfig,
-    commands: &[Command<u64, u64>],
-) -> Result<Option<Difference>, Failure> {
-    let replies = replies_of(alloc, config, commands)?;
-    first_difference(alloc, config, commands, replies.as_slice(), Memory::ample())
-}
 
 /// The commands with as many left out as can be, so that they still fail.
 pub(crate) fn shortest(
@@ -55,7 +44,7 @@ fn with_fewer(
             found.len().saturating_sub(passed),
             count,
         )?;
-        if fewer.len() < found.len() && refuted(alloc, config, fewer.as_slice())?.is_some() {
+        if fewer.len() < found.len() && is_refuted(alloc, config, fewer.as_slice())? {
             found = fewer;
         }
     }
