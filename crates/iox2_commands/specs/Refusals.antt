@@ -1,0 +1,112 @@
+-- Runs in which no memory was refused, as their replies and the count of refused connections tell.
+use Rattle.std.specs.Prelude.{ℕ, true, List, [], ◌∷◌, ◌++◌, ◌≡◌, slice_get}
+use Rattle.std.specs.List.{All}
+use Rattle.std.specs.declared.option.Option.TheVariants.{Some}
+use Rattle.iox2_store.specs.machine.Ports.{first_segment_fits}
+use Rattle.iox2_store.specs.machine.State.{State, Warnings, Messages, fresh, no_messages}
+use Rattle.iox2_store.specs.machine.Environments.{fixed_handlers, ample_memory}
+use Rattle.iox2_store.specs.declared.allocation.AllocationStrategy.TheVariants.{Static}
+use Rattle.iox2_store.specs.declared.errors.PublisherCreateError.TheVariants.{UnableToCreateDataSegment, FailedToDeployThreadsafetyPolicy as NoPublisherState}
+use Rattle.iox2_store.specs.declared.errors.SubscriberCreateError.TheVariants.{FailedToDeployThreadsafetyPolicy as NoSubscriberState}
+use Rattle.iox2_store.specs.declared.service_config.ServiceConfig.{ServiceConfig}
+use Rattle.iox2_commands.specs.Outcomes.{Handle, Event}
+use Rattle.iox2_commands.specs.Points.{PointOf}
+use Rattle.iox2_commands.specs.Runs.{RunTo, only_defaults}
+use Rattle.iox2_commands.specs.Step.{publisher_settings}
+use Rattle.iox2_commands.specs.Isolation.{AreIndependent, reads_at}
+use Rattle.iox2_commands.specs.Views.{SameView, OmitsOthersFrom}
+use Rattle.iox2_commands.specs.declared.command.Command.{Command}
+use Rattle.iox2_commands.specs.declared.command.Command.TheVariants.{Nothing, CreatePublisher, CreateSubscriber, LoanUninit, Loan, WriteCell, WriteAll, AssumeInit, WriteHeader, SetPayload, Send, SendCopy, Discard, Update, Receive, HasSamples, Read, ReadHeader, ReadUserHeader, Release, Close}
+use Rattle.iox2_commands.specs.declared.reply.Reply.{Reply}
+use Rattle.iox2_commands.specs.declared.reply.Reply.TheVariants.{SubscriberMade, PublisherRefused, SubscriberRefused}
+
+-- No connection was refused memory.
+abbrev pub TellNoRefusal : Warnings → Type 0
+TellNoRefusal warnings = warnings.refused_connections ≡ 0
+
+module _ {T U : Type 0} where
+  -- Memory that is refused to the command shows in its reply or in the count: a publisher that it makes has its memory from the
+  -- start. These are the commands that `run` carries out so far.
+  abbrev pub TellsOfRefusals : Command T U → Type 0
+  TellsOfRefusals Nothing = Unit {0}
+  TellsOfRefusals (CreatePublisher loans strategy allocation len override_slots degradation backpressure) = allocation ≡ Static
+  TellsOfRefusals (CreateSubscriber buffer degradation) = Unit {0}
+  TellsOfRefusals (LoanUninit of) = Unit {0}
+  TellsOfRefusals (Loan of) = Unit {0}
+  TellsOfRefusals (WriteCell of at value) = Unit {0}
+  TellsOfRefusals (WriteAll of value) = Unit {0}
+  TellsOfRefusals (AssumeInit of) = Unit {0}
+  TellsOfRefusals (WriteHeader of value) = Unit {0}
+  TellsOfRefusals (SetPayload of at value) = Unit {0}
+  TellsOfRefusals (Send of) = Unit {0}
+  TellsOfRefusals (SendCopy of value) = Unit {0}
+  TellsOfRefusals (Discard of) = Unit {0}
+  TellsOfRefusals (Update of) = Unit {0}
+  TellsOfRefusals (Receive of) = Unit {0}
+  TellsOfRefusals (HasSamples of) = Unit {0}
+  TellsOfRefusals (Read of at) = Unit {0}
+  TellsOfRefusals (ReadHeader of) = Unit {0}
+  TellsOfRefusals (ReadUserHeader of) = Unit {0}
+  TellsOfRefusals (Release of) = Unit {0}
+  TellsOfRefusals (Close of) = Unit {0}
+  TellsOfRefusals _ = ⊥
+
+  -- The reply to the command refuses a port for want of memory.
+  abbrev pub RefusesPort : ServiceConfig → Command T U → Reply T U → Type 0
+  RefusesPort c (CreatePublisher loans strategy allocation len override_slots degradation backpressure) (PublisherRefused UnableToCreateDataSegment) =
+      first_segment_fits c (publisher_settings c.variant loans strategy allocation len override_slots degradation backpressure) ≡ true
+  RefusesPort c command (PublisherRefused NoPublisherState) = Unit {0}
+  RefusesPort c command (SubscriberRefused NoSubscriberState) = Unit {0}
+  RefusesPort c command _ = ⊥
+
+  -- No reply refuses a port for want of memory.
+  abbrev pub RefuseNoPort : ServiceConfig → List (Command T U) → List (Reply T U) → Type 0
+  RefuseNoPort c (command ∷ commands) (reply ∷ replies) = (RefusesPort c command reply → ⊥) × RefuseNoPort c commands replies
+  RefuseNoPort c _ _ = Unit {0}
+
+  -- No reply and no count tells that memory was refused.
+  pub record MetNoRefusal (c : ServiceConfig) (commands : List (Command T U)) (replies : List (Reply T U)) (warnings : Warnings) : Type 0 where
+    pub ports : RefuseNoPort c commands replies
+    pub told : TellNoRefusal warnings
+
+-- A run from a new domain in which memory might have been refused, and that tells of no refusal, is a run with ample memory.
+abbrev pub RunsWithoutRefusalsAreAmple : Type 0 → Type 0 → Type 0
+RunsWithoutRefusalsAreAmple T U =
+    (default_value : T) (default_header : U) (c : ServiceConfig) (commands : List (Command T U)) (replies : List (Reply T U)) (events : List (Event T U))
+    (m : Messages T U) (s : State T U) (handles : List Handle)
+    → All TellsOfRefusals commands → MetNoRefusal c commands replies s.warnings
+    → RunTo fixed_handlers (only_defaults default_value default_header) no_messages (fresh c) [] commands replies events m s handles
+    → RunTo ample_memory (only_defaults default_value default_header) no_messages (fresh c) [] commands replies events m s handles
+
+-- Isolation, for two runs in which memory might have been refused and that tell of no refusal: the view of the subscriber q that
+-- the command at `position` made is the same at the end of both, and reads of what its receives made get the same replies.
+abbrev pub SubscribersAreIsolatedWithoutRefusals : Type 0 → Type 0 → Type 0
+SubscribersAreIsolatedWithoutRefusals T U =
+    (default_value : T) (default_header : U) (c : ServiceConfig) (position q : ℕ) (commands reduced later : List (Command T U))
+    (replies replies' : List (Reply T U)) (events events' : List (Event T U)) (m m' : Messages T U) (s s' : State T U) (handles handles' : List Handle)
+    → All TellsOfRefusals commands → All TellsOfRefusals reduced
+    → MetNoRefusal c commands replies s.warnings → MetNoRefusal c reduced replies' s'.warnings
+    → OmitsOthersFrom position (commands ++ later) commands reduced
+    → AreIndependent c position commands replies reduced replies'
+    → RunTo fixed_handlers (only_defaults default_value default_header) no_messages (fresh c) [] commands replies events m s handles
+    → RunTo fixed_handlers (only_defaults default_value default_header) no_messages (fresh c) [] reduced replies' events' m' s' handles'
+    → slice_get replies position ≡ Some (SubscriberMade q)
+    → ((i : ℕ) → slice_get commands i ≡ Some (Receive position) → slice_get replies i ≡ slice_get replies' i)
+    → SameView q m s handles m' s' handles'
+    × ((i of : ℕ) (command : Command T U) → slice_get commands of ≡ Some (Receive position)
+    → slice_get commands i ≡ Some command → reads_at of command ≡ true → slice_get replies i ≡ slice_get replies' i)
+
+-- The same at any point of both runs.
+abbrev pub ViewsStayAlikeWithoutRefusals : Type 0 → Type 0 → Type 0
+ViewsStayAlikeWithoutRefusals T U =
+    (default_value : T) (default_header : U) (c : ServiceConfig) (position q n : ℕ) (commands reduced : List (Command T U))
+    (replies replies' : List (Reply T U)) (events events' : List (Event T U)) (m m' : Messages T U) (s s' : State T U)
+    → All TellsOfRefusals commands → All TellsOfRefusals reduced
+    → MetNoRefusal c commands replies s.warnings → MetNoRefusal c reduced replies' s'.warnings
+    → OmitsOthersFrom position commands commands reduced
+    → AreIndependent c position commands replies reduced replies'
+    → slice_get replies position ≡ Some (SubscriberMade q)
+    → ((i : ℕ) → slice_get commands i ≡ Some (Receive position) → slice_get replies i ≡ slice_get replies' i)
+    → (x : PointOf fixed_handlers (only_defaults default_value default_header) no_messages (fresh c) commands replies events m s n)
+    → (y : PointOf fixed_handlers (only_defaults default_value default_header) no_messages (fresh c) reduced replies' events' m' s' n)
+    → SameView q x.messages x.state x.handles y.messages y.state y.handles
