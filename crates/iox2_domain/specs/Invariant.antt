@@ -5,8 +5,9 @@ use Rattle.std.specs.declared.option.Option.{Option}
 use Rattle.std.specs.declared.option.Option.TheVariants.{None, Some}
 use Rattle.std.specs.Option.{option_map, option_map_or}
 use Rattle.slab.specs.Slab.{Slab, get}
-use Rattle.iox2_store.specs.machine.Limits.{warning_limit}
+use Rattle.iox2_store.specs.machine.Limits.{warning_limit, segment_fits}
 use Rattle.iox2_store.specs.Link.{Link}
+use Rattle.iox2_store.specs.SingleValues.{is_single_valued}
 use Rattle.iox2_store.specs.SlotBook.{Book, IsAligned, holders_at}
 use Rattle.iox2_store.specs.SlotContents.{ContentState}
 use Rattle.iox2_store.specs.machine.Loans.{is_static}
@@ -44,10 +45,13 @@ is_subscriber q y = y.id == q
 abbrev pub details_of : SubscriberFields → ReceiverDetails
 details_of y = record { port_id = y.id; buffer_size = y.buffer; is_open = y.is_open }
 
--- No call that can't fail has to make room for the publisher.
+-- No call that can't fail has to make room for the publisher. The size of its slots fits a machine word, and where messages are
+-- single values, so are its longest loans.
 pub record HasPublisherRoom (config : ServiceConfig) (x : PublisherFields) : Type 0 where
   pub loans : x.max_loaned_samples ≤ x.loan_room
   pub history : (x.history).capacity ≡ config.history_size
+  pub size : segment_fits config x.slots x.initial_max_slice_len ≡ true
+  pub single : config.variant ≡ FixedSize → x.initial_max_slice_len ≡ 1
 
 -- ---- connections
 
@@ -238,21 +242,23 @@ pub record HasShapes {T U : Type 0} (f : Fields T U) : Type 0 where
   pub at : (key slot : ℕ) (b : Book) (m : KeptMessage T U) → get f.books key ≡ Some b
       → message_in b (contents_at f.contents key) slot ≡ Some m → HasShape f.config m
 
+-- What lies in slots lies in lists, so that it can be handed out as a slice, but in a domain of single values.
+pub record HasForms {T U : Type 0} (c : ServiceConfig) (contents : List (Option (List (ContentState T U)))) : Type 0 where
+  pub at : is_single_valued c ≡ false → (key : ℕ) (cs : List (ContentState T U)) → slice_index_or contents key None ≡ Some cs → All (λ content. content.is_in_place ≡ false) cs
+
 -- ---- what isn't there yet
 
 -- The settings that a domain may have.
 pub record IsSupportedConfig (c : ServiceConfig) : Type 0 where
   pub single_values : c.variant ≡ FixedSize
 
--- The publisher discards what a full receiver doesn't take, has one segment, of single values, and no handlers, and no
--- delivery of it is blocked.
+-- The publisher discards what a full receiver doesn't take, has one segment and no handlers, and no delivery of it is blocked.
 pub record IsPlain (x : PublisherFields) : Type 0 where
   pub strategy : x.strategy ≡ DiscardData
   pub backpressure : x.backpressure_handler ≡ None
   pub degradation : x.degradation_handler ≡ Fixed Warn
   pub unblocked : x.blocked ≡ None
   pub allocation : x.allocation ≡ Static
-  pub length : x.initial_max_slice_len ≡ 1
 
 -- The subscriber has no handler.
 pub record IsPlainSubscriber (y : SubscriberFields) : Type 0 where
@@ -274,6 +280,7 @@ pub record HasParts {T U : Type 0} (f : Fields T U) : Type 0 where
   pub publisher_room : (i : ℕ) (x : PublisherFields) → slice_index_or f.publishers i None ≡ Some x → HasPublisherRoom f.config x
   pub warning_room : (f.warnings).capacity ≡ warning_limit
   pub shapes : HasShapes f
+  pub forms : HasForms f.config f.contents
   pub supported : IsSupportedConfig f.config
   pub plain : (i : ℕ) (x : PublisherFields) → slice_index_or f.publishers i None ≡ Some x → IsPlain x
   pub plain_subscribers : (i : ℕ) (y : SubscriberFields) → slice_index_or f.subscribers i None ≡ Some y → IsPlainSubscriber y

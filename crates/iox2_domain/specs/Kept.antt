@@ -1,14 +1,13 @@
 -- What a domain keeps, and the machine's state that this is. No key of a connection, no hint and no room stands here.
-use Rattle.std.specs.Prelude.{ℕ, Bool, ◌&&◌, ◌==◌, List, [], ◌∷◌, length, map}
+use Rattle.std.specs.Prelude.{ℕ, Bool, ◌&&◌, ◌==◌, cond, List, [], ◌∷◌, length, map}
 use Rattle.std.specs.declared.option.Option.{Option}
 use Rattle.std.specs.declared.option.Option.TheVariants.{None, Some}
 use Rattle.std.specs.Option.{option_map, option_and_then}
 use Rattle.iox2_store.specs.machine.Mailbox.{Mailbox, empty_mailbox}
 use Rattle.iox2_store.specs.machine.Records.{Entry, Loan, Publisher, Subscriber}
-use Rattle.iox2_store.specs.machine.State.{State, Messages}
+use Rattle.iox2_store.specs.machine.State.{State, Warnings, Messages}
 use Rattle.iox2_store.specs.declared.header.Header.{Header}
 use Rattle.iox2_store.specs.declared.service_config.ServiceConfig.{ServiceConfig}
-use Rattle.iox2_store.specs.declared.warning.Warning.{Warning}
 use Rattle.iox2_ends.specs.LookUp.{look_up}
 
 -- A port and its id.
@@ -40,7 +39,7 @@ pub record Kept (T U : Type 0) : Type 0 where
   pub subscribers : List (Option (Named Subscriber))  -- by place
   pub connections : List (Option Between)  -- in no order that means anything
   pub books : List (Option (KeptBook T U))  -- in no order that means anything
-  pub warnings : List Warning  -- oldest first
+  pub warnings : Warnings
 
 -- ---- ports and mailboxes
 
@@ -122,3 +121,16 @@ module _ {T U : Type 0} where
   -- The messages that are kept.
   abbrev pub entries_of : Kept T U → Messages T U
   entries_of kept = λ n. option_and_then entry_in (message_numbered n kept.books)
+
+  -- ---- changes of a loan
+
+  -- What lies there, with the loan n changed so.
+  abbrev pub loan_changed : (n : ℕ) → (Loan T U → Loan T U) → KeptMessage T U → KeptMessage T U
+  loan_changed n change (Lent_message number l) = Lent_message number (cond (number == n) (change l) l)
+  loan_changed n change (Sent_message number entry) = Sent_message number entry
+
+  -- What is kept, with the loan n changed so. Nothing else changes.
+  abbrev pub with_loan_changed : (n : ℕ) → (Loan T U → Loan T U) → Kept T U → Kept T U
+  with_loan_changed n change kept = record kept {
+    books = map (option_map (λ (book : KeptBook T U). record book { slots = map (option_map (loan_changed n change)) book.slots })) kept.books;
+  }

@@ -1,11 +1,11 @@
 -- A publisher lends a free slot of its book.
-use Rattle.std.specs.Prelude.{◌≡◌, ℕ, false, ◌+◌, ◌<◌, max, List, [], ◌∷◌, ◌++◌, length, slice_index_or, slice_set, Result, MatchResult, MatchOption, IsSomeAnd}
+use Rattle.std.specs.Prelude.{◌≡◌, ℕ, Bool, false, ◌&&◌, ◌*◌, nat_lt, ◌+◌, ◌<◌, max, List, [], ◌∷◌, ◌++◌, length, slice_index_or, slice_set, Result, MatchResult, MatchOption, IsSomeAnd}
 use Rattle.std.specs.declared.option.Option.{Option}
 use Rattle.std.specs.declared.option.Option.TheVariants.{None, Some}
 use Rattle.std.specs.List.{All}
 use Rattle.slab.specs.Slab.{get, with_value}
 use Rattle.iox2_store.specs.machine.Limits.{last_number}
-use Rattle.iox2_store.specs.machine.Loans.{GrantLoan, loan_granted}
+use Rattle.iox2_store.specs.machine.Loans.{is_static, GrantLoan, loan_granted}
 use Rattle.iox2_store.specs.SlotBook.{Book, holders_at}
 use Rattle.iox2_store.specs.SlotContents.{ContentState, with_changed, unwritten_content}
 use Rattle.iox2_store.specs.machine.State.{State}
@@ -21,9 +21,9 @@ use Rattle.iox2_domain.specs.Fields.{Fields, kept_of, publisher_of}
 use Rattle.iox2_domain.specs.Ports.{PublisherFields}
 use Rattle.iox2_domain.specs.declared.loan_slots.LoanAt.{LoanAt}
 
--- The header of a single value of the publisher.
-abbrev pub header_for : ServiceConfig → (publisher : ℕ) → Header
-header_for c publisher = record { node_id = c.node_id; publisher_id = publisher; number_of_elements = 1 }
+-- The header of a message of so many elements of the publisher.
+abbrev pub header_for : ServiceConfig → (publisher len : ℕ) → Header
+header_for c publisher len = record { node_id = c.node_id; publisher_id = publisher; number_of_elements = len }
 
 -- The book with the slot taken for the message with this number and header.
 abbrev pub with_taken_slot : Book → (slot number : ℕ) → Header → Book
@@ -34,13 +34,13 @@ with_taken_slot book slot number header = record book {
   holders = slice_set book.holders slot 1;
 }
 
--- The publisher with the slot among its loans, which hold a single value.
-abbrev pub lending : (slot : ℕ) → PublisherFields → PublisherFields
-lending slot x = record x { loans = x.loans ++ slot ∷ []; longest_granted = max x.longest_granted 1 }
+-- The publisher with the slot among its loans, of so many elements.
+abbrev pub lending : (len slot : ℕ) → PublisherFields → PublisherFields
+lending len slot x = record x { loans = x.loans ++ slot ∷ []; longest_granted = max x.longest_granted len }
 
 module _ {T U : Type 0} where
   -- The publisher at the place has fewer loans out than it may have, some slot of its book is free, and a number is left.
-  pub record CanLend (f : Fields T U) (place : ℕ) : Type 0 where
+  pub record CanLend (f : Fields T U) (checks : Bool) (len place : ℕ) : Type 0 where
     pub publisher : PublisherFields
     pub book : Book
     pub stands : slice_index_or f.publishers place None ≡ Some publisher
@@ -48,6 +48,7 @@ module _ {T U : Type 0} where
     pub few : length publisher.loans < publisher.max_loaned_samples
     pub some_free : All (λ n. 0 < n) book.holders → ⊥
     pub more : f.next_message < last_number
+    pub short : (checks && is_static publisher.allocation && nat_lt publisher.initial_max_slice_len len) ≡ false
 
   -- Where each slot of the publisher at the place has a holder, it has reclaimed all that was given back.
   pub record IsReclaimedIfFull (f : Fields T U) (place : ℕ) : Type 0 where
@@ -55,9 +56,9 @@ module _ {T U : Type 0} where
         → All (λ n. 0 < n) b.holders → HasReclaimed f.connections x.keys
 
   -- A loan of a single value by the publisher at the place is refused for this reason, or a slot may be lent.
-  abbrev pub LoanDecided : Fields T U → (place : ℕ) → Option LoanError → Type 0
-  LoanDecided f place decision = IsSomeAnd (slice_index_or f.publishers place None) (λ x. MatchOption decision (CanLend f place)
-      (λ e. (user_header : U) → GrantLoan ample_memory user_header false 1 (state_of (kept_of f)) x.id (state_of (kept_of f)) (Some e)))
+  abbrev pub LoanDecided : Fields T U → (checks : Bool) → (len place : ℕ) → Option LoanError → Type 0
+  LoanDecided f checks len place decision = IsSomeAnd (slice_index_or f.publishers place None) (λ x. MatchOption decision (CanLend f checks len place)
+      (λ e. (user_header : U) → GrantLoan ample_memory user_header checks len (state_of (kept_of f)) x.id (state_of (kept_of f)) (Some e)))
 
   -- In the slot of these contents starts a loan of that length, with a default user header.
   pub record Starts (is_default : U → Type 0) (old new : Option (List (ContentState T U))) (slot len : ℕ) : Type 0 where
@@ -68,18 +69,18 @@ module _ {T U : Type 0} where
     pub started : new ≡ Some (with_changed contents slot (unwritten_content user_header len))
 
   -- The publisher at the place lends a slot that was free, for the message with the next number.
-  pub record Lends (is_default : U → Type 0) (old : Fields T U) (place : ℕ) (x : PublisherFields) (slot : ℕ) (new : Fields T U) : Type 0 where
+  pub record Lends (is_default : U → Type 0) (old : Fields T U) (place : ℕ) (x : PublisherFields) (slot len : ℕ) (new : Fields T U) : Type 0 where
     pub book : Book
     pub stood : get old.books x.book ≡ Some book
     pub within : slot < length book.holders
     pub free : holders_at book slot ≡ 0
     pub started : Option (List (ContentState T U))
-    pub starts : Starts is_default (slice_index_or old.contents x.book None) started slot (old.config).units_per_element
+    pub starts : Starts is_default (slice_index_or old.contents x.book None) started slot (len * (old.config).units_per_element)
     pub lent : new ≡ record old {
       next_message = old.next_message + 1;
-      books = with_value old.books x.book (with_taken_slot book slot old.next_message (header_for old.config x.id));
+      books = with_value old.books x.book (with_taken_slot book slot old.next_message (header_for old.config x.id len));
       contents = slice_set old.contents x.book started;
-      publishers = slice_set old.publishers place (Some (lending slot x));
+      publishers = slice_set old.publishers place (Some (lending len slot x));
     }
 
   -- The loan is the publisher's, of the message with the next number, in the publisher's book.
@@ -89,20 +90,20 @@ module _ {T U : Type 0} where
     pub book : loan.book ≡ x.book
 
   -- A publisher is asked for a loan of a single value: it lends a slot, or refuses, and then nothing changes in the state.
-  abbrev pub LoanReaches : {A : Type 0} → (is_default : U → Type 0) → Fields T U → PublisherFields → Result A LoanError → Fields T U → Type 0
-  LoanReaches is_default f x result f' =
+  abbrev pub LoanReaches : {A : Type 0} → (is_default : U → Type 0) → (checks : Bool) → (len : ℕ) → Fields T U → PublisherFields → Result A LoanError → Fields T U → Type 0
+  LoanReaches is_default checks len f x result f' =
       MatchResult result
       (λ _. (user_header : U) × is_default user_header
-      × GrantLoan ample_memory user_header false 1 (state_of (kept_of f)) x.id
-      (loan_granted user_header (state_of (kept_of f)) x.id ((publisher_of f.books f.connections x).port) 1 x.segments) None
-      × Reaches f f' (loan_granted user_header (state_of (kept_of f)) x.id ((publisher_of f.books f.connections x).port) 1 x.segments))
-      (λ e. ((user_header : U) → GrantLoan ample_memory user_header false 1 (state_of (kept_of f)) x.id (state_of (kept_of f)) (Some e))
+      × GrantLoan ample_memory user_header checks len (state_of (kept_of f)) x.id
+      (loan_granted user_header (state_of (kept_of f)) x.id ((publisher_of f.books f.connections x).port) len x.segments) None
+      × Reaches f f' (loan_granted user_header (state_of (kept_of f)) x.id ((publisher_of f.books f.connections x).port) len x.segments))
+      (λ e. ((user_header : U) → GrantLoan ample_memory user_header checks len (state_of (kept_of f)) x.id (state_of (kept_of f)) (Some e))
       × Reaches f f' (state_of (kept_of f)))
 
   -- The publisher p is asked for a loan of a single value: it is granted, with a default user header, or refused for this
   -- reason, and then nothing changes.
-  abbrev pub LoanCall : {A : Type 0} → (is_default : U → Type 0) → State T U → (p : ℕ) → Result A LoanError → State T U → Type 0
-  LoanCall is_default s p result s' =
+  abbrev pub LoanCall : {A : Type 0} → (is_default : U → Type 0) → (checks : Bool) → (len : ℕ) → State T U → (p : ℕ) → Result A LoanError → State T U → Type 0
+  LoanCall is_default checks len s p result s' =
       MatchResult result
-      (λ _. (user_header : U) × is_default user_header × GrantLoan ample_memory user_header false 1 s p s' None)
-      (λ e. (s' ≡ s) × ((user_header : U) → GrantLoan ample_memory user_header false 1 s p s' (Some e)))
+      (λ _. (user_header : U) × is_default user_header × GrantLoan ample_memory user_header checks len s p s' None)
+      (λ e. (s' ≡ s) × ((user_header : U) → GrantLoan ample_memory user_header checks len s p s' (Some e)))

@@ -1,6 +1,7 @@
 pub mod Ports
 pub mod Kept
 pub mod Shows
+pub mod WarningRing
 pub mod Fields
 pub mod Invariant
 pub mod FreshFields
@@ -21,6 +22,7 @@ pub mod LeftBooks
 pub mod Connects
 pub mod Histories
 pub mod LoanCalls
+pub mod LoanLends
 pub mod Deliveries
 pub mod SentLoans
 pub mod Discards

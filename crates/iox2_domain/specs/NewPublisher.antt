@@ -1,5 +1,5 @@
 -- A publisher enters a domain, with its book and the contents of its slots.
-use Rattle.std.specs.Prelude.{◌≡◌, ◌≢◌, ◌≤◌, ◌==◌, ℕ, true, cond, nat_lt, List, [], length, replicate, slice_index_or}
+use Rattle.std.specs.Prelude.{◌≡◌, ◌≢◌, ◌≤◌, ◌==◌, ℕ, Bool, true, false, cond, nat_lt, List, [], length, replicate, slice_index_or}
 use Rattle.std.specs.List.{All}
 use Rattle.std.specs.declared.option.Option.{Option}
 use Rattle.std.specs.declared.option.Option.TheVariants.{None, Some}
@@ -20,22 +20,23 @@ use Rattle.iox2_domain.specs.Ports.{PublisherFields, SubscriberFields}
 use Rattle.iox2_domain.specs.Fields.{Fields}
 use Rattle.iox2_domain.specs.Placed.{lowest_empty}
 
--- The settings of a publisher that discards what a full receiver doesn't take, has one segment of single values, and no
--- handlers.
-abbrev pub plain_publisher : (max_loaned_samples : ℕ) → PublisherSettings
-plain_publisher max_loaned_samples = record {
+-- The settings of a publisher that discards what a full receiver doesn't take, has one segment for messages of so many elements,
+-- and no handlers.
+abbrev pub plain_publisher : (max_loaned_samples initial_max_slice_len : ℕ) → PublisherSettings
+plain_publisher max_loaned_samples initial_max_slice_len = record {
   max_loaned_samples = max_loaned_samples;
   backpressure_strategy = DiscardData;
   allocation_strategy = Static;
-  initial_max_slice_len = 1;
+  initial_max_slice_len = initial_max_slice_len;
   asked_slots = None;
   degradation_handler = Fixed Warn;
   backpressure_handler = None;
 }
 
--- A publisher that was just made, without handlers, with these slots and with room for so many loans and connections.
-abbrev pub entering_publisher : (id place book max_loaned_samples slots : ℕ) (loan_room : ℕ) (history : Buffer ℕ) (key_room : ℕ) → PublisherFields
-entering_publisher id place book max_loaned_samples slots loan_room history key_room = record {
+-- A publisher that was just made, without handlers, with these slots for messages of so many elements, and with room for so many
+-- loans and connections.
+abbrev pub entering_publisher : (id place book max_loaned_samples slots initial_max_slice_len loan_room : ℕ) (history : Buffer ℕ) (key_room : ℕ) → PublisherFields
+entering_publisher id place book max_loaned_samples slots initial_max_slice_len loan_room history key_room = record {
   id = id;
   place = place;
   book = book;
@@ -45,7 +46,7 @@ entering_publisher id place book max_loaned_samples slots loan_room history key_
   backpressure_handler = None;
   degradation_handler = Fixed Warn;
   allocation = Static;
-  initial_max_slice_len = 1;
+  initial_max_slice_len = initial_max_slice_len;
   longest_granted = 0;
   segments = 1;
   loans = [];
@@ -68,13 +69,15 @@ module _ {T U : Type 0} where
 abbrev pub subscriber_due : SubscriberFields → SubscriberFields
 subscriber_due y = record y { is_due = true }
 
--- A book of so many slots of the publisher, none of which is in use, and their contents, each with room for so many elements.
-pub record IsNewSegment {T U : Type 0} (book : Book) (contents : List (ContentState T U)) (publisher slots room : ℕ) : Type 0 where
+-- A book of so many slots of the publisher, none of which is in use, and their contents, each with room for so many elements,
+-- which lie in lists where they are to.
+pub record IsNewSegment {T U : Type 0} (book : Book) (contents : List (ContentState T U)) (publisher slots room : ℕ) (in_lists : Bool) : Type 0 where
   pub is_its : book.publisher ≡ publisher
   pub unused : book.holders ≡ replicate slots 0
   pub aligned : IsAligned book
   pub contents_length : length contents ≡ slots
   pub contents_room : All (λ content. content.room ≡ room) contents
+  pub contents_form : in_lists ≡ true → All (λ content. content.is_in_place ≡ false) contents
 
 -- A book of the publisher, none of whose slots is in use, is among the books now, at a key that had none. At that key are
 -- contents for its slots, each with room for so many elements. Nothing else changes.

@@ -72,10 +72,13 @@ impl Model for PublisherState {
 impl PublisherState {
     ghost use Rattle.circular_buffer.specs.Buffer.{buffer};
     ghost use Rattle.iox2_domain.specs.Invariant.{HasPublisherRoom};
+    ghost use Rattle.std.specs.Prelude.{true};
+    ghost use Rattle.iox2_store.specs.machine.Limits.{segment_fits};
+    ghost use Rattle.iox2_store.specs.declared.service_config.TypeVariant.TheVariants.{FixedSize};
     ghost use Rattle.iox2_domain.specs.NewPublisher.{entering_publisher};
 
-    /// A publisher of single values that enters at a place, with a book of so many slots at a key,
-    /// and with room for all the loans and the history that it may get. It discards what a full
+    /// A publisher that enters at a place, with a book at a key of so many slots for messages of so
+    /// many elements, and with room for all the loans and the history that it may get. It discards what a full
     /// receiver doesn't take, and makes no further segment.
     pub fn new(
         alloc: Global,
@@ -85,8 +88,11 @@ impl PublisherState {
         book: usize,
         max_loaned_samples: usize,
         slots: usize,
+        initial_max_slice_len: usize,
     ) -> Result<Self, AllocError>
-        ensures enters { IfOk result (λ x. x ≡ entering_publisher id place book max_loaned_samples slots x.loan_room (buffer [] (config.now).history_size) x.key_room) }
+        requires size { segment_fits config.now slots initial_max_slice_len ≡ true }
+        requires single { (config.now).variant ≡ FixedSize → initial_max_slice_len ≡ 1 }
+        ensures enters { IfOk result (λ x. x ≡ entering_publisher id place book max_loaned_samples slots initial_max_slice_len x.loan_room (buffer [] (config.now).history_size) x.key_room) }
         ensures room { IfOk result (HasPublisherRoom config.now) }
     {
         let loans = Vec::with_capacity(alloc, max_loaned_samples)?;
@@ -99,7 +105,7 @@ impl PublisherState {
             slots,
             strategy: BackpressureStrategy::DiscardData,
             allocation: AllocationStrategy::Static,
-            initial_max_slice_len: 1,
+            initial_max_slice_len,
             longest_granted: 0,
             segments: 1,
             loans,
@@ -114,14 +120,14 @@ impl PublisherState {
     ghost use Rattle.iox2_domain.specs.Lending.{lending};
     ghost use Rattle.iox2_domain.specs.Deliveries.{with_loan_out};
 
-    /// The slot is a loan that is out, of one element.
-    pub fn lend(&mut self, slot: usize)
+    /// The slot is a loan that is out, of so many elements.
+    pub fn lend(&mut self, slot: usize, len: usize)
         requires { length self.old.loans < self.old.loan_room }
-        ensures { self.new ≡ lending slot self.old }
+        ensures { self.new ≡ lending len slot self.old }
     {
         self.loans.push_reserved(slot);
-        if self.longest_granted == 0 {
-            self.longest_granted = 1;
+        if self.longest_granted < len {
+            self.longest_granted = len;
         }
     }
 

@@ -1,10 +1,9 @@
 //! What waits in a connection is lost.
-ghost use Rattle.std.specs.Prelude.{◌≡◌, [], Some, IsSomeAnd};
+ghost use Rattle.std.specs.Prelude.{◌≡◌, [], IsSomeAnd};
 ghost use Rattle.slab.specs.Slab.{get};
-ghost use Rattle.iox2_store.specs.Link.{Link};
 ghost use Rattle.iox2_ends.specs.Counters.{with_counters};
 ghost use Rattle.iox2_ends.specs.Reclaims.{IsHeld};
-ghost use Rattle.iox2_ends.specs.Drops.{DropsFrom, DropsWaiting, RemovesDropped};
+ghost use Rattle.iox2_ends.specs.Drops.{DropsFrom, DropsWaiting};
 
 use iox2_store::{Connection, SlotBook};
 use slab::Slab;
@@ -32,14 +31,4 @@ pub fn drop_waiting_at(connections: &mut Slab<Connection>, key: usize, book: &mu
     ensures drops { DropsWaiting key book.old.holders connections.old book.new.holders connections.new }
 {
     drop_waiting(&mut connections[key], book);
-}
-
-/// Removes the connection at a key. What waits in it is lost.
-pub fn remove_connection(connections: &mut Slab<Connection>, key: usize, book: &mut SlotBook)
-    requires { IsSomeAnd (get connections.old key) (IsHeld book.old.holders) }
-    ensures book { book.new ≡ with_counters book.old book.new.holders }
-    ensures removes { (link : Link) → get connections.old key ≡ Some link → RemovesDropped book.old.holders connections.old key link book.new.holders connections.new }
-{
-    drop_waiting(&mut connections[key], book);
-    connections.remove(key);
 }

@@ -4,6 +4,7 @@
 //! isn't part of that crate is for the prover's time alone: two crates are proved side by side.
 #![tactic(auto)]
 
+mod contents;
 mod deliveries;
 mod discards;
 mod loan_calls;
@@ -14,10 +15,14 @@ mod reclaims;
 mod sample_reads;
 mod sends;
 
+pub use contents::{cell_at_mut, cells_at_mut, user_header_at_mut, value_at_mut, values_at_mut};
 pub use discards::discard_loan;
-pub use loan_calls::{loan_cell, loan_header, loan_value, write_loan};
+pub use loan_calls::{
+    assume_loan, loan_cell, loan_cells, loan_header, loan_user_header, loan_value, loan_values,
+    write_loan, write_loan_from_fn, write_loan_from_slice,
+};
 pub use loans::loan;
 pub use questions::has_samples_at;
 pub use receipts::{give_back, receive_at};
-pub use sample_reads::{sample_header, sample_payload};
+pub use sample_reads::{sample_header, sample_payload, sample_payloads, sample_user_header};
 pub use sends::send_loan;

@@ -1,17 +1,19 @@
 //! Calls on a loan that is out.
-ghost use Rattle.std.specs.Prelude.{◌≡◌, length, IsSomeAnd};
-ghost use Rattle.std.specs.Option.{option_map};
-ghost use Rattle.iox2_store.specs.SlotContents.{SomeAt, with_changed, written_content};
-ghost use Rattle.std.specs.Prelude.{Some};
+ghost use Rattle.std.specs.Prelude.{◌≡◌, false, List, ◌∷◌, [], Some, length, map};
+ghost use Rattle.iox2_store.specs.SingleValues.{is_single_valued};
+ghost use Rattle.iox2_store.specs.SlotCalls.{AnswersInOrder};
+ghost use Rattle.iox2_store.specs.machine.Records.{Loan};
 ghost use Rattle.iox2_store.specs.machine.SingleCalls.{HoldsLoan};
+ghost use Rattle.iox2_store.specs.declared.service_config.TypeVariant.TheVariants.{FixedSize};
 ghost use Rattle.iox2_domain.specs.Kept.{state_of};
 ghost use Rattle.iox2_domain.specs.Fields.{kept_of};
 ghost use Rattle.iox2_domain.specs.Invariant.{IsDomain};
-ghost use Rattle.iox2_domain.specs.LoanCalls.{HoldsUnwritten, HoldsWritten, HasCell, HasLoanHeader, CanWrite, WritesSlot, WritesLoan};
+ghost use Rattle.iox2_domain.specs.LoanCalls.{HoldsUnwritten, HoldsWritten, HasCells, HasCell, HasLoanHeader, HasLoanUserHeader, WritesLoan, AssumesLoan};
 ghost use Rattle.iox2_domain.specs.LoanSlots.{LiesInSlot};
 
+use crate::contents::{contents_mut, mark_written};
 use iox2_domain::{DomainState, LoanAt, MessageSlot};
-use iox2_store::{Contents, Header, SlotMark, UniquePublisherId};
+use iox2_store::{Header, UniquePublisherId};
 
 /// Writes the value of a publisher's unwritten loan of one element, which counts as written from
 /// then on. Returns the loan with its book and the slot in which it lies.
@@ -21,22 +23,26 @@ pub fn write_loan<T: Drop, U: Default + Drop>(
     value: T,
 ) -> LoanAt
     requires agrees { IsDomain state.old }
+    requires fixed_size { (state.old.config).variant ≡ FixedSize }
     requires single { (state.old.config).units_per_element ≡ 1 }
     requires live { HoldsUnwritten (state_of (kept_of state.old)) loan.publisher loan.number }
-    ensures writes { WritesLoan state.old state.new loan.number value }
+    ensures writes { WritesLoan state.old state.new loan.number (value ∷ []) }
     ensures same { result ≡ record loan { book = result.book; slot = result.slot } }
     ensures lies { LiesInSlot state.old loan.publisher loan.number result.book result.slot }
 {
     if state.is_loan_at_hint(&loan) {
-        write_slot(state, loan.book, loan.slot, value);
+        write_slot(
+            state,
+            loan.publisher,
+            loan.number,
+            loan.book,
+            loan.slot,
+            value,
+        );
         return loan;
     }
     let at = search_and_write(state, loan.publisher, loan.number, value);
-    LoanAt {
-        book: at.book,
-        slot: at.slot,
-        ..loan
-    }
+    found(loan, at)
 }
 
 // The same, wherever the loan lies, of which this says where.
@@ -48,29 +54,103 @@ fn search_and_write<T: Drop, U: Default + Drop>(
     value: T,
 ) -> MessageSlot
     requires agrees { IsDomain state.old }
+    requires fixed_size { (state.old.config).variant ≡ FixedSize }
     requires single { (state.old.config).units_per_element ≡ 1 }
     requires live { HoldsUnwritten (state_of (kept_of state.old)) publisher number }
-    ensures writes { WritesLoan state.old state.new number value }
+    ensures writes { WritesLoan state.old state.new number (value ∷ []) }
     ensures lies { LiesInSlot state.old publisher number result.book result.slot }
 {
     let at = state.search_loan(publisher, number);
-    write_slot(state, at.book, at.slot, value);
+    write_slot(state, publisher, number, at.book, at.slot, value);
     at
 }
 
-// Writes the value of the one cell in a slot.
+// The same of a loan that lies in this slot of this book.
 #[inline(always)]
 fn write_slot<T: Drop, U: Default + Drop>(
     state: &mut DomainState<T, U>,
-    key: usize,
+    publisher: UniquePublisherId,
+    number: u128,
+    book: usize,
     slot: usize,
     value: T,
 )
-    requires { CanWrite state.old key slot }
-    ensures { WritesSlot state.old state.new key slot value }
+    requires agrees { IsDomain state.old }
+    requires fixed_size { (state.old.config).variant ≡ FixedSize }
+    requires single { (state.old.config).units_per_element ≡ 1 }
+    requires live { HoldsUnwritten (state_of (kept_of state.old)) publisher number }
+    requires lies { LiesInSlot state.old publisher number book slot }
+    ensures { WritesLoan state.old state.new number (value ∷ []) }
 {
-    state.books[key].set_mark(slot, SlotMark::Written);
-    write_content(&mut state.contents[key], slot, value);
+    mark_written(state, MessageSlot { book, slot });
+    contents_mut(state, book).write_payload(slot, value);
+}
+
+/// Writes into each cell of a publisher's unwritten loan what the function returns for its index. It
+/// is called for 0, 1 and so on, in this order. The loan counts as written from then on. Returns it
+/// with its book and the slot in which it lies.
+pub fn write_loan_from_fn<T: Drop, U: Default + Drop, F: FnMut(usize) -> T + Drop>(
+    state: &mut DomainState<T, U>,
+    loan: LoanAt,
+    f: F,
+) -> LoanAt
+    requires agrees { IsDomain state.old }
+    requires several { is_single_valued state.old.config ≡ false }
+    requires live { HoldsUnwritten (state_of (kept_of state.old)) loan.publisher loan.number }
+    requires callable { F.IsAlwaysCallable f }
+    ensures writes { (answers : List T) × AnswersInOrder F.step f answers × WritesLoan state.old state.new loan.number answers }
+    ensures same { result ≡ record loan { book = result.book; slot = result.slot } }
+{
+    let at = state.find_live_loan(&loan);
+    mark_written(state, at);
+    contents_mut(state, at.book).write_from_fn(at.slot, f);
+    found(loan, at)
+}
+
+/// Writes copies of the values, one into each cell of a publisher's unwritten loan, which has as
+/// many. It counts as written from then on. Returns it with its book and the slot in which it lies.
+pub fn write_loan_from_slice<T: Copy + Drop, U: Default + Drop>(
+    state: &mut DomainState<T, U>,
+    loan: LoanAt,
+    values: &[T],
+) -> LoanAt
+    requires agrees { IsDomain state.old }
+    requires several { is_single_valued state.old.config ≡ false }
+    requires live { HoldsUnwritten (state_of (kept_of state.old)) loan.publisher loan.number }
+    requires lengths { (l : Loan T U) → (state_of (kept_of state.old)).loans loan.number ≡ Some l → length values.now ≡ length l.cells }
+    ensures writes { WritesLoan state.old state.new loan.number values.now }
+    ensures same { result ≡ record loan { book = result.book; slot = result.slot } }
+{
+    let at = state.find_live_loan(&loan);
+    mark_written(state, at);
+    contents_mut(state, at.book).write_from_slice(at.slot, values);
+    found(loan, at)
+}
+
+/// Takes a publisher's unwritten loan as written, where each of its cells is, and returns whether it
+/// did. Nothing changes where some cell isn't written.
+pub fn assume_loan<T: Drop, U: Default + Drop>(state: &mut DomainState<T, U>, loan: &LoanAt) -> bool
+    requires agrees { IsDomain state.old }
+    requires live { HoldsUnwritten (state_of (kept_of state.old)) loan.now.publisher loan.now.number }
+    ensures { AssumesLoan state.old state.new loan.now.number result }
+{
+    let at = state.find_live_loan(loan);
+    if !contents_mut(state, at.book).assume_init(at.slot) {
+        return false;
+    }
+    mark_written(state, at);
+    true
+}
+
+// The loan, with its book and the slot in which it lies.
+fn found(loan: LoanAt, at: MessageSlot) -> LoanAt
+    ensures { result ≡ record loan { book = at.book; slot = at.slot } }
+{
+    LoanAt {
+        book: at.book,
+        slot: at.slot,
+        ..loan
+    }
 }
 
 /// The cell of a publisher's unwritten loan of one element.
@@ -79,6 +159,7 @@ pub fn loan_cell<'a, T: Drop, U: Default + Drop>(
     loan: &LoanAt,
 ) -> &'a Option<T>
     requires agrees { IsDomain state.now }
+    requires fixed_size { (state.now.config).variant ≡ FixedSize }
     requires single { (state.now.config).units_per_element ≡ 1 }
     requires live { HoldsUnwritten (state_of (kept_of state.now)) loan.now.publisher loan.now.number }
     ensures { HasCell (state_of (kept_of state.now)) loan.now.number result.now }
@@ -96,6 +177,7 @@ pub fn loan_value<'a, T: Drop, U: Default + Drop>(
     loan: &LoanAt,
 ) -> &'a T
     requires agrees { IsDomain state.now }
+    requires fixed_size { (state.now.config).variant ≡ FixedSize }
     requires single { (state.now.config).units_per_element ≡ 1 }
     requires live { HoldsWritten (state_of (kept_of state.now)) loan.now.publisher loan.now.number }
     ensures { HasCell (state_of (kept_of state.now)) loan.now.number (Some result.now) }
@@ -105,6 +187,40 @@ pub fn loan_value<'a, T: Drop, U: Default + Drop>(
         unreachable!()
     };
     contents.value(at.slot)
+}
+
+/// The cells of a publisher's unwritten loan, where messages aren't single values.
+pub fn loan_cells<'a, T: Drop, U: Default + Drop>(
+    state: &'a DomainState<T, U>,
+    loan: &LoanAt,
+) -> &'a [Option<T>]
+    requires agrees { IsDomain state.now }
+    requires several { is_single_valued state.now.config ≡ false }
+    requires live { HoldsUnwritten (state_of (kept_of state.now)) loan.now.publisher loan.now.number }
+    ensures { HasCells (state_of (kept_of state.now)) loan.now.number result.now }
+{
+    let at = state.find_live_loan(loan);
+    let Some(contents) = &state.contents[at.book] else {
+        unreachable!()
+    };
+    contents.cells(at.slot)
+}
+
+/// The values of a publisher's written loan, where messages aren't single values.
+pub fn loan_values<'a, T: Drop, U: Default + Drop>(
+    state: &'a DomainState<T, U>,
+    loan: &LoanAt,
+) -> &'a [T]
+    requires agrees { IsDomain state.now }
+    requires several { is_single_valued state.now.config ≡ false }
+    requires live { HoldsWritten (state_of (kept_of state.now)) loan.now.publisher loan.now.number }
+    ensures { HasCells (state_of (kept_of state.now)) loan.now.number (map Some result.now) }
+{
+    let at = state.find_live_loan(loan);
+    let Some(contents) = &state.contents[at.book] else {
+        unreachable!()
+    };
+    contents.values(at.slot)
 }
 
 /// The header of a publisher's loan.
@@ -120,16 +236,18 @@ pub fn loan_header<'a, T: Drop, U: Default + Drop>(
     state.books[at.book].header(at.slot)
 }
 
-// Writes the value of the one cell in a slot of contents that are there.
-fn write_content<T: Drop, U: Default + Drop>(
-    contents: &mut Option<Contents<T, U>>,
-    slot: usize,
-    value: T,
-)
-    requires { IsSomeAnd contents.old (λ cs. SomeAt cs slot (λ content. length content.cells ≡ 1)) }
-    ensures { contents.new ≡ option_map (λ cs. with_changed cs slot (written_content value)) contents.old }
+/// The user header of a publisher's loan.
+pub fn loan_user_header<'a, T: Drop, U: Default + Drop>(
+    state: &'a DomainState<T, U>,
+    loan: &LoanAt,
+) -> &'a U
+    requires agrees { IsDomain state.now }
+    requires live { HoldsLoan (state_of (kept_of state.now)) loan.now.publisher loan.now.number }
+    ensures { HasLoanUserHeader (state_of (kept_of state.now)) loan.now.number result.now }
 {
-    if let Some(contents) = contents {
-        contents.write_payload(slot, value);
-    }
+    let at = state.find_live_loan(loan);
+    let Some(contents) = &state.contents[at.book] else {
+        unreachable!()
+    };
+    contents.user_header(at.slot)
 }

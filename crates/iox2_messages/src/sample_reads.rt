@@ -1,7 +1,9 @@
 //! What is read of borrowed messages.
-ghost use Rattle.std.specs.Prelude.{◌≡◌, Some, [], ◌∷◌};
+ghost use Rattle.std.specs.Prelude.{◌≡◌, Some, [], ◌∷◌, false};
+ghost use Rattle.iox2_store.specs.SingleValues.{is_single_valued};
 ghost use Rattle.iox2_store.specs.machine.Records.{Entry};
 ghost use Rattle.iox2_store.specs.machine.SingleCalls.{HoldsSample};
+ghost use Rattle.iox2_store.specs.declared.service_config.TypeVariant.TheVariants.{FixedSize};
 ghost use Rattle.iox2_domain.specs.Kept.{state_of, entries_of};
 ghost use Rattle.iox2_domain.specs.Fields.{kept_of};
 ghost use Rattle.iox2_domain.specs.Invariant.{IsDomain};
@@ -16,6 +18,7 @@ pub fn sample_payload<'a, T: Drop, U: Default + Drop>(
     sample: &SampleAt,
 ) -> &'a T
     requires agrees { IsDomain state.now }
+    requires fixed_size { (state.now.config).variant ≡ FixedSize }
     requires single { (state.now.config).units_per_element ≡ 1 }
     requires live { HoldsSample (state_of (kept_of state.now)) sample.now.subscriber sample.now.number }
     ensures { (entry : Entry T U) × (entries_of (kept_of state.now) sample.now.number ≡ Some entry) × (entry.values ≡ result.now ∷ []) }
@@ -36,6 +39,7 @@ fn payload_at<'a, T: Drop, U: Default + Drop>(
     slot: usize,
 ) -> &'a T
     requires agrees { IsDomain state.now }
+    requires fixed_size { (state.now.config).variant ≡ FixedSize }
     requires single { (state.now.config).units_per_element ≡ 1 }
     requires lies { LiesBorrowedInSlot state.now sample.now.subscriber sample.now.number (record { book = book; slot = slot }) }
     ensures { (entry : Entry T U) × (entries_of (kept_of state.now) sample.now.number ≡ Some entry) × (entry.values ≡ result.now ∷ []) }
@@ -44,6 +48,23 @@ fn payload_at<'a, T: Drop, U: Default + Drop>(
         unreachable!()
     };
     contents.value(slot)
+}
+
+/// The values of a borrowed message, where messages aren't single values.
+pub fn sample_payloads<'a, T: Drop, U: Default + Drop>(
+    state: &'a DomainState<T, U>,
+    sample: &SampleAt,
+) -> &'a [T]
+    requires agrees { IsDomain state.now }
+    requires several { is_single_valued state.now.config ≡ false }
+    requires live { HoldsSample (state_of (kept_of state.now)) sample.now.subscriber sample.now.number }
+    ensures { (entry : Entry T U) × (entries_of (kept_of state.now) sample.now.number ≡ Some entry) × (entry.values ≡ result.now) }
+{
+    let at = state.find_message(sample);
+    let Some(contents) = &state.contents[at.book] else {
+        unreachable!()
+    };
+    contents.values(at.slot)
 }
 
 /// The header of a borrowed message.
@@ -57,4 +78,20 @@ pub fn sample_header<'a, T: Drop, U: Default + Drop>(
 {
     let at = state.find_message(sample);
     state.books[at.book].header(at.slot)
+}
+
+/// The user header of a borrowed message.
+pub fn sample_user_header<'a, T: Drop, U: Default + Drop>(
+    state: &'a DomainState<T, U>,
+    sample: &SampleAt,
+) -> &'a U
+    requires agrees { IsDomain state.now }
+    requires live { HoldsSample (state_of (kept_of state.now)) sample.now.subscriber sample.now.number }
+    ensures { (entry : Entry T U) × (entries_of (kept_of state.now) sample.now.number ≡ Some entry) × (entry.user_header ≡ result.now) }
+{
+    let at = state.find_message(sample);
+    let Some(contents) = &state.contents[at.book] else {
+        unreachable!()
+    };
+    contents.user_header(at.slot)
 }

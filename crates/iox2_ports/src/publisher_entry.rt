@@ -1,9 +1,10 @@
 //! A publisher enters a domain.
-ghost use Rattle.std.specs.Prelude.{◌≡◌, ◌⊎◌, None, Some, slice_index_or, IfOk, MatchResult, OnOk};
-ghost use Rattle.iox2_store.specs.machine.Limits.{worst_case};
+ghost use Rattle.std.specs.Prelude.{◌≡◌, ◌⊎◌, true, None, Some, slice_index_or, IfOk, MatchResult, OnOk};
+ghost use Rattle.iox2_store.specs.machine.Limits.{worst_case, segment_fits};
 ghost use Rattle.iox2_store.specs.machine.Environments.{fixed_handlers};
 ghost use Rattle.iox2_store.specs.machine.Ports.{CreatePublisher, with_new_publisher};
 ghost use Rattle.iox2_store.specs.declared.errors.PublisherCreateError.TheVariants.{UnableToCreateDataSegment, FailedToDeployThreadsafetyPolicy};
+ghost use Rattle.iox2_store.specs.declared.service_config.TypeVariant.TheVariants.{FixedSize};
 ghost use Rattle.iox2_store.specs.machine.State.{State};
 ghost use Rattle.iox2_domain.specs.Ports.{PublisherFields};
 ghost use Rattle.iox2_domain.specs.Kept.{state_of};
@@ -12,7 +13,7 @@ ghost use Rattle.iox2_domain.specs.Invariant.{IsDomain};
 ghost use Rattle.iox2_domain.specs.NewPublisher.{place_for_publisher, plain_publisher};
 ghost use Rattle.iox2_domain.specs.Reaches.{Reaches};
 
-use crate::segments::{Segment, add_segment, first_segment};
+use crate::segments::{Segment, add_segment, first_segment, room_for};
 use crate::updates::update_publisher;
 use iox2_domain::{DomainState, PortAt, PublisherState, free_place, make_all_due, put_at_place};
 use iox2_store::{PublisherCreateError, UniquePublisherId};
@@ -32,8 +33,8 @@ pub(crate) fn place_for_publisher<T: Drop, U: Default + Drop>(
     }
 }
 
-/// A publisher with so many slots enters at the place that it has, and every subscriber is due
-/// for an update. Returns its id, which was the next.
+/// A publisher with so many slots, for messages of so many elements, enters at the place that it
+/// has, and every subscriber is due for an update. Returns its id, which was the next.
 ///
 /// Where memory is refused it doesn't enter, and no id is used.
 pub(crate) fn admit_publisher<T: Drop, U: Default + Drop>(
@@ -41,20 +42,24 @@ pub(crate) fn admit_publisher<T: Drop, U: Default + Drop>(
     place: usize,
     max_loaned_samples: usize,
     slots: usize,
+    initial_max_slice_len: usize,
 ) -> Result<UniquePublisherId, PublisherCreateError>
     requires agrees { IsDomain state.old }
     requires has_place { place_for_publisher state.old ≡ Ok place }
     requires slots { slots ≡ worst_case (state.old).config max_loaned_samples }
+    requires size { segment_fits (state.old).config slots initial_max_slice_len ≡ true }
+    requires single { ((state.old).config).variant ≡ FixedSize → initial_max_slice_len ≡ 1 }
     ensures stands { OnOk result ((x : PublisherFields) × (slice_index_or state.new.publishers place None ≡ Some x) × (x.id ≡ state.old.next_port)) }
     ensures id { IfOk result (λ id. id ≡ state.old.next_port) }
     ensures step { MatchResult result
-        (λ _. Reaches state.old state.new (with_new_publisher (state_of (kept_of state.old)) (plain_publisher max_loaned_samples) place))
+        (λ _. Reaches state.old state.new (with_new_publisher (state_of (kept_of state.old)) (plain_publisher max_loaned_samples initial_max_slice_len) place))
         (λ e. Reaches state.old state.new (state_of (kept_of state.old)) × ((e ≡ UnableToCreateDataSegment) ⊎ (e ≡ FailedToDeployThreadsafetyPolicy))) }
 {
     let id = UniquePublisherId::new(state.next_port);
     let key = state.books.vacant_key();
-    let room = state.config.units_per_element;
-    let Ok(segment) = Segment::new(state.alloc, id, slots, room) else {
+    let room = room_for(&state.config, slots, initial_max_slice_len);
+    let in_lists = !state.config.is_single_valued();
+    let Ok(segment) = Segment::new(state.alloc, id, slots, room, in_lists) else {
         return Err(PublisherCreateError::UnableToCreateDataSegment);
     };
     let entering = PublisherState::new(
@@ -65,6 +70,7 @@ pub(crate) fn admit_publisher<T: Drop, U: Default + Drop>(
         key,
         max_loaned_samples,
         slots,
+        initial_max_slice_len,
     );
     let Ok(publisher) = entering else {
         return Err(PublisherCreateError::FailedToDeployThreadsafetyPolicy);
@@ -81,8 +87,8 @@ pub(crate) fn admit_publisher<T: Drop, U: Default + Drop>(
     Ok(id)
 }
 
-/// Makes a publisher that may have so many loans out, and connects it with the subscribers that
-/// there are. Returns its id, which was the next, and its place.
+/// Makes a publisher that may have so many loans out, each of so many elements at most, and connects
+/// it with the subscribers that there are. Returns its id, which was the next, and its place.
 ///
 /// `UnableToCreatePortTag` where no id is left, then `ExceedsMaxSupportedPublishers` where no
 /// place is free, then `UnableToCreateDataSegment` where the segment's size doesn't fit `usize`.
@@ -92,20 +98,28 @@ pub(crate) fn admit_publisher<T: Drop, U: Default + Drop>(
 pub fn create_publisher<T: Drop, U: Default + Drop>(
     state: &mut DomainState<T, U>,
     max_loaned_samples: usize,
+    initial_max_slice_len: usize,
 ) -> Result<PortAt<UniquePublisherId>, PublisherCreateError>
-    requires { IsDomain state.old }
+    requires agrees { IsDomain state.old }
+    requires single { ((state.old).config).variant ≡ FixedSize → initial_max_slice_len ≡ 1 }
     ensures id { IfOk result (λ port. port.id ≡ state.old.next_port) }
     ensures stands { IfOk result (λ port. (x : PublisherFields) × (slice_index_or state.new.publishers port.place None ≡ Some x) × (x.id ≡ port.id)) }
     ensures step { MatchResult result
-        (λ _. (s' : State T U) × CreatePublisher fixed_handlers (state_of (kept_of state.old)) (plain_publisher max_loaned_samples) s' None × Reaches state.old state.new s')
-        (λ e. CreatePublisher fixed_handlers (state_of (kept_of state.old)) (plain_publisher max_loaned_samples) (state_of (kept_of state.old)) (Some e)
+        (λ _. (s' : State T U) × CreatePublisher fixed_handlers (state_of (kept_of state.old)) (plain_publisher max_loaned_samples initial_max_slice_len) s' None × Reaches state.old state.new s')
+        (λ e. CreatePublisher fixed_handlers (state_of (kept_of state.old)) (plain_publisher max_loaned_samples initial_max_slice_len) (state_of (kept_of state.old)) (Some e)
         × Reaches state.old state.new (state_of (kept_of state.old))) }
 {
     let place = place_for_publisher(state)?;
-    let Some(slots) = first_segment(&state.config, max_loaned_samples) else {
+    let Some(slots) = first_segment(&state.config, max_loaned_samples, initial_max_slice_len) else {
         return Err(PublisherCreateError::UnableToCreateDataSegment);
     };
-    let id = admit_publisher(state, place, max_loaned_samples, slots)?;
+    let id = admit_publisher(
+        state,
+        place,
+        max_loaned_samples,
+        slots,
+        initial_max_slice_len,
+    )?;
     update_publisher(state, place);
     Ok(PortAt { id, place })
 }

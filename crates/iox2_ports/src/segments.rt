@@ -1,7 +1,7 @@
 //! The memory of a publisher: a book of its slots, and their contents at the book's key.
-ghost use Rattle.std.specs.Prelude.{◌≡◌, None, Some, IfOk, OnOk, OnErr, IsTrue, SomeIff};
+ghost use Rattle.std.specs.Prelude.{◌≡◌, ◌*◌, ◌<◌, true, None, Some, IfOk, OnOk, OnErr, IsTrue, SomeIff};
 ghost use Rattle.slab.specs.Slab.{Updates, get};
-ghost use Rattle.iox2_store.specs.machine.Limits.{worst_case};
+ghost use Rattle.iox2_store.specs.machine.Limits.{worst_case, fits, segment_fits};
 ghost use Rattle.iox2_store.specs.machine.Ports.{first_segment_fits};
 ghost use Rattle.iox2_domain.specs.NewPublisher.{IsNewSegment, plain_publisher};
 ghost use Rattle.iox2_domain.specs.Placed.{placed};
@@ -11,14 +11,36 @@ use iox2_store::{Contents, ServiceConfig, SlotBook, UniquePublisherId, worst_cas
 use slab::Slab;
 use std::alloc::{AllocError, Global};
 
-/// How many slots the first segment of a publisher of single values has. `None` where their number
-/// or their size doesn't fit `usize`.
-pub(crate) fn first_segment(config: &ServiceConfig, loans: usize) -> Option<usize>
-    ensures { SomeIff result (IsTrue (first_segment_fits config.now (plain_publisher loans))) (worst_case config.now loans) }
+/// How many slots the first segment of a publisher has, whose messages have at most so many
+/// elements. `None` where their number or their size doesn't fit `usize`.
+pub(crate) fn first_segment(config: &ServiceConfig, loans: usize, len: usize) -> Option<usize>
+    ensures { SomeIff result (IsTrue (first_segment_fits config.now (plain_publisher loans len))) (worst_case config.now loans) }
 {
     let slots = worst_case_slots(config, loans)?;
-    slots.checked_mul(config.units_per_element)?;
+    segment_size(slots, len, config.units_per_element)?;
     Some(slots)
+}
+
+// The size of so many slots of so many elements of so many units. `None` where it doesn't fit `usize`.
+fn segment_size(slots: usize, len: usize, units: usize) -> Option<usize>
+    ensures { SomeIff result (IsTrue (fits (slots * len * units))) (slots * len * units) }
+{
+    if units == 0 {
+        return Some(0);
+    }
+    slots.checked_mul(len)?.checked_mul(units)
+}
+
+/// The room that each of so many slots needs for so many elements. Where there are no slots, none is
+/// needed.
+pub(crate) fn room_for(config: &ServiceConfig, slots: usize, len: usize) -> usize
+    requires { segment_fits config.now slots len ≡ true }
+    ensures { 0 < slots → result ≡ len * (config.now).units_per_element }
+{
+    if slots == 0 {
+        return 0;
+    }
+    len * config.units_per_element
 }
 
 /// The slots of a publisher: what is known of them, and what lies in them.
@@ -29,17 +51,19 @@ pub(crate) struct Segment<T, U> {
 }
 
 impl<T: Drop, U: Default + Drop> Segment<T, U> {
-    /// So many slots of a publisher without holders, each with room for so many elements.
+    /// So many slots of a publisher without holders, each with room for so many elements, which lie
+    /// in lists where they are to be handed out as slices.
     pub(crate) fn new(
         alloc: Global,
         publisher: UniquePublisherId,
         slots: usize,
         room: usize,
+        in_lists: bool,
     ) -> Result<Self, AllocError>
-        ensures { IfOk result (λ segment. IsNewSegment segment.book segment.contents publisher slots room) }
+        ensures { IfOk result (λ segment. IsNewSegment segment.book segment.contents publisher slots room in_lists) }
     {
         let book = SlotBook::new(alloc, publisher, slots)?;
-        let contents = Contents::new(alloc, slots, room)?;
+        let contents = Contents::new(alloc, slots, room, in_lists)?;
         Ok(Segment { book, contents })
     }
 }

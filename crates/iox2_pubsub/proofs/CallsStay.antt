@@ -1,9 +1,9 @@
 -- What each call leaves of a domain.
-use Rattle.std.proofs.Common.{◌≡◌, ℕ, ◌<◌, List, true, false, sym, ap, subst, ◌∙◌, Option, None, Some, Result, Ok, Err, inl, inr, arith}
+use Rattle.std.proofs.Common.{◌≡◌, Bool, ℕ, ◌<◌, List, true, false, sym, ap, subst, ◌∙◌, Option, None, Some, Result, Ok, Err, inl, inr, arith}
 use Rattle.std.specs.Prelude.{◌≢◌}
 use Rattle.std.proofs.lemmas.Bool.{cases_eq, ne_eqb, true≢false}
 use Rattle.iox2_store.specs.machine.Environments.{ample_memory, fixed_handlers}
-use Rattle.iox2_store.specs.machine.Loans.{written, entry_of}
+use Rattle.iox2_store.specs.machine.Loans.{entry_of}
 use Rattle.iox2_store.specs.machine.Mailbox.{is_borrowed}
 use Rattle.iox2_store.specs.machine.Numbers.{put_at, contains}
 use Rattle.iox2_store.specs.machine.Ports.{CreatePublisher, CreateSubscriber}
@@ -113,13 +113,13 @@ module _ {T U : Type 0} (old new : Kept T U) (m : Messages T U) (s : State T U) 
         omega arith
 
   -- a loan is granted, or refused
-  pub loan-stays : {A : Type 0} (is_default : U → Type 0) (p : ℕ) (answer : Result A LoanError) (s' : State T U) → Shows new m s' → LoanCall is_default s p answer s' → Stays old new
-  loan-stays is_default p (Ok a) s' shown' h =
-      let stay : PortsStay s s' = grant_loan_stays ample_memory h.0 false 1 s p s' None h.2 in
-      let next = loan_next ample_memory s h.0 false 1 p s' h.2 in
+  pub loan-stays : {A : Type 0} (is_default : U → Type 0) (checks : Bool) (len p : ℕ) (answer : Result A LoanError) (s' : State T U) → Shows new m s' → LoanCall is_default checks len s p answer s' → Stays old new
+  loan-stays is_default checks len p (Ok a) s' shown' h =
+      let stay : PortsStay s s' = grant_loan_stays ample_memory h.0 checks len s p s' None h.2 in
+      let next = loan_next ample_memory s h.0 checks len p s' h.2 in
       stays-between No_item old new m m s s' shown shown' (λ n entry at. at) (ports-remain _ s s' stay.remain) (λ n l at _. next.others n (shown.well_formed.loans n l at).below ∙ at)
       (λ i j n at _. same_borrowed s s' stay i j n ∙ at)
-  loan-stays is_default p (Err e) s' shown' h =
+  loan-stays is_default checks len p (Err e) s' shown' h =
       quiet s' shown' (subst (PortsStay s) (sym h.0) (ports_stay_themselves s)) (ap (λ (t : State T U). t.loans) h.0)
 
   -- the new loan is none that was there
@@ -151,13 +151,13 @@ module _ {T U : Type 0} (old new : Kept T U) (m : Messages T U) (s : State T U) 
           let next : s.next_message ≡ old.next_message = ap (λ (t : State T U). t.next_message) shown.state in
           omega arith
 
-  -- a loan is written
-  pub write-stays : (n : ℕ) (l : Loan T U) (value : T) → Shows new m (with_loan s n (Some (written l value))) → StaysBut (A_loan n) old new
-  write-stays n l value shown' =
-      let s' : State T U = with_loan s n (Some (written l value)) in
-      let stay : PortsStay s s' = loan_set_stays s n (Some (written l value)) in
+  -- a loan is changed
+  pub change-stays : (n : ℕ) (l : Loan T U) → Shows new m (with_loan s n (Some l)) → StaysBut (A_loan n) old new
+  change-stays n l shown' =
+      let s' : State T U = with_loan s n (Some l) in
+      let stay : PortsStay s s' = loan_set_stays s n (Some l) in
       stays-between (A_loan n) old new m m s s' shown shown' (λ n entry at. at) (ports-remain _ s s' stay.remain)
-      (λ k loan at other. put_at-other s.loans n (Some (written l value)) k (ne_eqb k n other) ∙ at)
+      (λ k loan at other. put_at-other s.loans n (Some l) k (ne_eqb k n other) ∙ at)
       (λ i j k at _. same_borrowed s s' stay i j k ∙ at)
 
   -- a loan is sent

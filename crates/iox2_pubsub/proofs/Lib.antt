@@ -4,6 +4,10 @@ pub mod SampleOrigins
 pub mod UninitLoans
 pub mod SubscribersShown
 pub mod LoanHandles
+pub mod LentHandles
+pub mod AssumedLoans
+pub mod WrittenLoanCalls
+pub mod SliceParts
 pub mod SendShown
 pub mod AlwaysShows
 pub mod PublishersShown
@@ -20,7 +24,6 @@ pub mod PayloadLists
 pub mod WaitingShown
 pub mod UpToDateShown
 pub mod ClosesWait
-pub mod LoansLeft
 pub mod LoansLeftShown
 pub mod SureLoans
 pub mod KeptCounts

@@ -7,8 +7,8 @@ use Rattle.iox2_store.specs.declared.header.Header.{Header}
 use Rattle.iox2_store.specs.declared.key.Key.{Key}
 use Rattle.iox2_store.specs.declared.service_config.TypeVariant.TheVariants.{FixedSize}
 use Rattle.iox2_domain.specs.Kept.{Kept, state_of, entries_of}
-use Rattle.iox2_domain.specs.LoanCalls.{HasCell, HasLoanHeader, HoldsUnwritten, HoldsWritten}
-use Rattle.iox2_pubsub.specs.Live.{IsSingleValued, IsPublisherKey, IsSubscriberKey, IsLoanKey, IsSampleKey, HasMark, IsFromOrigin, UnwrittenReads, LoanReads, SampleReads, LoanHasHeader, LoanHasUserHeader, SampleHasHeader, IsUnwrittenLoan, IsWrittenLoan}
+use Rattle.iox2_domain.specs.LoanCalls.{HasCell, HasLoanHeader, HasLoanUserHeader, HoldsUnwritten, HoldsWritten}
+use Rattle.iox2_pubsub.specs.Live.{IsSingleValued, IsPublisherKey, IsSubscriberKey, IsLoanKey, IsSampleKey, HasMark, IsFromOrigin, UnwrittenReads, LoanReads, SampleReads, LoanHasHeader, LoanHasUserHeader, SampleHasHeader, SampleHasUserHeader, IsUnwrittenLoan, IsWrittenLoan}
 use Rattle.iox2_pubsub.specs.declared.sample.Sample.{Sample}
 use Rattle.iox2_pubsub.specs.declared.sample_mut.SampleMut.{SampleMut}
 use Rattle.iox2_pubsub.specs.declared.sample_mut_uninit.SampleMutUninit.{SampleMutUninit}
@@ -98,6 +98,10 @@ module _ {T U : Type 0} (kept : Kept T U) where
   unfolding UnwrittenReads
   unwritten-reads loan cell has = has
 
+  pub unwritten-cell : (loan : SampleMutUninit) (cell : Option T) → UnwrittenReads kept loan cell → HasCell (state_of kept) loan.loan.number cell
+  unfolding UnwrittenReads
+  unwritten-cell loan cell reads = reads
+
   -- an unwritten loan has one cell
   pub unwritten-reads-one : (loan : SampleMutUninit) (cell cell' : Option T) → UnwrittenReads kept loan cell → UnwrittenReads kept loan cell' → cell ≡ cell'
   unfolding UnwrittenReads
@@ -170,13 +174,33 @@ module _ {T U : Type 0} (kept : Kept T U) where
         sym a.2 ∙ ap (λ (e : Entry T U). e.header) same ∙ b.2
 
   module _ (key : Key) (header : U) where
-    pub loan-user-header : (l : Loan T U) × ((state_of kept).loans key.message ≡ Some l) × (l.user_header ≡ header) → LoanHasUserHeader kept key header
+    pub loan-user-header : HasLoanUserHeader (state_of kept) key.message header → LoanHasUserHeader kept key header
     unfolding LoanHasUserHeader
     loan-user-header has = has
 
-    pub loan-user-header-parts : LoanHasUserHeader kept key header → (l : Loan T U) × ((state_of kept).loans key.message ≡ Some l) × (l.user_header ≡ header)
+    pub loan-user-header-parts : LoanHasUserHeader kept key header → HasLoanUserHeader (state_of kept) key.message header
     unfolding LoanHasUserHeader
     loan-user-header-parts has = has
+
+    -- a loan has one user header
+    pub loan-user-header-one : (header' : U) → LoanHasUserHeader kept key header → LoanHasUserHeader kept key header' → header ≡ header'
+    unfolding LoanHasUserHeader
+    loan-user-header-one header' a b =
+        let both : Some a.0 ≡ Some b.0 = sym a.1 ∙ b.1 in
+        let same : a.0 ≡ b.0 = cc in
+        sym a.2 ∙ ap (λ (l : Loan T U). l.user_header) same ∙ b.2
+
+    pub sample-user-header : (entry : Entry T U) × (entries_of kept key.message ≡ Some entry) × (entry.user_header ≡ header) → SampleHasUserHeader kept key header
+    unfolding SampleHasUserHeader
+    sample-user-header has = has
+
+    -- a sample has one user header
+    pub sample-user-header-one : (header' : U) → SampleHasUserHeader kept key header → SampleHasUserHeader kept key header' → header ≡ header'
+    unfolding SampleHasUserHeader
+    sample-user-header-one header' a b =
+        let both : Some a.0 ≡ Some b.0 = sym a.1 ∙ b.1 in
+        let same : a.0 ≡ b.0 = cc in
+        sym a.2 ∙ ap (λ (e : Entry T U). e.user_header) same ∙ b.2
 
   -- ---- origins
 

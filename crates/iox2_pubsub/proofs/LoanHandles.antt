@@ -1,5 +1,5 @@
 -- The handles of loans: what a domain that holds one shows.
-use Rattle.std.proofs.Common.{length, replicate, ◌≡◌, ℕ, cond, refl, ap, sym, subst, ◌∙◌, le_refl}
+use Rattle.std.proofs.Common.{replicate, [], ◌∷◌, true, false, ◌≡◌, ℕ, cond, refl, ap, sym, subst, ◌∙◌, le_refl}
 use Rattle.std.proofs.lemmas.Bool.{eq-eqb}
 use Rattle.std.proofs.lemmas.Option.{same_Some}
 use Rattle.std.specs.declared.option.Option.TheVariants.{None, Some}
@@ -14,7 +14,7 @@ use Rattle.iox2_store.specs.declared.key.Key.{Key}
 use Rattle.iox2_pubsub.specs.Live.{IsLoanKey, IsUnwrittenLoan, IsWrittenLoan, LoanHasHeader, LoanHasUserHeader, LoanReads}
 use Rattle.iox2_pubsub.specs.declared.sample_mut.SampleMut.{SampleMut}
 use Rattle.iox2_pubsub.specs.declared.sample_mut_uninit.SampleMutUninit.{SampleMutUninit}
-use Rattle.iox2_pubsub.proofs.LiveParts.{loan-header, loan-header-parts, loan-parts, loan-reads, loan-user-header, loan-user-header-parts, unwritten-parts, written-parts, written-live}
+use Rattle.iox2_pubsub.proofs.LiveParts.{loan-header, loan-header-parts, loan-parts, loan-reads, loan-user-header, loan-user-header-parts, unwritten-parts, unwritten-live, written-parts, written-live}
 use Rattle.iox2_store.specs.declared.header.Header.{Header}
 use Rattle.iox2_domain.specs.Invariant.{IsDomain}
 use Rattle.iox2_domain.specs.LoanCalls.{HoldsUnwritten, HoldsWritten, HasLoanHeader, WritesLoan}
@@ -37,76 +37,115 @@ module _ {T U : Type 0} (inside kept : Kept T U) (view : inside ≡ kept) where
   pub loan-out : (key : Key) → IsLoanKey kept key → HoldsLoan (state_of inside) key.port key.message
   loan-out key live = subst (λ k. HoldsLoan (state_of k) key.port key.message) (sym view) (loan-parts kept key live).1
 
--- ---- a loan is written
+-- ---- a loan is changed
 
-module _ {T U : Type 0} (f g : Fields T U) (kept : Kept T U) (view : kept_of f ≡ kept) (n : ℕ) (value : T) (writes : WritesLoan f g n value) where
+module _ {T U : Type 0} (f g : Fields T U) (kept : Kept T U) (view : kept_of f ≡ kept) (n : ℕ) (l changed : Loan T U) (found : (state_of (kept_of f)).loans n ≡ Some l)
+    (reaches : Reaches f g (with_loan (state_of (kept_of f)) n (Some changed))) where
+  -- the domain shows the machine's step
+  pub change-shown : (m : Messages T U) (s : State T U) → Shows kept m s → (s.loans n ≡ Some l) × Shows (kept_of g) m (with_loan s n (Some changed))
+  change-shown m s shown =
+      let here : Shows (kept_of f) m s = subst (λ k. Shows k m s) (sym view) shown in
+      let is : state_of (kept_of f) ≡ s = sym here.state in
+      let there : s.loans n ≡ Some l = ap (λ (t : State T U). t.loans n) (sym is) ∙ found in (
+        there,
+        reaches-shows f g m s (with_loan s n (Some changed)) here
+            (subst (λ (t : State T U). Reaches f g (with_loan t n (Some changed))) is reaches)
+            (le_refl s.next_message)
+            (λ k u at. found_put s.loans n changed (λ i _. m i ≡ None) k u at (λ _. here.unsent n l there) (λ _ old. here.unsent k u old)),
+      )
+
+  -- the changed loan is out
+  pub changed-out : (state_of (kept_of g)).loans n ≡ Some changed
+  changed-out =
+      ap (λ (t : State T U). t.loans n) reaches.state
+      ∙ ap (λ b. cond b (Some changed) ((state_of (kept_of f)).loans n)) (eq-eqb n n refl)
+
+  -- headers that the change keeps
+  module _ (key key' : Key) (here : key.message ≡ n) (there : key'.message ≡ n) where
+    -- what was out is what is changed
+    was : (k : Loan T U) → (state_of kept).loans key.message ≡ Some k → l ≡ k
+    was k at = same_Some l k (sym found ∙ ap (λ (e : Kept T U). (state_of e).loans n) view ∙ ap (state_of kept).loans (sym here) ∙ at)
+
+    pub change-header : changed.header ≡ l.header → (header : Header) → LoanHasHeader kept key header → LoanHasHeader (kept_of g) key' header
+    change-header same header has =
+        let old = loan-header-parts kept key header has in
+        loan-header (kept_of g) key' header
+        (changed, ap (state_of (kept_of g)).loans there ∙ changed-out, same ∙ ap (λ (k : Loan T U). k.header) (was old.0 old.1) ∙ old.2)
+
+    pub change-user-header : changed.user_header ≡ l.user_header → (header : U) → LoanHasUserHeader kept key header → LoanHasUserHeader (kept_of g) key' header
+    change-user-header same header has =
+        let old = loan-user-header-parts kept key header has in
+        loan-user-header (kept_of g) key' header
+        (changed, ap (state_of (kept_of g)).loans there ∙ changed-out, same ∙ ap (λ (k : Loan T U). k.user_header) (was old.0 old.1) ∙ old.2)
+
+  module _ (same : changed.publisher ≡ l.publisher) where
+    service-still : (id : ℕ) → id ≡ (kept.config).service_id → id ≡ ((kept_of g).config).service_id
+    service-still id ours = ours ∙ sym (ap (λ (k : Kept T U). (k.config).service_id) view) ∙ sym (ap (λ (t : State T U). (t.config).service_id) reaches.state)
+
+    its-publisher : (p : ℕ) → HoldsLoan (state_of (kept_of f)) p n → l.publisher ≡ p
+    its-publisher p live =
+        let both : Some l ≡ Some live.0 = sym found ∙ live.1 in
+        let is : l ≡ live.0 = cc in
+        ap (λ (k : Loan T U). k.publisher) is ∙ live.2
+
+    -- it is live where it was, written or not
+    pub change-live : (p service : ℕ) → service ≡ (kept.config).service_id → HoldsLoan (state_of (kept_of f)) p n
+        → (service ≡ ((kept_of g).config).service_id) × ((state_of (kept_of g)).loans n ≡ Some changed) × (changed.publisher ≡ p)
+    change-live p service ours live = (service-still service ours, changed-out, same ∙ its-publisher p live)
+
+    pub change-unwritten : (loan : SampleMutUninit) → loan.loan.number ≡ n → IsUnwrittenLoan kept loan → changed.is_written ≡ false → IsUnwrittenLoan (kept_of g) loan
+    change-unwritten loan its live mark =
+        let parts = unwritten-parts kept loan live in
+        let out = subst (λ (k : Kept T U). HoldsLoan (state_of k) loan.loan.publisher loan.loan.number) (sym view) ((parts.1).0, (parts.1).1, (parts.1).2) in
+        let is = change-live loan.loan.publisher loan.service_id parts.0 (subst (HoldsLoan (state_of (kept_of f)) loan.loan.publisher) its out) in
+        unwritten-live (kept_of g) loan is.0 (changed, ap (state_of (kept_of g)).loans its ∙ is.1, is.2, mark)
+
+    -- a written loan is live under a handle with the same key
+    pub change-written : (p service : ℕ) → service ≡ (kept.config).service_id → HoldsLoan (state_of (kept_of f)) p n → changed.is_written ≡ true
+        → (loan : SampleMut) → loan.loan.number ≡ n → loan.service_id ≡ service → loan.loan.publisher ≡ p → IsWrittenLoan (kept_of g) loan
+    change-written p service ours out mark loan number its publisher =
+        let is = change-live p service ours out in
+        written-live (kept_of g) loan (its ∙ is.0) (changed, ap (state_of (kept_of g)).loans number ∙ is.1, is.2 ∙ sym publisher, mark)
+
+    -- it has the changed cells
+    pub change-cells : (loan : SampleMut) (value : T) → loan.loan.number ≡ n → changed.cells ≡ Some value ∷ [] → LoanReads (kept_of g) loan value
+    change-cells loan value number is = loan-reads (kept_of g) loan value (changed, ap (state_of (kept_of g)).loans number ∙ changed-out, is)
+
+-- ---- a single value is written
+
+module _ {T U : Type 0} (f g : Fields T U) (kept : Kept T U) (view : kept_of f ≡ kept) (n : ℕ) (value : T) (writes : WritesLoan f g n (value ∷ [])) where
+  write-reaches : Reaches f g (with_loan (state_of (kept_of f)) n (Some (written writes.0 value)))
+  write-reaches =
+      subst (λ (k : ℕ). Reaches f g (with_loan (state_of (kept_of f)) n (Some (record (writes.0) { cells = replicate k (Some value); is_written = true })))) writes.2 writes.3
+
   -- the domain shows the machine's step
   pub write-shown : (m : Messages T U) (s : State T U) → Shows kept m s
       → (l : Loan T U) × (s.loans n ≡ Some l) × Shows (kept_of g) m (with_loan s n (Some (written l value)))
   write-shown m s shown =
-      let here : Shows (kept_of f) m s = subst (λ k. Shows k m s) (sym view) shown in
-      let is : state_of (kept_of f) ≡ s = sym here.state in
-      let found : s.loans n ≡ Some writes.0 = ap (λ (t : State T U). t.loans n) (sym is) ∙ writes.1 in (
-        writes.0,
-        found,
-        reaches-shows f g m s (with_loan s n (Some (written writes.0 value))) here
-            (subst (λ (t : State T U). Reaches f g (with_loan t n (Some (written writes.0 value)))) is writes.2)
-            (le_refl s.next_message)
-            (λ k l at. found_put s.loans n (written writes.0 value) (λ i _. m i ≡ None) k l at (λ _. here.unsent n writes.0 found) (λ _ old. here.unsent k l old)),
-      )
+      let both = change-shown f g kept view n writes.0 (written writes.0 value) writes.1 write-reaches m s shown in
+      (writes.0, both.0, both.1)
 
-  -- and the written loan is out
+  -- the written loan is out
   pub write-live : (loan : SampleMutUninit) (loan' : SampleMut) → loan.loan.number ≡ n → loan'.service_id ≡ loan.service_id → loan'.loan.publisher ≡ loan.loan.publisher
       → loan'.loan.number ≡ n → IsUnwrittenLoan kept loan → IsWrittenLoan (kept_of g) loan'
   write-live loan loan' its service publisher number live =
-      let old : IsUnwrittenLoan (kept_of f) loan = subst (λ k. IsUnwrittenLoan k loan) (sym view) live in
-      let parts = unwritten-parts (kept_of f) loan old in
-      let both : Some writes.0 ≡ Some (parts.1).0 = sym writes.1 ∙ ap (state_of (kept_of f)).loans (sym its) ∙ (parts.1).1 in
-      let same : writes.0 ≡ (parts.1).0 = cc in
-      written-live (kept_of g) loan' (service ∙ parts.0 ∙ sym (ap (λ (t : State T U). (t.config).service_id) writes.2.state)) (
-        written writes.0 value,
-        ap (λ (k : ℕ). (state_of (kept_of g)).loans k) number
-            ∙ ap (λ (t : State T U). t.loans n) writes.2.state
-            ∙ ap (λ b. cond b (Some (written writes.0 value)) ((state_of (kept_of f)).loans n)) (eq-eqb n n refl),
-        ap (λ (l : Loan T U). l.publisher) same ∙ (parts.1).2 ∙ sym publisher,
-        refl,
-      )
+      let parts = unwritten-parts kept loan live in
+      let out : HoldsLoan (state_of (kept_of f)) loan.loan.publisher n =
+      subst (λ (k : Kept T U). HoldsLoan (state_of k) loan.loan.publisher n) (sym view) (subst (HoldsLoan (state_of kept) loan.loan.publisher) its ((parts.1).0, (parts.1).1, (parts.1).2)) in
+      change-written f g kept view n writes.0 (written writes.0 value) writes.1 write-reaches refl loan.loan.publisher loan.service_id parts.0 out refl loan' number service publisher
 
-  module _ (key key' : Key) (here : key.message ≡ n) (there : key'.message ≡ n) where
-    -- what was out is what is written
-    was : (l : Loan T U) → (state_of kept).loans key.message ≡ Some l → writes.0 ≡ l
-    was l at = same_Some writes.0 l (sym writes.1 ∙ ap (λ (k : Kept T U). (state_of k).loans n) view ∙ ap (state_of kept).loans (sym here) ∙ at)
+  -- its headers stay
+  pub write-header : (key key' : Key) → key.message ≡ n → key'.message ≡ n → (header : Header) → LoanHasHeader kept key header → LoanHasHeader (kept_of g) key' header
+  write-header key key' here there header has = change-header f g kept view n writes.0 (written writes.0 value) writes.1 write-reaches key key' here there refl header has
 
-    now : (state_of (kept_of g)).loans key'.message ≡ Some (written writes.0 value)
-    now =
-        ap (state_of (kept_of g)).loans there
-        ∙ ap (λ (t : State T U). t.loans n) writes.2.state
-        ∙ ap (λ b. cond b (Some (written writes.0 value)) ((state_of (kept_of f)).loans n)) (eq-eqb n n refl)
+  pub write-user-header : (key key' : Key) → key.message ≡ n → key'.message ≡ n → (header : U) → LoanHasUserHeader kept key header → LoanHasUserHeader (kept_of g) key' header
+  write-user-header key key' here there header has = change-user-header f g kept view n writes.0 (written writes.0 value) writes.1 write-reaches key key' here there refl header has
 
-    -- its headers stay
-    pub write-header : (header : Header) → LoanHasHeader kept key header → LoanHasHeader (kept_of g) key' header
-    write-header header has =
-        let old = loan-header-parts kept key header has in
-        loan-header (kept_of g) key' header (written writes.0 value, now, ap (λ (l : Loan T U). l.header) (was old.0 old.1) ∙ old.2)
-
-    pub write-user-header : (header : U) → LoanHasUserHeader kept key header → LoanHasUserHeader (kept_of g) key' header
-    write-user-header header has =
-        let old = loan-user-header-parts kept key header has in
-        loan-user-header (kept_of g) key' header (written writes.0 value, now, ap (λ (l : Loan T U). l.user_header) (was old.0 old.1) ∙ old.2)
-
--- the written loan reads as the value
-pub write-reads : {T U : Type 0} (f g : Fields T U) (n : ℕ) (value : T) (writes : WritesLoan f g n value) (loan : SampleMut) → loan.loan.number ≡ n
-    → (l : Loan T U) → (state_of (kept_of f)).loans n ≡ Some l → length l.cells ≡ 1 → LoanReads (kept_of g) loan value
-write-reads {T} {U} f g n value writes loan number l at one =
-    let both : Some writes.0 ≡ Some l = sym writes.1 ∙ at in
-    let same : writes.0 ≡ l = cc in
-    loan-reads (kept_of g) loan value (
-      written writes.0 value,
-      ap (state_of (kept_of g)).loans number
-          ∙ ap (λ (t : State T U). t.loans n) writes.2.state
-          ∙ ap (λ b. cond b (Some (written writes.0 value)) ((state_of (kept_of f)).loans n)) (eq-eqb n n refl),
-      ap (λ (k : Loan T U). replicate (length k.cells) (Some value)) same ∙ ap (λ (k : ℕ). replicate k (Some value)) one,
-    )
+  -- and reads as the value
+  pub write-reads : (loan : SampleMut) → loan.loan.number ≡ n → LoanReads (kept_of g) loan value
+  write-reads loan number =
+      change-cells f g kept view n writes.0 (written writes.0 value) writes.1 write-reaches refl loan value number
+      (ap (λ (k : ℕ). replicate k (Some value)) (sym writes.2))
 
 -- ---- the header of a loan
 

@@ -1,10 +1,11 @@
 -- What calls leave of the loans that publishers may still take, seen from outside.
-use Rattle.std.proofs.Common.{◌≡◌, ℕ, false, ◌+◌, ◌≤◌, ◌<◌, refl, sym, ap, subst, ◌∙◌, arith, Option, None, Some, Result, Ok, Err, ◌⊎◌, inl, inr}
-use Rattle.std.specs.Prelude.{◌≢◌}
+use Rattle.std.proofs.Common.{◌≡◌, ℕ, Bool, ◌+◌, ◌≤◌, ◌<◌, refl, sym, ap, subst, ◌∙◌, arith, Option, None, Some, Result, Ok, Err, ◌⊎◌, inl, inr}
+use Rattle.std.specs.Prelude.{◌≢◌, OnErr}
 use Rattle.std.proofs.lemmas.Bool.{cases_eq}
 use Rattle.iox2_store.specs.machine.Environments.{ample_memory}
 use Rattle.iox2_store.specs.machine.Limits.{last_number, worst_case}
 use Rattle.iox2_store.specs.machine.Loans.{is_static, loan_discarded}
+use Rattle.iox2_store.specs.machine.LoansLeft.{CanLend}
 use Rattle.iox2_store.specs.machine.Ports.{CreatePublisher, CreateSubscriber, publisher_closed, subscriber_closed, slots_for}
 use Rattle.iox2_store.specs.machine.PublisherUpdate.{UpdatePublisher}
 use Rattle.iox2_store.specs.machine.Receives.{ReceiveResult, Receive}
@@ -19,16 +20,16 @@ use Rattle.iox2_store.specs.declared.errors.SendError.{SendError}
 use Rattle.iox2_store.specs.declared.errors.PublisherCreateError.{PublisherCreateError}
 use Rattle.iox2_store.specs.declared.errors.SubscriberCreateError.{SubscriberCreateError}
 use Rattle.iox2_store.specs.declared.service_config.ServiceConfig.{ServiceConfig}
+use Rattle.iox2_laws.proofs.LoansLeft.{LoansKept, LoanTaken, LoanEnds, set_kept, update_publisher_kept, update_subscriber_kept, receive_kept, released_kept, subscriber_closed_kept, create_publisher_kept, created_lends, create_subscriber_kept, kept_itself, kept_lends, closed_lends, loan_taken, discarded_ends, send_ends, ended_lends, others_lend, lends_fewer}
 use Rattle.iox2_domain.specs.Kept.{Kept, state_of}
 use Rattle.iox2_domain.specs.Lending.{LoanCall}
 use Rattle.iox2_domain.specs.NewPublisher.{plain_publisher}
 use Rattle.iox2_domain.specs.Shows.{Shows}
-use Rattle.iox2_pubsub.specs.LoansLeft.{CanLend, HasLoansLeft, HasNumbersLeft, NumbersLeftStay, LoansLeftStay, OthersLoansLeftStay, HasOneMoreLeft, TakesOneLeft}
+use Rattle.iox2_pubsub.specs.LoansLeft.{HasLoansLeft, HasNumbersLeft, NumbersLeftStay, LoansLeftStay, OthersLoansLeftStay, HasOneMoreLeft, TakesOneLeft}
 use Rattle.iox2_pubsub.specs.SendCalls.{result_of_send}
 use Rattle.iox2_pubsub.specs.declared.publisher.Publisher.{Publisher}
 use Rattle.iox2_pubsub.specs.declared.send_outcome.SendOutcome.{SendOutcome}
 use Rattle.iox2_pubsub.specs.declared.send_outcome.SendOutcome.TheVariants.{Delivered}
-use Rattle.iox2_pubsub.proofs.LoansLeft.{LoansKept, LoanTaken, LoanEnds, set_kept, update_publisher_kept, update_subscriber_kept, receive_kept, released_kept, subscriber_closed_kept, create_publisher_kept, created_lends, create_subscriber_kept, kept_itself, kept_lends, closed_lends, loan_taken, discarded_ends, send_ends, ended_lends, others_lend, lends_fewer}
 
 -- a number that is left is below the last
 below_last : (now n last : ℕ) → now + (n + 1) ≤ last → now < last
@@ -100,18 +101,22 @@ module _ {T U : Type 0} (old new : Kept T U) (m m' : Messages T U) (s s' : State
   subscriber-creation-left environment given refusal h = all-left (create_subscriber_kept environment s given s' refusal h)
 
   -- a publisher as factories make it so far
-  pub created-left : (environment : Environment) (loans : ℕ) (given : PublisherSettings) → plain_publisher loans ≡ given → (publisher : Publisher) → publisher.id ≡ s.next_port
+  pub created-left : (environment : Environment) (loans : ℕ) (given : PublisherSettings) → plain_publisher loans 1 ≡ given → (publisher : Publisher) → publisher.id ≡ s.next_port
       → CreatePublisher environment s given s' None → HasLoansLeft new publisher given.max_loaned_samples
   created-left environment loans given is publisher its h =
       subst (λ (z : PublisherSettings). HasLoansLeft new publisher z.max_loaned_samples) is
       (lends-from new m' s' shown' publisher loans
-      (subst (λ (p : ℕ). CanLend s' p loans) (sym its) (created_lends environment s (plain_publisher loans) s' refl (omega arith)
+      (subst (λ (p : ℕ). CanLend s' p loans) (sym its) (created_lends environment s (plain_publisher loans 1) s' refl (omega arith)
       (subst (λ (z : PublisherSettings). CreatePublisher environment s z s' None) (sym is) h))))
 
+  -- a call that changes nothing
+  pub same-left : s' ≡ s → LoansLeftStay old new
+  same-left is = all-left (subst (LoansKept s) (sym is) (kept_itself s))
+
   -- a loan is granted, or refused
-  pub loan-takes : {A : Type 0} (is_default : U → Type 0) (publisher : Publisher) (answer : Result A LoanError) → LoanCall is_default s publisher.id answer s' → TakesOneLeft publisher old new
-  loan-takes is_default publisher (Ok a) h =
-      let taken : LoanTaken publisher.id s s' = loan_taken ample_memory h.0 false 1 s publisher.id s' h.2 in record {
+  pub loan-takes : {A : Type 0} (is_default : U → Type 0) (checks : Bool) (len : ℕ) (publisher : Publisher) (answer : Result A LoanError) → LoanCall is_default checks len s publisher.id answer s' → TakesOneLeft publisher old new
+  loan-takes is_default checks len publisher (Ok a) h =
+      let taken : LoanTaken publisher.id s s' = loan_taken ample_memory h.0 checks len s publisher.id s' h.2 in record {
         loans = λ n left. lends-from new m' s' shown' publisher n (taken.own n (lends-at old m s shown publisher (n + 1) left));
         others = λ other n away left.
             let can : CanLend s other.id n = lends-at old m s shown other n left in
@@ -125,12 +130,16 @@ module _ {T U : Type 0} (old new : Kept T U) (m m' : Messages T U) (s s' : State
         numbers = λ n left. numbers-out new n (fewer_numbers new.next_message old.next_message n last_number
             (sym (next-at new m' s' shown') ∙ taken.numbers ∙ ap (λ (k : ℕ). k + 1) (next-at old m s shown)) (numbers-in old (n + 1) left));
       }
-  loan-takes is_default publisher (Err e) h =
-      let stay : LoansLeftStay old new = all-left (subst (LoansKept s) (sym h.0) (kept_itself s)) in record {
+  loan-takes is_default checks len publisher (Err e) h =
+      let stay : LoansLeftStay old new = same-left h.0 in record {
         loans = λ n left. stay.loans publisher n (lends-out old publisher n (lends_fewer (state_of old) publisher.id n (n + 1) (omega arith) (lends-in old publisher (n + 1) left)));
         others = λ other n away left. stay.loans other n left;
         numbers = λ n left. stay.numbers n (numbers-out old n (one_less old.next_message n last_number (numbers-in old (n + 1) left)));
       }
+
+  pub refused-left : {A : Type 0} (is_default : U → Type 0) (checks : Bool) (len p : ℕ) (answer : Result A LoanError) → LoanCall is_default checks len s p answer s' → OnErr answer (LoansLeftStay old new)
+  refused-left is_default checks len p (Ok a) h = tt
+  refused-left is_default checks len p (Err e) h = same-left h.0
 
   -- a loan ends
   module _ (n : ℕ) (l : Loan T U) (out : s.loans n ≡ Some l) (p : ℕ) (its : l.publisher ≡ p) (ends : LoanEnds l.publisher n s s') where

@@ -19,26 +19,26 @@ use Rattle.iox2_domain.specs.Shows.{Shows}
 use Rattle.iox2_domain.proofs.lemmas.fields.ReachesShows.{reaches-shows-same}
 use Rattle.iox2_domain.proofs.lemmas.creations.PublisherCreations.{create-keeps, create-holds}
 
-module _ {T U : Type 0} (f g : Fields T U) (loans : ℕ) (environment : Environment) where
+module _ {T U : Type 0} (f g : Fields T U) (loans len : ℕ) (environment : Environment) where
   -- a domain that shows a state shows the one that a creation comes to
   pub created-shows : (m : Messages T U) (s t : State T U) (refusal : Option PublisherCreateError) → Shows (kept_of f) m s
-      → CreatePublisher environment (state_of (kept_of f)) (plain_publisher loans) t refusal → Reaches f g t
-      → Shows (kept_of g) m t × CreatePublisher environment s (plain_publisher loans) t refusal
+      → CreatePublisher environment (state_of (kept_of f)) (plain_publisher loans len) t refusal → Reaches f g t
+      → Shows (kept_of g) m t × CreatePublisher environment s (plain_publisher loans len) t refusal
   created-shows m s t refusal shown made reached =
-      let keeps = create-keeps environment (state_of (kept_of f)) (plain_publisher loans) t refusal made in (
+      let keeps = create-keeps environment (state_of (kept_of f)) (plain_publisher loans len) t refusal made in (
         reaches-shows-same f g m s t shown reached
             (keeps.next_message ∙ sym (ap (λ (u : State T U). u.next_message) shown.state)) (keeps.loans ∙ sym (ap (λ (u : State T U). u.loans) shown.state)),
-        subst (λ (u : State T U). CreatePublisher environment u (plain_publisher loans) t refusal) (sym shown.state) made,
+        subst (λ (u : State T U). CreatePublisher environment u (plain_publisher loans len) t refusal) (sym shown.state) made,
       )
 
   -- and has the publisher that was made
-  pub created-live : (t : State T U) → CreatePublisher environment (state_of (kept_of f)) (plain_publisher loans) t None → Reaches f g t
+  pub created-live : (t : State T U) → CreatePublisher environment (state_of (kept_of f)) (plain_publisher loans len) t None → Reaches f g t
       → (publisher : Publisher) → publisher.service_id ≡ (f.config).service_id → publisher.id ≡ f.next_port → IsLivePublisher (kept_of g) publisher
   created-live t made reached publisher service id =
-      let keeps = create-keeps environment (state_of (kept_of f)) (plain_publisher loans) t None made in
+      let keeps = create-keeps environment (state_of (kept_of f)) (plain_publisher loans len) t None made in
       publisher-live (kept_of g) _ (
         refl,
         service ∙ ap (λ (c : ServiceConfig). c.service_id) (sym (ap (λ (u : State T U). u.config) reached.state ∙ keeps.config)),
         subst (HoldsPublisher (state_of (kept_of g))) (sym id)
-            (subst (λ (u : State T U). HoldsPublisher u f.next_port) (sym reached.state) (create-holds environment (state_of (kept_of f)) (plain_publisher loans) t made)),
+            (subst (λ (u : State T U). HoldsPublisher u f.next_port) (sym reached.state) (create-holds environment (state_of (kept_of f)) (plain_publisher loans len) t made)),
       )

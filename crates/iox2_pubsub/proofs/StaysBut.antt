@@ -201,8 +201,8 @@ nothing-is-new start = record {
 }
 
 -- nothing changed
-pub stays-itself : {T U : Type 0} (kept : Kept T U) → Stays kept kept
-stays-itself kept = record {
+pub unchanged-stays : {T U : Type 0} (spent : Item) (kept : Kept T U) → StaysBut spent kept kept
+unchanged-stays spent kept = record {
   settings = refl;
   single_valued = λ was. was;
   publishers = λ key live other. live;
@@ -220,3 +220,6 @@ stays-itself kept = record {
   sample_headers = λ key header live has other. has;
   sample_user_headers = λ key header live has other. has;
 }
+
+pub stays-itself : {T U : Type 0} (kept : Kept T U) → Stays kept kept
+stays-itself kept = unchanged-stays No_item kept

@@ -9,6 +9,7 @@ use Rattle.iox2_store.specs.SlotContents.{ContentState}
 use Rattle.iox2_store.specs.machine.Environments.{ample_memory}
 use Rattle.iox2_store.specs.machine.Limits.{buffer_limit, worst_case, last_number}
 use Rattle.iox2_store.specs.machine.Loans.{GrantLoan, is_static}
+use Rattle.iox2_store.specs.machine.LoansLeft.{CanLend}
 use Rattle.iox2_store.specs.machine.Records.{Publisher}
 use Rattle.iox2_store.specs.machine.State.{State}
 use Rattle.iox2_store.specs.declared.errors.LoanError.{LoanError}
@@ -21,7 +22,7 @@ use Rattle.iox2_domain.specs.Ports.{PublisherFields}
 use Rattle.iox2_domain.specs.declared.loan_slots.LoanAt.{LoanAt}
 use Rattle.iox2_domain.proofs.lemmas.fields.ConnectionEnds.{publisher-stands}
 use Rattle.iox2_pubsub.proofs.LoansLeftShown.{lends-in, number-left}
-use Rattle.iox2_pubsub.specs.LoansLeft.{CanLend, HasLoansLeft, HasNumbersLeft}
+use Rattle.iox2_pubsub.specs.LoansLeft.{HasLoansLeft, HasNumbersLeft}
 use Rattle.iox2_pubsub.specs.declared.publisher.Publisher.{Publisher as PublisherHandle}
 
 -- The publisher has its slots in one segment, at least as many as the worst case for its limit of loans, and has fewer loans
@@ -88,9 +89,9 @@ module _ {T U : Type 0} where
   -- no loan is refused to a publisher that can't be
   pub sure-granted : (is_default : U → Type 0) (f new : Fields T U) → IsDomain f → (i : ℕ) (publisher : PublisherHandle)
       → ((x : PublisherFields) × (get_or f.publishers i None ≡ Some x) × (x.id ≡ publisher.id)) → (answer : Result LoanAt LoanError)
-      → IsSomeAnd (get_or f.publishers i None) (λ z. LoanReaches is_default f z answer new) → (e : LoanError) → answer ≡ Err e
+      → IsSomeAnd (get_or f.publishers i None) (λ z. LoanReaches is_default false 1 f z answer new) → (e : LoanError) → answer ≡ Err e
       → (kept : Kept T U) → kept_of f ≡ kept → IsSureOfLoan kept publisher → ⊥
   sure-granted is_default f new sound i publisher stands answer reaches e is kept view sure =
-      let here : LoanReaches is_default f stands.0 answer new = subst (λ (o : Option PublisherFields). IsSomeAnd o (λ z. LoanReaches is_default f z answer new)) stands.1 reaches in
-      let refused : LoanReaches {A = LoanAt} is_default f stands.0 (Err e) new = subst (λ (r : Result LoanAt LoanError). LoanReaches is_default f stands.0 r new) is here in
+      let here : LoanReaches is_default false 1 f stands.0 answer new = subst (λ (o : Option PublisherFields). IsSomeAnd o (λ z. LoanReaches is_default false 1 f z answer new)) stands.1 reaches in
+      let refused : LoanReaches {A = LoanAt} is_default false 1 f stands.0 (Err e) new = subst (λ (r : Result LoanAt LoanError). LoanReaches is_default false 1 f stands.0 r new) is here in
       unrefused f sound i stands.0 stands.1 publisher stands.2 (subst (λ (k : Kept T U). IsSureOfLoan k publisher) (sym view) sure) e refused.0

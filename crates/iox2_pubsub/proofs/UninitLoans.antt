@@ -1,5 +1,5 @@
 -- A loan of a single value, seen from outside.
-use Rattle.std.proofs.Common.{◌≡◌, ℕ, ◌*◌, replicate, false, cond, get_or, refl, ap, sym, subst, ◌∙◌, inl, inr, arith, Result, Ok, Err}
+use Rattle.std.proofs.Common.{◌≡◌, Bool, ℕ, ◌*◌, replicate, false, cond, get_or, refl, ap, sym, subst, ◌∙◌, inl, inr, arith, Result, Ok, Err}
 use Rattle.std.proofs.lemmas.Bool.{cases_eq, eq-eqb, ne_eqb}
 use Rattle.std.specs.declared.option.Option.{Option}
 use Rattle.std.specs.declared.option.Option.TheVariants.{None, Some}
@@ -44,12 +44,12 @@ module _ {T U : Type 0} (f : Fields T U) where
       let clash : None ≡ Some has.0 = sym nothing ∙ has.1 in
       absurd cc
 
-  module _ (is_default : U → Type 0) (new : Fields T U) (x : PublisherFields) (m : Messages T U) (s : State T U) (shown : Shows (kept_of f) m s) where
+  module _ (is_default : U → Type 0) (checks : Bool) (len : ℕ) (new : Fields T U) (x : PublisherFields) (m : Messages T U) (s : State T U) (shown : Shows (kept_of f) m s) where
     -- a loan that is refused changes nothing
-    pub refused-shows : (A : Type 0) (e : LoanError) → LoanReaches {A = LoanAt} is_default f x (Err e) new
-        → (s' : State T U) × Shows (kept_of new) m s' × LoanCall {A = A} is_default s x.id (Err e) s'
+    pub refused-shows : (A : Type 0) (e : LoanError) → LoanReaches {A = LoanAt} is_default checks len f x (Err e) new
+        → (s' : State T U) × Shows (kept_of new) m s' × LoanCall {A = A} is_default checks len s x.id (Err e) s'
     refused-shows A e reaches =
-        subst (λ (t : State T U). (s' : State T U) × Shows (kept_of new) m s' × LoanCall {A = A} is_default t x.id (Err e) s')
+        subst (λ (t : State T U). (s' : State T U) × Shows (kept_of new) m s' × LoanCall {A = A} is_default checks len t x.id (Err e) s')
         (sym shown.state) (state, reaches-shows-same f new m s state shown reaches.1 (ap (λ (t : State T U). t.next_message) (sym shown.state)) (ap (λ (t : State T U). t.loans) (sym shown.state)), (refl, reaches.0))
 
     -- no message was sent under the number of the new loan, or of an older one
@@ -62,11 +62,11 @@ module _ {T U : Type 0} (f : Fields T U) where
     ]
 
     -- a loan that is granted is shown
-    pub granted-shows : (A : Type 0) (loan : LoanAt) (answer : A) → LoanReaches {A = LoanAt} is_default f x (Ok loan) new
-        → (s' : State T U) × Shows (kept_of new) m s' × LoanCall {A = A} is_default s x.id (Ok answer) s'
+    pub granted-shows : (A : Type 0) (loan : LoanAt) (answer : A) → LoanReaches {A = LoanAt} is_default checks len f x (Ok loan) new
+        → (s' : State T U) × Shows (kept_of new) m s' × LoanCall {A = A} is_default checks len s x.id (Ok answer) s'
     granted-shows A loan answer reaches =
-        let s' : State T U = loan_granted reaches.0 state x.id (machine x) 1 x.segments in
-        subst (λ (t : State T U). (s' : State T U) × Shows (kept_of new) m s' × LoanCall {A = A} is_default t x.id (Ok answer) s')
+        let s' : State T U = loan_granted reaches.0 state x.id (machine x) len x.segments in
+        subst (λ (t : State T U). (s' : State T U) × Shows (kept_of new) m s' × LoanCall {A = A} is_default checks len t x.id (Ok answer) s')
         (sym shown.state) (
           s',
           reaches-shows f new m s s' shown reaches.3
@@ -76,15 +76,15 @@ module _ {T U : Type 0} (f : Fields T U) where
         )
 
   -- the new loan is out, and isn't written
-  granted-live : (is_default : U → Type 0) (new : Fields T U) (x : PublisherFields) (loan : SampleMutUninit) → loan.service_id ≡ (f.config).service_id
-      → IsNamed f x loan.loan → LoanReaches {A = LoanAt} is_default f x (Ok loan.loan) new → IsUnwrittenLoan (kept_of new) loan
-  granted-live is_default new x loan its names reaches =
-      let reached : state_of (kept_of new) ≡ loan_granted reaches.0 state x.id (machine x) 1 x.segments = reaches.3.state in
+  granted-live : (is_default : U → Type 0) (checks : Bool) (len : ℕ) (new : Fields T U) (x : PublisherFields) (loan : SampleMutUninit) → loan.service_id ≡ (f.config).service_id
+      → IsNamed f x loan.loan → LoanReaches {A = LoanAt} is_default checks len f x (Ok loan.loan) new → IsUnwrittenLoan (kept_of new) loan
+  granted-live is_default checks len new x loan its names reaches =
+      let reached : state_of (kept_of new) ≡ loan_granted reaches.0 state x.id (machine x) len x.segments = reaches.3.state in
       let lent : Loan T U = record {
         publisher = x.id;
-        header = record { node_id = (f.config).node_id; publisher_id = x.id; number_of_elements = 1 };
+        header = record { node_id = (f.config).node_id; publisher_id = x.id; number_of_elements = len };
         user_header = reaches.0;
-        cells = replicate (1 * (f.config).units_per_element) None;
+        cells = replicate (len * (f.config).units_per_element) None;
         is_written = false;
       } in
       unwritten-live (kept_of new) loan (its ∙ ap (λ (t : State T U). (t.config).service_id) (sym reached)) (
@@ -96,36 +96,36 @@ module _ {T U : Type 0} (f : Fields T U) where
         refl,
       )
 
-module _ {T U : Type 0} (is_default : U → Type 0) (f new : Fields T U) (i p : ℕ) (answer : Result LoanAt LoanError)
+module _ {T U : Type 0} (is_default : U → Type 0) (checks : Bool) (len : ℕ) (f new : Fields T U) (i p : ℕ) (answer : Result LoanAt LoanError)
     (stands : (x : PublisherFields) × (get_or f.publishers i None ≡ Some x) × (x.id ≡ p))
-    (reaches : IsSomeAnd (get_or f.publishers i None) (λ z. LoanReaches is_default f z answer new)) where
-  its : LoanReaches is_default f stands.0 answer new
-  its = subst (λ (o : Option PublisherFields). IsSomeAnd o (λ z. LoanReaches is_default f z answer new)) stands.1 reaches
+    (reaches : IsSomeAnd (get_or f.publishers i None) (λ z. LoanReaches is_default checks len f z answer new)) where
+  its : LoanReaches is_default checks len f stands.0 answer new
+  its = subst (λ (o : Option PublisherFields). IsSomeAnd o (λ z. LoanReaches is_default checks len f z answer new)) stands.1 reaches
 
   -- a loan that was refused
   pub err-shown : (A : Type 0) (e : LoanError) → answer ≡ Err e → (r : Result A LoanError) → IsErrAnd r (λ e'. e' ≡ e) → (kept : Kept T U) → kept_of f ≡ kept
-      → (m : Messages T U) (s : State T U) → Shows kept m s → (s' : State T U) × Shows (kept_of new) m s' × LoanCall {A = A} is_default s p r s'
+      → (m : Messages T U) (s : State T U) → Shows kept m s → (s' : State T U) × Shows (kept_of new) m s' × LoanCall {A = A} is_default checks len s p r s'
   err-shown A e is (Ok a) same kept view m s shown = absurd same
   err-shown A e is (Err e') same kept view m s shown =
-      subst (λ (q : ℕ). (s' : State T U) × Shows (kept_of new) m s' × LoanCall {A = A} is_default s q (Err e') s') stands.2
-      (refused-shows f is_default new stands.0 m s (subst (λ (k : Kept T U). Shows k m s) (sym view) shown) A e'
-      (subst (λ (r : Result LoanAt LoanError). LoanReaches is_default f stands.0 r new) (is ∙ ap Err (sym same)) its))
+      subst (λ (q : ℕ). (s' : State T U) × Shows (kept_of new) m s' × LoanCall {A = A} is_default checks len s q (Err e') s') stands.2
+      (refused-shows f is_default checks len new stands.0 m s (subst (λ (k : Kept T U). Shows k m s) (sym view) shown) A e'
+      (subst (λ (r : Result LoanAt LoanError). LoanReaches is_default checks len f stands.0 r new) (is ∙ ap Err (sym same)) its))
 
   -- a loan that was granted
   pub ok-shown : (A : Type 0) (a : A) (loan : LoanAt) → answer ≡ Ok loan → (kept : Kept T U) → kept_of f ≡ kept
-      → (m : Messages T U) (s : State T U) → Shows kept m s → (s' : State T U) × Shows (kept_of new) m s' × LoanCall {A = A} is_default s p (Ok a) s'
+      → (m : Messages T U) (s : State T U) → Shows kept m s → (s' : State T U) × Shows (kept_of new) m s' × LoanCall {A = A} is_default checks len s p (Ok a) s'
   ok-shown A a loan is kept view m s shown =
-      subst (λ (q : ℕ). (s' : State T U) × Shows (kept_of new) m s' × LoanCall {A = A} is_default s q (Ok a) s') stands.2
-      (granted-shows f is_default new stands.0 m s (subst (λ (k : Kept T U). Shows k m s) (sym view) shown) A loan a
-      (subst (λ (r : Result LoanAt LoanError). LoanReaches is_default f stands.0 r new) is its))
+      subst (λ (q : ℕ). (s' : State T U) × Shows (kept_of new) m s' × LoanCall {A = A} is_default checks len s q (Ok a) s') stands.2
+      (granted-shows f is_default checks len new stands.0 m s (subst (λ (k : Kept T U). Shows k m s) (sym view) shown) A loan a
+      (subst (λ (r : Result LoanAt LoanError). LoanReaches is_default checks len f stands.0 r new) is its))
 
   -- it is out
   pub ok-live : (loan : SampleMutUninit) → answer ≡ Ok loan.loan → IsSomeAnd (get_or f.publishers i None) (λ z. IsNamed f z loan.loan) → (kept : Kept T U) → kept_of f ≡ kept
       → loan.service_id ≡ (kept.config).service_id → IsUnwrittenLoan (kept_of new) loan
   ok-live loan is named kept view service =
-      granted-live f is_default new stands.0 loan (service ∙ sym (ap (λ (k : Kept T U). (k.config).service_id) view))
+      granted-live f is_default checks len new stands.0 loan (service ∙ sym (ap (λ (k : Kept T U). (k.config).service_id) view))
       (subst (λ (o : Option PublisherFields). IsSomeAnd o (λ z. IsNamed f z loan.loan)) stands.1 named)
-      (subst (λ (r : Result LoanAt LoanError). LoanReaches is_default f stands.0 r new) is its)
+      (subst (λ (r : Result LoanAt LoanError). LoanReaches is_default checks len f stands.0 r new) is its)
 
   -- it is the publisher's
   pub ok-publisher : (loan : LoanAt) → IsSomeAnd (get_or f.publishers i None) (λ z. IsNamed f z loan) → loan.publisher ≡ p

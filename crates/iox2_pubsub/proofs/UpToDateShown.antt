@@ -38,9 +38,9 @@ module _ {T U : Type 0} (old new : Kept T U) (m m' : Messages T U) (s s' : State
   stay : UpdatedStay s s' → UpToDateStay old new
   stay each subscriber is = up-to-date new m' s' shown' subscriber (each subscriber.id (up-to-date-in old m s shown subscriber is))
 
-  pub loan-leaves : {A : Type 0} (is_default : U → Type 0) (p : ℕ) (answer : Result A LoanError) → LoanCall is_default s p answer s' → UpToDateStay old new
-  loan-leaves is_default p (Ok a) h = stay (same_subscribers s s' (grant_loan_subscribers ample_memory h.0 false 1 s p s' None h.2))
-  loan-leaves is_default p (Err e) h = stay (same_subscribers s s' (ap (λ (t : State T U). t.subscribers) h.0))
+  pub loan-leaves : {A : Type 0} (is_default : U → Type 0) (checks : Bool) (len p : ℕ) (answer : Result A LoanError) → LoanCall is_default checks len s p answer s' → UpToDateStay old new
+  loan-leaves is_default checks len p (Ok a) h = stay (same_subscribers s s' (grant_loan_subscribers ample_memory h.0 checks len s p s' None h.2))
+  loan-leaves is_default checks len p (Err e) h = stay (same_subscribers s s' (ap (λ (t : State T U). t.subscribers) h.0))
 
   pub send-leaves : (environment : Environment) (n : ℕ) (l : Loan T U) (result : SendResult) → Send environment s n l s' result → UpToDateStay old new
   send-leaves environment n l result h = stay (same_subscribers s s' (send_subscribers environment s n l s' result h))

@@ -126,9 +126,9 @@ module _ {T U : Type 0} (old new : Kept T U) (m m' : Messages T U) (s s' : State
       (has.0, ap (λ (t : State T U). t.subscribers subscriber.id) shown.state ∙ has.1, has.2)
 
   -- a loan is granted, or refused
-  pub loan-waits : AreKept → {A : Type 0} (is_default : U → Type 0) (p : ℕ) (answer : Result A LoanError) → LoanCall is_default s p answer s' → payloads new ≡ payloads old
-  loan-waits sent is_default p (Ok a) h = payloads-stay sent (grant_loan_waits ample_memory h.0 false 1 s p s' None h.2)
-  loan-waits sent is_default p (Err e) h = payloads-stay sent (subst (SameWaits s) (sym h.0) (same_itself s))
+  pub loan-waits : AreKept → {A : Type 0} (is_default : U → Type 0) (checks : Bool) (len p : ℕ) (answer : Result A LoanError) → LoanCall is_default checks len s p answer s' → payloads new ≡ payloads old
+  loan-waits sent is_default checks len p (Ok a) h = payloads-stay sent (grant_loan_waits ample_memory h.0 checks len s p s' None h.2)
+  loan-waits sent is_default checks len p (Err e) h = payloads-stay sent (subst (SameWaits s) (sym h.0) (same_itself s))
 
   -- a sample is released
   pub release-waits : AreKept → (p q n : ℕ) → s' ≡ released s p q n → payloads new ≡ payloads old

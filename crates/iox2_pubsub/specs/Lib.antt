@@ -5,3 +5,7 @@ pub mod QuestionCalls
 pub mod UpdateCalls
 pub mod Payloads
 pub mod LoansLeft
+pub mod ChangedLoans
+pub mod LoanLends
+pub mod Slices
+pub mod WrittenLoans

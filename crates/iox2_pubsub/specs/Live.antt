@@ -10,7 +10,7 @@ use Rattle.iox2_store.specs.declared.header.Header.{Header}
 use Rattle.iox2_store.specs.declared.key.Key.{Key}
 use Rattle.iox2_store.specs.declared.service_config.TypeVariant.TheVariants.{FixedSize}
 use Rattle.iox2_domain.specs.Kept.{Kept, state_of, entries_of}
-use Rattle.iox2_domain.specs.LoanCalls.{HasCell, HasLoanHeader}
+use Rattle.iox2_domain.specs.LoanCalls.{HasCell, HasLoanHeader, HasLoanUserHeader}
 use Rattle.iox2_pubsub.specs.Payloads.{payloads_for}
 use Rattle.iox2_pubsub.specs.declared.publisher.Publisher.{Publisher}
 use Rattle.iox2_pubsub.specs.declared.subscriber.Subscriber.{Subscriber}
@@ -123,7 +123,7 @@ module _ {T U : Type 0} (domain : Kept T U) where
 
     -- The loan with this key has this user header.
     unfoldable pub LoanHasUserHeader : U → Type 0
-    LoanHasUserHeader header = (loan : Loan T U) × ((state_of domain).loans key.message ≡ Some loan) × (loan.user_header ≡ header)
+    LoanHasUserHeader header = HasLoanUserHeader (state_of domain) key.message header
 
     -- The sample with this key has this header.
     unfoldable pub SampleHasHeader : Header → Type 0

@@ -8,6 +8,7 @@ mod sample;
 mod sample_mut;
 mod sample_mut_uninit;
 mod send_outcome;
+pub mod slice;
 mod subscriber;
 mod update_connections;
 

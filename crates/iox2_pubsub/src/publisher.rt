@@ -4,6 +4,8 @@ ghost use Rattle.iox2_pubsub.specs.Live.{publisher_key};
 
 mod close;
 mod loan;
+mod loan_default;
+mod send_copy;
 mod update_connections;
 
 use crate::domain::Domain;

@@ -5,7 +5,7 @@ mod release;
 
 use crate::domain::Domain;
 use iox2_domain::SampleAt;
-use iox2_messages::{sample_header, sample_payload};
+use iox2_messages::{sample_header, sample_payload, sample_user_header};
 use iox2_store::{
     BackpressureFn, DegradationFn, Header, Key, UniquePublisherId, UniqueSubscriberId,
 };
@@ -25,7 +25,7 @@ impl Sample {
     ghost use Rattle.std.specs.Prelude.{[], ◌∷◌, Some};
     ghost use Rattle.iox2_store.specs.machine.Records.{Entry};
     ghost use Rattle.iox2_store.specs.machine.State.{State, Messages};
-    ghost use Rattle.iox2_pubsub.specs.Live.{IsFromOrigin, IsLiveSample, IsSingleValued, SampleHasHeader, SampleReads, sample_key};
+    ghost use Rattle.iox2_pubsub.specs.Live.{IsFromOrigin, IsLiveSample, IsSingleValued, SampleHasHeader, SampleHasUserHeader, SampleReads, sample_key};
     ghost use Rattle.iox2_domain.specs.Shows.{Shows};
 
     /// Names the sample among all that its domain has: by its subscriber and its number.
@@ -82,6 +82,22 @@ impl Sample {
         ensures same { (header : Header) → SampleHasHeader domain.now (sample_key self.now) header → result.now ≡ header }
     {
         sample_header(&domain.state, &self.sample)
+    }
+
+    /// The message's user header.
+    ///
+    /// iceoryx2's `Sample::user_header` (`src/sample.rs`).
+    pub fn user_header<'a, T: Drop, U: Default + Drop, F: BackpressureFn, G: DegradationFn>(
+        &self,
+        domain: &'a Domain<T, U, F, G>,
+    ) -> &'a U
+        requires { IsLiveSample domain.now self.now }
+        ensures header { (m : Messages T U) (s : State T U) → Shows domain.now m s
+            → (entry : Entry T U) × (m self.now.sample.number ≡ Some entry) × (entry.user_header ≡ result.now) }
+        ensures reads { SampleHasUserHeader domain.now (sample_key self.now) result.now }
+        ensures same { (header : U) → SampleHasUserHeader domain.now (sample_key self.now) header → result.now ≡ header }
+    {
+        sample_user_header(&domain.state, &self.sample)
     }
 
     /// Spends the handle of a sample whose domain is gone. A domain that is still there isn't told,

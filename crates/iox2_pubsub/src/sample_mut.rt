@@ -2,11 +2,13 @@
 ghost use Rattle.std.specs.Prelude.{◌≡◌};
 
 mod discard;
+mod payload_mut;
 mod send;
+mod user_header_mut;
 
 use crate::domain::Domain;
 use iox2_domain::LoanAt;
-use iox2_messages::{loan_header, loan_value};
+use iox2_messages::{loan_header, loan_user_header, loan_value};
 use iox2_store::{BackpressureFn, DegradationFn, Header, Key};
 
 /// A loan whose payload is written. It is a value to be spent: the domain keeps the loan until its
@@ -21,8 +23,8 @@ pub struct SampleMut {
 impl SampleMut {
     ghost use Rattle.std.specs.Prelude.{Some};
     ghost use Rattle.iox2_store.specs.machine.State.{State, Messages};
-    ghost use Rattle.iox2_pubsub.specs.Live.{IsLoanKey, IsSingleValued, IsWrittenLoan, LoanHasHeader, LoanReads, written_key};
-    ghost use Rattle.iox2_domain.specs.LoanCalls.{HasCell, HasLoanHeader};
+    ghost use Rattle.iox2_pubsub.specs.Live.{IsLoanKey, IsSingleValued, IsWrittenLoan, LoanHasHeader, LoanHasUserHeader, LoanReads, written_key};
+    ghost use Rattle.iox2_domain.specs.LoanCalls.{HasCell, HasLoanHeader, HasLoanUserHeader};
     ghost use Rattle.iox2_domain.specs.Shows.{Shows};
 
     /// The payload, in a domain of single values.
@@ -55,6 +57,21 @@ impl SampleMut {
         ensures same { (header : Header) → LoanHasHeader domain.now (written_key self.now) header → result.now ≡ header }
     {
         loan_header(&domain.state, &self.loan)
+    }
+
+    /// The user header.
+    ///
+    /// iceoryx2's `SampleMut::user_header` (`src/sample_mut.rs`).
+    pub fn user_header<'a, T: Drop, U: Default + Drop, F: BackpressureFn, G: DegradationFn>(
+        &self,
+        domain: &'a Domain<T, U, F, G>,
+    ) -> &'a U
+        requires { IsLoanKey domain.now (written_key self.now) }
+        ensures header { (m : Messages T U) (s : State T U) → Shows domain.now m s → HasLoanUserHeader s self.now.loan.number result.now }
+        ensures reads { LoanHasUserHeader domain.now (written_key self.now) result.now }
+        ensures same { (header : U) → LoanHasUserHeader domain.now (written_key self.now) header → result.now ≡ header }
+    {
+        loan_user_header(&domain.state, &self.loan)
     }
 
     /// Names the loan without being its handle. This library's own.

@@ -1,12 +1,15 @@
 //! A loan that isn't written.
 ghost use Rattle.std.specs.Prelude.{◌≡◌};
 
+mod assume_init;
 mod discard;
+mod payload_mut;
+mod user_header_mut;
 mod write_payload;
 
 use crate::domain::Domain;
 use iox2_domain::LoanAt;
-use iox2_messages::{loan_cell, loan_header};
+use iox2_messages::{loan_cell, loan_header, loan_user_header};
 use iox2_store::{BackpressureFn, DegradationFn, Header, Key};
 
 /// A loan whose payload isn't written. It is a value to be spent: the domain keeps the loan until
@@ -21,8 +24,8 @@ pub struct SampleMutUninit {
 impl SampleMutUninit {
     ghost use Rattle.std.specs.Prelude.{Option, Some};
     ghost use Rattle.iox2_store.specs.machine.State.{State, Messages};
-    ghost use Rattle.iox2_pubsub.specs.Live.{IsLoanKey, IsSingleValued, IsUnwrittenLoan, LoanHasHeader, UnwrittenReads, unwritten_key};
-    ghost use Rattle.iox2_domain.specs.LoanCalls.{HasCell, HasLoanHeader};
+    ghost use Rattle.iox2_pubsub.specs.Live.{IsLoanKey, IsSingleValued, IsUnwrittenLoan, LoanHasHeader, LoanHasUserHeader, UnwrittenReads, unwritten_key};
+    ghost use Rattle.iox2_domain.specs.LoanCalls.{HasCell, HasLoanHeader, HasLoanUserHeader};
     ghost use Rattle.iox2_domain.specs.Shows.{Shows};
 
     /// The payload, in a domain of single values, and `None` where it isn't written.
@@ -55,6 +58,21 @@ impl SampleMutUninit {
         ensures same { (header : Header) → LoanHasHeader domain.now (unwritten_key self.now) header → result.now ≡ header }
     {
         loan_header(&domain.state, &self.loan)
+    }
+
+    /// The user header.
+    ///
+    /// iceoryx2's `SampleMutUninit::user_header` (`src/sample_mut_uninit.rs`).
+    pub fn user_header<'a, T: Drop, U: Default + Drop, F: BackpressureFn, G: DegradationFn>(
+        &self,
+        domain: &'a Domain<T, U, F, G>,
+    ) -> &'a U
+        requires { IsLoanKey domain.now (unwritten_key self.now) }
+        ensures header { (m : Messages T U) (s : State T U) → Shows domain.now m s → HasLoanUserHeader s self.now.loan.number result.now }
+        ensures reads { LoanHasUserHeader domain.now (unwritten_key self.now) result.now }
+        ensures same { (header : U) → LoanHasUserHeader domain.now (unwritten_key self.now) header → result.now ≡ header }
+    {
+        loan_user_header(&domain.state, &self.loan)
     }
 
     /// Names the loan without being its handle. This library's own.

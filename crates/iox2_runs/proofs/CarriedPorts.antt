@@ -34,11 +34,11 @@ given_for limit buffer = record { buffer_size = elim buffer [ None ↦ limit | S
 
 module _ {T U : Type 0} (environment : Environment) (defaults : Defaults T U) (old new : Domain T U) (table : List Made) where
   -- what the command says in a service for single values is what the factory was told
-  settings_are : (loans len : ℕ) (s : State T U) → (s.config).variant ≡ FixedSize → plain_publisher loans ≡ publisher_settings (s.config).variant loans DiscardData Static len None Warn None
+  settings_are : (loans len : ℕ) (s : State T U) → (s.config).variant ≡ FixedSize → plain_publisher loans 1 ≡ publisher_settings (s.config).variant loans DiscardData Static len None Warn None
   settings_are loans len s e = ap (λ (v : TypeVariant). publisher_settings v loans DiscardData Static len None Warn None) (sym e)
 
   pub publisher_carried : (loans len : ℕ) (h : PublisherHandle) (id : ℕ) → (old.config).variant ≡ FixedSize
-      → ((m : Messages T U) (s : State T U) → Shows old m s → (s' : State T U) × Shows new m s' × ((h.id ≡ s.next_port) × CreatePublisher environment s (plain_publisher loans) s' None))
+      → ((m : Messages T U) (s : State T U) → Shows old m s → (s' : State T U) × Shows new m s' × ((h.id ≡ s.next_port) × CreatePublisher environment s (plain_publisher loans 1) s' None))
       → h.service_id ≡ (new.config).service_id → id ≡ h.id
       → Carries environment defaults old new table (PublisherCommand loans DiscardData Static len None Warn None) (PublisherMade id) table (MadePublisher h)
   publisher_carried loans len h id variant creates service same = λ m s handles events shown w default_value default_header is_value is_header.
@@ -53,7 +53,7 @@ module _ {T U : Type 0} (environment : Environment) (defaults : Defaults T U) (o
       (service ∙ sym (ap (λ (t : State T U). (t.config).service_id) (made.1).state))))
 
   pub publisher_denied : (loans len : ℕ) (e : PublisherCreateError) → (old.config).variant ≡ FixedSize
-      → ((m : Messages T U) (s : State T U) → Shows old m s → (s' : State T U) × Shows new m s' × CreatePublisher environment s (plain_publisher loans) s' (Some e))
+      → ((m : Messages T U) (s : State T U) → Shows old m s → (s' : State T U) × Shows new m s' × CreatePublisher environment s (plain_publisher loans 1) s' (Some e))
       → Carries environment defaults old new table (PublisherCommand loans DiscardData Static len None Warn None) (PublisherRefused e) table Nothing
   publisher_denied loans len e variant refuses = λ m s handles events shown w default_value default_header is_value is_header.
       let refused = refuses m s shown in

@@ -17,3 +17,8 @@ pub mod LeavingSteps
 pub mod CarriedCloses
 pub mod ComparedRuns
 pub mod FillingSupported
+pub mod TableCopies
+pub mod TableChanges
+pub mod CarriedCopies
+pub mod CarriedChanges
+pub mod CarriedHeaders

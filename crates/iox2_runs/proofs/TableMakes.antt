@@ -164,7 +164,7 @@ module _ {T U : Type 0} (environment : Environment) (defaults : Defaults T U) (S
   -- ---- a loan
 
   -- in another service nothing is named
-  other_service : {A : Type 0} (o : Option A) → (IsSingle s → ⊥) → if_single_units s (if_fixed_size s o) ≡ None
+  pub other_service : {A : Type 0} (o : Option A) → (IsSingle s → ⊥) → if_single_units s (if_fixed_size s o) ≡ None
   other_service {A} o other = by (eqb (s.config).units_per_element 1) refl where
     nothing : Option A
     nothing = None
@@ -183,7 +183,7 @@ module _ {T U : Type 0} (environment : Environment) (defaults : Defaults T U) (S
       ∙ ap (λ (v : TypeVariant). elim v [ FixedSize ↦ o | Dynamic ↦ None ]) single.0
 
   -- nothing is named in any service
-  none_named : {A : Type 0} (o : Option A) → o ≡ None → if_single_units s (if_fixed_size s o) ≡ None
+  pub none_named : {A : Type 0} (o : Option A) → o ≡ None → if_single_units s (if_fixed_size s o) ≡ None
   none_named {A} o e = by (eqb (s.config).units_per_element 1) (s.config).variant where
     nothing : Option A
     nothing = None

@@ -9,23 +9,31 @@ use Rattle.iox2_store.specs.declared.service_config.ServiceConfig.{ServiceConfig
 use Rattle.iox2_store.specs.declared.service_config.TypeVariant.TheVariants.{FixedSize}
 use Rattle.iox2_commands.specs.FillingCommands.{filling_commands}
 use Rattle.iox2_commands.specs.declared.command.Command.{Command}
-use Rattle.iox2_commands.specs.declared.command.Command.TheVariants.{Nothing, CreatePublisher, CreateSubscriber, LoanUninit, WriteAll, Send, Discard, Update, Receive, HasSamples, Read, Release, Close}
+use Rattle.iox2_commands.specs.declared.command.Command.TheVariants.{Nothing, CreatePublisher, CreateSubscriber, LoanUninit, Loan, WriteCell, WriteAll, AssumeInit, WriteHeader, SetPayload, Send, SendCopy, Discard, Update, Receive, HasSamples, Read, ReadHeader, ReadUserHeader, Release, Close}
 
 -- The command makes a port, with nothing set that a factory can't be told yet, updates one or closes one; or it takes a message
--- from its loan to its release, gives a loan back unsent, or asks whether messages wait.
+-- of a single value from its loan to its release, gives a loan back unsent, or asks whether messages wait.
 abbrev pub IsSupportedCommand : {T U : Type 0} → Command T U → Type 0
 IsSupportedCommand Nothing = Unit {0}
 IsSupportedCommand (CreatePublisher loans strategy allocation len override_slots degradation backpressure) =
     (strategy ≡ DiscardData) × (allocation ≡ Static) × (override_slots ≡ None) × (degradation ≡ Warn) × (backpressure ≡ None)
 IsSupportedCommand (CreateSubscriber buffer degradation) = degradation ≡ Warn
 IsSupportedCommand (LoanUninit of) = Unit {0}
+IsSupportedCommand (Loan of) = Unit {0}
+IsSupportedCommand (WriteCell of at value) = Unit {0}
 IsSupportedCommand (WriteAll of value) = Unit {0}
+IsSupportedCommand (AssumeInit of) = Unit {0}
+IsSupportedCommand (WriteHeader of value) = Unit {0}
+IsSupportedCommand (SetPayload of at value) = Unit {0}
 IsSupportedCommand (Send of) = Unit {0}
+IsSupportedCommand (SendCopy of value) = Unit {0}
 IsSupportedCommand (Discard of) = Unit {0}
 IsSupportedCommand (Update of) = Unit {0}
 IsSupportedCommand (Receive of) = Unit {0}
 IsSupportedCommand (HasSamples of) = Unit {0}
 IsSupportedCommand (Read of at) = Unit {0}
+IsSupportedCommand (ReadHeader of) = Unit {0}
+IsSupportedCommand (ReadUserHeader of) = Unit {0}
 IsSupportedCommand (Release of) = Unit {0}
 IsSupportedCommand (Close of) = Unit {0}
 IsSupportedCommand _ = ⊥

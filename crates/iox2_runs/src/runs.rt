@@ -17,8 +17,11 @@ ghost use Rattle.iox2_runs.specs.DomainRuns.{RunsOnDomain};
 ghost use Rattle.iox2_runs.specs.Supported.{IsSupportedCommand};
 ghost use Rattle.iox2_runs.specs.declared.runs.made.Made.TheVariants.{Nothing};
 
+mod changes;
 mod closes;
+mod copies;
 mod discards;
+mod headers;
 mod loans;
 mod made;
 mod ports;
@@ -71,15 +74,38 @@ fn carry_out<
             ports::create_subscriber(domain, table, buffer)
         }
         Command::LoanUninit { of } => loans::loan_uninit(domain, table, of),
+        Command::Loan { of } => copies::loan(domain, table, of),
+        Command::WriteCell { of, at, value } => (
+            changes::write_cell(domain, table, of, at, value),
+            Made::Nothing,
+        ),
         Command::WriteAll { of, value } => {
             (loans::write_all(domain, table, of, value), Made::Nothing)
         }
+        Command::AssumeInit { of } => { (changes::assume_init(domain, table, of), Made::Nothing) }
+        Command::WriteHeader { of, value } => {
+            (
+                changes::write_header(domain, table, of, value),
+                Made::Nothing,
+            )
+        }
+        Command::SetPayload { of, at, value } => (
+            changes::set_payload(domain, table, of, at, value),
+            Made::Nothing,
+        ),
         Command::Send { of } => (loans::send(domain, table, of), Made::Nothing),
+        Command::SendCopy { of, value } => {
+            (copies::send_copy(domain, table, of, value), Made::Nothing)
+        }
         Command::Discard { of } => (discards::discard(domain, table, of), Made::Nothing),
         Command::Update { of } => (updates::update(domain, table, of), Made::Nothing),
         Command::Receive { of } => samples::receive(domain, table, of),
         Command::HasSamples { of } => (questions::has_samples(domain, table, of), Made::Nothing),
         Command::Read { of, at } => (samples::read(domain, table, of, at), Made::Nothing),
+        Command::ReadHeader { of } => (headers::read_header(domain, table, of), Made::Nothing),
+        Command::ReadUserHeader { of } => {
+            (headers::read_user_header(domain, table, of), Made::Nothing)
+        }
         Command::Release { of } => (samples::release(domain, table, of), Made::Nothing),
         Command::Close { of } => (closes::close(domain, table, of), Made::Nothing),
         Command::Nothing => (Reply::Done, Made::Nothing),
@@ -103,8 +129,8 @@ fn carry_out<
 /// first. Where it is refused the commands are handed back, and none was carried out.
 ///
 /// So far a publisher discards what a full receiver doesn't take, has one segment and no handlers,
-/// and a command is one of those that make, update or close ports, take a message from its loan to
-/// its release, give a loan back unsent, or ask whether messages wait.
+/// and a command is one of those that make, update or close ports, take a message of a single value
+/// from its loan to its release, give a loan back unsent, or ask whether messages wait.
 pub fn run<T: Copy + Default + Drop, U: Copy + Default + Drop, F: BackpressureFn, G: DegradationFn>(
     alloc: Global,
     domain: &mut Domain<T, U, F, G>,

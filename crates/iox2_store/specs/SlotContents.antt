@@ -1,16 +1,19 @@
 -- What contracts see of the contents of a publisher's slots.
-use Rattle.std.specs.Prelude.{◌≡◌, ℕ, List, [], ◌∷◌, replicate, slice_get, slice_set, IsSomeAnd}
+use Rattle.std.specs.Prelude.{◌≡◌, ℕ, Bool, List, [], ◌∷◌, length, map, replicate, slice_get, slice_set, is_some, IsSomeAnd}
+use Rattle.std.specs.Bool.{MatchBool}
+use Rattle.std.specs.List.{list_all, refill}
 use Rattle.std.specs.declared.option.Option.{Option}
-use Rattle.std.specs.declared.option.Option.TheVariants.{None}
+use Rattle.std.specs.declared.option.Option.TheVariants.{None, Some}
 use Rattle.std.specs.Option.{option_map, option_map_or, option_and_then}
 
--- What lies in a slot: a user header, the cells of an unwritten loan, the values of a written loan or a sent message,
--- and for how many elements there is room.
+-- What lies in a slot: a user header, the cells of an unwritten loan, the values of a written loan or a sent message, for
+-- how many elements there is room, and whether a single element lies in the slot itself, so that it is no list.
 pub record ContentState (T U : Type 0) : Type 0 where
   pub user_header : U
   pub cells : List (Option T)
   pub values : List T
   pub room : ℕ
+  pub is_in_place : Bool
 
 -- The list with f of the element at index i in its place.
 abbrev pub with_changed : {A : Type 0} → List A → (i : ℕ) → (A → A) → List A
@@ -25,9 +28,33 @@ module _ {T U : Type 0} where
   abbrev pub unwritten_content : (user_header : U) → (len : ℕ) → ContentState T U → ContentState T U
   unwritten_content user_header len content = record content { user_header = user_header; cells = replicate len None; values = [] }
 
-  -- The content of a loan of one element that is written: this value, and no cells.
-  abbrev pub written_content : (value : T) → ContentState T U → ContentState T U
-  written_content value content = record content { cells = []; values = value ∷ [] }
+  -- The content of a loan that is written: these values, and no cells.
+  abbrev pub written_content : (values : List T) → ContentState T U → ContentState T U
+  written_content values content = record content { cells = []; values = values }
+
+  -- ---- what a reference into a content leaves
+
+  -- The content with its first cell changed.
+  abbrev pub with_first_cell : (cell : Option T) → ContentState T U → ContentState T U
+  with_first_cell cell content = record content { cells = slice_set content.cells 0 cell }
+
+  -- The content with its cells changed. They stay as many.
+  abbrev pub with_cells : (cells : List (Option T)) → ContentState T U → ContentState T U
+  with_cells cells content = record content { cells = refill (length content.cells) content.cells cells }
+
+  -- The content with its first value changed.
+  abbrev pub with_first_value : (value : T) → ContentState T U → ContentState T U
+  with_first_value value content = record content { values = slice_set content.values 0 value }
+
+  -- The content with its values changed. They stay as many.
+  abbrev pub with_values : (values : List T) → ContentState T U → ContentState T U
+  with_values values content = record content { values = refill (length content.values) content.values values }
+
+  -- The content with its user header changed.
+  abbrev pub with_user_header : (user_header : U) → ContentState T U → ContentState T U
+  with_user_header user_header content = record content { user_header = user_header }
+
+  -- ---- what lies at a slot
 
   -- The slot's user header.
   abbrev pub user_header_at : List (ContentState T U) → (slot : ℕ) → Option U
@@ -54,3 +81,18 @@ module _ {T U : Type 0} where
     pub user_header : U
     pub default : is_default user_header
     pub started : new ≡ with_changed old slot (unwritten_content user_header len)
+
+  -- The slot's cells became these values, and it has no cells. Nothing else changes.
+  pub record WritesValues (old new : List (ContentState T U)) (slot : ℕ) (values : List T) : Type 0 where
+    pub content : ContentState T U
+    pub had : slice_get old slot ≡ Some content
+    pub count : length values ≡ length content.cells
+    pub written : new ≡ with_changed old slot (written_content values)
+
+  -- The cells of a slot were taken as written, or nothing changed since some cell isn't.
+  abbrev pub AssumesWritten : (old new : List (ContentState T U)) → (slot : ℕ) → (is_written : Bool) → Type 0
+  AssumesWritten old new slot is_written =
+      (content : ContentState T U) × (slice_get old slot ≡ Some content) × (is_written ≡ list_all is_some content.cells)
+      × MatchBool is_written
+      ((values : List T) × (map Some values ≡ content.cells) × (new ≡ with_changed old slot (written_content values)))
+      (new ≡ old)

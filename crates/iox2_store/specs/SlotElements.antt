@@ -1,5 +1,6 @@
 -- The elements of a payload that isn't a single value, which no public contract shows.
-use Rattle.std.specs.Prelude.{ℕ, List, [], ◌∷◌, replicate}
+use Rattle.std.specs.Prelude.{ℕ, List, [], ◌∷◌, length, replicate, slice_set}
+use Rattle.std.specs.List.{refill}
 use Rattle.std.specs.declared.option.Option.{Option}
 use Rattle.std.specs.declared.option.Option.TheVariants.{None}
 
@@ -15,6 +16,22 @@ module _ {T : Type 0} where
   abbrev pub unwritten_elements : (len : ℕ) → ElementLists T → ElementLists T
   unwritten_elements len elements = record elements { cells = replicate len None; values = [] }
 
-  -- One value, and no cells.
-  abbrev pub written_element : (value : T) → ElementLists T → ElementLists T
-  written_element value elements = record elements { cells = []; values = value ∷ [] }
+  -- These values, and no cells.
+  abbrev pub written_elements : (values : List T) → ElementLists T → ElementLists T
+  written_elements values elements = record elements { cells = []; values = values }
+
+  -- The first cell changed.
+  abbrev pub with_first_cell : (cell : Option T) → ElementLists T → ElementLists T
+  with_first_cell cell elements = record elements { cells = slice_set elements.cells 0 cell }
+
+  -- The cells changed.
+  abbrev pub with_cells : (cells : List (Option T)) → ElementLists T → ElementLists T
+  with_cells cells elements = record elements { cells = refill (length elements.cells) elements.cells cells }
+
+  -- The first value changed.
+  abbrev pub with_first_value : (value : T) → ElementLists T → ElementLists T
+  with_first_value value elements = record elements { values = slice_set elements.values 0 value }
+
+  -- The values changed.
+  abbrev pub with_values : (values : List T) → ElementLists T → ElementLists T
+  with_values values elements = record elements { values = refill (length elements.values) elements.values values }

@@ -8,7 +8,7 @@ ghost use Rattle.iox2_store.specs.declared.degradation.DegradationInfo.{Degradat
 /// iceoryx2's `port::DegradationAction` (`src/port/mod.rs`).
 #[derive(Debug, Clone, Copy, PartialEq, Eq)]
 pub enum DegradationAction {
-    /// Go on without the connection and say nothing.
+    /// Go on without the connection, which is counted and nothing more.
     Ignore,
     /// Go on without the connection, and add `Warning::ConnectionNotMade` to the domain's
     /// warnings.

@@ -1,5 +1,6 @@
 ghost use Rattle.std.specs.Prelude.{◌≡◌};
 ghost use Rattle.iox2_store.specs.Defaults.{default_config};
+ghost use Rattle.iox2_store.specs.SingleValues.{is_single_valued};
 
 use crate::allocation::AllocationStrategy;
 use crate::backpressure::BackpressureStrategy;
@@ -89,5 +90,12 @@ impl ServiceConfig {
             backpressure_strategy: BackpressureStrategy::RetryUntilDelivered,
             publisher_allocation_strategy: AllocationStrategy::Static,
         }
+    }
+
+    /// Whether each message is a single value of one unit.
+    pub fn is_single_valued(&self) -> bool
+        ensures { result ≡ is_single_valued self.now }
+    {
+        self.variant == TypeVariant::FixedSize && self.units_per_element == 1
     }
 }

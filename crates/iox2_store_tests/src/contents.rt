@@ -16,7 +16,7 @@ struct Station {
 
 #[test]
 fn a_loan_starts_with_empty_cells(rt: HostRuntime) {
-    let mut contents: Contents<Reading, Station> = Contents::new(rt.alloc(), 2, 3).expect(
+    let mut contents: Contents<Reading, Station> = Contents::new(rt.alloc(), 2, 3, true).expect(
         &rt, "room",
     );
     contents.start(0, 3);
@@ -31,7 +31,7 @@ fn a_loan_starts_with_empty_cells(rt: HostRuntime) {
 
 #[test]
 fn a_payload_is_written_and_read(rt: HostRuntime) {
-    let mut contents: Contents<Reading, Station> = Contents::new(rt.alloc(), 2, 3).expect(
+    let mut contents: Contents<Reading, Station> = Contents::new(rt.alloc(), 2, 3, true).expect(
         &rt, "room",
     );
     contents.start(0, 3);
@@ -51,7 +51,7 @@ fn a_payload_is_written_and_read(rt: HostRuntime) {
 
 #[test]
 fn a_single_value_is_written_and_read(rt: HostRuntime) {
-    let mut contents: Contents<Reading, Station> = Contents::new(rt.alloc(), 2, 1).expect(
+    let mut contents: Contents<Reading, Station> = Contents::new(rt.alloc(), 2, 1, false).expect(
         &rt, "room",
     );
     contents.start(0, 1);
@@ -65,4 +65,58 @@ fn a_single_value_is_written_and_read(rt: HostRuntime) {
     let other = contents.value(0).celsius;
     drop(contents);
     assert!(rt; is_empty && written == [21, 22] && is_empty_again && other == 22);
+}
+
+#[test]
+fn a_slice_of_one_lies_in_a_list_where_it_is_to(rt: HostRuntime) {
+    let mut contents: Contents<Reading, Station> = Contents::new(rt.alloc(), 1, 1, true).expect(
+        &rt, "room",
+    );
+    contents.start(0, 1);
+    contents.cells_mut(0)[0] = Some(Reading { celsius: 21 });
+    let is_written = contents.assume_init(0);
+    let celsius = contents.values(0)[0].celsius;
+    contents.value_mut(0).celsius = 22;
+    let changed = contents.values(0)[0].celsius;
+    drop(contents);
+    assert!(rt; is_written && celsius == 21 && changed == 22);
+}
+
+#[test]
+fn cells_are_taken_only_once_each_is_written(rt: HostRuntime) {
+    let mut contents: Contents<Reading, Station> = Contents::new(rt.alloc(), 1, 2, true).expect(
+        &rt, "room",
+    );
+    contents.start(0, 2);
+    contents.cells_mut(0)[1] = Some(Reading { celsius: 21 });
+    let is_written = contents.assume_init(0);
+    let kept = [
+        contents.cells(0)[0].is_none(),
+        contents.cells(0)[1].is_some(),
+    ];
+    contents.cells_mut(0)[0] = Some(Reading { celsius: 20 });
+    let is_written_later = contents.assume_init(0);
+    let values = [contents.values(0)[0].celsius, contents.values(0)[1].celsius];
+    drop(contents);
+    assert!(rt; !is_written && kept == [true, true] && is_written_later && values == [20, 21]);
+}
+
+#[test]
+fn a_slice_is_written_from_a_function_in_order(rt: HostRuntime) {
+    let mut contents: Contents<u64, Station> = Contents::new(rt.alloc(), 1, 12, true).expect(
+        &rt, "room",
+    );
+    contents.start(0, 12);
+    contents.write_from_fn(0, |index| index as u64 * 1234);
+    contents.values_mut(0)[0] = 42;
+    let values = [
+        contents.values(0)[0],
+        contents.values(0)[1],
+        contents.values(0)[11],
+    ];
+    contents.start(0, 3);
+    contents.write_from_slice(0, &[1, 2, 3]);
+    let copied = [contents.values(0)[0], contents.values(0)[2]];
+    drop(contents);
+    assert!(rt; values == [42, 1234, 13574] && copied == [1, 3]);
 }

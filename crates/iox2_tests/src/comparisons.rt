@@ -1,6 +1,7 @@
 //! Two runs of commands that differ in what one subscriber does.
-ghost use Rattle.std.specs.Prelude.{IfOk};
+ghost use Rattle.std.specs.Prelude.{◌≡◌, true, IfOk};
 ghost use Rattle.std.specs.List.{All};
+ghost use Rattle.iox2_commands.specs.Refusals.{TellNoRefusal};
 ghost use Rattle.iox2_runs.specs.Supported.{IsSupportedCommand};
 
 use crate::fixtures::settings;
@@ -247,4 +248,63 @@ fn a_subscriber_sees_the_same_where_it_is_closed_with_a_sample(rt: HostRuntime) 
     without[6] = Reply::Done;
     assert!(rt; replies.as_slice() == answers_with_a_sample().as_slice());
     assert!(rt; others.as_slice() == without.as_slice());
+}
+
+// After 33 subscribers two more are made. The first of these receives a message, or doesn't.
+fn after_many_subscribers(alloc: Global, receives: bool) -> Result<Commands, AllocError>
+    ensures { IfOk result (λ commands. All IsSupportedCommand commands.items) }
+{
+    let last = [
+        SUBSCRIBER,
+        SUBSCRIBER,
+        PUBLISHER,
+        Command::LoanUninit { of: 35 },
+        Command::WriteAll { of: 36, value: 1 },
+        Command::Send { of: 36 },
+        if_kept(receives, Command::Receive { of: 33 }),
+        Command::Receive { of: 34 },
+        Command::Read { of: 40, at: 0 },
+    ];
+    let mut commands = Vec::from_array(alloc, [SUBSCRIBER; 33])?;
+    commands.extend_from_slice(&last)?;
+    Ok(commands)
+}
+
+// Whether the domain of a run was refused no connection, as the law of two runs asks.
+fn met_no_refusal(end: &End) -> bool
+    ensures { result ≡ true → TellNoRefusal (end.now.0).warnings }
+{
+    end.0.refused_connections() == 0
+}
+
+// Of each subscriber there is a warning, so that more are told than a domain keeps. No connection is refused.
+#[test]
+fn runs_are_compared_after_more_warnings_than_are_kept(rt: HostRuntime) {
+    let config = ServiceConfig {
+        max_subscribers: 35,
+        subscriber_max_buffer_size: 1,
+        subscriber_max_borrowed_samples: 1,
+        subscriber_expired_connection_buffer: 0,
+        ..settings()
+    };
+    let commands = after_many_subscribers(rt.alloc(), true).expect(&rt, "commands");
+    let reduced = after_many_subscribers(rt.alloc(), false).expect(&rt, "fewer commands");
+    let ends: Option<(End, End)> = compare_runs(rt.alloc(), &config, commands, reduced);
+    let (first, second) = ends.expect(&rt, "two runs");
+    assert!(rt; met_no_refusal(&first) && met_no_refusal(&second));
+    let publisher = UniquePublisherId::new(36);
+    let expected: [Reply<u64, u8>; 6] = [
+        Reply::Loaned,
+        Reply::Done,
+        Reply::Delivered(35),
+        Reply::Sample(publisher),
+        Reply::Sample(publisher),
+        Reply::Cell(Some(1)),
+    ];
+    let mut without = expected;
+    without[3] = Reply::Done;
+    let replies = replies_of(first);
+    let others = replies_of(second);
+    assert!(rt; replies[36..] == expected[..]);
+    assert!(rt; others[36..] == without[..]);
 }

@@ -69,11 +69,12 @@ IsCommandLine words (command.CreatePublisher loans strategy allocation initial_m
 -- `sub B`: a subscriber with this buffer.
 IsCommandLine words (command.CreateSubscriber buffer degradation) =
     HasForm words (codes "sub") 2 × IsNumber (words.word 1) × (buffer ≡ Some (value_of (words.word 1))) × (degradation ≡ Warn)
--- `loan N`, `write N V`, `send N`, `discard N`, `update N`, `recv N`, `has N`, `read N`, `release N`, `close N`: calls of a port or of
--- a single value.
+-- `loan N`, `write N V`, `send N`, `copy N V`, `discard N`, `update N`, `recv N`, `has N`, `read N`, `release N`, `close N`: calls of a
+-- port or of a single value.
 IsCommandLine words (command.LoanUninit of) = HasForm words (codes "loan") 2 × IsNameAt words 1 of
 IsCommandLine words (command.WriteAll of value) = HasForm words (codes "write") 3 × IsNameAt words 1 of × IsNumberAt words 2 value
 IsCommandLine words (command.Send of) = HasForm words (codes "send") 2 × IsNameAt words 1 of
+IsCommandLine words (command.SendCopy of value) = HasForm words (codes "copy") 3 × IsNameAt words 1 of × IsNumberAt words 2 value
 IsCommandLine words (command.Discard of) = HasForm words (codes "discard") 2 × IsNameAt words 1 of
 IsCommandLine words (command.Update of) = HasForm words (codes "update") 2 × IsNameAt words 1 of
 IsCommandLine words (command.Receive of) = HasForm words (codes "recv") 2 × IsNameAt words 1 of

@@ -143,6 +143,10 @@ fn parse_command(words: &[&str]) -> Option<Command<u64, u64>>
             of: parse_name(of)?,
             value: parse_number(value)?,
         },
+        ["copy", of, value] => Command::SendCopy {
+            of: parse_name(of)?,
+            value: parse_number(value)?,
+        },
         [call, of] => {
             let of = parse_name(of)?;
             match call {

@@ -8,6 +8,7 @@
 ghost use Rattle.iox2_pubsub.specs.Live.{IsLiveSubscriber, IsSingleValued, Stays};
 ghost use Rattle.iox2_pubsub.specs.LoansLeft.{HasNumbersLeft};
 
+mod correction;
 mod failure;
 mod reading;
 mod report;

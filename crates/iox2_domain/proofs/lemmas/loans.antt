@@ -9,5 +9,8 @@ pub mod Loaned
 pub mod LoanSlots
 pub mod RemovedSlots
 pub mod LoansOut
+pub mod LoanChanges
 pub mod LoanCalls
-pub mod WrittenLoan
+pub mod ChangedLoan
+pub mod KeptLoan
+pub mod LentLoans

@@ -13,10 +13,10 @@ pub mod ConnectionSlots
 pub mod PublisherBooks
 pub mod NewBook
 pub mod NumbersInUse
+pub mod SlotRoom
 pub mod SlotsInUse
 pub mod Renumbered
 pub mod Recounts
 pub mod RecountedFields
 pub mod RecountedLoans
-pub mod RecountedState
 pub mod ReclaimSteps

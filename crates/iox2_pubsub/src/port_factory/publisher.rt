@@ -31,7 +31,7 @@ impl Model for PortFactoryPublisher {
 
     ghost Value = { PublisherSettings };
 
-    ghost view = { λ factory. plain_publisher factory.max_loaned_samples };
+    ghost view = { λ factory. plain_publisher factory.max_loaned_samples 1 };
 }
 
 impl<T: Drop, U: Default + Drop, F: BackpressureFn, G: DegradationFn> Domain<T, U, F, G> {
@@ -39,7 +39,7 @@ impl<T: Drop, U: Default + Drop, F: BackpressureFn, G: DegradationFn> Domain<T, 
     ///
     /// iceoryx2's `publisher_builder` of a service's factory of ports.
     pub fn publisher_builder(&self) -> PortFactoryPublisher
-        ensures { result ≡ plain_publisher (self.now.config).publisher_max_loaned_samples }
+        ensures { result ≡ plain_publisher (self.now.config).publisher_max_loaned_samples 1 }
     {
         PortFactoryPublisher {
             max_loaned_samples: self.state.config().publisher_max_loaned_samples,
@@ -90,7 +90,7 @@ impl PortFactoryPublisher {
         ensures stays { Stays domain.old domain.new }
     {
         let service_id = domain.state.config().service_id;
-        let port = create_publisher(&mut domain.state, self.max_loaned_samples)?;
+        let port = create_publisher(&mut domain.state, self.max_loaned_samples, 1)?;
         Ok(Publisher {
             service_id,
             id: port.id,

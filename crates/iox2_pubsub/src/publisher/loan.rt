@@ -1,5 +1,5 @@
 //! A publisher lends a message.
-ghost use Rattle.std.specs.Prelude.{◌≡◌, ◌+◌, ℕ, IfOk, IsOk};
+ghost use Rattle.std.specs.Prelude.{◌≡◌, ◌+◌, ℕ, IfOk, IsOk, OnErr, false};
 
 use crate::domain::Domain;
 use crate::publisher::Publisher;
@@ -10,7 +10,7 @@ use iox2_store::{BackpressureFn, DegradationFn, Key, LoanError, UniquePublisherI
 impl Publisher {
     ghost use Rattle.iox2_store.specs.machine.State.{State, Messages};
     ghost use Rattle.iox2_pubsub.specs.Live.{HasLender, IsLivePublisher, IsSingleValued, IsUnwrittenLoan, IsNewIn, Stays, lender_key, publisher_key, unwritten_key, unwritten_loan, UpToDateStay, payloads};
-    ghost use Rattle.iox2_pubsub.specs.LoansLeft.{HasLoansLeft, HasNumbersLeft, TakesOneLeft};
+    ghost use Rattle.iox2_pubsub.specs.LoansLeft.{HasLoansLeft, HasNumbersLeft, LoansLeftStay, TakesOneLeft};
     ghost use Rattle.iox2_domain.specs.Lending.{LoanCall};
     ghost use Rattle.iox2_domain.specs.Shows.{Shows};
 
@@ -36,7 +36,7 @@ impl Publisher {
     ) -> Result<SampleMutUninit, LoanError>
         requires live { IsLivePublisher domain.old self.now }
         requires single_valued { IsSingleValued domain.old }
-        ensures lends { (m : Messages T U) (s : State T U) → Shows domain.old m s → (s' : State T U) × Shows domain.new m s' × LoanCall U.is_default s self.now.id result s' }
+        ensures lends { (m : Messages T U) (s : State T U) → Shows domain.old m s → (s' : State T U) × Shows domain.new m s' × LoanCall U.is_default false 1 s self.now.id result s' }
         ensures granted { (loans numbers : ℕ) → HasLoansLeft domain.old self.now (loans + 1) → HasNumbersLeft domain.old (numbers + 1) → IsOk result }
         ensures live { IfOk result (λ loan. IsUnwrittenLoan domain.new loan) }
         ensures new { IfOk result (λ loan. IsNewIn domain.old (unwritten_loan loan)) }
@@ -47,10 +47,11 @@ impl Publisher {
         ensures waits { payloads domain.new ≡ payloads domain.old }
         ensures up_to_date { UpToDateStay domain.old domain.new }
         ensures loans_left { TakesOneLeft self.now domain.old domain.new }
+        ensures refused { OnErr result (LoansLeftStay domain.old domain.new) }
         ensures stays { Stays domain.old domain.new }
     {
         let place = domain.state.find_live_publisher(self.id, self.place);
-        let loan = loan(&mut domain.state, place)?;
+        let loan = loan(&mut domain.state, place, false, 1)?;
         Ok(SampleMutUninit {
             service_id: self.service_id,
             loan,

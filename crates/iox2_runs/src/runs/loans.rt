@@ -88,8 +88,8 @@ pub(crate) fn send<T: Default + Drop, U: Default + Drop, F: BackpressureFn, G: D
     }
 }
 
-// How many receivers took the message.
-fn delivered_count(outcome: SendOutcome) -> usize
+/// How many receivers took the message.
+pub(crate) fn delivered_count(outcome: SendOutcome) -> usize
     ensures { sent_result outcome ≡ Delivered_to result }
 {
     match outcome {

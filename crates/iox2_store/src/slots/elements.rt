@@ -1,6 +1,9 @@
 //! The elements of a payload that isn't a single value.
-ghost use Rattle.std.specs.Prelude.{◌≡◌, ◌<◌, ◌≤◌, [], ◌∷◌, length, replicate, vec_capacity, None, IfOk};
-ghost use Rattle.iox2_store.specs.SlotElements.{unwritten_elements, written_element};
+ghost use Rattle.std.specs.Prelude.{◌≡◌, ◌<◌, ◌≤◌, [], ◌∷◌, length, map, replicate, slice_get, vec_capacity, true, false, None, Some, IsSome, IfOk, is_some};
+ghost use Rattle.std.specs.Borrow.{sem};
+ghost use Rattle.std.specs.List.{All, list_all};
+ghost use Rattle.iox2_store.specs.SlotCalls.{AnswersInOrder};
+ghost use Rattle.iox2_store.specs.SlotElements.{unwritten_elements, written_elements};
 
 use std::alloc::{AllocError, Global};
 use std::marker::Model;
@@ -54,15 +57,59 @@ impl<T: Drop> Elements<T> {
     /// Writes the value of a single cell.
     pub(crate) fn write(&mut self, value: T)
         requires { length self.old.cells ≡ 1 }
-        ensures { self.new ≡ written_element value self.old }
+        ensures { self.new ≡ written_elements (value ∷ []) self.old }
     {
         self.cells.clear();
         self.values.clear();
         self.values.push_reserved(value);
     }
+
+    /// Writes into each cell what the function returns for its index, which is called for 0, 1 and
+    /// so on.
+    pub(crate) fn write_from_fn<F: FnMut(usize) -> T + Drop>(&mut self, f: F)
+        requires { F.IsAlwaysCallable f }
+        ensures answers { AnswersInOrder F.step f self.new.values }
+        ensures count { length self.new.values ≡ length self.old.cells }
+        ensures written { self.new ≡ written_elements self.new.values self.old }
+    {
+        let count = self.cells.len();
+        self.cells.clear();
+        self.values.clear();
+        push_calls(&mut self.values, count, f);
+    }
+
+    /// Takes the cells as written. Nothing changes where some cell isn't.
+    pub(crate) fn assume_init(&mut self) -> bool
+        ensures all { result ≡ list_all is_some self.old.cells }
+        ensures refused { result ≡ false → self.new ≡ self.old }
+        ensures values { result ≡ true → map Some self.new.values ≡ self.old.cells }
+        ensures written { result ≡ true → self.new ≡ written_elements self.new.values self.old }
+    {
+        if !are_written(self.cells.as_slice()) {
+            return false;
+        }
+        self.values.clear();
+        move_values(self.cells.as_mut_slice(), &mut self.values);
+        self.cells.clear();
+        true
+    }
+}
+
+impl<T: Copy + Drop> Elements<T> {
+    /// Writes copies of the values, one into each cell.
+    pub(crate) fn write_from_slice(&mut self, values: &[T])
+        requires { length values.now ≡ length self.old.cells }
+        ensures { self.new ≡ written_elements values.now self.old }
+    {
+        self.cells.clear();
+        self.values.clear();
+        push_copies(&mut self.values, values);
+    }
 }
 
 impl<T> Elements<T> {
+    ghost use Rattle.iox2_store.specs.ElementLends.{LendsCell, LendsCells, LendsValue, LendsValues};
+
     /// The cells.
     pub(crate) fn cells(&self) -> &[Option<T>]
         ensures { result.now ≡ self.now.cells }
@@ -76,6 +123,40 @@ impl<T> Elements<T> {
     {
         self.values.as_slice()
     }
+
+    /// The first cell, to be changed.
+    pub(crate) fn cell_mut(&mut self) -> &mut Option<T>
+        requires { 0 < length self.old.cells }
+        ensures* writes_back { sem 𝓛 (LendsCell T.row self.entry result) }
+        ensures value { slice_get self.old.cells 0 ≡ Some result.now }
+    {
+        &mut self.cells[0]
+    }
+
+    /// The cells, to be changed.
+    pub(crate) fn cells_mut(&mut self) -> &mut [Option<T>]
+        ensures* writes_back { sem 𝓛 (LendsCells T.row self.entry result) }
+        ensures value { result.now ≡ self.old.cells }
+    {
+        self.cells.as_mut_slice()
+    }
+
+    /// The first value, to be changed.
+    pub(crate) fn value_mut(&mut self) -> &mut T
+        requires { 0 < length self.old.values }
+        ensures* writes_back { sem 𝓛 (LendsValue T.row self.entry result) }
+        ensures value { slice_get self.old.values 0 ≡ Some result.now }
+    {
+        &mut self.values[0]
+    }
+
+    /// The values, to be changed.
+    pub(crate) fn values_mut(&mut self) -> &mut [T]
+        ensures* writes_back { sem 𝓛 (LendsValues T.row self.entry result) }
+        ensures value { result.now ≡ self.old.values }
+    {
+        self.values.as_mut_slice()
+    }
 }
 
 // Appends so many unwritten cells.
@@ -87,5 +168,51 @@ fn push_unwritten<T>(cells: &mut Vec<Option<T>>, len: usize)
 {
     for _ in 0..len {
         cells.push_reserved(None);
+    }
+}
+
+// Whether each cell is written.
+fn are_written<T>(cells: &[Option<T>]) -> bool
+    ensures { result ≡ list_all is_some cells.now }
+{
+    cells.iter().all(|cell| cell.is_some())
+}
+
+// Moves the values out of written cells.
+fn move_values<T>(cells: &mut [Option<T>], values: &mut Vec<T>)
+    requires written { All IsSome cells.old }
+    requires empty { values.old.items ≡ [] }
+    requires room { length cells.old ≤ vec_capacity values.old }
+    ensures values { map Some values.new.items ≡ cells.old }
+    ensures capacity { vec_capacity values.new ≡ vec_capacity values.old }
+{
+    for cell in cells.iter_mut() {
+        values.push_reserved(cell.take().unwrap());
+    }
+}
+
+// Appends what the calls of the function return for 0, 1 and so on.
+fn push_calls<T, F: FnMut(usize) -> T + Drop>(values: &mut Vec<T>, count: usize, mut f: F)
+    requires callable { F.IsAlwaysCallable f }
+    requires empty { values.old.items ≡ [] }
+    requires room { count ≤ vec_capacity values.old }
+    ensures answers { AnswersInOrder F.step f values.new.items }
+    ensures count { length values.new.items ≡ count }
+    ensures capacity { vec_capacity values.new ≡ vec_capacity values.old }
+{
+    for index in 0..count {
+        values.push_reserved(f(index));
+    }
+}
+
+// Appends copies of the items.
+fn push_copies<T: Copy>(values: &mut Vec<T>, items: &[T])
+    requires empty { values.old.items ≡ [] }
+    requires room { length items.now ≤ vec_capacity values.old }
+    ensures values { values.new.items ≡ items.now }
+    ensures capacity { vec_capacity values.new ≡ vec_capacity values.old }
+{
+    for item in items {
+        values.push_reserved(*item);
     }
 }

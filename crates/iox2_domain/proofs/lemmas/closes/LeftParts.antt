@@ -454,6 +454,7 @@ module _ {T U : Type 0} (f : Fields T U) (sound : IsDomain f) (i : ℕ) (x : Pub
       publisher_room = λ k y at_y. sound.parts.publisher_room k y (publisher-was k y at_y).1;
       warning_room = sound.parts.warning_room;
       shapes = shapes;
+      forms = sound.parts.forms;
       supported = sound.parts.supported;
       plain = plain;
       plain_subscribers = λ k y at_y. let was = subscriber-was k y at_y in

@@ -41,13 +41,13 @@ length-replicate : (n : ℕ) → length (replicate {A = ℕ} n 0) ≡ n
 length-replicate zero = refl
 length-replicate (suc n) = ap suc (length-replicate n)
 
-module _ {T U : Type 0} (f : Fields T U) (place loans loan_room key_room key : ℕ) (books : Slab Book) (contents : List (Option (List (ContentState T U))))
-    (enters : PublisherEnters f place loans loan_room key_room key books contents) where
+module _ {T U : Type 0} (f : Fields T U) (place loans len loan_room key_room key : ℕ) (books : Slab Book) (contents : List (Option (List (ContentState T U))))
+    (enters : PublisherEnters f place loans len loan_room key_room key books contents) where
   abbrev new : PublisherFields
-  new = newcomer f place loans loan_room key_room key books contents enters
+  new = newcomer f place loans len loan_room key_room key books contents enters
 
   abbrev after : Fields T U
-  after = with_entered_publisher f place loans loan_room key_room key books contents enters
+  after = with_entered_publisher f place loans len loan_room key_room key books contents enters
 
   abbrev slots : ℕ
   slots = worst_case f.config loans
@@ -55,11 +55,14 @@ module _ {T U : Type 0} (f : Fields T U) (place loans loan_room key_room key : �
   abbrev units : ℕ
   units = (f.config).units_per_element
 
+  abbrev needed : ℕ
+  needed = len * units
+
   was : (i : ℕ) (x : PublisherFields) → get_or (placed f.publishers place new) i None ≡ Some x → ((i ≡ place) × (x ≡ new)) ⊎ (get_or f.publishers i None ≡ Some x)
-  was i x at = stood f place loans loan_room key_room key books contents enters i x at
+  was i x at = stood f place loans len loan_room key_room key books contents enters i x at
 
   stands_still : (i : ℕ) (x : PublisherFields) → get_or f.publishers i None ≡ Some x → get_or (placed f.publishers place new) i None ≡ Some x
-  stands_still i x at = still f place loans loan_room key_room key books contents enters i x at
+  stands_still i x at = still f place loans len loan_room key_room key books contents enters i x at
 
   -- a new publisher has no connection
   unlinked : (p : ℕ) → IsSenderLinked p f.connections []
@@ -76,14 +79,14 @@ module _ {T U : Type 0} (f : Fields T U) (place loans loan_room key_room key : �
     knows_publishers = λ k i c x at_c at_x same. elim (was i x at_x) [
       | inl e ↦
           let next : x.id ≡ f.next_port = ap (λ (z : PublisherFields). z.id) e.1 in
-          let low : c.home.publisher < f.next_port = sender_before f enters.sound slots units key books contents enters.book k c at_c in
+          let low : c.home.publisher < f.next_port = sender_before f enters.sound slots needed key books contents enters.book k c at_c in
           absurd (omega arith)
       | inr old ↦ enters.sound.parts.linked.knows_publishers k i c x at_c old same
     ];
     sender_rooms = λ k i c x at_c at_x same. elim (was i x at_x) [
       | inl e ↦
           let next : x.id ≡ f.next_port = ap (λ (z : PublisherFields). z.id) e.1 in
-          let low : c.home.publisher < f.next_port = sender_before f enters.sound slots units key books contents enters.book k c at_c in
+          let low : c.home.publisher < f.next_port = sender_before f enters.sound slots needed key books contents enters.book k c at_c in
           absurd (omega arith)
       | inr old ↦ enters.sound.parts.linked.sender_rooms k i c x at_c old same
     ];
@@ -111,16 +114,13 @@ module _ {T U : Type 0} (f : Fields T U) (place loans loan_room key_room key : �
     is_its = enters.book.is_its;
     slots = let e : length (enters.book.book).holders ≡ slots = ap length enters.book.unused ∙ length-replicate slots in omega arith;
     no_more = λ _. ap length enters.book.unused ∙ length-replicate slots;
-    room = rw enters.book.contents_here roomy;
-  } where
-    roomy : All (λ content. 1 * units ≤ content.room) enters.book.slot_contents
-    roomy = let e : units ≡ 1 * units = omega arith in
-        subst (λ (n : ℕ). All (λ content. n ≤ content.room) enters.book.slot_contents) e enters.book.has_room
+    room = rw enters.book.contents_here enters.book.has_room;
+  }
 
   has_books : HasBooks after
   has_books = record {
-    one_each = books-apart f enters.sound slots units key books contents enters.book;
-    books = λ k b at. elim (was_book f enters.sound slots units key books contents enters.book k b at) [
+    one_each = books-apart f enters.sound slots needed key books contents enters.book;
+    books = λ k b at. elim (was_book f enters.sound slots needed key books contents enters.book k b at) [
       | inl e ↦ subst (λ (b : Book). IsBook b (get_or contents k None)) (sym e.1) (subst (λ (j : ℕ). IsBook enters.book.book (get_or contents j None)) (sym e.0) own)
       | inr old ↦ subst (IsBook b) (sym (enters.book.contents_others k old.0)) (enters.sound.parts.books.books k b old.1)
     ];
@@ -142,18 +142,18 @@ module _ {T U : Type 0} (f : Fields T U) (place loans loan_room key_room key : �
     kept : (x : PublisherFields) → HasBook f x → HasBook after x
     kept x has = record {
       book = has.book;
-      stands = still_book f enters.sound slots units key books contents enters.book x.book has.book has.stands;
+      stands = still_book f enters.sound slots needed key books contents enters.book x.book has.book has.stands;
       is_its = has.is_its;
       slots = has.slots;
       no_more = has.no_more;
       room = subst (λ o. IsSomeAnd o (All (λ (content : ContentState T U). x.initial_max_slice_len * units ≤ content.room)))
-          (sym (enters.book.contents_others x.book (away_from f enters.sound slots units key books contents enters.book x.book has.book has.stands))) has.room;
+          (sym (enters.book.contents_others x.book (away_from f enters.sound slots needed key books contents enters.book x.book has.book has.stands))) has.room;
     }
 
   counted : IsCounted after
   counted = record {
     at = λ p slot.
-        ap (λ o. option_map_or (λ b. holders_at b slot) o 0) (book-found f enters.sound slots units key books contents enters.book p)
+        ap (λ o. option_map_or (λ b. holders_at b slot) o 0) (book-found f enters.sound slots needed key books contents enters.book p)
         ∙ by p slot (eqb f.next_port p) refl
         ∙ ap (λ n. n + sum_by (stands p slot) f.connections.slots) (sym (owns p slot));
   } where
@@ -164,8 +164,8 @@ module _ {T U : Type 0} (f : Fields T U) (place loans loan_room key_room key : �
     owns : (p slot : ℕ) → own_holders after p slot
         ≡ own slot (cond (eqb f.next_port p) (Some new) (look_up (is_publisher p) f.publishers)) (cond (eqb f.next_port p) (Some enters.book.book) (look_up (is_book_of p) f.books.slots))
     owns p slot =
-        ap (λ o. own slot o (look_up (is_book_of p) books.slots)) (publisher-found f place loans loan_room key_room key books contents enters p)
-        ∙ ap (own slot (cond (eqb f.next_port p) (Some new) (look_up (is_publisher p) f.publishers))) (book-found f enters.sound slots units key books contents enters.book p)
+        ap (λ o. own slot o (look_up (is_book_of p) books.slots)) (publisher-found f place loans len loan_room key_room key books contents enters p)
+        ∙ ap (own slot (cond (eqb f.next_port p) (Some new) (look_up (is_publisher p) f.publishers))) (book-found f enters.sound slots needed key books contents enters.book p)
 
     by : (p slot : ℕ) (b : Bool) → eqb f.next_port p ≡ b
         → option_map_or (λ b. holders_at b slot) (cond b (Some enters.book.book) (look_up (is_book_of p) f.books.slots)) 0
@@ -174,22 +174,22 @@ module _ {T U : Type 0} (f : Fields T U) (place loans loan_room key_room key : �
     by p slot true e =
         let here : f.next_port ≡ p = eqb-true f.next_port p e in
         let no_other : look_up (is_book_of p) f.books.slots ≡ None =
-        subst (λ (r : ℕ). look_up (is_book_of r) f.books.slots ≡ None) here (no_book f enters.sound slots units key books contents enters.book) in
+        subst (λ (r : ℕ). look_up (is_book_of r) f.books.slots ≡ None) here (no_book f enters.sound slots needed key books contents enters.book) in
         let none : holders_of f.books p slot ≡ 0 = ap (λ o. option_map_or (λ b. holders_at b slot) o 0) no_other in
         let old : holders_of f.books p slot ≡ own_holders f p slot + sum_by (stands p slot) f.connections.slots = enters.sound.parts.counted.at p slot in
-        let mine : holders_at enters.book.book slot ≡ 0 = unheld f enters.sound slots units key books contents enters.book slot in
+        let mine : holders_at enters.book.book slot ≡ 0 = unheld f enters.sound slots needed key books contents enters.book slot in
         omega arith
     by p slot false e = enters.sound.parts.counted.at p slot
 
   -- what lies in slots lay there before
   shaped : (k slot : ℕ) (b : Book) (m : KeptMessage T U) → get books k ≡ Some b → message_in b (contents_at contents k) slot ≡ Some m → HasShape f.config m
-  shaped k slot b m at lies = elim (was_book f enters.sound slots units key books contents enters.book k b at) [
+  shaped k slot b m at lies = elim (was_book f enters.sound slots needed key books contents enters.book k b at) [
     | inl e ↦
         let none : None ≡ Some m =
-        sym (nothing_in f enters.sound slots units key books contents enters.book (contents_at contents k) slot)
+        sym (nothing_in f enters.sound slots needed key books contents enters.book (contents_at contents k) slot)
         ∙ ap (λ (b : Book). message_in b (contents_at contents k) slot) (sym e.1) ∙ lies in absurd cc
     | inr old ↦ enters.sound.parts.shapes.at k slot b m old.1
-        (ap (λ cs. message_in b cs slot) (sym (contents-same f enters.sound slots units key books contents enters.book k old.0)) ∙ lies)
+        (ap (λ cs. message_in b cs slot) (sym (contents-same f enters.sound slots needed key books contents enters.book k old.0)) ∙ lies)
   ]
 
   -- the new list has no more places than it had, or the new one
@@ -204,7 +204,7 @@ module _ {T U : Type 0} (f : Fields T U) (place loans loan_room key_room key : �
   -- each book is somebody's, or left
   kept_books : KeepsBooks after.next_port after.publishers books
   kept_books = record {
-    at = λ k b at. elim (was_book f enters.sound slots units key books contents enters.book k b at) [
+    at = λ k b at. elim (was_book f enters.sound slots needed key books contents enters.book k b at) [
       | inl e ↦ inl (record {
         place = place;
         publisher = new;
@@ -222,8 +222,8 @@ module _ {T U : Type 0} (f : Fields T U) (place loans loan_room key_room key : �
     ]
 
   -- what the new publisher's id has of messages nobody held before, for it has none
-  held_by : (p : ℕ) (y : Publisher) (b : Bool) → cond b (Some (new_publisher (state_of (kept_of f)) (plain_publisher loans) place)) ((state_of (kept_of f)).publishers p) ≡ Some y
-      → (y ≡ new_publisher (state_of (kept_of f)) (plain_publisher loans) place) ⊎ ((state_of (kept_of f)).publishers p ≡ Some y)
+  held_by : (p : ℕ) (y : Publisher) (b : Bool) → cond b (Some (new_publisher (state_of (kept_of f)) (plain_publisher loans len) place)) ((state_of (kept_of f)).publishers p) ≡ Some y
+      → (y ≡ new_publisher (state_of (kept_of f)) (plain_publisher loans len) place) ⊎ ((state_of (kept_of f)).publishers p ≡ Some y)
   held_by p y true e = inl cc
   held_by p y false e = inr e
 
@@ -231,13 +231,13 @@ module _ {T U : Type 0} (f : Fields T U) (place loans loan_room key_room key : �
   abbrev s' : State T U
   s' = record (state_of (kept_of f)) {
     next_port = f.next_port + 1;
-    publishers = put_at (state_of (kept_of f)).publishers f.next_port (Some (new_publisher (state_of (kept_of f)) (plain_publisher loans) place));
+    publishers = put_at (state_of (kept_of f)).publishers f.next_port (Some (new_publisher (state_of (kept_of f)) (plain_publisher loans len) place));
     publisher_places = set_place (state_of (kept_of f)).publisher_places place (Some f.next_port);
   }
 
   -- who holds a message held it before
   pub held_still : (p n : ℕ) → IsHeldMessage (state_of (kept_of after)) p n → IsHeldMessage (state_of (kept_of f)) p n
-  held_still p n held = by (subst (λ (s : State T U). IsHeldMessage s p n) (entered-is f place loans loan_room key_room key books contents enters) held) where
+  held_still p n held = by (subst (λ (s : State T U). IsHeldMessage s p n) (entered-is f place loans len loan_room key_room key books contents enters) held) where
     by : IsHeldMessage s' p n → IsHeldMessage (state_of (kept_of f)) p n
     by (In_history y at is) = elim (held_by p y (eqb p f.next_port) at) [
       | inl e ↦ absurd (let no : false ≡ true = sym (ap (λ (z : Publisher). contains z.history n) e) ∙ is in cc)
@@ -251,31 +251,32 @@ module _ {T U : Type 0} (f : Fields T U) (place loans loan_room key_room key : �
 
   -- the entries are the same
   pub entries_same : (n : ℕ) → entries_of (kept_of after) n ≡ entries_of (kept_of f) n
-  entries_same n = ap (option_and_then entry_in) (messages-same f enters.sound slots units key books contents enters.book n)
+  entries_same n = ap (option_and_then entry_in) (messages-same f enters.sound slots needed key books contents enters.book n)
 
   -- the invariant is kept
   pub entered-agrees : HasPublisherRoom f.config new → place ≤ length f.publishers → IsWellFormed (state_of (kept_of after)) → IsDomain after
   entered-agrees rooms low well = record {
     parts = record {
-      publisher_ids = ids_apart f place loans loan_room key_room key books contents enters;
+      publisher_ids = ids_apart f place loans len loan_room key_room key books contents enters;
       subscriber_ids = enters.sound.parts.subscriber_ids;
       apart = enters.sound.parts.apart;
       linked = linked;
       expired_room = enters.sound.parts.expired_room;
       books = has_books;
       names = names-books f.books books f.connections
-          (λ k b at. (b, still_book f enters.sound slots units key books contents enters.book k b at, refl)) enters.sound.parts.names;
+          (λ k b at. (b, still_book f enters.sound slots needed key books contents enters.book k b at, refl)) enters.sound.parts.names;
       counted = counted;
-      numbered = numbered-still f enters.sound slots units key books contents enters.book;
+      numbered = numbered-still f enters.sound slots needed key books contents enters.book;
       publisher_room = λ i x at. elim (was i x at) [ inl e ↦ rw e.1 rooms | inr old ↦ enters.sound.parts.publisher_room i x old ];
       warning_room = enters.sound.parts.warning_room;
       shapes = record { at = shaped };
+      forms = enters.forms;
       supported = enters.sound.parts.supported;
-      plain = λ i x at. elim (was i x at) [ inl e ↦ rw e.1 (record { strategy = refl; backpressure = refl; degradation = refl; unblocked = refl; allocation = refl; length = refl }) | inr old ↦ enters.sound.parts.plain i x old ];
+      plain = λ i x at. elim (was i x at) [ inl e ↦ rw e.1 (record { strategy = refl; backpressure = refl; degradation = refl; unblocked = refl; allocation = refl }) | inr old ↦ enters.sound.parts.plain i x old ];
       plain_subscribers = enters.sound.parts.plain_subscribers;
     };
     kept_books = kept_books;
-    lone = lone-still f enters.sound slots units key books contents enters.book;
+    lone = lone-still f enters.sound slots needed key books contents enters.book;
     well_formed = well;
     entries = λ p n held. let has = enters.sound.entries p n (held_still p n held) in (has.0, entries_same n ∙ has.1, has.2);
   }

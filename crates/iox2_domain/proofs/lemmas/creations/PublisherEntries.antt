@@ -1,6 +1,6 @@
 -- A publisher enters a domain at the place that it has, or it is refused.
-use Rattle.std.proofs.Common.{◌≡◌, ◌≢◌, ℕ, suc, ◌+◌, ◌≤◌, ◌==◌, Bool, true, false, cond, nat_lt, List, [], length, map, get_or, replicate, refl, ap, sym, subst, ◌∙◌, arith}
-use Rattle.std.proofs.lemmas.Bool.{ltb-true, eq-eqb}
+use Rattle.std.proofs.Common.{◌≡◌, ◌≢◌, ℕ, suc, ◌+◌, ◌*◌, ◌≤◌, ◌==◌, Bool, true, false, cond, nat_lt, List, [], length, map, get_or, replicate, refl, ap, sym, subst, ◌∙◌, inl, inr, arith}
+use Rattle.std.proofs.lemmas.Bool.{cases_eq, ltb-true, eq-eqb}
 use Rattle.std.specs.List.{All}
 use Rattle.std.specs.declared.option.Option.{Option}
 use Rattle.std.specs.declared.option.Option.TheVariants.{None, Some}
@@ -10,13 +10,14 @@ use Rattle.slab.specs.Slab.{Slab, get, Updates}
 use Rattle.circular_buffer.specs.Buffer.{buffer}
 use Rattle.iox2_store.specs.machine.Limits.{worst_case, last_number}
 use Rattle.iox2_store.specs.machine.Ports.{with_new_publisher}
+use Rattle.iox2_store.specs.SingleValues.{is_single_valued}
 use Rattle.iox2_store.specs.SlotBook.{Book, IsAligned}
 use Rattle.iox2_store.specs.SlotContents.{ContentState}
 use Rattle.iox2_store.specs.declared.errors.PublisherCreateError.TheVariants.{UnableToCreatePortTag, ExceedsMaxSupportedPublishers}
 use Rattle.iox2_domain.specs.Ports.{PublisherFields}
 use Rattle.iox2_domain.specs.Kept.{state_of}
 use Rattle.iox2_domain.specs.Fields.{Fields, kept_of}
-use Rattle.iox2_domain.specs.Invariant.{IsDomain, IsLinked, HasBooks, HasNumber, IsNumbered, HasPublisherRoom}
+use Rattle.iox2_domain.specs.Invariant.{IsDomain, IsLinked, HasBooks, HasNumber, IsNumbered, HasForms, HasPublisherRoom}
 use Rattle.iox2_domain.specs.NewPublisher.{BookEnters, entering_publisher, plain_publisher, subscriber_due, place_for_publisher}
 use Rattle.iox2_domain.specs.Placed.{placed, lowest_empty}
 use Rattle.iox2_domain.specs.Reaches.{Reaches}
@@ -64,6 +65,7 @@ module _ {T U : Type 0} (f : Fields T U) where
       publisher_room = sound.parts.publisher_room;
       warning_room = sound.parts.warning_room;
       shapes = record { at = sound.parts.shapes.at };
+      forms = sound.parts.forms;
       supported = sound.parts.supported;
       plain = sound.parts.plain;
       plain_subscribers = sound.parts.plain_subscribers;
@@ -117,14 +119,15 @@ module _ {T U : Type 0} (f : Fields T U) where
   -- ---- it enters
 
   -- A publisher entered these fields, with its book and its contents.
-  pub record HasEntered (loans slots place : ℕ) (x : PublisherFields) (book : Book) (slot_contents : List (ContentState T U)) (books : Slab Book) (before new : Fields T U) : Type 0 where
-    pub publisher : x ≡ entering_publisher before.next_port place (before.books).vacant_key loans slots x.loan_room (buffer [] (before.config).history_size) x.key_room
+  pub record HasEntered (loans slots len place : ℕ) (x : PublisherFields) (book : Book) (slot_contents : List (ContentState T U)) (books : Slab Book) (before new : Fields T U) : Type 0 where
+    pub publisher : x ≡ entering_publisher before.next_port place (before.books).vacant_key loans slots len x.loan_room (buffer [] (before.config).history_size) x.key_room
     pub room : HasPublisherRoom before.config x
     pub is_its : book.publisher ≡ before.next_port
     pub unused : book.holders ≡ replicate slots 0
     pub aligned : IsAligned book
     pub contents_length : length slot_contents ≡ slots
-    pub contents_room : All (λ content. content.room ≡ (before.config).units_per_element) slot_contents
+    pub contents_room : All (λ content. len * (before.config).units_per_element ≤ content.room) slot_contents
+    pub contents_form : is_single_valued before.config ≡ false → All (λ content. content.is_in_place ≡ false) slot_contents
     pub vacant : get before.books (before.books).vacant_key ≡ None
     pub updates : Updates before.books books (before.books).vacant_key (Some book)
     pub changed : new ≡ record before {
@@ -135,16 +138,16 @@ module _ {T U : Type 0} (f : Fields T U) where
       contents = placed before.contents (before.books).vacant_key slot_contents;
     }
 
-  entered-reaches : IsDomain f → (new : Fields T U) (loans slots place : ℕ) (x : PublisherFields) (book : Book) (slot_contents : List (ContentState T U)) (books : Slab Book)
-      → place_for_publisher f ≡ Ok place → slots ≡ worst_case f.config loans → HasEntered loans slots place x book slot_contents books f new
-      → Reaches f new (with_new_publisher (state_of (kept_of f)) (plain_publisher loans) place)
-  entered-reaches sound new loans slots place x book slot_contents books h count e =
+  entered-reaches : IsDomain f → (new : Fields T U) (loans slots len place : ℕ) (x : PublisherFields) (book : Book) (slot_contents : List (ContentState T U)) (books : Slab Book)
+      → place_for_publisher f ≡ Ok place → slots ≡ worst_case f.config loans → HasEntered loans slots len place x book slot_contents books f new
+      → Reaches f new (with_new_publisher (state_of (kept_of f)) (plain_publisher loans len) place)
+  entered-reaches sound new loans slots len place x book slot_contents books h count e =
       let has = has_place place h in
       let free : get_or f.publishers place None ≡ None = subst (λ (p : ℕ). get_or f.publishers p None ≡ None) has.lowest (lowest_empty-free f.publishers) in
       let next : place ≤ length f.publishers = subst (λ (p : ℕ). p ≤ length f.publishers) has.lowest (lowest_empty-low f.publishers) in
       let key : ℕ = (f.books).vacant_key in
       let contents : List (Option (List (ContentState T U))) = placed f.contents key slot_contents in
-      let enters : BookEnters f.next_port (worst_case f.config loans) (f.config).units_per_element key f.books f.contents books contents = record {
+      let enters : BookEnters f.next_port (worst_case f.config loans) (len * (f.config).units_per_element) key f.books f.contents books contents = record {
         book = book;
         vacant = e.vacant;
         updates = e.updates;
@@ -155,11 +158,20 @@ module _ {T U : Type 0} (f : Fields T U) where
         contents_here = placed-here slot_contents f.contents key;
         contents_others = λ k away. placed-others slot_contents f.contents key k away;
         contents_length = e.contents_length ∙ count;
-        has_room = λ k d lt. let same = e.contents_room k d lt in omega arith;
+        has_room = e.contents_room;
       } in
-      let is : x ≡ entering_publisher f.next_port place key loans (worst_case f.config loans) x.loan_room (buffer [] (f.config).history_size) x.key_room =
-      e.publisher ∙ ap (λ n. entering_publisher f.next_port place key loans n x.loan_room (buffer [] (f.config).history_size) x.key_room) count in
-      let after : Fields T U = with_admitted f sound place loans x.loan_room x.key_room key books contents free enters in
+      let is : x ≡ entering_publisher f.next_port place key loans (worst_case f.config loans) len x.loan_room (buffer [] (f.config).history_size) x.key_room =
+      e.publisher ∙ ap (λ n. entering_publisher f.next_port place key loans n len x.loan_room (buffer [] (f.config).history_size) x.key_room) count in
+      let forms : HasForms f.config contents = record {
+        at = λ several k zs there. elim (cases_eq k key) [
+          | inl here ↦
+              let found : Some slot_contents ≡ Some zs = sym (placed-here slot_contents f.contents key) ∙ sym (ap (λ (j : ℕ). get_or contents j None) here) ∙ there in
+              let is : slot_contents ≡ zs = cc in
+              subst (All (λ content. content.is_in_place ≡ false)) is (e.contents_form several)
+          | inr away ↦ sound.parts.forms.at several k zs (sym (placed-others slot_contents f.contents key k away) ∙ there)
+        ];
+      } in
+      let after : Fields T U = with_admitted f sound place loans len x.loan_room x.key_room key books contents free enters forms in
       let same : new ≡ after = e.changed ∙ ap (λ (z : PublisherFields). record f {
         next_port = f.next_port + 1;
         publishers = placed f.publishers place z;
@@ -167,17 +179,17 @@ module _ {T U : Type 0} (f : Fields T U) where
         books = books;
         contents = contents;
       }) is in
-      subst (λ (g : Fields T U). Reaches f g (with_new_publisher (state_of (kept_of f)) (plain_publisher loans) place)) (sym same)
-      (admitted-reaches f sound place loans x.loan_room x.key_room key books contents free enters (subst (HasPublisherRoom f.config) is e.room)
+      subst (λ (g : Fields T U). Reaches f g (with_new_publisher (state_of (kept_of f)) (plain_publisher loans len) place)) (sym same)
+      (admitted-reaches f sound place loans len x.loan_room x.key_room key books contents free enters forms (subst (HasPublisherRoom f.config) is e.room)
       (subst (λ (p : ℕ). suc p ≤ (f.config).max_publishers) has.lowest (ltb-true _ _ has.low)) next)
 
   -- the same, where the fields are known by another name
-  pub entered-reaches-as : (before new : Fields T U) → before ≡ f → IsDomain f → (loans slots place : ℕ) (x : PublisherFields) (book : Book) (slot_contents : List (ContentState T U)) (books : Slab Book)
-      → place_for_publisher f ≡ Ok place → slots ≡ worst_case f.config loans → HasEntered loans slots place x book slot_contents books before new
-      → Reaches f new (with_new_publisher (state_of (kept_of f)) (plain_publisher loans) place)
-  entered-reaches-as before new e sound loans slots place x book slot_contents books h count entered =
-      entered-reaches sound new loans slots place x book slot_contents books h count
-      (subst (λ (g : Fields T U). HasEntered loans slots place x book slot_contents books g new) e entered)
+  pub entered-reaches-as : (before new : Fields T U) → before ≡ f → IsDomain f → (loans slots len place : ℕ) (x : PublisherFields) (book : Book) (slot_contents : List (ContentState T U)) (books : Slab Book)
+      → place_for_publisher f ≡ Ok place → slots ≡ worst_case f.config loans → HasEntered loans slots len place x book slot_contents books before new
+      → Reaches f new (with_new_publisher (state_of (kept_of f)) (plain_publisher loans len) place)
+  entered-reaches-as before new e sound loans slots len place x book slot_contents books h count entered =
+      entered-reaches sound new loans slots len place x book slot_contents books h count
+      (subst (λ (g : Fields T U). HasEntered loans slots len place x book slot_contents books g new) e entered)
 
   -- ---- a number for it
 

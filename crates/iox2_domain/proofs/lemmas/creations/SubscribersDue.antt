@@ -128,6 +128,7 @@ module _ {T U : Type 0} (f : Fields T U) where
       publisher_room = sound.parts.publisher_room;
       warning_room = sound.parts.warning_room;
       shapes = record { at = sound.parts.shapes.at };
+      forms = sound.parts.forms;
       supported = sound.parts.supported;
       plain = sound.parts.plain;
       plain_subscribers = λ i y at. let was = was_there i y at in rw was.2 (record { degradation = (sound.parts.plain_subscribers i was.0 was.1).degradation });

@@ -185,6 +185,7 @@ module _ {T U : Type 0} (f : Fields T U) (sound : IsDomain f) (i : ℕ) (x : Pub
     publisher_room = changed-room f i x (with_loan_out slot x) here refl parts.publisher_room keeps;
     warning_room = parts.warning_room;
     shapes = record { at = (left-shapes f parts x.book b at slot n l lies alone).at };
+    forms = parts.forms;
     supported = parts.supported;
     plain = changed-plain f i x (with_loan_out slot x) here refl parts.plain keeps;
     plain_subscribers = parts.plain_subscribers;

@@ -153,6 +153,7 @@ module _ {T U : Type 0} (f : Fields T U) (sound : IsDomain f) (key : ℕ) (c : L
     publisher_room = sound.parts.publisher_room;
     warning_room = sound.parts.warning_room;
     shapes = record { at = sound.parts.shapes.at };
+    forms = sound.parts.forms;
     supported = sound.parts.supported;
     plain = sound.parts.plain;
     plain_subscribers = sound.parts.plain_subscribers;

@@ -1,5 +1,5 @@
 -- A publisher lends a free slot: the machine's state, and what the machine says of a loan.
-use Rattle.std.proofs.Common.{◌≡◌, ℕ, ◌+◌, ◌<◌, ◌≤◌, [], ◌∷◌, ◌++◌, map, max, length, Bool, false, cond, leb, get_or, refl, ap, sym, subst, ◌∙◌, arith}
+use Rattle.std.proofs.Common.{◌≡◌, ℕ, ◌+◌, ◌<◌, ◌≤◌, ◌&&◌, nat_lt, [], ◌∷◌, ◌++◌, map, max, length, Bool, true, false, cond, leb, get_or, refl, ap, sym, subst, ◌∙◌, arith}
 use Rattle.std.proofs.lemmas.Bool.{eq-eqb, ne_eqb, le-leb}
 use Rattle.std.proofs.lemmas.List.{map-append}
 use Rattle.std.specs.declared.option.Option.{Option}
@@ -18,7 +18,7 @@ use Rattle.iox2_store.specs.machine.Loans.{is_static, limit_error, StaticLoan, D
 use Rattle.iox2_store.specs.declared.allocation.AllocationStrategy.{AllocationStrategy}
 use Rattle.iox2_store.specs.declared.allocation.AllocationStrategy.TheVariants.{Static}
 use Rattle.iox2_store.specs.declared.errors.LoanError.{LoanError}
-use Rattle.iox2_store.specs.declared.errors.LoanError.TheVariants.{OutOfMemory, ExceedsMaxLoans, InternalFailure}
+use Rattle.iox2_store.specs.declared.errors.LoanError.TheVariants.{OutOfMemory, ExceedsMaxLoans, ExceedsMaxLoanSize, InternalFailure}
 use Rattle.iox2_domain.specs.Ports.{PublisherFields}
 use Rattle.iox2_domain.specs.Kept.{state_of}
 use Rattle.iox2_domain.specs.Fields.{Fields, kept_of, publisher_of, numbers_of, is_book_of}
@@ -30,61 +30,84 @@ use Rattle.iox2_domain.proofs.lemmas.slots.Renumbered.{map-numbers, with_books-i
 use Rattle.iox2_domain.proofs.lemmas.loans.Taken.{CanTakeSlot, with_taken, taken_books, taken_book, begun_contents, lent, taken-keeps, taken-found, taken-loans, taken-number_here}
 use mathlib.Core.Path.{fun_ext}
 
--- ---- the machine's cases of a loan of one element
+-- ---- the machine's cases of a loan
 
-module _ {T U : Type 0} (environment : Environment) (default_header : U) (s : State T U) (p : ℕ) (x : Publisher) (here : s.publishers p ≡ Some x) where
+module _ {T U : Type 0} (environment : Environment) (default_header : U) (s : State T U) (p : ℕ) (x : Publisher) (here : s.publishers p ≡ Some x) (checks : Bool) (len : ℕ) where
   -- what a loan comes to for this publisher
   abbrev Lends : State T U → Option LoanError → Publisher → Type 0
   Lends s' refusal y =
-      MatchOption (limit_error false y 1)
-      (MatchBool (is_static y.allocation_strategy) (StaticLoan default_header s p y 1 s' refusal) (DynamicLoan environment default_header s p y 1 s' refusal))
+      MatchOption (limit_error checks y len)
+      (MatchBool (is_static y.allocation_strategy) (StaticLoan default_header s p y len s' refusal) (DynamicLoan environment default_header s p y len s' refusal))
       (λ limit. (s' ≡ s) × (refusal ≡ Some limit))
 
-  of_publisher : (s' : State T U) (refusal : Option LoanError) → Lends s' refusal x → GrantLoan environment default_header false 1 s p s' refusal
+  -- the length is one that the publisher doesn't lend
+  abbrev pub is_long : Bool
+  is_long = checks && is_static x.allocation_strategy && nat_lt x.initial_max_slice_len len
+
+  of_publisher : (s' : State T U) (refusal : Option LoanError) → Lends s' refusal x → GrantLoan environment default_header checks len s p s' refusal
   of_publisher s' refusal h = subst (λ (o : Option Publisher). MatchOption o ⊥ (Lends s' refusal)) (sym here) h
 
-  -- too many loans are out
-  pub lends-limited : x.max_loaned_samples ≤ length x.loans → GrantLoan environment default_header false 1 s p s (Some ExceedsMaxLoans)
-  lends-limited many = of_publisher s (Some ExceedsMaxLoans)
-      (rw (le-leb x.max_loaned_samples (length x.loans) many) (refl, refl))
+  pub lends-long : is_long ≡ true → GrantLoan environment default_header checks len s p s (Some ExceedsMaxLoanSize)
+  lends-long long = of_publisher s (Some ExceedsMaxLoanSize) (by is_long long) where
+    by : (b : Bool) → b ≡ true → MatchOption (cond b (Some ExceedsMaxLoanSize) (cond (leb x.max_loaned_samples (length x.loans)) (Some ExceedsMaxLoans) None))
+        (MatchBool (is_static x.allocation_strategy) (StaticLoan default_header s p x len s (Some ExceedsMaxLoanSize)) (DynamicLoan environment default_header s p x len s (Some ExceedsMaxLoanSize)))
+        (λ limit. (s ≡ s) × (Some ExceedsMaxLoanSize ≡ Some limit))
+    by true e = (refl, refl)
+    by false e = absurd cc
 
-  module _ (few : length x.loans < x.max_loaned_samples) (static : x.allocation_strategy ≡ Static) where
-    of_static : (s' : State T U) (refusal : Option LoanError) → StaticLoan default_header s p x 1 s' refusal → GrantLoan environment default_header false 1 s p s' refusal
-    of_static s' refusal h = of_publisher s' refusal
-        (subst (λ (b : Bool). MatchOption (cond b (Some ExceedsMaxLoans) None) (by_strategy x.allocation_strategy) (λ limit. (s' ≡ s) × (refusal ≡ Some limit))) (sym below)
-        (subst by_strategy (sym static) h))
-      where
-        by_strategy : AllocationStrategy → Type 0
-        by_strategy a = MatchBool (is_static a) (StaticLoan default_header s p x 1 s' refusal) (DynamicLoan environment default_header s p x 1 s' refusal)
+  module _ (short : is_long ≡ false) where
+    of_short : (s' : State T U) (refusal : Option LoanError)
+        → MatchOption (cond (leb x.max_loaned_samples (length x.loans)) (Some ExceedsMaxLoans) None)
+        (MatchBool (is_static x.allocation_strategy) (StaticLoan default_header s p x len s' refusal) (DynamicLoan environment default_header s p x len s' refusal))
+        (λ limit. (s' ≡ s) × (refusal ≡ Some limit))
+        → GrantLoan environment default_header checks len s p s' refusal
+    of_short s' refusal h = of_publisher s' refusal
+        (subst (λ (b : Bool). MatchOption (cond b (Some ExceedsMaxLoanSize) (cond (leb x.max_loaned_samples (length x.loans)) (Some ExceedsMaxLoans) None))
+        (MatchBool (is_static x.allocation_strategy) (StaticLoan default_header s p x len s' refusal) (DynamicLoan environment default_header s p x len s' refusal))
+        (λ limit. (s' ≡ s) × (refusal ≡ Some limit))) (sym short) h)
 
-        below : leb x.max_loaned_samples (length x.loans) ≡ false
-        below = grind arith
+    -- too many loans are out
+    pub lends-limited : x.max_loaned_samples ≤ length x.loans → GrantLoan environment default_header checks len s p s (Some ExceedsMaxLoans)
+    lends-limited many = of_short s (Some ExceedsMaxLoans)
+        (rw (le-leb x.max_loaned_samples (length x.loans) many) (refl, refl))
 
-    -- each slot has a holder
-    pub lends-full : size (held s p x) ≡ x.slots → GrantLoan environment default_header false 1 s p s (Some OutOfMemory)
-    lends-full full = of_static s (Some OutOfMemory) (rw (eq-eqb (size (held s p x)) x.slots full) (refl, refl))
+    module _ (few : length x.loans < x.max_loaned_samples) (static : x.allocation_strategy ≡ Static) where
+      of_static : (s' : State T U) (refusal : Option LoanError) → StaticLoan default_header s p x len s' refusal → GrantLoan environment default_header checks len s p s' refusal
+      of_static s' refusal h = of_short s' refusal
+          (subst (λ (b : Bool). MatchOption (cond b (Some ExceedsMaxLoans) None) (by_strategy x.allocation_strategy) (λ limit. (s' ≡ s) × (refusal ≡ Some limit))) (sym below)
+          (subst by_strategy (sym static) h))
+        where
+          by_strategy : AllocationStrategy → Type 0
+          by_strategy a = MatchBool (is_static a) (StaticLoan default_header s p x len s' refusal) (DynamicLoan environment default_header s p x len s' refusal)
 
-    module _ (free : size (held s p x) < x.slots) where
-      -- no number is left
-      pub lends-failed : s.next_message ≡ last_number → GrantLoan environment default_header false 1 s p s (Some InternalFailure)
-      lends-failed last = of_static s (Some InternalFailure)
-          (rw (ne_eqb (size (held s p x)) x.slots (λ e. absurd (omega arith)), eq-eqb s.next_message last_number last) (refl, refl))
+          below : leb x.max_loaned_samples (length x.loans) ≡ false
+          below = grind arith
 
-      -- a slot is lent
-      pub lends-granted : s.next_message < last_number
-          → GrantLoan environment default_header false 1 s p (loan_granted default_header s p x 1 x.segments) None
-      lends-granted more = of_static (loan_granted default_header s p x 1 x.segments) None
-          (rw (ne_eqb (size (held s p x)) x.slots (λ e. absurd (omega arith)), ne_eqb s.next_message last_number (λ e. absurd (omega arith))) (refl, refl))
+      -- each slot has a holder
+      pub lends-full : size (held s p x) ≡ x.slots → GrantLoan environment default_header checks len s p s (Some OutOfMemory)
+      lends-full full = of_static s (Some OutOfMemory) (rw (eq-eqb (size (held s p x)) x.slots full) (refl, refl))
+
+      module _ (free : size (held s p x) < x.slots) where
+        -- no number is left
+        pub lends-failed : s.next_message ≡ last_number → GrantLoan environment default_header checks len s p s (Some InternalFailure)
+        lends-failed last = of_static s (Some InternalFailure)
+            (rw (ne_eqb (size (held s p x)) x.slots (λ e. absurd (omega arith)), eq-eqb s.next_message last_number last) (refl, refl))
+
+        -- a slot is lent
+        pub lends-granted : s.next_message < last_number
+            → GrantLoan environment default_header checks len s p (loan_granted default_header s p x len x.segments) None
+        lends-granted more = of_static (loan_granted default_header s p x len x.segments) None
+            (rw (ne_eqb (size (held s p x)) x.slots (λ e. absurd (omega arith)), ne_eqb s.next_message last_number (λ e. absurd (omega arith))) (refl, refl))
 
 module _ {T U : Type 0} (f : Fields T U) (sound : IsDomain f) (i : ℕ) (x : PublisherFields) (at : get_or f.publishers i None ≡ Some x)
-    (slot : ℕ) (can : CanTakeSlot f x slot) (user_header : U) where
+    (slot : ℕ) (can : CanTakeSlot f x slot) (user_header : U) (len : ℕ) where
   -- the publisher, with the slot among its loans
   abbrev pub lender : PublisherFields
-  lender = record x { loans = x.loans ++ slot ∷ []; longest_granted = max x.longest_granted 1 }
+  lender = record x { loans = x.loans ++ slot ∷ []; longest_granted = max x.longest_granted len }
 
   -- the fields with the loan
   abbrev pub with_granted : Fields T U
-  with_granted = with_publisher (with_taken f sound x slot can user_header) i lender
+  with_granted = with_publisher (with_taken f sound x slot can user_header len) i lender
 
   abbrev state : State T U
   state = state_of (kept_of f)
@@ -93,22 +116,22 @@ module _ {T U : Type 0} (f : Fields T U) (sound : IsDomain f) (i : ℕ) (x : Pub
   machine = (publisher_of f.books f.connections x).port
 
   abbrev books_after : Slab Book
-  books_after = taken_books f sound x slot can user_header
+  books_after = taken_books f sound x slot can user_header len
 
   number-here : numbers_of books_after x.id slot ≡ f.next_message
   number-here =
-      ap number_in (taken-found f sound x slot can user_header x.id)
-      ∙ ap (λ b. number_in (cond b (Some (taken_book f sound x slot can user_header)) (look_up (is_book_of x.id) f.books.slots))) (eq-eqb (can.book).publisher x.id can.its)
-      ∙ taken-number_here f sound x slot can user_header
+      ap number_in (taken-found f sound x slot can user_header len x.id)
+      ∙ ap (λ b. number_in (cond b (Some (taken_book f sound x slot can user_header len)) (look_up (is_book_of x.id) f.books.slots))) (eq-eqb (can.book).publisher x.id can.its)
+      ∙ taken-number_here f sound x slot can user_header len
     where
       number_in : Option Book → ℕ
       number_in o = option_map_or (λ (b : Book). slice_index b.numbers slot) o 0
 
   -- the lender has the number among its loans
-  lender-is : (publisher_of books_after f.connections lender).port ≡ record machine { loans = machine.loans ++ f.next_message ∷ []; longest_granted = max machine.longest_granted 1 }
-  lender-is = λ t. record machine { loans = loans t; longest_granted = max x.longest_granted 1; history = history t; blocked = blocked t } where
+  lender-is : (publisher_of books_after f.connections lender).port ≡ record machine { loans = machine.loans ++ f.next_message ∷ []; longest_granted = max machine.longest_granted len }
+  lender-is = λ t. record machine { loans = loans t; longest_granted = max x.longest_granted len; history = history t; blocked = blocked t } where
     keeps : (p slot' : ℕ) → 0 < holders_of f.books p slot' → numbers_of books_after p slot' ≡ numbers_of f.books p slot'
-    keeps = taken-keeps f sound x slot can user_header
+    keeps = taken-keeps f sound x slot can user_header len
 
     loans : map (numbers_of books_after x.id) (x.loans ++ slot ∷ []) ≡ map (numbers_of f.books x.id) x.loans ++ f.next_message ∷ []
     loans =
@@ -124,21 +147,21 @@ module _ {T U : Type 0} (f : Fields T U) (sound : IsDomain f) (i : ℕ) (x : Pub
     blocked = nothing-blocked _ _ x.blocked (sound.parts.plain i x at).unblocked
 
   -- the state before the publisher has the loan
-  pub taken-is : state_of (kept_of (with_taken f sound x slot can user_header)) ≡ record state {
+  pub taken-is : state_of (kept_of (with_taken f sound x slot can user_header len)) ≡ record state {
     next_message = f.next_message + 1;
-    loans = put_at state.loans f.next_message (Some (lent f sound x slot can user_header));
+    loans = put_at state.loans f.next_message (Some (lent f sound x slot can user_header len));
   }
   taken-is =
-      with_books-is f sound books_after (taken-keeps f sound x slot can user_header) (begun_contents f sound x slot can user_header) (f.next_message + 1)
-      ∙ ap (λ (ls : ℕ → Option (Loan T U)). record state { next_message = f.next_message + 1; loans = ls }) (fun_ext (taken-loans f sound x slot can user_header))
+      with_books-is f sound books_after (taken-keeps f sound x slot can user_header len) (begun_contents f sound x slot can user_header len) (f.next_message + 1)
+      ∙ ap (λ (ls : ℕ → Option (Loan T U)). record state { next_message = f.next_message + 1; loans = ls }) (fun_ext (taken-loans f sound x slot can user_header len))
 
   -- the machine's step
-  pub granted-is : state_of (kept_of with_granted) ≡ loan_granted user_header state x.id machine 1 machine.segments
+  pub granted-is : state_of (kept_of with_granted) ≡ loan_granted user_header state x.id machine len machine.segments
   granted-is =
-      changed-is (with_taken f sound x slot can user_header) i x lender at refl sound.parts.publisher_ids
+      changed-is (with_taken f sound x slot can user_header len) i x lender at refl sound.parts.publisher_ids
       ∙ ap (λ (s : State T U). record s { publishers = put_at s.publishers x.id (Some ((publisher_of books_after f.connections lender).port)) }) taken-is
       ∙ ap (λ (y : Publisher). record state {
         next_message = f.next_message + 1;
         publishers = put_at state.publishers x.id (Some y);
-        loans = put_at state.loans f.next_message (Some (lent f sound x slot can user_header));
+        loans = put_at state.loans f.next_message (Some (lent f sound x slot can user_header len));
       }) lender-is

@@ -21,6 +21,7 @@ use Rattle.iox2_ends.specs.LookUp.{look_up}
 use Rattle.iox2_ends.specs.Counters.{times, stands}
 use Rattle.iox2_ends.proofs.Counts.{times_push, one_if, one_if_same, one_if_other}
 use Rattle.iox2_laws.proofs.LoanLaws.{grant_loan_keeps}
+use Rattle.iox2_store.specs.declared.service_config.TypeVariant.TheVariants.{FixedSize}
 use Rattle.iox2_domain.specs.Ports.{PublisherFields}
 use Rattle.iox2_domain.specs.Kept.{KeptMessage, Lent_message, state_of}
 use Rattle.iox2_store.specs.machine.Environments.{ample_memory}
@@ -35,12 +36,13 @@ use Rattle.iox2_domain.proofs.lemmas.fields.ConnectionEnds.{publisher-stands}
 use Rattle.iox2_domain.proofs.lemmas.slots.SlotsInUse.{its_book, slot-counted, size-free}
 use Rattle.iox2_domain.proofs.lemmas.slots.Messages.{lies_at, message_at-book, message_at-slot}
 use Rattle.iox2_domain.proofs.lemmas.loans.PublisherChanges.{KeepsSettings, changed-ids_apart, look_up-publisher, changed-linked_same, changed-books, changed-room, changed-plain, changed-kept_books, changed-entries}
+use Rattle.iox2_domain.proofs.lemmas.slots.SlotChanges.{forms-changed}
 use Rattle.iox2_domain.proofs.lemmas.loans.Taken.{taken-after, CanTakeSlot, with_taken, taken_book, taken_books, begun, begun_contents, lent, next_header, taken-stands, others-stand, begun-has, others-have, taken-one_each, taken-found, taken-holders, taken-numbered, taken-entries, lent-lies, others-lie, length-with_changed, room-with_changed, taken-lone}
 use Rattle.iox2_domain.proofs.lemmas.loans.Granted.{lender, with_granted, granted-is, taken-is, lends-granted}
 use Rattle.iox2_domain.proofs.lemmas.fields.Views.{held-before}
 
 module _ {T U : Type 0} (f : Fields T U) (sound : IsDomain f) (i : ℕ) (x : PublisherFields) (at : get_or f.publishers i None ≡ Some x)
-    (slot : ℕ) (can : CanTakeSlot f x slot) (user_header : U) where
+    (slot : ℕ) (can : CanTakeSlot f x slot) (user_header : U) (len : ℕ) (one : (f.config).variant ≡ FixedSize → len ≡ 1) where
   abbrev state : State T U
   state = state_of (kept_of f)
 
@@ -49,19 +51,19 @@ module _ {T U : Type 0} (f : Fields T U) (sound : IsDomain f) (i : ℕ) (x : Pub
 
   -- the fields with the slot taken
   abbrev mid : Fields T U
-  mid = with_taken f sound x slot can user_header
+  mid = with_taken f sound x slot can user_header len
 
   abbrev new_book : Book
-  new_book = taken_book f sound x slot can user_header
+  new_book = taken_book f sound x slot can user_header len
 
   abbrev new_contents : List (ContentState T U)
-  new_contents = begun f sound x slot can user_header
+  new_contents = begun f sound x slot can user_header len
 
   abbrev new_lender : PublisherFields
-  new_lender = lender f sound i x at slot can user_header
+  new_lender = lender f sound i x at slot can user_header len
 
   abbrev pub granted : Fields T U
-  granted = with_granted f sound i x at slot can user_header
+  granted = with_granted f sound i x at slot can user_header len
 
   keeps : KeepsSettings x new_lender
   keeps = record {
@@ -90,12 +92,12 @@ module _ {T U : Type 0} (f : Fields T U) (sound : IsDomain f) (i : ℕ) (x : Pub
   book-still z has = elim (cases_eq z.book x.book) [
     | inr away ↦ record {
       book = has.book;
-      stands = others-stand f sound x slot can user_header z.book away ∙ has.stands;
+      stands = others-stand f sound x slot can user_header len z.book away ∙ has.stands;
       is_its = has.is_its;
       slots = has.slots;
       no_more = has.no_more;
       room = subst (λ (o : Option (List (ContentState T U))). IsSomeAnd o (All (λ content. z.initial_max_slice_len * (f.config).units_per_element ≤ content.room)))
-          (sym (others-have f sound x slot can user_header z.book away)) has.room;
+          (sym (others-have f sound x slot can user_header len z.book away)) has.room;
     }
     | inl here ↦
         let same : has.book ≡ can.book = its_book-is z has.book here has.stands in
@@ -103,13 +105,13 @@ module _ {T U : Type 0} (f : Fields T U) (sound : IsDomain f) (i : ℕ) (x : Pub
         length-set (can.book).holders slot 1 ∙ sym (ap (λ (b : Book). length b.holders) same) in
         record {
           book = new_book;
-          stands = ap (get (taken_books f sound x slot can user_header)) here ∙ taken-stands f sound x slot can user_header;
+          stands = ap (get (taken_books f sound x slot can user_header len)) here ∙ taken-stands f sound x slot can user_header len;
           is_its = sym (ap (λ (b : Book). b.publisher) same) ∙ has.is_its;
           slots = rw long has.slots;
           no_more = rw long has.no_more;
           room = subst (λ (o : Option (List (ContentState T U))). IsSomeAnd o (All (λ content. z.initial_max_slice_len * (f.config).units_per_element ≤ content.room)))
-              (sym (ap (λ (k : ℕ). get_or (begun_contents f sound x slot can user_header) k None) here ∙ begun-has f sound x slot can user_header))
-              (room-with_changed can.contents slot user_header (1 * (f.config).units_per_element) (z.initial_max_slice_len * (f.config).units_per_element)
+              (sym (ap (λ (k : ℕ). get_or (begun_contents f sound x slot can user_header len) k None) here ∙ begun-has f sound x slot can user_header len))
+              (room-with_changed can.contents slot user_header (len * (f.config).units_per_element) (z.initial_max_slice_len * (f.config).units_per_element)
               (subst (λ (o : Option (List (ContentState T U))). IsSomeAnd o (All (λ content. z.initial_max_slice_len * (f.config).units_per_element ≤ content.room)))
               (ap (λ (k : ℕ). get_or f.contents k None) here ∙ can.has) has.room));
         }
@@ -117,23 +119,23 @@ module _ {T U : Type 0} (f : Fields T U) (sound : IsDomain f) (i : ℕ) (x : Pub
 
   taken-books : HasBooks mid
   taken-books = record {
-    one_each = taken-one_each f sound x slot can user_header;
+    one_each = taken-one_each f sound x slot can user_header len;
     books = λ key b there. elim (cases_eq key x.book) [
-      | inr away ↦ subst (λ (o : Option (List (ContentState T U))). IsBook b o) (sym (others-have f sound x slot can user_header key away))
-          (sound.parts.books.books key b (sym (others-stand f sound x slot can user_header key away) ∙ there))
+      | inr away ↦ subst (λ (o : Option (List (ContentState T U))). IsBook b o) (sym (others-have f sound x slot can user_header len key away))
+          (sound.parts.books.books key b (sym (others-stand f sound x slot can user_header len key away) ∙ there))
       | inl here ↦
-          let found : Some new_book ≡ Some b = sym (taken-stands f sound x slot can user_header) ∙ sym (ap (get (taken_books f sound x slot can user_header)) here) ∙ there in
+          let found : Some new_book ≡ Some b = sym (taken-stands f sound x slot can user_header len) ∙ sym (ap (get (taken_books f sound x slot can user_header len)) here) ∙ there in
           let is : new_book ≡ b = cc in
-          let has : get_or (begun_contents f sound x slot can user_header) key None ≡ Some new_contents =
-          ap (λ (k : ℕ). get_or (begun_contents f sound x slot can user_header) k None) here ∙ begun-has f sound x slot can user_header in
-          subst (λ (z : Book). IsBook z (get_or (begun_contents f sound x slot can user_header) key None)) is
+          let has : get_or (begun_contents f sound x slot can user_header len) key None ≡ Some new_contents =
+          ap (λ (k : ℕ). get_or (begun_contents f sound x slot can user_header len) k None) here ∙ begun-has f sound x slot can user_header len in
+          subst (λ (z : Book). IsBook z (get_or (begun_contents f sound x slot can user_header len) key None)) is
           (subst (λ (o : Option (List (ContentState T U))). IsBook new_book o) (sym has) new_is_book)
     ];
     publishers = λ k z there. book-still z (sound.parts.books.publishers k z there);
     no_others = λ key none. elim (cases_eq key x.book) [
-      | inr away ↦ others-have f sound x slot can user_header key away ∙ sound.parts.books.no_others key (sym (others-stand f sound x slot can user_header key away) ∙ none)
+      | inr away ↦ others-have f sound x slot can user_header len key away ∙ sound.parts.books.no_others key (sym (others-stand f sound x slot can user_header len key away) ∙ none)
       | inl here ↦
-          let clash : Some new_book ≡ None = sym (taken-stands f sound x slot can user_header) ∙ sym (ap (get (taken_books f sound x slot can user_header)) here) ∙ none in
+          let clash : Some new_book ≡ None = sym (taken-stands f sound x slot can user_header len) ∙ sym (ap (get (taken_books f sound x slot can user_header len)) here) ∙ none in
           absurd cc
     ];
   } where
@@ -141,11 +143,11 @@ module _ {T U : Type 0} (f : Fields T U) (sound : IsDomain f) (i : ℕ) (x : Pub
     new_is_book = record {
       aligned = record {
         numbers = length-set (can.book).numbers slot f.next_message ∙ can.aligned.numbers ∙ sym (length-set (can.book).holders slot 1);
-        headers = length-set (can.book).headers slot (next_header f sound x slot can user_header) ∙ can.aligned.headers ∙ sym (length-set (can.book).holders slot 1);
+        headers = length-set (can.book).headers slot (next_header f sound x slot can user_header len) ∙ can.aligned.headers ∙ sym (length-set (can.book).holders slot 1);
         marks = length-set (can.book).marks slot _ ∙ can.aligned.marks ∙ sym (length-set (can.book).holders slot 1);
       };
       shaped =
-          length-with_changed can.contents slot (unwritten_content user_header (1 * (f.config).units_per_element))
+          length-with_changed can.contents slot (unwritten_content user_header (len * (f.config).units_per_element))
           ∙ can.shaped ∙ sym (length-set (can.book).holders slot 1);
     }
 
@@ -163,9 +165,9 @@ module _ {T U : Type 0} (f : Fields T U) (sound : IsDomain f) (i : ℕ) (x : Pub
     holders_in k o = option_map_or (λ b. holders_at b k) o 0
 
     found-book : (p : ℕ) (t : Bool) → eqb x.id p ≡ t
-        → look_up (is_book_of p) (taken_books f sound x slot can user_header).slots ≡ cond t (Some new_book) (look_up (is_book_of p) f.books.slots)
+        → look_up (is_book_of p) (taken_books f sound x slot can user_header len).slots ≡ cond t (Some new_book) (look_up (is_book_of p) f.books.slots)
     found-book p t e =
-        taken-found f sound x slot can user_header p
+        taken-found f sound x slot can user_header len p
         ∙ ap (λ (q : ℕ). cond (eqb q p) (Some new_book) (look_up (is_book_of p) f.books.slots)) can.its
         ∙ ap (λ b. cond b (Some new_book) (look_up (is_book_of p) f.books.slots)) e
 
@@ -180,7 +182,7 @@ module _ {T U : Type 0} (f : Fields T U) (sound : IsDomain f) (i : ℕ) (x : Pub
         let same : (its_book f sound i x at).book ≡ can.book = its_book-is x (its_book f sound i x at).book refl (its_book f sound i x at).stands in
         let before : holders_at can.book k ≡ times k x.loans + times k (x.history).items + sum_by (stands x.id k) f.connections.slots =
         sym (ap (λ (b : Book). holders_at b k) same) ∙ slot-counted f sound i x at k in
-        elim (taken-holders f sound x slot can user_header k) [
+        elim (taken-holders f sound x slot can user_header len k) [
           | inl here ↦
               let none : holders_at can.book k ≡ 0 = ap (λ (j : ℕ). holders_at can.book j) here.0 ∙ can.free in
               let one : one_if k slot ≡ 1 = ap (λ (j : ℕ). one_if j slot) here.0 ∙ one_if_same slot in
@@ -189,19 +191,19 @@ module _ {T U : Type 0} (f : Fields T U) (sound : IsDomain f) (i : ℕ) (x : Pub
         ]
 
     by : (p k : ℕ) (t : Bool) → eqb x.id p ≡ t
-        → holders_of (taken_books f sound x slot can user_header) p k ≡ own_holders granted p k + sum_by (stands p k) f.connections.slots
+        → holders_of (taken_books f sound x slot can user_header len) p k ≡ own_holders granted p k + sum_by (stands p k) f.connections.slots
     by p k true e =
         let here : x.id ≡ p = eqb-true x.id p e in
         ap (holders_in k) (found-book p true e)
         ∙ counted-here k
         ∙ ap (λ (q : ℕ). times k (x.loans ++ slot ∷ []) + times k (x.history).items + sum_by (stands q k) f.connections.slots) here
         ∙ ap (λ n. n + sum_by (stands p k) f.connections.slots)
-        (sym (ap (own (look_up (is_book_of p) (taken_books f sound x slot can user_header).slots) k) (found-lender p true e)))
+        (sym (ap (own (look_up (is_book_of p) (taken_books f sound x slot can user_header len).slots) k) (found-lender p true e)))
     by p k false e =
         ap (holders_in k) (found-book p false e)
         ∙ sound.parts.counted.at p k
         ∙ ap (λ n. n + sum_by (stands p k) f.connections.slots)
-        (sym (ap (own (look_up (is_book_of p) (taken_books f sound x slot can user_header).slots) k) (found-lender p false e)
+        (sym (ap (own (look_up (is_book_of p) (taken_books f sound x slot can user_header len).slots) k) (found-lender p false e)
         ∙ ap (λ o. own o k (look_up (is_publisher p) f.publishers)) (found-book p false e)))
 
   -- ---- messages
@@ -209,34 +211,34 @@ module _ {T U : Type 0} (f : Fields T U) (sound : IsDomain f) (i : ℕ) (x : Pub
   granted-shapes : HasShapes granted
   granted-shapes = record {
     at = λ key k b m there lies.
-        let found : lies_at mid key k ≡ Some m = message_at-slot (begun_contents f sound x slot can user_header) (taken_books f sound x slot can user_header) key k b there ∙ lies in
+        let found : lies_at mid key k ≡ Some m = message_at-slot (begun_contents f sound x slot can user_header len) (taken_books f sound x slot can user_header len) key k b there ∙ lies in
         elim (cases_eq key x.book) [
           | inr away ↦ before key k m (λ here. away here.0) found
           | inl here ↦ elim (cases_eq k slot) [
             | inr away ↦ before key k m (λ same. away same.1) found
             | inl same ↦
-                let new : Some (Lent_message f.next_message (lent f sound x slot can user_header)) ≡ Some m =
-                sym (lent-lies f sound x slot can user_header)
+                let new : Some (Lent_message f.next_message (lent f sound x slot can user_header len)) ≡ Some m =
+                sym (lent-lies f sound x slot can user_header len)
                 ∙ sym (ap (λ (j : ℕ). lies_at mid j slot) here)
                 ∙ sym (ap (λ (j : ℕ). lies_at mid key j) same) ∙ found in
-                let is : Lent_message f.next_message (lent f sound x slot can user_header) ≡ m = cc in
-                subst (HasShape f.config) is (record { length = length-replicate (1 * (f.config).units_per_element) None; single = λ e. refl })
+                let is : Lent_message f.next_message (lent f sound x slot can user_header len) ≡ m = cc in
+                subst (HasShape f.config) is (record { length = length-replicate (len * (f.config).units_per_element) None; single = one })
           ]
         ];
   } where
     before : (key k : ℕ) (m : KeptMessage T U) → ((key ≡ x.book) × (k ≡ slot) → ⊥) → lies_at mid key k ≡ Some m → HasShape f.config m
     before key k m away found =
-        let was = message_at-book f.contents f.books key k m (sym (others-lie f sound x slot can user_header key k away) ∙ found) in
+        let was = message_at-book f.contents f.books key k m (sym (others-lie f sound x slot can user_header len key k away) ∙ found) in
         sound.parts.shapes.at key k was.0 m was.1 was.2
 
   taken-keeps_entries : KeepsEntries (kept_of mid)
   taken-keeps_entries p n there =
       let held_then : IsHeldMessage state p n =
-      held-before state (record state { next_message = f.next_message + 1; loans = put_at state.loans f.next_message (Some (lent f sound x slot can user_header)) }) p n
+      held-before state (record state { next_message = f.next_message + 1; loans = put_at state.loans f.next_message (Some (lent f sound x slot can user_header len)) }) p n
       (λ q. refl) (λ y here. (y, here, record { history = refl; blocked = refl }))
-      (subst (λ (s : State T U). IsHeldMessage s p n) (taken-is f sound i x at slot can user_header) there) in
+      (subst (λ (s : State T U). IsHeldMessage s p n) (taken-is f sound i x at slot can user_header len) there) in
       let kept = sound.entries p n held_then in
-      (kept.0, taken-entries f sound x slot can user_header n ∙ kept.1, kept.2)
+      (kept.0, taken-entries f sound x slot can user_header len n ∙ kept.1, kept.2)
 
   -- ---- the whole
 
@@ -254,10 +256,10 @@ module _ {T U : Type 0} (f : Fields T U) (sound : IsDomain f) (i : ℕ) (x : Pub
         let long : length (has.book).holders ≡ x.slots = has.no_more (rw (sound.parts.plain i x at).allocation refl) in
         omega arith
 
-    granted-well_formed : IsWellFormed (loan_granted user_header state x.id machine 1 machine.segments)
+    granted-well_formed : IsWellFormed (loan_granted user_header state x.id machine len machine.segments)
     granted-well_formed =
-        grant_loan_keeps ample_memory user_header false 1 state x.id (loan_granted user_header state x.id machine 1 machine.segments) None sound.well_formed
-        (lends-granted ample_memory user_header state x.id machine (publisher-stands f sound i x at) few_numbers (sound.parts.plain i x at).allocation some_free more)
+        grant_loan_keeps ample_memory user_header false len state x.id (loan_granted user_header state x.id machine len machine.segments) None sound.well_formed
+        (lends-granted ample_memory user_header state x.id machine (publisher-stands f sound i x at) false len refl few_numbers (sound.parts.plain i x at).allocation some_free more)
 
     -- the invariant is kept
     pub granted-agrees : IsDomain granted
@@ -269,20 +271,21 @@ module _ {T U : Type 0} (f : Fields T U) (sound : IsDomain f) (i : ℕ) (x : Pub
         linked = changed-linked_same mid i x new_lender at refl linked keeps.key_room refl;
         expired_room = sound.parts.expired_room;
         books = changed-books mid i x new_lender at refl taken-books keeps;
-        names = names-books f.books _ f.connections (taken-after f sound x slot can user_header) sound.parts.names;
+        names = names-books f.books _ f.connections (taken-after f sound x slot can user_header len) sound.parts.names;
         counted = granted-counted;
-        numbered = taken-numbered f sound x slot can user_header;
+        numbered = taken-numbered f sound x slot can user_header len;
         publisher_room = changed-room mid i x new_lender at refl sound.parts.publisher_room keeps;
         warning_room = sound.parts.warning_room;
         shapes = granted-shapes;
+        forms = forms-changed f.config f.contents x.book slot can.contents can.has (unwritten_content user_header (len * (f.config).units_per_element)) (λ c. refl) sound.parts.forms;
         supported = sound.parts.supported;
         plain = changed-plain mid i x new_lender at refl sound.parts.plain keeps;
         plain_subscribers = sound.parts.plain_subscribers;
       };
-      kept_books = changed-kept_books mid i x new_lender at refl (taken_books f sound x slot can user_header) refl
+      kept_books = changed-kept_books mid i x new_lender at refl (taken_books f sound x slot can user_header len) refl
           (kept-own f.next_port f.publishers f.books x.book can.book new_book can.stands refl (subst (IsOwned f.publishers x.book) (sym can.its) (book-owned f sound.parts i x at)) sound.kept_books);
-      lone = taken-lone f sound x slot can user_header;
-      well_formed = rw (granted-is f sound i x at slot can user_header) granted-well_formed;
+      lone = taken-lone f sound x slot can user_header len;
+      well_formed = rw (granted-is f sound i x at slot can user_header len) granted-well_formed;
       entries = changed-entries mid i x new_lender at refl sound.parts.publisher_ids taken-keeps_entries refl refl;
     } where
       linked : IsLinked mid
@@ -302,9 +305,9 @@ module _ {T U : Type 0} (f : Fields T U) (sound : IsDomain f) (i : ℕ) (x : Pub
       }
 
     -- the loan's step
-    pub granted-reaches : Reaches f granted (loan_granted user_header state x.id machine 1 machine.segments)
+    pub granted-reaches : Reaches f granted (loan_granted user_header state x.id machine len machine.segments)
     granted-reaches = record {
       agrees = granted-agrees;
-      state = granted-is f sound i x at slot can user_header;
-      entries = λ n entry kept. sym (taken-entries f sound x slot can user_header n) ∙ kept;
+      state = granted-is f sound i x at slot can user_header len;
+      entries = λ n entry kept. sym (taken-entries f sound x slot can user_header len n) ∙ kept;
     }

@@ -1,5 +1,7 @@
 -- What the steps of a loan need and come to.
-use Rattle.std.proofs.Common.{◌≡◌, ℕ, ◌+◌, ◌*◌, ◌<◌, ◌≤◌, List, length, get_or, slice_set, refl, ap, sym, subst, ◌∙◌, arith}
+use Rattle.std.proofs.Common.{◌≡◌, Bool, true, false, ◌&&◌, nat_lt, ℕ, ◌+◌, ◌*◌, ◌^◌, ◌<◌, ◌≤◌, List, [], ◌∷◌, length, get_or, slice_set, refl, ap, sym, subst, ◌∙◌, arith}
+use Rattle.std.proofs.Math.Nat.{mul-le-mul_right}
+use Rattle.std.proofs.lemmas.Bool.{ltb-false}
 use Rattle.std.specs.declared.option.Option.{Option}
 use Rattle.std.specs.declared.option.Option.TheVariants.{None, Some}
 use Rattle.std.specs.Option.{option_map}
@@ -10,6 +12,8 @@ use Rattle.std.proofs.lemmas.Option.{get_or_from_slice_get}
 use Rattle.slab.specs.Slab.{get, with_value}
 use Rattle.iox2_store.specs.SlotBook.{Book, TakesFreeSlot}
 use Rattle.iox2_store.specs.SlotContents.{ContentState, SomeAt}
+use Rattle.iox2_store.specs.machine.Loans.{is_static}
+use Rattle.iox2_store.specs.declared.service_config.TypeVariant.TheVariants.{FixedSize}
 use Rattle.iox2_store.specs.declared.header.Header.{Header}
 use Rattle.iox2_ends.proofs.MailboxChanges.{within_if_some}
 use Rattle.iox2_domain.specs.Ports.{PublisherFields}
@@ -18,6 +22,7 @@ use Rattle.iox2_domain.specs.Invariant.{IsDomain, IsBook, HasBook}
 use Rattle.iox2_domain.specs.Lending.{header_for, with_taken_slot, lending, Starts, CanLend, IsNamed, Lends}
 use Rattle.iox2_domain.specs.declared.loan_slots.LoanAt.{LoanAt}
 use Rattle.iox2_domain.proofs.lemmas.slots.PublisherBooks.{read-there}
+use Rattle.iox2_domain.proofs.lemmas.slots.SlotRoom.{slot-fits}
 
 module _ {T U : Type 0} (f : Fields T U) (sound : IsDomain f) (i : ℕ) (x : PublisherFields) (at : get_or f.publishers i None ≡ Some x) where
   -- its book has contents
@@ -34,11 +39,11 @@ module _ {T U : Type 0} (f : Fields T U) (sound : IsDomain f) (i : ℕ) (x : Pub
       let found = contents-of has.book has.stands in
       within_if_some f.contents x.book found.0 found.1
 
-  -- a single value fits each slot
-  pub single-fits : (b : Book) → get f.books x.book ≡ Some b → (slot : ℕ) → slot < length b.holders
+  -- a message that is no longer than its longest fits each slot
+  pub length-fits : (len : ℕ) → len ≤ x.initial_max_slice_len → (b : Book) → get f.books x.book ≡ Some b → (slot : ℕ) → slot < length b.holders
       → (o : Option (List (ContentState T U))) → o ≡ get_or f.contents x.book o
-      → IsSomeAnd o (λ cs. SomeAt cs slot (λ content. (f.config).units_per_element ≤ content.room))
-  single-fits b stands slot low o read =
+      → IsSomeAnd o (λ cs. SomeAt cs slot (λ content. len * (f.config).units_per_element ≤ content.room))
+  length-fits len short b stands slot low o read =
       let found = contents-of b stands in
       let is : get_or f.contents x.book None ≡ o = read-there f.contents x.book found.0 o found.1 read in
       let has : HasBook f x = sound.parts.books.publishers i x at in
@@ -48,14 +53,51 @@ module _ {T U : Type 0} (f : Fields T U) (sound : IsDomain f) (i : ℕ) (x : Pub
       let here : x.initial_max_slice_len * (f.config).units_per_element ≤ (get_or found.0 slot some.0).room = room slot some.0 (let e = found.2 in omega arith) in
       let same : get_or found.0 slot some.0 ≡ some.0 = get_or_from_slice_get found.0 slot some.0 some.0 some.1 in
       let enough : x.initial_max_slice_len * (f.config).units_per_element ≤ (some.0).room = subst (λ (c : ContentState T U). x.initial_max_slice_len * (f.config).units_per_element ≤ c.room) same here in
-      let single : 1 * (f.config).units_per_element ≤ (some.0).room = subst (λ (n : ℕ). n * (f.config).units_per_element ≤ (some.0).room) (sound.parts.plain i x at).length enough in
-      let fits : (f.config).units_per_element ≤ (some.0).room = omega arith in
-      subst (λ (o : Option (List (ContentState T U))). IsSomeAnd o (λ cs. SomeAt cs slot (λ content. (f.config).units_per_element ≤ content.room))) (sym found.1 ∙ is)
-      (subst (λ (o : Option (ContentState T U)). IsSomeAnd o (λ content. (f.config).units_per_element ≤ content.room)) (sym some.1) fits)
+      let less : len * (f.config).units_per_element ≤ x.initial_max_slice_len * (f.config).units_per_element = mul-le-mul_right (f.config).units_per_element short in
+      let fits : len * (f.config).units_per_element ≤ (some.0).room = omega (arith, enough, less) in
+      subst (λ (o : Option (List (ContentState T U))). IsSomeAnd o (λ cs. SomeAt cs slot (λ content. len * (f.config).units_per_element ≤ content.room))) (sym found.1 ∙ is)
+      (subst (λ (o : Option (ContentState T U)). IsSomeAnd o (λ content. len * (f.config).units_per_element ≤ content.room)) (sym some.1) fits)
+
+  module _ (checks : Bool) (len : ℕ) (can : CanLend f checks len i) where
+    is-lender : can.publisher ≡ x
+    is-lender = let found : Some can.publisher ≡ Some x = sym can.stands ∙ at in cc
+
+    -- a loan that may be lent is no longer than that
+    pub lent-short : (checks ≡ false → (f.config).variant ≡ FixedSize) → ((f.config).variant ≡ FixedSize → len ≡ 1) → len ≤ x.initial_max_slice_len
+    lent-short unchecked one = by checks refl where
+      by : (b : Bool) → checks ≡ b → len ≤ x.initial_max_slice_len
+      by true e =
+          let short : (checks && is_static x.allocation && nat_lt x.initial_max_slice_len len) ≡ false =
+          subst (λ (z : PublisherFields). (checks && is_static z.allocation && nat_lt z.initial_max_slice_len len) ≡ false) is-lender can.short in
+          let static : is_static x.allocation ≡ true = ap is_static (sound.parts.plain i x at).allocation in
+          let no : nat_lt x.initial_max_slice_len len ≡ false =
+          sym (ap (λ (b : Bool). b && is_static x.allocation && nat_lt x.initial_max_slice_len len) e ∙ ap (λ (b : Bool). b && nat_lt x.initial_max_slice_len len) static) ∙ short in
+          ltb-false x.initial_max_slice_len len no
+      by false e =
+          let fixed : (f.config).variant ≡ FixedSize = unchecked e in
+          let single : x.initial_max_slice_len ≡ 1 = (sound.parts.publisher_room i x at).single fixed in
+          let its : len ≡ 1 = one fixed in
+          omega (arith, single, its)
+
+    -- so many elements fit a machine word
+    pub lent-fits : len ≤ x.initial_max_slice_len → len * (f.config).units_per_element < 2 ^ 64
+    lent-fits short =
+        let has : HasBook f x = sound.parts.books.publishers i x at in
+        let found : Some can.book ≡ Some has.book = sym can.its ∙ ap (λ (z : PublisherFields). get f.books z.book) is-lender ∙ has.stands in
+        let same : can.book ≡ has.book = cc in
+        let count : length (can.book).holders ≡ x.slots = ap (λ (b : Book). length b.holders) same ∙ has.no_more (ap is_static (sound.parts.plain i x at).allocation) in
+        let some : 0 < length (can.book).holders = not-none (can.book).holders can.some_free in
+        let low : x.initial_max_slice_len * (f.config).units_per_element < 2 ^ 64 = slot-fits f.config x.slots x.initial_max_slice_len (sound.parts.publisher_room i x at).size (omega (arith, count, some)) in
+        let less : len * (f.config).units_per_element ≤ x.initial_max_slice_len * (f.config).units_per_element = mul-le-mul_right (f.config).units_per_element short in
+        omega (arith, low, less)
+      where
+        not-none : (hs : List ℕ) → (All (λ n. 0 < n) hs → ⊥) → 0 < length hs
+        not-none [] free = absurd (free (λ k d lt. absurd (omega arith)))
+        not-none (h ∷ hs) free = omega arith
 
   -- it has room for a loan more
-  pub loan-fits : CanLend f i → length x.loans < x.loan_room
-  loan-fits can =
+  pub loan-fits : (checks : Bool) (len : ℕ) → CanLend f checks len i → length x.loans < x.loan_room
+  loan-fits checks len can =
       let found : Some can.publisher ≡ Some x = sym can.stands ∙ at in
       let same : can.publisher ≡ x = cc in
       let few : length x.loans < x.max_loaned_samples = subst (λ (z : PublisherFields). length z.loans < z.max_loaned_samples) same can.few in
@@ -63,17 +105,17 @@ module _ {T U : Type 0} (f : Fields T U) (sound : IsDomain f) (i : ℕ) (x : Pub
       omega arith
 
   -- the steps together are a loan
-  pub lends-from : (is_default : U → Type 0) (b b' : Book) (slot : ℕ) (header : Header) → get f.books x.book ≡ Some b
-      → header ≡ header_for f.config x.id → TakesFreeSlot b b' slot f.next_message header
-      → (o started : Option (List (ContentState T U))) → o ≡ get_or f.contents x.book o → Starts is_default o started slot (f.config).units_per_element
-      → (y y' : Option PublisherFields) → y ≡ get_or f.publishers i y → y' ≡ option_map (lending slot) y
-      → Lends is_default f i x slot (record f {
+  pub lends-from : (len : ℕ) (is_default : U → Type 0) (b b' : Book) (slot : ℕ) (header : Header) → get f.books x.book ≡ Some b
+      → header ≡ header_for f.config x.id len → TakesFreeSlot b b' slot f.next_message header
+      → (o started : Option (List (ContentState T U))) → o ≡ get_or f.contents x.book o → Starts is_default o started slot (len * (f.config).units_per_element)
+      → (y y' : Option PublisherFields) → y ≡ get_or f.publishers i y → y' ≡ option_map (lending len slot) y
+      → Lends is_default f i x slot len (record f {
         next_message = f.next_message + 1;
         books = with_value f.books x.book b';
         contents = slice_set f.contents x.book started;
         publishers = slice_set f.publishers i y';
       })
-  lends-from is_default b b' slot header stands its takes o started read starts y y' read_y lent =
+  lends-from len is_default b b' slot header stands its takes o started read starts y y' read_y lent =
       let found = contents-of b stands in
       record {
         book = b;
@@ -81,7 +123,7 @@ module _ {T U : Type 0} (f : Fields T U) (sound : IsDomain f) (i : ℕ) (x : Pub
         within = takes.in_bounds;
         free = takes.was_unused;
         started = started;
-        starts = subst (λ (p : Option (List (ContentState T U))). Starts is_default p started slot (f.config).units_per_element)
+        starts = subst (λ (p : Option (List (ContentState T U))). Starts is_default p started slot (len * (f.config).units_per_element))
             (sym (read-there f.contents x.book found.0 o found.1 read)) starts;
         lent = λ t. record f {
           next_message = f.next_message + 1;
@@ -91,11 +133,11 @@ module _ {T U : Type 0} (f : Fields T U) (sound : IsDomain f) (i : ℕ) (x : Pub
         };
       }
     where
-      book : b' ≡ with_taken_slot b slot f.next_message (header_for f.config x.id)
+      book : b' ≡ with_taken_slot b slot f.next_message (header_for f.config x.id len)
       book = takes.taken ∙ ap (with_taken_slot b slot f.next_message) its
 
-      lender : y' ≡ Some (lending slot x)
-      lender = lent ∙ ap (option_map (lending slot)) (sym (read-there f.publishers i x y at read_y) ∙ at)
+      lender : y' ≡ Some (lending len slot x)
+      lender = lent ∙ ap (option_map (lending len slot)) (sym (read-there f.publishers i x y at read_y) ∙ at)
 
 -- the loan is the publisher's, seen from the fields before
 pub named-seen : {T U : Type 0} (f old : Fields T U) (i : ℕ) (x : PublisherFields) (loan : LoanAt) → f ≡ old → get_or f.publishers i None ≡ Some x
@@ -105,8 +147,8 @@ named-seen {T} {U} f old i x loan view at named =
     (subst (λ (o : Option PublisherFields). IsSomeAnd o (λ z. IsNamed f z loan)) (sym at) named)
 
 -- seen from the fields before
-pub lends-seen : {T U : Type 0} (is_default : U → Type 0) (f old new : Fields T U) (i slot : ℕ) (x : PublisherFields) → f ≡ old → get_or f.publishers i None ≡ Some x
-    → Lends is_default f i x slot new → IsSomeAnd (get_or old.publishers i None) (λ z. Lends is_default old i z slot new)
-lends-seen {T} {U} is_default f old new i slot x view at lends =
-    subst (λ (g : Fields T U). IsSomeAnd (get_or g.publishers i None) (λ z. Lends is_default g i z slot new)) view
-    (subst (λ (o : Option PublisherFields). IsSomeAnd o (λ z. Lends is_default f i z slot new)) (sym at) lends)
+pub lends-seen : {T U : Type 0} (is_default : U → Type 0) (f old new : Fields T U) (i slot len : ℕ) (x : PublisherFields) → f ≡ old → get_or f.publishers i None ≡ Some x
+    → Lends is_default f i x slot len new → IsSomeAnd (get_or old.publishers i None) (λ z. Lends is_default old i z slot len new)
+lends-seen {T} {U} is_default f old new i slot len x view at lends =
+    subst (λ (g : Fields T U). IsSomeAnd (get_or g.publishers i None) (λ z. Lends is_default g i z slot len new)) view
+    (subst (λ (o : Option PublisherFields). IsSomeAnd o (λ z. Lends is_default f i z slot len new)) (sym at) lends)

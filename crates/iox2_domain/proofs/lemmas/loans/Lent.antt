@@ -1,5 +1,5 @@
 -- A loan of a single value, as the machine says it.
-use Rattle.std.proofs.Common.{◌≡◌, ℕ, ◌+◌, ◌*◌, ◌<◌, ◌≤◌, zero, suc, false, List, [], ◌∷◌, length, get_or, slice_set, refl, ap, sym, subst, ◌∙◌, arith}
+use Rattle.std.proofs.Common.{◌≡◌, ℕ, ◌+◌, ◌*◌, ◌<◌, ◌≤◌, zero, suc, Bool, true, false, ◌&&◌, nat_lt, List, [], ◌∷◌, length, get_or, slice_set, refl, ap, sym, subst, ◌∙◌, arith}
 use Rattle.std.specs.declared.option.Option.{Option}
 use Rattle.std.specs.declared.option.Option.TheVariants.{None, Some}
 use Rattle.std.specs.Option.{MatchOption}
@@ -14,8 +14,9 @@ use Rattle.iox2_store.specs.machine.Records.{Publisher}
 use Rattle.iox2_store.specs.SlotBook.{Book}
 use Rattle.iox2_store.specs.SlotContents.{ContentState, with_changed, unwritten_content}
 use Rattle.iox2_store.specs.machine.State.{State, held}
+use Rattle.iox2_store.specs.declared.service_config.TypeVariant.TheVariants.{FixedSize}
 use Rattle.iox2_store.specs.declared.errors.LoanError.{LoanError}
-use Rattle.iox2_store.specs.declared.errors.LoanError.TheVariants.{OutOfMemory, ExceedsMaxLoans, InternalFailure}
+use Rattle.iox2_store.specs.declared.errors.LoanError.TheVariants.{OutOfMemory, ExceedsMaxLoans, ExceedsMaxLoanSize, InternalFailure}
 use Rattle.iox2_ends.specs.Receivers.{HasReclaimed}
 use Rattle.iox2_ends.proofs.MailboxChanges.{within_if_some}
 use Rattle.iox2_store.specs.machine.Environments.{ample_memory}
@@ -33,7 +34,7 @@ use Rattle.iox2_domain.proofs.lemmas.slots.SlotsInUse.{its_book, size-full, size
 use Rattle.iox2_domain.proofs.lemmas.loans.LendingSteps.{contents-of}
 use Rattle.iox2_domain.proofs.lemmas.slots.PublisherBooks.{book-own}
 use Rattle.iox2_domain.proofs.lemmas.loans.Taken.{CanTakeSlot, taken_book, taken_books, begun_contents, lent, taken-stands, lent-lies}
-use Rattle.iox2_domain.proofs.lemmas.loans.Granted.{lender, with_granted, lends-limited, lends-full, lends-failed, lends-granted}
+use Rattle.iox2_domain.proofs.lemmas.loans.Granted.{lender, with_granted, lends-long, lends-limited, lends-full, lends-failed, lends-granted}
 use Rattle.iox2_domain.proofs.lemmas.loans.GrantedAgrees.{granted-reaches}
 
 -- where not each slot has a holder some slot is free
@@ -48,7 +49,7 @@ some_slot (h ∷ hs) not_all = by h refl (λ held. some_slot hs (λ all. not_all
   by zero e later = (zero, omega arith, e)
   by (suc n) e later = let rest = later (omega arith) in (suc rest.0, omega (arith, rest.1), rest.2)
 
-module _ {T U : Type 0} (f : Fields T U) (sound : IsDomain f) (i : ℕ) (x : PublisherFields) (at : get_or f.publishers i None ≡ Some x) where
+module _ {T U : Type 0} (f : Fields T U) (sound : IsDomain f) (i : ℕ) (x : PublisherFields) (at : get_or f.publishers i None ≡ Some x) (checks : Bool) (len : ℕ) where
   abbrev state : State T U
   state = state_of (kept_of f)
 
@@ -61,9 +62,16 @@ module _ {T U : Type 0} (f : Fields T U) (sound : IsDomain f) (i : ℕ) (x : Pub
   as_many : length machine.loans ≡ length x.loans
   as_many = length-map x.loans (numbers_of f.books x.id)
 
+  -- the length is one that the publisher doesn't lend
+  abbrev pub is_too_long : Bool
+  is_too_long = checks && is_static x.allocation && nat_lt x.initial_max_slice_len len
+
+  pub long : is_too_long ≡ true → (user_header : U) → GrantLoan ample_memory user_header checks len state x.id state (Some ExceedsMaxLoanSize)
+  long e user_header = lends-long ample_memory user_header state x.id machine here checks len e
+
   -- too many loans are out
-  pub limited : (user_header : U) → x.max_loaned_samples ≤ length x.loans → GrantLoan ample_memory user_header false 1 state x.id state (Some ExceedsMaxLoans)
-  limited user_header many = lends-limited ample_memory user_header state x.id machine here (let e = as_many in omega arith)
+  pub limited : is_too_long ≡ false → (user_header : U) → x.max_loaned_samples ≤ length x.loans → GrantLoan ample_memory user_header checks len state x.id state (Some ExceedsMaxLoans)
+  limited short user_header many = lends-limited ample_memory user_header state x.id machine here checks len short (let e = as_many in omega arith)
 
   its-book : (b : Book) → get f.books x.book ≡ Some b → (its_book f sound i x at).book ≡ b
   its-book b stands = let same : Some (its_book f sound i x at).book ≡ Some b = sym (its_book f sound i x at).stands ∙ stands in cc
@@ -74,14 +82,14 @@ module _ {T U : Type 0} (f : Fields T U) (sound : IsDomain f) (i : ℕ) (x : Pub
       ap (λ (c : Book). length c.holders) (sym (its-book b stands))
       ∙ (its_book f sound i x at).no_more (ap is_static (sound.parts.plain i x at).allocation)
 
-  module _ (few : length x.loans < x.max_loaned_samples) (b : Book) (stands : get f.books x.book ≡ Some b) where
+  module _ (short : is_too_long ≡ false) (few : length x.loans < x.max_loaned_samples) (b : Book) (stands : get f.books x.book ≡ Some b) where
     few_numbers : length machine.loans < machine.max_loaned_samples
     few_numbers = let e = as_many in omega arith
 
     -- each slot has a holder
-    pub full : HasReclaimed f.connections x.keys → (user_header : U) → All (λ n. 0 < n) b.holders → GrantLoan ample_memory user_header false 1 state x.id state (Some OutOfMemory)
+    pub full : HasReclaimed f.connections x.keys → (user_header : U) → All (λ n. 0 < n) b.holders → GrantLoan ample_memory user_header checks len state x.id state (Some OutOfMemory)
     full reclaimed user_header all =
-        lends-full ample_memory user_header state x.id machine here few_numbers (sound.parts.plain i x at).allocation
+        lends-full ample_memory user_header state x.id machine here checks len short few_numbers (sound.parts.plain i x at).allocation
         (size-full f sound i x at reclaimed (subst (λ (c : Book). All (λ n. 0 < n) c.holders) (sym (its-book b stands)) all)
         ∙ ap (λ (c : Book). length c.holders) (its-book b stands) ∙ slots-are b stands)
 
@@ -96,36 +104,39 @@ module _ {T U : Type 0} (f : Fields T U) (sound : IsDomain f) (i : ℕ) (x : Pub
 
     -- no number is left
     pub failed : (user_header : U) → (All (λ n. 0 < n) b.holders → ⊥) → f.next_message ≡ last_number
-        → GrantLoan ample_memory user_header false 1 state x.id state (Some InternalFailure)
+        → GrantLoan ample_memory user_header checks len state x.id state (Some InternalFailure)
     failed user_header not_all last =
         let free = some_slot b.holders not_all in
-        lends-failed ample_memory user_header state x.id machine here few_numbers (sound.parts.plain i x at).allocation (some_room free.0 free.1 free.2) last
+        lends-failed ample_memory user_header state x.id machine here checks len short few_numbers (sound.parts.plain i x at).allocation (some_room free.0 free.1 free.2) last
 
   -- ---- what is decided
 
   -- what is decided of this publisher
   abbrev Decided : Option LoanError → PublisherFields → Type 0
-  Decided decision y = MatchOption decision (CanLend f i) (λ e. (user_header : U) → GrantLoan ample_memory user_header false 1 state y.id state (Some e))
+  Decided decision y = MatchOption decision (CanLend f checks len i) (λ e. (user_header : U) → GrantLoan ample_memory user_header checks len state y.id state (Some e))
 
-  decided : (decision : Option LoanError) → Decided decision x → LoanDecided f i decision
+  decided : (decision : Option LoanError) → Decided decision x → LoanDecided f checks len i decision
   decided decision h = subst (λ (o : Option PublisherFields). IsSomeAnd o (Decided decision)) (sym at) h
 
-  pub decided-limited : x.max_loaned_samples ≤ length x.loans → LoanDecided f i (Some ExceedsMaxLoans)
-  decided-limited many = decided (Some ExceedsMaxLoans) (λ user_header. limited user_header many)
+  pub decided-long : is_too_long ≡ true → LoanDecided f checks len i (Some ExceedsMaxLoanSize)
+  decided-long e = decided (Some ExceedsMaxLoanSize) (λ user_header. long e user_header)
 
-  module _ (few : length x.loans < x.max_loaned_samples) (b : Book) (stands : get f.books x.book ≡ Some b) where
-    pub decided-full : HasReclaimed f.connections x.keys → All (λ n. 0 < n) b.holders → LoanDecided f i (Some OutOfMemory)
-    decided-full reclaimed all = decided (Some OutOfMemory) (λ user_header. full few b stands reclaimed user_header all)
+  pub decided-limited : is_too_long ≡ false → x.max_loaned_samples ≤ length x.loans → LoanDecided f checks len i (Some ExceedsMaxLoans)
+  decided-limited short many = decided (Some ExceedsMaxLoans) (λ user_header. limited short user_header many)
 
-    pub decided-failed : (All (λ n. 0 < n) b.holders → ⊥) → f.next_message ≡ last_number → LoanDecided f i (Some InternalFailure)
-    decided-failed not_all last = decided (Some InternalFailure) (λ user_header. failed few b stands user_header not_all last)
+  module _ (short : is_too_long ≡ false) (few : length x.loans < x.max_loaned_samples) (b : Book) (stands : get f.books x.book ≡ Some b) where
+    pub decided-full : HasReclaimed f.connections x.keys → All (λ n. 0 < n) b.holders → LoanDecided f checks len i (Some OutOfMemory)
+    decided-full reclaimed all = decided (Some OutOfMemory) (λ user_header. full short few b stands reclaimed user_header all)
 
-    pub decided-free : (All (λ n. 0 < n) b.holders → ⊥) → f.next_message < last_number → LoanDecided f i None
-    decided-free not_all more = decided None (record { publisher = x; book = b; stands = at; its = stands; few = few; some_free = not_all; more = more })
+    pub decided-failed : (All (λ n. 0 < n) b.holders → ⊥) → f.next_message ≡ last_number → LoanDecided f checks len i (Some InternalFailure)
+    decided-failed not_all last = decided (Some InternalFailure) (λ user_header. failed short few b stands user_header not_all last)
+
+    pub decided-free : (All (λ n. 0 < n) b.holders → ⊥) → f.next_message < last_number → LoanDecided f checks len i None
+    decided-free not_all more = decided None (record { publisher = x; book = b; stands = at; its = stands; few = few; some_free = not_all; more = more; short = short })
 
   -- a slot is lent
-  module _ (few : length x.loans < x.max_loaned_samples) (more : f.next_message < last_number)
-      (is_default : U → Type 0) (slot : ℕ) (new : Fields T U) (lends : Lends is_default f i x slot new) where
+  module _ (short : is_too_long ≡ false) (one : (f.config).variant ≡ FixedSize → len ≡ 1) (few : length x.loans < x.max_loaned_samples) (more : f.next_message < last_number)
+      (is_default : U → Type 0) (slot : ℕ) (new : Fields T U) (lends : Lends is_default f i x slot len new) where
     abbrev user_header : U
     user_header = lends.starts.user_header
 
@@ -144,46 +155,43 @@ module _ {T U : Type 0} (f : Fields T U) (sound : IsDomain f) (i : ℕ) (x : Pub
       free = lends.free;
     }
 
-    new-is : new ≡ with_granted f sound i x at slot can user_header
+    new-is : new ≡ with_granted f sound i x at slot can user_header len
     new-is = lends.lent ∙ (λ t. record f {
       next_message = f.next_message + 1;
-      books = with_value f.books x.book (with_taken_slot lends.book slot f.next_message (header_for f.config x.id));
+      books = with_value f.books x.book (with_taken_slot lends.book slot f.next_message (header_for f.config x.id len));
       contents = slice_set f.contents x.book (started t);
-      publishers = slice_set f.publishers i (Some (lending slot x));
+      publishers = slice_set f.publishers i (Some (lending len slot x));
     })
       where
-        one : (f.config).units_per_element ≡ 1 * (f.config).units_per_element
-        one = omega arith
+        started : lends.started ≡ Some (with_changed lends.starts.contents slot (unwritten_content user_header (len * (f.config).units_per_element)))
+        started = lends.starts.started
 
-        started : lends.started ≡ Some (with_changed lends.starts.contents slot (unwritten_content user_header (1 * (f.config).units_per_element)))
-        started = lends.starts.started ∙ ap (λ n. Some (with_changed lends.starts.contents slot (unwritten_content user_header n))) one
+    pub lent-reaches : Reaches f new (loan_granted user_header state x.id machine len machine.segments)
+    lent-reaches = subst (λ (g : Fields T U). Reaches f g (loan_granted user_header state x.id machine len machine.segments)) (sym new-is)
+        (granted-reaches f sound i x at slot can user_header len one few more)
 
-    pub lent-reaches : Reaches f new (loan_granted user_header state x.id machine 1 machine.segments)
-    lent-reaches = subst (λ (g : Fields T U). Reaches f g (loan_granted user_header state x.id machine 1 machine.segments)) (sym new-is)
-        (granted-reaches f sound i x at slot can user_header few more)
-
-    pub lent-grants : GrantLoan ample_memory user_header false 1 state x.id (loan_granted user_header state x.id machine 1 machine.segments) None
+    pub lent-grants : GrantLoan ample_memory user_header checks len state x.id (loan_granted user_header state x.id machine len machine.segments) None
     lent-grants =
-        lends-granted ample_memory user_header state x.id machine here (few_numbers few lends.book lends.stood) (sound.parts.plain i x at).allocation
-        (some_room few lends.book lends.stood slot lends.within lends.free) more
+        lends-granted ample_memory user_header state x.id machine here checks len short (few_numbers short few lends.book lends.stood) (sound.parts.plain i x at).allocation
+        (some_room short few lends.book lends.stood slot lends.within lends.free) more
 
     -- the loan lies in the slot
     pub lent-in_slot : LiesInSlot new x.id f.next_message x.book slot
     lent-in_slot = subst (λ (g : Fields T U). LiesInSlot g x.id f.next_message x.book slot) (sym new-is)
-        (lies-in-slot (with_granted f sound i x at slot can user_header) (granted-reaches f sound i x at slot can user_header few more).agrees
-        i (lender f sound i x at slot can user_header) (taken_book f sound x slot can user_header) slot f.next_message
-        (get_or-set_same f.publishers i (Some (lender f sound i x at slot can user_header)) None (within_if_some f.publishers i x at))
-        (taken-stands f sound x slot can user_header) is-loan)
+        (lies-in-slot (with_granted f sound i x at slot can user_header len) (granted-reaches f sound i x at slot can user_header len one few more).agrees
+        i (lender f sound i x at slot can user_header len) (taken_book f sound x slot can user_header len) slot f.next_message
+        (get_or-set_same f.publishers i (Some (lender f sound i x at slot can user_header len)) None (within_if_some f.publishers i x at))
+        (taken-stands f sound x slot can user_header len) is-loan)
       where
         lies : List (ContentState T U)
-        lies = contents_at (begun_contents f sound x slot can user_header) x.book
+        lies = contents_at (begun_contents f sound x slot can user_header len) x.book
 
-        is-loan : IsLoanSlot (taken_book f sound x slot can user_header) slot f.next_message
+        is-loan : IsLoanSlot (taken_book f sound x slot can user_header len) slot f.next_message
         is-loan =
-            (lent-slot (taken_book f sound x slot can user_header) lies slot f.next_message (lent f sound x slot can user_header)
-            (message_in-parts (taken_book f sound x slot can user_header) lies slot (Lent_message f.next_message (lent f sound x slot can user_header))
-            (sym (message_at-slot (begun_contents f sound x slot can user_header) (taken_books f sound x slot can user_header) x.book slot
-            (taken_book f sound x slot can user_header) (taken-stands f sound x slot can user_header)) ∙ lent-lies f sound x slot can user_header))).0
+            (lent-slot (taken_book f sound x slot can user_header len) lies slot f.next_message (lent f sound x slot can user_header len)
+            (message_in-parts (taken_book f sound x slot can user_header len) lies slot (Lent_message f.next_message (lent f sound x slot can user_header len))
+            (sym (message_at-slot (begun_contents f sound x slot can user_header len) (taken_books f sound x slot can user_header len) x.book slot
+            (taken_book f sound x slot can user_header len) (taken-stands f sound x slot can user_header len)) ∙ lent-lies f sound x slot can user_header len))).0
 
 -- a publisher with a free slot isn't full
 pub not-full : {T U : Type 0} (f before : Fields T U) → f ≡ before → (i : ℕ) (x : PublisherFields) → get_or f.publishers i None ≡ Some x → (b : Book) → get f.books x.book ≡ Some b

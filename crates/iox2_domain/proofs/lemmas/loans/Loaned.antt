@@ -1,9 +1,10 @@
 -- A loan is a loan, whether or not slots were reclaimed before it.
-use Rattle.std.proofs.Common.{◌≡◌, ◌<◌, ℕ, false, length, get_or, ap, sym, subst, ◌∙◌, Ok, Err}
+use Rattle.std.proofs.Common.{◌≡◌, ◌<◌, ◌&&◌, nat_lt, Bool, ℕ, false, length, get_or, ap, sym, subst, ◌∙◌, Ok, Err}
 use Rattle.std.specs.declared.option.Option.{Option}
 use Rattle.std.specs.declared.option.Option.TheVariants.{None, Some}
 use Rattle.std.specs.Prelude.{IsSomeAnd}
-use Rattle.iox2_store.specs.machine.Loans.{loan_granted, GrantLoan}
+use Rattle.iox2_store.specs.machine.Loans.{is_static, loan_granted, GrantLoan}
+use Rattle.iox2_store.specs.declared.service_config.TypeVariant.TheVariants.{FixedSize}
 use Rattle.iox2_store.specs.machine.Records.{Publisher}
 use Rattle.iox2_store.specs.machine.State.{State}
 use Rattle.iox2_store.specs.declared.errors.LoanError.{LoanError}
@@ -21,7 +22,7 @@ use Rattle.iox2_domain.proofs.lemmas.fields.ReachesShows.{reaches-then}
 use Rattle.iox2_domain.proofs.lemmas.loans.Lent.{lent-reaches, lent-grants, lent-in_slot}
 
 module _ {T U : Type 0} (is_default : U → Type 0) (f mid : Fields T U) (sound : IsDomain f) (i : ℕ) (stands : (x : PublisherFields) × (get_or f.publishers i None ≡ Some x))
-    (reached : Reaches f mid (state_of (kept_of f))) (same : mid.publishers ≡ f.publishers) where
+    (reached : Reaches f mid (state_of (kept_of f))) (same : mid.publishers ≡ f.publishers) (checks : Bool) (len : ℕ) where
   abbrev x : PublisherFields
   x = stands.0
 
@@ -29,31 +30,37 @@ module _ {T U : Type 0} (is_default : U → Type 0) (f mid : Fields T U) (sound 
   at_mid = ap (λ xs. get_or xs i None) same ∙ stands.1
 
   -- the loan is refused
-  pub loan-refused : (e : LoanError) → LoanDecided mid i (Some e) → IsSomeAnd (get_or f.publishers i None) (λ z. LoanReaches {A = LoanAt} is_default f z (Err e) mid)
+  pub loan-refused : (e : LoanError) → LoanDecided mid checks len i (Some e) → IsSomeAnd (get_or f.publishers i None) (λ z. LoanReaches {A = LoanAt} is_default checks len f z (Err e) mid)
   loan-refused e refused =
-      subst (λ (o : Option PublisherFields). IsSomeAnd o (λ z. LoanReaches {A = LoanAt} is_default f z (Err e) mid)) (sym stands.1)
-      (subst (λ (s : State T U). (user_header : U) → GrantLoan ample_memory user_header false 1 s x.id s (Some e)) reached.state here, reached)
+      subst (λ (o : Option PublisherFields). IsSomeAnd o (λ z. LoanReaches {A = LoanAt} is_default checks len f z (Err e) mid)) (sym stands.1)
+      (subst (λ (s : State T U). (user_header : U) → GrantLoan ample_memory user_header checks len s x.id s (Some e)) reached.state here, reached)
     where
-      here : (user_header : U) → GrantLoan ample_memory user_header false 1 (state_of (kept_of mid)) x.id (state_of (kept_of mid)) (Some e)
-      here = subst (λ (o : Option PublisherFields). IsSomeAnd o (λ z. (user_header : U) → GrantLoan ample_memory user_header false 1 (state_of (kept_of mid)) z.id (state_of (kept_of mid)) (Some e))) at_mid refused
+      here : (user_header : U) → GrantLoan ample_memory user_header checks len (state_of (kept_of mid)) x.id (state_of (kept_of mid)) (Some e)
+      here = subst (λ (o : Option PublisherFields). IsSomeAnd o (λ z. (user_header : U) → GrantLoan ample_memory user_header checks len (state_of (kept_of mid)) z.id (state_of (kept_of mid)) (Some e))) at_mid refused
 
   -- a slot may be lent
-  pub may-lend : LoanDecided mid i None → CanLend mid i
-  may-lend free = subst (λ (o : Option PublisherFields). IsSomeAnd o (λ z. CanLend mid i)) at_mid free
+  pub may-lend : LoanDecided mid checks len i None → CanLend mid checks len i
+  may-lend free = subst (λ (o : Option PublisherFields). IsSomeAnd o (λ z. CanLend mid checks len i)) at_mid free
 
   -- a slot is lent
-  pub loan-lent : LoanDecided mid i None → (loan : LoanAt) (new : Fields T U)
-      → IsSomeAnd (get_or mid.publishers i None) (λ z. Lends is_default mid i z loan.slot new)
-      → IsSomeAnd (get_or f.publishers i None) (λ z. LoanReaches is_default f z (Ok loan) new)
-  loan-lent free loan new lends =
-      subst (λ (o : Option PublisherFields). IsSomeAnd o (λ z. LoanReaches is_default f z (Ok loan) new)) (sym stands.1)
+  pub loan-lent : ((mid.config).variant ≡ FixedSize → len ≡ 1) → LoanDecided mid checks len i None → (loan : LoanAt) (new : Fields T U)
+      → IsSomeAnd (get_or mid.publishers i None) (λ z. Lends is_default mid i z loan.slot len new)
+      → IsSomeAnd (get_or f.publishers i None) (λ z. LoanReaches is_default checks len f z (Ok loan) new)
+  loan-lent one free loan new lends =
+      subst (λ (o : Option PublisherFields). IsSomeAnd o (λ z. LoanReaches is_default checks len f z (Ok loan) new)) (sym stands.1)
       (its.starts.user_header, its.starts.default, both.0, reaches-then f mid new _ _ reached both.1)
     where
-      its : Lends is_default mid i x loan.slot new
-      its = subst (λ (o : Option PublisherFields). IsSomeAnd o (λ z. Lends is_default mid i z loan.slot new)) at_mid lends
+      its : Lends is_default mid i x loan.slot len new
+      its = subst (λ (o : Option PublisherFields). IsSomeAnd o (λ z. Lends is_default mid i z loan.slot len new)) at_mid lends
 
-      can : CanLend mid i
+      can : CanLend mid checks len i
       can = may-lend free
+
+      short : (checks && is_static x.allocation && nat_lt x.initial_max_slice_len len) ≡ false
+      short =
+          let found : Some can.publisher ≡ Some x = sym can.stands ∙ at_mid in
+          let is : can.publisher ≡ x = cc in
+          subst (λ (z : PublisherFields). (checks && is_static z.allocation && nat_lt z.initial_max_slice_len len) ≡ false) is can.short
 
       few : length x.loans < x.max_loaned_samples
       few =
@@ -69,14 +76,14 @@ module _ {T U : Type 0} (is_default : U → Type 0) (f mid : Fields T U) (sound 
 
       -- the machine's step, from a state and the publisher in it
       Step : State T U → Publisher → Type 0
-      Step s y = GrantLoan ample_memory its.starts.user_header false 1 s x.id (loan_granted its.starts.user_header s x.id y 1 x.segments) None
-          × Reaches mid new (loan_granted its.starts.user_header s x.id y 1 x.segments)
+      Step s y = GrantLoan ample_memory its.starts.user_header checks len s x.id (loan_granted its.starts.user_header s x.id y len x.segments) None
+          × Reaches mid new (loan_granted its.starts.user_header s x.id y len x.segments)
 
       both : Step (state_of (kept_of f)) ((publisher_of f.books f.connections x).port)
       both = subst (λ (s : State T U). Step s ((publisher_of f.books f.connections x).port)) reached.state
           (subst (Step (state_of (kept_of mid))) machine-same (
-            lent-grants mid reached.agrees i x at_mid few can.more is_default loan.slot new its,
-            lent-reaches mid reached.agrees i x at_mid few can.more is_default loan.slot new its,
+            lent-grants mid reached.agrees i x at_mid checks len short one few can.more is_default loan.slot new its,
+            lent-reaches mid reached.agrees i x at_mid checks len short one few can.more is_default loan.slot new its,
           ))
 
   -- it is the publisher's loan, of the next message
@@ -87,20 +94,26 @@ module _ {T U : Type 0} (is_default : U → Type 0) (f mid : Fields T U) (sound 
       (record { publisher = its.publisher; number = its.number ∙ ap (λ (s : State T U). s.next_message) reached.state; book = its.book })
 
   -- the loan lies in the slot that is lent
-  pub loan-lies : LoanDecided mid i None → (loan : LoanAt) (new : Fields T U)
+  pub loan-lies : ((mid.config).variant ≡ FixedSize → len ≡ 1) → LoanDecided mid checks len i None → (loan : LoanAt) (new : Fields T U)
       → IsSomeAnd (get_or mid.publishers i None) (λ z. IsNamed mid z loan)
-      → IsSomeAnd (get_or mid.publishers i None) (λ z. Lends is_default mid i z loan.slot new)
+      → IsSomeAnd (get_or mid.publishers i None) (λ z. Lends is_default mid i z loan.slot len new)
       → LiesInSlot new loan.publisher loan.number loan.book loan.slot
-  loan-lies free loan new named lends =
+  loan-lies one free loan new named lends =
       let names = subst (λ (o : Option PublisherFields). IsSomeAnd o (λ z. IsNamed mid z loan)) at_mid named in
       rw (names.publisher, names.number, names.book)
-      (lent-in_slot mid reached.agrees i x at_mid few can.more is_default loan.slot new its)
+      (lent-in_slot mid reached.agrees i x at_mid checks len short one few can.more is_default loan.slot new its)
     where
-      its : Lends is_default mid i x loan.slot new
-      its = subst (λ (o : Option PublisherFields). IsSomeAnd o (λ z. Lends is_default mid i z loan.slot new)) at_mid lends
+      its : Lends is_default mid i x loan.slot len new
+      its = subst (λ (o : Option PublisherFields). IsSomeAnd o (λ z. Lends is_default mid i z loan.slot len new)) at_mid lends
 
-      can : CanLend mid i
+      can : CanLend mid checks len i
       can = may-lend free
+
+      short : (checks && is_static x.allocation && nat_lt x.initial_max_slice_len len) ≡ false
+      short =
+          let found : Some can.publisher ≡ Some x = sym can.stands ∙ at_mid in
+          let is : can.publisher ≡ x = cc in
+          subst (λ (z : PublisherFields). (checks && is_static z.allocation && nat_lt z.initial_max_slice_len len) ≡ false) is can.short
 
       few : length x.loans < x.max_loaned_samples
       few =

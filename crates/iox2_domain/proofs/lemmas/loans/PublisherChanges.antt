@@ -254,6 +254,8 @@ module _ {T U : Type 0} (f : Fields T U) (i : ℕ) (x y : PublisherFields) (at :
     mine has = record {
       loans = let most = keeps.max_loaned_samples in let room = keeps.loan_room in let enough = has.loans in omega arith;
       history = keeps.history_room ∙ has.history;
+      size = rw (keeps.slots, keeps.initial_max_slice_len) has.size;
+      single = λ fixed. keeps.initial_max_slice_len ∙ has.single fixed;
     }
 
   -- it is still plain
@@ -268,7 +270,6 @@ module _ {T U : Type 0} (f : Fields T U) (i : ℕ) (x y : PublisherFields) (at :
           degradation = keeps.degradation_handler ∙ has.degradation;
           unblocked = keeps.blocked ∙ has.unblocked;
           allocation = keeps.allocation ∙ has.allocation;
-          length = keeps.initial_max_slice_len ∙ has.length;
         })
     | inr away ↦ plain k z away.1
   ]

@@ -81,10 +81,10 @@ pub record CanTakeSlot {T U : Type 0} (f : Fields T U) (x : PublisherFields) (sl
   pub within : slot < length book.holders
   pub free : holders_at book slot ≡ 0
 
-module _ {T U : Type 0} (f : Fields T U) (sound : IsDomain f) (x : PublisherFields) (slot : ℕ) (can : CanTakeSlot f x slot) (user_header : U) where
+module _ {T U : Type 0} (f : Fields T U) (sound : IsDomain f) (x : PublisherFields) (slot : ℕ) (can : CanTakeSlot f x slot) (user_header : U) (len : ℕ) where
   -- the header of the next message
   abbrev pub next_header : Header
-  next_header = record { node_id = (f.config).node_id; publisher_id = x.id; number_of_elements = 1 }
+  next_header = record { node_id = (f.config).node_id; publisher_id = x.id; number_of_elements = len }
 
   -- the book with the slot taken
   abbrev pub taken_book : Book
@@ -97,7 +97,7 @@ module _ {T U : Type 0} (f : Fields T U) (sound : IsDomain f) (x : PublisherFiel
 
   -- its contents with an unwritten loan in the slot
   abbrev pub begun : List (ContentState T U)
-  begun = with_changed can.contents slot (unwritten_content user_header (1 * (f.config).units_per_element))
+  begun = with_changed can.contents slot (unwritten_content user_header (len * (f.config).units_per_element))
 
   abbrev pub taken_books : Slab Book
   taken_books = with_value f.books x.book taken_book
@@ -115,7 +115,7 @@ module _ {T U : Type 0} (f : Fields T U) (sound : IsDomain f) (x : PublisherFiel
     publisher = x.id;
     header = next_header;
     user_header = user_header;
-    cells = replicate (1 * (f.config).units_per_element) None;
+    cells = replicate (len * (f.config).units_per_element) None;
     is_written = false;
   }
 
@@ -199,11 +199,11 @@ module _ {T U : Type 0} (f : Fields T U) (sound : IsDomain f) (x : PublisherFiel
       lies : LiesIn taken_book begun slot (Lent_message f.next_message lent)
       lies = record {
         header = next_header;
-        content = unwritten_content user_header (1 * (f.config).units_per_element) there.0;
+        content = unwritten_content user_header (len * (f.config).units_per_element) there.0;
         mark = Unwritten;
         in_use = let e : holders_at taken_book slot ≡ 1 = get_or-set_same (can.book).holders slot 1 0 can.within in omega arith;
         headers = slice_get-set_same (can.book).headers slot next_header (let e = can.aligned.headers in let lt = can.within in omega arith);
-        contains = with_changed-here can.contents slot (unwritten_content user_header (1 * (f.config).units_per_element)) there.0 there.1 low;
+        contains = with_changed-here can.contents slot (unwritten_content user_header (len * (f.config).units_per_element)) there.0 there.1 low;
         marks = slice_get-set_same (can.book).marks slot Unwritten (let e = can.aligned.marks in let lt = can.within in omega arith);
         is = λ t. Lent_message (sym taken-number_here t) (record lent { publisher = sym can.its t });
       }
@@ -244,7 +244,7 @@ module _ {T U : Type 0} (f : Fields T U) (sound : IsDomain f) (x : PublisherFiel
           mark = slice_get-set_other (can.book).marks slot k Unwritten other
 
           content : slice_get begun k ≡ slice_get can.contents k
-          content = with_changed-others can.contents slot (unwritten_content user_header (1 * (f.config).units_per_element)) k other
+          content = with_changed-others can.contents slot (unwritten_content user_header (len * (f.config).units_per_element)) k other
 
       in_book : (k : ℕ) → k ≢ slot → lies_at with_taken x.book k ≡ lies_at f x.book k
       in_book k other =

@@ -84,7 +84,7 @@ module _ {T U : Type 0} (f : Fields T U) (sound : IsDomain f) (j : ℕ) (y : Sub
   dropped_fields = counts.recounted_fields f sound p c.home.book b at_b mine holders between recounts
 
   pub dropped-parts : HasParts dropped_fields
-  dropped-parts = counts.consistent f sound p c.home.book b at_b mine holders between recounts
+  dropped-parts = counts.parts-recounted f sound p c.home.book b at_b mine holders between recounts
 
   -- the waiting messages of one mailbox are lost
   boxes-dropped : mailboxes_of (numbers_of f.books) between ≡ with_box s.mailboxes p y.id (waiting_dropped (s.mailboxes p y.id))

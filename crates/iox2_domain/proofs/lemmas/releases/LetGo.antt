@@ -45,7 +45,7 @@ module _ {T U : Type 0} (f : Fields T U) (sound : IsDomain f) (key slot : ℕ) (
   -- ---- the whole
 
   pub let_go-consistent : HasParts let_go
-  let_go-consistent = counts.consistent f sound p c.home.book b at_b its (one_holder_less slot b.holders) new r
+  let_go-consistent = counts.parts-recounted f sound p c.home.book b at_b its (one_holder_less slot b.holders) new r
 
   -- no connection's book is kept for nobody but this one
   kept-after : KeepsBooks f.next_port f.publishers f.books → KeepsBooksBut f.next_port f.publishers let_go.books c.home.book

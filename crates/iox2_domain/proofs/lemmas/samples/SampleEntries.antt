@@ -8,6 +8,7 @@ use Rattle.iox2_store.specs.Stored.{In_mailbox}
 use Rattle.iox2_store.specs.SlotBook.{Book}
 use Rattle.iox2_store.specs.SlotContents.{ContentState}
 use Rattle.iox2_store.specs.declared.header.Header.{Header}
+use Rattle.iox2_store.specs.declared.service_config.TypeVariant.TheVariants.{FixedSize}
 use Rattle.iox2_store.specs.declared.slots.mark.SlotMark.{SlotMark}
 use Rattle.iox2_store.specs.declared.slots.mark.SlotMark.TheVariants.{Unwritten, Written, Sent}
 use Rattle.iox2_laws.proofs.NumberLemmas.{contains_right}
@@ -25,6 +26,7 @@ module _ {T U : Type 0} where
   -- the parts of a sent message are those of its slot
   pub record IsSentMessage (n : ℕ) (entry : Entry T U) (header : Header) (content : ContentState T U) : Type 0 where
     pub header_is : entry.header ≡ header
+    pub user_header_is : entry.user_header ≡ content.user_header
     pub values_are : entry.values ≡ content.values
 
   sent-parts : (publisher number n : ℕ) (header : Header) (content : ContentState T U) (mark : SlotMark) (entry : Entry T U)
@@ -35,7 +37,7 @@ module _ {T U : Type 0} where
       let shown : Entry T U = record { header = header; user_header = content.user_header; values = content.values } in
       let same : Sent_message n entry ≡ Sent_message number shown = e in
       let is : entry ≡ shown = cc in
-      record { header_is = ap (λ (x : Entry T U). x.header) is; values_are = ap (λ (x : Entry T U). x.values) is }
+      record { header_is = ap (λ (x : Entry T U). x.header) is; user_header_is = ap (λ (x : Entry T U). x.user_header) is; values_are = ap (λ (x : Entry T U). x.values) is }
 
 -- a borrowed message has an entry that names its publisher
 pub borrowed-entry : {T U : Type 0} (f : Fields T U) → IsDomain f → (q p n : ℕ) → is_borrowed n ((state_of (kept_of f)).mailboxes p q) ≡ true
@@ -51,8 +53,9 @@ pub record SampleEntry {T U : Type 0} (f : Fields T U) (p n : ℕ) (at : SampleS
   pub within : at.slot < length b.holders
   pub headers : slice_get b.headers at.slot ≡ Some entry.header
   pub contains : slice_get (contents_at f.contents at.book) at.slot ≡ Some content
+  pub user_header_is : entry.user_header ≡ content.user_header
   pub values_are : entry.values ≡ content.values
-  pub one_value : (f.config).units_per_element ≡ 1 → length entry.values ≡ 1
+  pub one_value : (f.config).variant ≡ FixedSize → (f.config).units_per_element ≡ 1 → length entry.values ≡ 1
 
 module _ {T U : Type 0} (f : Fields T U) (sound : IsDomain f) (q n : ℕ) (at : SampleSlot) (lies : LiesBorrowed f q n at) where
   abbrev its-publisher : ℕ
@@ -79,7 +82,6 @@ module _ {T U : Type 0} (f : Fields T U) (sound : IsDomain f) (q n : ℕ) (at : 
           let parts = message_in-parts lies.book (contents_at f.contents at.book) at.slot (Sent_message n entry) here in
           let sent = sent-parts (lies.book).publisher (slice_index (lies.book).numbers at.slot) n parts.header parts.content parts.mark entry parts.is in
           let shape = sound.parts.shapes.at at.book at.slot lies.book (Sent_message n entry) lies.has_book here in
-          let single : (entry.header).number_of_elements ≡ 1 = shape.single sound.parts.supported.single_values in
           record {
             entry = entry;
             is_kept = is;
@@ -88,8 +90,9 @@ module _ {T U : Type 0} (f : Fields T U) (sound : IsDomain f) (q n : ℕ) (at : 
             within = in_range (lies.book).holders at.slot parts.in_use;
             headers = parts.headers ∙ ap Some (sym sent.header_is);
             contains = parts.contains;
+            user_header_is = sent.user_header_is;
             values_are = sent.values_are;
-            one_value = λ one. shape.length ∙ ap (λ (k : ℕ). k * (f.config).units_per_element) single ∙ ap (λ (k : ℕ). 1 * k) one;
+            one_value = λ fixed one. shape.length ∙ ap (λ (k : ℕ). k * (f.config).units_per_element) (shape.single fixed) ∙ ap (λ (k : ℕ). 1 * k) one;
           }
 
       by : (entry : Entry T U) → entries_of (kept_of f) n ≡ Some entry → (entry.header).publisher_id ≡ its-publisher

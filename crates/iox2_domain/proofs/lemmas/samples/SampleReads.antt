@@ -1,13 +1,16 @@
 -- What is read of a borrowed message is its entry's.
-use Rattle.std.proofs.Common.{◌≡◌, ℕ, ◌<◌, List, [], ◌∷◌, length, get_or, refl, ap, sym, subst, ◌∙◌, arith, Option, Some, None, IsSomeAnd}
+use Rattle.std.proofs.Common.{◌≡◌, ℕ, ◌<◌, List, [], ◌∷◌, false, length, get_or, refl, ap, sym, subst, ◌∙◌, arith, Option, Some, None, IsSomeAnd}
 use Rattle.std.proofs.lemmas.List.{get_or_read}
+use Rattle.std.proofs.lemmas.Option.{slice_get_within, get_or_from_slice_get}
 use Rattle.std.specs.Prelude.{slice_get}
-use Rattle.std.specs.Option.{option_and_then}
+use Rattle.std.specs.Option.{option_map, option_and_then}
 use Rattle.slab.specs.Slab.{get}
 use Rattle.iox2_store.specs.machine.Records.{Entry}
+use Rattle.iox2_store.specs.SingleValues.{is_single_valued}
 use Rattle.iox2_store.specs.SlotBook.{Book}
-use Rattle.iox2_store.specs.SlotContents.{ContentState, SomeAt, first_value_at}
+use Rattle.iox2_store.specs.SlotContents.{ContentState, SomeAt, first_value_at, values_at, user_header_at}
 use Rattle.iox2_store.specs.declared.header.Header.{Header}
+use Rattle.iox2_store.specs.declared.service_config.TypeVariant.TheVariants.{FixedSize}
 use Rattle.iox2_ends.proofs.MailboxChanges.{within_if_some}
 use Rattle.iox2_domain.specs.Kept.{entries_of}
 use Rattle.iox2_domain.specs.Fields.{Fields, kept_of}
@@ -75,16 +78,44 @@ module _ {T U : Type 0} (f now : Fields T U) (q n : ℕ) (at : SampleSlot) (ther
           ∙ ap (λ (x : Option (List (ContentState T U))). slice_get (elim x [ None ↦ [] | Some ys ↦ ys ]) at.slot) (sym has-contents.1)
           ∙ its-entry.contains
 
-      pub value-there : (now.config).units_per_element ≡ 1 → SomeAt cs at.slot (λ content. 0 < length content.values)
-      value-there one =
-          let single : length (its-entry.entry).values ≡ 1 = its-entry.one_value one in
+      pub value-there : (now.config).variant ≡ FixedSize → (now.config).units_per_element ≡ 1 → SomeAt cs at.slot (λ content. 0 < length content.values)
+      value-there fixed one =
+          let single : length (its-entry.entry).values ≡ 1 = its-entry.one_value fixed one in
           let some : 0 < length (its-entry.content).values = subst (λ (xs : List T). 0 < length xs) its-entry.values_are (omega (arith, single)) in
           rw its-contents some
 
-      pub value-read : (now.config).units_per_element ≡ 1 → (x : T) → first_value_at cs at.slot ≡ Some x
+      -- where messages aren't single values they lie in lists
+      pub values-there : is_single_valued now.config ≡ false → SomeAt cs at.slot (λ content. content.is_in_place ≡ false)
+      values-there several =
+          let one : Some has-contents.0 ≡ Some cs = sym read-contents ∙ is in
+          let same : has-contents.0 ≡ cs = cc in
+          let listed : (its-entry.content).is_in_place ≡ false =
+          subst (λ (c : ContentState T U). c.is_in_place ≡ false) (get_or_from_slice_get cs at.slot its-entry.content its-entry.content its-contents)
+          (((there.sound).parts.forms.at several at.book cs (has-contents.1 ∙ ap Some same)) at.slot its-entry.content (slice_get_within cs at.slot its-entry.content its-contents)) in
+          rw its-contents listed
+
+      pub values-read : (xs : List T) → values_at cs at.slot ≡ Some xs → (entry : Entry T U) × (entries_of (kept_of now) n ≡ Some entry) × (entry.values ≡ xs)
+      values-read xs read-at =
+          let got : Some (its-entry.content).values ≡ Some xs = sym (ap (option_map (λ (content : ContentState T U). content.values)) its-contents) ∙ read-at in
+          let values : (its-entry.content).values ≡ xs = cc in
+          (its-entry.entry, its-entry.is_kept, its-entry.values_are ∙ values)
+
+      pub value-read : (now.config).variant ≡ FixedSize → (now.config).units_per_element ≡ 1 → (x : T) → first_value_at cs at.slot ≡ Some x
           → (entry : Entry T U) × (entries_of (kept_of now) n ≡ Some entry) × (entry.values ≡ x ∷ [])
-      value-read one x first =
+      value-read fixed one x first =
           let got : slice_get (its-entry.content).values 0 ≡ Some x =
           ap (option_and_then (λ (content : ContentState T U). slice_get content.values 0)) (sym its-contents) ∙ first in
-          let single : length (its-entry.entry).values ≡ 1 = its-entry.one_value one in
+          let single : length (its-entry.entry).values ≡ 1 = its-entry.one_value fixed one in
           (its-entry.entry, its-entry.is_kept, one-element (its-entry.entry).values x single (ap (λ (xs : List T). slice_get xs 0) its-entry.values_are ∙ got))
+
+      -- ---- the user header
+
+      pub user_header-there : at.slot < length cs
+      user_header-there = slice_get_within cs at.slot its-entry.content its-contents
+
+      pub user_header-read : (user_header : U) → user_header_at cs at.slot ≡ Some user_header
+          → (entry : Entry T U) × (entries_of (kept_of now) n ≡ Some entry) × (entry.user_header ≡ user_header)
+      user_header-read user_header read-at =
+          let got : Some (its-entry.content).user_header ≡ Some user_header = sym (ap (option_map (λ (content : ContentState T U). content.user_header)) its-contents) ∙ read-at in
+          let same : (its-entry.content).user_header ≡ user_header = cc in
+          (its-entry.entry, its-entry.is_kept, its-entry.user_header_is ∙ same)

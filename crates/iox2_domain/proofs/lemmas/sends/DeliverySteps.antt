@@ -21,13 +21,13 @@ use Rattle.iox2_ends.specs.Recounts.{Recounts}
 use Rattle.iox2_laws.proofs.Cases.{by_bool}
 use Rattle.iox2_domain.specs.Ports.{PublisherFields}
 use Rattle.iox2_domain.specs.Fields.{Fields}
-use Rattle.iox2_domain.specs.Invariant.{IsDomain, IsOwned, IsCounted, details_of, is_subscriber, holders_of, HasParts}
+use Rattle.iox2_domain.specs.Invariant.{IsDomain, IsCounted, details_of, is_subscriber, holders_of, HasParts}
 use Rattle.iox2_domain.specs.Deliveries.{DeliversTo, CanSend, SendsSlot, with_loan_out, with_sent, with_left, pushed, leaving}
 use Rattle.iox2_domain.proofs.lemmas.containers.LookUps.{IsOnly-map}
-use Rattle.iox2_domain.proofs.lemmas.slots.PublisherBooks.{sender-linked, book-own, book-owned}
+use Rattle.iox2_domain.proofs.lemmas.slots.PublisherBooks.{sender-linked, book-own}
 use Rattle.iox2_domain.proofs.lemmas.slots.BookChanges.{holders-here}
 use Rattle.iox2_domain.proofs.lemmas.slots.HeldMessages.{own-in_use as held-itself}
-use Rattle.iox2_domain.proofs.lemmas.slots.RecountedState.{recounted_fields, parts-recounted}
+use Rattle.iox2_domain.proofs.lemmas.slots.RecountedLoans.{recounted_fields, parts-recounted}
 use Rattle.std.proofs.lemmas.List.{get_or-set_same}
 use Rattle.iox2_ends.proofs.MailboxChanges.{within_if_some}
 use Rattle.iox2_ends.proofs.Counts.{in_range, times-cons, one_if_same}
@@ -172,17 +172,14 @@ module _ {T U : Type 0} (before f : Fields T U) (same : f ≡ before) (i slot : 
       mine : b.publisher ≡ y.id
       mine = book-own f here.parts i y stands b at
 
-      owned : IsOwned f.publishers y.book y.id
-      owned = book-owned f here.parts i y stands
-
-      counted : IsCounted (recounted_fields f here y.id y.book b at mine owned holders new r)
-      counted = (parts-recounted f here y.id y.book b at mine owned holders new r).counted
+      counted : IsCounted (recounted_fields f here y.id y.book b at mine holders new r)
+      counted = (parts-recounted f here y.id y.book b at mine holders new r).counted
 
       remembered : 0 < times oldest y.history.items → 0 < get_or holders oldest 0
       remembered some =
-          let held : 0 < holders_of (recounted_fields f here y.id y.book b at mine owned holders new r).books y.id oldest =
-          held-itself (recounted_fields f here y.id y.book b at mine owned holders new r) counted here.parts.publisher_ids i oldest y stands (omega (arith, some)) in
-          let now : holders_of (recounted_fields f here y.id y.book b at mine owned holders new r).books y.id oldest ≡ get_or holders oldest 0 =
+          let held : 0 < holders_of (recounted_fields f here y.id y.book b at mine holders new r).books y.id oldest =
+          held-itself (recounted_fields f here y.id y.book b at mine holders new r) counted here.parts.publisher_ids i oldest y stands (omega (arith, some)) in
+          let now : holders_of (recounted_fields f here y.id y.book b at mine holders new r).books y.id oldest ≡ get_or holders oldest 0 =
           holders-here f y.book b (with_counters b holders) at (record { publisher = refl; numbers = refl; slots = r.slots }) here.parts.books.one_each y.id oldest mine in
           omega (arith, held, now)
 

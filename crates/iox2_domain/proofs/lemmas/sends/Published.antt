@@ -47,7 +47,8 @@ use Rattle.iox2_domain.proofs.lemmas.fields.SameEnds.{with_connections, same-sub
 use Rattle.iox2_domain.proofs.lemmas.slots.HeldMessages.{own-in_use, held-message-slot}
 use Rattle.iox2_domain.proofs.lemmas.slots.PublisherBooks.{book-own, book-owned}
 use Rattle.iox2_domain.proofs.lemmas.slots.Recounts.{back, forth}
-use Rattle.iox2_domain.proofs.lemmas.slots.RecountedState.{recounted_fields, recounted-kept, parts-recounted, same-numbers, recounted-is, recounted-entries, recounted-keeps}
+use Rattle.iox2_domain.proofs.lemmas.slots.RecountedFields.{same-numbers}
+use Rattle.iox2_domain.proofs.lemmas.slots.RecountedLoans.{recounted_fields, recounted-kept, parts-recounted, recounted-is, recounted-entries, recounted-keeps}
 use Rattle.iox2_domain.proofs.lemmas.sends.LoanAlone.{loan-is, loan-of, loan-slot, loan-once, loan-number}
 use Rattle.iox2_domain.proofs.lemmas.sends.SendEnded.{ended, lies-sent, others-lie, only-slot, sent-there, others-same, ended-entries, ended-is, ended-parts}
 use Rattle.iox2_domain.proofs.lemmas.sends.Trimmed.{Trims, trims}
@@ -95,10 +96,10 @@ module _ {T U : Type 0} (environment : Environment) (f : Fields T U) (sound : Is
 
   -- the fields after the delivery
   abbrev mid : Fields T U
-  mid = recounted_fields f sound x.id x.book d.book d.stands own owned d.holders d.connections d.recounts
+  mid = recounted_fields f sound x.id x.book d.book d.stands own d.holders d.connections d.recounts
 
   parts : HasParts mid
-  parts = parts-recounted f sound x.id x.book d.book d.stands own owned d.holders d.connections d.recounts
+  parts = parts-recounted f sound x.id x.book d.book d.stands own d.holders d.connections d.recounts
 
   abbrev book : Book
   book = with_counters d.book d.holders
@@ -174,10 +175,10 @@ module _ {T U : Type 0} (environment : Environment) (f : Fields T U) (sound : Is
   stands = publisher-stands f sound i x here
 
   mid-is : state_of (kept_of mid) ≡ record s { mailboxes = boxes }
-  mid-is = recounted-is f sound x.id x.book d.book d.stands own owned d.holders d.connections d.recounts
+  mid-is = recounted-is f sound x.id x.book d.book d.stands own d.holders d.connections d.recounts
 
   numbers-are : numbers_of mid.books ≡ numbers_of f.books
-  numbers-are = same-numbers f sound x.id x.book d.book d.stands own owned d.holders d.connections d.recounts
+  numbers-are = same-numbers f sound.parts x.id x.book d.book d.stands own d.holders d.connections d.recounts
 
   port-is : (publisher_of mid.books mid.connections x).port ≡ port
   port-is = λ t. record port {
@@ -268,7 +269,7 @@ module _ {T U : Type 0} (environment : Environment) (f : Fields T U) (sound : Is
       changed-kept_books mid i x (record (with_loan_out slot x) { history = pushed x.history slot }) here refl after.books refl
       (kept-own mid.next_port mid.publishers mid.books x.book book (with_left (leaving x.history slot) (with_sent slot book)) book-stands (same-publisher (leaving x.history slot))
       (subst (IsOwned f.publishers x.book) (sym own) owned)
-      (recounted-kept f sound x.id x.book d.book d.stands own owned d.holders d.connections d.recounts))
+      (recounted-kept f sound x.id x.book d.book d.stands own d.holders d.connections d.recounts owned))
     where
       same-publisher : (o : Option ℕ) → (with_left o (with_sent slot book)).publisher ≡ book.publisher
       same-publisher None = refl
@@ -408,7 +409,7 @@ module _ {T U : Type 0} (environment : Environment) (f : Fields T U) (sound : Is
         let in_mid : IsHeldMessage (record s { mailboxes = boxes }) q m = held-mid q m away (subst (λ t. IsHeldMessage t q m) after-is is) in
         let old = sound.entries q m (held-before-send q m away in_mid) in
         let kept : entries_of (kept_of mid) m ≡ Some old.0 =
-        recounted-keeps f sound x.id x.book d.book d.stands own owned d.holders d.connections d.recounts q m old.0 (subst (λ t. IsHeldMessage t q m) (sym mid-is) in_mid) old.1 in (
+        recounted-keeps f sound x.id x.book d.book d.stands own d.holders d.connections d.recounts q m old.0 (subst (λ t. IsHeldMessage t q m) (sym mid-is) in_mid) old.1 in (
           old.0,
           trim.keeps q m old.0 is (ap found_entry (others-same mid parts i x here book book-stands own slot n l is_in_use lies-still is_written once m away) ∙ kept),
           old.2,
@@ -426,7 +427,7 @@ module _ {T U : Type 0} (environment : Environment) (f : Fields T U) (sound : Is
     loans = ap (λ (t : State T U). t.loans) ended-state;
     entries = λ m entry e. elim (ended-entries mid parts i x here book book-stands own slot n l is_in_use lies-still is_written once m entry (trim.entries m entry e)) [
       | inl new ↦ inl new
-      | inr old ↦ inr (recounted-entries f sound x.id x.book d.book d.stands own owned d.holders d.connections d.recounts m entry old)
+      | inr old ↦ inr (recounted-entries f sound x.id x.book d.book d.stands own d.holders d.connections d.recounts m entry old)
     ];
   }
 

@@ -300,6 +300,7 @@ module _ {T U : Type 0} (f : Fields T U) (parts : HasParts f) (i : ℕ) (x : Pub
     publisher_room = changed-room f i x (with_remembered slot x) here refl parts.publisher_room keeps;
     warning_room = parts.warning_room;
     shapes = ended-shapes;
+    forms = parts.forms;
     supported = parts.supported;
     plain = changed-plain f i x (with_remembered slot x) here refl parts.plain keeps;
     plain_subscribers = parts.plain_subscribers;

@@ -19,7 +19,7 @@ use Rattle.iox2_ends.proofs.MailboxChanges.{within_if_some}
 use Rattle.iox2_domain.specs.Ports.{PublisherFields}
 use Rattle.iox2_domain.specs.Kept.{state_of, entries_of, entry_in, loan_in, message_numbered, port_named, ids, stands_between, box_if_any}
 use Rattle.iox2_domain.specs.Fields.{Fields, kept_of, kept_book, map_from, is_book_of, numbers_of, message_in, messages_in, contents_at, publisher_of, between_of, blocked_send}
-use Rattle.iox2_domain.specs.Invariant.{HasLoneLoans, HasNumber, HasBook, HasBooks, IsBook, IsLinked, NamesBooks, IsNumbered, IsCounted, HasShapes, IsOwned, IsLeft, KeepsBooks, holders_of, own_holders, is_publisher, is_loan_in, HasParts}
+use Rattle.iox2_domain.specs.Invariant.{HasLoneLoans, HasNumber, HasBook, HasBooks, IsBook, IsLinked, NamesBooks, IsNumbered, IsCounted, HasShapes, HasForms, IsOwned, IsLeft, KeepsBooks, holders_of, own_holders, is_publisher, is_loan_in, HasParts}
 use Rattle.iox2_domain.specs.LeftBooks.{with_book_gone}
 use Rattle.iox2_domain.proofs.lemmas.containers.LookUps.{look_up-removed, IsOnly-removed}
 use Rattle.iox2_domain.proofs.lemmas.slots.MessageLists.{look_up-nothing_there, found_in, numbered-same}
@@ -217,6 +217,14 @@ module _ {T U : Type 0} (f : Fields T U) (parts : HasParts f) (key : ℕ) (b : B
         parts.shapes.at k slot c m was.1 (ap (λ cs. message_in c cs slot) (sym (contents-same k was.0)) ∙ lies);
   }
 
+  forms : HasForms f.config after.contents
+  forms = record {
+    at = λ several k cs there. elim (cases_eq k key) [
+      | inl same ↦ absurd (let no : None ≡ Some cs = sym contents-here ∙ ap (λ (j : ℕ). get_or after.contents j None) (sym same) ∙ there in cc)
+      | inr away ↦ parts.forms.at several k cs (sym (contents-others k away) ∙ there)
+    ];
+  }
+
   linked : IsLinked after
   linked = record {
     senders = parts.linked.senders;
@@ -248,6 +256,7 @@ module _ {T U : Type 0} (f : Fields T U) (parts : HasParts f) (key : ℕ) (b : B
     publisher_room = parts.publisher_room;
     warning_room = parts.warning_room;
     shapes = shapes;
+    forms = forms;
     supported = parts.supported;
     plain = parts.plain;
     plain_subscribers = parts.plain_subscribers;

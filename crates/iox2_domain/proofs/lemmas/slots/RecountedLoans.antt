@@ -1,9 +1,9 @@
 -- A publisher's connections and the counters of its slots change together, whether it stands or is gone: where each loan has
 -- one holder, its loans stay.
-use Rattle.std.proofs.Common.{◌≡◌, ℕ, ◌+◌, ◌<◌, Bool, true, false, cond, get_or, refl, ap, sym, ◌∙◌, inl, inr, arith, List}
+use Rattle.std.proofs.Common.{◌≡◌, ℕ, ◌+◌, ◌<◌, Bool, true, false, cond, get_or, refl, ap, sym, subst, ◌∙◌, inl, inr, arith, List}
 use Rattle.std.proofs.lemmas.Bool.{cases_eq, eq-eqb, eqb-true, ltb-true, lt-ltb, and_from}
 use Rattle.std.specs.Prelude.{slice_get}
-use Rattle.std.specs.Option.{option_map, option_map_or}
+use Rattle.std.specs.Option.{option_map_or}
 use Rattle.std.specs.declared.option.Option.{Option}
 use Rattle.std.specs.declared.option.Option.TheVariants.{None, Some}
 use Rattle.slab.specs.Slab.{Slab, get}
@@ -23,10 +23,11 @@ use Rattle.iox2_ends.specs.Recounts.{Recounts}
 use Rattle.iox2_ends.proofs.LookUps.{look_up-found, look_up-there}
 use Rattle.iox2_ends.proofs.MailboxChanges.{both-true}
 use Rattle.iox2_domain.specs.Ports.{PublisherFields}
-use Rattle.iox2_domain.specs.Kept.{KeptMessage, Lent_message, Sent_message, Named, state_of, entries_of, is_named}
-use Rattle.iox2_domain.specs.Fields.{Fields, kept_of, numbers_of, message_of, contents_at, is_book_of, publisher_of}
-use Rattle.iox2_domain.specs.Invariant.{IsDomain, HasLoneLoans, HasNumber, is_publisher, is_lent, is_loan_in, holders_of, own_holders, HasParts}
-use Rattle.iox2_domain.proofs.lemmas.containers.LookUps.{look_up-map}
+use Rattle.iox2_domain.specs.Kept.{KeptMessage, Lent_message, Sent_message, state_of, entries_of}
+use Rattle.iox2_domain.specs.Fields.{Fields, kept_of, numbers_of, message_of, contents_at, is_book_of}
+use Rattle.iox2_domain.specs.Invariant.{IsDomain, IsOwned, KeepsBooks, HasLoneLoans, HasNumber, is_publisher, is_lent, is_loan_in, holders_of, own_holders, HasParts}
+use Rattle.iox2_domain.proofs.lemmas.fields.ConnectionEnds.{publisher-stands}
+use Rattle.iox2_domain.proofs.lemmas.fields.KeptBooks.{kept-own}
 use Rattle.iox2_domain.proofs.lemmas.fields.SameEnds.{with_connections}
 use Rattle.iox2_domain.proofs.lemmas.slots.Messages.{LiesIn, message_in-parts, lies_at, message_at-book, message_at-slot, has_number}
 use Rattle.iox2_domain.proofs.lemmas.slots.BookChanges.{KeepsSlots, books-apart, book-here, book-others}
@@ -152,25 +153,22 @@ module _ {T U : Type 0} (f : Fields T U) (sound : IsDomain f) (p key : ℕ) (b :
   own = own-stays f parts sound.lone p key b at mine holders new r
 
   -- the fields agree with one another
-  pub consistent : HasParts recounted_fields
-  consistent = recounted-consistent f parts p key b at mine holders new r own
+  pub parts-recounted : HasParts recounted_fields
+  parts-recounted = recounted-consistent f parts p key b at mine holders new r own
 
-  -- a publisher that stands somewhere is in the state
-  publisher-stands : (i : ℕ) (x : PublisherFields) → get_or f.publishers i None ≡ Some x → (state_of (kept_of f)).publishers x.id ≡ Some ((publisher_of f.books f.connections x).port)
-  publisher-stands i x at_x =
-      ap (option_map (λ (z : Named _). z.port))
-      (look_up-map (is_named x.id) (publisher_of f.books f.connections) f.publishers
-      ∙ ap (option_map (publisher_of f.books f.connections)) (look_up-found (is_publisher x.id) f.publishers i x (parts.publisher_ids x.id) at_x (eq-eqb x.id x.id refl)))
+  -- each book is somebody's still, or left
+  pub recounted-kept : IsOwned f.publishers key p → KeepsBooks f.next_port f.publishers recounted_fields.books
+  recounted-kept owned = kept-own f.next_port f.publishers f.books key b (with_counters b holders) at refl (subst (IsOwned f.publishers key) (sym mine) owned) sound.kept_books
 
   -- the slot of a loan of a publisher that stands is still in use
   standing-in_use : (k slot n : ℕ) (l : Loan T U) (i : ℕ) (x : PublisherFields) → get_or f.publishers i None ≡ Some x → x.id ≡ l.publisher
       → (state_of (kept_of f)).loans n ≡ Some l → lies_at f k slot ≡ Some (Lent_message n l) → HasNumber recounted_fields.books k slot n
   standing-in_use k slot n l i x at_x its found e =
       let out : contains _ n ≡ true = ((sound.well_formed.loans n l found).is_out _
-      (ap (state_of (kept_of f)).publishers (sym its) ∙ publisher-stands i x at_x)).0 in
+      (ap (state_of (kept_of f)).publishers (sym its) ∙ publisher-stands f sound i x at_x)).0 in
       let own = slot_numbered (numbers_of f.books x.id) n x.loans out in
-      let has = lies_with recounted_fields consistent.counted consistent.publisher_ids x.id own.0 n
-      (own-in_use recounted_fields consistent.counted consistent.publisher_ids i own.0 x at_x (omega (arith, own.1)))
+      let has = lies_with recounted_fields parts-recounted.counted parts-recounted.publisher_ids x.id own.0 n
+      (own-in_use recounted_fields parts-recounted.counted parts-recounted.publisher_ids i own.0 x at_x (omega (arith, own.1)))
       (ap (λ (numbers : ℕ → ℕ → ℕ). numbers x.id own.0) (fields.same-numbers f parts p key b at mine holders new r) ∙ own.2) in
       fields.there f parts p key b at mine holders new r k slot has.0 has.1 n (has_number f.contents f.books k slot n (Lent_message n l) e (eq-eqb n n refl)) has.2
 

@@ -243,6 +243,7 @@ module _ {T U : Type 0} (f : Fields T U) (parts : HasParts f) (p key : ℕ) (b :
     publisher_room = parts.publisher_room;
     warning_room = parts.warning_room;
     shapes = shapes;
+    forms = parts.forms;
     supported = parts.supported;
     plain = parts.plain;
     plain_subscribers = parts.plain_subscribers;

@@ -12,6 +12,7 @@ use Rattle.circular_buffer.proofs.Places.{slice_get-set_same, slice_get-set_othe
 use Rattle.slab.specs.Slab.{Slab, get, with_value}
 use Rattle.iox2_store.specs.SlotBook.{Book, holders_at}
 use Rattle.iox2_store.specs.SlotContents.{ContentState, with_changed}
+use Rattle.iox2_store.specs.declared.service_config.ServiceConfig.{ServiceConfig}
 use Rattle.iox2_store.specs.declared.slots.mark.SlotMark.{SlotMark}
 use Rattle.iox2_ends.specs.LookUp.{look_up}
 use Rattle.iox2_ends.specs.Counters.{times, stands}
@@ -19,7 +20,7 @@ use Rattle.iox2_ends.proofs.LookUps.{look_up-found}
 use Rattle.iox2_domain.specs.Ports.{PublisherFields}
 use Rattle.iox2_domain.specs.Kept.{KeptMessage, state_of, message_numbered}
 use Rattle.iox2_domain.specs.Fields.{Fields, kept_of, is_book_of, message_of, message_in, contents_at}
-use Rattle.iox2_domain.specs.Invariant.{IsDomain, IsBook, HasBooks, HasNumber, IsNumbered, IsCounted, is_publisher, holders_of, own_holders, is_lent, is_loan_in}
+use Rattle.iox2_domain.specs.Invariant.{IsDomain, IsBook, HasBooks, HasForms, HasNumber, IsNumbered, IsCounted, is_publisher, holders_of, own_holders, is_lent, is_loan_in}
 use Rattle.iox2_domain.proofs.lemmas.containers.SetRecords.{set-here, set-others}
 use Rattle.iox2_domain.proofs.lemmas.loans.Taken.{with_changed-here, with_changed-others, length-with_changed}
 use Rattle.iox2_domain.proofs.lemmas.slots.BookChanges.{KeepsSlots, with_book, book-here, book-others, book-was, books-apart, other-book, book-state, books-changed, holders-here}
@@ -40,6 +41,22 @@ all-changed {A} P g keeps xs slot all = by (slice_get xs slot) refl where
   by : (o : Option A) → slice_get xs slot ≡ o → All P (option_map_or (λ x. slice_set xs slot (g x)) o xs)
   by None at = all
   by (Some x) at = write x at
+
+-- what lies in lists does so where the slot keeps its form
+pub forms-changed : {T U : Type 0} (c : ServiceConfig) (contents : List (Option (List (ContentState T U)))) (key slot : ℕ) (cs : List (ContentState T U)) → get_or contents key None ≡ Some cs
+    → (g : ContentState T U → ContentState T U) → ((content : ContentState T U) → (g content).is_in_place ≡ content.is_in_place) → HasForms c contents
+    → HasForms c (slice_set contents key (Some (with_changed cs slot g)))
+forms-changed {T} {U} c contents key slot cs at_c g placed forms = record {
+  at = λ several k zs there. elim (cases_eq k key) [
+    | inl here ↦
+        let found : Some (with_changed cs slot g) ≡ Some zs =
+        sym (set-here contents key cs (with_changed cs slot g) at_c) ∙ sym (ap (λ (j : ℕ). get_or (slice_set contents key (Some (with_changed cs slot g))) j None) here) ∙ there in
+        let is : with_changed cs slot g ≡ zs = cc in
+        subst (All (λ (content : ContentState T U). content.is_in_place ≡ false)) is
+        (all-changed (λ (content : ContentState T U). content.is_in_place ≡ false) g (λ content away. placed content ∙ away) cs slot (forms.at several key cs at_c))
+    | inr away ↦ forms.at several k zs (sym (set-others contents key cs (with_changed cs slot g) at_c k away) ∙ there)
+  ];
+}
 
 module _ {T U : Type 0} (f : Fields T U) (sound : IsDomain f) (key slot : ℕ) (b : Book) (at_b : get f.books key ≡ Some b)
     (cs : List (ContentState T U)) (at_c : get_or f.contents key None ≡ Some cs) (mark : SlotMark) (g : ContentState T U → ContentState T U) where
@@ -108,6 +125,10 @@ module _ {T U : Type 0} (f : Fields T U) (sound : IsDomain f) (key slot : ℕ) (
       headers = old.aligned.headers;
       marks = length-set b.marks slot mark ∙ old.aligned.marks;
     })
+
+  -- what lies in lists does so still
+  pub slot-forms : ((c : ContentState T U) → (g c).is_in_place ≡ c.is_in_place) → HasForms f.config f.contents → HasForms f.config with_slot.contents
+  slot-forms placed forms = forms-changed f.config f.contents key slot cs at_c g placed forms
 
   -- ---- numbers and counters
 

@@ -34,7 +34,8 @@ use Rattle.iox2_domain.proofs.lemmas.fields.Standing.{place-within}
 use Rattle.iox2_domain.proofs.lemmas.fields.Views.{unblocked}
 use Rattle.iox2_domain.proofs.lemmas.slots.BookChanges.{book-here}
 use Rattle.iox2_domain.proofs.lemmas.slots.PublisherBooks.{book-own, book-owned}
-use Rattle.iox2_domain.proofs.lemmas.slots.RecountedState.{with_reclaimed, reclaimed-is, reclaimed-reaches, same-numbers}
+use Rattle.iox2_domain.proofs.lemmas.slots.ReclaimSteps.{with_reclaimed, reclaimed-is, reclaimed-reaches}
+use Rattle.iox2_domain.proofs.lemmas.slots.RecountedFields.{same-numbers}
 use Rattle.iox2_domain.proofs.lemmas.updates.HistoryBounds.{remembered-in_use, remembered-fits}
 use Rattle.iox2_domain.proofs.lemmas.updates.HistoryHanded.{handed, hands-out}
 use Rattle.iox2_domain.proofs.lemmas.updates.SenderWalk.{put_at-twice}
@@ -78,7 +79,7 @@ module _ {T U : Type 0} (before f : Fields T U) (same : f ≡ before) (sound : I
     state = reclaimed-is f sound x.id x.book b at (book-own f sound.parts i x here b at) (book-owned f sound.parts i x here) b1.holders new r
 
     numbers : numbers_of (with_value f.books x.book (with_counters b b1.holders)) ≡ numbers_of f.books
-    numbers = same-numbers f sound x.id x.book b at (book-own f sound.parts i x here b at) (book-owned f sound.parts i x here) b1.holders new r.recounts
+    numbers = same-numbers f sound.parts x.id x.book b at (book-own f sound.parts i x here b at) b1.holders new r.recounts
 
   -- it waits in the connection
   pub reclaimed-hands-out : (b2 : Book) → b2 ≡ with_counters b1 b2.holders → length b2.holders ≡ length b1.holders

@@ -38,7 +38,7 @@ use Rattle.iox2_domain.proofs.lemmas.slots.LoneLoans.{IsLoneIn, lone-changed, lo
 use Rattle.iox2_domain.proofs.lemmas.slots.Messages.{LiesIn, message_in-parts, lies_at, message_at-slot, has_number, entry-there}
 use Rattle.iox2_domain.proofs.lemmas.slots.NumbersInUse.{contains-map, times-stands}
 use Rattle.iox2_domain.proofs.lemmas.slots.PublisherBooks.{book-own, book-owned}
-use Rattle.iox2_domain.proofs.lemmas.slots.RecountedState.{recounted_fields, recounted-kept, parts-recounted, recounted-is, recounted-entries, recounted-keeps}
+use Rattle.iox2_domain.proofs.lemmas.slots.RecountedLoans.{recounted_fields, recounted-kept, parts-recounted, recounted-is, recounted-entries, recounted-keeps}
 use Rattle.iox2_domain.proofs.lemmas.updates.HistoryBounds.{remembered-in_use}
 use mathlib.Core.Path.{fun_ext}
 
@@ -118,7 +118,7 @@ module _ {T U : Type 0} (f : Fields T U) (sound : IsDomain f) (i : ℕ) (x : Pub
     ]
 
   abbrev pub handed : Fields T U
-  handed = recounted_fields f sound x.id x.book b at mine owned holders connections recounts
+  handed = recounted_fields f sound x.id x.book b at mine holders connections recounts
 
   -- ---- the state
 
@@ -132,7 +132,7 @@ module _ {T U : Type 0} (f : Fields T U) (sound : IsDomain f) (i : ℕ) (x : Pub
 
   handed-is : state_of (kept_of handed) ≡ with_history_waiting f x c
   handed-is =
-      recounted-is f sound x.id x.book b at mine owned holders connections recounts
+      recounted-is f sound x.id x.book b at mine holders connections recounts
       ∙ ap (λ (boxes : ℕ → ℕ → Mailbox). record s { mailboxes = boxes })
       (mailboxes-changed (numbers_of f.books) f.connections connections key c filled sound.parts.apart there refl (Updates-with_value f.connections key c filled there)
       ∙ ap (λ (p : ℕ). with_box (mailboxes_of (numbers_of f.books) f.connections) p c.home.subscriber (mailbox_of (numbers_of f.books p) filled)) its
@@ -200,13 +200,13 @@ module _ {T U : Type 0} (f : Fields T U) (sound : IsDomain f) (i : ℕ) (x : Pub
 
   pub hands-out : IsWellFormed (with_history_waiting f x c) → HandsOut f x c handed
   hands-out well = record {
-    agrees = whole_of handed (parts-recounted f sound x.id x.book b at mine owned holders connections recounts) lone
-        (recounted-kept f sound x.id x.book b at mine owned holders connections recounts)
+    agrees = whole_of handed (parts-recounted f sound x.id x.book b at mine holders connections recounts) lone
+        (recounted-kept f sound x.id x.book b at mine holders connections recounts owned)
         (subst IsWellFormed (sym handed-is) well)
         (λ p n held.
         let old = sound.entries p n (held-before p n (subst (λ (t : State T U). IsHeldMessage t p n) handed-is held)) in
-        (old.0, recounted-keeps f sound x.id x.book b at mine owned holders connections recounts p n old.0 held old.1, old.2));
+        (old.0, recounted-keeps f sound x.id x.book b at mine holders connections recounts p n old.0 held old.1, old.2));
     fields = refl;
     state = handed-is;
-    entries = recounted-entries f sound x.id x.book b at mine owned holders connections recounts;
+    entries = recounted-entries f sound x.id x.book b at mine holders connections recounts;
   }

@@ -34,7 +34,7 @@ use Rattle.iox2_domain.proofs.lemmas.fields.Standing.{some_is}
 use Rattle.iox2_domain.proofs.lemmas.fields.Views.{mailboxes-are, unblocked}
 use Rattle.iox2_domain.proofs.lemmas.slots.LoneLoans.{lone-counters}
 use Rattle.iox2_domain.proofs.lemmas.slots.PublisherBooks.{book-own, book-owned}
-use Rattle.iox2_domain.proofs.lemmas.slots.RecountedState.{recounted_fields, recounted-kept, parts-recounted, recounted-is, recounted-entries, recounted-keeps}
+use Rattle.iox2_domain.proofs.lemmas.slots.RecountedLoans.{recounted_fields, recounted-kept, parts-recounted, recounted-is, recounted-entries, recounted-keeps}
 use mathlib.Core.Path.{fun_ext}
 
 module _ {T U : Type 0} (f : Fields T U) (sound : IsDomain f) (i : ℕ) (x : PublisherFields) (here : get_or f.publishers i None ≡ Some x)
@@ -53,7 +53,7 @@ module _ {T U : Type 0} (f : Fields T U) (sound : IsDomain f) (i : ℕ) (x : Pub
 
   -- the fields without what waited
   abbrev pub dropped_fields : Fields T U
-  dropped_fields = recounted_fields f sound x.id x.book b at (book-own f sound.parts i x here b at) (book-owned f sound.parts i x here) holders new drops.recounts
+  dropped_fields = recounted_fields f sound x.id x.book b at (book-own f sound.parts i x here b at) holders new drops.recounts
 
   same_boxes : mailboxes_of (numbers_of f.books) f.connections ≡ s.mailboxes
   same_boxes = sym (fun_ext (λ p. fun_ext (λ r. mailboxes-are f p r)))
@@ -61,7 +61,7 @@ module _ {T U : Type 0} (f : Fields T U) (sound : IsDomain f) (i : ℕ) (x : Pub
   -- the machine sees one mailbox changed
   pub dropped-is : state_of (kept_of dropped_fields) ≡ with_waiting_dropped f x drops.link
   dropped-is =
-      recounted-is f sound x.id x.book b at (book-own f sound.parts i x here b at) (book-owned f sound.parts i x here) holders new drops.recounts
+      recounted-is f sound x.id x.book b at (book-own f sound.parts i x here b at) holders new drops.recounts
       ∙ ap (λ (boxes : ℕ → ℕ → Mailbox). record s { mailboxes = boxes })
       (drops.mailboxes (numbers_of f.books) ∙ ap (λ (boxes : ℕ → ℕ → Mailbox). with_box boxes x.id q (waiting_dropped (boxes x.id q))) same_boxes)
 
@@ -78,15 +78,15 @@ module _ {T U : Type 0} (f : Fields T U) (sound : IsDomain f) (i : ℕ) (x : Pub
   -- what always holds is kept where the state is well-formed
   pub dropped-reaches : IsWellFormed (with_waiting_dropped f x drops.link) → Reaches f dropped_fields (with_waiting_dropped f x drops.link)
   dropped-reaches well = record {
-    agrees = whole_of dropped_fields (parts-recounted f sound x.id x.book b at (book-own f sound.parts i x here b at) (book-owned f sound.parts i x here) holders new drops.recounts)
+    agrees = whole_of dropped_fields (parts-recounted f sound x.id x.book b at (book-own f sound.parts i x here b at) holders new drops.recounts)
         (lone-counters f.books x.book b holders at sound.lone drops.shrinks)
-        (recounted-kept f sound x.id x.book b at (book-own f sound.parts i x here b at) (book-owned f sound.parts i x here) holders new drops.recounts)
+        (recounted-kept f sound x.id x.book b at (book-own f sound.parts i x here b at) holders new drops.recounts (book-owned f sound.parts i x here))
         (subst IsWellFormed (sym dropped-is) well)
         (λ p n held.
         let old = sound.entries p n (held-before p n (subst (λ (t : State T U). IsHeldMessage t p n) dropped-is held)) in
-        (old.0, recounted-keeps f sound x.id x.book b at (book-own f sound.parts i x here b at) (book-owned f sound.parts i x here) holders new drops.recounts p n old.0 held old.1, old.2));
+        (old.0, recounted-keeps f sound x.id x.book b at (book-own f sound.parts i x here b at) holders new drops.recounts p n old.0 held old.1, old.2));
     state = dropped-is;
-    entries = recounted-entries f sound x.id x.book b at (book-own f sound.parts i x here b at) (book-owned f sound.parts i x here) holders new drops.recounts;
+    entries = recounted-entries f sound x.id x.book b at (book-own f sound.parts i x here b at) holders new drops.recounts;
   }
 
 module _ {T U : Type 0} (f : Fields T U) (sound : IsDomain f) (i j : ℕ) (x : PublisherFields) (here : get_or f.publishers i None ≡ Some x) (due : x.is_due ≡ false)

@@ -20,10 +20,10 @@ pub value-requires : goal.value-requires
 value-requires g c =
     value-there _ c.args.state.now c.args.sample.now.subscriber c.args.sample.now.number (record { connection = c.requires.lies.0; book = c.args.book; slot = c.args.slot })
     (record { same = c.state.view_is; sound = c.requires.agrees; lies = c.requires.lies.1 })
-    c.index.result.now c.index.ensures c.in-Some.contents c.in-Some.is c.requires.single
+    c.index.result.now c.index.ensures c.in-Some.contents c.in-Some.is c.requires.fixed_size c.requires.single
 
 pub returns : goal.returns
 returns g c =
     value-read _ c.args.state.now c.args.sample.now.subscriber c.args.sample.now.number (record { connection = c.requires.lies.0; book = c.args.book; slot = c.args.slot })
     (record { same = c.state.view_is; sound = c.requires.agrees; lies = c.requires.lies.1 })
-    c.index.result.now c.index.ensures c.in-Some.contents c.in-Some.is c.requires.single c.value.result.now c.value.ensures
+    c.index.result.now c.index.ensures c.in-Some.contents c.in-Some.is c.requires.fixed_size c.requires.single c.value.result.now c.value.ensures

@@ -1,9 +1,9 @@
-use Rattle.std.proofs.Common.{rules, ◌≡◌, ◌≢◌, ◌∙◌, ◌+◌, ◌≤◌, length, vec_len, ap, map, arith, refl, [], get_or, inl, inr}
+use Rattle.std.proofs.Common.{rules, ◌≡◌, ◌≢◌, ◌∙◌, ◌+◌, ◌≤◌, length, vec_len, ap, sym, map, arith, refl, [], get_or, inl, inr}
 use Rattle.std.proofs.lemmas.List.{with_items_is}
 use Rattle.std.specs.Option.{option_map}
 use Rattle.std.specs.declared.option.Option.TheVariants.{None}
 use Rattle.circular_buffer.specs.Buffer.{buffer}
-use Rattle.iox2_store.specs.machine.Limits.{last_number}
+use Rattle.iox2_store.specs.machine.Limits.{last_number, segment_fits}
 use Rattle.iox2_domain.specs.NewPublisher.{entering_publisher, subscriber_due}
 use Rattle.iox2_domain.specs.Ports.{PublisherFields}
 use Rattle.iox2_domain.specs.Fields.{Fields}
@@ -56,17 +56,22 @@ overflow_add-state g c =
 pub returns-clause-step : goal.returns-clause-step
 returns-clause-step g c =
     let loans = c.args.max_loaned_samples in
-    entered-reaches-as {T = g.row.T.Denot} {U = g.row.U.Denot} c.args.state.now _ _ c.state.view_is c.requires.agrees loans c.args.slots c.args.place c.in-Ok-entering.publisher c.in-Ok.segment.book c.in-Ok.segment.contents
+    entered-reaches-as {T = g.row.T.Denot} {U = g.row.U.Denot} c.args.state.now _ _ c.state.view_is c.requires.agrees loans c.args.slots c.args.initial_max_slice_len c.args.place c.in-Ok-entering.publisher c.in-Ok.segment.book c.in-Ok.segment.contents
     c.add_segment.new.books c.requires.has_place c.requires.slots (record {
       publisher = c.in-Ok-entering.ensures.enters
-          ∙ ap (λ id. entering_publisher id c.args.place c.vacant_key-key.result loans c.args.slots c.in-Ok-entering.publisher.loan_room (buffer [] c.state.inside.config.history_size) c.in-Ok-entering.publisher.key_room) c.new-id.ensures
-          ∙ ap (λ key. entering_publisher c.state.inside.next_port c.args.place key loans c.args.slots c.in-Ok-entering.publisher.loan_room (buffer [] c.state.inside.config.history_size) c.in-Ok-entering.publisher.key_room) c.vacant_key-key.ensures.value;
+          ∙ ap (λ id. entering_publisher id c.args.place c.vacant_key-key.result loans c.args.slots c.args.initial_max_slice_len c.in-Ok-entering.publisher.loan_room (buffer [] c.state.inside.config.history_size) c.in-Ok-entering.publisher.key_room) c.new-id.ensures
+          ∙ ap (λ key. entering_publisher c.state.inside.next_port c.args.place key loans c.args.slots c.args.initial_max_slice_len c.in-Ok-entering.publisher.loan_room (buffer [] c.state.inside.config.history_size) c.in-Ok-entering.publisher.key_room) c.vacant_key-key.ensures.value;
       room = c.in-Ok-entering.ensures.room;
       is_its = c.in-Ok.ensures.is_its ∙ c.new-id.ensures;
       unused = c.in-Ok.ensures.unused;
       aligned = c.in-Ok.ensures.aligned;
       contents_length = c.in-Ok.ensures.contents_length;
-      contents_room = c.in-Ok.ensures.contents_room;
+      contents_room = λ k d lt.
+          let is = c.in-Ok.ensures.contents_room k d lt in
+          let count = c.in-Ok.ensures.contents_length in
+          let needed = c.room_for-room.ensures (omega (arith, lt, count)) in
+          omega (arith, is, needed);
+      contents_form = λ several. c.in-Ok.ensures.contents_form (let single = c.is_single_valued-in_lists.ensures ∙ several in search rules);
       vacant = c.in-Ok-add_segment.ensures.vacant;
       updates = c.in-Ok-add_segment.ensures.updates;
       changed = λ i. record {
@@ -97,3 +102,12 @@ put_at_place-requires g c =
 
 pub returns-clause-id : goal.returns-clause-id
 returns-clause-id g c = c.new-id.ensures ∙ ap (λ (f : Fields g.row.T.Denot g.row.U.Denot). f.next_port) c.state.view_is
+
+pub room_for-room-requires : goal.room_for-room-requires
+room_for-room-requires g c = ap (λ (f : Fields g.row.T.Denot g.row.U.Denot). segment_fits f.config c.args.slots c.args.initial_max_slice_len) c.state.view_is ∙ c.requires.size
+
+pub new-entering-requires-clause-size : goal.new-entering-requires-clause-size
+new-entering-requires-clause-size g c = ap (λ (f : Fields g.row.T.Denot g.row.U.Denot). segment_fits f.config c.args.slots c.args.initial_max_slice_len) c.state.view_is ∙ c.requires.size
+
+pub new-entering-requires-clause-single : goal.new-entering-requires-clause-single
+new-entering-requires-clause-single g c = λ fixed. c.requires.single (sym (ap (λ (f : Fields g.row.T.Denot g.row.U.Denot). (f.config).variant) c.state.view_is) ∙ fixed)

@@ -12,8 +12,8 @@ index_mut-requires g c =
     (subst (λ (h : Home). ContainsKey (c.args.state.now).books h.book) (sym c.home-home.ensures.value)
     (book-stands c.args.state.now c.requires.agrees c.args.key c.index.result.now at))
 
-pub remove_connection-requires : goal.remove_connection-requires
-remove_connection-requires g c =
+pub drop_waiting_at-requires : goal.drop_waiting_at-requires
+drop_waiting_at-requires g c =
     let at = ap (λ (f : Fields g.row.T.Denot g.row.U.Denot). get f.connections c.args.key) (sym c.state.view_is) ∙ c.index.ensures in
     rw c.index.ensures (link-held c.args.state.now c.requires.agrees c.args.key c.index.result.now at c.index_mut.result.now
     (ap (λ (h : Home). get (c.args.state.now).books h.book) (sym c.home-home.ensures.value)

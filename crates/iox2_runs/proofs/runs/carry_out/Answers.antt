@@ -176,3 +176,103 @@ returns-in-Close-clause-room g c = c.close.ensures.room
 pub returns-in-Close-clause-leaves : goal.returns-in-Close-clause-leaves
 returns-in-Close-clause-leaves g c =
     c.close.ensures.leaves
+
+pub returns-in-WriteCell-clause-carries : goal.returns-in-WriteCell-clause-carries
+returns-in-WriteCell-clause-carries g c = rw c.in-WriteCell.is c.write_cell.ensures.carries
+
+pub write_cell-requires : goal.write_cell-requires
+write_cell-requires g c = c.requires.keeps
+
+pub returns-in-WriteCell-clause-room : goal.returns-in-WriteCell-clause-room
+returns-in-WriteCell-clause-room g c = c.write_cell.ensures.room
+
+pub returns-in-WriteCell-clause-leaves : goal.returns-in-WriteCell-clause-leaves
+returns-in-WriteCell-clause-leaves g c = c.write_cell.ensures.leaves
+
+pub returns-in-AssumeInit-clause-carries : goal.returns-in-AssumeInit-clause-carries
+returns-in-AssumeInit-clause-carries g c = rw c.in-AssumeInit.is c.assume_init.ensures.carries
+
+pub assume_init-requires : goal.assume_init-requires
+assume_init-requires g c = c.requires.keeps
+
+pub returns-in-AssumeInit-clause-room : goal.returns-in-AssumeInit-clause-room
+returns-in-AssumeInit-clause-room g c = c.assume_init.ensures.room
+
+pub returns-in-AssumeInit-clause-leaves : goal.returns-in-AssumeInit-clause-leaves
+returns-in-AssumeInit-clause-leaves g c = c.assume_init.ensures.leaves
+
+pub returns-in-WriteHeader-clause-carries : goal.returns-in-WriteHeader-clause-carries
+returns-in-WriteHeader-clause-carries g c = rw c.in-WriteHeader.is c.write_header.ensures.carries
+
+pub write_header-requires : goal.write_header-requires
+write_header-requires g c = c.requires.keeps
+
+pub returns-in-WriteHeader-clause-room : goal.returns-in-WriteHeader-clause-room
+returns-in-WriteHeader-clause-room g c = c.write_header.ensures.room
+
+pub returns-in-WriteHeader-clause-leaves : goal.returns-in-WriteHeader-clause-leaves
+returns-in-WriteHeader-clause-leaves g c = c.write_header.ensures.leaves
+
+pub returns-in-SetPayload-clause-carries : goal.returns-in-SetPayload-clause-carries
+returns-in-SetPayload-clause-carries g c = rw c.in-SetPayload.is c.set_payload.ensures.carries
+
+pub set_payload-requires : goal.set_payload-requires
+set_payload-requires g c = c.requires.keeps
+
+pub returns-in-SetPayload-clause-room : goal.returns-in-SetPayload-clause-room
+returns-in-SetPayload-clause-room g c = c.set_payload.ensures.room
+
+pub returns-in-SetPayload-clause-leaves : goal.returns-in-SetPayload-clause-leaves
+returns-in-SetPayload-clause-leaves g c = c.set_payload.ensures.leaves
+
+pub returns-in-Loan-clause-carries : goal.returns-in-Loan-clause-carries
+returns-in-Loan-clause-carries g c = rw (c.in-Loan.is, sym c.deref-in-Loan.ensures.value) c.loan.ensures.carries
+
+pub loan-requires : goal.loan-requires
+loan-requires g c = rw c.deref-in-Loan.ensures.value c.requires.keeps
+
+pub returns-in-Loan-clause-room : goal.returns-in-Loan-clause-room
+returns-in-Loan-clause-room g c = record { len = refl; capacity = refl }
+
+pub returns-in-Loan-clause-leaves : goal.returns-in-Loan-clause-leaves
+returns-in-Loan-clause-leaves g c =
+    rw (sym c.deref-in-Loan.ensures.value) c.loan.ensures.leaves
+
+pub returns-in-SendCopy-clause-carries : goal.returns-in-SendCopy-clause-carries
+returns-in-SendCopy-clause-carries g c = rw (c.in-SendCopy.is, sym c.deref-in-SendCopy.ensures.value) c.send_copy.ensures.carries
+
+pub send_copy-requires : goal.send_copy-requires
+send_copy-requires g c = rw c.deref-in-SendCopy.ensures.value c.requires.keeps
+
+pub returns-in-SendCopy-clause-room : goal.returns-in-SendCopy-clause-room
+returns-in-SendCopy-clause-room g c = record { len = refl; capacity = refl }
+
+pub returns-in-SendCopy-clause-leaves : goal.returns-in-SendCopy-clause-leaves
+returns-in-SendCopy-clause-leaves g c =
+    rw (sym c.deref-in-SendCopy.ensures.value) c.send_copy.ensures.leaves
+
+pub returns-in-ReadHeader-clause-carries : goal.returns-in-ReadHeader-clause-carries
+returns-in-ReadHeader-clause-carries g c = rw (c.in-ReadHeader.is, sym c.deref-in-ReadHeader.ensures.value) c.read_header.ensures
+
+pub read_header-requires : goal.read_header-requires
+read_header-requires g c = rw c.deref-in-ReadHeader.ensures.value c.requires.keeps
+
+pub returns-in-ReadHeader-clause-room : goal.returns-in-ReadHeader-clause-room
+returns-in-ReadHeader-clause-room g c = record { len = refl; capacity = refl }
+
+pub returns-in-ReadHeader-clause-leaves : goal.returns-in-ReadHeader-clause-leaves
+returns-in-ReadHeader-clause-leaves g c =
+    leaves-all {T = g.row.T.Denot} {U = g.row.U.Denot} c.args.domain.now c.args.domain.now c.args.table.now.items c.args.table.now.items refl refl
+
+pub returns-in-ReadUserHeader-clause-carries : goal.returns-in-ReadUserHeader-clause-carries
+returns-in-ReadUserHeader-clause-carries g c = rw (c.in-ReadUserHeader.is, sym c.deref-in-ReadUserHeader.ensures.value) c.read_user_header.ensures
+
+pub read_user_header-requires : goal.read_user_header-requires
+read_user_header-requires g c = rw c.deref-in-ReadUserHeader.ensures.value c.requires.keeps
+
+pub returns-in-ReadUserHeader-clause-room : goal.returns-in-ReadUserHeader-clause-room
+returns-in-ReadUserHeader-clause-room g c = record { len = refl; capacity = refl }
+
+pub returns-in-ReadUserHeader-clause-leaves : goal.returns-in-ReadUserHeader-clause-leaves
+returns-in-ReadUserHeader-clause-leaves g c =
+    leaves-all {T = g.row.T.Denot} {U = g.row.U.Denot} c.args.domain.now c.args.domain.now c.args.table.now.items c.args.table.now.items refl refl

@@ -25,3 +25,7 @@ returns-clause-reads g c =
 
 pub returns-clause-same : goal.returns-clause-same
 returns-clause-same g c = λ value reads. sample-reads-one {T = g.row.T.Denot} {U = g.row.U.Denot} c.args.domain.now c.args.self.now c.sample_payload.result.now value (returns-clause-reads g c) reads
+
+pub sample_payload-requires-clause-fixed_size : goal.sample_payload-requires-clause-fixed_size
+sample_payload-requires-clause-fixed_size g c =
+    ap (λ (k : Kept g.row.T.Denot g.row.U.Denot). (k.config).variant) c.domain.view_is ∙ (single-parts c.args.domain.now c.requires.single_valued).0

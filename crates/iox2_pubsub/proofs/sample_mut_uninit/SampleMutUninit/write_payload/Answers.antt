@@ -4,10 +4,9 @@ use Rattle.iox2_domain.specs.Kept.{Kept}
 use Rattle.iox2_pubsub.specs.Live.{IsPublisherKey, lender_key, unwritten_key, written_key}
 use Rattle.iox2_pubsub.proofs.LiveParts.{single-parts}
 use Rattle.iox2_domain.specs.declared.loan_slots.LoanAt.{LoanAt}
-use Rattle.iox2_domain.specs.LoanSlots.{LiesInSlot}
-use Rattle.iox2_domain.proofs.lemmas.loans.WrittenLoan.{one-cell}
+use Rattle.iox2_store.specs.machine.Loans.{written}
 use Rattle.iox2_pubsub.proofs.LoanHandles.{unwritten-out, write-header, write-shown, write-live, write-reads, write-user-header}
-use Rattle.iox2_pubsub.proofs.CallsStay.{always-shown, write-stays}
+use Rattle.iox2_pubsub.proofs.CallsStay.{always-shown, change-stays}
 use Rattle.iox2_pubsub.proofs.WaitingShown.{set-waits}
 use Rattle.iox2_pubsub.proofs.UpToDateShown.{set-leaves}
 use Rattle.iox2_pubsub.proofs.LoansLeftShown.{set-left}
@@ -33,20 +32,20 @@ pub returns-clause-stays : goal.returns-clause-stays
 returns-clause-stays g c =
     let it = always-shown {T = g.row.T.Denot} {U = g.row.U.Denot} c.domain.inside.state c.args.domain.now c.domain.invariant c.domain.view_is in
     let step = returns-clause-written g c it.0 it.1 it.2 in
-    write-stays {T = g.row.T.Denot} {U = g.row.U.Denot} c.args.domain.now _ it.0 it.1 it.2 c.args.self.loan.number step.0 c.args.value step.2
+    change-stays {T = g.row.T.Denot} {U = g.row.U.Denot} c.args.domain.now _ it.0 it.1 it.2 c.args.self.loan.number (written step.0 c.args.value) step.2
 
 pub write_loan-requires-clause-single : goal.write_loan-requires-clause-single
 write_loan-requires-clause-single g c =
     ap (λ (k : Kept g.row.T.Denot g.row.U.Denot). (k.config).units_per_element) c.domain.view_is ∙ (single-parts c.args.domain.now c.requires.single_valued).1
 
+pub write_loan-requires-clause-fixed_size : goal.write_loan-requires-clause-fixed_size
+write_loan-requires-clause-fixed_size g c =
+    ap (λ (k : Kept g.row.T.Denot g.row.U.Denot). (k.config).variant) c.domain.view_is ∙ (single-parts c.args.domain.now c.requires.single_valued).0
+
 pub returns-clause-reads : goal.returns-clause-reads
 returns-clause-reads g c =
-    let at : LiesInSlot c.domain.inside.state c.args.self.loan.publisher c.args.self.loan.number c.write_loan.result.book c.write_loan.result.slot = c.write_loan.ensures.lies in
-    let single = ap (λ (k : Kept g.row.T.Denot g.row.U.Denot). (k.config).units_per_element) c.domain.view_is ∙ (single-parts c.args.domain.now c.requires.single_valued).1 in
-    write-reads {T = g.row.T.Denot} {U = g.row.U.Denot} c.domain.inside.state c.write_loan.new.state c.args.self.loan.number c.args.value c.write_loan.ensures.writes
+    write-reads {T = g.row.T.Denot} {U = g.row.U.Denot} c.domain.inside.state c.write_loan.new.state c.args.domain.now c.domain.view_is c.args.self.loan.number c.args.value c.write_loan.ensures.writes
     (record { service_id = c.args.self.service_id; loan = c.write_loan.result }) (ap (λ (at : LoanAt). at.number) c.write_loan.ensures.same)
-    at.loan at.is_out
-    (one-cell {T = g.row.T.Denot} {U = g.row.U.Denot} c.domain.inside.state c.domain.invariant single c.args.self.loan.publisher c.args.self.loan.number c.write_loan.result.book c.write_loan.result.slot at)
 
 pub returns-clause-header : goal.returns-clause-header
 returns-clause-header g c = λ header.

@@ -23,14 +23,14 @@ returns-in_err-port-clause-creates g c m s shows =
     let made = c.in_err-port.ensures.step in
     let before : State g.row.T.Denot g.row.U.Denot = state_of (kept_of c.domain.inside.state) in
     let shown : Shows (kept_of c.domain.inside.state) m s = subst (λ (kept : Kept g.row.T.Denot g.row.U.Denot). Shows kept m s) (sym c.domain.view_is) shows in
-    let next = created-shows {T = g.row.T.Denot} {U = g.row.U.Denot} c.domain.inside.state c.create_publisher.new.state c.self.inside.max_loaned_samples fixed_handlers m s before (Some why) shown made.0 made.1 in
+    let next = created-shows {T = g.row.T.Denot} {U = g.row.U.Denot} c.domain.inside.state c.create_publisher.new.state c.self.inside.max_loaned_samples 1 fixed_handlers m s before (Some why) shown made.0 made.1 in
     rw (refused.1, refused.2) (before, next.0, subst (λ (given : PublisherSettings). CreatePublisher fixed_handlers s given before (Some why)) c.self.view_is next.1)
 
 pub returns-clause-creates : goal.returns-clause-creates
 returns-clause-creates g c m s shows =
     let made = c.in_ok-port.ensures.step in
     let shown : Shows (kept_of c.domain.inside.state) m s = subst (λ (kept : Kept g.row.T.Denot g.row.U.Denot). Shows kept m s) (sym c.domain.view_is) shows in
-    let next = created-shows {T = g.row.T.Denot} {U = g.row.U.Denot} c.domain.inside.state c.create_publisher.new.state c.self.inside.max_loaned_samples fixed_handlers m s made.0 None shown made.1 made.2 in (
+    let next = created-shows {T = g.row.T.Denot} {U = g.row.U.Denot} c.domain.inside.state c.create_publisher.new.state c.self.inside.max_loaned_samples 1 fixed_handlers m s made.0 None shown made.1 made.2 in (
       made.0,
       next.0,
       (
@@ -42,7 +42,7 @@ returns-clause-creates g c m s shows =
 pub returns-clause-live : goal.returns-clause-live
 returns-clause-live g c =
     let made = c.in_ok-port.ensures.step in
-    created-live {T = g.row.T.Denot} {U = g.row.U.Denot} c.domain.inside.state c.create_publisher.new.state c.self.inside.max_loaned_samples fixed_handlers made.0 made.1 made.2
+    created-live {T = g.row.T.Denot} {U = g.row.U.Denot} c.domain.inside.state c.create_publisher.new.state c.self.inside.max_loaned_samples 1 fixed_handlers made.0 made.1 made.2
     (record { service_id = c.config.result.now.service_id; id = c.in_ok-port.port.id; place = c.in_ok-port.port.place })
     (ap (λ (config : ServiceConfig). config.service_id) c.config.ensures) c.in_ok-port.ensures.id
 
@@ -52,8 +52,8 @@ returns-in_err-port-clause-stays g c =
     let made = c.in_err-port.ensures.step in
     let why = c.in_err-port.field-0.0 in
     let shown : Shows (kept_of c.domain.inside.state) it.0 it.1 = subst (λ (kept : Kept g.row.T.Denot g.row.U.Denot). Shows kept it.0 it.1) (sym c.domain.view_is) it.2 in
-    let next = created-shows {T = g.row.T.Denot} {U = g.row.U.Denot} c.domain.inside.state c.create_publisher.new.state c.self.inside.max_loaned_samples fixed_handlers it.0 it.1 _ (Some why) shown made.0 made.1 in
-    publisher-creation-stays {T = g.row.T.Denot} {U = g.row.U.Denot} c.args.domain.now _ it.0 it.1 it.2 fixed_handlers (plain_publisher c.self.inside.max_loaned_samples) (Some why) _ next.0 next.1
+    let next = created-shows {T = g.row.T.Denot} {U = g.row.U.Denot} c.domain.inside.state c.create_publisher.new.state c.self.inside.max_loaned_samples 1 fixed_handlers it.0 it.1 _ (Some why) shown made.0 made.1 in
+    publisher-creation-stays {T = g.row.T.Denot} {U = g.row.U.Denot} c.args.domain.now _ it.0 it.1 it.2 fixed_handlers (plain_publisher c.self.inside.max_loaned_samples 1) (Some why) _ next.0 next.1
 
 pub returns-clause-stays : goal.returns-clause-stays
 returns-clause-stays g c =
@@ -73,9 +73,9 @@ returns-in_err-port-clause-refused g c =
     let made = c.in_err-port.ensures.step in
     let why = c.in_err-port.field-0.0 in
     let shown : Shows (kept_of c.domain.inside.state) it.0 it.1 = subst (λ (kept : Kept g.row.T.Denot g.row.U.Denot). Shows kept it.0 it.1) (sym c.domain.view_is) it.2 in
-    let next = created-shows {T = g.row.T.Denot} {U = g.row.U.Denot} c.domain.inside.state c.create_publisher.new.state c.self.inside.max_loaned_samples fixed_handlers it.0 it.1 _ (Some why) shown made.0 made.1 in
+    let next = created-shows {T = g.row.T.Denot} {U = g.row.U.Denot} c.domain.inside.state c.create_publisher.new.state c.self.inside.max_loaned_samples 1 fixed_handlers it.0 it.1 _ (Some why) shown made.0 made.1 in
     let refused = err_from_is_err_and c.from_residual.result c.from_residual.ensures.1 in
-    rw refused.1 (publisher-refused {T = g.row.T.Denot} {U = g.row.U.Denot} c.args.domain.now _ it.0 it.0 it.1 _ it.2 next.0 fixed_handlers (plain_publisher c.self.inside.max_loaned_samples) (Some why) next.1 (λ n entry at. at) why refl)
+    rw refused.1 (publisher-refused {T = g.row.T.Denot} {U = g.row.U.Denot} c.args.domain.now _ it.0 it.0 it.1 _ it.2 next.0 fixed_handlers (plain_publisher c.self.inside.max_loaned_samples 1) (Some why) next.1 (λ n entry at. at) why refl)
 
 pub returns-in_err-port-clause-no_fewer : goal.returns-in_err-port-clause-no_fewer
 returns-in_err-port-clause-no_fewer g c =
@@ -83,8 +83,8 @@ returns-in_err-port-clause-no_fewer g c =
     let made = c.in_err-port.ensures.step in
     let why = c.in_err-port.field-0.0 in
     let shown : Shows (kept_of c.domain.inside.state) it.0 it.1 = subst (λ (kept : Kept g.row.T.Denot g.row.U.Denot). Shows kept it.0 it.1) (sym c.domain.view_is) it.2 in
-    let next = created-shows {T = g.row.T.Denot} {U = g.row.U.Denot} c.domain.inside.state c.create_publisher.new.state c.self.inside.max_loaned_samples fixed_handlers it.0 it.1 _ (Some why) shown made.0 made.1 in
-    publisher-no-fewer {T = g.row.T.Denot} {U = g.row.U.Denot} c.args.domain.now _ it.0 it.0 it.1 _ it.2 next.0 fixed_handlers (plain_publisher c.self.inside.max_loaned_samples) (Some why) next.1
+    let next = created-shows {T = g.row.T.Denot} {U = g.row.U.Denot} c.domain.inside.state c.create_publisher.new.state c.self.inside.max_loaned_samples 1 fixed_handlers it.0 it.1 _ (Some why) shown made.0 made.1 in
+    publisher-no-fewer {T = g.row.T.Denot} {U = g.row.U.Denot} c.args.domain.now _ it.0 it.0 it.1 _ it.2 next.0 fixed_handlers (plain_publisher c.self.inside.max_loaned_samples 1) (Some why) next.1
 
 pub returns-clause-no_fewer : goal.returns-clause-no_fewer
 returns-clause-no_fewer g c =
@@ -98,8 +98,8 @@ returns-in_err-port-clause-loans_left g c =
     let made = c.in_err-port.ensures.step in
     let why = c.in_err-port.field-0.0 in
     let shown : Shows (kept_of c.domain.inside.state) it.0 it.1 = subst (λ (kept : Kept g.row.T.Denot g.row.U.Denot). Shows kept it.0 it.1) (sym c.domain.view_is) it.2 in
-    let next = created-shows {T = g.row.T.Denot} {U = g.row.U.Denot} c.domain.inside.state c.create_publisher.new.state c.self.inside.max_loaned_samples fixed_handlers it.0 it.1 _ (Some why) shown made.0 made.1 in
-    publisher-creation-left {T = g.row.T.Denot} {U = g.row.U.Denot} c.args.domain.now _ it.0 it.0 it.1 _ it.2 next.0 fixed_handlers (plain_publisher c.self.inside.max_loaned_samples) (Some why) next.1
+    let next = created-shows {T = g.row.T.Denot} {U = g.row.U.Denot} c.domain.inside.state c.create_publisher.new.state c.self.inside.max_loaned_samples 1 fixed_handlers it.0 it.1 _ (Some why) shown made.0 made.1 in
+    publisher-creation-left {T = g.row.T.Denot} {U = g.row.U.Denot} c.args.domain.now _ it.0 it.0 it.1 _ it.2 next.0 fixed_handlers (plain_publisher c.self.inside.max_loaned_samples 1) (Some why) next.1
 
 pub returns-clause-loans_left : goal.returns-clause-loans_left
 returns-clause-loans_left g c =

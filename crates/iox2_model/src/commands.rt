@@ -1,0 +1,81 @@
+//! A command is carried out.
+use crate::error::ModelError;
+use crate::model::{Model, Outcome};
+use crate::records::Made;
+use iox2_commands::{Command, Reply};
+
+impl Model {
+    /// Carries out a command, and returns its reply.
+    ///
+    /// Where the machine leaves a choice and `given` is a reply that it has, this is the reply:
+    /// which publisher a subscriber receives from, and with which of two errors memory is refused to
+    /// a publisher. `OutOfMemory` where memory for the model is refused, and `NoRule` where the model
+    /// is wrong, which leave it unfit for further commands.
+    pub fn carry_out(
+        &mut self,
+        command: Command<u64, u64>,
+        given: Option<Reply<u64, u64>>,
+    ) -> Result<Reply<u64, u64>, ModelError> {
+        let (reply, made) = self.outcome(command, given)?;
+        self.made.push(made)?;
+        Ok(reply)
+    }
+
+    // The reply of a command, and what it made.
+    fn outcome(
+        &mut self,
+        command: Command<u64, u64>,
+        given: Option<Reply<u64, u64>>,
+    ) -> Result<Outcome, ModelError> {
+        match command {
+            Command::CreatePublisher { loans, .. } => self.create_publisher(loans, given),
+            Command::CreateSubscriber { buffer, .. } => self.create_subscriber(buffer),
+            Command::LoanUninit { of } => self.loan(of, None),
+            Command::Loan { of } => self.loan(of, Some(0)),
+            Command::Receive { of } => self.receive(of, given),
+            _ => Ok((self.reply_of(command)?, Made::Nothing)),
+        }
+    }
+
+    // The reply of a command that makes nothing. In a service for single values whose publishers
+    // discard, slices and blocked sends are skipped.
+    fn reply_of(&mut self, command: Command<u64, u64>) -> Result<Reply<u64, u64>, ModelError> {
+        Ok(match command {
+            Command::Nothing => Reply::Done,
+            Command::WriteCell { of, at, value } => self.write_cell(of, at, value, false),
+            Command::SetPayload { of, at, value } => self.write_cell(of, at, value, true),
+            Command::WriteAll { of, value } => self.write_all(of, value),
+            Command::AssumeInit { of } => self.assume_init(of),
+            Command::WriteHeader { of, value } => self.write_header(of, value),
+            Command::Send { of } => match self.loan_at(of, true) {
+                Some((message, loan)) => self.send(message, loan)?,
+                None => Reply::Skipped,
+            },
+            Command::SendCopy { of, value } => self.send_copy(of, value)?,
+            Command::Discard { of } => self.discard(of),
+            Command::Update { of } => self.update(of)?,
+            Command::HasSamples { of } => self.has_samples(of)?,
+            Command::Read { of, at } => self.read(of, at),
+            Command::ReadHeader { of } => self.read_header(of),
+            Command::ReadUserHeader { of } => self.read_user_header(of),
+            Command::Release { of } => self.release(of)?,
+            Command::Close { of } => self.close(of)?,
+            _ => Reply::Skipped,
+        })
+    }
+
+    fn update(&mut self, of: usize) -> Result<Reply<u64, u64>, ModelError> {
+        if let Some(p) = self.publisher_at(of) {
+            self.update_publisher(p)?;
+            return Ok(Reply::Done);
+        }
+        let Some(q) = self.subscriber_at(of) else {
+            return Ok(Reply::Skipped);
+        };
+        if self.update_subscriber(q)? {
+            Ok(Reply::Done)
+        } else {
+            Ok(Reply::UpdateRefused(Self::expired_buffer_full()))
+        }
+    }
+}

@@ -1,0 +1,25 @@
+//! A model of publish-subscribe delivery to test the library against: the rules of `docs/MACHINE.md`
+//! carried out on plain vectors and numbers, one command after another. It shares nothing with the
+//! library but the plain types of settings, commands and replies.
+#![tactic(auto)]
+
+mod closes;
+mod commands;
+mod delivery;
+mod error;
+mod loans;
+mod mailbox;
+mod mailboxes;
+mod memory;
+mod model;
+mod places;
+mod ports;
+mod receives;
+mod records;
+mod releases;
+mod sender;
+mod subscriber_update;
+
+pub use error::ModelError;
+pub use memory::Memory;
+pub use model::{Kind, Model};

@@ -1,0 +1,40 @@
+/// Whether memory is refused to a connection or a port that needs it: never, or once.
+#[derive(Debug, Clone, Copy, PartialEq, Eq)]
+pub struct Memory {
+    // How often it is granted before it is refused; nothing where it isn't refused any more.
+    granted: Option<usize>,
+}
+
+impl Memory {
+    /// It is never refused.
+    pub fn ample() -> Memory {
+        Memory { granted: None }
+    }
+
+    /// It is granted so often, then refused once, and granted ever after.
+    pub fn refused_after(count: usize) -> Memory {
+        Memory {
+            granted: Some(count),
+        }
+    }
+
+    /// Whether a refusal is still to come.
+    pub fn will_refuse(&self) -> bool {
+        self.granted.is_some()
+    }
+
+    // Whether it is refused this time.
+    pub(crate) fn refuses(&mut self) -> bool {
+        match self.granted {
+            None => false,
+            Some(0) => {
+                self.granted = None;
+                true
+            }
+            Some(count) => {
+                self.granted = Some(count - 1);
+                false
+            }
+        }
+    }
+}

@@ -1,0 +1,200 @@
+use crate::error::ModelError;
+use crate::mailboxes::Mailboxes;
+use crate::memory::Memory;
+use crate::places::occupant;
+use crate::records::{Entry, Loan, Made, Publisher, Subscriber};
+use iox2_commands::Reply;
+use iox2_store::ServiceConfig;
+use std::alloc::Global;
+
+/// The state of a domain of single numbers, with numbers as user headers, in which publishers
+/// discard what a full receiver doesn't take and have as many slots as they may need.
+#[derive(Drop)]
+pub struct Model {
+    pub(crate) alloc: Global,
+    pub(crate) config: ServiceConfig,
+    pub(crate) memory: Memory,
+    // By id. None has the id 0.
+    pub(crate) publishers: Vec<Option<Publisher>>,
+    pub(crate) subscribers: Vec<Option<Subscriber>>,
+    // By number: loans in a user's hands, and messages that were sent. None has the number 0.
+    pub(crate) loans: Vec<Option<Loan>>,
+    pub(crate) entries: Vec<Option<Entry>>,
+    pub(crate) mailboxes: Mailboxes,
+    pub(crate) publisher_places: Vec<Option<usize>>,
+    pub(crate) subscriber_places: Vec<Option<usize>>,
+    // By the position of the command.
+    pub(crate) made: Vec<Made>,
+}
+
+/// What a command may be on.
+#[derive(Clone, Copy, PartialEq, Eq)]
+pub enum Kind {
+    Publisher,
+    Subscriber,
+    UnwrittenLoan,
+    WrittenLoan,
+    Sample,
+}
+
+// The reply of a command, and what it made.
+pub(crate) type Outcome = (Reply<u64, u64>, Made);
+
+impl Model {
+    /// A new domain with these settings.
+    pub fn new(alloc: Global, config: ServiceConfig, memory: Memory) -> Result<Model, ModelError> {
+        let mut model = Model {
+            alloc,
+            config,
+            memory,
+            publishers: Vec::new(alloc),
+            subscribers: Vec::new(alloc),
+            loans: Vec::new(alloc),
+            entries: Vec::new(alloc),
+            mailboxes: Mailboxes::new(alloc),
+            publisher_places: Vec::new(alloc),
+            subscriber_places: Vec::new(alloc),
+            made: Vec::new(alloc),
+        };
+        model.publishers.push(None)?;
+        model.subscribers.push(None)?;
+        model.loans.push(None)?;
+        model.entries.push(None)?;
+        Ok(model)
+    }
+
+    /// How many commands were carried out.
+    pub fn command_count(&self) -> usize {
+        self.made.len()
+    }
+
+    /// Whether memory was refused as often as it was to be.
+    pub fn has_refused_memory(&self) -> bool {
+        !self.memory.will_refuse()
+    }
+
+    /// Whether the command at this position made such a thing, which is still live.
+    pub fn is_live(&self, of: usize, kind: Kind) -> bool {
+        match kind {
+            Kind::Publisher => self.publisher_at(of).is_some(),
+            Kind::Subscriber => self.subscriber_at(of).is_some(),
+            Kind::UnwrittenLoan => self.loan_at(of, false).is_some(),
+            Kind::WrittenLoan => self.loan_at(of, true).is_some(),
+            Kind::Sample => self.sample_at(of).is_some(),
+        }
+    }
+
+    // ---- what a position names, where it is live
+
+    pub(crate) fn made_at(&self, of: usize) -> Made {
+        self.made.get(of).copied().unwrap_or(Made::Nothing)
+    }
+
+    pub(crate) fn publisher_at(&self, of: usize) -> Option<usize> {
+        match self.made_at(of) {
+            Made::Publisher(id) if self.is_present(id) => Some(id),
+            _ => None,
+        }
+    }
+
+    pub(crate) fn subscriber_at(&self, of: usize) -> Option<usize> {
+        match self.made_at(of) {
+            Made::Subscriber(id) if self.receiving_buffer(id).is_some() => Some(id),
+            _ => None,
+        }
+    }
+
+    pub(crate) fn any_loan_at(&self, of: usize) -> Option<(usize, Loan)> {
+        match self.made_at(of) {
+            Made::Loan(message) => Some((message, (*self.loans.get(message)?)?)),
+            _ => None,
+        }
+    }
+
+    pub(crate) fn loan_at(&self, of: usize, is_written: bool) -> Option<(usize, Loan)> {
+        let (message, loan) = self.any_loan_at(of)?;
+        if loan.is_written == is_written {
+            Some((message, loan))
+        } else {
+            None
+        }
+    }
+
+    // The publisher, the subscriber and the message.
+    pub(crate) fn sample_at(&self, of: usize) -> Option<(usize, usize, usize)> {
+        match self.made_at(of) {
+            Made::Sample {
+                publisher,
+                subscriber,
+                message,
+            } if self.mailboxes.is_borrowed(publisher, subscriber, message) => {
+                Some((publisher, subscriber, message))
+            }
+            _ => None,
+        }
+    }
+
+    // ---- ports
+
+    pub(crate) fn publisher(&self, id: usize) -> Option<&Publisher> {
+        self.publishers.get(id)?.as_ref()
+    }
+
+    pub(crate) fn publisher_mut(&mut self, id: usize) -> Option<&mut Publisher> {
+        self.publishers.get_mut(id)?.as_mut()
+    }
+
+    pub(crate) fn subscriber(&self, id: usize) -> Option<&Subscriber> {
+        self.subscribers.get(id)?.as_ref()
+    }
+
+    pub(crate) fn subscriber_mut(&mut self, id: usize) -> Option<&mut Subscriber> {
+        self.subscribers.get_mut(id)?.as_mut()
+    }
+
+    pub(crate) fn is_present(&self, publisher: usize) -> bool {
+        self.publisher(publisher).is_some()
+    }
+
+    // The buffer of a subscriber that takes messages.
+    pub(crate) fn receiving_buffer(&self, subscriber: usize) -> Option<usize> {
+        let record = self.subscriber(subscriber)?;
+        if record.is_open {
+            Some(record.buffer)
+        } else {
+            None
+        }
+    }
+
+    pub(crate) fn has_sender_end(&self, publisher: usize, subscriber: usize) -> bool {
+        match (self.publisher(publisher), self.subscriber(subscriber)) {
+            (Some(x), Some(y)) => occupant(x.ends.as_slice(), y.place) == Some(subscriber),
+            _ => false,
+        }
+    }
+
+    pub(crate) fn has_receiver_end(&self, publisher: usize, subscriber: usize) -> bool {
+        match (self.publisher(publisher), self.subscriber(subscriber)) {
+            (Some(x), Some(y)) => occupant(y.ends.as_slice(), x.place) == Some(publisher),
+            _ => false,
+        }
+    }
+
+    // The list of subscribers has changed.
+    pub(crate) fn make_publishers_due(&mut self) {
+        for id in 0..self.publishers.len() {
+            if let Some(publisher) = self.publisher_mut(id) {
+                publisher.is_due = true;
+            }
+        }
+    }
+
+    // The list of publishers has changed.
+    pub(crate) fn make_subscribers_due(&mut self) {
+        for id in 0..self.subscribers.len() {
+            if let Some(subscriber) = self.subscriber_mut(id) {
+                subscriber.is_due = true;
+            }
+        }
+    }
+}

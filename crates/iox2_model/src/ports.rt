@@ -1,0 +1,100 @@
+//! Ports are made.
+use crate::error::ModelError;
+use crate::model::{Model, Outcome};
+use crate::places::{free_place, set_place};
+use crate::records::{Made, Publisher, Subscriber};
+use iox2_commands::Reply;
+use iox2_store::{
+    PublisherCreateError, SubscriberCreateError, UniquePublisherId, UniqueSubscriberId,
+};
+
+impl Model {
+    fn buffer_limit(&self) -> usize {
+        self.config.subscriber_max_buffer_size.max(1)
+    }
+
+    // For each subscriber its buffer and what it may borrow; then the history; then the loans.
+    // Nothing where that doesn't fit.
+    fn worst_case(&self, loans: usize) -> Option<usize> {
+        let borrowed = self.config.subscriber_max_borrowed_samples;
+        let each = self.buffer_limit().checked_add(borrowed)?;
+        let all = self.config.max_subscribers.checked_mul(each)?;
+        all.checked_add(self.config.history_size)?
+            .checked_add(loans)
+    }
+
+    // A publisher is made at the lowest free place. Where memory is refused, `given` is the reply.
+    pub(crate) fn create_publisher(
+        &mut self,
+        loans: usize,
+        given: Option<Reply<u64, u64>>,
+    ) -> Result<Outcome, ModelError> {
+        let limit = self.config.max_publishers;
+        let Some(place) = free_place(limit, self.publisher_places.as_slice()) else {
+            return Ok(publisher_refused(PublisherCreateError::ExceedsMaxSupportedPublishers));
+        };
+        if self.worst_case(loans).is_none() {
+            return Ok(publisher_refused(PublisherCreateError::UnableToCreateDataSegment));
+        }
+        if self.memory.refuses() {
+            return Ok(publisher_refused(refusal_of(given)));
+        }
+        let id = self.publishers.len();
+        let publisher = Publisher::new(self.alloc, place, loans);
+        self.publishers.push(Some(publisher))?;
+        self.subscribers.push(None)?;
+        set_place(&mut self.publisher_places, place, Some(id))?;
+        self.make_subscribers_due();
+        self.update_publisher(id)?;
+        let reply = Reply::PublisherMade(UniquePublisherId::new(id as u128));
+        Ok((reply, Made::Publisher(id)))
+    }
+
+    // A subscriber is made at the lowest free place.
+    pub(crate) fn create_subscriber(
+        &mut self,
+        buffer: Option<usize>,
+    ) -> Result<Outcome, ModelError> {
+        let most = self.buffer_limit();
+        let buffer = buffer.unwrap_or(most).max(1);
+        if buffer > most {
+            return Ok(subscriber_refused(
+                SubscriberCreateError::BufferSizeExceedsMaxSupportedBufferSizeOfService,
+            ));
+        }
+        let limit = self.config.max_subscribers;
+        let Some(place) = free_place(limit, self.subscriber_places.as_slice()) else {
+            return Ok(subscriber_refused(SubscriberCreateError::ExceedsMaxSupportedSubscribers));
+        };
+        if self.memory.refuses() {
+            return Ok(subscriber_refused(SubscriberCreateError::FailedToDeployThreadsafetyPolicy));
+        }
+        let id = self.subscribers.len();
+        let subscriber = Subscriber::new(self.alloc, place, buffer);
+        self.subscribers.push(Some(subscriber))?;
+        self.publishers.push(None)?;
+        set_place(&mut self.subscriber_places, place, Some(id))?;
+        self.make_publishers_due();
+        self.update_subscriber(id)?;
+        let reply = Reply::SubscriberMade(UniqueSubscriberId::new(id as u128));
+        Ok((reply, Made::Subscriber(id)))
+    }
+}
+
+fn publisher_refused(error: PublisherCreateError) -> Outcome {
+    (Reply::PublisherRefused(error), Made::Nothing)
+}
+
+fn subscriber_refused(error: SubscriberCreateError) -> Outcome {
+    (Reply::SubscriberRefused(error), Made::Nothing)
+}
+
+// With which error memory is refused to a publisher: for its segment or for its state.
+fn refusal_of(given: Option<Reply<u64, u64>>) -> PublisherCreateError {
+    let for_state = PublisherCreateError::FailedToDeployThreadsafetyPolicy;
+    if given == Some(Reply::PublisherRefused(for_state)) {
+        for_state
+    } else {
+        PublisherCreateError::UnableToCreateDataSegment
+    }
+}

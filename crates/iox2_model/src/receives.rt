@@ -1,0 +1,162 @@
+//! A subscriber receives, and messages are read.
+use crate::error::ModelError;
+use crate::model::{Model, Outcome};
+use crate::records::{Loan, Made};
+use iox2_commands::Reply;
+use iox2_store::{
+    ConnectionFailure, Header, ReceiveError, UniqueNodeId, UniquePublisherId, ZeroCopyCreationError,
+};
+
+impl Model {
+    // A departed publisher couldn't be kept among the expired ones.
+    pub(crate) fn expired_buffer_full() -> ConnectionFailure {
+        ConnectionFailure::FailedToEstablishConnection(
+            ZeroCopyCreationError::ExpiredConnectionBufferFull,
+        )
+    }
+
+    // Connections are updated first. Where several publishers may be received from, it is the one
+    // that `given` names if that is one of them.
+    pub(crate) fn receive(
+        &mut self,
+        of: usize,
+        given: Option<Reply<u64, u64>>,
+    ) -> Result<Outcome, ModelError> {
+        if self.config.units_per_element != 1 {
+            return Ok((Reply::Skipped, Made::Nothing));
+        }
+        let Some(q) = self.subscriber_at(of) else {
+            return Ok((Reply::Skipped, Made::Nothing));
+        };
+        if !self.update_subscriber(q)? {
+            let error = ReceiveError::ConnectionFailure(Self::expired_buffer_full());
+            return Ok((Reply::ReceiveRefused(error), Made::Nothing));
+        }
+        match self.choose_publisher(q, given) {
+            Some(p) => self.take_sample(p, q),
+            None if self.has_any_data(q) => Ok((
+                Reply::ReceiveRefused(ReceiveError::ExceedsMaxBorrows),
+                Made::Nothing,
+            )),
+            None => Ok((Reply::NoSample, Made::Nothing)),
+        }
+    }
+
+    fn take_sample(&mut self, p: usize, q: usize) -> Result<Outcome, ModelError> {
+        let message = self.mailboxes.made(p, q)?.borrow_first()?;
+        let sample = Made::Sample {
+            publisher: p,
+            subscriber: q,
+            message,
+        };
+        Ok((sample_of(p), sample))
+    }
+
+    // The publisher to receive from: a departed one where there is such a one, and else any other.
+    fn choose_publisher(&self, q: usize, given: Option<Reply<u64, u64>>) -> Option<usize> {
+        let limit = self.config.subscriber_max_borrowed_samples;
+        let subscriber = self.subscriber(q)?;
+        let mut chosen = None;
+        for p in subscriber.expired.as_slice() {
+            if self.mailboxes.can_receive(*p, q, limit)
+                && (chosen.is_none() || given == Some(sample_of(*p)))
+            {
+                chosen = Some(*p);
+            }
+        }
+        if chosen.is_some() {
+            return chosen;
+        }
+        for end in subscriber.ends.as_slice() {
+            if let Some(p) = *end {
+                if self.mailboxes.can_receive(p, q, limit)
+                    && (chosen.is_none() || given == Some(sample_of(p)))
+                {
+                    chosen = Some(p);
+                }
+            }
+        }
+        chosen
+    }
+
+    // Something waits from a publisher with which the subscriber is connected.
+    fn has_any_data(&self, q: usize) -> bool {
+        let Some(subscriber) = self.subscriber(q) else {
+            return false;
+        };
+        for p in subscriber.expired.as_slice() {
+            if self.mailboxes.has_data(*p, q) {
+                return true;
+            }
+        }
+        for end in subscriber.ends.as_slice() {
+            if let Some(p) = *end {
+                if self.mailboxes.has_data(p, q) {
+                    return true;
+                }
+            }
+        }
+        false
+    }
+
+    pub(crate) fn has_samples(&mut self, of: usize) -> Result<Reply<u64, u64>, ModelError> {
+        let Some(q) = self.subscriber_at(of) else {
+            return Ok(Reply::Skipped);
+        };
+        if self.update_subscriber(q)? {
+            Ok(Reply::Has(self.has_any_data(q)))
+        } else {
+            Ok(Reply::UpdateRefused(Self::expired_buffer_full()))
+        }
+    }
+
+    // ---- a sample or a loan is read
+
+    pub(crate) fn read(&self, of: usize, at: usize) -> Reply<u64, u64> {
+        if at > 0 {
+            return Reply::Skipped;
+        }
+        match self.read_at(of) {
+            Some(loan) => Reply::Cell(loan.cell),
+            None => Reply::Skipped,
+        }
+    }
+
+    pub(crate) fn read_header(&self, of: usize) -> Reply<u64, u64> {
+        match self.read_at(of) {
+            Some(loan) => Reply::Header(Header {
+                node_id: UniqueNodeId::new(self.config.node_id),
+                publisher_id: UniquePublisherId::new(loan.publisher as u128),
+                number_of_elements: 1,
+            }),
+            None => Reply::Skipped,
+        }
+    }
+
+    pub(crate) fn read_user_header(&self, of: usize) -> Reply<u64, u64> {
+        match self.read_at(of) {
+            Some(loan) => Reply::UserHeader(loan.user_header),
+            None => Reply::Skipped,
+        }
+    }
+
+    // What a position shows: a loan, or a sample as the written loan that it was.
+    fn read_at(&self, of: usize) -> Option<Loan> {
+        if let Some((_, loan)) = self.any_loan_at(of) {
+            return Some(loan);
+        }
+        let (_, _, message) = self.sample_at(of)?;
+        let entry = (*self.entries.get(message)?)?;
+        Some(Loan {
+            publisher: entry.publisher,
+            user_header: entry.user_header,
+            cell: Some(entry.value),
+            is_written: true,
+        })
+    }
+}
+
+// The reply that a sample of this publisher was received.
+fn sample_of(p: usize) -> Reply<u64, u64> {
+    Reply::Sample(UniquePublisherId::new(p as u128))
+}

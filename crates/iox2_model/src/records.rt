@@ -1,0 +1,84 @@
+use std::alloc::Global;
+
+// A publisher that wasn't closed.
+#[derive(Drop)]
+pub(crate) struct Publisher {
+    pub(crate) place: usize,
+    pub(crate) max_loaned_samples: usize,
+    pub(crate) loans: Vec<usize>,
+    // The last messages sent, oldest first.
+    pub(crate) history: Vec<usize>,
+    // At a subscriber's place, the subscriber to whose mailbox its end leads.
+    pub(crate) ends: Vec<Option<usize>>,
+    pub(crate) is_due: bool,
+}
+
+impl Publisher {
+    pub(crate) fn new(alloc: Global, place: usize, max_loaned_samples: usize) -> Publisher {
+        Publisher {
+            place,
+            max_loaned_samples,
+            loans: Vec::new(alloc),
+            history: Vec::new(alloc),
+            ends: Vec::new(alloc),
+            is_due: true,
+        }
+    }
+}
+
+// A subscriber that wasn't closed, or that was closed and has borrowed messages.
+#[derive(Drop)]
+pub(crate) struct Subscriber {
+    pub(crate) is_open: bool,
+    pub(crate) place: usize,
+    pub(crate) buffer: usize,
+    // At a publisher's place, the publisher from whose mailbox its end leads.
+    pub(crate) ends: Vec<Option<usize>>,
+    // Departed publishers that it still has messages of, in order of entry.
+    pub(crate) expired: Vec<usize>,
+    pub(crate) is_due: bool,
+}
+
+impl Subscriber {
+    pub(crate) fn new(alloc: Global, place: usize, buffer: usize) -> Subscriber {
+        Subscriber {
+            is_open: true,
+            place,
+            buffer,
+            ends: Vec::new(alloc),
+            expired: Vec::new(alloc),
+            is_due: true,
+        }
+    }
+}
+
+// A message that isn't sent yet.
+#[derive(Clone, Copy)]
+pub(crate) struct Loan {
+    pub(crate) publisher: usize,
+    pub(crate) user_header: u64,
+    pub(crate) cell: Option<u64>,
+    pub(crate) is_written: bool,
+}
+
+// A message that was sent.
+#[derive(Clone, Copy)]
+pub(crate) struct Entry {
+    pub(crate) publisher: usize,
+    pub(crate) user_header: u64,
+    pub(crate) value: u64,
+}
+
+// What a command made, which later commands name by its position in the list.
+#[derive(Clone, Copy)]
+pub(crate) enum Made {
+    Nothing,
+    Publisher(usize),
+    Subscriber(usize),
+    Loan(usize),
+    Sample {
+        publisher: usize,
+        subscriber: usize,
+        message: usize,
+    },
+}

@@ -1,0 +1,85 @@
+//! A sample is released; what is held no more goes.
+use crate::error::ModelError;
+use crate::model::Model;
+use crate::places::{set_place, vacate};
+use iox2_commands::Reply;
+
+impl Model {
+    // A departed publisher of which no message is left is forgotten, and the subscriber is gone with
+    // its last borrowed message where it was closed.
+    pub(crate) fn release(&mut self, of: usize) -> Result<Reply<u64, u64>, ModelError> {
+        let Some((p, q, message)) = self.sample_at(of) else {
+            return Ok(Reply::Skipped);
+        };
+        if let Some(mailbox) = self.mailboxes.get_mut(p, q) {
+            mailbox.release(message);
+        }
+        self.prune(q)?;
+        self.free_if_unused(q);
+        Ok(Reply::Done)
+    }
+
+    // The publisher wasn't closed, or some message of it waits or is borrowed.
+    fn is_connected(&self, q: usize, p: usize) -> bool {
+        self.is_present(p) || self.mailboxes.has_data(p, q) || self.mailboxes.has_borrows(p, q)
+    }
+
+    // The subscriber forgets the departed publishers of which it has no message any more.
+    pub(crate) fn prune(&mut self, q: usize) -> Result<(), ModelError> {
+        let mut ends = Vec::new(self.alloc);
+        let mut expired = Vec::new(self.alloc);
+        let Some(subscriber) = self.subscriber(q) else {
+            return Ok(());
+        };
+        for place in 0..subscriber.ends.len() {
+            let end = crate::places::occupant(subscriber.ends.as_slice(), place);
+            let kept = end.filter(|p| self.is_connected(q, *p));
+            set_place(&mut ends, place, kept)?;
+        }
+        for p in subscriber.expired.as_slice() {
+            if self.is_connected(q, *p) {
+                expired.push(*p)?;
+            }
+        }
+        if let Some(subscriber) = self.subscriber_mut(q) {
+            subscriber.ends = ends;
+            subscriber.expired = expired;
+        }
+        Ok(())
+    }
+
+    // The subscriber was closed, and has borrowed nothing.
+    fn is_unused(&self, q: usize) -> bool {
+        let Some(subscriber) = self.subscriber(q) else {
+            return false;
+        };
+        if subscriber.is_open {
+            return false;
+        }
+        for p in subscriber.expired.as_slice() {
+            if self.mailboxes.has_borrows(*p, q) {
+                return false;
+            }
+        }
+        for end in subscriber.ends.as_slice() {
+            if let Some(p) = *end {
+                if self.mailboxes.has_borrows(p, q) {
+                    return false;
+                }
+            }
+        }
+        true
+    }
+
+    // A closed subscriber that has borrowed nothing is gone, and its place is free.
+    pub(crate) fn free_if_unused(&mut self, q: usize) {
+        if !self.is_unused(q) {
+            return;
+        }
+        if let Some(record) = self.subscribers.get_mut(q) {
+            *record = None;
+        }
+        vacate(&mut self.subscriber_places, q);
+        self.make_publishers_due();
+    }
+}

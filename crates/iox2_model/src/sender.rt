@@ -1,0 +1,111 @@
+//! A publisher's update: it goes over the subscribers that are listed now.
+use crate::error::ModelError;
+use crate::model::Model;
+use crate::places::{occupant, set_place};
+use std::alloc::Global;
+
+impl Model {
+    // The publisher, where it is due, goes over the subscribers' places. That fails for no
+    // publisher: where memory is refused, it is a warning.
+    pub(crate) fn update_publisher(&mut self, p: usize) -> Result<(), ModelError> {
+        let Some(publisher) = self.publisher_mut(p) else {
+            return Err(ModelError::NoRule);
+        };
+        if !publisher.is_due {
+            return Ok(());
+        }
+        publisher.is_due = false;
+        for place in 0..self.subscriber_places.len() {
+            self.update_sender_place(p, place)?;
+        }
+        Ok(())
+    }
+
+    // An end to the subscriber that stands at the place stays, and what waits for it is lost where
+    // it is closed. Any other end goes, and one to an open subscriber is made.
+    fn update_sender_place(&mut self, p: usize, place: usize) -> Result<(), ModelError> {
+        let Some(q) = occupant(self.subscriber_places.as_slice(), place) else {
+            return self.disconnect_sender(p, place);
+        };
+        let is_connected = self.sender_end(p, place) == Some(q);
+        match self.receiving_buffer(q) {
+            Some(_) if is_connected => Ok(()),
+            Some(buffer) => {
+                self.disconnect_sender(p, place)?;
+                self.connect_sender(p, place, q, buffer)
+            }
+            None if is_connected => {
+                self.mailboxes.drop_waiting(p, q);
+                Ok(())
+            }
+            None => self.disconnect_sender(p, place),
+        }
+    }
+
+    // The subscriber to whose mailbox the publisher's end at the place leads.
+    fn sender_end(&self, p: usize, place: usize) -> Option<usize> {
+        occupant(self.publisher(p)?.ends.as_slice(), place)
+    }
+
+    // The end at the place goes, if there is one, and what waits in its mailbox with it.
+    fn disconnect_sender(&mut self, p: usize, place: usize) -> Result<(), ModelError> {
+        if let Some(q) = self.sender_end(p, place) {
+            self.mailboxes.drop_waiting(p, q);
+            self.set_sender_end(p, place, None)?;
+        }
+        Ok(())
+    }
+
+    fn set_sender_end(
+        &mut self,
+        p: usize,
+        place: usize,
+        end: Option<usize>,
+    ) -> Result<(), ModelError> {
+        let Some(publisher) = self.publisher_mut(p) else {
+            return Err(ModelError::NoRule);
+        };
+        set_place(&mut publisher.ends, place, end)
+    }
+
+    // An end to q is made at the place, and the last messages of the history that the buffer holds
+    // wait there. Where q has no end either, memory may be refused in place of that.
+    fn connect_sender(
+        &mut self,
+        p: usize,
+        place: usize,
+        q: usize,
+        buffer: usize,
+    ) -> Result<(), ModelError> {
+        if !self.has_receiver_end(p, q) && self.memory.refuses() {
+            return Ok(());
+        }
+        self.set_sender_end(p, place, Some(q))?;
+        let messages = self.last_messages(p, buffer)?;
+        self.mailboxes.made(p, q)?.set_waiting(messages.as_slice())
+    }
+
+    // The last messages of a publisher's history, at most so many.
+    fn last_messages(&self, p: usize, count: usize) -> Result<Vec<usize>, ModelError> {
+        let Some(publisher) = self.publisher(p) else {
+            return Err(ModelError::NoRule);
+        };
+        last(self.alloc, publisher.history.as_slice(), count)
+    }
+}
+
+// The last numbers of a list, at most so many.
+pub(crate) fn last(
+    alloc: Global,
+    numbers: &[usize],
+    count: usize,
+) -> Result<Vec<usize>, ModelError> {
+    let from = numbers.len().saturating_sub(count);
+    let mut found = Vec::new(alloc);
+    for index in from..numbers.len() {
+        if let Some(number) = numbers.get(index) {
+            found.push(*number)?;
+        }
+    }
+    Ok(found)
+}

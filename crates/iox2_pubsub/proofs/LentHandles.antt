@@ -1,0 +1,210 @@
+-- What a domain shows once a reference into a loan was handed out, whatever was left behind it.
+use Rattle.std.proofs.Common.{◌≡◌, ℕ, ◌<◌, List, [], ◌∷◌, map, length, true, false, slice_set, refl, ap, sym, subst, ◌∙◌, arith}
+use Rattle.std.specs.declared.option.Option.{Option}
+use Rattle.std.specs.declared.option.Option.TheVariants.{None, Some}
+use Rattle.iox2_store.specs.declared.key.Key.{Key}
+use Rattle.iox2_store.specs.SingleValues.{is_single_valued}
+use Rattle.iox2_store.specs.SlotContents.{ContentState, with_first_cell, with_first_value, with_user_header as with_header_in, with_cells as with_cells_in, with_values as with_values_in, first_cell_at, first_value_at, cells_at, values_at, user_header_at}
+use Rattle.iox2_store.specs.machine.Records.{Loan}
+use Rattle.iox2_store.specs.machine.SingleCalls.{HoldsLoan}
+use Rattle.iox2_store.specs.machine.State.{State, Messages, with_loan}
+use Rattle.iox2_domain.specs.Kept.{Kept, state_of, with_loan_changed}
+use Rattle.iox2_domain.specs.Fields.{Fields, kept_of, contents_at}
+use Rattle.iox2_domain.specs.Invariant.{IsDomain}
+use Rattle.iox2_domain.specs.LoanCalls.{HoldsUnwritten, HoldsWritten, HasCells, HasCell, HasLoanUserHeader, HasContents, HasContentIn, with_content, first_cell_changed, cells_changed, user_header_changed}
+use Rattle.iox2_domain.specs.LoanSlots.{LiesInSlot}
+use Rattle.iox2_domain.specs.Shows.{Shows}
+use Rattle.iox2_domain.proofs.lemmas.loans.LentLoans.{IsLent, header-lent, cell-lent, cells-lent, value-lent, values-lent}
+use Rattle.iox2_domain.proofs.lemmas.loans.LoanCalls.{contents-there, some-at, is-unwritten, is-written, user_header-read, in-lists, cell-some, cell-read, cells-read, value-some, value-read, values-read}
+use Rattle.iox2_pubsub.specs.ChangedLoans.{with_cell, with_cells, with_payload, with_payloads, with_user_header}
+use Rattle.iox2_pubsub.specs.Live.{IsUnwrittenLoan, IsWrittenLoan, LoanReads, LoanHasUserHeader, UnwrittenReads, A_loan, StaysBut}
+use Rattle.iox2_pubsub.specs.declared.sample_mut.SampleMut.{SampleMut}
+use Rattle.iox2_pubsub.specs.declared.sample_mut_uninit.SampleMutUninit.{SampleMutUninit}
+use Rattle.iox2_pubsub.proofs.CallsStay.{always-shown, change-stays}
+use Rattle.iox2_pubsub.proofs.LiveParts.{written-parts, unwritten-parts, loan-reads, loan-cell, unwritten-reads, unwritten-cell, loan-user-header}
+use Rattle.iox2_pubsub.proofs.LoanHandles.{change-shown, changed-out, change-unwritten, change-written}
+use Rattle.iox2_pubsub.specs.LoansLeft.{LoansLeftStay}
+use Rattle.iox2_pubsub.proofs.LoansLeftShown.{set-left}
+
+-- ---- the words
+
+module _ {T U : Type 0} (kept : Kept T U) (n : ℕ) where
+  pub cell-word : (cell : Option T) → with_cell kept n cell ≡ with_loan_changed n (first_cell_changed cell) kept
+  unfolding with_cell
+  cell-word cell = refl
+
+  pub payload-word : (value : T) → with_payload kept n value ≡ with_loan_changed n (first_cell_changed (Some value)) kept
+  unfolding with_payload
+  payload-word value = refl
+
+  pub cells-word : (cells : List (Option T)) → with_cells kept n cells ≡ with_loan_changed n (cells_changed cells) kept
+  unfolding with_cells
+  cells-word cells = refl
+
+  pub payloads-word : (values : List T) → with_payloads kept n values ≡ with_loan_changed n (cells_changed (map Some values)) kept
+  unfolding with_payloads
+  payloads-word values = refl
+
+  pub user_header-word : (user_header : U) → with_user_header kept n user_header ≡ with_loan_changed n (user_header_changed user_header) kept
+  unfolding with_user_header
+  user_header-word user_header = refl
+
+-- a list of one element, the first of which was changed
+pub one-changed : {A : Type 0} (xs : List A) (x : A) → length xs ≡ 1 → slice_set xs 0 x ≡ x ∷ []
+one-changed [] x one = absurd (omega arith)
+one-changed (y ∷ []) x one = refl
+one-changed (y ∷ z ∷ ys) x one = absurd (omega arith)
+
+-- ---- a loan that was lent
+
+module _ {T U : Type 0} (f g : Fields T U) (sound : IsDomain f) (kept : Kept T U) (view : kept_of f ≡ kept) (n : ℕ) (l : Loan T U) (found : (state_of (kept_of f)).loans n ≡ Some l)
+    (h : Loan T U → Loan T U) (lent : IsLent f g n l h) (after : Kept T U) (is : after ≡ with_loan_changed n h kept) where
+  -- what is kept is what the word says
+  pub lent-is : kept_of g ≡ after
+  lent-is = lent.kept ∙ ap (with_loan_changed n h) view ∙ sym is
+
+  pub lent-shown : (m : Messages T U) (s : State T U) → Shows kept m s → (k : Loan T U) × (s.loans n ≡ Some k) × Shows after m (with_loan s n (Some (h k)))
+  lent-shown m s shown =
+      let both = change-shown f g kept view n l (h l) found lent.reaches m s shown in
+      (l, both.0, subst (λ (k : Kept T U). Shows k m (with_loan s n (Some (h l)))) lent-is both.1)
+
+  pub lent-stays : StaysBut (A_loan n) kept after
+  lent-stays =
+      let it = always-shown f kept sound view in
+      let step = lent-shown it.0 it.1 it.2 in
+      change-stays kept after it.0 it.1 it.2 n (h step.0) step.2
+
+  pub lent-left : LoansLeftStay kept after
+  lent-left =
+      let it = always-shown f kept sound view in
+      let step = lent-shown it.0 it.1 it.2 in
+      set-left kept after it.0 it.0 it.1 (with_loan it.1 n (Some (h step.0))) it.2 step.2 n (Some (h step.0)) refl
+
+  -- the changed loan is the one that is kept
+  lent-there : (state_of after).loans n ≡ Some (h l)
+  lent-there = ap (λ (k : Kept T U). (state_of k).loans n) (sym lent-is) ∙ changed-out f g kept view n l (h l) found lent.reaches
+
+  loan-there : (k : Loan T U) → (state_of kept).loans n ≡ Some k → k ≡ l
+  loan-there k at =
+      let both : Some k ≡ Some l = sym at ∙ sym (ap (λ (s : Kept T U). (state_of s).loans n) view) ∙ found in cc
+
+  -- what it reads as
+  pub lent-cell : (loan : SampleMutUninit) (cell : Option T) → loan.loan.number ≡ n → (h l).cells ≡ cell ∷ [] → UnwrittenReads after loan cell
+  lent-cell loan cell its cells = unwritten-reads after loan cell (h l, ap (state_of after).loans its ∙ lent-there, cells)
+
+  pub lent-value : (loan : SampleMut) (value : T) → loan.loan.number ≡ n → (h l).cells ≡ Some value ∷ [] → LoanReads after loan value
+  lent-value loan value its cells = loan-reads after loan value (h l, ap (state_of after).loans its ∙ lent-there, cells)
+
+  pub lent-header : (key : Key) (user_header : U) → key.message ≡ n → (h l).user_header ≡ user_header → LoanHasUserHeader after key user_header
+  lent-header key user_header its is-it = loan-user-header after key user_header (h l, ap (state_of after).loans its ∙ lent-there, is-it)
+
+  -- where only its user header changed, it reads as it did
+  pub lent-payload : (h l).cells ≡ l.cells → (loan : SampleMut) (value : T) → loan.loan.number ≡ n → LoanReads kept loan value → LoanReads after loan value
+  lent-payload cells loan value its reads =
+      let had = loan-cell kept loan value reads in
+      lent-value loan value its (cells ∙ ap (λ (k : Loan T U). k.cells) (sym (loan-there had.0 (ap (state_of kept).loans (sym its) ∙ had.1))) ∙ had.2)
+
+  pub lent-uninit : (h l).cells ≡ l.cells → (loan : SampleMutUninit) (cell : Option T) → loan.loan.number ≡ n → UnwrittenReads kept loan cell → UnwrittenReads after loan cell
+  lent-uninit cells loan cell its reads =
+      let had = unwritten-cell kept loan cell reads in
+      lent-cell loan cell its (cells ∙ ap (λ (k : Loan T U). k.cells) (sym (loan-there had.0 (ap (state_of kept).loans (sym its) ∙ had.1))) ∙ had.2)
+
+  module _ (same : (h l).publisher ≡ l.publisher) (mark : (h l).is_written ≡ l.is_written) where
+    pub lent-written : (loan : SampleMut) → loan.loan.number ≡ n → IsWrittenLoan kept loan → IsWrittenLoan after loan
+    lent-written loan its live =
+        let parts = written-parts kept loan live in
+        let out : HoldsLoan (state_of (kept_of f)) loan.loan.publisher n =
+        subst (λ (k : Kept T U). HoldsLoan (state_of k) loan.loan.publisher n) (sym view) (subst (HoldsLoan (state_of kept) loan.loan.publisher) its ((parts.1).0, (parts.1).1, (parts.1).2)) in
+        let both : Some l ≡ Some (parts.1).0 = sym found ∙ ap (λ (k : Kept T U). (state_of k).loans n) view ∙ ap (state_of kept).loans (sym its) ∙ (parts.1).1 in
+        let one : l ≡ (parts.1).0 = cc in
+        let written : (h l).is_written ≡ true = mark ∙ ap (λ (k : Loan T U). k.is_written) one ∙ (parts.1).3 in
+        subst (λ (k : Kept T U). IsWrittenLoan k loan) lent-is
+        (change-written f g kept view n l (h l) found lent.reaches same loan.loan.publisher loan.service_id parts.0 out written loan its refl refl)
+
+    pub lent-unwritten : (loan : SampleMutUninit) → loan.loan.number ≡ n → IsUnwrittenLoan kept loan → IsUnwrittenLoan after loan
+    lent-unwritten loan its live =
+        let parts = unwritten-parts kept loan live in
+        let both : Some l ≡ Some (parts.1).0 = sym found ∙ ap (λ (k : Kept T U). (state_of k).loans n) view ∙ ap (state_of kept).loans (sym its) ∙ (parts.1).1 in
+        let one : l ≡ (parts.1).0 = cc in
+        let unwritten : (h l).is_written ≡ false = mark ∙ ap (λ (k : Loan T U). k.is_written) one ∙ (parts.1).3 in
+        subst (λ (k : Kept T U). IsUnwrittenLoan k loan) lent-is (change-unwritten f g kept view n l (h l) found lent.reaches same loan its live unwritten)
+
+-- ---- what lies in a loan's slot may be lent
+
+module _ {T U : Type 0} (f : Fields T U) (sound : IsDomain f) (p n key slot : ℕ) (at : LiesInSlot f p n key slot) where
+  has : HasContents f key
+  has = contents-there f sound key at.book at.stands
+
+  -- its user header
+  pub header-there : HasContentIn f key slot (λ content. content ≡ content)
+  header-there = (has.0, has.1, some-at f sound p n key slot at has.0 has.1 (λ content. content ≡ content) refl)
+
+  pub header-lends : (user_header : U) → IsLent f (with_content f key slot (with_header_in user_header)) n at.loan (user_header_changed user_header)
+  header-lends user_header = header-lent f sound p n key slot at has.0 has.1 user_header
+
+  pub header-known : (user_header : U) → user_header_at (contents_at f.contents key) slot ≡ Some user_header → HasLoanUserHeader (state_of (kept_of f)) n user_header
+  header-known user_header known =
+      user_header-read f sound p n key slot at has.0 has.1 user_header (sym (ap (λ o. user_header_at (contents_of o) slot) has.1) ∙ known)
+    where
+      contents_of : Option (List (ContentState T U)) → List (ContentState T U)
+      contents_of o = elim o [ None ↦ [] | Some zs ↦ zs ]
+
+  -- the value of a written loan
+  module _ (out : HoldsWritten (state_of (kept_of f)) p n) where
+    pub value-lends : (value : T) → IsLent f (with_content f key slot (with_first_value value)) n at.loan (first_cell_changed (Some value))
+    value-lends value = value-lent f sound p n key slot at has.0 has.1 (is-written f sound p n key slot at out) value
+
+    -- its values, where they lie in a list
+    pub values-lends : (values : List T) → IsLent f (with_content f key slot (with_values_in values)) n at.loan (cells_changed (map Some values))
+    values-lends values = values-lent f sound p n key slot at has.0 has.1 (is-written f sound p n key slot at out) values
+
+    pub values-there : is_single_valued f.config ≡ false → HasContentIn f key slot (λ content. content.is_in_place ≡ false)
+    values-there several = (has.0, has.1, some-at f sound p n key slot at has.0 has.1 (λ content. content.is_in_place ≡ false) (in-lists f sound p n key slot at has.0 has.1 several))
+
+    pub values-known : (values : List T) → values_at (contents_at f.contents key) slot ≡ Some values → HasCells (state_of (kept_of f)) n (map Some values)
+    values-known values known =
+        values-read f sound p n key slot at has.0 has.1 (is-written f sound p n key slot at out) values (sym (ap (λ o. values_at (contents_of o) slot) has.1) ∙ known)
+      where
+        contents_of : Option (List (ContentState T U)) → List (ContentState T U)
+        contents_of o = elim o [ None ↦ [] | Some zs ↦ zs ]
+
+    module _ (one : length (at.loan).cells ≡ 1) where
+      pub value-there : HasContentIn f key slot (λ content. 0 < length content.values)
+      value-there = (has.0, has.1, value-some f sound p n key slot at has.0 has.1 (is-written f sound p n key slot at out) one)
+
+      pub value-known : (value : T) → first_value_at (contents_at f.contents key) slot ≡ Some value → HasCell (state_of (kept_of f)) n (Some value)
+      value-known value known =
+          value-read f sound p n key slot at has.0 has.1 (is-written f sound p n key slot at out) one value (sym (ap (λ o. first_value_at (contents_of o) slot) has.1) ∙ known)
+        where
+          contents_of : Option (List (ContentState T U)) → List (ContentState T U)
+          contents_of o = elim o [ None ↦ [] | Some zs ↦ zs ]
+
+  -- the cell of an unwritten loan
+  module _ (out : HoldsUnwritten (state_of (kept_of f)) p n) where
+    pub cell-lends : (cell : Option T) → IsLent f (with_content f key slot (with_first_cell cell)) n at.loan (first_cell_changed cell)
+    cell-lends cell = cell-lent f sound p n key slot at has.0 has.1 (is-unwritten f sound p n key slot at out) cell
+
+    -- its cells, where they lie in a list
+    pub cells-lends : (cells : List (Option T)) → IsLent f (with_content f key slot (with_cells_in cells)) n at.loan (cells_changed cells)
+    cells-lends cells = cells-lent f sound p n key slot at has.0 has.1 (is-unwritten f sound p n key slot at out) cells
+
+    pub cells-there : is_single_valued f.config ≡ false → HasContentIn f key slot (λ content. content.is_in_place ≡ false)
+    cells-there several = (has.0, has.1, some-at f sound p n key slot at has.0 has.1 (λ content. content.is_in_place ≡ false) (in-lists f sound p n key slot at has.0 has.1 several))
+
+    pub cells-known : (cells : List (Option T)) → cells_at (contents_at f.contents key) slot ≡ Some cells → HasCells (state_of (kept_of f)) n cells
+    cells-known cells known =
+        cells-read f sound p n key slot at has.0 has.1 (is-unwritten f sound p n key slot at out) cells (sym (ap (λ o. cells_at (contents_of o) slot) has.1) ∙ known)
+      where
+        contents_of : Option (List (ContentState T U)) → List (ContentState T U)
+        contents_of o = elim o [ None ↦ [] | Some zs ↦ zs ]
+
+    module _ (one : length (at.loan).cells ≡ 1) where
+      pub cell-there : HasContentIn f key slot (λ content. 0 < length content.cells)
+      cell-there = (has.0, has.1, cell-some f sound p n key slot at has.0 has.1 (is-unwritten f sound p n key slot at out) one)
+
+      pub cell-known : (cell : Option T) → first_cell_at (contents_at f.contents key) slot ≡ Some cell → HasCell (state_of (kept_of f)) n cell
+      cell-known cell known =
+          cell-read f sound p n key slot at has.0 has.1 (is-unwritten f sound p n key slot at out) one cell (sym (ap (λ o. first_cell_at (contents_of o) slot) has.1) ∙ known)
+        where
+          contents_of : Option (List (ContentState T U)) → List (ContentState T U)
+          contents_of o = elim o [ None ↦ [] | Some zs ↦ zs ]

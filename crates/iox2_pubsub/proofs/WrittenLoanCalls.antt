@@ -1,0 +1,54 @@
+-- A value is loaned and written, and it may be sent at once.
+use Rattle.std.proofs.Common.{◌≡◌, ℕ, true, false, cond, refl, ap, sym, subst, ◌∙◌, Result, Ok, Err, None, Some}
+use Rattle.std.proofs.lemmas.Bool.{eq-eqb}
+use Rattle.std.specs.declared.option.Option.{Option}
+use Rattle.std.specs.Option.{MatchOption}
+use Rattle.std.specs.Prelude.{IsOk}
+use Rattle.iox2_store.specs.machine.Environments.{ample_memory}
+use Rattle.iox2_store.specs.machine.Loans.{GrantLoan, written}
+use Rattle.iox2_store.specs.machine.Records.{Loan}
+use Rattle.iox2_store.specs.machine.SingleCalls.{GrantWrittenLoan}
+use Rattle.iox2_store.specs.machine.State.{State, Messages, with_loan}
+use Rattle.iox2_store.specs.declared.errors.LoanError.{LoanError}
+use Rattle.iox2_store.specs.declared.errors.SendError.{SendError}
+use Rattle.iox2_pubsub.specs.SendCalls.{Sends, messages_after}
+use Rattle.iox2_pubsub.specs.WrittenLoans.{SendsCopy}
+use Rattle.iox2_pubsub.specs.declared.send_outcome.SendOutcome.{SendOutcome}
+
+module _ {T U : Type 0} (s mid : State T U) (p n : ℕ) (next : n ≡ s.next_message) (l : Loan T U) (out : mid.loans n ≡ Some l) (value : T) (user_header : U)
+    (grants : GrantLoan ample_memory user_header false 1 s p mid None) where
+  -- the state with the value in the loan
+  abbrev pub with_value : State T U
+  with_value = with_loan mid n (Some (written l value))
+
+  -- the loan that is granted is written
+  pub written-grants : GrantWrittenLoan ample_memory value user_header false 1 s p with_value None
+  written-grants = (
+    mid,
+    grants,
+    subst (λ (k : ℕ). MatchOption (mid.loans k) ⊥ (λ found. with_value ≡ with_loan mid k (Some (written found value)))) next
+        (subst (λ (o : Option (Loan T U)). MatchOption o ⊥ (λ found. with_value ≡ with_loan mid n (Some (written found value)))) (sym out) refl),
+  )
+
+  pub written-out : with_value.loans n ≡ Some (written l value)
+  written-out = ap (λ b. cond b (Some (written l value)) (mid.loans n)) (eq-eqb n n refl)
+
+  -- and sent
+  pub copy-sent : (is_default : U → Type 0) → is_default user_header → (m : Messages T U) (number : ℕ) → number ≡ n → (result : Result SendOutcome SendError) → IsOk result → (s' : State T U)
+      → Sends with_value number (written l value) result s' → SendsCopy is_default m s p value result (messages_after m number (written l value) result) s'
+  copy-sent is_default default m number same (Ok outcome) ok s' sends = record {
+    user_header = user_header;
+    default = default;
+    granted = with_value;
+    grants = written-grants;
+    loan = written l value;
+    out = ap with_value.loans (sym next) ∙ written-out;
+    sends = subst (λ (k : ℕ). Sends with_value k (written l value) (Ok outcome) s') (same ∙ next) sends;
+    messages = ap (λ (k : ℕ). messages_after m k (written l value) (Ok outcome)) (same ∙ next);
+  }
+  copy-sent is_default default m number same (Err e) ok s' sends = absurd (let no : false ≡ true = ok in cc)
+
+-- a loan that is refused is refused with any value
+pub written-refused : {T U : Type 0} (s s' : State T U) (p : ℕ) (e : LoanError) → ((user_header : U) → GrantLoan ample_memory user_header false 1 s p s' (Some e))
+    → (value : T) (user_header : U) → GrantWrittenLoan ample_memory value user_header false 1 s p s' (Some e)
+written-refused s s' p e refused value user_header = (s', refused user_header, refl)

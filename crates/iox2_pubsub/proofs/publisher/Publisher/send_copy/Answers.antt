@@ -1,0 +1,40 @@
+use Rattle.std.proofs.Common.{ap, refl, sym, ◌∙◌}
+use Rattle.std.proofs.lemmas.Result.{err_from_is_err_and}
+use Rattle.iox2_store.specs.declared.key.Key.{Key}
+use Rattle.iox2_store.specs.machine.Loans.{written}
+use Rattle.iox2_store.specs.machine.State.{State}
+use Rattle.iox2_pubsub.proofs.WrittenLoanCalls.{with_value, written-out, copy-sent, written-refused}
+use Rattle.iox2_pubsub.proofs.publisher.Publisher.send_copy.Goals as goal
+
+pub returns-in_err-loan-clause-sends : goal.returns-in_err-loan-clause-sends
+returns-in_err-loan-clause-sends g c = λ m s shown.
+    let refused = err_from_is_err_and c.from_residual.result c.from_residual.ensures.1 in
+    let lends = c.in_err-loan.ensures.lends m s shown in
+    rw refused.1 (
+      m,
+      lends.0,
+      lends.1,
+      record {
+        reason = c.in_err-loan.field-0.0;
+        is = refused.2;
+        messages = refl;
+        state = (lends.2).0;
+        refused = written-refused s lends.0 c.args.self.now.id c.in_err-loan.field-0.0 (lends.2).1;
+      },
+    )
+
+pub returns-clause-sends : goal.returns-clause-sends
+returns-clause-sends g c = λ m s shown.
+    let lends = c.in_ok-loan.ensures.lends m s shown in
+    let wrote = c.write_payload.ensures.written m lends.0 lends.1 in
+    let next = c.in_ok-loan.ensures.number ∙ sym (ap (λ (t : State g.row.T.Denot g.row.U.Denot). t.next_message) shown.state) in
+    let same = ap (λ (k : Key). k.message) c.write_payload.ensures.key in
+    let mid = with_value s lends.0 c.args.self.now.id c.in_ok-loan.loan.loan.number next wrote.0 wrote.1 c.args.value (lends.2).0 (lends.2).2 in
+    let out = written-out s lends.0 c.args.self.now.id c.in_ok-loan.loan.loan.number next wrote.0 wrote.1 c.args.value (lends.2).0 (lends.2).2 in
+    let sent = c.send.ensures.sent m mid (written wrote.0 c.args.value) wrote.2 (ap mid.loans same ∙ out) in (
+      _,
+      sent.0,
+      sent.1,
+      copy-sent s lends.0 c.args.self.now.id c.in_ok-loan.loan.loan.number next wrote.0 wrote.1 c.args.value (lends.2).0 (lends.2).2
+          g.U.Default.is_default (lends.2).1 m c.write_payload.result.loan.number same c.send.result (c.send.ensures.ok (c.write_payload.ensures.lent c.in_ok-loan.ensures.lent)) sent.0 sent.2,
+    )

@@ -1,0 +1,32 @@
+use Rattle.std.proofs.Common.{refl, sym, ◌∙◌}
+use Rattle.std.proofs.lemmas.Bool.{true≢false}
+use Rattle.iox2_pubsub.proofs.LoanHandles.{unwritten-out}
+use Rattle.iox2_pubsub.proofs.AssumedLoans.{written-taken, unwritten-left, taken-shown, taken-live, taken-reads, taken-stays, left-same, left-shown, left-stays, taken-left, left-loans}
+use Rattle.iox2_pubsub.proofs.sample_mut_uninit.SampleMutUninit.assume_init.Goals as goal
+
+pub assume_loan-requires-clause-live : goal.assume_loan-requires-clause-live
+assume_loan-requires-clause-live g c = unwritten-out {T = g.row.T.Denot} {U = g.row.U.Denot} _ c.args.domain.now c.domain.view_is c.args.self c.requires
+
+pub returns-then-not-assume_loan : goal.returns-then-not-assume_loan
+returns-then-not-assume_loan g c = record {
+  step = λ m s shown. let it = left-shown {T = g.row.T.Denot} {U = g.row.U.Denot} c.domain.inside.state c.assume_loan.new.state c.domain.invariant c.args.domain.now c.domain.view_is c.args.self.loan.number c.assume_loan.result c.assume_loan.ensures c.if-not-assume_loan.true m s shown in (it.0, it.1, (it.2, it.3));
+  live = tt;
+  key = tt;
+  reads = λ value reads. absurd (true≢false (sym (written-taken {T = g.row.T.Denot} {U = g.row.U.Denot} c.domain.inside.state c.assume_loan.new.state c.domain.invariant c.args.domain.now c.domain.view_is c.args.self.loan.number c.assume_loan.result c.assume_loan.ensures c.args.self value refl reads) ∙ c.if-not-assume_loan.true));
+  refused = λ reads. refl;
+  handed_back = (refl, left-same {T = g.row.T.Denot} {U = g.row.U.Denot} c.domain.inside.state c.assume_loan.new.state c.domain.invariant c.args.domain.now c.domain.view_is c.args.self.loan.number c.assume_loan.result c.assume_loan.ensures c.if-not-assume_loan.true);
+  loans_left = left-loans {T = g.row.T.Denot} {U = g.row.U.Denot} c.domain.inside.state c.assume_loan.new.state c.domain.invariant c.args.domain.now c.domain.view_is c.args.self.loan.number c.assume_loan.result c.assume_loan.ensures c.if-not-assume_loan.true;
+  stays = left-stays {T = g.row.T.Denot} {U = g.row.U.Denot} c.domain.inside.state c.assume_loan.new.state c.domain.invariant c.args.domain.now c.domain.view_is c.args.self.loan.number c.assume_loan.result c.assume_loan.ensures c.if-not-assume_loan.true;
+}
+
+pub returns : goal.returns
+returns g c = record {
+  step = λ m s shown. let it = taken-shown {T = g.row.T.Denot} {U = g.row.U.Denot} c.domain.inside.state c.assume_loan.new.state c.domain.invariant c.args.domain.now c.domain.view_is c.args.self.loan.number c.assume_loan.result c.assume_loan.ensures c.if-not-assume_loan.false m s shown in (it.0, it.1, (it.2, it.3));
+  live = taken-live {T = g.row.T.Denot} {U = g.row.U.Denot} c.domain.inside.state c.assume_loan.new.state c.domain.invariant c.args.domain.now c.domain.view_is c.args.self.loan.number c.assume_loan.result c.assume_loan.ensures c.if-not-assume_loan.false c.args.self refl c.requires;
+  key = refl;
+  reads = λ value reads. taken-reads {T = g.row.T.Denot} {U = g.row.U.Denot} c.domain.inside.state c.assume_loan.new.state c.domain.invariant c.args.domain.now c.domain.view_is c.args.self.loan.number c.assume_loan.result c.assume_loan.ensures c.if-not-assume_loan.false c.args.self value refl reads;
+  refused = λ reads. absurd (true≢false (sym c.if-not-assume_loan.false ∙ unwritten-left {T = g.row.T.Denot} {U = g.row.U.Denot} c.domain.inside.state c.assume_loan.new.state c.domain.invariant c.args.domain.now c.domain.view_is c.args.self.loan.number c.assume_loan.result c.assume_loan.ensures c.args.self refl reads));
+  handed_back = refl;
+  loans_left = taken-left {T = g.row.T.Denot} {U = g.row.U.Denot} c.domain.inside.state c.assume_loan.new.state c.domain.invariant c.args.domain.now c.domain.view_is c.args.self.loan.number c.assume_loan.result c.assume_loan.ensures c.if-not-assume_loan.false;
+  stays = taken-stays {T = g.row.T.Denot} {U = g.row.U.Denot} c.domain.inside.state c.assume_loan.new.state c.domain.invariant c.args.domain.now c.domain.view_is c.args.self.loan.number c.assume_loan.result c.assume_loan.ensures c.if-not-assume_loan.false;
+}

@@ -1,0 +1,32 @@
+use Rattle.std.proofs.Common.{◌≡◌, false, refl, ap, subst, sym, map, Some}
+use Rattle.iox2_store.specs.SingleValues.{is_single_valued}
+use Rattle.iox2_domain.specs.Kept.{Kept, state_of}
+use Rattle.iox2_domain.specs.LoanCalls.{HasCells, cells_changed}
+use Rattle.iox2_domain.specs.declared.loan_slots.LoanAt.{LoanAt}
+use Rattle.iox2_pubsub.proofs.LoanHandles.{written-out, unwritten-out, loan-out}
+use Rattle.iox2_pubsub.proofs.SliceParts.{sliced-parts, cells-parts, has-cells, has-values, filled-shown, filled-values, filled-live, filled-stays, filled-left}
+use Rattle.iox2_pubsub.proofs.slice.sample_mut_uninit.SampleMutUninit.write_from_slice.Goals as goal
+
+pub write_loan_from_slice-loan-requires-clause-live : goal.write_loan_from_slice-loan-requires-clause-live
+write_loan_from_slice-loan-requires-clause-live g c = unwritten-out {T = g.row.T.Denot} {U = g.row.U.Denot} _ c.args.domain.now c.domain.view_is c.args.self.sample c.requires.live
+
+pub write_loan_from_slice-loan-requires-clause-several : goal.write_loan_from_slice-loan-requires-clause-several
+write_loan_from_slice-loan-requires-clause-several g c = (subst (λ (k : Kept g.row.T.Denot g.row.U.Denot). is_single_valued k.config ≡ false) (sym c.domain.view_is) (sliced-parts c.args.domain.now c.requires.sliced))
+
+pub write_loan_from_slice-loan-requires-clause-lengths : goal.write_loan_from_slice-loan-requires-clause-lengths
+write_loan_from_slice-loan-requires-clause-lengths g c = λ l found. c.requires.lengths l.cells (has-cells c.args.domain.now c.args.self.sample.loan.number l.cells (subst (λ (k : Kept g.row.T.Denot g.row.U.Denot). HasCells (state_of k) c.args.self.sample.loan.number l.cells) c.domain.view_is (l, found, refl)))
+
+pub returns-clause-written : goal.returns-clause-written
+returns-clause-written g c = filled-values {T = g.row.T.Denot} {U = g.row.U.Denot} c.domain.inside.state c.write_loan_from_slice-loan.new.state c.domain.invariant c.args.domain.now c.domain.view_is c.args.self.sample.loan.number c.args.values.now c.write_loan_from_slice-loan.ensures.writes _ (ap (λ (at : LoanAt). at.number) c.write_loan_from_slice-loan.ensures.same)
+
+pub returns-clause-live : goal.returns-clause-live
+returns-clause-live g c = filled-live {T = g.row.T.Denot} {U = g.row.U.Denot} c.domain.inside.state c.write_loan_from_slice-loan.new.state c.domain.invariant c.args.domain.now c.domain.view_is c.args.self.sample.loan.number c.args.values.now c.write_loan_from_slice-loan.ensures.writes c.args.self.sample (record { service_id = c.args.self.sample.service_id; loan = c.write_loan_from_slice-loan.result }) refl refl (ap (λ (at : LoanAt). at.publisher) c.write_loan_from_slice-loan.ensures.same) (ap (λ (at : LoanAt). at.number) c.write_loan_from_slice-loan.ensures.same) c.requires.live
+
+pub returns-clause-stays : goal.returns-clause-stays
+returns-clause-stays g c = filled-stays {T = g.row.T.Denot} {U = g.row.U.Denot} c.domain.inside.state c.write_loan_from_slice-loan.new.state c.domain.invariant c.args.domain.now c.domain.view_is c.args.self.sample.loan.number c.args.values.now c.write_loan_from_slice-loan.ensures.writes
+
+pub returns-clause-step : goal.returns-clause-step
+returns-clause-step g c = filled-shown {T = g.row.T.Denot} {U = g.row.U.Denot} c.domain.inside.state c.write_loan_from_slice-loan.new.state c.domain.invariant c.args.domain.now c.domain.view_is c.args.self.sample.loan.number c.args.values.now c.write_loan_from_slice-loan.ensures.writes
+
+pub returns-clause-loans_left : goal.returns-clause-loans_left
+returns-clause-loans_left g c = filled-left {T = g.row.T.Denot} {U = g.row.U.Denot} c.domain.inside.state c.write_loan_from_slice-loan.new.state c.domain.invariant c.args.domain.now c.domain.view_is c.args.self.sample.loan.number c.args.values.now c.write_loan_from_slice-loan.ensures.writes

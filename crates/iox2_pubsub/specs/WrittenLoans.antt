@@ -1,0 +1,46 @@
+-- Calls that loan a value and write it at once.
+use Rattle.std.specs.Prelude.{◌≡◌, ℕ, false, Result, MatchResult}
+use Rattle.std.specs.declared.option.Option.TheVariants.{None, Some}
+use Rattle.std.specs.declared.result.Result.TheVariants.{Ok}
+use Rattle.iox2_store.specs.machine.Environments.{ample_memory}
+use Rattle.iox2_store.specs.machine.Records.{Loan}
+use Rattle.iox2_store.specs.machine.SingleCalls.{GrantWrittenLoan}
+use Rattle.iox2_store.specs.machine.State.{State, Messages}
+use Rattle.iox2_store.specs.declared.errors.LoanError.{LoanError}
+use Rattle.iox2_store.specs.declared.errors.SendError.{SendError}
+use Rattle.iox2_store.specs.declared.errors.SendError.TheVariants.{LoanError as NotLoaned}
+use Rattle.iox2_pubsub.specs.declared.send_outcome.SendOutcome.{SendOutcome}
+use Rattle.iox2_pubsub.specs.SendCalls.{Sends, messages_after}
+
+module _ {T U : Type 0} where
+  -- The publisher p is asked for a loan with such a value: it is granted, with a default user header, or refused for this
+  -- reason, and then nothing changes.
+  abbrev pub WrittenLoanCall : {A : Type 0} → (IsValue : T → Type 0) → (is_default : U → Type 0) → State T U → (p : ℕ) → Result A LoanError → State T U → Type 0
+  WrittenLoanCall IsValue is_default s p result s' =
+      MatchResult result
+      (λ _. (value : T) × IsValue value × (user_header : U) × is_default user_header × GrantWrittenLoan ample_memory value user_header false 1 s p s' None)
+      (λ e. (s' ≡ s) × ((value : T) (user_header : U) → GrantWrittenLoan ample_memory value user_header false 1 s p s' (Some e)))
+
+  -- The publisher p was lent this value, and the loan is sent, with this outcome.
+  pub record SendsGranted (is_default : U → Type 0) (m : Messages T U) (s : State T U) (p : ℕ) (value : T) (outcome : SendOutcome) (m' : Messages T U) (s' : State T U) : Type 0 where
+    pub user_header : U
+    pub default : is_default user_header
+    pub granted : State T U
+    pub grants : GrantWrittenLoan ample_memory value user_header false 1 s p granted None
+    pub loan : Loan T U
+    pub out : granted.loans s.next_message ≡ Some loan
+    pub sends : Sends granted s.next_message loan (Ok outcome) s'
+    pub messages : m' ≡ messages_after m s.next_message loan (Ok outcome)
+
+  -- The publisher p lends nothing, for this reason, and nothing changes.
+  pub record RefusesLoan (m : Messages T U) (s : State T U) (p : ℕ) (error : SendError) (m' : Messages T U) (s' : State T U) : Type 0 where
+    pub reason : LoanError
+    pub is : error ≡ NotLoaned reason
+    pub messages : m' ≡ m
+    pub state : s' ≡ s
+    pub refused : (value : T) (user_header : U) → GrantWrittenLoan ample_memory value user_header false 1 s p s' (Some reason)
+
+  -- The publisher p is asked to send this value: a loan with it is granted and sent, or refused.
+  abbrev pub SendsCopy : (is_default : U → Type 0) → Messages T U → State T U → (p : ℕ) → (value : T) → Result SendOutcome SendError → Messages T U → State T U → Type 0
+  SendsCopy is_default m s p value result m' s' =
+      MatchResult result (λ outcome. SendsGranted is_default m s p value outcome m' s') (λ error. RefusesLoan m s p error m' s')

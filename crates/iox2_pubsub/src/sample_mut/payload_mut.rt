@@ -1,0 +1,46 @@
+//! The payload of a written loan is changed in place.
+ghost use Rattle.std.specs.Prelude.{◌≡◌};
+
+use crate::domain::Domain;
+use crate::sample_mut::SampleMut;
+use iox2_messages::value_at_mut;
+use iox2_store::{BackpressureFn, DegradationFn};
+
+impl SampleMut {
+    ghost use Rattle.std.specs.Prelude.{Some};
+    ghost use Rattle.std.specs.Borrow.{sem};
+    ghost use Rattle.iox2_store.specs.machine.Records.{Loan};
+    ghost use Rattle.iox2_store.specs.machine.State.{State, Messages, with_loan};
+    ghost use Rattle.iox2_domain.specs.Shows.{Shows};
+    ghost use Rattle.iox2_domain.specs.LoanCalls.{first_cell_changed};
+    ghost use Rattle.iox2_pubsub.specs.ChangedLoans.{with_payload};
+    ghost use Rattle.iox2_pubsub.specs.Live.{IsSingleValued, IsWrittenLoan, LoanReads, StaysBut, written_loan};
+    ghost use Rattle.iox2_pubsub.specs.LoanLends.{LendsPayload};
+    ghost use Rattle.iox2_pubsub.specs.LoansLeft.{LoansLeftStay};
+
+    /// The payload, in a domain of single values, to be changed where it lies. What is left behind
+    /// the reference is the loan's payload from then on, and nothing else of the domain changes.
+    ///
+    /// iceoryx2's `SampleMut::payload_mut` (`src/sample_mut.rs`). There the loan knows its memory;
+    /// here the domain is handed in, and is what the reference borrows.
+    pub fn payload_mut<'a, T: Drop, U: Default + Drop, F: BackpressureFn, G: DegradationFn>(
+        domain: &'a mut Domain<T, U, F, G>,
+        sample: &mut SampleMut,
+    ) -> &'a mut T
+        requires live { IsWrittenLoan domain.old sample.old }
+        requires single_valued { IsSingleValued domain.old }
+        ensures* writes_back { sem 𝓛 (LendsPayload T.row U.row F.row G.row domain.entry sample.old.loan.number result) }
+        ensures same { sample.new ≡ sample.old }
+        ensures payload { LoanReads domain.old sample.old result.now }
+        ensures changes { (m : Messages T U) (s : State T U) (value : T) → Shows domain.old m s
+            → (l : Loan T U) × (s.loans sample.old.loan.number ≡ Some l)
+            × Shows (with_payload domain.old sample.old.loan.number value) m (with_loan s sample.old.loan.number (Some (first_cell_changed (Some value) l))) }
+        ensures live { (value : T) → IsWrittenLoan (with_payload domain.old sample.old.loan.number value) sample.old }
+        ensures reads { (value : T) → LoanReads (with_payload domain.old sample.old.loan.number value) sample.old value }
+        ensures loans_left { (value : T) → LoansLeftStay domain.old (with_payload domain.old sample.old.loan.number value) }
+        ensures stays { (value : T) → StaysBut (written_loan sample.old) domain.old (with_payload domain.old sample.old.loan.number value) }
+    {
+        let at = domain.state.find_live_loan(&sample.loan);
+        value_at_mut(&mut domain.state, at)
+    }
+}

@@ -1,0 +1,46 @@
+//! The user header of a loan is changed in place.
+ghost use Rattle.std.specs.Prelude.{◌≡◌};
+
+use crate::domain::Domain;
+use crate::sample_mut::SampleMut;
+use iox2_messages::user_header_at_mut;
+use iox2_store::{BackpressureFn, DegradationFn};
+
+impl SampleMut {
+    ghost use Rattle.std.specs.Prelude.{Some, Option};
+    ghost use Rattle.std.specs.Borrow.{sem};
+    ghost use Rattle.iox2_store.specs.machine.Records.{Loan};
+    ghost use Rattle.iox2_store.specs.machine.State.{State, Messages, with_loan};
+    ghost use Rattle.iox2_domain.specs.LoanCalls.{user_header_changed};
+    ghost use Rattle.iox2_domain.specs.Shows.{Shows};
+    ghost use Rattle.iox2_pubsub.specs.ChangedLoans.{with_user_header};
+    ghost use Rattle.iox2_pubsub.specs.Live.{IsWrittenLoan, LoanHasUserHeader, LoanReads, StaysBut, written_key, written_loan};
+    ghost use Rattle.iox2_pubsub.specs.LoanLends.{LendsUserHeader};
+    ghost use Rattle.iox2_pubsub.specs.LoansLeft.{LoansLeftStay};
+
+    /// The user header, to be changed where it lies. What is left behind the reference is the loan's
+    /// user header from then on, and nothing else of the domain changes.
+    ///
+    /// iceoryx2's `SampleMut::user_header_mut` (`src/sample_mut.rs`). There the loan knows its memory; here the
+    /// domain is handed in, and is what the reference borrows.
+    pub fn user_header_mut<'a, T: Drop, U: Default + Drop, F: BackpressureFn, G: DegradationFn>(
+        domain: &'a mut Domain<T, U, F, G>,
+        sample: &mut SampleMut,
+    ) -> &'a mut U
+        requires { IsWrittenLoan domain.old sample.old }
+        ensures* writes_back { sem 𝓛 (LendsUserHeader T.row U.row F.row G.row domain.entry sample.old.loan.number result) }
+        ensures same { sample.new ≡ sample.old }
+        ensures header { LoanHasUserHeader domain.old (written_key sample.old) result.now }
+        ensures changes { (m : Messages T U) (s : State T U) (user_header : U) → Shows domain.old m s
+            → (l : Loan T U) × (s.loans sample.old.loan.number ≡ Some l)
+            × Shows (with_user_header domain.old sample.old.loan.number user_header) m (with_loan s sample.old.loan.number (Some (user_header_changed user_header l))) }
+        ensures live { (user_header : U) → IsWrittenLoan (with_user_header domain.old sample.old.loan.number user_header) sample.old }
+        ensures is { (user_header : U) → LoanHasUserHeader (with_user_header domain.old sample.old.loan.number user_header) (written_key sample.old) user_header }
+        ensures loans_left { (user_header : U) → LoansLeftStay domain.old (with_user_header domain.old sample.old.loan.number user_header) }
+        ensures stays { (user_header : U) → StaysBut (written_loan sample.old) domain.old (with_user_header domain.old sample.old.loan.number user_header) }
+        ensures payloads { (user_header : U) (value : T) → LoanReads domain.old sample.old value → LoanReads (with_user_header domain.old sample.old.loan.number user_header) sample.old value }
+    {
+        let at = domain.state.find_live_loan(&sample.loan);
+        user_header_at_mut(&mut domain.state, at)
+    }
+}

@@ -1,0 +1,47 @@
+//! A loan is taken as written.
+ghost use Rattle.std.specs.Prelude.{◌≡◌};
+
+use crate::domain::Domain;
+use crate::sample_mut::SampleMut;
+use crate::sample_mut_uninit::SampleMutUninit;
+use iox2_messages::assume_loan;
+use iox2_store::{BackpressureFn, DegradationFn};
+
+impl SampleMutUninit {
+    ghost use Rattle.std.specs.Prelude.{Some, None, IfOk, IsOkAnd, IsErr, MatchResult, true, false};
+    ghost use Rattle.iox2_store.specs.machine.Loans.{initialized, is_initialized};
+    ghost use Rattle.iox2_store.specs.machine.Records.{Loan};
+    ghost use Rattle.iox2_store.specs.machine.State.{State, Messages};
+    ghost use Rattle.iox2_domain.specs.Shows.{Shows};
+    ghost use Rattle.iox2_pubsub.specs.Live.{IsUnwrittenLoan, IsWrittenLoan, LoanReads, StaysBut, UnwrittenReads, unwritten_key, unwritten_loan, written_key};
+    ghost use Rattle.iox2_pubsub.specs.LoansLeft.{LoansLeftStay};
+
+    /// Makes the loan one that may be sent, where each of its cells is written. Else the loan is
+    /// handed back as it was, and nothing changes. No value is copied.
+    ///
+    /// iceoryx2's `SampleMutUninit::assume_init` (`src/sample_mut_uninit.rs`), which takes the
+    /// caller's word for it.
+    pub fn assume_init<T: Drop, U: Default + Drop, F: BackpressureFn, G: DegradationFn>(
+        self,
+        domain: &mut Domain<T, U, F, G>,
+    ) -> Result<SampleMut, SampleMutUninit>
+        requires { IsUnwrittenLoan domain.old self }
+        ensures step { (m : Messages T U) (s : State T U) → Shows domain.old m s → (l : Loan T U) × (s.loans self.loan.number ≡ Some l)
+            × MatchResult result
+            (λ _. (is_initialized l ≡ true) × Shows domain.new m (initialized s self.loan.number l))
+            (λ _. (is_initialized l ≡ false) × Shows domain.new m s) }
+        ensures live { IfOk result (IsWrittenLoan domain.new) }
+        ensures key { IfOk result (λ sample. written_key sample ≡ unwritten_key self) }
+        ensures reads { (value : T) → UnwrittenReads domain.old self (Some value) → IsOkAnd result (λ sample. LoanReads domain.new sample value) }
+        ensures refused { UnwrittenReads domain.old self None → IsErr result }
+        ensures handed_back { MatchResult result (λ _. self ≡ self) (λ loan. (loan ≡ self) × (domain.new ≡ domain.old)) }
+        ensures loans_left { LoansLeftStay domain.old domain.new }
+        ensures stays { StaysBut (unwritten_loan self) domain.old domain.new }
+    {
+        if !assume_loan(&mut domain.state, &self.loan) {
+            return Err(self);
+        }
+        let SampleMutUninit { service_id, loan } = self;
+        Ok(SampleMut { service_id, loan })
+    }
+}

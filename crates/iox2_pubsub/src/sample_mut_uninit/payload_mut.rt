@@ -1,0 +1,47 @@
+//! The cell of an unwritten loan is changed in place.
+ghost use Rattle.std.specs.Prelude.{◌≡◌};
+
+use crate::domain::Domain;
+use crate::sample_mut_uninit::SampleMutUninit;
+use iox2_messages::cell_at_mut;
+use iox2_store::{BackpressureFn, DegradationFn};
+
+impl SampleMutUninit {
+    ghost use Rattle.std.specs.Prelude.{Some, Option};
+    ghost use Rattle.std.specs.Borrow.{sem};
+    ghost use Rattle.iox2_store.specs.machine.Records.{Loan};
+    ghost use Rattle.iox2_store.specs.machine.State.{State, Messages, with_loan};
+    ghost use Rattle.iox2_domain.specs.LoanCalls.{first_cell_changed};
+    ghost use Rattle.iox2_domain.specs.Shows.{Shows};
+    ghost use Rattle.iox2_pubsub.specs.ChangedLoans.{with_cell};
+    ghost use Rattle.iox2_pubsub.specs.Live.{IsSingleValued, IsUnwrittenLoan, UnwrittenReads, StaysBut, unwritten_loan};
+    ghost use Rattle.iox2_pubsub.specs.LoanLends.{LendsCell};
+    ghost use Rattle.iox2_pubsub.specs.LoansLeft.{LoansLeftStay};
+
+    /// The payload's cell, in a domain of single values, to be written, changed or emptied where it
+    /// lies. What is left behind the reference is the loan's cell from then on, and nothing else of
+    /// the domain changes. The loan stays an unwritten one until `assume_init`.
+    ///
+    /// iceoryx2's `SampleMutUninit::payload_mut` (`src/sample_mut_uninit.rs`). There the loan knows
+    /// its memory; here the domain is handed in, and is what the reference borrows.
+    pub fn payload_mut<'a, T: Drop, U: Default + Drop, F: BackpressureFn, G: DegradationFn>(
+        domain: &'a mut Domain<T, U, F, G>,
+        sample: &mut SampleMutUninit,
+    ) -> &'a mut Option<T>
+        requires live { IsUnwrittenLoan domain.old sample.old }
+        requires single_valued { IsSingleValued domain.old }
+        ensures* writes_back { sem 𝓛 (LendsCell T.row U.row F.row G.row domain.entry sample.old.loan.number result) }
+        ensures same { sample.new ≡ sample.old }
+        ensures payload { UnwrittenReads domain.old sample.old result.now }
+        ensures changes { (m : Messages T U) (s : State T U) (cell : Option T) → Shows domain.old m s
+            → (l : Loan T U) × (s.loans sample.old.loan.number ≡ Some l)
+            × Shows (with_cell domain.old sample.old.loan.number cell) m (with_loan s sample.old.loan.number (Some (first_cell_changed cell l))) }
+        ensures live { (cell : Option T) → IsUnwrittenLoan (with_cell domain.old sample.old.loan.number cell) sample.old }
+        ensures reads { (cell : Option T) → UnwrittenReads (with_cell domain.old sample.old.loan.number cell) sample.old cell }
+        ensures loans_left { (cell : Option T) → LoansLeftStay domain.old (with_cell domain.old sample.old.loan.number cell) }
+        ensures stays { (cell : Option T) → StaysBut (unwritten_loan sample.old) domain.old (with_cell domain.old sample.old.loan.number cell) }
+    {
+        let at = domain.state.find_live_loan(&sample.loan);
+        cell_at_mut(&mut domain.state, at)
+    }
+}

@@ -1,0 +1,126 @@
+//! A loan of a slice that is written.
+ghost use Rattle.std.specs.Prelude.{◌≡◌};
+
+mod payload_mut;
+
+use crate::domain::Domain;
+use crate::send_outcome::SendOutcome;
+use iox2_messages::loan_values;
+use iox2_store::{BackpressureFn, DegradationFn, Header, Key, SendError};
+
+/// A loan of a slice whose payload is written. It is a value to be spent, as the loan of a single
+/// value is, and is that loan with another view of its payload.
+///
+/// iceoryx2's `sample_mut::SampleMut` of a slice (`src/sample_mut.rs`).
+pub struct SampleMut {
+    pub(crate) sample: crate::SampleMut,
+}
+
+impl SampleMut {
+    ghost use Rattle.std.specs.Prelude.{IfErr, IsOk, Some, ◌+◌};
+    ghost use Rattle.iox2_store.specs.machine.Loans.{loan_discarded};
+    ghost use Rattle.iox2_store.specs.machine.Records.{Loan};
+    ghost use Rattle.iox2_store.specs.machine.State.{State, Messages};
+    ghost use Rattle.iox2_domain.specs.Shows.{Shows};
+    ghost use Rattle.iox2_pubsub.specs.Live.{AddAtMost, HasLender, IsLoanKey, IsWrittenLoan, LoanHasHeader, LoanHasUserHeader, StaysBut, UpToDateStay, payloads, written_key, written_loan};
+    ghost use Rattle.iox2_pubsub.specs.LoansLeft.{HasOneMoreLeft, LoansLeftStay};
+    ghost use Rattle.iox2_pubsub.specs.SendCalls.{Sends, messages_after};
+    ghost use Rattle.iox2_pubsub.specs.Slices.{HasValues, IsSliced};
+
+    /// The payload as it lies in its slot.
+    ///
+    /// iceoryx2's `SampleMut::payload` (`src/sample_mut.rs`).
+    pub fn payload<'a, T: Drop, U: Default + Drop, F: BackpressureFn, G: DegradationFn>(
+        &self,
+        domain: &'a Domain<T, U, F, G>,
+    ) -> &'a [T]
+        requires live { IsWrittenLoan domain.now self.now.sample }
+        requires sliced { IsSliced domain.now }
+        ensures { HasValues domain.now self.now.sample.loan.number result.now }
+    {
+        loan_values(&domain.state, &self.sample.loan)
+    }
+
+    /// Sends the message, as the loan of a single value is sent. Its payload isn't touched.
+    pub fn send<T: Drop, U: Default + Drop, F: BackpressureFn, G: DegradationFn>(
+        self,
+        domain: &mut Domain<T, U, F, G>,
+    ) -> Result<SendOutcome, SendError>
+        requires { IsWrittenLoan domain.old self.sample }
+        ensures ok { HasLender domain.old (written_key self.sample) → IsOk result }
+        ensures gone { IfErr result (λ error. error ≡ SendError.ConnectionBrokenSinceSenderNoLongerExists) }
+        ensures sent { (m : Messages T U) (s : State T U) (l : Loan T U) → Shows domain.old m s → s.loans self.sample.loan.number ≡ Some l
+            → (s' : State T U) × Shows domain.new (messages_after m self.sample.loan.number l result) s' × Sends s self.sample.loan.number l result s' }
+        ensures spent { IsLoanKey domain.new (written_key self.sample) → ⊥ }
+        ensures adds { AddAtMost ((domain.old.config).history_size + 1) domain.old domain.new }
+        ensures up_to_date { UpToDateStay domain.old domain.new }
+        ensures loans_left { LoansLeftStay domain.old domain.new }
+        ensures given_back { HasOneMoreLeft self.sample.loan.publisher domain.old domain.new }
+        ensures stays { StaysBut (written_loan self.sample) domain.old domain.new }
+    {
+        let SampleMut { sample } = self;
+        sample.send(domain)
+    }
+
+    /// Gives the loan back unsent.
+    pub fn discard<T: Drop, U: Default + Drop, F: BackpressureFn, G: DegradationFn>(
+        self,
+        domain: &mut Domain<T, U, F, G>,
+    )
+        requires { IsLoanKey domain.old (written_key self.sample) }
+        ensures discarded { (m : Messages T U) (s : State T U) (l : Loan T U) → Shows domain.old m s → s.loans self.sample.loan.number ≡ Some l
+            → Shows domain.new m (loan_discarded s self.sample.loan.number l) }
+        ensures waits { payloads domain.new ≡ payloads domain.old }
+        ensures up_to_date { UpToDateStay domain.old domain.new }
+        ensures spent { IsLoanKey domain.new (written_key self.sample) → ⊥ }
+        ensures loans_left { LoansLeftStay domain.old domain.new }
+        ensures given_back { HasOneMoreLeft self.sample.loan.publisher domain.old domain.new }
+        ensures stays { StaysBut (written_loan self.sample) domain.old domain.new }
+    {
+        let SampleMut { sample } = self;
+        sample.discard(domain);
+    }
+
+    /// Where the message comes from, and of how many elements it is.
+    ///
+    /// iceoryx2's `SampleMut::header` (`src/sample_mut.rs`).
+    pub fn header<'a, T: Drop, U: Default + Drop, F: BackpressureFn, G: DegradationFn>(
+        &self,
+        domain: &'a Domain<T, U, F, G>,
+    ) -> &'a Header
+        requires { IsLoanKey domain.now (written_key self.now.sample) }
+        ensures origin { (result.now).publisher_id ≡ self.now.sample.loan.publisher }
+        ensures reads { LoanHasHeader domain.now (written_key self.now.sample) result.now }
+        ensures same { (header : Header) → LoanHasHeader domain.now (written_key self.now.sample) header → result.now ≡ header }
+    {
+        self.sample.header(domain)
+    }
+
+    /// The user header.
+    ///
+    /// iceoryx2's `SampleMut::user_header` (`src/sample_mut.rs`).
+    pub fn user_header<'a, T: Drop, U: Default + Drop, F: BackpressureFn, G: DegradationFn>(
+        &self,
+        domain: &'a Domain<T, U, F, G>,
+    ) -> &'a U
+        requires { IsLoanKey domain.now (written_key self.now.sample) }
+        ensures reads { LoanHasUserHeader domain.now (written_key self.now.sample) result.now }
+        ensures same { (header : U) → LoanHasUserHeader domain.now (written_key self.now.sample) header → result.now ≡ header }
+    {
+        self.sample.user_header(domain)
+    }
+
+    /// Names the loan without being its handle. This library's own.
+    pub fn key(&self) -> Key
+        ensures { result ≡ written_key self.now.sample }
+    {
+        self.sample.key()
+    }
+
+    /// Spends the handle of a loan whose domain is gone. A domain that is still there isn't told,
+    /// and keeps the loan. This library's own.
+    pub fn disown(self) {
+        let SampleMut { sample } = self;
+        sample.disown();
+    }
+}

@@ -1,0 +1,45 @@
+//! The payload of a loan of a slice is changed in place.
+ghost use Rattle.std.specs.Prelude.{◌≡◌};
+
+use crate::domain::Domain;
+use crate::slice::SampleMutUninit;
+use iox2_messages::cells_at_mut;
+use iox2_store::{BackpressureFn, DegradationFn};
+
+impl SampleMutUninit {
+    ghost use Rattle.std.specs.Prelude.{Some, Option, List, length, map};
+    ghost use Rattle.std.specs.Borrow.{sem};
+    ghost use Rattle.iox2_store.specs.machine.Records.{Loan};
+    ghost use Rattle.iox2_store.specs.machine.State.{State, Messages, with_loan};
+    ghost use Rattle.iox2_domain.specs.LoanCalls.{cells_changed};
+    ghost use Rattle.iox2_domain.specs.Shows.{Shows};
+    ghost use Rattle.iox2_pubsub.specs.ChangedLoans.{with_cells};
+    ghost use Rattle.iox2_pubsub.specs.Live.{IsUnwrittenLoan, StaysBut, unwritten_loan};
+    ghost use Rattle.iox2_pubsub.specs.LoanLends.{LendsCells};
+    ghost use Rattle.iox2_pubsub.specs.LoansLeft.{LoansLeftStay};
+    ghost use Rattle.iox2_pubsub.specs.Slices.{HasUnwrittenCells, IsSliced};
+
+    /// The cells, to be written, changed or emptied where they lie. What is left behind the reference
+    /// is in the loan's cells from then on, and nothing else of the domain changes.
+    ///
+    /// iceoryx2's `SampleMutUninit::payload_mut` (`src/sample_mut_uninit.rs`).
+    pub fn payload_mut<'a, T: Drop, U: Default + Drop, F: BackpressureFn, G: DegradationFn>(
+        domain: &'a mut Domain<T, U, F, G>,
+        sample: &mut SampleMutUninit,
+    ) -> &'a mut [Option<T>]
+        requires live { IsUnwrittenLoan domain.old sample.old.sample }
+        requires sliced { IsSliced domain.old }
+        ensures* writes_back { sem 𝓛 (LendsCells T.row U.row F.row G.row domain.entry sample.old.sample.loan.number result) }
+        ensures same { sample.new ≡ sample.old }
+        ensures payload { HasUnwrittenCells domain.old sample.old.sample.loan.number result.now }
+        ensures changes { (m : Messages T U) (s : State T U) (left : List (Option T)) → Shows domain.old m s
+            → (l : Loan T U) × (s.loans sample.old.sample.loan.number ≡ Some l)
+            × Shows (with_cells domain.old sample.old.sample.loan.number left) m (with_loan s sample.old.sample.loan.number (Some (cells_changed left l))) }
+        ensures live { (left : List (Option T)) → IsUnwrittenLoan (with_cells domain.old sample.old.sample.loan.number left) sample.old.sample }
+        ensures loans_left { (left : List (Option T)) → LoansLeftStay domain.old (with_cells domain.old sample.old.sample.loan.number left) }
+        ensures stays { (left : List (Option T)) → StaysBut (unwritten_loan sample.old.sample) domain.old (with_cells domain.old sample.old.sample.loan.number left) }
+    {
+        let at = domain.state.find_live_loan(&sample.sample.loan);
+        cells_at_mut(&mut domain.state, at)
+    }
+}

@@ -1,0 +1,205 @@
+-- Loans that are written at once, with what the run keeps.
+use Rattle.std.proofs.Common.{◌≡◌, ℕ, ◌+◌, ◌≤◌, ◌<◌, Bool, true, false, List, [], ◌∷◌, ◌++◌, cond, refl, sym, ap, subst, ◌∙◌, Option, None, Some, arith}
+use Rattle.std.specs.Prelude.{MatchOption, slice_get}
+use Rattle.std.proofs.lemmas.Option.{none-some, same_Some}
+use Rattle.std.proofs.lemmas.Bool.{ne_eqb}
+use Rattle.iox2_store.specs.machine.Environments.{ample_memory}
+use Rattle.iox2_store.specs.machine.Loans.{written, entry_of}
+use Rattle.iox2_store.specs.machine.Numbers.{put_at}
+use Rattle.iox2_store.specs.machine.Records.{Loan, Publisher, Environment}
+use Rattle.iox2_store.specs.machine.Sends.{Send, SendResult, Delivered_to, Blocked_send}
+use Rattle.iox2_store.specs.machine.SingleCalls.{GrantWrittenLoan}
+use Rattle.iox2_store.specs.machine.State.{State, Messages, with_loan}
+use Rattle.iox2_store.specs.declared.errors.LoanError.{LoanError}
+use Rattle.iox2_store.specs.declared.errors.SendError.TheVariants.{LoanError as NotLoaned}
+use Rattle.iox2_store.specs.declared.service_config.ServiceConfig.{ServiceConfig}
+use Rattle.iox2_laws.proofs.LoanKeeping.{send_loans}
+use Rattle.iox2_laws.proofs.NextLoan.{IsNextLoan, loan_next, loan_refused}
+use Rattle.iox2_laws.proofs.PortsCome.{PortsCome, ports_come_themselves, ports_come_trans, grant_loan_comes, loan_set_comes, send_comes as machine_send_comes}
+use Rattle.iox2_laws.proofs.PortsStay.{PortsStay, ports_stay_themselves, ports_stay_trans, grant_loan_stays, loan_set_stays, send_stays}
+use Rattle.iox2_laws.proofs.Puts.{put_at-same, put_at-other}
+use Rattle.iox2_laws.proofs.SamplesStay.{same_borrowed}
+use Rattle.iox2_commands.specs.Outcomes.{Handle, No_handle, Loan_handle, Sample_handle, Event, No_event, Message_sent, outcome}
+use Rattle.iox2_commands.specs.Runs.{Defaults}
+use Rattle.iox2_commands.specs.Step.{if_single_units, if_fixed_size, unblocked_at}
+use Rattle.iox2_commands.specs.declared.command.Command.TheVariants.{Loan as LoanDefault, SendCopy}
+use Rattle.iox2_commands.specs.declared.reply.Reply.TheVariants.{Skipped, Loaned, LoanRefused, Delivered, SendRefused}
+use Rattle.iox2_runs.specs.Tables.{port_of, TableEntry, No_entry, Publisher_entry, Written_entry, IsSingle, IsTable}
+use Rattle.iox2_runs.specs.RunSteps.{Comes}
+use Rattle.iox2_runs.proofs.TableCalls.{quiet_comes, skip_comes, at_none, at_some, no_port}
+use Rattle.iox2_runs.proofs.TableLooks.{Lacks, is_publisher_entry, lacks_publisher, has_publisher, handle_of}
+use Rattle.iox2_runs.proofs.TableMakes.{loan_any, none_named, other_service, this_service}
+use Rattle.iox2_runs.proofs.TableSteps.{table_next, all_still}
+
+-- ---- a loan that is granted and written
+
+module _ {T U : Type 0} (environment : Environment) (s : State T U) (p : ℕ) (value : T) (header : U) (s' : State T U) (h : GrantWrittenLoan environment value header false 1 s p s' None) where
+  abbrev next : IsNextLoan environment s p h.0
+  next = loan_next environment s header false 1 p h.0 h.1
+
+  abbrev pub copied : Loan T U
+  copied = written next.loan value
+
+  pub copied-is : s' ≡ with_loan h.0 s.next_message (Some copied)
+  copied-is = subst (λ (o : Option (Loan T U)). MatchOption o ⊥ (λ l. s' ≡ with_loan h.0 s.next_message (Some (written l value)))) next.there h.2
+
+  pub copied-there : s'.loans s.next_message ≡ Some copied
+  copied-there = ap (λ (t : State T U). t.loans s.next_message) copied-is ∙ put_at-same (h.0).loans s.next_message (Some copied)
+
+  pub copied-others : (n : ℕ) → n < s.next_message → s'.loans n ≡ s.loans n
+  copied-others n low =
+      ap (λ (t : State T U). t.loans n) copied-is
+      ∙ put_at-other (h.0).loans s.next_message (Some copied) n (ne_eqb n s.next_message (λ e. absurd (omega (arith, low, e))))
+      ∙ next.others n low
+
+  pub copied-rises : s'.next_message ≡ s.next_message + 1
+  copied-rises = ap (λ (t : State T U). t.next_message) copied-is ∙ next.next
+
+  pub copied-publisher : copied.publisher ≡ p
+  copied-publisher = next.publisher
+
+  pub copied-stay : PortsStay s s'
+  copied-stay =
+      subst (PortsStay s) (sym copied-is)
+      (ports_stay_trans s h.0 (with_loan h.0 s.next_message (Some copied)) (grant_loan_stays environment header false 1 s p h.0 None h.1) (loan_set_stays h.0 s.next_message (Some copied)))
+
+  pub copied-come : PortsCome s s'
+  copied-come =
+      subst (PortsCome s) (sym copied-is)
+      (ports_come_trans s h.0 (with_loan h.0 s.next_message (Some copied)) (grant_loan_comes environment header false 1 s p h.0 None h.1) (loan_set_comes h.0 s.next_message (Some copied)))
+
+-- one that is refused changes nothing
+pub copied-refused : {T U : Type 0} (environment : Environment) (s : State T U) (p : ℕ) (value : T) (header : U) (s' : State T U) (e : LoanError)
+    → GrantWrittenLoan environment value header false 1 s p s' (Some e) → s' ≡ s
+copied-refused environment s p value header s' e h = h.2 ∙ loan_refused environment s header false 1 p h.0 e h.1
+
+-- a loan that is granted or refused where memory is ample is so anywhere
+pub written_any : {T U : Type 0} (environment : Environment) (value : T) (header : U) (s : State T U) (p : ℕ) (s' : State T U) (refusal : Option LoanError)
+    → GrantWrittenLoan ample_memory value header false 1 s p s' refusal → GrantWrittenLoan environment value header false 1 s p s' refusal
+written_any environment value header s p s' refusal h = (h.0, loan_any environment header false 1 s p h.0 refusal h.1, h.2)
+
+module _ {T U : Type 0} (environment : Environment) (defaults : Defaults T U) (Shown : Messages T U → State T U → Type 0) (m : Messages T U) (s : State T U) (handles : List Handle)
+    (events : List (Event T U)) (table : List TableEntry) (w : IsTable s handles events table) (default_value : T) (default_header : U)
+    (is_default_value : defaults.IsDefaultValue default_value) (is_default_header : defaults.IsDefaultHeader default_header) where
+  nothing_named : (of : ℕ) → Lacks is_publisher_entry table of → if_single_units s (if_fixed_size s (unblocked_at s handles of)) ≡ None
+  nothing_named of absent =
+      none_named environment defaults Shown m s handles events table w default_value default_header is_default_value is_default_header (unblocked_at s handles of) (lacks_publisher s handles events table w of absent)
+
+  elsewhere : (of : ℕ) → (IsSingle s → ⊥) → if_single_units s (if_fixed_size s (unblocked_at s handles of)) ≡ None
+  elsewhere of other = other_service environment defaults Shown m s handles events table w default_value default_header is_default_value is_default_header (unblocked_at s handles of) other
+
+  -- what is named is free
+  unblocked : (of service p : ℕ) → slice_get table of ≡ Some (Publisher_entry service p) → (x : Publisher) → s.publishers p ≡ Some x → x.blocked ≡ None
+  unblocked of service p at x there =
+      let named = handle_of s handles events table w of (Publisher_entry service p) at in
+      ap (λ (v : Publisher). v.blocked) (same_Some x ((named.2).2).0 (sym there ∙ ((named.2).2).1)) ∙ ((named.2).2).2
+
+  known : (of service p : ℕ) → slice_get table of ≡ Some (Publisher_entry service p) → p < s.next_port
+  known of service p at =
+      let named = handle_of s handles events table w of (Publisher_entry service p) at in
+      w.ports_below of p named.0 named.1 (ap port_of (named.2).1)
+
+  -- ---- a default value
+
+  pub default_skipped : (of : ℕ) → Lacks is_publisher_entry table of → Shown m s → Comes environment defaults Shown m s handles events (LoanDefault of) Skipped (table ++ No_entry ∷ [])
+  default_skipped of absent shown = skip_comes environment defaults Shown m s handles events table w default_value default_header is_default_value is_default_header (LoanDefault of) (at_none _ _ _ (nothing_named of absent) refl) shown
+
+  pub default_elsewhere : (of : ℕ) → (IsSingle s → ⊥) → Shown m s → Comes environment defaults Shown m s handles events (LoanDefault of) Skipped (table ++ No_entry ∷ [])
+  default_elsewhere of other shown = skip_comes environment defaults Shown m s handles events table w default_value default_header is_default_value is_default_header (LoanDefault of) (at_none _ _ _ (elsewhere of other) refl) shown
+
+  pub default_comes : (of service p : ℕ) → slice_get table of ≡ Some (Publisher_entry service p) → IsSingle s
+      → (value : T) → defaults.IsDefaultValue value → (header : U) → defaults.IsDefaultHeader header
+      → (s' : State T U) → GrantWrittenLoan environment value header false 1 s p s' None → Shown m s'
+      → (new_service : ℕ) → new_service ≡ (s'.config).service_id
+      → Comes environment defaults Shown m s handles events (LoanDefault of) Loaned (table ++ Written_entry new_service p s.next_message ∷ [])
+  default_comes of service p at single value is_value header is_header s' h shown new_service ours =
+      let found = has_publisher s handles events table w of service p at in
+      let stay : PortsStay s s' = copied-stay environment s p value header s' h in
+      let come : PortsCome s s' = copied-come environment s p value header s' h in
+      let rises = copied-rises environment s p value header s' h in
+      let below = known of service p at in record {
+        default_value = value;
+        default_header = header;
+        is_default_value = is_value;
+        is_default_header = is_header;
+        outcome = outcome Loaned (Loan_handle s.next_message) s';
+        step = at_some _ _ _ (p, found.0)
+            (this_service environment defaults Shown m s handles events table w default_value default_header is_default_value is_default_header (unblocked_at s handles of) single ∙ found.1)
+            (s', None, h, refl);
+        replied = refl;
+        shown = shown;
+        follows = λ once. table_next s s' handles events table w (Loan_handle s.next_message) No_event (Written_entry new_service p s.next_message) table (omega (arith, rises)) refl
+            (all_still s s' handles events table w stay.remain come (copied-others environment s p value header s' h) (λ i p q n _. same_borrowed s s' stay p q n)) (
+              ours,
+              refl,
+              (
+                (copied environment s p value header s' h, copied-there environment s p value header s' h, copied-publisher environment s p value header s' h, refl),
+                (let up = come.next_port in omega (arith, below, up)),
+                λ x there. let before = come.publishers p x below there in before.2 (unblocked of service p at before.0 before.1),
+              ),
+              (ap (λ (c : ServiceConfig). c.variant) (stay.remain).config ∙ single.0, ap (λ (c : ServiceConfig). c.units_per_element) (stay.remain).config ∙ single.1),
+            )
+            (come.next_port, λ i e. absurd (none-some i e))
+            (λ n e. let same : s.next_message ≡ n = cc in (omega arith, omega (arith, rises)))
+            (λ p q n e. let clash : Loan_handle s.next_message ≡ Sample_handle p q n = e in absurd (cc)) once;
+      }
+
+  pub default_refused_comes : (of service p : ℕ) → slice_get table of ≡ Some (Publisher_entry service p) → IsSingle s
+      → (s' : State T U) (e : LoanError) → GrantWrittenLoan environment default_value default_header false 1 s p s' (Some e) → Shown m s'
+      → Comes environment defaults Shown m s handles events (LoanDefault of) (LoanRefused e) (table ++ No_entry ∷ [])
+  default_refused_comes of service p at single s' e h shown =
+      let found = has_publisher s handles events table w of service p at in
+      let same : s' ≡ s = copied-refused environment s p default_value default_header s' e h in
+      quiet_comes environment defaults Shown m s handles events table w default_value default_header is_default_value is_default_header (LoanDefault of) (LoanRefused e) s'
+      (at_some _ _ _ (p, found.0) (this_service environment defaults Shown m s handles events table w default_value default_header is_default_value is_default_header (unblocked_at s handles of) single ∙ found.1) (s', Some e, h, refl)) shown
+      (subst (PortsStay s) (sym same) (ports_stay_themselves s)) (subst (PortsCome s) (sym same) (ports_come_themselves s))
+      (λ n _. ap (λ (t : State T U). t.loans n) same) (subst (λ (t : State T U). s.next_message ≤ t.next_message) (sym same) (omega arith))
+
+  -- ---- a copy
+
+  pub copy_skipped : (of : ℕ) (value : T) → Lacks is_publisher_entry table of → Shown m s → Comes environment defaults Shown m s handles events (SendCopy of value) Skipped (table ++ No_entry ∷ [])
+  copy_skipped of value absent shown = skip_comes environment defaults Shown m s handles events table w default_value default_header is_default_value is_default_header (SendCopy of value) (at_none _ _ _ (nothing_named of absent) refl) shown
+
+  pub copy_elsewhere : (of : ℕ) (value : T) → (IsSingle s → ⊥) → Shown m s → Comes environment defaults Shown m s handles events (SendCopy of value) Skipped (table ++ No_entry ∷ [])
+  copy_elsewhere of value other shown = skip_comes environment defaults Shown m s handles events table w default_value default_header is_default_value is_default_header (SendCopy of value) (at_none _ _ _ (elsewhere of other) refl) shown
+
+  pub copy_comes : (of service p count : ℕ) (value : T) → slice_get table of ≡ Some (Publisher_entry service p) → IsSingle s
+      → (header : U) → defaults.IsDefaultHeader header → (mid : State T U) → GrantWrittenLoan environment value header false 1 s p mid None
+      → (l : Loan T U) → mid.loans s.next_message ≡ Some l → (s' : State T U) → Send environment mid s.next_message l s' (Delivered_to count) → mid.next_message ≤ s'.next_message
+      → Shown (put_at m s.next_message (Some (entry_of l))) s'
+      → Comes environment defaults Shown m s handles events (SendCopy of value) (Delivered count) (table ++ No_entry ∷ [])
+  copy_comes of service p count value at single header is_header mid h l there s' sends rises shown =
+      let found = has_publisher s handles events table w of service p at in
+      let stay : PortsStay s s' = ports_stay_trans s mid s' (copied-stay environment s p value header mid h)
+      (send_stays environment mid s.next_message l s' (Delivered_to count) sends (λ e. let clash : Delivered_to count ≡ Blocked_send = e in cc)) in
+      let come : PortsCome s s' = ports_come_trans s mid s' (copied-come environment s p value header mid h)
+      (machine_send_comes environment mid s.next_message l s' (Delivered_to count) sends (λ e. let clash : Delivered_to count ≡ Blocked_send = e in cc)) in
+      let loans : s'.loans ≡ put_at mid.loans s.next_message None = send_loans environment mid s.next_message l s' (Delivered_to count) sends in
+      let up = copied-rises environment s p value header mid h in record {
+        default_value = default_value;
+        default_header = header;
+        is_default_value = is_default_value;
+        is_default_header = is_header;
+        outcome = record { reply = Delivered count; handle = No_handle; event = Message_sent l.publisher s.next_message (entry_of l); state = s' };
+        step = at_some _ _ _ (p, found.0) (this_service environment defaults Shown m s handles events table w default_value default_header is_default_value is_default_header (unblocked_at s handles of) single ∙ found.1)
+            (mid, None, h, at_some _ _ _ l there (s', Delivered_to count, sends, refl));
+        replied = refl;
+        shown = shown;
+        follows = λ once. table_next s s' handles events table w No_handle (Message_sent l.publisher s.next_message (entry_of l)) No_entry table (omega (arith, up, rises)) refl
+            (all_still s s' handles events table w stay.remain come
+            (λ n low. ap (λ (f : ℕ → Option (Loan T U)). f n) loans
+            ∙ put_at-other mid.loans s.next_message None n (ne_eqb n s.next_message (λ e. absurd (omega (arith, low, e)))) ∙ copied-others environment s p value header mid h n low)
+            (λ i p q n _. same_borrowed s s' stay p q n))
+            tt (no_port s s' come) (λ n e. let clash : No_handle ≡ Loan_handle n = e in absurd (cc)) (λ p q n e. let clash : No_handle ≡ Sample_handle p q n = e in absurd (cc)) once;
+      }
+
+  pub copy_refused_comes : (of service p : ℕ) (value : T) → slice_get table of ≡ Some (Publisher_entry service p) → IsSingle s
+      → (s' : State T U) (e : LoanError) → GrantWrittenLoan environment value default_header false 1 s p s' (Some e) → Shown m s'
+      → Comes environment defaults Shown m s handles events (SendCopy of value) (SendRefused (NotLoaned e)) (table ++ No_entry ∷ [])
+  copy_refused_comes of service p value at single s' e h shown =
+      let found = has_publisher s handles events table w of service p at in
+      let same : s' ≡ s = copied-refused environment s p value default_header s' e h in
+      quiet_comes environment defaults Shown m s handles events table w default_value default_header is_default_value is_default_header (SendCopy of value) (SendRefused (NotLoaned e)) s'
+      (at_some _ _ _ (p, found.0) (this_service environment defaults Shown m s handles events table w default_value default_header is_default_value is_default_header (unblocked_at s handles of) single ∙ found.1) (s', Some e, h, refl)) shown
+      (subst (PortsStay s) (sym same) (ports_stay_themselves s)) (subst (PortsCome s) (sym same) (ports_come_themselves s))
+      (λ n _. ap (λ (t : State T U). t.loans n) same) (subst (λ (t : State T U). s.next_message ≤ t.next_message) (sym same) (omega arith))

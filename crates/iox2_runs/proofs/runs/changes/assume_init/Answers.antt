@@ -1,0 +1,55 @@
+use Rattle.std.proofs.Common.{refl, sym, ap, subst, ◌∙◌, List}
+use Rattle.std.specs.Prelude.{slice_set}
+use Rattle.iox2_store.specs.declared.key.Key.{Key}
+use Rattle.iox2_pubsub.specs.Live.{A_loan, IsNewIn}
+use Rattle.iox2_pubsub.specs.declared.sample_mut_uninit.SampleMutUninit.{SampleMutUninit}
+use Rattle.iox2_runs.specs.Carries.{entry_for}
+use Rattle.iox2_runs.specs.declared.runs.made.Made.{Made}
+use Rattle.iox2_runs.specs.declared.runs.made.Made.TheVariants.{Nothing, Unwritten, Written}
+use Rattle.iox2_runs.proofs.TableLooks.{is_unwritten_entry}
+use Rattle.iox2_runs.proofs.TableEntries.{back, set_again, not_unwritten}
+use Rattle.iox2_runs.proofs.LiveEntries.{live_unwritten}
+use Rattle.iox2_runs.proofs.CarriedChanges.{taken_carried, taken_refused, taken_passed}
+use Rattle.iox2_runs.proofs.LeavingSteps.{leaves-all, leaves-spending}
+use Rattle.iox2_runs.proofs.runs.changes.assume_init.Goals as goal
+
+pub assume_init-requires : goal.assume_init-requires
+assume_init-requires g c = (live_unwritten {T = g.row.T.Denot} {U = g.row.U.Denot} c.args.domain.now c.args.table.now.items c.requires c.args.of c.in-Unwritten.sample (sym c.take.ensures.made ∙ c.in-Unwritten.is)).0
+
+pub returns-in-Ok-clause-carries : goal.returns-in-Ok-clause-carries
+returns-in-Ok-clause-carries g c =
+    taken_carried {T = g.row.T.Denot} {U = g.row.U.Denot} _ c.args.domain.now c.assume_init.new.domain c.args.table.now.items c.put.new.table.items c.args.of
+    c.in-Unwritten.sample c.in-Ok.sample (sym c.take.ensures.made ∙ c.in-Unwritten.is) c.in-Ok.ensures.step
+    (ap (λ (k : Key). k.service_id) c.in-Ok.ensures.key) (ap (λ (k : Key). k.port) c.in-Ok.ensures.key) (ap (λ (k : Key). k.message) c.in-Ok.ensures.key)
+    (c.put.ensures.items ∙ ap (λ (t : List Made). slice_set t c.args.of (Written c.in-Ok.sample)) c.take.ensures.items ∙ set_again c.args.table.now.items c.args.of Nothing (Written c.in-Ok.sample))
+
+pub returns-in-Err-clause-carries : goal.returns-in-Err-clause-carries
+returns-in-Err-clause-carries g c =
+    taken_refused {T = g.row.T.Denot} {U = g.row.U.Denot} _ c.args.domain.now c.assume_init.new.domain c.args.table.now.items c.put-in-Err.new.table.items c.args.of
+    c.in-Unwritten.sample (sym c.take.ensures.made ∙ c.in-Unwritten.is) c.in-Err.ensures.step
+    (back c.args.table.now.items c.take.new.table.items c.put-in-Err.new.table.items c.args.of (Unwritten c.in-Err.sample) c.take.ensures.items
+    ((sym c.take.ensures.made ∙ c.in-Unwritten.is) ∙ ap (λ (h : SampleMutUninit). Unwritten h) (sym (c.in-Err.ensures.handed_back).0)) c.put-in-Err.ensures.items)
+
+pub returns-in_default-clause-carries : goal.returns-in_default-clause-carries
+returns-in_default-clause-carries g c =
+    taken_passed {T = g.row.T.Denot} {U = g.row.U.Denot} _ c.args.domain.now c.args.domain.now c.args.table.now.items c.put-in_default.new.table.items c.args.of
+    (ap (λ (h : Made). is_unwritten_entry (entry_for h)) (sym c.take.ensures.made) ∙ not_unwritten c.take.result c.in_default.not-Unwritten)
+    (back c.args.table.now.items c.take.new.table.items c.put-in_default.new.table.items c.args.of c.take.result c.take.ensures.items (sym c.take.ensures.made) c.put-in_default.ensures.items)
+
+pub returns-in-Ok-clause-leaves : goal.returns-in-Ok-clause-leaves
+returns-in-Ok-clause-leaves g c =
+    leaves-spending {T = g.row.T.Denot} {U = g.row.U.Denot} c.args.domain.now c.assume_init.new.domain c.args.table.now.items c.put.new.table.items c.args.of
+    (Unwritten c.in-Unwritten.sample) (Written c.in-Ok.sample) (sym c.take.ensures.made ∙ c.in-Unwritten.is) c.assume_init.ensures.stays
+    (λ start fresh. subst (λ (k : Key). IsNewIn start (A_loan k.message)) (sym c.in-Ok.ensures.key) fresh)
+    (c.put.ensures.items ∙ ap (λ (t : List Made). slice_set t c.args.of (Written c.in-Ok.sample)) c.take.ensures.items ∙ set_again c.args.table.now.items c.args.of Nothing (Written c.in-Ok.sample))
+
+pub returns-in-Err-clause-leaves : goal.returns-in-Err-clause-leaves
+returns-in-Err-clause-leaves g c =
+    leaves-all {T = g.row.T.Denot} {U = g.row.U.Denot} c.args.domain.now c.assume_init.new.domain c.args.table.now.items c.put-in-Err.new.table.items (sym (c.in-Err.ensures.handed_back).1)
+    (back c.args.table.now.items c.take.new.table.items c.put-in-Err.new.table.items c.args.of (Unwritten c.in-Err.sample) c.take.ensures.items
+    ((sym c.take.ensures.made ∙ c.in-Unwritten.is) ∙ ap (λ (h : SampleMutUninit). Unwritten h) (sym (c.in-Err.ensures.handed_back).0)) c.put-in-Err.ensures.items)
+
+pub returns-in_default-clause-leaves : goal.returns-in_default-clause-leaves
+returns-in_default-clause-leaves g c =
+    leaves-all {T = g.row.T.Denot} {U = g.row.U.Denot} c.args.domain.now c.args.domain.now c.args.table.now.items c.put-in_default.new.table.items refl
+    (back c.args.table.now.items c.take.new.table.items c.put-in_default.new.table.items c.args.of c.take.result c.take.ensures.items (sym c.take.ensures.made) c.put-in_default.ensures.items)

@@ -1,0 +1,71 @@
+use Rattle.std.proofs.Common.{refl, sym, ap, ◌∙◌}
+use Rattle.iox2_store.specs.declared.service_config.ServiceConfig.{ServiceConfig}
+use Rattle.iox2_runs.specs.Carries.{entry_for}
+use Rattle.iox2_runs.specs.declared.runs.made.Made.{Made}
+use Rattle.iox2_runs.proofs.TableLooks.{is_publisher_entry}
+use Rattle.iox2_runs.proofs.TableEntries.{looked, looked_past, not_publisher}
+use Rattle.iox2_runs.proofs.LiveEntries.{live_publisher}
+use Rattle.iox2_runs.proofs.CarriedCopies.{copy_passed, copy_of_other, copy_carried, copy_denied}
+use Rattle.iox2_runs.proofs.LeavingSteps.{leaves-all, leaves-making}
+use Rattle.iox2_pubsub.proofs.StaysBut.{nothing-is-new}
+use Rattle.iox2_runs.specs.declared.runs.made.Made.TheVariants.{Nothing}
+use Rattle.iox2_runs.proofs.runs.copies.send_copy.Goals as goal
+
+pub returns-then-config-ne1-clause-carries : goal.returns-then-config-ne1-clause-carries
+returns-then-config-ne1-clause-carries g c =
+    copy_of_other {T = g.row.T.Denot} {U = g.row.U.Denot} _ c.args.domain.now c.args.domain.now c.args.table.now c.args.of c.args.value
+    (λ units. c.if-config-ne1.true (ap (λ (k : ServiceConfig). k.units_per_element) c.config.ensures.value ∙ units)) refl
+
+pub send_copy-requires-clause-live : goal.send_copy-requires-clause-live
+send_copy-requires-clause-live g c =
+    live_publisher {T = g.row.T.Denot} {U = g.row.U.Denot} c.args.domain.now c.args.table.now c.requires c.args.of c.in-Publisher.publisher
+    (looked c.args.table.now c.args.of c.get.result c.in-Some.made _ c.get.ensures.lookup c.in-Some.is c.in-Publisher.is)
+
+pub send_copy-requires-clause-single_valued : goal.send_copy-requires-clause-single_valued
+send_copy-requires-clause-single_valued g c = c.config.ensures.single_valued c.if-config-ne1.false
+
+pub returns-in-Ok-clause-carries : goal.returns-in-Ok-clause-carries
+returns-in-Ok-clause-carries g c =
+    copy_carried {T = g.row.T.Denot} {U = g.row.U.Denot} _ c.args.domain.now c.send_copy.new.domain c.args.table.now c.args.of
+    c.in-Publisher.publisher c.args.value c.in-Ok.outcome c.delivered_count.result c.delivered_count.ensures
+    (looked c.args.table.now c.args.of c.get.result c.in-Some.made _ c.get.ensures.lookup c.in-Some.is c.in-Publisher.is)
+    c.config.ensures.supported.single_values (ap (λ (k : ServiceConfig). k.units_per_element) (sym c.config.ensures.value) ∙ c.if-config-ne1.false)
+    c.in-Ok.ensures.sends
+
+pub returns-in-Err-clause-carries : goal.returns-in-Err-clause-carries
+returns-in-Err-clause-carries g c =
+    copy_denied {T = g.row.T.Denot} {U = g.row.U.Denot} _ c.args.domain.now c.send_copy.new.domain c.args.table.now c.args.of
+    c.in-Publisher.publisher c.args.value c.in-Err.error
+    (looked c.args.table.now c.args.of c.get.result c.in-Some.made _ c.get.ensures.lookup c.in-Some.is c.in-Publisher.is)
+    c.config.ensures.supported.single_values (ap (λ (k : ServiceConfig). k.units_per_element) (sym c.config.ensures.value) ∙ c.if-config-ne1.false)
+    c.in-Err.ensures.sends
+
+pub returns-in_default-made-clause-carries : goal.returns-in_default-made-clause-carries
+returns-in_default-made-clause-carries g c =
+    copy_passed {T = g.row.T.Denot} {U = g.row.U.Denot} _ c.args.domain.now c.args.domain.now c.args.table.now c.args.of c.args.value
+    (ap (λ (h : Made). is_publisher_entry (entry_for h)) (looked c.args.table.now c.args.of c.get.result c.in-Some.made _ c.get.ensures.lookup c.in-Some.is refl) ∙ not_publisher c.in-Some.made.now c.in_default-made.not-Publisher) refl
+
+pub returns-in_default-clause-carries : goal.returns-in_default-clause-carries
+returns-in_default-clause-carries g c =
+    copy_passed {T = g.row.T.Denot} {U = g.row.U.Denot} _ c.args.domain.now c.args.domain.now c.args.table.now c.args.of c.args.value
+    (ap (λ (h : Made). is_publisher_entry (entry_for h)) (looked_past c.args.table.now c.args.of c.get.result c.get.ensures.lookup c.in_default.is)) refl
+
+pub returns-then-config-ne1-clause-leaves : goal.returns-then-config-ne1-clause-leaves
+returns-then-config-ne1-clause-leaves g c =
+    leaves-all {T = g.row.T.Denot} {U = g.row.U.Denot} c.args.domain.now c.args.domain.now c.args.table.now c.args.table.now refl refl
+
+pub returns-in-Ok-clause-leaves : goal.returns-in-Ok-clause-leaves
+returns-in-Ok-clause-leaves g c =
+    leaves-making {T = g.row.T.Denot} {U = g.row.U.Denot} c.args.domain.now c.send_copy.new.domain c.args.table.now c.send_copy.ensures.stays Nothing (nothing-is-new {T = g.row.T.Denot} {U = g.row.U.Denot} c.args.domain.now)
+
+pub returns-in-Err-clause-leaves : goal.returns-in-Err-clause-leaves
+returns-in-Err-clause-leaves g c =
+    leaves-making {T = g.row.T.Denot} {U = g.row.U.Denot} c.args.domain.now c.send_copy.new.domain c.args.table.now c.send_copy.ensures.stays Nothing (nothing-is-new {T = g.row.T.Denot} {U = g.row.U.Denot} c.args.domain.now)
+
+pub returns-in_default-made-clause-leaves : goal.returns-in_default-made-clause-leaves
+returns-in_default-made-clause-leaves g c =
+    leaves-all {T = g.row.T.Denot} {U = g.row.U.Denot} c.args.domain.now c.args.domain.now c.args.table.now c.args.table.now refl refl
+
+pub returns-in_default-clause-leaves : goal.returns-in_default-clause-leaves
+returns-in_default-clause-leaves g c =
+    leaves-all {T = g.row.T.Denot} {U = g.row.U.Denot} c.args.domain.now c.args.domain.now c.args.table.now c.args.table.now refl refl

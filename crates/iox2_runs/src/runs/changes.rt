@@ -1,0 +1,141 @@
+//! Commands that change a loan that is out.
+ghost use Rattle.iox2_store.specs.machine.Environments.{fixed_handlers};
+ghost use Rattle.iox2_runs.specs.Rooms.{SameRoom};
+ghost use Rattle.iox2_runs.specs.Leaves.{Leaves};
+ghost use Rattle.iox2_runs.specs.Carries.{IsLiveTable, Carries, defaults_of};
+ghost use Rattle.iox2_commands.specs.declared.command.Command.TheVariants.{AssumeInit, SetPayload, WriteCell, WriteHeader};
+ghost use Rattle.iox2_runs.specs.declared.runs.made.Made.TheVariants.{Nothing};
+
+use super::made::{Made, put, take};
+use iox2_commands::Reply;
+use iox2_pubsub::{Domain, SampleMut, SampleMutUninit};
+use iox2_store::{BackpressureFn, DegradationFn};
+
+/// Writes a cell of the unwritten loan that the command at the position made.
+pub(crate) fn write_cell<T: Default + Drop, U: Default + Drop, F: BackpressureFn, G: DegradationFn>(
+    domain: &mut Domain<T, U, F, G>,
+    table: &mut Vec<Made>,
+    of: usize,
+    at: usize,
+    value: T,
+) -> Reply<T, U>
+    requires { IsLiveTable domain.old table.old.items }
+    ensures carries { Carries fixed_handlers (defaults_of T.is_default U.is_default) domain.old domain.new table.old.items (WriteCell of at value) result table.new.items Nothing }
+    ensures leaves { Leaves domain.old domain.new table.old.items table.new.items Nothing }
+    ensures room { SameRoom table.old table.new }
+{
+    match take(table, of) {
+        Made::Unwritten(mut sample) => {
+            // For the proof alone: the loan has one cell.
+            sample.payload(domain);
+            if at != 0 {
+                put(table, of, Made::Unwritten(sample));
+                return Reply::Skipped;
+            }
+            *SampleMutUninit::payload_mut(domain, &mut sample) = Some(value);
+            put(table, of, Made::Unwritten(sample));
+            Reply::Done
+        }
+        other => {
+            put(table, of, other);
+            Reply::Skipped
+        }
+    }
+}
+
+/// Changes a value of the written loan that the command at the position made.
+pub(crate) fn set_payload<
+    T: Default + Drop,
+    U: Default + Drop,
+    F: BackpressureFn,
+    G: DegradationFn,
+>(
+    domain: &mut Domain<T, U, F, G>,
+    table: &mut Vec<Made>,
+    of: usize,
+    at: usize,
+    value: T,
+) -> Reply<T, U>
+    requires { IsLiveTable domain.old table.old.items }
+    ensures carries { Carries fixed_handlers (defaults_of T.is_default U.is_default) domain.old domain.new table.old.items (SetPayload of at value) result table.new.items Nothing }
+    ensures leaves { Leaves domain.old domain.new table.old.items table.new.items Nothing }
+    ensures room { SameRoom table.old table.new }
+{
+    match take(table, of) {
+        Made::Written(mut sample) => {
+            // For the proof alone: the loan has one value.
+            sample.payload(domain);
+            if at != 0 {
+                put(table, of, Made::Written(sample));
+                return Reply::Skipped;
+            }
+            *SampleMut::payload_mut(domain, &mut sample) = value;
+            put(table, of, Made::Written(sample));
+            Reply::Done
+        }
+        other => {
+            put(table, of, other);
+            Reply::Skipped
+        }
+    }
+}
+
+/// Writes the user header of the loan that the command at the position made.
+pub(crate) fn write_header<
+    T: Default + Drop,
+    U: Default + Drop,
+    F: BackpressureFn,
+    G: DegradationFn,
+>(domain: &mut Domain<T, U, F, G>, table: &mut Vec<Made>, of: usize, value: U) -> Reply<T, U>
+    requires { IsLiveTable domain.old table.old.items }
+    ensures carries { Carries fixed_handlers (defaults_of T.is_default U.is_default) domain.old domain.new table.old.items (WriteHeader of value) result table.new.items Nothing }
+    ensures leaves { Leaves domain.old domain.new table.old.items table.new.items Nothing }
+    ensures room { SameRoom table.old table.new }
+{
+    match take(table, of) {
+        Made::Unwritten(mut sample) => {
+            *SampleMutUninit::user_header_mut(domain, &mut sample) = value;
+            put(table, of, Made::Unwritten(sample));
+            Reply::Done
+        }
+        Made::Written(mut sample) => {
+            *SampleMut::user_header_mut(domain, &mut sample) = value;
+            put(table, of, Made::Written(sample));
+            Reply::Done
+        }
+        other => {
+            put(table, of, other);
+            Reply::Skipped
+        }
+    }
+}
+
+/// Takes the loan that the command at the position made as written, where its cell is.
+pub(crate) fn assume_init<
+    T: Default + Drop,
+    U: Default + Drop,
+    F: BackpressureFn,
+    G: DegradationFn,
+>(domain: &mut Domain<T, U, F, G>, table: &mut Vec<Made>, of: usize) -> Reply<T, U>
+    requires { IsLiveTable domain.old table.old.items }
+    ensures carries { Carries fixed_handlers (defaults_of T.is_default U.is_default) domain.old domain.new table.old.items (AssumeInit of) result table.new.items Nothing }
+    ensures leaves { Leaves domain.old domain.new table.old.items table.new.items Nothing }
+    ensures room { SameRoom table.old table.new }
+{
+    match take(table, of) {
+        Made::Unwritten(sample) => match sample.assume_init(domain) {
+            Ok(sample) => {
+                put(table, of, Made::Written(sample));
+                Reply::Done
+            }
+            Err(sample) => {
+                put(table, of, Made::Unwritten(sample));
+                Reply::Unwritten
+            }
+        },
+        other => {
+            put(table, of, other);
+            Reply::Skipped
+        }
+    }
+}

@@ -1,0 +1,65 @@
+//! Commands that loan a value and write it at once.
+ghost use Rattle.std.specs.Prelude.{◌≡◌};
+ghost use Rattle.iox2_store.specs.machine.Environments.{fixed_handlers};
+ghost use Rattle.iox2_runs.specs.Leaves.{Leaves};
+ghost use Rattle.iox2_runs.specs.Carries.{IsLiveTable, Carries, defaults_of};
+ghost use Rattle.iox2_commands.specs.declared.command.Command.TheVariants.{Loan, SendCopy};
+ghost use Rattle.iox2_runs.specs.declared.runs.made.Made.TheVariants.{Nothing};
+
+use super::loans::delivered_count;
+use super::made::Made;
+use iox2_commands::Reply;
+use iox2_pubsub::Domain;
+use iox2_store::{BackpressureFn, DegradationFn};
+
+/// Asks the publisher that the command at the position made for a loan of a default value, and
+/// returns the loan too.
+pub(crate) fn loan<T: Default + Drop, U: Default + Drop, F: BackpressureFn, G: DegradationFn>(
+    domain: &mut Domain<T, U, F, G>,
+    table: &[Made],
+    of: usize,
+) -> (Reply<T, U>, Made)
+    requires { IsLiveTable domain.old table.now }
+    ensures carries { Carries fixed_handlers (defaults_of T.is_default U.is_default) domain.old domain.new table.now (Loan of) result.0 table.now result.1 }
+    ensures leaves { Leaves domain.old domain.new table.now table.now result.1 }
+{
+    if domain.config().units_per_element != 1 {
+        return (Reply::Skipped, Made::Nothing);
+    }
+    let Some(made) = table.get(of) else {
+        return (Reply::Skipped, Made::Nothing);
+    };
+    match made {
+        Made::Publisher(publisher) => match publisher.loan(domain) {
+            Ok(sample) => (Reply::Loaned, Made::Written(sample)),
+            Err(error) => (Reply::LoanRefused(error), Made::Nothing),
+        },
+        _ => (Reply::Skipped, Made::Nothing),
+    }
+}
+
+/// Sends the value with the publisher that the command at the position made.
+pub(crate) fn send_copy<T: Default + Drop, U: Default + Drop, F: BackpressureFn, G: DegradationFn>(
+    domain: &mut Domain<T, U, F, G>,
+    table: &[Made],
+    of: usize,
+    value: T,
+) -> Reply<T, U>
+    requires { IsLiveTable domain.old table.now }
+    ensures carries { Carries fixed_handlers (defaults_of T.is_default U.is_default) domain.old domain.new table.now (SendCopy of value) result table.now Nothing }
+    ensures leaves { Leaves domain.old domain.new table.now table.now Nothing }
+{
+    if domain.config().units_per_element != 1 {
+        return Reply::Skipped;
+    }
+    let Some(made) = table.get(of) else {
+        return Reply::Skipped;
+    };
+    match made {
+        Made::Publisher(publisher) => match publisher.send_copy(domain, value) {
+            Ok(outcome) => Reply::Delivered(delivered_count(outcome)),
+            Err(error) => Reply::SendRefused(error),
+        },
+        _ => Reply::Skipped,
+    }
+}

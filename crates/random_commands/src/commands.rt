@@ -1,0 +1,210 @@
+//! Commands that do what is wished.
+use crate::chance::Chance;
+use crate::moods::Wish;
+use crate::positions::{any, live, live_or_any};
+use crate::words::is_word;
+use iox2_commands::Command;
+use iox2_model::{Kind, Model};
+use iox2_store::{AllocationStrategy, BackpressureStrategy, DegradationAction, ServiceConfig};
+use std::time::Duration;
+
+// A command that does what is wished, where it is a word that exists.
+pub(crate) fn draw_word(
+    chance: &mut Chance,
+    model: &Model,
+    config: &ServiceConfig,
+    wish: Wish,
+) -> Command<u64, u64> {
+    for _ in 0..16 {
+        let command = draw_command(chance, model, config, wish);
+        if is_word(&command) {
+            return command;
+        }
+    }
+    Command::Nothing
+}
+
+fn draw_command(
+    chance: &mut Chance,
+    model: &Model,
+    config: &ServiceConfig,
+    wish: Wish,
+) -> Command<u64, u64> {
+    match wish {
+        Wish::MakePublisher => make_publisher(chance),
+        Wish::MakeSubscriber => make_subscriber(chance, config),
+        Wish::Message => message_step(chance, model),
+        Wish::Loan => loan(chance, model),
+        Wish::Change => change(chance, model),
+        Wish::Discard => Command::Discard {
+            of: any_loan(chance, model),
+        },
+        Wish::Receive => Command::Receive {
+            of: live_or_any(chance, model, Kind::Subscriber),
+        },
+        Wish::Ask => Command::HasSamples {
+            of: live_or_any(chance, model, Kind::Subscriber),
+        },
+        Wish::Read => read(chance, model),
+        Wish::Release => Command::Release {
+            of: live_or_any(chance, model, Kind::Sample),
+        },
+        Wish::Update => Command::Update {
+            of: any_port(chance, model),
+        },
+        Wish::ClosePublisher => Command::Close {
+            of: live_or_any(chance, model, Kind::Publisher),
+        },
+        Wish::CloseSubscriber => Command::Close {
+            of: live_or_any(chance, model, Kind::Subscriber),
+        },
+        Wish::Anything => {
+            let of = any(chance, model);
+            anything(chance, of)
+        }
+    }
+}
+
+fn make_publisher(chance: &mut Chance) -> Command<u64, u64> {
+    let loans = match chance.below(32) {
+        0 => 0,
+        1 => 40,
+        2..=15 => 1,
+        _ => chance.below(5),
+    };
+    Command::CreatePublisher {
+        loans,
+        strategy: BackpressureStrategy::DiscardData,
+        allocation: AllocationStrategy::Static,
+        initial_max_slice_len: chance.below(3),
+        override_slots: None,
+        degradation: DegradationAction::Warn,
+        backpressure: None,
+    }
+}
+
+// Its buffer is the service's limit, or it is asked for, and may be one too large.
+fn make_subscriber(chance: &mut Chance, config: &ServiceConfig) -> Command<u64, u64> {
+    let greatest = config.subscriber_max_buffer_size;
+    let buffer = match chance.below(12) {
+        0 => Some(greatest.max(1).saturating_add(1)),
+        1..=3 => None,
+        _ => Some(chance.up_to(greatest)),
+    };
+    Command::CreateSubscriber {
+        buffer,
+        degradation: DegradationAction::Warn,
+    }
+}
+
+// A written loan is sent, an unwritten one is written, and where there is none a loan is taken.
+fn message_step(chance: &mut Chance, model: &Model) -> Command<u64, u64> {
+    if let Some(of) = live(chance, model, Kind::WrittenLoan) {
+        return Command::Send { of };
+    }
+    if let Some(of) = live(chance, model, Kind::UnwrittenLoan) {
+        return Command::WriteAll {
+            of,
+            value: chance.value(),
+        };
+    }
+    match live(chance, model, Kind::Publisher) {
+        None => make_publisher(chance),
+        Some(of) if chance.one_in(2) => Command::SendCopy {
+            of,
+            value: chance.value(),
+        },
+        Some(of) => Command::LoanUninit { of },
+    }
+}
+
+fn loan(chance: &mut Chance, model: &Model) -> Command<u64, u64> {
+    let of = live_or_any(chance, model, Kind::Publisher);
+    if chance.one_in(2) {
+        Command::LoanUninit { of }
+    } else {
+        Command::Loan { of }
+    }
+}
+
+fn any_loan(chance: &mut Chance, model: &Model) -> usize {
+    if chance.one_in(2) {
+        live_or_any(chance, model, Kind::WrittenLoan)
+    } else {
+        live_or_any(chance, model, Kind::UnwrittenLoan)
+    }
+}
+
+fn any_port(chance: &mut Chance, model: &Model) -> usize {
+    if chance.one_in(2) {
+        live_or_any(chance, model, Kind::Publisher)
+    } else {
+        live_or_any(chance, model, Kind::Subscriber)
+    }
+}
+
+// The cell of a message, which has one, or past its end.
+fn cell(chance: &mut Chance) -> usize {
+    if chance.one_in(16) { 1 } else { 0 }
+}
+
+fn change(chance: &mut Chance, model: &Model) -> Command<u64, u64> {
+    let value = chance.value();
+    let at = cell(chance);
+    let of = any_loan(chance, model);
+    match chance.below(5) {
+        0 => Command::WriteCell { of, at, value },
+        1 => Command::WriteAll { of, value },
+        2 => Command::AssumeInit { of },
+        3 => Command::WriteHeader { of, value },
+        _ => Command::SetPayload { of, at, value },
+    }
+}
+
+fn read(chance: &mut Chance, model: &Model) -> Command<u64, u64> {
+    let of = if chance.one_in(3) {
+        any_loan(chance, model)
+    } else {
+        live_or_any(chance, model, Kind::Sample)
+    };
+    match chance.below(4) {
+        0 => Command::ReadHeader { of },
+        1 => Command::ReadUserHeader { of },
+        _ => Command::Read {
+            of,
+            at: cell(chance),
+        },
+    }
+}
+
+// Any command on this position, but for those that make ports.
+fn anything(chance: &mut Chance, of: usize) -> Command<u64, u64> {
+    let value = chance.value();
+    let at = cell(chance);
+    match chance.below(21) {
+        0 => Command::Nothing,
+        1 => Command::LoanUninit { of },
+        2 => Command::Loan { of },
+        3 => Command::LoanSlice { of, len: at },
+        4 => Command::WriteCell { of, at, value },
+        5 => Command::WriteAll { of, value },
+        6 => Command::AssumeInit { of },
+        7 => Command::WriteHeader { of, value },
+        8 => Command::SetPayload { of, at, value },
+        9 => Command::Send { of },
+        10 => Command::SendCopy { of, value },
+        11 => Command::Discard { of },
+        12 => Command::Retry {
+            of,
+            elapsed: Duration::ZERO,
+        },
+        13 => Command::GiveUp { of },
+        14 => Command::Update { of },
+        15 => Command::Receive { of },
+        16 => Command::HasSamples { of },
+        17 => Command::Read { of, at },
+        18 => Command::ReadHeader { of },
+        19 => Command::ReadUserHeader { of },
+        _ => Command::Release { of },
+    }
+}

@@ -1,0 +1,18 @@
+//! Random scripts: settings and lists of commands that follow the model, so that most commands name
+//! something fitting.
+#![tactic(auto)]
+
+mod chance;
+mod commands;
+mod fewer;
+mod lines;
+mod moods;
+mod positions;
+mod scripts;
+mod sizes;
+mod words;
+
+pub use fewer::without;
+pub use lines::script_text;
+pub use scripts::{Script, draw_script};
+pub use words::is_word;

@@ -1,0 +1,39 @@
+//! The words that exist.
+ghost use Rattle.std.specs.Prelude.{IsTrue};
+ghost use Rattle.iox2_runs.specs.Supported.{IsSupportedCommand};
+
+use iox2_commands::Command;
+use iox2_store::{AllocationStrategy, BackpressureStrategy, DegradationAction};
+
+/// Whether the command is one that `run` carries out so far. This is the list of all words that
+/// random scripts have.
+pub fn is_word(command: &Command<u64, u64>) -> bool
+    ensures { IsTrue result → IsSupportedCommand command.now }
+{
+    match command {
+        Command::CreatePublisher {
+            strategy: BackpressureStrategy::DiscardData,
+            allocation: AllocationStrategy::Static,
+            override_slots: None,
+            degradation: DegradationAction::Warn,
+            backpressure: None,
+            ..
+        } => true,
+        Command::CreateSubscriber {
+            degradation: DegradationAction::Warn,
+            ..
+        } => true,
+        Command::Nothing
+        | Command::LoanUninit { .. }
+        | Command::WriteAll { .. }
+        | Command::Send { .. }
+        | Command::Discard { .. }
+        | Command::Update { .. }
+        | Command::Receive { .. }
+        | Command::HasSamples { .. }
+        | Command::Read { .. }
+        | Command::Release { .. }
+        | Command::Close { .. } => true,
+        _ => false,
+    }
+}

@@ -1,0 +1,76 @@
+//! Why the scripts didn't all pass.
+use iox2_model::ModelError;
+use std::alloc::{AllocError, AllocFailed};
+use std::io;
+
+/// Why the scripts didn't all pass.
+#[derive(Clone, Copy)]
+pub(crate) enum Failure {
+    /// The arguments aren't a count and a seed.
+    Usage,
+    /// A reply isn't the model's.
+    Refuted,
+    /// Some reply that the words can give was never met.
+    NeverMet,
+    /// The model has no rule for a command.
+    NoRule,
+    /// A script has a word that `run` doesn't carry out.
+    NoWord,
+    /// Memory is refused.
+    OutOfMemory,
+    /// The arguments can't be read, or a line can't be printed.
+    InputOutput,
+}
+
+impl Failure {
+    /// What is said of it.
+    pub(crate) fn text(self) -> &'static str {
+        match self {
+            Failure::Usage => "usage: random_scripts COUNT SEED, two numbers",
+            Failure::Refuted => "a reply isn't one that the model has",
+            Failure::NeverMet => "a reply was never met",
+            Failure::NoRule => "the model has no rule for a command",
+            Failure::NoWord => "a script has a word that isn't carried out yet",
+            Failure::OutOfMemory => "out of memory",
+            Failure::InputOutput => "arguments or output failed",
+        }
+    }
+
+    /// The exit status.
+    pub(crate) fn status(self) -> u8 {
+        match self {
+            Failure::Refuted | Failure::NeverMet => 1,
+            Failure::Usage => 2,
+            Failure::OutOfMemory => 3,
+            Failure::InputOutput => 4,
+            Failure::NoRule | Failure::NoWord => 5,
+        }
+    }
+}
+
+impl From<io::Error> for Failure {
+    fn from(_error: io::Error) -> Self {
+        Failure::InputOutput
+    }
+}
+
+impl From<AllocError> for Failure {
+    fn from(_error: AllocError) -> Self {
+        Failure::OutOfMemory
+    }
+}
+
+impl<T: Drop> From<AllocFailed<T>> for Failure {
+    fn from(_error: AllocFailed<T>) -> Self {
+        Failure::OutOfMemory
+    }
+}
+
+impl From<ModelError> for Failure {
+    fn from(error: ModelError) -> Self {
+        match error {
+            ModelError::OutOfMemory => Failure::OutOfMemory,
+            ModelError::NoRule => Failure::NoRule,
+        }
+    }
+}

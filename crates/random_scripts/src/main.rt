@@ -1,0 +1,37 @@
+//! Runs random scripts, and compares each reply with the model's.
+#![tactic(auto)]
+
+mod comparison;
+mod failure;
+mod rounds;
+mod shortest;
+mod tally;
+
+use failure::Failure;
+use rounds::run_scripts;
+use std::env;
+use std::process::ExitCode;
+
+fn main(rt: HostRuntime) -> ExitCode {
+    match carry_out(&rt) {
+        Ok(()) => ExitCode::SUCCESS,
+        Err(failure) => {
+            let _ = eprintln!(rt; "{}", failure.text());
+            ExitCode::from(failure.status())
+        }
+    }
+}
+
+// Does what the arguments ask for.
+fn carry_out(rt: &HostRuntime) -> Result<(), Failure> {
+    let words: Vec<String> = env::args(rt)?.collect(rt.alloc())?;
+    match words.as_slice() {
+        [_, count, seed] => run_scripts(rt, number(count)?, number(seed)?),
+        _ => Err(Failure::Usage),
+    }
+}
+
+// The number that a word says.
+fn number(word: &str) -> Result<u64, Failure> {
+    word.parse().map_err(|_| Failure::Usage)
+}

@@ -1,0 +1,112 @@
+//! How often each kind of reply was met.
+use iox2_pubsub::{
+    LoanError, PublisherCreateError, ReceiveError, SendError, SubscriberCreateError,
+};
+use iox2_runs::Reply;
+use std::io;
+
+// The kinds of replies that the words can give with ample memory.
+const KINDS: [&str; 25] = [
+    "Done",
+    "Skipped",
+    "PublisherMade",
+    "PublisherRefused(ExceedsMaxSupportedPublishers)",
+    "PublisherRefused(UnableToCreateDataSegment)",
+    "SubscriberMade",
+    "SubscriberRefused(ExceedsMaxSupportedSubscribers)",
+    "SubscriberRefused(BufferSizeExceedsMaxSupportedBufferSizeOfService)",
+    "Loaned",
+    "LoanRefused(ExceedsMaxLoans)",
+    "Delivered to none",
+    "Delivered to one",
+    "Delivered to 2 to 64",
+    "Delivered to 65 or more",
+    "SendRefused(ConnectionBrokenSinceSenderNoLongerExists)",
+    "UpdateRefused",
+    "Sample",
+    "NoSample",
+    "ReceiveRefused(ExceedsMaxBorrows)",
+    "ReceiveRefused(ConnectionFailure)",
+    "Has(false)",
+    "Has(true)",
+    "Cell(None)",
+    "Cell(Some)",
+    "any other",
+];
+
+// The position of the last kind, which no reply should have.
+const OTHER: usize = 24;
+
+/// How often each kind of reply was met.
+#[derive(Drop)]
+pub(crate) struct Tally {
+    counts: [u64; 25],
+}
+
+impl Tally {
+    pub(crate) fn new() -> Tally {
+        Tally { counts: [0; 25] }
+    }
+
+    pub(crate) fn add(&mut self, replies: &[Reply<u64, u64>]) {
+        for reply in replies {
+            if let Some(count) = self.counts.get_mut(kind_of(reply)) {
+                *count = count.saturating_add(1);
+            }
+        }
+    }
+
+    /// Prints a line for each kind. Whether each was met.
+    pub(crate) fn print(&self, rt: &impl Print) -> io::Result<bool> {
+        let mut all_met = true;
+        for kind in 0..OTHER {
+            if let (Some(name), Some(count)) = (KINDS.get(kind), self.counts.get(kind)) {
+                println!(rt; "{count} {name}")?;
+                if *count == 0 {
+                    all_met = false;
+                }
+            }
+        }
+        Ok(all_met)
+    }
+}
+
+// The position of the reply's kind.
+fn kind_of(reply: &Reply<u64, u64>) -> usize {
+    match *reply {
+        Reply::Done => 0,
+        Reply::Skipped => 1,
+        Reply::PublisherMade(_) => 2,
+        Reply::PublisherRefused(PublisherCreateError::ExceedsMaxSupportedPublishers) => 3,
+        Reply::PublisherRefused(PublisherCreateError::UnableToCreateDataSegment) => 4,
+        Reply::SubscriberMade(_) => 5,
+        Reply::SubscriberRefused(SubscriberCreateError::ExceedsMaxSupportedSubscribers) => 6,
+        Reply::SubscriberRefused(
+            SubscriberCreateError::BufferSizeExceedsMaxSupportedBufferSizeOfService,
+        ) => 7,
+        Reply::Loaned => 8,
+        Reply::LoanRefused(LoanError::ExceedsMaxLoans) => 9,
+        Reply::Delivered(0) => 10,
+        Reply::Delivered(1) => 11,
+        Reply::Delivered(2..=64) => 12,
+        Reply::Delivered(_) => 13,
+        Reply::SendRefused(SendError::ConnectionBrokenSinceSenderNoLongerExists) => 14,
+        _ => kind_of_use(reply),
+    }
+}
+
+// The same for what is received and read.
+fn kind_of_use(reply: &Reply<u64, u64>) -> usize {
+    match *reply {
+        Reply::UpdateRefused(_) => 15,
+        Reply::Sample(_) => 16,
+        Reply::NoSample => 17,
+        Reply::ReceiveRefused(ReceiveError::ExceedsMaxBorrows) => 18,
+        Reply::ReceiveRefused(ReceiveError::ConnectionFailure(_)) => 19,
+        Reply::Has(false) => 20,
+        Reply::Has(true) => 21,
+        Reply::Cell(None) => 22,
+        Reply::Cell(Some(_)) => 23,
+        _ => OTHER,
+    }
+}
