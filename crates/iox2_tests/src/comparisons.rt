@@ -120,7 +120,12 @@ fn replies_of((_, replies): End) -> Replies {
 }
 
 // The replies of both runs, with two subscribers at most.
-fn compared(rt: &impl Abort, alloc: Global, commands: Commands, reduced: Commands) -> [Replies; 2]
+fn compared(
+    rt: &impl Abort,
+    alloc: Global,
+    commands: Commands,
+    reduced: Commands,
+) -> (Replies, Replies)
     requires commands { All IsSupportedCommand commands.items }
     requires reduced { All IsSupportedCommand reduced.items }
 {
@@ -132,15 +137,12 @@ fn compared(rt: &impl Abort, alloc: Global, commands: Commands, reduced: Command
     };
     let ends: Option<(End, End)> = compare_runs(alloc, &config, commands, reduced);
     let (first, second) = ends.expect(rt, "two runs");
-    [replies_of(first), replies_of(second)]
+    (replies_of(first), replies_of(second))
 }
 
-#[test]
-fn a_subscriber_sees_the_same_beside_a_slower_one(rt: HostRuntime) {
-    let commands = two_messages(rt.alloc(), true).expect(&rt, "commands");
-    let reduced = two_messages(rt.alloc(), false).expect(&rt, "fewer commands");
-    let [replies, others] = compared(&rt, rt.alloc(), commands, reduced);
-    let expected: [Reply<u64, u8>; 13] = [
+// What is answered where the first subscriber receives.
+fn answers_with_a_receive() -> [Reply<u64, u8>; 13] {
+    [
         Reply::SubscriberMade(UniqueSubscriberId::new(1)),
         Reply::SubscriberMade(UniqueSubscriberId::new(2)),
         Reply::PublisherMade(UniquePublisherId::new(3)),
@@ -154,16 +156,23 @@ fn a_subscriber_sees_the_same_beside_a_slower_one(rt: HostRuntime) {
         Reply::Sample(UniquePublisherId::new(3)),
         Reply::Cell(Some(1)),
         Reply::NoSample,
-    ];
-    let mut slower = expected;
+    ]
+}
+
+#[test]
+fn a_subscriber_sees_the_same_beside_a_slower_one(rt: HostRuntime) {
+    let commands = two_messages(rt.alloc(), true).expect(&rt, "commands");
+    let reduced = two_messages(rt.alloc(), false).expect(&rt, "fewer commands");
+    let (replies, others) = compared(&rt, rt.alloc(), commands, reduced);
+    let mut slower = answers_with_a_receive();
     slower[6] = Reply::Done;
     slower[9] = Reply::Delivered(0);
-    assert!(rt; replies.as_slice() == expected.as_slice());
+    assert!(rt; replies.as_slice() == answers_with_a_receive().as_slice());
     assert!(rt; others.as_slice() == slower.as_slice());
 }
 
-// What the close of another subscriber is answered, where it received and released a message.
-fn answers() -> [Reply<u64, u8>; 17] {
+// What is answered where another subscriber receives and releases a message, and is closed.
+fn answers_with_a_close() -> [Reply<u64, u8>; 17] {
     [
         Reply::SubscriberMade(UniqueSubscriberId::new(1)),
         Reply::SubscriberMade(UniqueSubscriberId::new(2)),
@@ -189,10 +198,10 @@ fn answers() -> [Reply<u64, u8>; 17] {
 fn a_subscriber_sees_the_same_beside_one_that_is_closed(rt: HostRuntime) {
     let commands = close_of_another(rt.alloc(), true, true).expect(&rt, "commands");
     let reduced = close_of_another(rt.alloc(), false, false).expect(&rt, "fewer commands");
-    let [replies, others] = compared(&rt, rt.alloc(), commands, reduced);
-    let mut without = answers();
+    let (replies, others) = compared(&rt, rt.alloc(), commands, reduced);
+    let mut without = answers_with_a_close();
     without[6] = Reply::Done;
-    assert!(rt; replies.as_slice() == answers().as_slice());
+    assert!(rt; replies.as_slice() == answers_with_a_close().as_slice());
     assert!(rt; others.as_slice() == without.as_slice());
 }
 
@@ -201,22 +210,19 @@ fn a_subscriber_sees_the_same_beside_one_that_is_closed(rt: HostRuntime) {
 fn a_subscriber_that_keeps_a_sample_keeps_its_place(rt: HostRuntime) {
     let commands = close_of_another(rt.alloc(), true, true).expect(&rt, "commands");
     let reduced = close_of_another(rt.alloc(), true, false).expect(&rt, "fewer commands");
-    let [replies, others] = compared(&rt, rt.alloc(), commands, reduced);
-    let mut keeping = answers();
+    let (replies, others) = compared(&rt, rt.alloc(), commands, reduced);
+    let mut keeping = answers_with_a_close();
     keeping[9] = Reply::SubscriberRefused(SubscriberCreateError::ExceedsMaxSupportedSubscribers);
     keeping[12] = Reply::Delivered(0);
     keeping[15] = Reply::Skipped;
     keeping[16] = Reply::Skipped;
-    assert!(rt; replies.as_slice() == answers().as_slice());
+    assert!(rt; replies.as_slice() == answers_with_a_close().as_slice());
     assert!(rt; others.as_slice() == keeping.as_slice());
 }
 
-#[test]
-fn a_subscriber_sees_the_same_where_it_is_closed_with_a_sample(rt: HostRuntime) {
-    let commands = close_with_a_sample(rt.alloc(), true).expect(&rt, "commands");
-    let reduced = close_with_a_sample(rt.alloc(), false).expect(&rt, "fewer commands");
-    let [replies, others] = compared(&rt, rt.alloc(), commands, reduced);
-    let expected: [Reply<u64, u8>; 13] = [
+// What is answered where both subscribers receive and the second is closed.
+fn answers_with_a_sample() -> [Reply<u64, u8>; 13] {
+    [
         Reply::SubscriberMade(UniqueSubscriberId::new(1)),
         Reply::SubscriberMade(UniqueSubscriberId::new(2)),
         Reply::PublisherMade(UniquePublisherId::new(3)),
@@ -230,10 +236,17 @@ fn a_subscriber_sees_the_same_where_it_is_closed_with_a_sample(rt: HostRuntime) 
         Reply::SubscriberRefused(SubscriberCreateError::ExceedsMaxSupportedSubscribers),
         Reply::Done,
         Reply::SubscriberMade(UniqueSubscriberId::new(4)),
-    ];
-    let mut without = expected;
+    ]
+}
+
+#[test]
+fn a_subscriber_sees_the_same_where_it_is_closed_with_a_sample(rt: HostRuntime) {
+    let commands = close_with_a_sample(rt.alloc(), true).expect(&rt, "commands");
+    let reduced = close_with_a_sample(rt.alloc(), false).expect(&rt, "fewer commands");
+    let (replies, others) = compared(&rt, rt.alloc(), commands, reduced);
+    let mut without = answers_with_a_sample();
     without[6] = Reply::Done;
-    assert!(rt; replies.as_slice() == expected.as_slice());
+    assert!(rt; replies.as_slice() == answers_with_a_sample().as_slice());
     assert!(rt; others.as_slice() == without.as_slice());
 }
 
