@@ -12,7 +12,6 @@ use Rattle.iox2_store.specs.Link.{Link}
 use Rattle.iox2_store.specs.SlotBook.{Book, holders_at}
 use Rattle.iox2_store.specs.machine.Mailbox.{Mailbox, has_numbers}
 use Rattle.iox2_store.specs.machine.Numbers.{is_nil, put_at}
-use Rattle.iox2_store.specs.machine.Records.{Publisher, Subscriber}
 use Rattle.iox2_store.specs.machine.State.{subscriber_changed}
 use Rattle.iox2_ends.specs.LookUp.{look_up}
 use Rattle.iox2_ends.specs.Counters.{times, stands, with_counters}
@@ -26,17 +25,18 @@ use Rattle.iox2_ends.proofs.LookUps.{look_up-found, look_up-nothing}
 use Rattle.iox2_ends.proofs.MailboxChanges.{within_if_some, mailbox-there, Updates-with_value}
 use Rattle.iox2_domain.specs.Departures.{key_forgotten}
 use Rattle.iox2_domain.specs.Ports.{PublisherFields, SubscriberFields}
-use Rattle.iox2_domain.specs.Kept.{Named, state_of, is_named}
-use Rattle.iox2_domain.specs.Fields.{Fields, kept_of, publisher_of, subscriber_of, is_book_of, numbers_of}
-use Rattle.iox2_domain.specs.Invariant.{IsBookOf, SenderHas, holders_of, is_publisher, is_subscriber}
+use Rattle.iox2_domain.specs.Kept.{state_of}
+use Rattle.iox2_domain.specs.Fields.{Fields, kept_of, is_book_of, numbers_of}
+use Rattle.iox2_domain.specs.Invariant.{IsBookOf, SenderHas, holders_of, is_publisher}
 use Rattle.iox2_domain.specs.Updates.{changed_at}
-use Rattle.iox2_domain.proofs.lemmas.containers.LookUps.{look_up-map}
 use Rattle.iox2_domain.proofs.lemmas.containers.ChangedRecords.{changed-here}
 use Rattle.iox2_domain.proofs.lemmas.fields.Views.{mailboxes-are}
 use Rattle.iox2_domain.proofs.lemmas.fields.LostConnections.{IsEmptyLink}
 use Rattle.iox2_domain.proofs.lemmas.fields.Standing.{some_is}
 use Rattle.iox2_domain.proofs.lemmas.releases.Forgotten.{forgetting}
 use Rattle.iox2_domain.proofs.lemmas.slots.BookChanges.{book-others}
+use Rattle.iox2_domain.proofs.lemmas.fields.ConnectionEnds.{subscriber-stands}
+use Rattle.iox2_domain.proofs.lemmas.releases.Departed.{gone-in}
 use Rattle.iox2_closes.specs.Agreement.{IsOrphan, HasOwnedParts}
 use Rattle.iox2_closes.specs.Closes.{IsDeparted, IsBusy, LosesWaiting, FreesBook, ForgetsIfEmpty, is_empty_link, lost_from, forgotten_if_empty, without_publisher}
 use Rattle.iox2_closes.proofs.ClosedSubscribers.{forgetful-parts, forgetful-is}
@@ -77,30 +77,12 @@ link-empty c e = by (is_nil c.waiting) (is_nil c.borrowed) refl refl e where
 module _ {T U : Type 0} (f : Fields T U) (parts : HasOwnedParts f) where
   -- ---- ports and connections in the state
 
-  -- a publisher that stands somewhere is in the state
-  pub sender-stands : (i : ℕ) (x : PublisherFields) → get_or f.publishers i None ≡ Some x
-      → (state_of (kept_of f)).publishers x.id ≡ Some ((publisher_of f.books f.connections x).port)
-  sender-stands i x at =
-      ap (option_map (λ (z : Named Publisher). z.port))
-      (look_up-map (is_named x.id) (publisher_of f.books f.connections) f.publishers
-      ∙ ap (option_map (publisher_of f.books f.connections)) (look_up-found (is_publisher x.id) f.publishers i x (parts.parts.publisher_ids x.id) at (eq-eqb x.id x.id refl)))
-
-  -- so is a subscriber
-  pub receiver-stands : (i : ℕ) (y : SubscriberFields) → get_or f.subscribers i None ≡ Some y
-      → (state_of (kept_of f)).subscribers y.id ≡ Some ((subscriber_of f.books f.connections y).port)
-  receiver-stands i y at =
-      ap (option_map (λ (z : Named Subscriber). z.port))
-      (look_up-map (is_named y.id) (subscriber_of f.books f.connections) f.subscribers
-      ∙ ap (option_map (subscriber_of f.books f.connections)) (look_up-found (is_subscriber y.id) f.subscribers i y (parts.parts.subscriber_ids y.id) at (eq-eqb y.id y.id refl)))
-
   -- a publisher that stands nowhere is in neither
   pub departed-nowhere : (p : ℕ) → ((i : ℕ) (x : PublisherFields) → get_or f.publishers i None ≡ Some x → x.id ≢ p) → look_up (is_publisher p) f.publishers ≡ None
   departed-nowhere p gone = look_up-nothing (is_publisher p) f.publishers (λ i x at. ne_eqb x.id p (gone i x at))
 
   pub departed-absent : (p : ℕ) → ((i : ℕ) (x : PublisherFields) → get_or f.publishers i None ≡ Some x → x.id ≢ p) → (state_of (kept_of f)).publishers p ≡ None
-  departed-absent p gone =
-      ap (option_map (λ (z : Named Publisher). z.port))
-      (look_up-map (is_named p) (publisher_of f.books f.connections) f.publishers ∙ ap (option_map (publisher_of f.books f.connections)) (departed-nowhere p gone))
+  departed-absent p gone = gone-in f p (departed-nowhere p gone)
 
   module _ (key : ℕ) (c : Link) (at : get f.connections key ≡ Some c) where
     abbrev p : ℕ
@@ -250,7 +232,7 @@ module _ {T U : Type 0} (f : Fields T U) (parts : HasOwnedParts f) where
           forgot-state =
               ap (λ (g : Fields T U). state_of (kept_of g)) (sym forgot-is)
               ∙ forgetful-is f parts place y at_y key c at its empty unsent connections removed
-              ∙ (λ i. record (state_of (kept_of f)) { subscribers = put_at (state_of (kept_of f)).subscribers y.id (option_map (without_publisher p) (sym (receiver-stands place y at_y) i)) })
+              ∙ (λ i. record (state_of (kept_of f)) { subscribers = put_at (state_of (kept_of f)).subscribers y.id (option_map (without_publisher p) (sym (subscriber-stands f parts.parts place y at_y) i)) })
               ∙ ap (λ (r : ℕ). subscriber_changed (state_of (kept_of f)) r (without_publisher p)) (sym its)
               ∙ sym (ap (λ (b : Bool). cond b (state_of (kept_of f)) (subscriber_changed (state_of (kept_of f)) q (without_publisher p))) (box-numbers ∙ ap not none))
 
