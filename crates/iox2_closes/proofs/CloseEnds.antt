@@ -42,12 +42,13 @@ use Rattle.iox2_domain.proofs.lemmas.fields.KeptBooks.{kept-but}
 use Rattle.iox2_domain.proofs.lemmas.fields.Parts.{whole_of}
 use Rattle.iox2_domain.proofs.lemmas.releases.Leaving.{FreesMidway}
 use Rattle.iox2_domain.proofs.lemmas.fields.ConnectionEnds.{publisher-stands, subscriber-stands}
+use Rattle.iox2_domain.proofs.lemmas.receivers.DepartedEnds.{nothing-returned}
 use Rattle.iox2_closes.specs.Agreement.{IsOrphan, HasOwnedParts, KeepsMessages}
 use Rattle.iox2_closes.specs.Closes.{IsDeparted, is_empty_link}
 use Rattle.iox2_closes.proofs.OwnedParts.{due-parts}
 use Rattle.iox2_closes.proofs.KeptMessages.{keeps-trans, keeps-entries, keeps-complete}
 use Rattle.iox2_closes.proofs.Sheds.{sheds-closed}
-use Rattle.iox2_closes.proofs.CloseSteps.{box-numbers, link-empty, nothing-returned}
+use Rattle.iox2_closes.proofs.CloseSteps.{box-numbers, link-empty}
 use Rattle.iox2_closes.proofs.CloseWalk.{IsClosing}
 
 -- the machine's publisher, due
@@ -119,7 +120,7 @@ module _ {T U : Type 0} (f : Fields T U) (sound : IsDomain f) (place : ℕ) (y :
     by false e = e
     by true e =
         let no = link-empty c e in
-        let back = nothing-returned f' closing.parts k c at (subst (λ (xs : List (Option PublisherFields)). IsDeparted xs c) (sym closing.publishers) departed) in
+        let back = nothing-returned f' closing.parts.parts k c at (subst (λ (xs : List (Option PublisherFields)). IsDeparted xs c) (sym closing.publishers) departed) in
         let busy = closing.busy k c at departed in
         let some = busy.stands in
         absurd (omega (arith, some, ap (times busy.slot) no.0, ap (times busy.slot) no.1, ap (times busy.slot) back))
