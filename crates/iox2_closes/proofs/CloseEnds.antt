@@ -41,12 +41,14 @@ use Rattle.iox2_domain.specs.Reaches.{Reaches}
 use Rattle.iox2_domain.proofs.lemmas.fields.KeptBooks.{kept-but}
 use Rattle.iox2_domain.proofs.lemmas.fields.Parts.{whole_of}
 use Rattle.iox2_domain.proofs.lemmas.releases.Leaving.{FreesMidway}
+use Rattle.iox2_domain.proofs.lemmas.fields.ConnectionEnds.{publisher-stands, subscriber-stands}
+use Rattle.iox2_domain.proofs.lemmas.receivers.DepartedEnds.{nothing-returned}
 use Rattle.iox2_closes.specs.Agreement.{IsOrphan, HasOwnedParts, KeepsMessages}
 use Rattle.iox2_closes.specs.Closes.{IsDeparted, is_empty_link}
-use Rattle.iox2_closes.proofs.OwnedParts.{owned_parts_of, due-parts}
+use Rattle.iox2_closes.proofs.OwnedParts.{due-parts}
 use Rattle.iox2_closes.proofs.KeptMessages.{keeps-trans, keeps-entries, keeps-complete}
 use Rattle.iox2_closes.proofs.Sheds.{sheds-closed}
-use Rattle.iox2_closes.proofs.CloseSteps.{sender-stands, receiver-stands, box-numbers, link-empty, nothing-returned}
+use Rattle.iox2_closes.proofs.CloseSteps.{box-numbers, link-empty}
 use Rattle.iox2_closes.proofs.CloseWalk.{IsClosing}
 
 -- the machine's publisher, due
@@ -84,10 +86,10 @@ module _ {T U : Type 0} (f : Fields T U) (sound : IsDomain f) (place : ℕ) (y :
   at_z = closing.subscriber.1
 
   here : s.subscribers y.id ≡ Some port
-  here = receiver-stands f (owned_parts_of f sound) place y at_y
+  here = subscriber-stands f sound.parts place y at_y
 
   there : t.subscribers y.id ≡ Some ((subscriber_of f'.books f'.connections z).port)
-  there = ap t.subscribers (sym closing.subscriber.2) ∙ receiver-stands f' closing.parts place z at_z
+  there = ap t.subscribers (sym closing.subscriber.2) ∙ subscriber-stands f' closing.parts.parts place z at_z
 
   same-publishers : t.publishers ≡ s.publishers
   same-publishers = ap (λ (v : State T U). v.publishers) (closing.sheds).state
@@ -95,7 +97,7 @@ module _ {T U : Type 0} (f : Fields T U) (sound : IsDomain f) (place : ℕ) (y :
   -- a publisher that the machine doesn't have stands nowhere
   departed-from : (p : ℕ) → s.publishers p ≡ None → (c : Link) → c.home.publisher ≡ p → IsDeparted f.publishers c
   departed-from p gone c mine i x at_x same =
-      let no : None ≡ Some _ = sym gone ∙ ap s.publishers (sym (same ∙ mine)) ∙ sender-stands f (owned_parts_of f sound) i x at_x in absurd cc
+      let no : None ≡ Some _ = sym gone ∙ ap s.publishers (sym (same ∙ mine)) ∙ publisher-stands f sound.parts i x at_x in absurd cc
 
   -- nothing waits from one that is gone
   dropped : (p : ℕ) → s.publishers p ≡ None → has_data (t.mailboxes p y.id) ≡ false
@@ -118,7 +120,7 @@ module _ {T U : Type 0} (f : Fields T U) (sound : IsDomain f) (place : ℕ) (y :
     by false e = e
     by true e =
         let no = link-empty c e in
-        let back = nothing-returned f' closing.parts k c at (subst (λ (xs : List (Option PublisherFields)). IsDeparted xs c) (sym closing.publishers) departed) in
+        let back = nothing-returned f' closing.parts.parts k c at (subst (λ (xs : List (Option PublisherFields)). IsDeparted xs c) (sym closing.publishers) departed) in
         let busy = closing.busy k c at departed in
         let some = busy.stands in
         absurd (omega (arith, some, ap (times busy.slot) no.0, ap (times busy.slot) no.1, ap (times busy.slot) back))

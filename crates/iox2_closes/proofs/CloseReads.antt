@@ -26,11 +26,13 @@ use Rattle.iox2_domain.proofs.lemmas.creations.PublishersDue.{with_publishers_du
 use Rattle.iox2_domain.proofs.lemmas.fields.Standing.{some_is}
 use Rattle.iox2_closes.specs.Agreement.{IsOrphan, HasOwnedParts}
 use Rattle.iox2_closes.specs.Closes.{IsDeparted, IsBusy, IsLeftAt, IsStanding, FreesBook, ForgetsIfEmpty, LosesLeft, LosesWaiting, is_empty_link, shut_subscriber}
-use Rattle.iox2_closes.proofs.CloseSteps.{book, held-at, link-busy, link-empty, nothing-returned, stays-busy, forgot-parts, book-left, others-busy, forgets-empty}
+use Rattle.iox2_closes.proofs.CloseSteps.{book, link-busy, link-empty, stays-busy, forgot-parts, book-left, others-busy, forgets-empty}
 use Rattle.iox2_closes.proofs.FreedBooks.{can-go, frees}
 use Rattle.iox2_closes.proofs.CloseWalk.{IsClosing, closing-begins, closing-passes}
 use Rattle.iox2_closes.proofs.CloseKeys.{ExpiredBelow, ExpiredLeft, KeysLeft}
 use Rattle.iox2_domain.specs.OpenMarks.{IsUnmarkedReceiver}
+use Rattle.iox2_domain.proofs.lemmas.slots.PublisherBooks.{link-held}
+use Rattle.iox2_domain.proofs.lemmas.receivers.DepartedEnds.{nothing-returned}
 
 -- there is something
 pub some-of : {A : Type 0} (o : Option A) → IsSome o → (x : A) × (o ≡ Some x)
@@ -198,7 +200,7 @@ module _ {T U : Type 0} (f : Fields T U) (parts : HasOwnedParts f) (place key : 
       some n e false is = is
       some n e true is =
           let no = link-empty c is in
-          let back = nothing-returned f parts key c left.link_stands left.departed in
+          let back = nothing-returned f parts.parts key c left.link_stands left.departed in
           absurd (omega (arith, e, ap (λ (xs : List ℕ). length xs) no.0, ap (λ (xs : List ℕ). length xs) no.1, ap (λ (xs : List ℕ). length xs) back))
 
       by : (n : ℕ) → load c ≡ n → ((is_empty_link c ≡ true) × ForgetsConnection f place key mid) ⊎ ((is_empty_link c ≡ false) × (mid ≡ f))
@@ -225,7 +227,7 @@ module _ {T U : Type 0} (f : Fields T U) (parts : HasOwnedParts f) (place key : 
     held-book some f' settles = elim settles.outcome [
       | inl gone ↦
           let busy = link-busy c some in
-          let held = (held-at f parts key c left.link_stands settles.book (ap (get f.books) (sym book_is) ∙ settles.stands)).at busy.slot in
+          let held = (link-held f parts.parts key c left.link_stands settles.book (ap (get f.books) (sym book_is) ∙ settles.stands)).at busy.slot in
           let free = unused-book settles.book gone.0 busy.slot in
           let standing = busy.stands in
           absurd (omega (arith, held, free, standing))

@@ -1,42 +1,42 @@
 -- A subscriber loses what waits from a publisher that is gone, and forgets it.
-use Rattle.std.proofs.Common.{◌≡◌, ◌≢◌, ℕ, ◌<◌, ◌≤◌, Bool, true, false, not, cond, ◌&&◌, List, [], ◌∷◌, map, get_or, slice_set, refl, ap, sym, subst, ◌∙◌, inl, inr, arith}
-use Rattle.std.proofs.lemmas.Bool.{eq-eqb, ne_eqb}
-use Rattle.std.proofs.lemmas.List.Sums.{get_or-le-sum_by}
+use Rattle.std.proofs.Common.{◌≡◌, ◌≢◌, ℕ, ◌<◌, Bool, true, false, not, cond, ◌&&◌, List, [], ◌∷◌, map, get_or, slice_set, refl, ap, sym, subst, ◌∙◌, inl, inr, arith}
+use Rattle.std.proofs.lemmas.Bool.{ne_eqb}
 use Rattle.std.specs.Prelude.{IsSomeAnd}
 use Rattle.std.specs.declared.option.Option.{Option}
 use Rattle.std.specs.declared.option.Option.TheVariants.{None, Some}
-use Rattle.std.specs.Option.{option_map, option_map_or}
-use Rattle.std.specs.List.{sum_by}
+use Rattle.std.specs.Option.{option_map}
 use Rattle.slab.specs.Slab.{Slab, Updates, ContainsKey, get, with_value}
 use Rattle.iox2_store.specs.Link.{Link}
-use Rattle.iox2_store.specs.SlotBook.{Book, holders_at}
+use Rattle.iox2_store.specs.SlotBook.{Book}
 use Rattle.iox2_store.specs.machine.Mailbox.{Mailbox, has_numbers}
 use Rattle.iox2_store.specs.machine.Numbers.{is_nil, put_at}
-use Rattle.iox2_store.specs.machine.Records.{Publisher, Subscriber}
 use Rattle.iox2_store.specs.machine.State.{subscriber_changed}
 use Rattle.iox2_ends.specs.LookUp.{look_up}
-use Rattle.iox2_ends.specs.Counters.{times, stands, with_counters}
+use Rattle.iox2_ends.specs.Counters.{times, with_counters}
 use Rattle.iox2_ends.specs.Drops.{DropsWaiting, without_waiting}
 use Rattle.iox2_ends.specs.Mailboxes.{mailboxes_of, mailbox_of}
 use Rattle.iox2_ends.specs.Recounts.{Recounts}
 use Rattle.iox2_ends.specs.Reclaims.{IsHeld}
-use Rattle.iox2_ends.proofs.Counts.{stands-own, times-cons, one_if_same}
+use Rattle.iox2_ends.proofs.Counts.{times-cons, one_if_same}
 use Rattle.iox2_ends.proofs.DropSteps.{drops-recounts, drops-boxes}
-use Rattle.iox2_ends.proofs.LookUps.{look_up-found, look_up-nothing}
-use Rattle.iox2_ends.proofs.MailboxChanges.{within_if_some, mailbox-there, Updates-with_value}
+use Rattle.iox2_ends.proofs.LookUps.{look_up-nothing}
+use Rattle.iox2_ends.proofs.MailboxChanges.{mailbox-there, Updates-with_value}
 use Rattle.iox2_domain.specs.Departures.{key_forgotten}
 use Rattle.iox2_domain.specs.Ports.{PublisherFields, SubscriberFields}
-use Rattle.iox2_domain.specs.Kept.{Named, state_of, is_named}
-use Rattle.iox2_domain.specs.Fields.{Fields, kept_of, publisher_of, subscriber_of, is_book_of, numbers_of}
-use Rattle.iox2_domain.specs.Invariant.{IsBookOf, SenderHas, holders_of, is_publisher, is_subscriber}
+use Rattle.iox2_domain.specs.Kept.{state_of}
+use Rattle.iox2_domain.specs.Fields.{Fields, kept_of, numbers_of}
+use Rattle.iox2_domain.specs.Invariant.{IsBookOf, SenderHas, is_publisher}
 use Rattle.iox2_domain.specs.Updates.{changed_at}
-use Rattle.iox2_domain.proofs.lemmas.containers.LookUps.{look_up-map}
 use Rattle.iox2_domain.proofs.lemmas.containers.ChangedRecords.{changed-here}
 use Rattle.iox2_domain.proofs.lemmas.fields.Views.{mailboxes-are}
 use Rattle.iox2_domain.proofs.lemmas.fields.LostConnections.{IsEmptyLink}
 use Rattle.iox2_domain.proofs.lemmas.fields.Standing.{some_is}
 use Rattle.iox2_domain.proofs.lemmas.releases.Forgotten.{forgetting}
 use Rattle.iox2_domain.proofs.lemmas.slots.BookChanges.{book-others}
+use Rattle.iox2_domain.proofs.lemmas.fields.ConnectionEnds.{subscriber-stands}
+use Rattle.iox2_domain.proofs.lemmas.releases.Departed.{gone-in}
+use Rattle.iox2_domain.proofs.lemmas.slots.PublisherBooks.{its-book, link-held}
+use Rattle.iox2_domain.proofs.lemmas.receivers.DepartedEnds.{nothing-returned}
 use Rattle.iox2_closes.specs.Agreement.{IsOrphan, HasOwnedParts}
 use Rattle.iox2_closes.specs.Closes.{IsDeparted, IsBusy, LosesWaiting, FreesBook, ForgetsIfEmpty, is_empty_link, lost_from, forgotten_if_empty, without_publisher}
 use Rattle.iox2_closes.proofs.ClosedSubscribers.{forgetful-parts, forgetful-is}
@@ -77,30 +77,12 @@ link-empty c e = by (is_nil c.waiting) (is_nil c.borrowed) refl refl e where
 module _ {T U : Type 0} (f : Fields T U) (parts : HasOwnedParts f) where
   -- ---- ports and connections in the state
 
-  -- a publisher that stands somewhere is in the state
-  pub sender-stands : (i : ℕ) (x : PublisherFields) → get_or f.publishers i None ≡ Some x
-      → (state_of (kept_of f)).publishers x.id ≡ Some ((publisher_of f.books f.connections x).port)
-  sender-stands i x at =
-      ap (option_map (λ (z : Named Publisher). z.port))
-      (look_up-map (is_named x.id) (publisher_of f.books f.connections) f.publishers
-      ∙ ap (option_map (publisher_of f.books f.connections)) (look_up-found (is_publisher x.id) f.publishers i x (parts.parts.publisher_ids x.id) at (eq-eqb x.id x.id refl)))
-
-  -- so is a subscriber
-  pub receiver-stands : (i : ℕ) (y : SubscriberFields) → get_or f.subscribers i None ≡ Some y
-      → (state_of (kept_of f)).subscribers y.id ≡ Some ((subscriber_of f.books f.connections y).port)
-  receiver-stands i y at =
-      ap (option_map (λ (z : Named Subscriber). z.port))
-      (look_up-map (is_named y.id) (subscriber_of f.books f.connections) f.subscribers
-      ∙ ap (option_map (subscriber_of f.books f.connections)) (look_up-found (is_subscriber y.id) f.subscribers i y (parts.parts.subscriber_ids y.id) at (eq-eqb y.id y.id refl)))
-
   -- a publisher that stands nowhere is in neither
   pub departed-nowhere : (p : ℕ) → ((i : ℕ) (x : PublisherFields) → get_or f.publishers i None ≡ Some x → x.id ≢ p) → look_up (is_publisher p) f.publishers ≡ None
   departed-nowhere p gone = look_up-nothing (is_publisher p) f.publishers (λ i x at. ne_eqb x.id p (gone i x at))
 
   pub departed-absent : (p : ℕ) → ((i : ℕ) (x : PublisherFields) → get_or f.publishers i None ≡ Some x → x.id ≢ p) → (state_of (kept_of f)).publishers p ≡ None
-  departed-absent p gone =
-      ap (option_map (λ (z : Named Publisher). z.port))
-      (look_up-map (is_named p) (publisher_of f.books f.connections) f.publishers ∙ ap (option_map (publisher_of f.books f.connections)) (departed-nowhere p gone))
+  departed-absent p gone = gone-in f p (departed-nowhere p gone)
 
   module _ (key : ℕ) (c : Link) (at : get f.connections key ≡ Some c) where
     abbrev p : ℕ
@@ -118,21 +100,7 @@ module _ {T U : Type 0} (f : Fields T U) (parts : HasOwnedParts f) where
 
     -- its publisher's book
     pub book : IsBookOf f.books p c.home.book
-    book = parts.parts.names.at key c at
-
-    -- no slot stands there more often than its counter says
-    pub held-at : (b : Book) → get f.books c.home.book ≡ Some b → IsHeld b.holders c
-    held-at b at_b = record {
-      at = λ slot.
-          let part : stands p slot (Some c) ≤ sum_by (stands p slot) f.connections.slots =
-          rw at at (get_or-le-sum_by (stands p slot) f.connections.slots key None (within_if_some f.connections.slots key c at)) in
-          let found : holders_of f.books p slot ≡ holders_at b slot =
-          ap (λ o. option_map_or (λ (d : Book). holders_at d slot) o 0)
-          (look_up-found (is_book_of p) f.books.slots c.home.book b (parts.parts.books.one_each p) at_b (eq-eqb b.publisher p its)) in
-          omega (arith, part, found, parts.parts.counted.at p slot, stands-own p slot c refl);
-    } where
-      its : b.publisher ≡ p
-      its = let one : Some book.book ≡ Some b = sym book.stands ∙ at_b in let is : book.book ≡ b = cc in ap (λ (d : Book). d.publisher) (sym is) ∙ book.is_its
+    book = its-book f parts.parts key c at
 
     module _ (departed : IsDeparted f.publishers c) where
       -- its publisher's book is left
@@ -140,13 +108,6 @@ module _ {T U : Type 0} (f : Fields T U) (parts : HasOwnedParts f) where
       book-orphan = elim (parts.owners.at c.home.book book.book book.stands) [
         | inl has ↦ absurd (departed has.place has.publisher has.stands (has.is_its ∙ book.is_its))
         | inr orphan ↦ orphan
-      ]
-
-      -- nothing was given back there
-      pub nothing-returned : c.returned ≡ []
-      nothing-returned = elim (parts.parts.linked.returned key c at) [
-        | inl has ↦ absurd (departed c.home.publisher_place has.publisher has.stands has.is_its)
-        | inr none ↦ none
       ]
 
       -- ---- what waits there is lost
@@ -223,12 +184,12 @@ module _ {T U : Type 0} (f : Fields T U) (parts : HasOwnedParts f) where
           left = λ d at_d. (let one : Some d ≡ Some c = sym at_d ∙ at in cc, link-busy c some);
           books = λ k away. refl;
           held = λ b at_b. let busy = link-busy c some in
-              record { slot = busy.slot; in_use = let low = (held-at b at_b).at busy.slot in let some_slot = busy.stands in omega arith };
+              record { slot = busy.slot; in_use = let low = (link-held f parts.parts key c at b at_b).at busy.slot in let some_slot = busy.stands in omega arith };
         }
 
         module _ (none : is_empty_link c ≡ true) (connections : Slab Link) (removed : Updates f.connections connections key None) where
           empty : IsEmptyLink c
-          empty = let no = link-empty c none in record { waiting = no.0; borrowed = no.1; returned = nothing-returned }
+          empty = let no = link-empty c none in record { waiting = no.0; borrowed = no.1; returned = nothing-returned f parts.parts key c at departed }
 
           unsent : SenderHas f.publishers key c → ⊥
           unsent has = departed c.home.publisher_place has.publisher has.stands has.is_its
@@ -250,7 +211,7 @@ module _ {T U : Type 0} (f : Fields T U) (parts : HasOwnedParts f) where
           forgot-state =
               ap (λ (g : Fields T U). state_of (kept_of g)) (sym forgot-is)
               ∙ forgetful-is f parts place y at_y key c at its empty unsent connections removed
-              ∙ (λ i. record (state_of (kept_of f)) { subscribers = put_at (state_of (kept_of f)).subscribers y.id (option_map (without_publisher p) (sym (receiver-stands place y at_y) i)) })
+              ∙ (λ i. record (state_of (kept_of f)) { subscribers = put_at (state_of (kept_of f)).subscribers y.id (option_map (without_publisher p) (sym (subscriber-stands f parts.parts place y at_y) i)) })
               ∙ ap (λ (r : ℕ). subscriber_changed (state_of (kept_of f)) r (without_publisher p)) (sym its)
               ∙ sym (ap (λ (b : Bool). cond b (state_of (kept_of f)) (subscriber_changed (state_of (kept_of f)) q (without_publisher p))) (box-numbers ∙ ap not none))
 
@@ -320,7 +281,7 @@ module _ {T U : Type 0} (v f : Fields T U) (same : v ≡ f) (parts : HasOwnedPar
   -- it holds what stands in the connection
   pub book-holds : (c : Link) → get v.connections key ≡ Some c → (i : ℕ) → i ≡ c.home.book → (b : Book) → get v.books i ≡ Some b → IsSomeAnd (get v.connections key) (IsHeld b.holders)
   book-holds c at i is b at_b =
-      rw at (held-at f parts key c (found c at).0 b (ap (get f.books) (sym is) ∙ ap (λ (g : Fields T U). get g.books i) (sym same) ∙ at_b))
+      rw at (link-held f parts.parts key c (found c at).0 b (ap (get f.books) (sym is) ∙ ap (λ (g : Fields T U). get g.books i) (sym same) ∙ at_b))
 
   -- what waits there is lost
   pub loses-in : (c : Link) → get v.connections key ≡ Some c → (i : ℕ) → i ≡ c.home.book → (b b' : Book) → get v.books i ≡ Some b → b' ≡ with_counters b b'.holders

@@ -30,8 +30,9 @@ use Rattle.iox2_closes.proofs.OwnedParts.{owned_parts_of, left-held}
 use Rattle.iox2_closes.proofs.ClosedSubscribers.{shut, with_shut, shut-parts, shut-is}
 use Rattle.iox2_closes.proofs.KeptMessages.{keeps-trans}
 use Rattle.iox2_closes.proofs.Sheds.{Sheds, with_publishers, sheds-none, sheds-there, sheds-dropped, sheds-forgotten}
-use Rattle.iox2_closes.proofs.CloseSteps.{link-busy, receiver-stands, departed-absent, box-numbers}
+use Rattle.iox2_closes.proofs.CloseSteps.{link-busy, departed-absent, box-numbers}
 use Rattle.iox2_domain.specs.OpenMarks.{IsUnmarkedReceiver}
+use Rattle.iox2_domain.proofs.lemmas.fields.ConnectionEnds.{subscriber-stands}
 
 -- ---- what a domain begins with
 
@@ -60,13 +61,13 @@ module _ {T U : Type 0} (f : Fields T U) (sound : IsDomain f) where
     kept : (has : ReceiverHas f.subscribers key c) → (get_or has.subscriber.keys c.home.publisher_place None ≡ Some key) ⊎ Contains has.subscriber.expired key
         → has_numbers ((state_of (kept_of f)).mailboxes c.home.publisher c.home.subscriber) ≡ true
     kept has (inl placed) =
-        let well = sound.well_formed.subscribers has.subscriber.id _ (receiver-stands f parts c.home.subscriber_place has.subscriber has.stands) in
+        let well = sound.well_formed.subscribers has.subscriber.id _ (subscriber-stands f parts.parts c.home.subscriber_place has.subscriber has.stands) in
         ap (λ (q : ℕ). has_numbers ((state_of (kept_of f)).mailboxes c.home.publisher q)) (sym has.is_its)
         ∙ subst (λ (o : Option Publisher). MatchOption o (has_numbers ((state_of (kept_of f)).mailboxes c.home.publisher has.subscriber.id) ≡ true) (λ x. x.place ≡ c.home.publisher_place)) absent
         (well.ends_stand c.home.publisher_place c.home.publisher
         (occupant-receiver_ends f.connections has.subscriber.keys c.home.publisher_place ∙ ap (publisher_of_key f.connections) placed ∙ leads))
     kept has (inr among) =
-        let well = sound.well_formed.subscribers has.subscriber.id _ (receiver-stands f parts c.home.subscriber_place has.subscriber has.stands) in
+        let well = sound.well_formed.subscribers has.subscriber.id _ (subscriber-stands f parts.parts c.home.subscriber_place has.subscriber has.stands) in
         let there = listed-at has.subscriber.expired key among in
         ap (λ (q : ℕ). has_numbers ((state_of (kept_of f)).mailboxes c.home.publisher q)) (sym has.is_its)
         ∙ well.expired_kept c.home.publisher (contains-occupants (receiver_ends f.connections (map Some has.subscriber.expired)) c.home.publisher

@@ -15,10 +15,10 @@ use Rattle.iox2_domain.proofs.lemmas.fields.Standing.{some_is}
 use Rattle.iox2_domain.proofs.lemmas.releases.BookFreed.{contents-within, unused-book, used-book}
 use Rattle.iox2_domain.proofs.lemmas.slots.BookGone.{gone-parts, gone-state}
 use Rattle.iox2_domain.proofs.lemmas.slots.Messages.{lies_at, message_at-book, message_in-parts}
+use Rattle.iox2_domain.proofs.lemmas.slots.PublisherBooks.{link-held}
 use Rattle.iox2_closes.specs.Agreement.{IsOrphan, HasOwnedParts, KeepsMessages}
 use Rattle.iox2_closes.specs.Closes.{IsBusy, FreesBook}
 use Rattle.iox2_closes.proofs.KeptMessages.{keeps-same}
-use Rattle.iox2_closes.proofs.CloseSteps.{held-at}
 
 module _ {T U : Type 0} (f : Fields T U) (parts : HasOwnedParts f) (key : ℕ) (b : Book) (at : get f.books key ≡ Some b) (orphan : IsOrphan f b)
     (busy : (k : ℕ) (c : Link) → get f.connections k ≡ Some c → c.home.book ≡ key → IsBusy c) where
@@ -58,7 +58,7 @@ module _ {T U : Type 0} (f : Fields T U) (parts : HasOwnedParts f) (key : ℕ) (
         let here : c.home.book ≡ key = (parts.parts.books.one_each b.publisher).one c.home.book key named.book b named.stands at
         (eq-eqb named.book.publisher b.publisher (named.is_its ∙ mine)) (eq-eqb b.publisher b.publisher refl) in
         let some = busy k c at_c here in
-        let covered = (held-at f parts k c at_c b (ap (get f.books) here ∙ at)).at some.slot in
+        let covered = (link-held f parts.parts k c at_c b (ap (get f.books) here ∙ at)).at some.slot in
         let standing = some.stands in
         let free = unused some.slot in
         omega arith

@@ -33,7 +33,7 @@ module _ {T U : Type 0} (f g : Fields T U) (sound : IsDomain f) (kept : Kept T U
   publisher-close-shows found closes x at =
       let machine : Publisher = (publisher_of f.books f.connections found.0).port in
       let same : machine ≡ x =
-      same_Some machine x (sym (publisher-stands f sound place found.0 found.1) ∙ ap (state_of (kept_of f)).publishers found.2 ∙ ap (λ (t : State T U). t.publishers id) (sym here.state) ∙ at) in
+      same_Some machine x (sym (publisher-stands f sound.parts place found.0 found.1) ∙ ap (state_of (kept_of f)).publishers found.2 ∙ ap (λ (t : State T U). t.publishers id) (sym here.state) ∙ at) in
       let reached : Reaches f g (publisher_closed s id x) =
       subst (λ (t : State T U). Reaches f g (publisher_closed t id x)) (sym here.state)
       (subst (λ (z : Publisher). Reaches f g (publisher_closed (state_of (kept_of f)) id z)) same
@@ -47,7 +47,7 @@ module _ {T U : Type 0} (f g : Fields T U) (sound : IsDomain f) (kept : Kept T U
   subscriber-close-shows found closes y at =
       let machine : Subscriber = (subscriber_of f.books f.connections found.0).port in
       let same : machine ≡ y =
-      same_Some machine y (sym (subscriber-stands f sound place found.0 found.1) ∙ ap (state_of (kept_of f)).subscribers found.2 ∙ ap (λ (t : State T U). t.subscribers id) (sym here.state) ∙ at) in
+      same_Some machine y (sym (subscriber-stands f sound.parts place found.0 found.1) ∙ ap (state_of (kept_of f)).subscribers found.2 ∙ ap (λ (t : State T U). t.subscribers id) (sym here.state) ∙ at) in
       let reached : Reaches f g (subscriber_closed s id y) =
       subst (λ (t : State T U). Reaches f g (subscriber_closed t id y)) (sym here.state)
       (subst (λ (z : Subscriber). Reaches f g (subscriber_closed (state_of (kept_of f)) id z)) same

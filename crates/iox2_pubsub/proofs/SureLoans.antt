@@ -77,7 +77,7 @@ module _ {T U : Type 0} where
         → (e : LoanError) → ((user_header : U) → GrantLoan ample_memory user_header false 1 state x.id state (Some e)) → ⊥
     unrefused publisher its sure e refuses =
         let stands : state.publishers x.id ≡ Some sure.port = ap state.publishers its ∙ sure.stands in
-        let same : (publisher_of f.books f.connections x).port ≡ sure.port = same_Some _ _ (sym (publisher-stands f sound i x at) ∙ stands) in
+        let same : (publisher_of f.books f.connections x).port ≡ sure.port = same_Some _ _ (sym (publisher-stands f sound.parts i x at) ∙ stands) in
         let slots : x.slots ≡ (sure.port).slots = ap (λ (y : Publisher). y.slots) same in
         let some : 0 < (sure.port).slots =
         some_slot ((f.config).max_subscribers * (buffer_limit f.config + (f.config).subscriber_max_borrowed_samples) + (f.config).history_size)

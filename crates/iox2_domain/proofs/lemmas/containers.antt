@@ -2,6 +2,7 @@
 pub mod LookUps
 pub mod ChangedRecords
 pub mod RemovedPorts
+pub mod MappedPorts
 pub mod SetRecords
 pub mod MapSteps
 pub mod Placed

@@ -1,5 +1,4 @@
 -- A subscriber's update, whichever publishers were closed.
-pub mod PortsStanding
 pub mod DepartedEnds
 pub mod LeftEnds
 pub mod LeftStates

@@ -78,8 +78,8 @@ module _ {T U : Type 0} (f : Fields T U) (sound : IsDomain f) (i : ℕ) (x : Pub
       let leads : LeadsTo (receiver_ends f.connections (map Some y.expired)) x.id =
       (idx, occupant-receiver_ends f.connections (map Some y.expired) idx ∙ ap (publisher_of_key f.connections) at_key ∙ ap (option_map (λ (d : Link). d.home.publisher)) at_c ∙ ap Some mine) in
       let gone : (state_of (kept_of f)).publishers x.id ≡ None =
-      (sound.well_formed.subscribers y.id _ (subscriber-stands f sound j y at_y)).expired_gone x.id (contains-occupants _ x.id leads) in
-      let no : None ≡ Some ((publisher_of f.books f.connections x).port) = sym gone ∙ publisher-stands f sound i x here in
+      (sound.well_formed.subscribers y.id _ (subscriber-stands f sound.parts j y at_y)).expired_gone x.id (contains-occupants _ x.id leads) in
+      let no : None ≡ Some ((publisher_of f.books f.connections x).port) = sym gone ∙ publisher-stands f sound.parts i x here in
       absurd cc
 
   -- the subscriber of a connection has it at the publisher's place
@@ -125,7 +125,7 @@ module _ {T U : Type 0} (f : Fields T U) (sound : IsDomain f) (i : ℕ) (x : Pub
           → z ≡ (subscriber_of f.books f.connections y).port → (contains z.expired x.id ≡ true) ⊎ LeadsTo z.ends x.id → IsJoined key c
       at_place z found j y at_y its is (inl among) =
           absurd (let gone : (state_of (kept_of f)).publishers x.id ≡ None = (sound.well_formed.subscribers c.home.subscriber z found).expired_gone x.id among in
-          let no : None ≡ Some ((publisher_of f.books f.connections x).port) = sym gone ∙ publisher-stands f sound i x here in cc)
+          let no : None ≡ Some ((publisher_of f.books f.connections x).port) = sym gone ∙ publisher-stands f sound.parts i x here in cc)
       at_place z found j y at_y its is (inr leads) =
           let place : j ≡ c.home.subscriber_place = (sound.parts.linked.knows.at key j c (details_of y) at (map-at details_of f.subscribers j ∙ ap (option_map details_of) at_y) its).0 in
           let end : publisher_of_key f.connections (get_or y.keys leads.0 None) ≡ Some x.id =

@@ -89,7 +89,7 @@ module _ {T U : Type 0} (f : Fields T U) (sound : IsDomain f) (i : ℕ) (x : Pub
           let its : y.id ≡ c.home.subscriber = eqb-true y.id c.home.subscriber there.2 in
           let stands : there.0 ≡ c.home.subscriber_place = (sound.parts.linked.knows.at key there.0 c (details_of y) at_c (map-at details_of f.subscribers there.0 ∙ ap (option_map details_of) there.1) its).0 in
           let end : is_port (occupant (subscriber_of f.books f.connections y).port.ends x.place) x.id ≡ is_port (get_or y.keys c.home.publisher_place None) key =
-          ap (λ (n : ℕ). is_port (occupant (subscriber_of f.books f.connections y).port.ends n) x.id) (publisher-place f sound i x here)
+          ap (λ (n : ℕ). is_port (occupant (subscriber_of f.books f.connections y).port.ends n) x.id) (publisher-place f sound.parts sound.well_formed i x here)
           ∙ ap (λ (o : Option ℕ). is_port o x.id) (occupant-receiver_ends f.connections y.keys i)
           ∙ sym (end-is there.0 key y c there.1 at_c mine its (get_or y.keys i None) refl)
           ∙ ap (λ (n : ℕ). is_port (get_or y.keys n None) key) (sym place) in

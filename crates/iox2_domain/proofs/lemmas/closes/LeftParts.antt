@@ -59,7 +59,7 @@ module _ {T U : Type 0} (f : Fields T U) (sound : IsDomain f) (i : ℕ) (x : Pub
     | inl same ↦ absurd (let no : None ≡ Some y = sym (set-none f.publishers i) ∙ ap (λ (n : ℕ). get_or after.publishers n None) (sym same) ∙ at_y in cc)
     | inr away ↦
         let stood : get_or f.publishers k None ≡ Some y = sym (get_or-set_other f.publishers i k None None away) ∙ at_y in
-        (away, stood, λ same. away (one-publisher f sound k i y x stood here same))
+        (away, stood, λ same. away (one-publisher f sound.parts k i y x stood here same))
   ]
 
   -- another publisher still stands
@@ -410,7 +410,7 @@ module _ {T U : Type 0} (f : Fields T U) (sound : IsDomain f) (i : ℕ) (x : Pub
 
   gone : IsGone after.next_port after.publishers x.id
   gone = record {
-    known = (sound.well_formed.publishers x.id _ (publisher-stands f sound i x here)).is_known;
+    known = (sound.well_formed.publishers x.id _ (publisher-stands f sound.parts i x here)).is_known;
     absent = λ k y at_y. (publisher-was k y at_y).2;
   }
 
@@ -421,7 +421,7 @@ module _ {T U : Type 0} (f : Fields T U) (sound : IsDomain f) (i : ℕ) (x : Pub
       place = its.place;
       publisher = its.publisher;
       stands = publisher-still its.place its.publisher its.stands (λ same.
-          let place : its.place ≡ i = one-publisher f sound its.place i its.publisher x its.stands here same in
+          let place : its.place ≡ i = one-publisher f sound.parts its.place i its.publisher x its.stands here same in
           let is : Some its.publisher ≡ Some x = sym its.stands ∙ ap (λ (n : ℕ). get_or f.publishers n None) place ∙ here in
           let one : its.publisher ≡ x = cc in
           away (sym its.has ∙ ap (λ (z : PublisherFields). z.book) one));

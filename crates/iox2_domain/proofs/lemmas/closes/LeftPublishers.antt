@@ -123,5 +123,5 @@ module _ {T U : Type 0} (f : Fields T U) (sound : IsDomain f) (i : ℕ) (x : Pub
   pub places-left : ids (map (option_map (publisher_of f.books new)) (slice_set f.publishers i None)) ≡ vacated x.id (state_of (kept_of f)).publisher_places
   places-left =
       ids-are new (slice_set f.publishers i None)
-      ∙ vacated-one x.id f.publishers i x here (eq-eqb x.id x.id refl) (λ k y at_y away. ne_eqb y.id x.id (λ same. away (one-publisher f sound k i y x at_y here same)))
+      ∙ vacated-one x.id f.publishers i x here (eq-eqb x.id x.id refl) (λ k y at_y away. ne_eqb y.id x.id (λ same. away (one-publisher f sound.parts k i y x at_y here same)))
       ∙ ap (vacated x.id) (sym (ids-are f.connections f.publishers))

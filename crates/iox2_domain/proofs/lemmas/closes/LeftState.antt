@@ -161,7 +161,7 @@ module _ {T U : Type 0} (f : Fields T U) (sound : IsDomain f) (i : ℕ) (x : Pub
   pub left-reaches : IsUnmarkedSender f.connections i → ReachesBut x.book f g (publisher_closed before x.id (leaver f sound i x here))
   left-reaches unmarked = record {
     agrees = left-sound f sound i x here b at new left holders slots unmarked
-        (subst IsWellFormed (sym left-is) (publisher_closed_keeps before sound.well_formed x.id (leaver f sound i x here) (publisher-stands f sound i x here))) left-keeps;
+        (subst IsWellFormed (sym left-is) (publisher_closed_keeps before sound.well_formed x.id (leaver f sound i x here) (publisher-stands f sound.parts i x here))) left-keeps;
     state = left-is;
     entries = left-entries;
   }

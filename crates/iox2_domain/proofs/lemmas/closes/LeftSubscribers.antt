@@ -95,7 +95,7 @@ module _ {T U : Type 0} (f : Fields T U) (sound : IsDomain f) (i : ℕ) (x : Pub
 
   module _ (j : ℕ) (y : SubscriberFields) (at_y : get_or f.subscribers j None ≡ Some y) where
     well : SubscriberIsWellFormed before y.id ((subscriber_of f.books f.connections y).port)
-    well = sound.well_formed.subscribers y.id _ (subscriber-stands f sound j y at_y)
+    well = sound.well_formed.subscribers y.id _ (subscriber-stands f sound.parts j y at_y)
 
     -- what the key at a place of it leads to
     connection : (place key : ℕ) → get_or y.keys place None ≡ Some key → (c : Link) × (get f.connections key ≡ Some c) × IsReceivers y.id (f.config).subscriber_max_borrowed_samples c
@@ -183,7 +183,7 @@ module _ {T U : Type 0} (f : Fields T U) (sound : IsDomain f) (i : ℕ) (x : Pub
     expired-connected : (p : ℕ) → contains expired_ids p ≡ true → is_connected gone y.id p ≡ true
     expired-connected p among =
         still-connected y.id p (λ same. let absent : before.publishers x.id ≡ None = ap before.publishers (sym same) ∙ well.expired_gone p among in
-        let clash : None ≡ Some ((publisher_of f.books f.connections x).port) = sym absent ∙ publisher-stands f sound i x here in absurd cc)
+        let clash : None ≡ Some ((publisher_of f.books f.connections x).port) = sym absent ∙ publisher-stands f sound.parts i x here in absurd cc)
         ∙ or_right (is_some (before.publishers p)) (has_numbers (before.mailboxes p y.id)) (well.expired_kept p among)
 
     expired-left : occupants (receiver_ends new (map Some y.expired)) ≡ filter (is_connected gone y.id) expired_ids

@@ -36,7 +36,7 @@ module _ {T U : Type 0} (f : Fields T U) (sound : IsDomain f) (i : ℕ) (x : Pub
     n = numbers_of f.books x.id slot
 
     standing : (state_of (kept_of f)).publishers x.id ≡ Some ((publisher_of f.books f.connections x).port)
-    standing = publisher-stands f sound i x here
+    standing = publisher-stands f sound.parts i x here
 
     out : contains (map (numbers_of f.books x.id) x.loans) n ≡ true
     out = contains-map (numbers_of f.books x.id) x.loans slot (times-stands slot x.loans some)

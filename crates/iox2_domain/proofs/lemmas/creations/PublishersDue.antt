@@ -1,5 +1,5 @@
 -- Every publisher becomes due for an update.
-use Rattle.std.proofs.Common.{◌≡◌, ℕ, List, [], ◌∷◌, map, Bool, true, false, cond, eqb, get_or, refl, ap, sym, subst, ◌∙◌, inl, inr}
+use Rattle.std.proofs.Common.{◌≡◌, ℕ, map, true, get_or, refl, ap, sym, subst, ◌∙◌, inl, inr}
 use Rattle.std.specs.declared.option.Option.{Option}
 use Rattle.std.specs.declared.option.Option.TheVariants.{None, Some}
 use Rattle.std.specs.Option.{option_map}
@@ -7,14 +7,14 @@ use Rattle.iox2_store.specs.Link.{Link}
 use Rattle.iox2_store.specs.machine.Records.{Publisher}
 use Rattle.iox2_store.specs.machine.State.{State, publishers_due}
 use Rattle.iox2_store.specs.Stored.{IsHeldMessage}
-use Rattle.iox2_ends.specs.LookUp.{look_up}
 use Rattle.iox2_laws.proofs.PortChanges.{publishers_due_keeps}
 use Rattle.iox2_domain.specs.Ports.{PublisherFields, due}
-use Rattle.iox2_domain.specs.Kept.{Named, state_of, port_named, ids, is_named}
+use Rattle.iox2_domain.specs.Kept.{state_of, port_named}
 use Rattle.iox2_domain.specs.Fields.{Fields, kept_of, publisher_of}
 use Rattle.iox2_domain.specs.Invariant.{IsDomain, IsOwned, IsGone, SenderHas, HasParts}
 use Rattle.iox2_domain.specs.Midway.{IsMidway}
 use Rattle.iox2_domain.proofs.lemmas.containers.LookUps.{map-at, viewed}
+use Rattle.iox2_domain.proofs.lemmas.containers.MappedPorts.{mapped-ids, mapped-ports}
 use Rattle.iox2_domain.proofs.lemmas.fields.ForgottenKeys.{ForgetsSenderKeys, Forgets, forgotten-parts, owned-still, gone-still}
 use Rattle.iox2_domain.proofs.lemmas.fields.Parts.{whole_of}
 use Rattle.iox2_domain.proofs.lemmas.fields.Views.{KeepsHeld, held-before}
@@ -29,33 +29,14 @@ abbrev due_publisher : Publisher → Publisher
 due_publisher x = record x { is_due = true }
 
 module _ {T U : Type 0} (f : Fields T U) where
-  named-due : (p : ℕ) (xs : List (Option PublisherFields))
-      → port_named p (map (option_map (publisher_of f.books f.connections)) (map (option_map due) xs))
-      ≡ option_map due_publisher (port_named p (map (option_map (publisher_of f.books f.connections)) xs))
-  named-due p [] = refl
-  named-due p (None ∷ xs) = named-due p xs
-  named-due p (Some x ∷ xs) = by (eqb x.id p) (named-due p xs) where
-    tail : List (Option (Named Publisher)) → Option (Named Publisher)
-    tail ys = look_up (is_named p) ys
-
-    by : (b : Bool) → port_named p (map (option_map (publisher_of f.books f.connections)) (map (option_map due) xs))
-        ≡ option_map due_publisher (port_named p (map (option_map (publisher_of f.books f.connections)) xs))
-        → option_map (λ (y : Named Publisher). y.port) (cond b (Some (publisher_of f.books f.connections (due x))) (look_up (is_named p) (map (option_map (publisher_of f.books f.connections)) (map (option_map due) xs))))
-        ≡ option_map due_publisher (option_map (λ (y : Named Publisher). y.port) (cond b (Some (publisher_of f.books f.connections x)) (look_up (is_named p) (map (option_map (publisher_of f.books f.connections)) xs))))
-    by true e = refl
-    by false e = e
-
-  ids-due : (xs : List (Option PublisherFields))
-      → ids (map (option_map (publisher_of f.books f.connections)) (map (option_map due) xs)) ≡ ids (map (option_map (publisher_of f.books f.connections)) xs)
-  ids-due [] = refl
-  ids-due (None ∷ xs) = ap (λ ys. None ∷ ys) (ids-due xs)
-  ids-due (Some x ∷ xs) = ap (λ ys. Some x.id ∷ ys) (ids-due xs)
+  named-due : (p : ℕ) → (state_of (kept_of (with_publishers_due f))).publishers p ≡ option_map due_publisher ((state_of (kept_of f)).publishers p)
+  named-due p = mapped-ports (publisher_of f.books f.connections) due due_publisher (λ x. refl) p f.publishers
 
   -- the machine's step
   pub publishers_due-are : state_of (kept_of (with_publishers_due f)) ≡ publishers_due (state_of (kept_of f))
-  publishers_due-are = λ i. record (state_of (kept_of f)) { publishers = all i; publisher_places = ids-due f.publishers i } where
+  publishers_due-are = λ i. record (state_of (kept_of f)) { publishers = all i; publisher_places = mapped-ids (publisher_of f.books f.connections) due due_publisher (λ x. refl) f.publishers i } where
     all : (state_of (kept_of (with_publishers_due f))).publishers ≡ (publishers_due (state_of (kept_of f))).publishers
-    all = fun_ext (λ p. named-due p f.publishers)
+    all = fun_ext named-due
 
   pub is_due : (i : ℕ) (x : PublisherFields) → get_or (map (option_map due) f.publishers) i None ≡ Some x
       → (y : PublisherFields) × (get_or f.publishers i None ≡ Some y) × (x ≡ due y)
@@ -95,7 +76,7 @@ module _ {T U : Type 0} (f : Fields T U) where
   pub held-due : (p n : ℕ) → IsHeldMessage (state_of (kept_of (with_publishers_due f))) p n → IsHeldMessage (state_of (kept_of f)) p n
   held-due p n held =
       held-before (state_of (kept_of f)) (state_of (kept_of (with_publishers_due f))) p n (λ q. refl)
-      (λ y at. was p y (port_named p (kept_of f).publishers) refl (sym (named-due p f.publishers) ∙ at)) held
+      (λ y at. was p y (port_named p (kept_of f).publishers) refl (sym (named-due p) ∙ at)) held
     where
       was : (p : ℕ) (y : Publisher) (o : Option Publisher) → (state_of (kept_of f)).publishers p ≡ o → option_map due_publisher o ≡ Some y
           → (x : Publisher) × ((state_of (kept_of f)).publishers p ≡ Some x) × KeepsHeld x y

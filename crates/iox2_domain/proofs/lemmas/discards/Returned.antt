@@ -120,7 +120,7 @@ module _ {T U : Type 0} (f : Fields T U) (sound : IsDomain f) (i : ℕ) (x : Pub
           }))
           ∙ ap (λ ns. Some (record (publisher_of f.books f.connections x).port { loans = ns }))
           (map-without (numbers_of f.books x.id) slot n (loan-number f sound i x here slot n l lies) x.loans (loan-slot f sound i x here slot n l lies))
-          ∙ sym (ap (option_map without_loan) (publisher-stands f sound i x here))
+          ∙ sym (ap (option_map without_loan) (publisher-stands f sound.parts i x here))
 
   -- ---- the parts
 
@@ -206,7 +206,7 @@ module _ {T U : Type 0} (f : Fields T U) (sound : IsDomain f) (i : ℕ) (x : Pub
     where
       standing : (y : Publisher) → (loan_discarded was n l).publishers q ≡ Some y → (z : Publisher) × (was.publishers q ≡ Some z) × KeepsHeld z y
       standing y e =
-          let stood = ap was.publishers (loan-of f sound i x here slot n l lies) ∙ publisher-stands f sound i x here in
+          let stood = ap was.publishers (loan-of f sound i x here slot n l lies) ∙ publisher-stands f sound.parts i x here in
           let port : Publisher = (publisher_of f.books f.connections x).port in
           found_put was.publishers l.publisher (without_loan port) (λ j z. (v : Publisher) × (was.publishers j ≡ Some v) × KeepsHeld v z) q y
           (sym (ap (λ (o : Option Publisher). put_at was.publishers l.publisher (option_map without_loan o) q) stood) ∙ e)

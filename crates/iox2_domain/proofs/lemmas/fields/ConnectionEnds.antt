@@ -1,4 +1,4 @@
--- The ports at the ends of a domain's connections were made before.
+-- Ports that stand somewhere are in the state, and the ports at the ends of a domain's connections were made before.
 use Rattle.std.proofs.Common.{◌≡◌, ℕ, zero, suc, ◌<◌, List, [], ◌∷◌, get_or, refl, ap, subst, ◌∙◌, inl, inr, ◌⊎◌}
 use Rattle.std.proofs.lemmas.Bool.{eq-eqb}
 use Rattle.std.specs.declared.option.Option.{Option}
@@ -13,7 +13,7 @@ use Rattle.iox2_ends.proofs.LookUps.{look_up-found}
 use Rattle.iox2_domain.specs.Ports.{PublisherFields, SubscriberFields}
 use Rattle.iox2_domain.specs.Kept.{Named, state_of, is_named}
 use Rattle.iox2_domain.specs.Fields.{Fields, kept_of, publisher_of, subscriber_of}
-use Rattle.iox2_domain.specs.Invariant.{IsDomain, SenderHas, ReceiverHas, is_publisher, is_subscriber}
+use Rattle.iox2_domain.specs.Invariant.{IsDomain, HasParts, SenderHas, ReceiverHas, is_publisher, is_subscriber}
 use Rattle.iox2_domain.proofs.lemmas.containers.LookUps.{look_up-map}
 
 -- what a publisher's end leads to, by its key
@@ -23,14 +23,14 @@ occupant-sender_ends connections [] (suc i) = refl
 occupant-sender_ends connections (key ∷ keys) zero = refl
 occupant-sender_ends connections (key ∷ keys) (suc i) = occupant-sender_ends connections keys i
 
-module _ {T U : Type 0} (f : Fields T U) (sound : IsDomain f) where
+module _ {T U : Type 0} (f : Fields T U) (parts : HasParts f) where
   -- a publisher that stands somewhere is in the state
   pub publisher-stands : (i : ℕ) (x : PublisherFields) → get_or f.publishers i None ≡ Some x
       → (state_of (kept_of f)).publishers x.id ≡ Some ((publisher_of f.books f.connections x).port)
   publisher-stands i x at =
       ap (option_map (λ (z : Named Publisher). z.port))
       (look_up-map (is_named x.id) (publisher_of f.books f.connections) f.publishers
-      ∙ ap (option_map (publisher_of f.books f.connections)) (look_up-found (is_publisher x.id) f.publishers i x (sound.parts.publisher_ids x.id) at (eq-eqb x.id x.id refl)))
+      ∙ ap (option_map (publisher_of f.books f.connections)) (look_up-found (is_publisher x.id) f.publishers i x (parts.publisher_ids x.id) at (eq-eqb x.id x.id refl)))
 
   -- a subscriber that stands somewhere is in the state
   pub subscriber-stands : (i : ℕ) (y : SubscriberFields) → get_or f.subscribers i None ≡ Some y
@@ -38,8 +38,9 @@ module _ {T U : Type 0} (f : Fields T U) (sound : IsDomain f) where
   subscriber-stands i y at =
       ap (option_map (λ (z : Named Subscriber). z.port))
       (look_up-map (is_named y.id) (subscriber_of f.books f.connections) f.subscribers
-      ∙ ap (option_map (subscriber_of f.books f.connections)) (look_up-found (is_subscriber y.id) f.subscribers i y (sound.parts.subscriber_ids y.id) at (eq-eqb y.id y.id refl)))
+      ∙ ap (option_map (subscriber_of f.books f.connections)) (look_up-found (is_subscriber y.id) f.subscribers i y (parts.subscriber_ids y.id) at (eq-eqb y.id y.id refl)))
 
+module _ {T U : Type 0} (f : Fields T U) (sound : IsDomain f) where
   -- the subscriber of a connection was made before
   pub subscriber-known : (key : ℕ) (c : Link) → get f.connections key ≡ Some c → c.home.subscriber < f.next_port
   subscriber-known key c at = by (sound.parts.linked.ends key c at) where
@@ -50,8 +51,8 @@ module _ {T U : Type 0} (f : Fields T U) (sound : IsDomain f) where
         occupant-sender_ends f.connections x.keys c.home.subscriber_place
         ∙ ap (subscriber_of_key f.connections) has.has
         ∙ ap (option_map (λ (d : Link). d.home.subscriber)) at in
-        (sound.well_formed.publishers x.id _ (publisher-stands c.home.publisher_place x has.stands)).ends_known c.home.subscriber (c.home.subscriber_place, leads)
+        (sound.well_formed.publishers x.id _ (publisher-stands f sound.parts c.home.publisher_place x has.stands)).ends_known c.home.subscriber (c.home.subscriber_place, leads)
     by (inr has) =
         let y = has.subscriber in
-        let low : y.id < f.next_port = (sound.well_formed.subscribers y.id _ (subscriber-stands c.home.subscriber_place y has.stands)).is_known in
+        let low : y.id < f.next_port = (sound.well_formed.subscribers y.id _ (subscriber-stands f sound.parts c.home.subscriber_place y has.stands)).is_known in
         subst (λ (q : ℕ). q < f.next_port) has.is_its low

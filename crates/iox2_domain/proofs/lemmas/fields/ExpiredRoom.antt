@@ -69,7 +69,7 @@ module _ {T U : Type 0} (f : Fields T U) (sound : IsDomain f) where
   pub room-here : (j : ℕ) (y : SubscriberFields) → get_or f.subscribers j None ≡ Some y → connection_count f.connections y.id < y.expired_room
       → (k : ℕ) (z : SubscriberFields) → get_or f.subscribers k None ≡ Some z → z.id ≡ y.id → connection_count f.connections z.id < z.expired_room
   room-here j y at_y more k z at_z same =
-      let place : k ≡ j = one-subscriber f sound k j z y at_z at_y same in
+      let place : k ≡ j = one-subscriber f sound.parts k j z y at_z at_y same in
       let one : Some z ≡ Some y = sym at_z ∙ ap (λ (n : ℕ). get_or f.subscribers n None) place ∙ at_y in
       let is : z ≡ y = cc in
       rw is more

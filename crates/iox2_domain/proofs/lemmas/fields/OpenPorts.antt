@@ -29,7 +29,7 @@ module _ {T U : Type 0} (f : Fields T U) (id : ℕ) where
   -- one that stands somewhere is
   pub present-publisher : IsDomain f → (i : ℕ) (x : PublisherFields) → get_or f.publishers i None ≡ Some x → x.id ≡ id → HoldsPublisher (state_of (kept_of f)) id
   present-publisher sound i x at is =
-      ((publisher_of f.books f.connections x).port, subst (λ (p : ℕ). (state_of (kept_of f)).publishers p ≡ Some ((publisher_of f.books f.connections x).port)) is (publisher-stands f sound i x at))
+      ((publisher_of f.books f.connections x).port, subst (λ (p : ℕ). (state_of (kept_of f)).publishers p ≡ Some ((publisher_of f.books f.connections x).port)) is (publisher-stands f sound.parts i x at))
 
   -- so a search tells which
   pub publisher-live : IsDomain f → (found : Option ℕ)
@@ -49,7 +49,7 @@ module _ {T U : Type 0} (f : Fields T U) (id : ℕ) where
 
   module _ (sound : IsDomain f) (i : ℕ) (y : SubscriberFields) (at : get_or f.subscribers i None ≡ Some y) (is : y.id ≡ id) where
     stands : (state_of (kept_of f)).subscribers id ≡ Some ((subscriber_of f.books f.connections y).port)
-    stands = subst (λ (q : ℕ). (state_of (kept_of f)).subscribers q ≡ Some ((subscriber_of f.books f.connections y).port)) is (subscriber-stands f sound i y at)
+    stands = subst (λ (q : ℕ). (state_of (kept_of f)).subscribers q ≡ Some ((subscriber_of f.books f.connections y).port)) is (subscriber-stands f sound.parts i y at)
 
     -- one that stands somewhere is live where it is open
     pub open-subscriber : y.is_open ≡ true → HoldsSubscriber (state_of (kept_of f)) id

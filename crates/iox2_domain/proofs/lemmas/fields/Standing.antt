@@ -1,30 +1,30 @@
--- Where ports stand, and to whom their connections lead.
-use Rattle.std.proofs.Common.{◌≡◌, ℕ, zero, suc, List, [], ◌∷◌, map, length, true, false, Bool, ◌&&◌, cond, get_or, refl, ap, sym, ◌∙◌, ◌⊎◌, inl, inr, subst}
+-- Where ports stand, and to whom their connections lead, whichever ports were closed.
+use Rattle.std.proofs.Common.{◌≡◌, ◌≢◌, ℕ, zero, suc, ◌<◌, List, [], ◌∷◌, map, length, true, false, Bool, cond, get_or, refl, ap, sym, subst, ◌∙◌, ◌⊎◌, inl, inr, arith}
 use Rattle.std.proofs.lemmas.Bool.{eq-eqb, eqb-true}
 use Rattle.std.proofs.lemmas.List.{length-map}
-use Rattle.std.proofs.lemmas.Option.{same_Some, none-some}
-use Rattle.std.specs.Prelude.{Contains, ◌<◌}
-use Rattle.std.proofs.Common.{arith}
-use Rattle.std.proofs.lemmas.List.Elements.{at_from_Contains}
+use Rattle.std.proofs.lemmas.Option.{same_Some}
+use Rattle.std.specs.Prelude.{Contains}
 use Rattle.std.specs.declared.option.Option.{Option}
 use Rattle.std.specs.declared.option.Option.TheVariants.{None, Some}
 use Rattle.std.specs.Option.{option_map, IsSomeAnd}
 use Rattle.slab.specs.Slab.{Slab, get}
 use Rattle.iox2_store.specs.Link.{Link}
-use Rattle.iox2_store.specs.machine.Places.{occupant, is_port}
+use Rattle.iox2_store.specs.machine.Numbers.{contains}
+use Rattle.iox2_store.specs.machine.Places.{occupant, occupants, is_port}
 use Rattle.iox2_store.specs.machine.Records.{Publisher, Subscriber}
-use Rattle.iox2_store.specs.machine.WellFormed.{publisher_place, subscriber_place}
+use Rattle.iox2_store.specs.machine.WellFormed.{IsWellFormed, publisher_place, subscriber_place}
+use Rattle.iox2_store.proofs.LinkLemmas.{contains-from}
+use Rattle.iox2_laws.proofs.NumberLemmas.{contains_in_cons, contains_first, contains_later}
 use Rattle.iox2_ends.specs.LookUp.{look_up}
 use Rattle.iox2_ends.specs.Homes.{IsSenders}
 use Rattle.iox2_ends.specs.Finds.{IsReceivers}
 use Rattle.iox2_ends.specs.Mailboxes.{is_between, publisher_of_key, receiver_ends}
 use Rattle.iox2_ends.proofs.LookUps.{look_up-nothing}
-use Rattle.iox2_ends.proofs.Searches.{key-at}
-use Rattle.iox2_laws.proofs.PlaceLemmas.{contains-occupants}
+use Rattle.iox2_ends.proofs.MailboxChanges.{both-true}
 use Rattle.iox2_domain.specs.Ports.{PublisherFields, SubscriberFields}
 use Rattle.iox2_domain.specs.Kept.{Named, state_of, ids}
 use Rattle.iox2_domain.specs.Fields.{Fields, kept_of, publisher_of, subscriber_of}
-use Rattle.iox2_domain.specs.Invariant.{IsDomain, IsLinked, SenderHas, ReceiverHas, details_of}
+use Rattle.iox2_domain.specs.Invariant.{HasParts, IsLinked, SenderHas, ReceiverHas, details_of}
 use Rattle.iox2_domain.specs.Updates.{key_from}
 use Rattle.iox2_domain.proofs.lemmas.containers.LookUps.{map-at}
 use Rattle.iox2_domain.proofs.lemmas.fields.ConnectionEnds.{publisher-stands, subscriber-stands}
@@ -76,39 +76,77 @@ place-within f j low =
       length-map f.subscribers (option_map (subscriber_of f.books f.connections)),
     )
 
-module _ {T U : Type 0} (f : Fields T U) (sound : IsDomain f) where
-  -- ---- places
+-- whom the keys lead to, among those that expired
+pub leads-among : (connections : Slab Link) (keys : List ℕ) (key : ℕ) (c : Link) → contains keys key ≡ true → get connections key ≡ Some c
+    → contains (occupants (receiver_ends connections (map Some keys))) c.home.publisher ≡ true
+leads-among connections [] key c has at = absurd cc
+leads-among connections (k ∷ keys) key c has at = elim (contains_in_cons k key keys has) [
+  | inl here ↦
+      let leads : publisher_of_key connections (Some k) ≡ Some c.home.publisher = ap (option_map (λ (d : Link). d.home.publisher)) (ap (get connections) here ∙ at) in
+      ap (λ o. contains (occupants (o ∷ receiver_ends connections (map Some keys))) c.home.publisher) leads
+      ∙ contains_first c.home.publisher (occupants (receiver_ends connections (map Some keys)))
+  | inr later ↦ by (publisher_of_key connections (Some k)) (leads-among connections keys key c later at)
+] where
+  by : (o : Option ℕ) → contains (occupants (receiver_ends connections (map Some keys))) c.home.publisher ≡ true → contains (occupants (o ∷ receiver_ends connections (map Some keys))) c.home.publisher ≡ true
+  by None h = h
+  by (Some p) h = contains_later p c.home.publisher (occupants (receiver_ends connections (map Some keys))) h
+
+module _ {T U : Type 0} (f : Fields T U) (parts : HasParts f) where
+  -- a place is listed with the id of who stands there
+  pub publisher-at : (i : ℕ) → occupant (state_of (kept_of f)).publisher_places i ≡ option_map (λ (x : PublisherFields). x.id) (get_or f.publishers i None)
+  publisher-at i =
+      occupant-ids (map (option_map (publisher_of f.books f.connections)) f.publishers) i
+      ∙ ap (option_map (λ (n : Named Publisher). n.id)) (map-at (publisher_of f.books f.connections) f.publishers i)
+      ∙ by (get_or f.publishers i None)
+    where
+      by : (o : Option PublisherFields) → option_map (λ (n : Named Publisher). n.id) (option_map (publisher_of f.books f.connections) o) ≡ option_map (λ (x : PublisherFields). x.id) o
+      by None = refl
+      by (Some x) = refl
 
   pub publisher-listed : (i : ℕ) (x : PublisherFields) → get_or f.publishers i None ≡ Some x → occupant (state_of (kept_of f)).publisher_places i ≡ Some x.id
-  publisher-listed i x at =
-      occupant-ids (map (option_map (publisher_of f.books f.connections)) f.publishers) i
-      ∙ ap (option_map (λ (n : Named Publisher). n.id)) (map-at (publisher_of f.books f.connections) f.publishers i ∙ ap (option_map (publisher_of f.books f.connections)) at)
+  publisher-listed i x at = publisher-at i ∙ ap (option_map (λ (z : PublisherFields). z.id)) at
 
   pub subscriber-listed : (j : ℕ) (y : SubscriberFields) → get_or f.subscribers j None ≡ Some y → occupant (state_of (kept_of f)).subscriber_places j ≡ Some y.id
   subscriber-listed j y at =
       occupant-ids (map (option_map (subscriber_of f.books f.connections)) f.subscribers) j
       ∙ ap (option_map (λ (n : Named Subscriber). n.id)) (map-at (subscriber_of f.books f.connections) f.subscribers j ∙ ap (option_map (subscriber_of f.books f.connections)) at)
 
-  pub publisher-place : (i : ℕ) (x : PublisherFields) → get_or f.publishers i None ≡ Some x → x.place ≡ i
-  publisher-place i x at =
-      let known : publisher_place (state_of (kept_of f)) x.id ≡ Some i = sound.well_formed.publisher_places.known x.id i (publisher-listed i x at) in
-      same_Some x.place i (sym (ap (option_map (λ (z : Publisher). z.place)) (publisher-stands f sound i x at)) ∙ known)
-
-  pub subscriber-place : (j : ℕ) (y : SubscriberFields) → get_or f.subscribers j None ≡ Some y → y.place ≡ j
-  subscriber-place j y at =
-      let known : subscriber_place (state_of (kept_of f)) y.id ≡ Some j = sound.well_formed.subscriber_places.known y.id j (subscriber-listed j y at) in
-      same_Some y.place j (sym (ap (option_map (λ (z : Subscriber). z.place)) (subscriber-stands f sound j y at)) ∙ known)
-
   -- of one id there is one port
   pub one-publisher : (j k : ℕ) (y z : PublisherFields) → get_or f.publishers j None ≡ Some y → get_or f.publishers k None ≡ Some z → y.id ≡ z.id → j ≡ k
-  one-publisher j k y z at_y at_z same = (sound.parts.publisher_ids z.id).one j k y z at_y at_z (eq-eqb y.id z.id same) (eq-eqb z.id z.id refl)
+  one-publisher j k y z at_y at_z same = (parts.publisher_ids z.id).one j k y z at_y at_z (eq-eqb y.id z.id same) (eq-eqb z.id z.id refl)
 
   pub one-subscriber : (j k : ℕ) (y z : SubscriberFields) → get_or f.subscribers j None ≡ Some y → get_or f.subscribers k None ≡ Some z → y.id ≡ z.id → j ≡ k
-  one-subscriber j k y z at_y at_z same = (sound.parts.subscriber_ids z.id).one j k y z at_y at_z (eq-eqb y.id z.id same) (eq-eqb z.id z.id refl)
+  one-subscriber j k y z at_y at_z same = (parts.subscriber_ids z.id).one j k y z at_y at_z (eq-eqb y.id z.id same) (eq-eqb z.id z.id refl)
 
-  -- a subscriber has some room for messages
-  pub some-buffer : (j : ℕ) (y : SubscriberFields) → get_or f.subscribers j None ≡ Some y → 0 < y.buffer
-  some-buffer j y at_y = (sound.well_formed.subscribers y.id _ (subscriber-stands f sound j y at_y)).some_room
+  -- what a key at a subscriber's place leads to
+  pub receiver-link : (j i key : ℕ) (y : SubscriberFields) → get_or f.subscribers j None ≡ Some y → get_or y.keys i None ≡ Some key
+      → (c : Link) × (get f.connections key ≡ Some c) × IsReceivers y.id (f.config).subscriber_max_borrowed_samples c
+  receiver-link j i key y at_y at = some_is (IsReceivers y.id (f.config).subscriber_max_borrowed_samples) (get f.connections key) ((parts.linked.receivers j y at_y).at i key at)
+
+  module _ (well : IsWellFormed (state_of (kept_of f))) where
+    pub publisher-place : (i : ℕ) (x : PublisherFields) → get_or f.publishers i None ≡ Some x → x.place ≡ i
+    publisher-place i x at =
+        let known : publisher_place (state_of (kept_of f)) x.id ≡ Some i = well.publisher_places.known x.id i (publisher-listed i x at) in
+        same_Some x.place i (sym (ap (option_map (λ (z : Publisher). z.place)) (publisher-stands f parts i x at)) ∙ known)
+
+    pub subscriber-place : (j : ℕ) (y : SubscriberFields) → get_or f.subscribers j None ≡ Some y → y.place ≡ j
+    subscriber-place j y at =
+        let known : subscriber_place (state_of (kept_of f)) y.id ≡ Some j = well.subscriber_places.known y.id j (subscriber-listed j y at) in
+        same_Some y.place j (sym (ap (option_map (λ (z : Subscriber). z.place)) (subscriber-stands f parts j y at)) ∙ known)
+
+    -- a subscriber has some room for messages
+    pub some-buffer : (j : ℕ) (y : SubscriberFields) → get_or f.subscribers j None ≡ Some y → 0 < y.buffer
+    some-buffer j y at_y = (well.subscribers y.id _ (subscriber-stands f parts j y at_y)).some_room
+
+    -- a publisher with an expired connection is gone
+    pub expired-gone : (j key i : ℕ) (y : SubscriberFields) (c : Link) (x : PublisherFields) → get_or f.subscribers j None ≡ Some y → Contains y.expired key → get f.connections key ≡ Some c
+        → get_or f.publishers i None ≡ Some x → x.id ≢ c.home.publisher
+    expired-gone j key i y c x at_y among at at_x same =
+        let none : (state_of (kept_of f)).publishers c.home.publisher ≡ None =
+        (well.subscribers y.id _ (subscriber-stands f parts j y at_y)).expired_gone c.home.publisher (leads-among f.connections y.expired key c (contains-from y.expired key among) at) in
+        let some : (state_of (kept_of f)).publishers c.home.publisher ≡ Some ((publisher_of f.books f.connections x).port) = ap (state_of (kept_of f)).publishers (sym same) ∙ publisher-stands f parts i x at_x in
+        let no : None ≡ Some ((publisher_of f.books f.connections x).port) = sym none ∙ some in
+        absurd cc
 
   -- ---- the publisher x at the place i, and the subscriber y at the place j
 
@@ -121,93 +159,70 @@ module _ {T U : Type 0} (f : Fields T U) (sound : IsDomain f) where
       pub publisher_place : c.home.publisher_place ≡ i
       pub subscriber_place : c.home.subscriber_place ≡ j
 
-    same-publisher : (k : ℕ) (z : PublisherFields) → get_or f.publishers k None ≡ Some z → k ≡ i → z ≡ x
-    same-publisher k z at_z here = let e : Some z ≡ Some x = sym at_z ∙ ap (λ (n : ℕ). get_or f.publishers n None) here ∙ at_x in cc
+    -- a connection between the two knows their places
+    pub joins-both : (key : ℕ) (c : Link) → get f.connections key ≡ Some c → c.home.publisher ≡ x.id → c.home.subscriber ≡ y.id → Joins key c
+    joins-both key c at p q = record {
+      stands = at;
+      publisher = p;
+      subscriber = q;
+      publisher_place = sym (parts.linked.knows_publishers key i c x at at_x (sym p));
+      subscriber_place = sym (parts.linked.knows.at key j c (details_of y) at (map-at details_of f.subscribers j ∙ ap (option_map details_of) at_y) (sym q)).0;
+    }
 
-    same-subscriber : (k : ℕ) (z : SubscriberFields) → get_or f.subscribers k None ≡ Some z → k ≡ j → z ≡ y
-    same-subscriber k z at_z here = let e : Some z ≡ Some y = sym at_z ∙ ap (λ (n : ℕ). get_or f.subscribers n None) here ∙ at_y in cc
-
-    -- ---- whoever stood here before
-
-    -- the publisher's connection, where it leads to this subscriber
-    pub sender-joined : (key : ℕ) (c : Link) → get_or x.keys j None ≡ Some key → get f.connections key ≡ Some c → c.home.subscriber ≡ y.id → Joins key c
-    sender-joined key c has at to =
-        let own = some_is (IsSenders x.id j) (get f.connections key) ((sound.parts.linked.senders i x at_x).at j key has) in
-        let both : Some own.0 ≡ Some c = sym own.1 ∙ at in
+    -- the publisher's key at the subscriber's place, where it leads to the subscriber
+    pub sender-joins : (key : ℕ) (c : Link) → get_or x.keys j None ≡ Some key → get f.connections key ≡ Some c → c.home.subscriber ≡ y.id → Joins key c
+    sender-joins key c has at its =
+        let own = some_is (IsSenders x.id j) (get f.connections key) ((parts.linked.senders i x at_x).at j key has) in
+        let same : Some own.0 ≡ Some c = sym own.1 ∙ at in
         let is : own.0 ≡ c = cc in
-        let its : IsSenders x.id j c = subst (IsSenders x.id j) is own.2 in
-        record {
-          stands = at;
-          publisher = its.publisher;
-          subscriber = to;
-          publisher_place = sym (sound.parts.linked.knows_publishers key i c x at at_x (sym its.publisher));
-          subscriber_place = its.place;
-        }
+        joins-both key c at (ap (λ (d : Link). d.home.publisher) (sym is) ∙ own.2.publisher) its
 
-    known-place : (key : ℕ) (c : Link) → get f.connections key ≡ Some c → c.home.subscriber ≡ y.id → c.home.subscriber_place ≡ j
-    known-place key c at to = sym (sound.parts.linked.knows.at key j c (details_of y) at (map-at details_of f.subscribers j ∙ ap (option_map details_of) at_y) (sym to)).0
-
-    -- the subscriber's connection, where it comes from this publisher
-    pub receiver-joined : (key : ℕ) (c : Link) → get_or y.keys i None ≡ Some key → get f.connections key ≡ Some c → c.home.publisher ≡ x.id → Joins key c
-    receiver-joined key c has at from =
-        let own = some_is (IsReceivers y.id (f.config).subscriber_max_borrowed_samples) (get f.connections key) ((sound.parts.linked.receivers j y at_y).at i key has) in
-        let both : Some own.0 ≡ Some c = sym own.1 ∙ at in
+    -- the subscriber's key at the publisher's place, where it leads to the publisher
+    pub receiver-joins : (key : ℕ) (c : Link) → get_or y.keys i None ≡ Some key → get f.connections key ≡ Some c → c.home.publisher ≡ x.id → Joins key c
+    receiver-joins key c has at its =
+        let own = receiver-link j i key y at_y has in
+        let same : Some own.0 ≡ Some c = sym own.1 ∙ at in
         let is : own.0 ≡ c = cc in
-        let its : c.home.subscriber ≡ y.id = sym (ap (λ (d : Link). d.home.subscriber) is) ∙ own.2.subscriber in
-        record {
-          stands = at;
-          publisher = from;
-          subscriber = its;
-          publisher_place = sound.parts.linked.receiver_places j i key y c at_y has at;
-          subscriber_place = known-place key c at its;
-        }
+        joins-both key c at its (ap (λ (d : Link). d.home.subscriber) (sym is) ∙ own.2.subscriber)
 
-    -- an expired connection isn't a publisher's that is there
-    not-expired : (key : ℕ) (c : Link) → get f.connections key ≡ Some c → c.home.publisher ≡ x.id → Contains y.expired key → ⊥
-    not-expired key c at from among =
-        let there = at_from_Contains y.expired key among in
-        let named : get_or (map Some y.expired) there.0 None ≡ Some key = key-at y.expired there.0 there.1 ∙ ap Some (there.2 0) in
-        let leads : occupant (receiver_ends f.connections (map Some y.expired)) there.0 ≡ Some x.id =
-        occupant-receiver_ends f.connections (map Some y.expired) there.0 ∙ ap (publisher_of_key f.connections) named
-        ∙ ap (option_map (λ (d : Link). d.home.publisher)) at ∙ ap Some from in
-        let gone : (state_of (kept_of f)).publishers x.id ≡ None =
-        (sound.well_formed.subscribers y.id _ (subscriber-stands f sound j y at_y)).expired_gone x.id
-        (contains-occupants (receiver_ends f.connections (map Some y.expired)) x.id (there.0, leads)) in
-        none-some _ (sym gone ∙ publisher-stands f sound i x at_x)
+    -- where neither has a key that leads to the other there is no connection
+    pub no-connection : IsWellFormed (state_of (kept_of f))
+        → ((key : ℕ) (c : Link) → get_or x.keys j None ≡ Some key → get f.connections key ≡ Some c → c.home.subscriber ≢ y.id)
+        → ((key : ℕ) (c : Link) → get_or y.keys i None ≡ Some key → get f.connections key ≡ Some c → c.home.publisher ≢ x.id)
+        → look_up (is_between x.id y.id) f.connections.slots ≡ None
+    no-connection well none_x none_y = look_up-nothing (is_between x.id y.id) f.connections.slots (λ key c at. by key c at (is_between x.id y.id c) refl) where
+      same-publisher : (k : ℕ) (z : PublisherFields) → get_or f.publishers k None ≡ Some z → k ≡ i → z ≡ x
+      same-publisher k z at_z here = let e : Some z ≡ Some x = sym at_z ∙ ap (λ (n : ℕ). get_or f.publishers n None) here ∙ at_x in cc
 
-    -- where neither has a key of theirs there is no connection
-    pub not-joined : get_or x.keys j None ≡ None → key_from f.connections x.id (get_or y.keys i None) ≡ None → look_up (is_between x.id y.id) f.connections.slots ≡ None
-    not-joined none_x none_y = look_up-nothing (is_between x.id y.id) f.connections.slots (λ key c at. by key c at (is_between x.id y.id c) refl) where
-      parts_of_and : (a b : Bool) → (a && b) ≡ true → (a ≡ true) × (b ≡ true)
-      parts_of_and true b e = (refl, e)
-      parts_of_and false b e = absurd cc
+      same-subscriber : (k : ℕ) (z : SubscriberFields) → get_or f.subscribers k None ≡ Some z → k ≡ j → z ≡ y
+      same-subscriber k z at_z here = let e : Some z ≡ Some y = sym at_z ∙ ap (λ (n : ℕ). get_or f.subscribers n None) here ∙ at_y in cc
 
-      ends : (key : ℕ) (c : Link) → get f.connections key ≡ Some c → c.home.publisher ≡ x.id → c.home.subscriber ≡ y.id → SenderHas f.publishers key c ⊎ ReceiverHas f.subscribers key c → ⊥
-      ends key c at p q (inl has) =
-          let here : c.home.publisher_place ≡ i = one-publisher c.home.publisher_place i has.publisher x has.stands at_x (has.is_its ∙ p) in
-          let is : has.publisher ≡ x = same-publisher c.home.publisher_place has.publisher has.stands here in
-          none-some key
-          (sym none_x ∙ ap (λ (z : PublisherFields). get_or z.keys j None) (sym is) ∙ ap (λ (n : ℕ). get_or has.publisher.keys n None) (sym (known-place key c at q)) ∙ has.has)
-      ends key c at p q (inr has) =
-          let place : c.home.publisher_place ≡ i = sym (sound.parts.linked.knows_publishers key i c x at at_x (sym p)) in
-          let is : has.subscriber ≡ y = same-subscriber c.home.subscriber_place has.subscriber has.stands (known-place key c at q) in
-          kept has.has is place
-        where
-          kept : (get_or has.subscriber.keys c.home.publisher_place None ≡ Some key) ⊎ Contains has.subscriber.expired key → has.subscriber ≡ y → c.home.publisher_place ≡ i → ⊥
-          kept (inl there) is place =
-              let named : get_or y.keys i None ≡ Some key =
-              ap (λ (z : SubscriberFields). get_or z.keys i None) (sym is) ∙ ap (λ (n : ℕ). get_or has.subscriber.keys n None) (sym place) ∙ there in
-              none-some key (sym none_y ∙ ap (key_from f.connections x.id) named ∙ key-from f.connections x.id key c at p)
-          kept (inr among) is place = not-expired key c at p (subst (λ (z : SubscriberFields). Contains z.expired key) is among)
+      ends : (key : ℕ) (c : Link) → Joins key c → SenderHas f.publishers key c ⊎ ReceiverHas f.subscribers key c → ⊥
+      ends key c joins (inl has) =
+          let is : has.publisher ≡ x = same-publisher c.home.publisher_place has.publisher has.stands joins.publisher_place in
+          none_x key c
+          (ap (λ (z : PublisherFields). get_or z.keys j None) (sym is) ∙ ap (λ (n : ℕ). get_or has.publisher.keys n None) (sym joins.subscriber_place) ∙ has.has)
+          joins.stands joins.subscriber
+      ends key c joins (inr has) = kept has.has where
+        is : has.subscriber ≡ y
+        is = same-subscriber c.home.subscriber_place has.subscriber has.stands joins.subscriber_place
+
+        kept : (get_or has.subscriber.keys c.home.publisher_place None ≡ Some key) ⊎ Contains has.subscriber.expired key → ⊥
+        kept (inl here) =
+            none_y key c
+            (ap (λ (z : SubscriberFields). get_or z.keys i None) (sym is) ∙ ap (λ (n : ℕ). get_or has.subscriber.keys n None) (sym joins.publisher_place) ∙ here)
+            joins.stands joins.publisher
+        kept (inr among) = expired-gone well c.home.subscriber_place key i has.subscriber c x has.stands among joins.stands at_x (sym joins.publisher)
 
       by : (key : ℕ) (c : Link) → get f.connections key ≡ Some c → (b : Bool) → is_between x.id y.id c ≡ b → b ≡ false
       by key c at true e =
-          let parts = parts_of_and _ _ e in
-          absurd (ends key c at (eqb-true c.home.publisher x.id parts.0) (eqb-true c.home.subscriber y.id parts.1) (sound.parts.linked.ends key c at))
+          let both = both-true _ _ e in
+          absurd (ends key c (joins-both key c at (eqb-true c.home.publisher x.id both.0) (eqb-true c.home.subscriber y.id both.1)) (parts.linked.ends key c at))
       by key c at false e = refl
 
-    -- there is room for the key of a connection that the subscriber has
-    pub joined-room : (key : ℕ) (c : Link) → get_or y.keys i None ≡ Some key → get f.connections key ≡ Some c → c.home.publisher ≡ x.id → j < x.key_room
-    joined-room key c has at from =
-        let joined = receiver-joined key c has at from in
-        subst (λ (n : ℕ). n < x.key_room) joined.subscriber_place (sound.parts.linked.sender_rooms key i c x at at_x (sym from))
+    -- the ports of a connection that one of them has have room for its key
+    pub sender-room : (key : ℕ) (c : Link) → Joins key c → j < x.key_room
+    sender-room key c joins = subst (λ (n : ℕ). n < x.key_room) joins.subscriber_place (parts.linked.sender_rooms key i c x joins.stands at_x (sym joins.publisher))
+
+    pub receiver-room : (key : ℕ) (c : Link) → Joins key c → i < y.key_room
+    receiver-room key c joins = subst (λ (n : ℕ). n < y.key_room) joins.publisher_place (parts.linked.receiver_rooms key j c y joins.stands at_y (sym joins.subscriber))

@@ -1,6 +1,5 @@
 -- A subscriber's record is written over by another of the same id, or goes.
 use Rattle.std.proofs.Common.{◌≡◌, ℕ, List, map, get_or, slice_set, refl, ap, ◌∙◌}
-use Rattle.std.proofs.lemmas.Bool.{eq-eqb}
 use Rattle.std.proofs.lemmas.List.{get_or-set_same, get_or-set_other, map-set}
 use Rattle.std.specs.declared.option.Option.{Option}
 use Rattle.std.specs.declared.option.Option.TheVariants.{None, Some}
@@ -9,24 +8,15 @@ use Rattle.iox2_store.specs.machine.Numbers.{put_at}
 use Rattle.iox2_store.specs.machine.Places.{vacated}
 use Rattle.iox2_store.specs.machine.Records.{Subscriber}
 use Rattle.iox2_ends.specs.LookUp.{IsOnly}
-use Rattle.iox2_ends.proofs.LookUps.{look_up-found}
 use Rattle.iox2_ends.proofs.MailboxChanges.{within_if_some}
 use Rattle.iox2_domain.specs.Ports.{SubscriberFields}
 use Rattle.iox2_domain.specs.Kept.{Named, state_of, port_named, ids, is_named}
 use Rattle.iox2_domain.specs.Fields.{Fields, kept_of, subscriber_of}
 use Rattle.iox2_domain.specs.Invariant.{is_subscriber}
 use Rattle.iox2_domain.proofs.lemmas.containers.ChangedRecords.{changed-ids, changed-ports}
-use Rattle.iox2_domain.proofs.lemmas.containers.LookUps.{IsOnly-map, look_up-map, map-at}
+use Rattle.iox2_domain.proofs.lemmas.containers.LookUps.{IsOnly-map, map-at}
 use Rattle.iox2_domain.proofs.lemmas.containers.RemovedPorts.{removed-ids, removed-ports}
 use mathlib.Core.Path.{fun_ext}
-
--- a subscriber that stands somewhere is in the state
-pub subscriber-in : {T U : Type 0} (f : Fields T U) → ((q : ℕ) → IsOnly (is_subscriber q) f.subscribers) → (i : ℕ) (y : SubscriberFields) → get_or f.subscribers i None ≡ Some y
-    → (state_of (kept_of f)).subscribers y.id ≡ Some ((subscriber_of f.books f.connections y).port)
-subscriber-in f only i y at =
-    ap (option_map (λ (w : Named Subscriber). w.port))
-    (look_up-map (is_named y.id) (subscriber_of f.books f.connections) f.subscribers
-    ∙ ap (option_map (subscriber_of f.books f.connections)) (look_up-found (is_subscriber y.id) f.subscribers i y (only y.id) at (eq-eqb y.id y.id refl)))
 
 module _ {T U : Type 0} (f : Fields T U) (j : ℕ) (y z : SubscriberFields) (at : get_or f.subscribers j None ≡ Some y) (same : z.id ≡ y.id)
     (only : (q : ℕ) → IsOnly (is_subscriber q) f.subscribers) where

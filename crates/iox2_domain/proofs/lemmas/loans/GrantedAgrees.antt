@@ -259,7 +259,7 @@ module _ {T U : Type 0} (f : Fields T U) (sound : IsDomain f) (i : ℕ) (x : Pub
     granted-well_formed : IsWellFormed (loan_granted user_header state x.id machine len machine.segments)
     granted-well_formed =
         grant_loan_keeps ample_memory user_header false len state x.id (loan_granted user_header state x.id machine len machine.segments) None sound.well_formed
-        (lends-granted ample_memory user_header state x.id machine (publisher-stands f sound i x at) false len refl few_numbers (sound.parts.plain i x at).allocation some_free more)
+        (lends-granted ample_memory user_header state x.id machine (publisher-stands f sound.parts i x at) false len refl few_numbers (sound.parts.plain i x at).allocation some_free more)
 
     -- the invariant is kept
     pub granted-agrees : IsDomain granted

@@ -57,7 +57,7 @@ module _ {T U : Type 0} (f : Fields T U) (sound : IsDomain f) (i : ℕ) (x : Pub
   machine = (publisher_of f.books f.connections x).port
 
   here : state.publishers x.id ≡ Some machine
-  here = publisher-stands f sound i x at
+  here = publisher-stands f sound.parts i x at
 
   as_many : length machine.loans ≡ length x.loans
   as_many = length-map x.loans (numbers_of f.books x.id)

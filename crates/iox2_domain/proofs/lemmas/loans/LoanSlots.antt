@@ -136,7 +136,7 @@ module _ {T U : Type 0} (f : Fields T U) (sound : IsDomain f) where
       let its : b.publisher ≡ x.id = book-its i x b at here in
       let lies = loan-lies x.id n live in
       let out = ((sound.well_formed.loans n live.0 live.1).is_out ((publisher_of f.books f.connections x).port)
-      (ap (state_of (kept_of f)).publishers live.2 ∙ publisher-stands f sound i x at)).0 in
+      (ap (state_of (kept_of f)).publishers live.2 ∙ publisher-stands f sound.parts i x at)).0 in
       let there = mapped-there (numbers_of f.books x.id) x.loans n out in
       let slot : ℕ = slice_index x.loans there.0 in
       let number : slice_index b.numbers slot ≡ n = sym (number-at x.book slot b here) ∙ ap (λ p. numbers_of f.books p slot) its ∙ there.2 in

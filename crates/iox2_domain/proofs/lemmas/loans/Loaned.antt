@@ -71,7 +71,7 @@ module _ {T U : Type 0} (is_default : U → Type 0) (f mid : Fields T U) (sound 
       machine-same : (publisher_of mid.books mid.connections x).port ≡ (publisher_of f.books f.connections x).port
       machine-same =
           let one : Some ((publisher_of mid.books mid.connections x).port) ≡ Some ((publisher_of f.books f.connections x).port) =
-          sym (publisher-stands mid reached.agrees i x at_mid) ∙ ap (λ (s : State T U). s.publishers x.id) reached.state ∙ publisher-stands f sound i x stands.1 in
+          sym (publisher-stands mid reached.agrees.parts i x at_mid) ∙ ap (λ (s : State T U). s.publishers x.id) reached.state ∙ publisher-stands f sound.parts i x stands.1 in
           cc
 
       -- the machine's step, from a state and the publisher in it

@@ -19,8 +19,8 @@ use Rattle.iox2_domain.specs.Invariant.{IsDomain}
 use Rattle.iox2_domain.specs.ReceiverSteps.{current_side, ChangesReceiver}
 use Rattle.iox2_domain.proofs.lemmas.containers.ChangedRecords.{changed-here}
 use Rattle.iox2_domain.proofs.lemmas.updates.SenderWalk.{put_at-twice}
-use Rattle.iox2_domain.proofs.lemmas.receivers.PortsStanding.{subscriber-stands}
 use Rattle.iox2_domain.proofs.lemmas.receivers.LeftChanges.{present}
+use Rattle.iox2_domain.proofs.lemmas.fields.ConnectionEnds.{subscriber-stands}
 use mathlib.Core.Path.{fun_ext}
 
 module _ {T U : Type 0} (f : Fields T U) (sound : IsDomain f) (j : ℕ) (y : SubscriberFields) (at : get_or f.subscribers j None ≡ Some y) where

@@ -25,9 +25,8 @@ use Rattle.iox2_domain.specs.Invariant.{IsDomain}
 use Rattle.iox2_domain.specs.ReceiverSteps.{current_side, HasDepartedEnd, ChangesReceiver, RetiresReceiver, Retired, Refused, retired, refused, machine_retirement, ConnectsEnd, ConnectsAt}
 use Rattle.iox2_domain.specs.Updates.{publisher_but_room}
 use Rattle.iox2_domain.proofs.lemmas.containers.LookUps.{map-at, viewed}
-use Rattle.iox2_domain.proofs.lemmas.fields.Standing.{occupant-receiver_ends}
+use Rattle.iox2_domain.proofs.lemmas.fields.Standing.{occupant-receiver_ends, publisher-at, publisher-listed, receiver-link}
 use Rattle.iox2_domain.proofs.lemmas.updates.ReceiverActions.{connect-keeps, connect-makes}
-use Rattle.iox2_domain.proofs.lemmas.receivers.PortsStanding.{publisher-at, publisher-listed, receiver-link}
 use Rattle.iox2_domain.proofs.lemmas.receivers.Retirements.{here}
 use Rattle.iox2_domain.proofs.lemmas.receivers.Compositions.{unchanged, changed, changed-stands, port-is, side-again, senders-again, config-again, changes-more}
 

@@ -19,8 +19,7 @@ use Rattle.iox2_domain.specs.Kept.{state_of}
 use Rattle.iox2_domain.specs.Fields.{Fields, kept_of, subscriber_of}
 use Rattle.iox2_domain.specs.Invariant.{IsDomain}
 use Rattle.iox2_domain.specs.ReceiverSteps.{current_side, HasDepartedEnd, RetiresReceiver, Retired, Refused, retired, refused, machine_retirement, DisconnectsAt}
-use Rattle.iox2_domain.proofs.lemmas.fields.Standing.{occupant-receiver_ends}
-use Rattle.iox2_domain.proofs.lemmas.receivers.PortsStanding.{publisher-at, publisher-listed, receiver-link}
+use Rattle.iox2_domain.proofs.lemmas.fields.Standing.{occupant-receiver_ends, publisher-at, publisher-listed, receiver-link}
 use Rattle.iox2_domain.proofs.lemmas.receivers.Retirements.{here}
 use Rattle.iox2_domain.proofs.lemmas.receivers.Compositions.{unchanged}
 

@@ -29,11 +29,10 @@ use Rattle.iox2_domain.specs.Fields.{Fields, kept_of, subscriber_of}
 use Rattle.iox2_domain.specs.ReceiverSteps.{current_side, HasDepartedEnd, ChangesReceiverTo}
 use Rattle.iox2_domain.proofs.lemmas.containers.ChangedRecords.{changed-here}
 use Rattle.iox2_domain.proofs.lemmas.containers.ConnectionKeys.{map-set_place}
-use Rattle.iox2_domain.proofs.lemmas.fields.Standing.{some_is, occupant-receiver_ends}
+use Rattle.iox2_domain.proofs.lemmas.fields.Standing.{expired-gone, leads-among, occupant-receiver_ends, some_is}
 use Rattle.iox2_domain.proofs.lemmas.fields.Views.{held-before}
 use Rattle.iox2_domain.proofs.lemmas.updates.SenderWalk.{put_at-twice}
 use Rattle.iox2_domain.proofs.lemmas.fields.Parts.{but-of}
-use Rattle.iox2_domain.proofs.lemmas.receivers.PortsStanding.{leads-among, expired-gone}
 use Rattle.iox2_domain.proofs.lemmas.receivers.DepartedEnds.{among, contained}
 use Rattle.iox2_domain.proofs.lemmas.receivers.LeftEnds.{IsDeparted, LeavesReceiver, left_fields, left-parts, end-expires}
 use Rattle.iox2_domain.proofs.lemmas.receivers.LeftStates.{left-is, occupants-pushed, occupants-without, same-lead}

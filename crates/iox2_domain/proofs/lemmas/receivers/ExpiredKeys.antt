@@ -17,9 +17,8 @@ use Rattle.iox2_domain.specs.Ports.{SubscriberFields}
 use Rattle.iox2_domain.specs.Fields.{Fields}
 use Rattle.iox2_domain.specs.Invariant.{IsDomain, one_if_receivers, connection_count}
 use Rattle.iox2_domain.specs.ReceiverSteps.{HasDepartedEnd}
-use Rattle.iox2_domain.proofs.lemmas.fields.Standing.{some_is}
+use Rattle.iox2_domain.proofs.lemmas.fields.Standing.{leads-among, receiver-link, some_is}
 use Rattle.iox2_domain.proofs.lemmas.updates.MadeConnections.{sum-updated}
-use Rattle.iox2_domain.proofs.lemmas.receivers.PortsStanding.{leads-among, receiver-link}
 use Rattle.iox2_domain.proofs.lemmas.receivers.DepartedEnds.{among}
 use Rattle.iox2_domain.proofs.lemmas.receivers.LeftChanges.{present}
 use Rattle.iox2_domain.proofs.lemmas.receivers.Retirements.{unexpired}

@@ -23,9 +23,9 @@ use Rattle.iox2_domain.proofs.lemmas.updates.Extensions.{sender_linked, receiver
 use Rattle.iox2_domain.proofs.lemmas.receivers.MoreConnections.{mailboxes-same}
 use Rattle.iox2_domain.proofs.lemmas.updates.ReceiverChanges.{FitsReceiver, IsNewOfReceiver, with_keys, with_receiver}
 use Rattle.iox2_domain.proofs.lemmas.receivers.JoinChanges.{receiver-is}
-use Rattle.iox2_domain.proofs.lemmas.receivers.PortsStanding.{one-publisher, one-subscriber}
 use Rattle.std.proofs.lemmas.Bool.{true≢false}
 use Rattle.iox2_domain.proofs.lemmas.fields.OpenReceivers.{open-changed}
+use Rattle.iox2_domain.proofs.lemmas.fields.Standing.{one-publisher, one-subscriber}
 
 module _ {T U : Type 0} (f : Fields T U) (sound : IsDomain f) (j : ℕ) (y : SubscriberFields) (at : get_or f.subscribers j None ≡ Some y)
     (keys : List (Option ℕ)) (key_room expired_room : ℕ) (is_due : Bool) (connections : Slab Link) (warnings : WarningRing) (fits : FitsReceiver f j y keys key_room expired_room connections) where

@@ -32,14 +32,13 @@ use Rattle.iox2_domain.specs.Fields.{Fields, kept_of, publisher_of, subscriber_o
 use Rattle.iox2_domain.specs.Updates.{MakesConnection, home_of}
 use Rattle.iox2_domain.specs.ReceiverSteps.{current_side, ConnectsEnd}
 use Rattle.iox2_domain.proofs.lemmas.containers.ConnectionKeys.{map-set_place, set_place-here, set_place-keeps, set_place-stood}
-use Rattle.iox2_domain.proofs.lemmas.fields.ConnectionEnds.{occupant-sender_ends}
+use Rattle.iox2_domain.proofs.lemmas.fields.ConnectionEnds.{occupant-sender_ends, publisher-stands, subscriber-stands}
 use Rattle.iox2_domain.proofs.lemmas.fields.ExpiredRoom.{room-made}
-use Rattle.iox2_domain.proofs.lemmas.fields.Standing.{some_is, occupant-receiver_ends}
+use Rattle.iox2_domain.proofs.lemmas.fields.Standing.{no-connection, occupant-receiver_ends, one-subscriber, publisher-listed, sender-joins, some_is, subscriber-place}
 use Rattle.iox2_domain.proofs.lemmas.updates.Extensions.{Extends, receiver_linked, receiver_ends-same}
 use Rattle.iox2_domain.proofs.lemmas.updates.MadeConnections.{made-extends, made-news}
 use Rattle.iox2_domain.proofs.lemmas.updates.ReceiverActions.{connect-makes}
 use Rattle.iox2_domain.proofs.lemmas.updates.ReceiverChanges.{FitsReceiver}
-use Rattle.iox2_domain.proofs.lemmas.receivers.PortsStanding.{publisher-stands, subscriber-stands, publisher-listed, subscriber-place, one-subscriber, sender-joins, no-connection}
 use Rattle.iox2_domain.proofs.lemmas.receivers.LeftChanges.{present, side-sound}
 use Rattle.iox2_domain.proofs.lemmas.receivers.JoinChanges.{receiver-is, receiver_fits-same}
 use Rattle.iox2_domain.proofs.lemmas.receivers.JoinAgrees.{receiver-agrees}

@@ -17,9 +17,9 @@ use Rattle.iox2_domain.specs.Fields.{Fields, kept_of, subscriber_of}
 use Rattle.iox2_domain.specs.ReceiverSteps.{current_side, ChangesReceiver}
 use Rattle.iox2_domain.proofs.lemmas.fields.Views.{held-before}
 use Rattle.iox2_domain.proofs.lemmas.fields.Parts.{whole_of}
-use Rattle.iox2_domain.proofs.lemmas.receivers.PortsStanding.{subscriber-stands}
 use Rattle.iox2_domain.proofs.lemmas.receivers.LeftEnds.{LeavesReceiver, left_fields, left-parts}
 use Rattle.iox2_domain.proofs.lemmas.receivers.LeftStates.{left-is, left_port}
+use Rattle.iox2_domain.proofs.lemmas.fields.ConnectionEnds.{subscriber-stands}
 
 -- warnings matter to nothing else
 pub parts-warned : {T U : Type 0} (f : Fields T U) (warnings : WarningRing) → HasParts f → warnings.capacity ≡ warning_limit → HasParts (record f { warnings = warnings })

@@ -6,25 +6,21 @@ use Rattle.std.specs.declared.option.Option.TheVariants.{Some}
 use Rattle.std.specs.Option.{option_map, option_map_or}
 use Rattle.slab.specs.Slab.{get, with_value, ContainsKey}
 use Rattle.iox2_store.specs.Link.{Link}
-use Rattle.iox2_store.specs.SlotBook.{Book, holders_at}
+use Rattle.iox2_store.specs.SlotBook.{Book}
 use Rattle.iox2_store.specs.machine.Limits.{warning_limit, expired_limit}
 use Rattle.iox2_store.specs.machine.Numbers.{contains}
 use Rattle.iox2_store.specs.machine.State.{State, warned}
 use Rattle.iox2_store.specs.machine.SubscriberUpdate.{ReceiverSide, Retirement, is_refused, Keep_expired, Evict, Discard_data}
 use Rattle.iox2_store.specs.declared.warning.Warning.TheVariants.{ExpiredDataDiscarded}
 use Rattle.iox2_ends.specs.Counters.{with_counters}
-use Rattle.iox2_ends.specs.Reclaims.{IsHeld}
 use Rattle.iox2_ends.specs.Retires.{has_borrowed, chosen}
 use Rattle.iox2_ends.specs.declared.retirement.Retirement.{Retirement as Choice}
 use Rattle.iox2_ends.specs.declared.retirement.Retirement.TheVariants.{Refuse as RefuseIt}
-use Rattle.iox2_ends.proofs.LookUps.{look_up-found}
-use Rattle.iox2_ends.proofs.ReclaimedPuts.{held-at}
-use Rattle.std.proofs.lemmas.Bool.{eq-eqb}
 use Rattle.iox2_domain.specs.WarningRing.{warning_ring}
 use Rattle.iox2_domain.specs.Ports.{SubscriberFields}
 use Rattle.iox2_domain.specs.Kept.{state_of}
-use Rattle.iox2_domain.specs.Fields.{Fields, kept_of, is_book_of}
-use Rattle.iox2_domain.specs.Invariant.{IsDomain, IsDomainBut, IsBookOf, holders_of}
+use Rattle.iox2_domain.specs.Fields.{Fields, kept_of}
+use Rattle.iox2_domain.specs.Invariant.{IsDomain, IsDomainBut}
 use Rattle.iox2_domain.specs.Updates.{changed_at, publisher_but_room, without_receiver_key}
 use Rattle.iox2_domain.specs.Reaches.{Reaches}
 use Rattle.iox2_domain.specs.Midway.{ChangesBooks, IsMidway}
@@ -37,6 +33,7 @@ use Rattle.iox2_domain.proofs.lemmas.receivers.Retirements.{departed, expires, r
 use Rattle.iox2_domain.proofs.lemmas.receivers.Evictions.{HasExpiredEnd, lost-departed, evicts}
 use Rattle.iox2_domain.proofs.lemmas.receivers.ExpiredKeys.{expired-link}
 use Rattle.iox2_domain.proofs.lemmas.receivers.Choices.{none-borrowed, borrows-are, publisher_at, in_machine, length-expired, chosen-is}
+use Rattle.iox2_domain.proofs.lemmas.slots.PublisherBooks.{its-book}
 
 -- the same book is spared
 pub spares-same : {T U : Type 0} (f : Fields T U) (k key : ℕ) → k ≡ key → IsDomainBut key f → IsDomainBut k f
@@ -83,27 +80,6 @@ module _ {T U : Type 0} (f f' f'' : Fields T U) (j : ℕ) (y : SubscriberFields)
   }
 
 -- ---- a connection goes
-
--- the connections of a sound domain have their books, which hold what stands in them
-module _ {T U : Type 0} (f : Fields T U) (sound : IsDomain f) (key : ℕ) (c : Link) (at : get f.connections key ≡ Some c) where
-  pub its-book : IsBookOf f.books c.home.publisher c.home.book
-  its-book = sound.parts.names.at key c at
-
-  pub book-stands : ContainsKey f.books c.home.book
-  book-stands = rw its-book.stands refl
-
-  pub link-held : (b : Book) → get f.books c.home.book ≡ Some b → IsHeld b.holders c
-  link-held b at_b =
-      let same : Some its-book.book ≡ Some b = sym its-book.stands ∙ at_b in
-      let is : its-book.book ≡ b = cc in
-      let its : b.publisher ≡ c.home.publisher = ap (λ (d : Book). d.publisher) (sym is) ∙ its-book.is_its in
-      held-at c.home.publisher b.holders f.connections key c (record {
-        at = λ slot.
-            let here : holders_of f.books c.home.publisher slot ≡ holders_at b slot =
-            ap (λ o. option_map_or (λ (d : Book). holders_at d slot) o 0)
-            (look_up-found (is_book_of c.home.publisher) f.books.slots c.home.book b (sound.parts.books.one_each c.home.publisher) at_b (eq-eqb b.publisher c.home.publisher its)) in
-            omega (arith, sound.parts.counted.at c.home.publisher slot, here);
-      }) at refl
 
 module _ {T U : Type 0} (f : Fields T U) (sound : IsDomain f) (j i : ℕ) (y : SubscriberFields) (key : ℕ) (c : Link) (end : HasDepartedEnd f j i y key c) where
   -- the subscriber is written at its place
@@ -152,9 +128,9 @@ module _ {T U : Type 0} (f : Fields T U) (sound : IsDomain f) (j i : ℕ) (y : S
 
       mine : b.publisher ≡ c.home.publisher
       mine =
-          let same : Some (its-book f sound key c end.link).book ≡ Some b = sym (its-book f sound key c end.link).stands ∙ at_b in
-          let is : (its-book f sound key c end.link).book ≡ b = cc in
-          ap (λ (d : Book). d.publisher) (sym is) ∙ (its-book f sound key c end.link).is_its
+          let same : Some (its-book f sound.parts key c end.link).book ≡ Some b = sym (its-book f sound.parts key c end.link).stands ∙ at_b in
+          let is : (its-book f sound.parts key c end.link).book ≡ b = cc in
+          ap (λ (d : Book). d.publisher) (sym is) ∙ (its-book f sound.parts key c end.link).is_its
 
   -- another one goes for it
   pub evicted-changes : (first : ℕ) (d : Link) → contains y.expired first ≡ true → get f.connections first ≡ Some d → has_borrowed (get f.connections first) ≡ false
@@ -188,9 +164,9 @@ module _ {T U : Type 0} (f : Fields T U) (sound : IsDomain f) (j i : ℕ) (y : S
 
       mine : b.publisher ≡ d.home.publisher
       mine =
-          let same : Some (its-book f sound first d at_d).book ≡ Some b = sym (its-book f sound first d at_d).stands ∙ at_b in
-          let is : (its-book f sound first d at_d).book ≡ b = cc in
-          ap (λ (e : Book). e.publisher) (sym is) ∙ (its-book f sound first d at_d).is_its
+          let same : Some (its-book f sound.parts first d at_d).book ≡ Some b = sym (its-book f sound.parts first d at_d).stands ∙ at_b in
+          let is : (its-book f sound.parts first d at_d).book ≡ b = cc in
+          ap (λ (e : Book). e.publisher) (sym is) ∙ (its-book f sound.parts first d at_d).is_its
 
   -- ---- what was chosen is done
 

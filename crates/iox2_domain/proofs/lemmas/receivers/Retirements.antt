@@ -29,10 +29,9 @@ use Rattle.iox2_domain.specs.Fields.{Fields, kept_of, publisher_of, subscriber_o
 use Rattle.iox2_domain.specs.ReceiverSteps.{current_side, HasDepartedEnd, ChangesReceiverTo, ChangesReceiver}
 use Rattle.iox2_domain.proofs.lemmas.containers.LookUps.{look_up-map}
 use Rattle.iox2_domain.proofs.lemmas.containers.ConnectionKeys.{map-set_place}
-use Rattle.iox2_domain.proofs.lemmas.fields.Standing.{occupant-receiver_ends}
+use Rattle.iox2_domain.proofs.lemmas.fields.Standing.{leads-among, occupant-receiver_ends, receiver-link}
 use Rattle.iox2_domain.proofs.lemmas.fields.Views.{held-before}
 use Rattle.iox2_domain.proofs.lemmas.fields.Parts.{but-of}
-use Rattle.iox2_domain.proofs.lemmas.receivers.PortsStanding.{receiver-link, leads-among}
 use Rattle.iox2_domain.proofs.lemmas.receivers.DepartedEnds.{StandsNowhere, departed-nowhere}
 use Rattle.iox2_domain.proofs.lemmas.receivers.LeftEnds.{IsDeparted, LeavesReceiver, left_fields, end-expires, nothing-leaves}
 use Rattle.iox2_domain.proofs.lemmas.receivers.LeftStates.{left-is, occupants-pushed}

@@ -61,7 +61,7 @@ module _ {T U : Type 0} where
       → (y : SubscriberFields) → get_or now.subscribers place None ≡ Some y → IsWhetherWaiting now y.id waits
   answers-found f now place z expired places has found finds waits is y at =
       subst (λ (w : SubscriberFields). IsWhetherWaiting now w.id waits) (same-one f now place z expired places has y at)
-      (rw (subscriber-stands now has.sound place z has.stands)
+      (rw (subscriber-stands now has.sound.parts place z has.stands)
       (is ∙ found-waits now has.sound place z has.stands found (finds-now f now place z expired places has found finds)))
 
   -- an update and what waits after it are an answer
@@ -94,7 +94,7 @@ module _ {T U : Type 0} where
       let u = subst (UpdatesReceiver environment f place y mid) is (update y at) in
       let z = updated environment f mid place y (Some e) u in
       let shown : (state_of (kept_of mid)).subscribers y.id ≡ Some ((subscriber_of mid.books mid.connections z).port) =
-      subscriber-stands mid u.changes.agrees place z (updated-stands environment f mid place y (Some e) u at) in (
+      subscriber-stands mid u.changes.agrees.parts place z (updated-stands environment f mid place y (Some e) u at) in (
         state_of (kept_of mid),
         updated-reaches environment f mid place y (Some e) u,
         (has_any_data (f.config).subscriber_max_borrowed_samples ((subscriber_of mid.books mid.connections z).port) (λ p. (state_of (kept_of mid)).mailboxes p y.id), (u.updates, rw shown refl)),

@@ -114,7 +114,7 @@ module _ {T U : Type 0} (f now : Fields T U) (same : f ≡ now) (sound : IsDomai
 module _ {T U : Type 0} (f : Fields T U) (sound : IsDomain f) (i : ℕ) (y : SubscriberFields) (at_y : get_or f.subscribers i None ≡ Some y) where
   its-result : (s' : State T U) (result : ReceiveResult) → TakeSample (state_of (kept_of f)) y.id (receiver f sound i y at_y) s' result
       → MatchOption ((state_of (kept_of f)).subscribers y.id) ⊥ (λ z. TakeSample (state_of (kept_of f)) y.id z s' result)
-  its-result s' result takes = rw (subscriber-stands f sound i y at_y) takes
+  its-result s' result takes = rw (subscriber-stands f sound.parts i y at_y) takes
 
   -- a message is taken
   pub takes-ready : (key : ℕ) (receipt : Receipt) (new : Fields T U) → Finds f.connections y.expired y.keys (Found.Ready key) → TakesFrom f key receipt new → TakesAs f y.id (Ok (Some receipt)) new

@@ -86,7 +86,7 @@ module _ {T U : Type 0} (f : Fields T U) (sound : IsDomain f) (i : ℕ) (y : Sub
     takes-reaches same others keeps stay =
         reconnected-reaches f sound key c at_c new same others stay
         (returned-still f key c at_c new same keeps (sound.parts.linked.returned key c at_c))
-        (take_sample_keeps (state_of (kept_of f)) sound.well_formed y.id receiver _ (Got_sample c.home.publisher number_taken) (subscriber-stands f sound i y at_y) takes-message)
+        (take_sample_keeps (state_of (kept_of f)) sound.well_formed y.id receiver _ (Got_sample c.home.publisher number_taken) (subscriber-stands f sound.parts i y at_y) takes-message)
         (λ p q n. subst (λ (boxes : ℕ → ℕ → Mailbox). contains (numbers_in (boxes p q)) n ≡ true → contains (numbers_in ((state_of (kept_of f)).mailboxes p q)) n ≡ true)
         (sym (ap (λ (s : State T U). s.mailboxes) borrows.2))
         (at_each_mailbox (state_of (kept_of f)).mailboxes c.home.publisher y.id borrows.0

@@ -52,4 +52,4 @@ module _ {T U : Type 0} (f : Fields T U) where
   sender-has sound key c at some i x at_x is =
       leads-has sound.parts.linked sound.parts.apart key c at i x at_x is
       ((sound.well_formed.mailboxes c.home.publisher c.home.subscriber).sender_end _
-      (ap (state_of (kept_of f)).publishers (sym is) ∙ publisher-stands f sound i x at_x) some)
+      (ap (state_of (kept_of f)).publishers (sym is) ∙ publisher-stands f sound.parts i x at_x) some)

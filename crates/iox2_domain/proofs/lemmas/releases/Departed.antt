@@ -24,11 +24,11 @@ use Rattle.iox2_domain.specs.Ports.{SubscriberFields}
 use Rattle.iox2_domain.proofs.lemmas.containers.LookUps.{look_up-map}
 use Rattle.iox2_domain.proofs.lemmas.fields.LostConnections.{unloaded}
 use Rattle.iox2_domain.proofs.lemmas.fields.Standing.{occupant-receiver_ends, some_is}
-use Rattle.iox2_domain.proofs.lemmas.fields.SubscriberSet.{subscriber-in}
 use Rattle.iox2_domain.proofs.lemmas.fields.Views.{mailboxes-are}
 use Rattle.iox2_domain.proofs.lemmas.releases.Forgotten.{forgetting, forgetting-midway}
 use Rattle.iox2_domain.proofs.lemmas.releases.ForgottenEnds.{ends-forgotten, expired-contains, expired-forgotten}
 use Rattle.iox2_domain.proofs.lemmas.releases.Pruning.{others-connected, pruned-none}
+use Rattle.iox2_domain.proofs.lemmas.fields.ConnectionEnds.{subscriber-stands}
 
 -- a publisher that stands nowhere is gone
 pub gone-in : {T U : Type 0} (f : Fields T U) (p : ℕ) → look_up (is_publisher p) f.publishers ≡ None → (state_of (kept_of f)).publishers p ≡ None
@@ -55,7 +55,7 @@ module _ {T U : Type 0} (s : State T U) (well : IsWellFormed s) (n : ℕ) (g : F
   port = (subscriber_of g.books g.connections y).port
 
   here : s.subscribers y.id ≡ Some port
-  here = ap (λ (t : State T U). t.subscribers y.id) (sym is) ∙ subscriber-in g parts.subscriber_ids j y at_y
+  here = ap (λ (t : State T U). t.subscribers y.id) (sym is) ∙ subscriber-stands g parts j y at_y
 
   abbrev test : ℕ → Bool
   test = is_connected after y.id
@@ -134,7 +134,7 @@ module _ {T U : Type 0} (s : State T U) (well : IsWellFormed s) (n : ℕ) (g : F
   left-midway old book midway =
       subst (λ (t : State T U). IsMidway old g t book)
       (sym (pruned-none s well c.home.publisher y.id n (subscriber_of g.books g.connections y).port
-      (ap (λ (t : State T U). t.subscribers y.id) (sym midway.state) ∙ subscriber-in g parts.subscriber_ids j y at_y)
+      (ap (λ (t : State T U). t.subscribers y.id) (sym midway.state) ∙ subscriber-stands g parts j y at_y)
       (or_right (is_present s c.home.publisher) (has_numbers ((unborrowed s c.home.publisher y.id n).mailboxes c.home.publisher y.id)) some))) midway
     where
       returned : SenderHas g.publishers key c ⊎ (c.returned ≡ []) → c.returned ≡ []

@@ -27,10 +27,10 @@ use Rattle.iox2_domain.specs.Kept.{state_of}
 use Rattle.iox2_domain.specs.Midway.{IsMidway}
 use Rattle.iox2_domain.specs.Ports.{SubscriberFields}
 use Rattle.iox2_domain.proofs.lemmas.fields.OwnKeys.{own-key}
-use Rattle.iox2_domain.proofs.lemmas.fields.SubscriberSet.{subscriber-in}
 use Rattle.iox2_domain.proofs.lemmas.fields.Views.{mailboxes-are}
 use Rattle.iox2_domain.proofs.lemmas.receives.SenderEnds.{leads-has}
 use Rattle.iox2_domain.proofs.lemmas.slots.HeldMessages.{publisher-there}
+use Rattle.iox2_domain.proofs.lemmas.fields.ConnectionEnds.{subscriber-stands}
 
 -- what passes everywhere passes in a list
 all-pass : (test : ℕ → Bool) (ns : List ℕ) → ((n : ℕ) → test n ≡ true) → list_all test ns ≡ true
@@ -63,7 +63,7 @@ module _ {T U : Type 0} (f : Fields T U) (parts : HasParts f) (j : ℕ) (y : Sub
   port = (subscriber_of f.books f.connections y).port
 
   here : t.subscribers y.id ≡ Some port
-  here = subscriber-in f parts.subscriber_ids j y at_y
+  here = subscriber-stands f parts j y at_y
 
   same-port : (z : Subscriber) → t.subscribers y.id ≡ Some z → z ≡ port
   same-port z at = let one : Some z ≡ Some port = sym at ∙ here in cc

@@ -91,4 +91,4 @@ module _ {T U : Type 0} (f : Fields T U) (sound : IsDomain f) (key slot : ℕ) (
       returned = its-still f key c at_c new same (sender-has f sound key c at_c some-there i x at_x is)
 
       present : is_present (state_of (kept_of f)) c.home.publisher ≡ true
-      present = ap (λ (o : Option Publisher). is_some o) (ap (state_of (kept_of f)).publishers (sym is) ∙ publisher-stands f sound i x at_x)
+      present = ap (λ (o : Option Publisher). is_some o) (ap (state_of (kept_of f)).publishers (sym is) ∙ publisher-stands f sound.parts i x at_x)

@@ -71,7 +71,7 @@ module _ {T U : Type 0} (f : Fields T U) (sound : IsDomain f) (i : ℕ) (x : Pub
   loan-of = its.3
 
   standing : (state_of (kept_of f)).publishers l.publisher ≡ Some ((publisher_of f.books f.connections x).port)
-  standing = ap (state_of (kept_of f)).publishers its.3 ∙ publisher-stands f sound i x here
+  standing = ap (state_of (kept_of f)).publishers its.3 ∙ publisher-stands f sound.parts i x here
 
   well : LoanIsWellFormed (state_of (kept_of f)) n l
   well = sound.well_formed.loans n l loan-is
@@ -88,7 +88,7 @@ module _ {T U : Type 0} (f : Fields T U) (sound : IsDomain f) (i : ℕ) (x : Pub
   loan-once =
       let own = slot_numbered (numbers_of f.books x.id) n x.loans (well.is_out _ standing).0 in
       let some : 0 < times slot x.loans = subst (λ (s : ℕ). 0 < times s x.loans) (loan-slot own.0 own.1 own.2) own.1 in
-      omega (arith, some, once-times (numbers_of f.books x.id) slot x.loans (sound.well_formed.publishers x.id _ (publisher-stands f sound i x here)).loans_once)
+      omega (arith, some, once-times (numbers_of f.books x.id) slot x.loans (sound.well_formed.publishers x.id _ (publisher-stands f sound.parts i x here)).loans_once)
 
   -- it is a loan
   is-out : (b : Book) → get f.books x.book ≡ Some b → is_loan_in b slot ≡ true

@@ -38,7 +38,7 @@ module _ {T U : Type 0} (f : Fields T U) (sound : IsDomain f) (i : ℕ) (x : Pub
 
   -- a slot among its loans has a loan's mark
   lent-marked : (slot : ℕ) → 0 < times slot x.loans → is_loan_in b slot ≡ true
-  lent-marked slot some = elim ((sound.well_formed.publishers x.id _ (publisher-stands f sound i x here)).loans_held n in_loans) [
+  lent-marked slot some = elim ((sound.well_formed.publishers x.id _ (publisher-stands f sound.parts i x here)).loans_held n in_loans) [
     | inl held ↦
         let lies = loan-lies f sound x.id n (held.0, held.1, held.2) in
         let same = sound.parts.numbered.one lies.0 x.book lies.1 slot n

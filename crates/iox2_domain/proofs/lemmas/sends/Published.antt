@@ -172,7 +172,7 @@ module _ {T U : Type 0} (environment : Environment) (f : Fields T U) (sound : Is
   boxes = mailboxes_of (numbers_of f.books) d.connections
 
   stands : s.publishers x.id ≡ Some port
-  stands = publisher-stands f sound i x here
+  stands = publisher-stands f sound.parts i x here
 
   mid-is : state_of (kept_of mid) ≡ record s { mailboxes = boxes }
   mid-is = recounted-is f sound x.id x.book d.book d.stands own d.holders d.connections d.recounts

@@ -59,11 +59,11 @@ module _ {T U : Type 0} (environment : Environment) (f0 : Fields T U) (sound : I
   updated-agrees = u.reaches.agrees
 
   present : (state_of (kept_of f0)).publishers p ≡ Some ((publisher_of f0.books f0.connections found.0).port)
-  present = ap (state_of (kept_of f0)).publishers (sym found.2) ∙ publisher-stands f0 sound place found.0 found.1
+  present = ap (state_of (kept_of f0)).publishers (sym found.2) ∙ publisher-stands f0 sound.parts place found.0 found.1
 
   loans-are : (state_of (kept_of f1)).loans ≡ (state_of (kept_of f0)).loans
   loans-are = ap (λ (s : State T U). s.loans) u.reaches.state
-      ∙ (update_publisher_leaves environment (state_of (kept_of f0)) found.0.id u.after None _ (publisher-stands f0 sound place found.0 found.1) u.updates).5
+      ∙ (update_publisher_leaves environment (state_of (kept_of f0)) found.0.id u.after None _ (publisher-stands f0 sound.parts place found.0 found.1) u.updates).5
 
   still-out : (state_of (kept_of f1)).loans n ≡ Some holds.0
   still-out = ap (λ (loans : ℕ → Option (Loan T U)). loans n) loans-are ∙ holds.1

@@ -33,7 +33,7 @@ module _ {T U : Type 0} (f : Fields T U) (sound : IsDomain f) (slots room key : 
     (enters : BookEnters f.next_port slots room key f.books f.contents books contents) where
   -- a publisher that stands somewhere was made before
   pub publisher_before : (i : ℕ) (x : PublisherFields) → get_or f.publishers i None ≡ Some x → x.id < f.next_port
-  publisher_before i x at = (sound.well_formed.publishers x.id _ (publisher-stands f sound i x at)).is_known
+  publisher_before i x at = (sound.well_formed.publishers x.id _ (publisher-stands f sound.parts i x at)).is_known
 
   -- so was the publisher of a book
   owner_before : (k : ℕ) (b : Book) → get f.books k ≡ Some b → b.publisher < f.next_port

@@ -1,18 +1,21 @@
--- A publisher that stands somewhere, with its book and its connections.
+-- A publisher that stands somewhere, with its book and its connections; and the books of connections.
 use Rattle.std.proofs.Common.{◌≡◌, ℕ, zero, suc, ◌<◌, List, [], ◌∷◌, length, get_or, refl, ap, sym, ◌∙◌, arith}
 use Rattle.std.proofs.lemmas.Bool.{eq-eqb}
 use Rattle.std.specs.declared.option.Option.{Option}
 use Rattle.std.specs.declared.option.Option.TheVariants.{None, Some}
 use Rattle.std.specs.Option.{option_map_or}
 use Rattle.slab.specs.Slab.{get, ContainsKey}
+use Rattle.iox2_store.specs.Link.{Link}
 use Rattle.iox2_store.specs.SlotBook.{Book, holders_at}
 use Rattle.iox2_ends.specs.Counters.{IsCovered}
+use Rattle.iox2_ends.specs.Reclaims.{IsHeld}
 use Rattle.iox2_ends.specs.Homes.{IsSenderLinked}
 use Rattle.iox2_ends.proofs.LookUps.{look_up-found}
 use Rattle.iox2_ends.proofs.MailboxChanges.{within_if_some}
+use Rattle.iox2_ends.proofs.ReclaimedPuts.{held-at}
 use Rattle.iox2_domain.specs.Ports.{PublisherFields}
 use Rattle.iox2_domain.specs.Fields.{Fields, is_book_of}
-use Rattle.iox2_domain.specs.Invariant.{IsOwned, HasBook, holders_of, HasParts}
+use Rattle.iox2_domain.specs.Invariant.{IsBookOf, IsOwned, HasBook, holders_of, HasParts}
 
 module _ {T U : Type 0} (f : Fields T U) (parts : HasParts f) (i : ℕ) (x : PublisherFields) (stands : get_or f.publishers i None ≡ Some x) where
   its_book : HasBook f x
@@ -43,6 +46,27 @@ module _ {T U : Type 0} (f : Fields T U) (parts : HasParts f) (i : ℕ) (x : Pub
         (look_up-found (is_book_of x.id) f.books.slots x.book b (parts.books.one_each x.id) at (eq-eqb b.publisher x.id (book-own b at))) in
         omega (arith, found, parts.counted.at x.id slot);
   }
+
+-- the connections of a domain have their books, which hold what stands in them
+module _ {T U : Type 0} (f : Fields T U) (parts : HasParts f) (key : ℕ) (c : Link) (at : get f.connections key ≡ Some c) where
+  pub its-book : IsBookOf f.books c.home.publisher c.home.book
+  its-book = parts.names.at key c at
+
+  pub book-stands : ContainsKey f.books c.home.book
+  book-stands = rw its-book.stands refl
+
+  pub link-held : (b : Book) → get f.books c.home.book ≡ Some b → IsHeld b.holders c
+  link-held b at_b =
+      let same : Some its-book.book ≡ Some b = sym its-book.stands ∙ at_b in
+      let is : its-book.book ≡ b = cc in
+      let its : b.publisher ≡ c.home.publisher = ap (λ (d : Book). d.publisher) (sym is) ∙ its-book.is_its in
+      held-at c.home.publisher b.holders f.connections key c (record {
+        at = λ slot.
+            let here : holders_of f.books c.home.publisher slot ≡ holders_at b slot =
+            ap (λ o. option_map_or (λ (d : Book). holders_at d slot) o 0)
+            (look_up-found (is_book_of c.home.publisher) f.books.slots c.home.book b (parts.books.one_each c.home.publisher) at_b (eq-eqb b.publisher c.home.publisher its)) in
+            omega (arith, parts.counted.at c.home.publisher slot, here);
+      }) at refl
 
 -- what was read at a place is what stands there
 pub read-there : {A : Type 0} (xs : List (Option A)) (i : ℕ) (x : A) (o : Option A) → get_or xs i None ≡ Some x → o ≡ get_or xs i o → get_or xs i None ≡ o

@@ -165,7 +165,7 @@ module _ {T U : Type 0} (f : Fields T U) (sound : IsDomain f) (p key : ℕ) (b :
       → (state_of (kept_of f)).loans n ≡ Some l → lies_at f k slot ≡ Some (Lent_message n l) → HasNumber recounted_fields.books k slot n
   standing-in_use k slot n l i x at_x its found e =
       let out : contains _ n ≡ true = ((sound.well_formed.loans n l found).is_out _
-      (ap (state_of (kept_of f)).publishers (sym its) ∙ publisher-stands f sound i x at_x)).0 in
+      (ap (state_of (kept_of f)).publishers (sym its) ∙ publisher-stands f sound.parts i x at_x)).0 in
       let own = slot_numbered (numbers_of f.books x.id) n x.loans out in
       let has = lies_with recounted_fields parts-recounted.counted parts-recounted.publisher_ids x.id own.0 n
       (own-in_use recounted_fields parts-recounted.counted parts-recounted.publisher_ids i own.0 x at_x (omega (arith, own.1)))

@@ -180,7 +180,7 @@ module _ {T U : Type 0} (f : Fields T U) (sound : IsDomain f) where
             | inr borrowed ↦ contains_right (map number c.waiting) (map number c.borrowed) (number slot) (contains-map number c.borrowed slot (times-stands slot c.borrowed borrowed))
           ] in
           let in_its : contains (numbers_in (state.mailboxes x.id c.home.subscriber)) (number slot) ≡ true = ap (λ (box : Mailbox). contains (numbers_in box) (number slot)) box_is ∙ in_box in
-          let leads = (sound.well_formed.mailboxes x.id c.home.subscriber).sender_end machine (publisher-stands f sound i x at)
+          let leads = (sound.well_formed.mailboxes x.id c.home.subscriber).sender_end machine (publisher-stands f sound.parts i x at)
           (has_numbers-contains (state.mailboxes x.id c.home.subscriber) (number slot) in_its) in
           contains-flat_map (λ q. numbers_in (state.mailboxes x.id q)) (occupants machine.ends) c.home.subscriber (number slot)
           (contains-occupants machine.ends c.home.subscriber leads) in_its

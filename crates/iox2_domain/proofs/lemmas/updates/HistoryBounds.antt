@@ -43,7 +43,7 @@ module _ {T U : Type 0} (f : Fields T U) (sound : IsDomain f) (i : ℕ) (x : Pub
   P = (publisher_of f.books f.connections x).port
 
   present : s.publishers x.id ≡ Some P
-  present = publisher-stands f sound i x here
+  present = publisher-stands f sound.parts i x here
 
   mine : b.publisher ≡ x.id
   mine = book-own f sound.parts i x here b at
@@ -67,7 +67,7 @@ module _ {T U : Type 0} (f : Fields T U) (sound : IsDomain f) (i : ℕ) (x : Pub
     nothing-returned key c there its = elim (sound.parts.linked.returned key c there) [
       | inr none ↦ none
       | inl has ↦
-          let place : c.home.publisher_place ≡ i = one-publisher f sound c.home.publisher_place i has.publisher x has.stands here (has.is_its ∙ its) in
+          let place : c.home.publisher_place ≡ i = one-publisher f sound.parts c.home.publisher_place i has.publisher x has.stands here (has.is_its ∙ its) in
           let both : Some has.publisher ≡ Some x = sym has.stands ∙ ap (λ (n : ℕ). get_or f.publishers n None) place ∙ here in
           let is : has.publisher ≡ x = cc in
           reclaimed.at c.home.subscriber_place key c (ap (λ (z : PublisherFields). get_or z.keys c.home.subscriber_place None) (sym is) ∙ has.has) there

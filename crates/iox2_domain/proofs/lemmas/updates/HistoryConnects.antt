@@ -226,7 +226,7 @@ module _ {T U : Type 0} (environment : Environment) (f : Fields T U) (sound : Is
           ∙ put_at-twice (s.mailboxes x.id) q (with_waiting (last_n size []) (s.mailboxes x.id q)) (with_waiting (last_n size P.history) (s.mailboxes x.id q)))
 
   present : s.publishers x.id ≡ Some P
-  present = publisher-stands f sound i x at
+  present = publisher-stands f sound.parts i x at
 
   well : IsWellFormed (with_sender_side s x.id P full)
   well =

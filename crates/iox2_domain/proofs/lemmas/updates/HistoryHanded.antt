@@ -62,7 +62,7 @@ module _ {T U : Type 0} (f : Fields T U) (sound : IsDomain f) (i : ℕ) (x : Pub
   P = (publisher_of f.books f.connections x).port
 
   present : s.publishers x.id ≡ Some P
-  present = publisher-stands f sound i x here
+  present = publisher-stands f sound.parts i x here
 
   pub mine : b.publisher ≡ x.id
   mine = book-own f sound.parts i x here b at

@@ -108,13 +108,13 @@ module _ {T U : Type 0} (f : Fields T U) (sound : IsDomain f) (i : ℕ) (x : Pub
         let old_z = was k z at_z in
         elim (fits.news key c at_c) [
           | inl old ↦ sound.parts.linked.knows_publishers key k c old_z.0 old old_z.1 (old_z.2 ∙ same)
-          | inr new ↦ one-publisher f sound k i old_z.0 x old_z.1 at (old_z.2 ∙ same ∙ new.publisher) ∙ sym new.publisher_place
+          | inr new ↦ one-publisher f sound.parts k i old_z.0 x old_z.1 at (old_z.2 ∙ same ∙ new.publisher) ∙ sym new.publisher_place
         ];
     sender_rooms = λ key k c z at_c at_z same. sender_room key k c z at_z same (fits.news key c at_c) (stood k z at_z);
     receiver_rooms = λ key k c y at_c at_y same. elim (fits.news key c at_c) [
       | inl old ↦ sound.parts.linked.receiver_rooms key k c y old at_y same
       | inr new ↦
-          let place : k ≡ c.home.subscriber_place = one-subscriber f sound k c.home.subscriber_place y new.subscriber at_y new.stands (same ∙ sym new.is_its) in
+          let place : k ≡ c.home.subscriber_place = one-subscriber f sound.parts k c.home.subscriber_place y new.subscriber at_y new.stands (same ∙ sym new.is_its) in
           let one : Some y ≡ Some new.subscriber = sym at_y ∙ ap (λ (n : ℕ). get_or f.subscribers n None) place ∙ new.stands in
           let is : y ≡ new.subscriber = cc in
           rw is new.subscriber_room
@@ -139,7 +139,7 @@ module _ {T U : Type 0} (f : Fields T U) (sound : IsDomain f) (i : ℕ) (x : Pub
     sender_room key k c z at_z same (inl old) (inr was_there) = sound.parts.linked.sender_rooms key k c z old was_there same
     sender_room key k c z at_z same (inr new) _ =
         let old_z = was k z at_z in
-        let place : k ≡ i = one-publisher f sound k i old_z.0 x old_z.1 at (old_z.2 ∙ same ∙ new.publisher) in
+        let place : k ≡ i = one-publisher f sound.parts k i old_z.0 x old_z.1 at (old_z.2 ∙ same ∙ new.publisher) in
         let one : Some z ≡ Some changed = sym at_z ∙ ap (λ (n : ℕ). get_or publishers n None) place ∙ changed-here f.publishers i x changed at in
         let is : z ≡ changed = cc in
         rw is new.room
@@ -152,7 +152,7 @@ module _ {T U : Type 0} (f : Fields T U) (sound : IsDomain f) (i : ℕ) (x : Pub
         → d.port_id ≡ c.home.subscriber → (k ≡ c.home.subscriber_place) × (c.buffer ≡ d.buffer_size)
     knows key k c d new there same =
         let id : there.0.id ≡ new.subscriber.id = sym (ap (λ (r : ReceiverDetails). r.port_id) there.2) ∙ same ∙ sym new.is_its in
-        let place : k ≡ c.home.subscriber_place = one-subscriber f sound k c.home.subscriber_place there.0 new.subscriber there.1 new.stands id in
+        let place : k ≡ c.home.subscriber_place = one-subscriber f sound.parts k c.home.subscriber_place there.0 new.subscriber there.1 new.stands id in
         let one : Some there.0 ≡ Some new.subscriber = sym there.1 ∙ ap (λ (n : ℕ). get_or f.subscribers n None) place ∙ new.stands in
         let is : there.0 ≡ new.subscriber = cc in
         (place, new.buffer ∙ sym (ap (λ (y : SubscriberFields). y.buffer) is) ∙ sym (ap (λ (r : ReceiverDetails). r.buffer_size) there.2))
@@ -206,7 +206,7 @@ module _ {T U : Type 0} (f : Fields T U) (sound : IsDomain f) (i : ℕ) (x : Pub
       let is = ap (λ (s : State T U). s.publishers p) (sender-is f sound i x at keys key_room is_due connections warnings fits) in
       found_put (state_of (kept_of f)).publishers x.id (port_after f sound i x at keys key_room is_due connections warnings fits)
       (λ n w. (z : Publisher) × ((state_of (kept_of f)).publishers n ≡ Some z) × KeepsHeld z w) p y (sym is ∙ at_y)
-      (λ _. ((publisher_of f.books f.connections x).port, publisher-stands f sound i x at, record { history = refl; blocked = refl }))
+      (λ _. ((publisher_of f.books f.connections x).port, publisher-stands f sound.parts i x at, record { history = refl; blocked = refl }))
       (λ _ old. (y, old, record { history = refl; blocked = refl }))
 
   -- the invariant is kept

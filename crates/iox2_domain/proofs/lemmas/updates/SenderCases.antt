@@ -35,7 +35,7 @@ use Rattle.iox2_domain.proofs.lemmas.containers.ConnectionKeys.{map-set_place, s
 use Rattle.iox2_domain.proofs.lemmas.updates.MadeConnections.{made-extends, made-news}
 use Rattle.iox2_domain.proofs.lemmas.updates.SenderChanges.{fits-same}
 use Rattle.iox2_domain.proofs.lemmas.updates.SenderSteps.{connected_sender, steps-connect, keeps-end, makes-end, no_end, no-numbers, makes-empty}
-use Rattle.iox2_domain.proofs.lemmas.fields.Standing.{one-publisher, publisher-place, occupant-receiver_ends, receiver-joined, not-joined}
+use Rattle.iox2_domain.proofs.lemmas.fields.Standing.{key-from, no-connection, occupant-receiver_ends, one-publisher, publisher-place, receiver-joins}
 
 module _ {T U : Type 0} (environment : Environment) (f : Fields T U) (sound : IsDomain f) (i j : ℕ) (x : PublisherFields) (y : SubscriberFields)
     (at_x : get_or f.publishers i None ≡ Some x) (at_y : get_or f.subscribers j None ≡ Some y) (due : x.is_due ≡ false) (opened : y.is_open ≡ true) where
@@ -109,7 +109,7 @@ module _ {T U : Type 0} (environment : Environment) (f : Fields T U) (sound : Is
       where
         unknown : SenderHas f.publishers key c → ⊥
         unknown has =
-            let here : c.home.publisher_place ≡ i = one-publisher f sound c.home.publisher_place i has.publisher x has.stands at_x (has.is_its ∙ its) in
+            let here : c.home.publisher_place ≡ i = one-publisher f sound.parts c.home.publisher_place i has.publisher x has.stands at_x (has.is_its ∙ its) in
             let same : Some has.publisher ≡ Some x = sym has.stands ∙ ap (λ (n : ℕ). get_or f.publishers n None) here ∙ at_x in
             let is : has.publisher ≡ x = cc in
             absurd (let no : None ≡ Some key = sym none ∙ ap (λ (n : ℕ). get_or x.keys n None) (sym place) ∙ ap (λ (z : PublisherFields). get_or z.keys c.home.subscriber_place None) (sym is) ∙ has.has in cc)
@@ -118,7 +118,7 @@ module _ {T U : Type 0} (environment : Environment) (f : Fields T U) (sound : Is
     pub joins-connection : (key : ℕ) (c : Link) → get_or y.keys i None ≡ Some key → get f.connections key ≡ Some c → c.home.publisher ≡ x.id
         → MakesSenderEnd environment f i j x key (connected_sender f i x (set_place x.keys j (Some key)) f.connections f.warnings)
     joins-connection key joined has at from =
-        let own = receiver-joined f sound i j x y at_x at_y key joined has at from in
+        let own = receiver-joins f sound.parts i j x y at_x at_y key joined has at from in
         makes-empty environment f sound i j x y at_x at_y due opened none (keys_with key) f.connections (record {
           extends = (fits-same f sound i x at_x f.connections.capacity).extends;
           grows = le_refl x.key_room;
@@ -140,7 +140,9 @@ module _ {T U : Type 0} (environment : Environment) (f : Fields T U) (sound : Is
       link = empty_link (home_of i j x y) y.buffer most
 
       nobody : look_up (is_between x.id y.id) f.connections.slots ≡ None
-      nobody = not-joined f sound i j x y at_x at_y none none_y
+      nobody = no-connection f sound.parts i j x y at_x at_y sound.well_formed
+          (λ key c has at its. none-some key (sym none ∙ has))
+          (λ key c has at its. none-some key (sym none_y ∙ ap (key_from f.connections x.id) has ∙ key-from f.connections x.id key c at its))
 
       extends : (key : ℕ) (new : Slab Link) → MakesConnection f.connections (home_of i j x y) y.buffer most key new → Extends f.connections new
       extends key new made = made-extends f.connections new (home_of i j x y) y.buffer most key sound.parts.apart nobody made
@@ -185,10 +187,10 @@ module _ {T U : Type 0} (environment : Environment) (f : Fields T U) (sound : Is
 
       no_receiver : has_receiver_end s x.id y.id ≡ false
       no_receiver =
-          ap (λ o. option_map_or (λ (z : Subscriber). option_map_or (λ (w : Publisher). is_port (occupant z.ends w.place) x.id) (s.publishers x.id) false) o false) (subscriber-stands f sound j y at_y)
-          ∙ ap (λ o. option_map_or (λ (w : Publisher). is_port (occupant ((subscriber_of f.books f.connections y).port).ends w.place) x.id) o false) (publisher-stands f sound i x at_x)
+          ap (λ o. option_map_or (λ (z : Subscriber). option_map_or (λ (w : Publisher). is_port (occupant z.ends w.place) x.id) (s.publishers x.id) false) o false) (subscriber-stands f sound.parts j y at_y)
+          ∙ ap (λ o. option_map_or (λ (w : Publisher). is_port (occupant ((subscriber_of f.books f.connections y).port).ends w.place) x.id) o false) (publisher-stands f sound.parts i x at_x)
           ∙ ap (λ o. is_port o x.id)
-          (ap (occupant ((subscriber_of f.books f.connections y).port).ends) (publisher-place f sound i x at_x)
+          (ap (occupant ((subscriber_of f.books f.connections y).port).ends) (publisher-place f sound.parts sound.well_formed i x at_x)
           ∙ occupant-receiver_ends f.connections y.keys i)
           ∙ other-publisher (get_or y.keys i None) none_y
 

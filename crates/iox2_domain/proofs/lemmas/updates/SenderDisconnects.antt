@@ -96,7 +96,7 @@ module _ {T U : Type 0} (f : Fields T U) (sound : IsDomain f) (i j : ℕ) (x : P
   side = sender_side s x.id P
 
   present : s.publishers x.id ≡ Some P
-  present = publisher-stands f sound i x here
+  present = publisher-stands f sound.parts i x here
 
   leads : occupant P.ends j ≡ Some c.home.subscriber
   leads = end-leads f sound i j x here due key has c r.drops.stood
@@ -119,7 +119,7 @@ module _ {T U : Type 0} (f : Fields T U) (sound : IsDomain f) (i j : ℕ) (x : P
   mid-is = mid-reached.state ∙ dropped-side f sound i j x here due key has c r.drops.stood
 
   port-is : (publisher_of mid.books mid.connections x).port ≡ settled
-  port-is = same_Some _ _ (sym (publisher-stands mid mid-sound i x here) ∙ ap (λ (t : State T U). t.publishers x.id) mid-is ∙ put_at-same s.publishers x.id (Some settled))
+  port-is = same_Some _ _ (sym (publisher-stands mid mid-sound.parts i x here) ∙ ap (λ (t : State T U). t.publishers x.id) mid-is ∙ put_at-same s.publishers x.id (Some settled))
 
   -- ---- the connection goes
 

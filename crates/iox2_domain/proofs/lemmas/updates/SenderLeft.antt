@@ -94,7 +94,7 @@ module _ {T U : Type 0} (f : Fields T U) (sound : IsDomain f) (i j : ℕ) (x : P
   unsent has = absent (elim (changed-stood f.publishers i x changed leaves.here c.home.publisher_place has.publisher has.stands) [ inl is ↦ is.1 | inr old ↦ it old ]) where
     it : get_or f.publishers c.home.publisher_place None ≡ Some has.publisher → has.publisher ≡ changed
     it old =
-        let here : c.home.publisher_place ≡ i = one-publisher f sound c.home.publisher_place i has.publisher x old leaves.here (has.is_its ∙ own.publisher) in
+        let here : c.home.publisher_place ≡ i = one-publisher f sound.parts c.home.publisher_place i has.publisher x old leaves.here (has.is_its ∙ own.publisher) in
         let both : Some has.publisher ≡ Some changed = sym has.stands ∙ ap (λ (n : ℕ). get_or publishers n None) here ∙ changed-here f.publishers i x changed leaves.here in
         cc
 
@@ -170,7 +170,7 @@ module _ {T U : Type 0} (f : Fields T U) (sound : IsDomain f) (i j : ℕ) (x : P
       let is = ap (λ (t : State T U). t.publishers p) left-is in
       found_put s.publishers x.id port_after
       (λ n w. (z : Publisher) × (s.publishers n ≡ Some z) × KeepsHeld z w) p y (sym is ∙ at_y)
-      (λ _. (P, publisher-stands f sound i x leaves.here, record { history = refl; blocked = refl }))
+      (λ _. (P, publisher-stands f sound.parts i x leaves.here, record { history = refl; blocked = refl }))
       (λ _ old. (y, old, record { history = refl; blocked = refl }))
 
   -- the invariant is kept

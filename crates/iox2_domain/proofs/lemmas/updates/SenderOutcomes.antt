@@ -23,7 +23,7 @@ use Rattle.iox2_domain.specs.Updates.{changed_at, with_sender_key, with_sender_r
 use Rattle.iox2_domain.specs.Connects.{ConnectsSender, MakesSenderEnd, MakesRoom}
 use Rattle.iox2_domain.proofs.lemmas.containers.ChangedRecords.{changed-here}
 use Rattle.iox2_domain.proofs.lemmas.updates.Grown.{grown, grown-sound, sender-from, end-from}
-use Rattle.iox2_domain.proofs.lemmas.fields.Standing.{joined-room}
+use Rattle.iox2_domain.proofs.lemmas.fields.Standing.{receiver-joins, sender-room}
 use Rattle.iox2_domain.proofs.lemmas.updates.SenderCases.{joins-connection, makes-connection, misses-connection}
 
 pub none_or_some : (o : Option ℕ) → is_some o ≡ false → o ≡ None
@@ -76,7 +76,8 @@ module _ {T U : Type 0} (f : Fields T U) (sound : IsDomain f) (i j : ℕ) (x : P
   pub joins-room : (key : ℕ) → key_from f.connections home.publisher (receiver_key f.subscribers j i) ≡ Some key → j < x.key_room
   joins-room key at =
       let from = some_from f.connections x.id (get_or (apart.subscriber).keys i None) key (sym from-is ∙ at) in
-      joined-room f sound i j x apart.subscriber at_x apart.subscriber_stands key from.0 from.1 from.2 from.3
+      sender-room f sound.parts i j x apart.subscriber at_x apart.subscriber_stands key from.0
+      (receiver-joins f sound.parts i j x apart.subscriber at_x apart.subscriber_stands key from.0 from.1 from.2 from.3)
 
 module _ {T U : Type 0} (environment : Environment) (f : Fields T U) (sound : IsDomain f) (i j : ℕ) (x : PublisherFields) (at_x : get_or f.publishers i None ≡ Some x) (due : x.is_due ≡ false) where
   module _ (home : Home) (size : ℕ) (apart : StandApart f.publishers f.subscribers i j home size) where

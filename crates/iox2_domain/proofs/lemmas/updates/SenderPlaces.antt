@@ -45,7 +45,7 @@ module _ {T U : Type 0} (environment : Environment) (f : Fields T U) (sound : Is
   side = sender_side s x.id P
 
   present : s.publishers x.id ≡ Some P
-  present = publisher-stands f sound i x here
+  present = publisher-stands f sound.parts i x here
 
   same_publishers : slice_set f.publishers i (Some x) ≡ f.publishers
   same_publishers = ap (slice_set f.publishers i) (sym here) ∙ set-get_or f.publishers i None
@@ -64,7 +64,7 @@ module _ {T U : Type 0} (environment : Environment) (f : Fields T U) (sound : Is
   -- a closed subscriber takes no messages
   closed-buffer : (y : SubscriberFields) → get_or f.subscribers j None ≡ Some y → y.is_open ≡ false → receiving_buffer s y.id ≡ None
   closed-buffer y at closed =
-      ap (option_and_then (λ (z : Subscriber). cond z.is_open (Some z.buffer) None)) (subscriber-stands f sound j y at)
+      ap (option_and_then (λ (z : Subscriber). cond z.is_open (Some z.buffer) None)) (subscriber-stands f sound.parts j y at)
       ∙ ap (λ b. cond b (Some y.buffer) None) closed
 
   nobody-takes : is_open_subscriber f.subscribers j ≡ false → option_and_then (receiving_buffer s) (occupant s.subscriber_places j) ≡ None
@@ -110,7 +110,7 @@ module _ {T U : Type 0} (environment : Environment) (f : Fields T U) (sound : Is
     others = ap (λ (ys : List (Option SubscriberFields)). map (option_map subscriber_but_room) ys) subscribers;
     side = dropped side c.home.subscriber;
     steps = update-drops environment (f.config).service_id x.id P.degradation_handler P.history (receiving_buffer s) (has_receiver_end s x.id) j
-        (occupant s.subscriber_places j) side c.home.subscriber (subscriber-listed f sound j y at ∙ ap Some (sym to))
+        (occupant s.subscriber_places j) side c.home.subscriber (subscriber-listed f sound.parts j y at ∙ ap Some (sym to))
         (ap (receiving_buffer s) to ∙ closed-buffer y at closed) (end-leads f sound i j x here due key has c there);
     state = loses.state ∙ dropped-side f sound i j x here due key has c there;
     entries = loses.entries;
@@ -151,7 +151,7 @@ module _ {T U : Type 0} (environment : Environment) (f : Fields T U) (sound : Is
 
     port-is : (publisher_of f1.books f1.connections without_end).port ≡ publisher_mid environment s x.id P present side1
     port-is =
-        same_Some _ _ (sym (publisher-stands f1 loses.agrees i without_end without-stands)
+        same_Some _ _ (sym (publisher-stands f1 loses.agrees.parts i without_end without-stands)
         ∙ ap (λ (t : State T U). t.publishers x.id) loses.state
         ∙ put_at-same s.publishers x.id (Some (publisher_mid environment s x.id P present side1)))
 

@@ -64,7 +64,7 @@ module _ {T U : Type 0} (environment : Environment) (f : Fields T U) (sound : Is
   P = (publisher_of f.books f.connections x).port
 
   present : s.publishers x.id ≡ Some P
-  present = publisher-stands f sound i x at_x
+  present = publisher-stands f sound.parts i x at_x
 
   -- the machine's step is done where the fields change so
   pub steps-connect : (keys : List (Option ℕ)) (connections : Slab Link) (warnings : WarningRing) (failure : Option ConnectionFailure) → FitsSender f i x keys x.key_room connections
@@ -96,7 +96,7 @@ module _ {T U : Type 0} (environment : Environment) (f : Fields T U) (sound : Is
     well : IsWellFormed (with_sender_side s x.id P (side_with f x keys connections warnings))
     well = with_sender_side_keeps s sound.well_formed x.id P present (unblocked f.books f.connections x (sound.parts.plain i x at_x)) (side_with f x keys connections warnings)
         (performed_keeps s sound.well_formed x.id P present environment j _ _ (sender_side s x.id P) (side_with f x keys connections warnings) failure
-        (occupied_within s.subscriber_places j y.id (subscriber-listed f sound j y at_y)) refl refl (sender_side_begins s sound.well_formed x.id P present) step)
+        (occupied_within s.subscriber_places j y.id (subscriber-listed f sound.parts j y at_y)) refl refl (sender_side_begins s sound.well_formed x.id P present) step)
 
   -- ---- what the machine does
 
@@ -109,14 +109,14 @@ module _ {T U : Type 0} (environment : Environment) (f : Fields T U) (sound : Is
   -- the subscriber takes messages
   open_buffer : receiving_buffer s y.id ≡ Some y.buffer
   open_buffer =
-      ap (option_and_then (λ (z : Subscriber). cond z.is_open (Some z.buffer) None)) (subscriber-stands f sound j y at_y)
+      ap (option_and_then (λ (z : Subscriber). cond z.is_open (Some z.buffer) None)) (subscriber-stands f sound.parts j y at_y)
       ∙ ap (λ b. cond b (Some y.buffer) None) opened
 
   -- an end to the subscriber stays
   pub keeps-end : occupant P.ends j ≡ Some y.id → Step (sender_side s x.id P) None
   keeps-end there =
       update-keeps environment (f.config).service_id x.id P.degradation_handler P.history (receiving_buffer s) (has_receiver_end s x.id) j y.id y.buffer
-      (occupant s.subscriber_places j) (sender_side s x.id P) (subscriber-listed f sound j y at_y) open_buffer there
+      (occupant s.subscriber_places j) (sender_side s x.id P) (subscriber-listed f sound.parts j y at_y) open_buffer there
 
   -- without an end one is made
   pub makes-end : occupant P.ends j ≡ None → (side : SenderSide) (failure : Option ConnectionFailure)
@@ -124,7 +124,7 @@ module _ {T U : Type 0} (environment : Environment) (f : Fields T U) (sound : Is
       → Step side failure
   makes-end none side failure step =
       update-connects environment (f.config).service_id x.id P.degradation_handler P.history (receiving_buffer s) (has_receiver_end s x.id) j y.id y.buffer
-      (occupant s.subscriber_places j) (sender_side s x.id P) (subscriber-listed f sound j y at_y) open_buffer side failure none step
+      (occupant s.subscriber_places j) (sender_side s x.id P) (subscriber-listed f sound.parts j y at_y) open_buffer side failure none step
 
   pub no_end : get_or x.keys j None ≡ None → occupant P.ends j ≡ None
   no_end none = occupant-sender_ends f.connections x.keys j ∙ ap (subscriber_of_key f.connections) none
@@ -150,8 +150,8 @@ module _ {T U : Type 0} (environment : Environment) (f : Fields T U) (sound : Is
     by false e = refl
     by true e =
         let leads : LeadsTo P.ends y.id = (sound.well_formed.mailboxes x.id y.id).sender_end P present e in
-        let place : y.place ≡ leads.0 = (sound.well_formed.publishers x.id P present).ends_stand leads.0 y.id Q leads.1 (subscriber-stands f sound j y at_y) in
-        let here : leads.0 ≡ j = sym place ∙ subscriber-place f sound j y at_y in
+        let place : y.place ≡ leads.0 = (sound.well_formed.publishers x.id P present).ends_stand leads.0 y.id Q leads.1 (subscriber-stands f sound.parts j y at_y) in
+        let here : leads.0 ≡ j = sym place ∙ subscriber-place f sound.parts sound.well_formed j y at_y in
         absurd (let no : None ≡ Some y.id = sym (no_end none) ∙ ap (occupant P.ends) (sym here) ∙ leads.1 in cc)
 
   last_of_none : (n : ℕ) → last_n {X = ℕ} n [] ≡ []
@@ -206,5 +206,5 @@ module _ {T U : Type 0} (environment : Environment) (f : Fields T U) (sound : Is
     well : IsWellFormed (with_sender_side s x.id P (connected [] (sender_side s x.id P) j y.id y.buffer))
     well = with_sender_side_keeps s sound.well_formed x.id P present (unblocked f.books f.connections x (sound.parts.plain i x at_x)) (connected [] (sender_side s x.id P) j y.id y.buffer)
         (connected_with_keeps s sound.well_formed x.id P present [] tt (λ n no. absurd cc) (sender_side s x.id P) j y.id y.buffer
-        (occupied_within s.subscriber_places j y.id (subscriber-listed f sound j y at_y)) (subscriber-listed f sound j y at_y) open_buffer (no_end none)
+        (occupied_within s.subscriber_places j y.id (subscriber-listed f sound.parts j y at_y)) (subscriber-listed f sound.parts j y at_y) open_buffer (no_end none)
         (sender_side_begins s sound.well_formed x.id P present))

@@ -55,7 +55,7 @@ module _ {T U : Type 0} (environment : Environment) (f : Fields T U) (sound : Is
   P = (publisher_of f.books f.connections x).port
 
   present : s.publishers x.id ≡ Some P
-  present = publisher-stands f sound i x at
+  present = publisher-stands f sound.parts i x at
 
   -- the walk over all places
   abbrev Whole : SenderSide → Option ConnectionFailure → Type 0
@@ -101,7 +101,7 @@ module _ {T U : Type 0} (environment : Environment) (f : Fields T U) (sound : Is
     -- as the machine sees it
     port-is : (publisher_of f'.books f'.connections walking).port ≡ publisher_mid environment s x.id P present walks.side
     port-is =
-        same_Some _ _ (sym (publisher-stands f' walks.agrees i walking walking-stands)
+        same_Some _ _ (sym (publisher-stands f' walks.agrees.parts i walking walking-stands)
         ∙ ap (λ (t : State T U). t.publishers x.id) walks.state
         ∙ put_at-same s.publishers x.id (Some (publisher_mid environment s x.id P present walks.side)))
 

@@ -113,7 +113,7 @@ module _ {T U : Type 0} (f : Fields T U) (sound : IsDomain f) (i j : ℕ) (x : P
   end-leads = occupant-sender_ends f.connections x.keys j ∙ ap (subscriber_of_key f.connections) has ∙ ap (option_map (λ (d : Link). d.home.subscriber)) there
 
   present : before.publishers x.id ≡ Some port
-  present = publisher-stands f sound i x here
+  present = publisher-stands f sound.parts i x here
 
   -- the machine's step at the place, of a publisher that isn't due
   pub dropped-side : with_waiting_dropped f x c ≡ with_sender_side before x.id port (dropped (sender_side before x.id port) to)

@@ -33,7 +33,7 @@ set_key_at-requires-2-clause-room g c = λ x at.
 pub make_between-requires-clause-buffer : goal.make_between-requires-clause-buffer
 make_between-requires-clause-buffer g c =
     let apart = c.ports_at-buffer.ensures in
-    rw apart.buffer_is (some-buffer c.args.state.now c.requires.agrees c.args.subscriber_place apart.subscriber apart.subscriber_stands)
+    rw apart.buffer_is (some-buffer c.args.state.now c.requires.agrees.parts c.requires.agrees.well_formed c.args.subscriber_place apart.subscriber apart.subscriber_stands)
 
 pub returns-in-Some : goal.returns-in-Some
 returns-in-Some g c = λ x at due.

@@ -7,7 +7,8 @@ use Rattle.iox2_domain.specs.Fields.{Fields}
 use Rattle.iox2_domain.specs.ReceiverSteps.{replacing_expired}
 use Rattle.iox2_domain.specs.Updates.{changed_at}
 use Rattle.iox2_domain.proofs.lemmas.receivers.ExpiredKeys.{expired-link, room-to-expire}
-use Rattle.iox2_domain.proofs.lemmas.receivers.RetiredFields.{its-book, evicted-changes, frees-book, frees-changes, spares-same}
+use Rattle.iox2_domain.proofs.lemmas.receivers.RetiredFields.{evicted-changes, frees-book, frees-changes, spares-same}
+use Rattle.iox2_domain.proofs.lemmas.slots.PublisherBooks.{its-book}
 use Rattle.iox2_ports.proofs.retirements.replace_expired.Goals as goal
 
 pub lose_connection-book-requires-clause-stands : goal.lose_connection-book-requires-clause-stands
@@ -24,7 +25,7 @@ replace_expired_at-requires-clause-stands g c =
     let y = c.requires.end.0 in
     let end = c.requires.end.2 in
     let d = expired-link old c.requires.agrees c.args.subscriber_place c.args.publisher_place y c.args.key c.requires.end.1 end c.args.first (c.requires.first y end.stands) in
-    let book = its-book old c.requires.agrees c.args.first d.0 d.1 in
+    let book = its-book old c.requires.agrees.parts c.args.first d.0 d.1 in
     let lost = c.lose_connection-book.ensures d.0 book.book d.1 book.stands in
     let same : c.deref_mut.result.now ≡ old.subscribers = c.deref_mut.ensures.value ∙ ap (λ (f : Fields g.row.T.Denot g.row.U.Denot). f.subscribers) (c.state.view_is ∙ lost.1.fields) in
     within_if_some c.deref_mut.result.now c.args.subscriber_place y (ap (λ xs. get_or xs c.args.subscriber_place None) same ∙ end.stands)
@@ -35,7 +36,7 @@ replace_expired_at-requires-clause-within g c = λ z at.
     let y = c.requires.end.0 in
     let end = c.requires.end.2 in
     let d = expired-link old c.requires.agrees c.args.subscriber_place c.args.publisher_place y c.args.key c.requires.end.1 end c.args.first (c.requires.first y end.stands) in
-    let book = its-book old c.requires.agrees c.args.first d.0 d.1 in
+    let book = its-book old c.requires.agrees.parts c.args.first d.0 d.1 in
     let lost = c.lose_connection-book.ensures d.0 book.book d.1 book.stands in
     let same : c.deref_mut.result.now ≡ old.subscribers = c.deref_mut.ensures.value ∙ ap (λ (f : Fields g.row.T.Denot g.row.U.Denot). f.subscribers) (c.state.view_is ∙ lost.1.fields) in
     let both : Some y ≡ Some z = sym end.stands ∙ ap (λ xs. get_or xs c.args.subscriber_place None) (sym same) ∙ at in
@@ -48,7 +49,7 @@ replace_expired_at-requires-clause-room g c = λ z at.
     let y = c.requires.end.0 in
     let end = c.requires.end.2 in
     let d = expired-link old c.requires.agrees c.args.subscriber_place c.args.publisher_place y c.args.key c.requires.end.1 end c.args.first (c.requires.first y end.stands) in
-    let book = its-book old c.requires.agrees c.args.first d.0 d.1 in
+    let book = its-book old c.requires.agrees.parts c.args.first d.0 d.1 in
     let lost = c.lose_connection-book.ensures d.0 book.book d.1 book.stands in
     let same : c.deref_mut.result.now ≡ old.subscribers = c.deref_mut.ensures.value ∙ ap (λ (f : Fields g.row.T.Denot g.row.U.Denot). f.subscribers) (c.state.view_is ∙ lost.1.fields) in
     let both : Some y ≡ Some z = sym end.stands ∙ ap (λ xs. get_or xs c.args.subscriber_place None) (sym same) ∙ at in
@@ -61,7 +62,7 @@ free_book_if_unused-requires g c =
     let y = c.requires.end.0 in
     let end = c.requires.end.2 in
     let d = expired-link old c.requires.agrees c.args.subscriber_place c.args.publisher_place y c.args.key c.requires.end.1 end c.args.first (c.requires.first y end.stands) in
-    let book = its-book old c.requires.agrees c.args.first d.0 d.1 in
+    let book = its-book old c.requires.agrees.parts c.args.first d.0 d.1 in
     let lost = c.lose_connection-book.ensures d.0 book.book d.1 book.stands in
     let written : _ ≡ changed_at (replacing_expired c.args.publisher_place c.args.key c.args.first) (c.lose_connection-book.new.state).subscribers c.args.subscriber_place =
     with_items_is c.state.inside.subscribers c.replace_expired_at.new.subscribers (c.replace_expired_at.auto.subscribers ∙ c.deref_mut.ensures.len)
@@ -73,7 +74,7 @@ free_book_if_unused-requires g c =
 pub returns : goal.returns
 returns g c = λ y e d end at_d.
     let old = c.args.state.now in
-    let book = its-book old c.requires.agrees c.args.first d at_d in
+    let book = its-book old c.requires.agrees.parts c.args.first d at_d in
     let lost = c.lose_connection-book.ensures d book.book at_d book.stands in
     let written : _ ≡ changed_at (replacing_expired c.args.publisher_place c.args.key c.args.first) (c.lose_connection-book.new.state).subscribers c.args.subscriber_place =
     with_items_is c.state.inside.subscribers c.replace_expired_at.new.subscribers (c.replace_expired_at.auto.subscribers ∙ c.deref_mut.ensures.len)
