@@ -4,7 +4,7 @@ use Rattle.iox2_store.specs.machine.Limits.{expired_limit}
 use Rattle.iox2_store.specs.machine.Numbers.{put_at}
 use Rattle.iox2_store.specs.machine.Mailbox.{Mailbox, BorrowsFirst}
 use Rattle.iox2_store.specs.machine.Records.{Subscriber}
-use Rattle.iox2_store.specs.machine.State.{State, has_sender_end, with_mailbox}
+use Rattle.iox2_store.specs.machine.State.{State, has_sender_end, with_mailbox, no_warnings}
 use Rattle.iox2_store.specs.machine.SubscriberUpdate.{ReceiverSide, UpdateReceiverSide, UpdateSubscriber, receiver_side, with_receiver_side}
 use Rattle.iox2_store.specs.machine.Receives.{Receive, TakeSample, ReceiveResult, Got_sample, No_sample, Receive_error}
 use Rattle.iox2_store.specs.declared.errors.ConnectionFailure.{ConnectionFailure}
@@ -90,7 +90,7 @@ module _ {T U : Type 0} (q : ℕ) where
       let sides : (bare h.0 ≡ bare k.0) × (f ≡ g) =
       sides_alike (a.config).service_id (b.config).service_id q y.degradation_handler y.degradation_handler (expired_limit a.config) (λ p. has_sender_end a p q) (λ p. has_sender_end b p q)
       a.publisher_places (receiver_side a q y) h.0 (receiver_side b q y) k.0 f g
-      (ap (λ (v : View T U). record { ends = y.ends; expired = y.expired; is_due = false; mailboxes = v.mailboxes; warnings = [] }) e) h.1 k1 in (
+      (ap (λ (v : View T U). record { ends = y.ends; expired = y.expired; is_due = false; mailboxes = v.mailboxes; warnings = no_warnings }) e) h.1 k1 in (
         ap (view_of q) h.2 ∙ receiver_seen a y h.0
             ∙ (λ i. receiver_changed y (e i) (sides.0 i))
             ∙ sym (receiver_seen b y k.0) ∙ sym (ap (view_of q) k.2),

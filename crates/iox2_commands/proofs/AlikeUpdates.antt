@@ -5,7 +5,7 @@ use Rattle.iox2_store.specs.machine.Numbers.{put_at, last_n}
 use Rattle.iox2_store.specs.machine.Places.{occupant, set_place}
 use Rattle.iox2_store.specs.machine.Mailbox.{Mailbox, waiting_dropped, with_waiting}
 use Rattle.iox2_store.specs.machine.Records.{Publisher, Handler}
-use Rattle.iox2_store.specs.machine.State.{State, receiving_buffer, has_receiver_end}
+use Rattle.iox2_store.specs.machine.State.{State, receiving_buffer, has_receiver_end, no_warnings}
 use Rattle.iox2_store.specs.machine.Connections.{ForEachPlace, first_failure, expired_buffer_full}
 use Rattle.iox2_store.specs.machine.PublisherUpdate.{SenderSide, SenderAction, Keep_end, Drop_waiting, Disconnect, Connect, sender_action, dropped, disconnected, connected, Performs, UpdateSenderPlace, UpdatePublisher, sender_side, with_sender_side}
 use Rattle.iox2_store.specs.machine.SubscriberUpdate.{ReceiverSide, Retirement, Keep_expired, Evict, Discard_data, Refuse, retirement_of, after_retirement, is_refused, with_end, ConnectReceiver, Retire, ConnectAtPlace, DisconnectAtPlace, UpdateReceiverSide}
@@ -132,7 +132,7 @@ module _ {T U : Type 0} (q : ℕ) where
 
 -- a side without its warnings
 abbrev pub bare : ReceiverSide → ReceiverSide
-bare side = record side { warnings = [] }
+bare side = record side { warnings = no_warnings }
 
 retirement_seen : (q : ℕ) (side : ReceiverSide) (p : ℕ) (how : Retirement) → bare (after_retirement q side p how) ≡ bare (after_retirement q (bare side) p how)
 retirement_seen q side p Keep_expired = refl

@@ -69,7 +69,7 @@ pub mod WorkedRunsOfForgottenPublishers
 pub mod WorkedRunsOfWarnings
 pub mod WorkedRunsOfSlices
 pub mod WorkedRunsOfRefusals
-pub mod RefusalWarnings
+pub mod RefusalUpdates
 pub mod RefusalStates
 pub mod RefusalSteps
 pub mod RefusalRuns

@@ -1,4 +1,4 @@
--- A run whose warnings and replies tell of no refused memory is one with ample memory.
+-- A run whose replies and count of refused connections tell of no refused memory is one with ample memory.
 use Rattle.std.proofs.Common.{◌≡◌, ℕ, zero, suc, false, List, [], ◌∷◌, ◌++◌, take, drop, refl, sym, ap, subst, ◌∙◌, Option, None, Some}
 use Rattle.std.specs.Prelude.{MatchOption, slice_get}
 use Rattle.std.specs.List.{All}
@@ -25,21 +25,20 @@ use Rattle.iox2_commands.specs.Outcomes.{Handle, Event, Outcome, messages_after,
 use Rattle.iox2_commands.specs.Step.{Step, after_publisher, after_subscriber, publisher_settings, unblocked_at, subscriber_at, loan_at, unwritten_at, with_cell_at, sendable_at, sample_at, if_single_units, if_fixed_size}
 use Rattle.iox2_commands.specs.Points.{PointOf}
 use Rattle.iox2_commands.specs.Runs.{Defaults, RunFrom, RunTo, only_defaults}
-use Rattle.iox2_commands.specs.Refusals.{TellNoRefusal, WarnsOfRefusals, RefusesPort, RefuseNoPort, MetNoRefusal, RunsWithoutRefusalsAreAmple, SubscribersAreIsolatedWithoutRefusals, ViewsStayAlikeWithoutRefusals}
+use Rattle.iox2_commands.specs.Refusals.{TellNoRefusal, TellsOfRefusals, RefusesPort, RefuseNoPort, MetNoRefusal, RunsWithoutRefusalsAreAmple, SubscribersAreIsolatedWithoutRefusals, ViewsStayAlikeWithoutRefusals}
 use Rattle.iox2_commands.specs.declared.command.Command.{Command}
 use Rattle.iox2_commands.specs.declared.command.Command.TheVariants.{Nothing, CreatePublisher, CreateSubscriber, LoanUninit, WriteAll, Send, Discard, Update, Receive, HasSamples, Read, Release, Close}
 use Rattle.iox2_commands.specs.declared.reply.Reply.{Reply}
 use Rattle.iox2_commands.proofs.EnoughRuns.{run_sound}
 use Rattle.iox2_commands.proofs.Isolation.{subscribers_are_isolated, views_stay_alike}
-use Rattle.iox2_commands.proofs.Named.{subscriber_is}
 use Rattle.iox2_commands.proofs.Points.{run_to, run_from}
 use Rattle.iox2_commands.proofs.StepLaws.{IsSound, step_sound}
 use Rattle.iox2_commands.proofs.AlikeOpen.{state_publisher, state_subscriber, state_loan, state_update, state_question, state_receive, state_send}
-use Rattle.iox2_commands.proofs.RefusalWarnings.{option_maps, update_publisher_ample, update_publisher_told, update_subscriber_ample, update_subscriber_told}
-use Rattle.iox2_commands.proofs.RefusalStates.{AllWarn, update_publisher_warn, update_subscriber_warn, receive_warn, released_warn, with_loan_warn, grant_loan_warn, loan_discarded_warn, send_warn, create_publisher_warn, create_subscriber_warn, publisher_closed_warn, subscriber_closed_warn}
+use Rattle.iox2_commands.proofs.RefusalUpdates.{option_maps, update_publisher_ample, update_publisher_told, update_subscriber_ample, update_subscriber_told}
+use Rattle.iox2_commands.proofs.RefusalStates.{AllStatic, update_publisher_static, update_subscriber_static, receive_static, released_static, with_loan_static, grant_loan_static, loan_discarded_static, send_static, create_publisher_static, create_subscriber_static, publisher_closed_static, subscriber_closed_static}
 use Rattle.iox2_commands.proofs.RefusalSteps.{released_same, subscriber_closed_same, grant_loan_ample, send_ample, receive_ample, create_publisher_ample, create_subscriber_ample}
 
-module _ {T U : Type 0} (default_value : T) (default_header : U) (m : Messages T U) (s : State T U) (handles : List Handle) (k : AllWarn s) where
+module _ {T U : Type 0} (default_value : T) (default_header : U) (m : Messages T U) (s : State T U) (handles : List Handle) (k : AllStatic s) where
   -- what holds of a state holds of that of an outcome
   by : (R : State T U → Type 0) (o x : Outcome T U) (s' : State T U) → o ≡ x → x.state ≡ s' → R s' → R o.state
   by R o x s' e f h = subst R (sym (ap (λ (v : Outcome T U). v.state) e ∙ f)) h
@@ -51,59 +50,54 @@ module _ {T U : Type 0} (default_value : T) (default_header : U) (m : Messages T
   abbrev Told : State T U → Type 0
   Told z = TellNoRefusal z.warnings
 
-  live_warn : {A : Type 0} (o : Outcome T U) (named : Option A) (Then : A → Type 0) → MatchOption named (o ≡ skipped s) Then → ((x : A) → Then x → AllWarn o.state) → AllWarn o.state
-  live_warn o named Then h go = by_option (AllWarn o.state) named _ _ h (λ _ e. by AllWarn o (skipped s) s e refl k) (λ x _ h. go x h)
+  live_static : {A : Type 0} (o : Outcome T U) (named : Option A) (Then : A → Type 0) → MatchOption named (o ≡ skipped s) Then → ((x : A) → Then x → AllStatic o.state) → AllStatic o.state
+  live_static o named Then h go = by_option (AllStatic o.state) named _ _ h (λ _ e. by AllStatic o (skipped s) s e refl k) (λ x _ h. go x h)
 
   live_told : {A : Type 0} (o : Outcome T U) (named : Option A) (Then : A → Type 0) → MatchOption named (o ≡ skipped s) Then → TellNoRefusal (o.state).warnings
       → ((x : A) → Then x → TellNoRefusal s.warnings) → TellNoRefusal s.warnings
   live_told o named Then h told go = by_option (TellNoRefusal s.warnings) named _ _ h (λ _ e. back Told o (skipped s) s e refl told) (λ x _ h. go x h)
 
-  -- Ports go on warning, whether or not memory is refused.
-  pub step_warns : (command : Command T U) (o : Outcome T U) → WarnsOfRefusals command → Step fixed_handlers default_value default_header m s handles command o → AllWarn o.state
-  step_warns Nothing o plain h = by AllWarn o (done s) s h refl k
-  step_warns (CreatePublisher loans strategy allocation len override_slots degradation backpressure) o plain h =
-      by AllWarn o _ h.0 h.3 (state_publisher h.0 s.next_port h.1)
-      (create_publisher_warn fixed_handlers s h.0 _ h.1 (ap is_static plain.0) (ap (λ (a : DegradationAction). Fixed a) plain.1) h.2 k)
-  step_warns (CreateSubscriber buffer degradation) o plain h =
-      by AllWarn o _ h.0 h.3 (state_subscriber h.0 s.next_port h.1) (create_subscriber_warn fixed_handlers s h.0 _ h.1 (ap (λ (a : DegradationAction). Fixed a) plain) h.2 k)
-  step_warns (LoanUninit of) o plain h =
-      live_warn o (if_single_units s (if_fixed_size s (unblocked_at s handles of))) _ h (λ publisher j.
-      by AllWarn o _ j.0 j.3 (state_loan j.0 s.next_message j.1) (grant_loan_warn fixed_handlers default_header false 1 s j.0 publisher.0 j.1 j.2 k))
-  step_warns (WriteAll of value) o plain h = live_warn o (unwritten_at s handles of) _ h (λ loan j. by AllWarn o _ _ j refl (with_loan_warn s loan.0 _ k))
-  step_warns (Send of) o plain h =
-      live_warn o (sendable_at s handles of) _ h (λ loan j. by AllWarn o _ j.0 j.3 (state_send j.0 _ _ _ j.1) (send_warn fixed_handlers s j.0 loan.0 loan.1 j.1 j.2 k))
-  step_warns (Discard of) o plain h = live_warn o (loan_at s handles of) _ h (λ loan j. by AllWarn o _ _ j refl (loan_discarded_warn s loan.0 loan.1 k))
-  step_warns (Update of) o plain h =
-      by_option (AllWarn o.state) (unblocked_at s handles of) _ _ h
-      (λ _ j. live_warn o (subscriber_at s handles of) _ j (λ subscriber j. by AllWarn o _ j.0 j.3 (state_update j.0 j.1) (update_subscriber_warn fixed_handlers s j.0 subscriber.0 j.1 j.2 k)))
-      (λ publisher _ j. by AllWarn o _ j.0 j.3 (state_update j.0 j.1) (update_publisher_warn fixed_handlers s j.0 publisher.0 j.1 j.2 k))
-  step_warns (Receive of) o plain h =
-      live_warn o (if_single_units s (subscriber_at s handles of)) _ h (λ subscriber j.
-      by AllWarn o _ j.0 j.3 (state_receive j.0 subscriber.0 j.1) (receive_warn fixed_handlers s j.0 subscriber.0 j.1 j.2 k))
-  step_warns (HasSamples of) o plain h =
-      live_warn o (subscriber_at s handles of) _ h (λ subscriber j.
-      by AllWarn o _ j.0 j.4 (state_question j.0 j.1 j.2) (update_subscriber_warn fixed_handlers s j.0 subscriber.0 j.1 (j.3).0 k))
-  step_warns (Read of at) o plain h =
-      by_option (AllWarn o.state) (sample_at s handles of) _ _ h
-      (λ _ j. live_warn o (with_cell_at at (loan_at s handles of)) _ j (λ loan j.
-      by_option (AllWarn o.state) (slice_get (loan.1).cells at) _ _ j (λ _ v. absurd v) (λ cell _ e. by AllWarn o _ s e refl k)))
-      (λ sample _ j. by_option (AllWarn o.state) (m sample.2) _ _ j (λ _ v. absurd v)
-      (λ entry _ j. live_warn o (slice_get entry.values at) _ j (λ value e. by AllWarn o _ s e refl k)))
-  step_warns (Release of) o plain h = live_warn o (sample_at s handles of) _ h (λ sample j. by AllWarn o _ _ j refl (released_warn s sample.0 sample.1 sample.2 k))
-  step_warns (Close of) o plain h =
-      by_option (AllWarn o.state) (unblocked_at s handles of) _ _ h
-      (λ _ j. live_warn_named o j)
-      (λ publisher _ j. by AllWarn o _ _ j refl (publisher_closed_warn s publisher.0 publisher.1 k))
-    where
-      live_warn_named : (o : Outcome T U) → MatchOption (subscriber_at s handles of) (o ≡ skipped s) (λ subscriber. o ≡ done (subscriber_closed s subscriber.0 subscriber.1)) → AllWarn o.state
-      live_warn_named o j =
-          by_option (AllWarn o.state) (subscriber_at s handles of) _ _ j (λ _ e. by AllWarn o (skipped s) s e refl k)
-          (λ subscriber named e. by AllWarn o _ _ e refl (subscriber_closed_warn s subscriber.0 subscriber.1 (subscriber_is s handles of subscriber named) k))
-  step_warns _ o plain h = absurd plain
+  -- Publishers stay static, whether or not memory is refused.
+  pub step_static : (command : Command T U) (o : Outcome T U) → TellsOfRefusals command → Step fixed_handlers default_value default_header m s handles command o → AllStatic o.state
+  step_static Nothing o plain h = by AllStatic o (done s) s h refl k
+  step_static (CreatePublisher loans strategy allocation len override_slots degradation backpressure) o plain h =
+      by AllStatic o _ h.0 h.3 (state_publisher h.0 s.next_port h.1)
+      (create_publisher_static fixed_handlers s h.0 _ h.1 (ap is_static plain) h.2 k)
+  step_static (CreateSubscriber buffer degradation) o plain h =
+      by AllStatic o _ h.0 h.3 (state_subscriber h.0 s.next_port h.1) (create_subscriber_static fixed_handlers s h.0 _ h.1 h.2 k)
+  step_static (LoanUninit of) o plain h =
+      live_static o (if_single_units s (if_fixed_size s (unblocked_at s handles of))) _ h (λ publisher j.
+      by AllStatic o _ j.0 j.3 (state_loan j.0 s.next_message j.1) (grant_loan_static fixed_handlers default_header false 1 s j.0 publisher.0 j.1 j.2 k))
+  step_static (WriteAll of value) o plain h = live_static o (unwritten_at s handles of) _ h (λ loan j. by AllStatic o _ _ j refl (with_loan_static s loan.0 _ k))
+  step_static (Send of) o plain h =
+      live_static o (sendable_at s handles of) _ h (λ loan j. by AllStatic o _ j.0 j.3 (state_send j.0 _ _ _ j.1) (send_static fixed_handlers s j.0 loan.0 loan.1 j.1 j.2 k))
+  step_static (Discard of) o plain h = live_static o (loan_at s handles of) _ h (λ loan j. by AllStatic o _ _ j refl (loan_discarded_static s loan.0 loan.1 k))
+  step_static (Update of) o plain h =
+      by_option (AllStatic o.state) (unblocked_at s handles of) _ _ h
+      (λ _ j. live_static o (subscriber_at s handles of) _ j (λ subscriber j. by AllStatic o _ j.0 j.3 (state_update j.0 j.1) (update_subscriber_static fixed_handlers s j.0 subscriber.0 j.1 j.2 k)))
+      (λ publisher _ j. by AllStatic o _ j.0 j.3 (state_update j.0 j.1) (update_publisher_static fixed_handlers s j.0 publisher.0 j.1 j.2 k))
+  step_static (Receive of) o plain h =
+      live_static o (if_single_units s (subscriber_at s handles of)) _ h (λ subscriber j.
+      by AllStatic o _ j.0 j.3 (state_receive j.0 subscriber.0 j.1) (receive_static fixed_handlers s j.0 subscriber.0 j.1 j.2 k))
+  step_static (HasSamples of) o plain h =
+      live_static o (subscriber_at s handles of) _ h (λ subscriber j.
+      by AllStatic o _ j.0 j.4 (state_question j.0 j.1 j.2) (update_subscriber_static fixed_handlers s j.0 subscriber.0 j.1 (j.3).0 k))
+  step_static (Read of at) o plain h =
+      by_option (AllStatic o.state) (sample_at s handles of) _ _ h
+      (λ _ j. live_static o (with_cell_at at (loan_at s handles of)) _ j (λ loan j.
+      by_option (AllStatic o.state) (slice_get (loan.1).cells at) _ _ j (λ _ v. absurd v) (λ cell _ e. by AllStatic o _ s e refl k)))
+      (λ sample _ j. by_option (AllStatic o.state) (m sample.2) _ _ j (λ _ v. absurd v)
+      (λ entry _ j. live_static o (slice_get entry.values at) _ j (λ value e. by AllStatic o _ s e refl k)))
+  step_static (Release of) o plain h = live_static o (sample_at s handles of) _ h (λ sample j. by AllStatic o _ _ j refl (released_static s sample.0 sample.1 sample.2 k))
+  step_static (Close of) o plain h =
+      by_option (AllStatic o.state) (unblocked_at s handles of) _ _ h
+      (λ _ j. live_static o (subscriber_at s handles of) _ j (λ subscriber j. by AllStatic o _ _ j refl (subscriber_closed_static s subscriber.0 subscriber.1 k)))
+      (λ publisher _ j. by AllStatic o _ _ j refl (publisher_closed_static s publisher.0 publisher.1 k))
+  step_static _ o plain h = absurd plain
 
-  -- Where the warnings after a step tell of no refusal, and its reply of none, it is a step with ample memory, and the warnings
-  -- before it told of none.
-  pub step_ample : (command : Command T U) (o : Outcome T U) → WarnsOfRefusals command → (RefusesPort s.config command o.reply → ⊥) → TellNoRefusal (o.state).warnings
+  -- Where the count is 0 after a step, and its reply tells of no refusal, it is a step with ample memory, and the count was 0
+  -- before it.
+  pub step_ample : (command : Command T U) (o : Outcome T U) → TellsOfRefusals command → (RefusesPort s.config command o.reply → ⊥) → TellNoRefusal (o.state).warnings
       → Step fixed_handlers default_value default_header m s handles command o
       → Step ample_memory default_value default_header m s handles command o × TellNoRefusal s.warnings
   step_ample Nothing o plain port told h = (h, back Told o (done s) s h refl told)
@@ -111,7 +105,7 @@ module _ {T U : Type 0} (default_value : T) (default_header : U) (m : Messages T
       let given : PublisherSettings = publisher_settings (s.config).variant loans strategy allocation len override_slots degradation backpressure in
       let replied : (e : PublisherCreateError) → h.1 ≡ Some e → o.reply ≡ (after_publisher h.0 s.next_port (Some e)).reply =
       λ e some. ap (λ (v : Outcome T U). v.reply) h.3 ∙ ap (λ (r : Option PublisherCreateError). (after_publisher h.0 s.next_port r).reply) some in
-      let went = create_publisher_ample s h.0 given (ap is_static plain.0) (ap (λ (a : DegradationAction). Fixed a) plain.1) k
+      let went = create_publisher_ample s h.0 given
       (back Told o _ h.0 h.3 (state_publisher h.0 s.next_port h.1) told) h.1
       (λ fit some. port (subst (RefusesPort s.config (CreatePublisher loans strategy allocation len override_slots degradation backpressure)) (sym (replied UnableToCreateDataSegment some)) fit))
       (λ some. port (subst (RefusesPort s.config (CreatePublisher loans strategy allocation len override_slots degradation backpressure)) (sym (replied NoPublisherState some)) tt))
@@ -121,7 +115,7 @@ module _ {T U : Type 0} (default_value : T) (default_header : U) (m : Messages T
       let replied : (e : SubscriberCreateError) → h.1 ≡ Some e → o.reply ≡ (after_subscriber h.0 s.next_port (Some e)).reply =
       λ e some. ap (λ (v : Outcome T U). v.reply) h.3 ∙ ap (λ (r : Option SubscriberCreateError). (after_subscriber h.0 s.next_port r).reply) some in
       let went = create_subscriber_ample s h.0 (record { buffer_size = elim buffer [ None ↦ buffer_limit s.config | Some size ↦ size ]; degradation_handler = Fixed degradation })
-      (ap (λ (a : DegradationAction). Fixed a) plain) k (back Told o _ h.0 h.3 (state_subscriber h.0 s.next_port h.1) told) h.1
+      (back Told o _ h.0 h.3 (state_subscriber h.0 s.next_port h.1) told) h.1
       (λ some. port (subst (RefusesPort s.config (CreateSubscriber buffer degradation)) (sym (replied NoSubscriberState some)) tt)) h.2 in
       ((h.0, h.1, went.0, h.3), went.1)
   step_ample (LoanUninit of) o plain port told h = (
@@ -133,25 +127,25 @@ module _ {T U : Type 0} (default_value : T) (default_header : U) (m : Messages T
   step_ample (WriteAll of value) o plain port told h = (h, live_told o (unwritten_at s handles of) _ h told (λ loan j. back Told o _ _ j refl told))
   step_ample (Send of) o plain port told h = (
     option_maps (sendable_at s handles of) _ _ _ _ h (λ e. e)
-        (λ loan _ j. (j.0, j.1, (send_ample s j.0 loan.0 loan.1 j.1 k (back Told o _ j.0 j.3 (state_send j.0 _ _ _ j.1) told) j.2).0, j.3)),
-    live_told o (sendable_at s handles of) _ h told (λ loan j. (send_ample s j.0 loan.0 loan.1 j.1 k (back Told o _ j.0 j.3 (state_send j.0 _ _ _ j.1) told) j.2).1),
+        (λ loan _ j. (j.0, j.1, (send_ample s j.0 loan.0 loan.1 j.1 (back Told o _ j.0 j.3 (state_send j.0 _ _ _ j.1) told) j.2).0, j.3)),
+    live_told o (sendable_at s handles of) _ h told (λ loan j. (send_ample s j.0 loan.0 loan.1 j.1 (back Told o _ j.0 j.3 (state_send j.0 _ _ _ j.1) told) j.2).1),
   )
   step_ample (Discard of) o plain port told h = (h, live_told o (loan_at s handles of) _ h told (λ loan j. back Told o _ _ j refl told))
   step_ample (Update of) o plain port told h = (
     option_maps (unblocked_at s handles of) _ _ _ _ h
         (λ j. option_maps (subscriber_at s handles of) _ _ _ _ j (λ e. e)
-        (λ subscriber _ j. (j.0, j.1, update_subscriber_ample s j.0 subscriber.0 j.1 (k.subscribers subscriber.0) (back Told o _ j.0 j.3 (state_update j.0 j.1) told) j.2, j.3)))
-        (λ publisher _ j. (j.0, j.1, update_publisher_ample s j.0 publisher.0 j.1 (λ x e. (k.publishers publisher.0 x e).warns) (back Told o _ j.0 j.3 (state_update j.0 j.1) told) j.2, j.3)),
+        (λ subscriber _ j. (j.0, j.1, update_subscriber_ample s j.0 subscriber.0 j.1 (back Told o _ j.0 j.3 (state_update j.0 j.1) told) j.2, j.3)))
+        (λ publisher _ j. (j.0, j.1, update_publisher_ample s j.0 publisher.0 j.1 (back Told o _ j.0 j.3 (state_update j.0 j.1) told) j.2, j.3)),
     by_option (TellNoRefusal s.warnings) (unblocked_at s handles of) _ _ h
         (λ _ j. live_told o (subscriber_at s handles of) _ j told (λ subscriber j.
-        update_subscriber_told s j.0 subscriber.0 j.1 (k.subscribers subscriber.0) (back Told o _ j.0 j.3 (state_update j.0 j.1) told) j.2))
-        (λ publisher _ j. update_publisher_told s j.0 publisher.0 j.1 (λ x e. (k.publishers publisher.0 x e).warns) (back Told o _ j.0 j.3 (state_update j.0 j.1) told) j.2),
+        update_subscriber_told s j.0 subscriber.0 j.1 (back Told o _ j.0 j.3 (state_update j.0 j.1) told) j.2))
+        (λ publisher _ j. update_publisher_told s j.0 publisher.0 j.1 (back Told o _ j.0 j.3 (state_update j.0 j.1) told) j.2),
   )
   step_ample (Receive of) o plain port told h = (
     option_maps (if_single_units s (subscriber_at s handles of)) _ _ _ _ h (λ e. e)
-        (λ subscriber _ j. (j.0, j.1, (receive_ample s j.0 subscriber.0 j.1 k (back Told o _ j.0 j.3 (state_receive j.0 subscriber.0 j.1) told) j.2).0, j.3)),
+        (λ subscriber _ j. (j.0, j.1, (receive_ample s j.0 subscriber.0 j.1 (back Told o _ j.0 j.3 (state_receive j.0 subscriber.0 j.1) told) j.2).0, j.3)),
     live_told o (if_single_units s (subscriber_at s handles of)) _ h told (λ subscriber j.
-        (receive_ample s j.0 subscriber.0 j.1 k (back Told o _ j.0 j.3 (state_receive j.0 subscriber.0 j.1) told) j.2).1),
+        (receive_ample s j.0 subscriber.0 j.1 (back Told o _ j.0 j.3 (state_receive j.0 subscriber.0 j.1) told) j.2).1),
   )
   step_ample (HasSamples of) o plain port told h = (
     option_maps (subscriber_at s handles of) _ _ _ _ h (λ e. e)
@@ -159,11 +153,11 @@ module _ {T U : Type 0} (default_value : T) (default_header : U) (m : Messages T
           j.0,
           j.1,
           j.2,
-          (update_subscriber_ample s j.0 subscriber.0 j.1 (k.subscribers subscriber.0) (back Told o _ j.0 j.4 (state_question j.0 j.1 j.2) told) (j.3).0, (j.3).1),
+          (update_subscriber_ample s j.0 subscriber.0 j.1 (back Told o _ j.0 j.4 (state_question j.0 j.1 j.2) told) (j.3).0, (j.3).1),
           j.4,
         )),
     live_told o (subscriber_at s handles of) _ h told (λ subscriber j.
-        update_subscriber_told s j.0 subscriber.0 j.1 (k.subscribers subscriber.0) (back Told o _ j.0 j.4 (state_question j.0 j.1 j.2) told) (j.3).0),
+        update_subscriber_told s j.0 subscriber.0 j.1 (back Told o _ j.0 j.4 (state_question j.0 j.1 j.2) told) (j.3).0),
   )
   step_ample (Read of at) o plain port told h = (
     h,
@@ -185,31 +179,31 @@ module _ {T U : Type 0} (default_value : T) (default_header : U) (m : Messages T
   step_ample _ o plain port told h = absurd plain
 
 module _ {T U : Type 0} (defaults : Defaults T U) where
-  -- A run whose last warnings and whose replies tell of no refused memory is one with ample memory, and the warnings before it
-  -- told of none.
+  -- A run after which the count is 0, and whose replies tell of no refused memory, is one with ample memory, and the count was 0
+  -- before it.
   pub run_ample : (m : Messages T U) (s : State T U) (handles : List Handle) (commands : List (Command T U)) (replies : List (Reply T U)) (events : List (Event T U))
-      (m' : Messages T U) (s' : State T U) (handles' : List Handle) → IsWellFormed s → AllWarn s → All WarnsOfRefusals commands → RefuseNoPort s.config commands replies
+      (m' : Messages T U) (s' : State T U) (handles' : List Handle) → IsWellFormed s → AllStatic s → All TellsOfRefusals commands → RefuseNoPort s.config commands replies
       → TellNoRefusal s'.warnings → RunTo fixed_handlers defaults m s handles commands replies events m' s' handles'
       → RunTo ample_memory defaults m s handles commands replies events m' s' handles' × TellNoRefusal s.warnings
   run_ample m s handles [] [] [] m' s' handles' w k plain ports told h = (h, subst (λ (z : State T U). TellNoRefusal z.warnings) h.1 told)
   run_ample m s handles (command ∷ commands) (reply ∷ replies) (event ∷ events) m' s' handles' w k plain ports told h =
       let sound : IsSound s h.4 = step_sound fixed_handlers h.0 h.1 m s handles w command h.4 h.5 in
       let rest = run_ample (messages_after (h.4).event m) (h.4).state (handles ++ (h.4).handle ∷ []) commands replies events m' s' handles' sound.well_formed
-      (step_warns h.0 h.1 m s handles k command h.4 (All-head WarnsOfRefusals command commands plain) h.5) (All-tail WarnsOfRefusals command commands plain)
+      (step_static h.0 h.1 m s handles k command h.4 (All-head TellsOfRefusals command commands plain) h.5) (All-tail TellsOfRefusals command commands plain)
       (subst (λ (c : ServiceConfig). RefuseNoPort c commands replies) (sym (sound.advances).config) ports.1) told h.8 in
-      let first = step_ample h.0 h.1 m s handles k command h.4 (All-head WarnsOfRefusals command commands plain) (λ refuses. ports.0 (subst (RefusesPort s.config command) h.6 refuses)) rest.1 h.5 in
+      let first = step_ample h.0 h.1 m s handles k command h.4 (All-head TellsOfRefusals command commands plain) (λ refuses. ports.0 (subst (RefusesPort s.config command) h.6 refuses)) rest.1 h.5 in
       ((h.0, h.1, h.2, h.3, h.4, first.0, h.6, h.7, rest.0), first.1)
   run_ample m s handles _ _ _ m' s' handles' w k plain ports told h = absurd h
 
 module _ {T U : Type 0} where
   -- a new domain has no port
-  none_warn : (c : ServiceConfig) → AllWarn (fresh {T = T} {U = U} c)
-  none_warn c = record { publishers = λ i x e. absurd (none-some x e); subscribers = λ i y e. absurd (none-some y e) }
+  none_static : (c : ServiceConfig) → AllStatic (fresh {T = T} {U = U} c)
+  none_static c = record { publishers = λ i x e. absurd (none-some x e) }
 
   -- The law of runs without refusals.
   pub runs_without_refusals : RunsWithoutRefusalsAreAmple T U
   runs_without_refusals default_value default_header c commands replies events m s handles plain met h =
-      (run_ample (only_defaults default_value default_header) no_messages (fresh c) [] commands replies events m s handles (fresh_is_well_formed c) (none_warn c) plain met.ports met.told h).0
+      (run_ample (only_defaults default_value default_header) no_messages (fresh c) [] commands replies events m s handles (fresh_is_well_formed c) (none_static c) plain met.ports met.told h).0
 
   -- And of two of them.
   pub isolated_without_refusals : SubscribersAreIsolatedWithoutRefusals T U
@@ -238,18 +232,18 @@ module _ {T U : Type 0} where
   refuse_no_port_dropped c (suc n) (command ∷ commands) (reply ∷ replies) h = refuse_no_port_dropped c n commands replies h.1
 
   module _ (defaults : Defaults T U) where
-    -- Ports warn at the end of a run as at its start.
-    run_warns : (m : Messages T U) (s : State T U) (handles : List Handle) (commands : List (Command T U)) (replies : List (Reply T U)) (events : List (Event T U))
-        (m' : Messages T U) (s' : State T U) → AllWarn s → All WarnsOfRefusals commands → RunFrom fixed_handlers defaults m s handles commands replies events m' s' → AllWarn s'
-    run_warns m s handles [] [] [] m' s' k plain h = subst AllWarn (sym h.1) k
-    run_warns m s handles (command ∷ commands) (reply ∷ replies) (event ∷ events) m' s' k plain h =
-        run_warns (messages_after (h.4).event m) (h.4).state (handles ++ (h.4).handle ∷ []) commands replies events m' s'
-        (step_warns h.0 h.1 m s handles k command h.4 (All-head WarnsOfRefusals command commands plain) h.5) (All-tail WarnsOfRefusals command commands plain) h.8
-    run_warns m s handles _ _ _ m' s' k plain h = absurd h
+    -- Publishers are static at the end of a run as at its start.
+    run_static : (m : Messages T U) (s : State T U) (handles : List Handle) (commands : List (Command T U)) (replies : List (Reply T U)) (events : List (Event T U))
+        (m' : Messages T U) (s' : State T U) → AllStatic s → All TellsOfRefusals commands → RunFrom fixed_handlers defaults m s handles commands replies events m' s' → AllStatic s'
+    run_static m s handles [] [] [] m' s' k plain h = subst AllStatic (sym h.1) k
+    run_static m s handles (command ∷ commands) (reply ∷ replies) (event ∷ events) m' s' k plain h =
+        run_static (messages_after (h.4).event m) (h.4).state (handles ++ (h.4).handle ∷ []) commands replies events m' s'
+        (step_static h.0 h.1 m s handles k command h.4 (All-head TellsOfRefusals command commands plain) h.5) (All-tail TellsOfRefusals command commands plain) h.8
+    run_static m s handles _ _ _ m' s' k plain h = absurd h
 
     -- A point of a run that met no refusal is one of a run with ample memory.
     point_ample : (c : ServiceConfig) (n : ℕ) (commands : List (Command T U)) (replies : List (Reply T U)) (events : List (Event T U)) (m' : Messages T U) (s' : State T U)
-        → All WarnsOfRefusals commands → MetNoRefusal c commands replies s'.warnings
+        → All TellsOfRefusals commands → MetNoRefusal c commands replies s'.warnings
         → (x : PointOf fixed_handlers defaults no_messages (fresh c) commands replies events m' s' n)
         → RunTo ample_memory defaults no_messages (fresh c) [] (take n commands) (take n replies) (take n events) x.messages x.state x.handles
         × RunFrom ample_memory defaults x.messages x.state x.handles (drop n commands) (drop n replies) (drop n events) m' s'
@@ -258,13 +252,13 @@ module _ {T U : Type 0} where
         run_from fixed_handlers defaults no_messages (fresh c) [] (take n commands) (take n replies) (take n events) x.messages x.state x.handles x.before in
         let sound : IsWellFormed x.state × Advances (fresh {T = T} {U = U} c) x.state =
         run_sound fixed_handlers defaults no_messages (fresh c) [] (take n commands) (take n replies) (take n events) x.messages x.state (fresh_is_well_formed c) before in
-        let warn : AllWarn x.state =
-        run_warns no_messages (fresh c) [] (take n commands) (take n replies) (take n events) x.messages x.state (none_warn c) (All-take WarnsOfRefusals n commands plain) before in
+        let static : AllStatic x.state =
+        run_static no_messages (fresh c) [] (take n commands) (take n replies) (take n events) x.messages x.state (none_static c) (All-take TellsOfRefusals n commands plain) before in
         let on = run_to fixed_handlers defaults x.messages x.state x.handles (drop n commands) (drop n replies) (drop n events) m' s' x.after in
-        let after = run_ample defaults x.messages x.state x.handles (drop n commands) (drop n replies) (drop n events) m' s' on.0 sound.0 warn (All-drop WarnsOfRefusals n commands plain)
+        let after = run_ample defaults x.messages x.state x.handles (drop n commands) (drop n replies) (drop n events) m' s' on.0 sound.0 static (All-drop TellsOfRefusals n commands plain)
         (subst (λ (v : ServiceConfig). RefuseNoPort v (drop n commands) (drop n replies)) (sym (sound.1).config) (refuse_no_port_dropped c n commands replies met.ports)) met.told on.1 in
-        let first = run_ample defaults no_messages (fresh c) [] (take n commands) (take n replies) (take n events) x.messages x.state x.handles (fresh_is_well_formed c) (none_warn c)
-        (All-take WarnsOfRefusals n commands plain) (refuse_no_port_taken c n commands replies met.ports) after.1 x.before in
+        let first = run_ample defaults no_messages (fresh c) [] (take n commands) (take n replies) (take n events) x.messages x.state x.handles (fresh_is_well_formed c) (none_static c)
+        (All-take TellsOfRefusals n commands plain) (refuse_no_port_taken c n commands replies met.ports) after.1 x.before in
         (first.0, run_from ample_memory defaults x.messages x.state x.handles (drop n commands) (drop n replies) (drop n events) m' s' on.0 after.0)
 
   -- The law of views at each point, for two runs without refusals.

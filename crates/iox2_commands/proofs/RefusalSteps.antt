@@ -1,4 +1,4 @@
--- A step of a run whose warnings and replies tell of no refused memory is one with ample memory.
+-- What a step does is done with ample memory too, where the count of refused connections is 0 afterwards.
 use Rattle.std.proofs.Common.{◌≡◌, ℕ, ◌+◌, Bool, true, false, ◌||◌, List, [], ◌∷◌, ◌++◌, length, cond, refl, sym, ap, subst, ◌∙◌, Option, None, Some, eqb, ◌⊎◌, ⊎_elim}
 use Rattle.std.specs.Prelude.{nat_lt, MatchOption}
 use Rattle.std.specs.Bool.{MatchBool}
@@ -32,11 +32,10 @@ use Rattle.iox2_store.specs.declared.errors.SendError.TheVariants.{ConnectionErr
 use Rattle.iox2_store.specs.declared.service_config.ServiceConfig.{ServiceConfig}
 use Rattle.iox2_store.specs.declared.warning.Warning.{Warning}
 use Rattle.iox2_store.specs.declared.warning.Warning.TheVariants.{ExpiredBufferRaised}
-use Rattle.iox2_store.specs.declared.degradation.DegradationAction.TheVariants.{Warn}
 use Rattle.iox2_laws.proofs.Cases.{by_option, by_bool}
 use Rattle.iox2_commands.specs.Refusals.{TellNoRefusal}
-use Rattle.iox2_commands.proofs.RefusalWarnings.{option_maps, bool_maps, told_before, update_publisher_ample, update_publisher_told, update_subscriber_ample, update_subscriber_told}
-use Rattle.iox2_commands.proofs.RefusalStates.{AllWarn, update_publisher_warn, with_new_publisher_warn, with_new_subscriber_warn}
+use Rattle.iox2_commands.proofs.RefusalUpdates.{option_maps, bool_maps, update_publisher_ample, update_publisher_told, update_subscriber_ample, update_subscriber_told}
+use Rattle.iox2_commands.proofs.RefusalStates.{AllStatic}
 
 -- ---- deliveries don't ask for memory
 
@@ -91,7 +90,7 @@ module _ {T U : Type 0} where
 
   -- ---- loans
 
-  pub grant_loan_ample : (default_header : U) (checks_length : Bool) (len : ℕ) (s s' : State T U) (p : ℕ) (refusal : Option LoanError) → AllWarn s
+  pub grant_loan_ample : (default_header : U) (checks_length : Bool) (len : ℕ) (s s' : State T U) (p : ℕ) (refusal : Option LoanError) → AllStatic s
       → GrantLoan fixed_handlers default_header checks_length len s p s' refusal → GrantLoan ample_memory default_header checks_length len s p s' refusal × (s'.warnings ≡ s.warnings)
   grant_loan_ample default_header checks_length len s s' p refusal k h = (
     option_maps (s.publishers p) _ _ _ _ h (λ v. v) (λ x e h.
@@ -103,13 +102,13 @@ module _ {T U : Type 0} where
         (λ _ h. by_bool (s'.warnings ≡ s.warnings) (is_static x.allocation_strategy) _ _ h
         (λ _ h. by_bool (s'.warnings ≡ s.warnings) (eqb (size (held s p x)) x.slots) _ _ h (λ _ h. ap (λ (z : State T U). z.warnings) h.0) (λ _ h.
         by_bool (s'.warnings ≡ s.warnings) (eqb s.next_message last_number) _ _ h (λ _ h. ap (λ (z : State T U). z.warnings) h.0) (λ _ h. ap (λ (z : State T U). z.warnings) h.0)))
-        (λ dynamic _. absurd (true≢false (sym (k.publishers p x e).static ∙ dynamic))))
+        (λ dynamic _. absurd (true≢false (sym (k.publishers p x e) ∙ dynamic))))
         (λ limit _ h. ap (λ (z : State T U). z.warnings) h.0)),
   )
     where
       static_only : (x : Publisher) → s.publishers p ≡ Some x → (P Q Q' : Type 0) → MatchBool (is_static x.allocation_strategy) P Q → MatchBool (is_static x.allocation_strategy) P Q'
       static_only x e P Q Q' h =
-          subst (λ (b : Bool). MatchBool b P Q') (sym (k.publishers p x e).static) (subst (λ (b : Bool). MatchBool b P Q) (k.publishers p x e).static h)
+          subst (λ (b : Bool). MatchBool b P Q') (sym (k.publishers p x e)) (subst (λ (b : Bool). MatchBool b P Q) (k.publishers p x e) h)
 
   -- ---- sends
 
@@ -133,18 +132,18 @@ module _ {T U : Type 0} where
       by_option (s'.warnings ≡ s.warnings) ((published s p n).publishers p) _ _ h (λ _ v. absurd v) (λ z _ h.
       concluded_same (with_mailboxes (published s p n) p h.1) s' p n h.0 result h.3))
 
-  pub send_ample : (s s' : State T U) (n : ℕ) (l : Loan T U) (result : SendResult) → AllWarn s → TellNoRefusal s'.warnings
+  pub send_ample : (s s' : State T U) (n : ℕ) (l : Loan T U) (result : SendResult) → TellNoRefusal s'.warnings
       → Send fixed_handlers s n l s' result → Send ample_memory s n l s' result × TellNoRefusal s.warnings
-  send_ample s s' n l result k told h = (
+  send_ample s s' n l result told h = (
     option_maps (s.publishers l.publisher) _ _ _ _ h (λ h. h) (λ x _ h. (
       h.0,
       h.1,
-      update_publisher_ample s h.0 l.publisher h.1 (λ x e. (k.publishers l.publisher x e).warns) (told_mid h.0 h.1 h.3) h.2,
+      update_publisher_ample s h.0 l.publisher h.1 (told_mid h.0 h.1 h.3) h.2,
       option_maps h.1 _ _ _ _ h.3 (λ j. publish_ample h.0 s' l.publisher n result j) (λ f _ j. j),
     )),
     by_option (TellNoRefusal s.warnings) (s.publishers l.publisher) _ _ h
         (λ _ h. told_same s s' (ap (λ (z : State T U). z.warnings) h.0) told)
-        (λ x _ h. update_publisher_told s h.0 l.publisher h.1 (λ x e. (k.publishers l.publisher x e).warns) (told_mid h.0 h.1 h.3) h.2),
+        (λ x _ h. update_publisher_told s h.0 l.publisher h.1 (told_mid h.0 h.1 h.3) h.2),
   )
     where
       told_mid : (mid : State T U) (failure : Option ConnectionFailure)
@@ -161,32 +160,31 @@ module _ {T U : Type 0} where
   take_same s s' q y No_sample h = ap (λ (z : State T U). z.warnings) h.1
   take_same s s' q y (Receive_error e) h = ap (λ (z : State T U). z.warnings) h.3
 
-  pub receive_ample : (s s' : State T U) (q : ℕ) (result : ReceiveResult) → AllWarn s → TellNoRefusal s'.warnings
+  pub receive_ample : (s s' : State T U) (q : ℕ) (result : ReceiveResult) → TellNoRefusal s'.warnings
       → Receive fixed_handlers s q s' result → Receive ample_memory s q s' result × TellNoRefusal s.warnings
-  receive_ample s s' q result k told h =
+  receive_ample s s' q result told h =
       let told_mid : TellNoRefusal (h.0).warnings =
       by_option (TellNoRefusal (h.0).warnings) h.1 _ _ h.3
       (λ _ j. by_option (TellNoRefusal (h.0).warnings) ((h.0).subscribers q) _ _ j (λ _ v. absurd v) (λ y _ j. told_same h.0 s' (take_same h.0 s' q y result j) told))
       (λ f _ j. told_same h.0 s' (ap (λ (z : State T U). z.warnings) j.0) told) in (
-        (h.0, h.1, update_subscriber_ample s h.0 q h.1 (k.subscribers q) told_mid h.2, h.3),
-        update_subscriber_told s h.0 q h.1 (k.subscribers q) told_mid h.2,
+        (h.0, h.1, update_subscriber_ample s h.0 q h.1 told_mid h.2, h.3),
+        update_subscriber_told s h.0 q h.1 told_mid h.2,
       )
 
   -- ---- ports
 
   failure_told : (s : State T U) (warning : ConnectionFailure → Warning) (failure : Option ConnectionFailure) → TellNoRefusal (with_failure_warning s warning failure).warnings → TellNoRefusal s.warnings
   failure_told s warning None told = told
-  failure_told s warning (Some e) told = (told_before s.warnings (warning e) told).0
+  failure_told s warning (Some e) told = told
 
-  module _ (s s' : State T U) (given : PublisherSettings) (static : is_static given.allocation_strategy ≡ true) (warns : given.degradation_handler ≡ Fixed Warn)
-      (k : AllWarn s) (told : TellNoRefusal s'.warnings) where
+  module _ (s s' : State T U) (given : PublisherSettings) (told : TellNoRefusal s'.warnings) where
     make_publisher_ample : (refusal : Option PublisherCreateError) (place : ℕ) → (refusal ≡ Some UnableToCreateDataSegment → ⊥) → (refusal ≡ Some NoPublisherState → ⊥)
         → MakePublisher fixed_handlers s given place s' refusal → MakePublisher ample_memory s given place s' refusal × TellNoRefusal s.warnings
     make_publisher_ample None place segment port h =
         let told_mid : TellNoRefusal (h.0).warnings = failure_told h.0 _ h.1 (subst (λ (z : State T U). TellNoRefusal z.warnings) h.3 told) in
-        let all : AllWarn (with_new_publisher s given place) = with_new_publisher_warn s given place static warns k in (
-          (h.0, h.1, update_publisher_ample (with_new_publisher s given place) h.0 s.next_port h.1 (λ x e. (all.publishers s.next_port x e).warns) told_mid h.2, h.3),
-          update_publisher_told (with_new_publisher s given place) h.0 s.next_port h.1 (λ x e. (all.publishers s.next_port x e).warns) told_mid h.2,
+        (
+          (h.0, h.1, update_publisher_ample (with_new_publisher s given place) h.0 s.next_port h.1 told_mid h.2, h.3),
+          update_publisher_told (with_new_publisher s given place) h.0 s.next_port h.1 told_mid h.2,
         )
     make_publisher_ample (Some e) place segment port h = absurd (⊎_elim (λ same. segment (ap Some same)) (λ same. port (ap Some same)) h.2)
 
@@ -211,20 +209,20 @@ module _ {T U : Type 0} where
           at true e h = go e h
           at false e h = h
 
-  module _ (s s' : State T U) (given : SubscriberSettings) (warns : given.degradation_handler ≡ Fixed Warn) (k : AllWarn s) (told : TellNoRefusal s'.warnings) where
+  module _ (s s' : State T U) (given : SubscriberSettings) (told : TellNoRefusal s'.warnings) where
     raised_told : (place : ℕ) → TellNoRefusal (with_new_subscriber s given place).warnings → TellNoRefusal s.warnings
     raised_told place h = at (nat_lt (s.config).subscriber_expired_connection_buffer (s.config).subscriber_max_borrowed_samples) h where
       at : (b : Bool) → TellNoRefusal (cond b (warned s.warnings (ExpiredBufferRaised s.next_port)) s.warnings) → TellNoRefusal s.warnings
-      at true h = (told_before s.warnings (ExpiredBufferRaised s.next_port) h).0
+      at true h = h
       at false h = h
 
     make_subscriber_ample : (refusal : Option SubscriberCreateError) (place : ℕ) → (refusal ≡ Some NoSubscriberState → ⊥)
         → MakeSubscriber fixed_handlers s given place s' refusal → MakeSubscriber ample_memory s given place s' refusal × TellNoRefusal s.warnings
     make_subscriber_ample None place port h =
         let told_mid : TellNoRefusal (h.0).warnings = failure_told h.0 _ h.1 (subst (λ (z : State T U). TellNoRefusal z.warnings) h.3 told) in
-        let all : AllWarn (with_new_subscriber s given place) = with_new_subscriber_warn s given place warns k in (
-          (h.0, h.1, update_subscriber_ample (with_new_subscriber s given place) h.0 s.next_port h.1 (all.subscribers s.next_port) told_mid h.2, h.3),
-          raised_told place (update_subscriber_told (with_new_subscriber s given place) h.0 s.next_port h.1 (all.subscribers s.next_port) told_mid h.2),
+        (
+          (h.0, h.1, update_subscriber_ample (with_new_subscriber s given place) h.0 s.next_port h.1 told_mid h.2, h.3),
+          raised_told place (update_subscriber_told (with_new_subscriber s given place) h.0 s.next_port h.1 told_mid h.2),
         )
     make_subscriber_ample (Some e) place port h = absurd (port (ap Some h.2))
 

@@ -25,7 +25,7 @@ pub blocked_send_is_tried_again : (events : List (Event ℕ ℕ)) × (m : Messag
     Receive 0 ∷ Read 5 0 ∷ Release 5 ∷ Retry 3 no_time ∷ Receive 0 ∷ Read 9 0 ∷ [])
     (SubscriberMade 1 ∷ PublisherMade 2 ∷ Delivered 1 ∷ Blocked ∷ Skipped ∷ Sample 2 ∷ Cell (Some 1) ∷ Done ∷ Delivered 1 ∷ Sample 2 ∷ Cell (Some 2) ∷ [])
     events m s
-    × (s.warnings ≡ ExpiredBufferRaised 1 ∷ [])
+    × ((s.warnings).latest ≡ ExpiredBufferRaised 1 ∷ [])
 blocked_send_is_tried_again = (
   _ ∷ _ ∷ _ ∷ _ ∷ _ ∷ _ ∷ _ ∷ _ ∷ _ ∷ _ ∷ _ ∷ [],
   _,
@@ -217,7 +217,7 @@ pub given_up_send_passes_one_subscriber : (events : List (Event ℕ ℕ)) × (m 
     (SubscriberMade 1 ∷ SubscriberMade 2 ∷ PublisherMade 3 ∷ Delivered 2 ∷ Blocked ∷ Skipped ∷ Sample 3 ∷ Blocked ∷ Delivered 1 ∷ Skipped ∷ Sample 3 ∷
     Cell (Some 1) ∷ NoSample ∷ ReceiveRefused ExceedsMaxBorrows ∷ Done ∷ Sample 3 ∷ Cell (Some 2) ∷ [])
     events m s
-    × (s.warnings ≡ ExpiredBufferRaised 1 ∷ ExpiredBufferRaised 2 ∷ [])
+    × ((s.warnings).latest ≡ ExpiredBufferRaised 1 ∷ ExpiredBufferRaised 2 ∷ [])
 given_up_send_passes_one_subscriber = (
   _ ∷ _ ∷ _ ∷ _ ∷ _ ∷ _ ∷ _ ∷ _ ∷ _ ∷ _ ∷ _ ∷ _ ∷ _ ∷ _ ∷ _ ∷ _ ∷ _ ∷ [],
   _,

@@ -27,7 +27,7 @@ pub departed_publisher_without_borrows_loses_its_messages : (events : List (Even
     (SubscriberMade 1 ∷ PublisherMade 2 ∷ Done ∷ Loaned ∷ Done ∷ Delivered 1 ∷ Done ∷ PublisherMade 3 ∷ Done ∷ Loaned ∷ Done ∷ Delivered 1 ∷ Done ∷
     PublisherMade 4 ∷ Done ∷ Sample 2 ∷ Cell (Some 1) ∷ NoSample ∷ [])
     events m s
-    × (s.warnings ≡ ExpiredDataDiscarded 3 1 ∷ [])
+    × ((s.warnings).latest ≡ ExpiredDataDiscarded 3 1 ∷ [])
 departed_publisher_without_borrows_loses_its_messages = (
   _ ∷ _ ∷ _ ∷ _ ∷ _ ∷ _ ∷ _ ∷ _ ∷ _ ∷ _ ∷ _ ∷ _ ∷ _ ∷ _ ∷ _ ∷ _ ∷ _ ∷ _ ∷ [],
   _,

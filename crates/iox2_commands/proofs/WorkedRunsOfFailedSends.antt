@@ -29,7 +29,7 @@ pub failed_send_was_sent_all_the_same : (events : List (Event ℕ ℕ)) × (m : 
     (SubscriberMade 1 ∷ SubscriberMade 2 ∷ PublisherMade 3 ∷ Delivered 2 ∷ Sample 3 ∷ Cell (Some 1) ∷ Done ∷ SendRefused UnableToDeliver ∷ Sample 3 ∷
     Cell (Some 2) ∷ Done ∷ SubscriberMade 4 ∷ Done ∷ Sample 3 ∷ Cell (Some 2) ∷ [])
     events m s
-    × (s.warnings ≡ ExpiredBufferRaised 1 ∷ ExpiredBufferRaised 2 ∷ ExpiredBufferRaised 4 ∷ [])
+    × ((s.warnings).latest ≡ ExpiredBufferRaised 1 ∷ ExpiredBufferRaised 2 ∷ ExpiredBufferRaised 4 ∷ [])
 failed_send_was_sent_all_the_same = (
   _ ∷ _ ∷ _ ∷ _ ∷ _ ∷ _ ∷ _ ∷ _ ∷ _ ∷ _ ∷ _ ∷ _ ∷ _ ∷ _ ∷ _ ∷ [],
   _,

@@ -25,7 +25,7 @@ pub closed_subscriber_forgets_departed_publishers : (events : List (Event ℕ �
     SendCopy 1 1 ∷ SendCopy 2 2 ∷ Receive 0 ∷ Close 1 ∷ Update 0 ∷ Close 0 ∷ [])
     (SubscriberMade 1 ∷ PublisherMade 2 ∷ PublisherMade 3 ∷ Delivered 1 ∷ Delivered 1 ∷ Sample 3 ∷ Done ∷ Done ∷ Done ∷ [])
     events m s
-    × (s.warnings ≡ [])
+    × ((s.warnings).latest ≡ [])
     × (s.subscribers 1 ≡ Some (record {
       is_open = false;
       place = 0;
@@ -243,7 +243,7 @@ pub closed_subscriber_loses_empty_ends : (events : List (Event ℕ ℕ)) × (m :
     SendCopy 0 1 ∷ Receive 2 ∷ Close 2 ∷ Close 1 ∷ [])
     (PublisherMade 1 ∷ PublisherMade 2 ∷ SubscriberMade 3 ∷ Delivered 1 ∷ Sample 1 ∷ Done ∷ Done ∷ [])
     events m s
-    × (s.warnings ≡ [])
+    × ((s.warnings).latest ≡ [])
     × (s.subscribers 3 ≡ Some (record {
       is_open = false;
       place = 0;

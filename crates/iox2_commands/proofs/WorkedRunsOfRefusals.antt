@@ -29,7 +29,7 @@ pub fewer_slots_run_out : (events : List (Event ℕ ℕ)) × (m : Messages ℕ �
     (SubscriberMade 1 ∷ PublisherMade 2 ∷ Delivered 1 ∷ Sample 2 ∷ Delivered 1 ∷ LoanRefused OutOfMemory ∷ SendRefused (Not_loaned OutOfMemory) ∷ Done ∷
     Loaned ∷ [])
     events m s
-    × (s.warnings ≡ ExpiredBufferRaised 1 ∷ [])
+    × ((s.warnings).latest ≡ ExpiredBufferRaised 1 ∷ [])
 fewer_slots_run_out = (
   _ ∷ _ ∷ _ ∷ _ ∷ _ ∷ _ ∷ _ ∷ _ ∷ _ ∷ [],
   _,
@@ -189,15 +189,15 @@ fewer_slots_run_out = (
   refl,
 )
 
--- Memory for a connection is refused to a new subscriber, which is made all the same. Its publisher connects by the
--- next send, and it receives the message after its own next update.
+-- Memory for a connection is refused to a new subscriber, which is made all the same, and that is counted. Its publisher
+-- connects by the next send, and it receives the message after its own next update.
 pub unconnected_subscriber_connects_later : (events : List (Event ℕ ℕ)) × (m : Messages ℕ ℕ) × (s : State ℕ ℕ)
     × Run fixed_handlers (only_defaults 0 0) no_messages (fresh (domain 2 1 2 1 0 1 false))
     (CreatePublisher 1 DiscardData Static 1 None Warn None ∷ CreateSubscriber (Some 2) Warn ∷ SendCopy 0 1 ∷ Receive 1 ∷
     CreatePublisher 1 DiscardData Static 1 None Warn None ∷ Receive 1 ∷ Read 5 0 ∷ [])
     (PublisherMade 1 ∷ SubscriberMade 2 ∷ Delivered 1 ∷ NoSample ∷ PublisherMade 3 ∷ Sample 1 ∷ Cell (Some 1) ∷ [])
     events m s
-    × (s.warnings ≡ ConnectionNotMade 1 2 ∷ [])
+    × (s.warnings ≡ record { latest = ConnectionNotMade 1 2 ∷ []; refused_connections = 1 })
 unconnected_subscriber_connects_later = (
   _ ∷ _ ∷ _ ∷ _ ∷ _ ∷ _ ∷ _ ∷ [],
   _,
@@ -352,15 +352,15 @@ unconnected_subscriber_connects_later = (
   refl,
 )
 
--- Memory for a connection is refused to a new publisher, which is made all the same, with a warning of the failure. It
--- connects when the next subscriber comes.
+-- Memory for a connection is refused to a new publisher, which is made all the same, with a warning of the failure; that is
+-- counted, though its handler doesn't warn. It connects when the next subscriber comes.
 pub unconnected_publisher_connects_later : (events : List (Event ℕ ℕ)) × (m : Messages ℕ ℕ) × (s : State ℕ ℕ)
     × Run fixed_handlers (only_defaults 0 0) no_messages (fresh (domain 1 2 1 1 0 1 false))
     (CreateSubscriber (Some 1) DegradeAndFail ∷ CreatePublisher 1 DiscardData Static 1 None DegradeAndFail None ∷ SendCopy 1 1 ∷ Receive 0 ∷
     CreateSubscriber (Some 1) DegradeAndFail ∷ SendCopy 1 2 ∷ Receive 0 ∷ Read 6 0 ∷ [])
     (SubscriberMade 1 ∷ PublisherMade 2 ∷ Delivered 0 ∷ NoSample ∷ SubscriberMade 3 ∷ Delivered 2 ∷ Sample 2 ∷ Cell (Some 2) ∷ [])
     events m s
-    × (s.warnings ≡ PublisherPartlyConnected 2 (FailedToEstablishConnection No_memory) ∷ [])
+    × (s.warnings ≡ record { latest = PublisherPartlyConnected 2 (FailedToEstablishConnection No_memory) ∷ []; refused_connections = 1 })
 unconnected_publisher_connects_later = (
   _ ∷ _ ∷ _ ∷ _ ∷ _ ∷ _ ∷ _ ∷ _ ∷ [],
   _,

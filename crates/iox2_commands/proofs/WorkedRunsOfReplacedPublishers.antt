@@ -27,7 +27,7 @@ pub borrowed_message_takes_the_place_of_waiting_ones : (events : List (Event ℕ
     (SubscriberMade 1 ∷ PublisherMade 2 ∷ Delivered 1 ∷ Delivered 1 ∷ Sample 2 ∷ Done ∷ PublisherMade 3 ∷ Delivered 1 ∷ Sample 3 ∷ Done ∷ Done ∷
     PublisherMade 4 ∷ Done ∷ NoSample ∷ Cell (Some 3) ∷ [])
     events m s
-    × (s.warnings ≡ ExpiredDataDiscarded 2 1 ∷ [])
+    × ((s.warnings).latest ≡ ExpiredDataDiscarded 2 1 ∷ [])
 borrowed_message_takes_the_place_of_waiting_ones = (
   _ ∷ _ ∷ _ ∷ _ ∷ _ ∷ _ ∷ _ ∷ _ ∷ _ ∷ _ ∷ _ ∷ _ ∷ _ ∷ _ ∷ _ ∷ [],
   _,

@@ -33,7 +33,7 @@ pub slices_are_written_cell_by_cell : (events : List (Event ℕ ℕ)) × (m : Me
     (PublisherMade 1 ∷ Loaned ∷ Done ∷ Unwritten ∷ Done ∷ Skipped ∷ Done ∷ Cell (Some 8) ∷
     HeaderRead (record { node_id = 9; publisher_id = 1; number_of_elements = 2 }) ∷ LoanRefused ExceedsMaxLoanSize ∷ Delivered 0 ∷ Skipped ∷ [])
     events m s
-    × (s.warnings ≡ [])
+    × ((s.warnings).latest ≡ [])
 slices_are_written_cell_by_cell = (
   _ ∷ _ ∷ _ ∷ _ ∷ _ ∷ _ ∷ _ ∷ _ ∷ _ ∷ _ ∷ _ ∷ _ ∷ [],
   _,
@@ -171,7 +171,7 @@ pub length_counts_before_the_number_of_loans : (events : List (Event ℕ ℕ)) �
     (PublisherMade 1 ∷ Loaned ∷ LoanRefused ExceedsMaxLoanSize ∷ LoanRefused ExceedsMaxLoans ∷ Done ∷ Loaned ∷
     HeaderRead (record { node_id = 1; publisher_id = 1; number_of_elements = 0 }) ∷ Skipped ∷ Done ∷ Delivered 0 ∷ [])
     events m s
-    × (s.warnings ≡ [])
+    × ((s.warnings).latest ≡ [])
 length_counts_before_the_number_of_loans = (
   _ ∷ _ ∷ _ ∷ _ ∷ _ ∷ _ ∷ _ ∷ _ ∷ _ ∷ _ ∷ [],
   _,
@@ -289,7 +289,7 @@ pub growing_publisher_keeps_older_samples : (events : List (Event ℕ ℕ)) × (
     (SubscriberMade 1 ∷ PublisherMade 2 ∷ Loaned ∷ Done ∷ Delivered 1 ∷ Sample 2 ∷ Loaned ∷ Done ∷ Delivered 1 ∷ Cell (Some 5) ∷ Skipped ∷
     LoanRefused InternalFailure ∷ Loaned ∷ [])
     events m s
-    × (s.warnings ≡ ExpiredBufferRaised 1 ∷ [])
+    × ((s.warnings).latest ≡ ExpiredBufferRaised 1 ∷ [])
 growing_publisher_keeps_older_samples = (
   _ ∷ _ ∷ _ ∷ _ ∷ _ ∷ _ ∷ _ ∷ _ ∷ _ ∷ _ ∷ _ ∷ _ ∷ _ ∷ [],
   _,
@@ -461,7 +461,7 @@ pub growing_publisher_keeps_its_limit_of_loans : (events : List (Event ℕ ℕ))
     (CreatePublisher 2 DiscardData BestFit 1 (Some 1) Warn None ∷ LoanSlice 0 1 ∷ LoanSlice 0 1 ∷ LoanSlice 0 1 ∷ [])
     (PublisherMade 1 ∷ Loaned ∷ Loaned ∷ LoanRefused ExceedsMaxLoans ∷ [])
     events m s
-    × (s.warnings ≡ [])
+    × ((s.warnings).latest ≡ [])
 growing_publisher_keeps_its_limit_of_loans = (
   _ ∷ _ ∷ _ ∷ _ ∷ [],
   _,

@@ -26,7 +26,7 @@ pub slots_come_back_with_each_release : (events : List (Event ℕ ℕ)) × (m : 
     (SubscriberMade 1 ∷ PublisherMade 2 ∷ Delivered 1 ∷ Sample 2 ∷ Delivered 1 ∷ Blocked ∷ Done ∷ Sample 2 ∷ Done ∷ Delivered 1 ∷ Sample 2 ∷
     Cell (Some 3) ∷ Done ∷ Delivered 1 ∷ Sample 2 ∷ Cell (Some 4) ∷ [])
     events m s
-    × (s.warnings ≡ ExpiredBufferRaised 1 ∷ [])
+    × ((s.warnings).latest ≡ ExpiredBufferRaised 1 ∷ [])
 slots_come_back_with_each_release = (
   _ ∷ _ ∷ _ ∷ _ ∷ _ ∷ _ ∷ _ ∷ _ ∷ _ ∷ _ ∷ _ ∷ _ ∷ _ ∷ _ ∷ _ ∷ _ ∷ [],
   _,

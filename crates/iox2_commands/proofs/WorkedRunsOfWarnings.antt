@@ -32,7 +32,7 @@ pub only_the_last_warnings_stay : (events : List (Event ℕ ℕ)) × (m : Messag
     SubscriberMade 27 ∷ Done ∷ SubscriberMade 28 ∷ Done ∷ SubscriberMade 29 ∷ Done ∷ SubscriberMade 30 ∷ Done ∷ SubscriberMade 31 ∷ Done ∷
     SubscriberMade 32 ∷ Done ∷ SubscriberMade 33 ∷ Done ∷ [])
     events m s
-    × (s.warnings ≡ ExpiredBufferRaised 2 ∷ ExpiredBufferRaised 3 ∷ ExpiredBufferRaised 4 ∷ ExpiredBufferRaised 5 ∷ ExpiredBufferRaised 6 ∷ ExpiredBufferRaised 7 ∷
+    × ((s.warnings).latest ≡ ExpiredBufferRaised 2 ∷ ExpiredBufferRaised 3 ∷ ExpiredBufferRaised 4 ∷ ExpiredBufferRaised 5 ∷ ExpiredBufferRaised 6 ∷ ExpiredBufferRaised 7 ∷
     ExpiredBufferRaised 8 ∷ ExpiredBufferRaised 9 ∷ ExpiredBufferRaised 10 ∷ ExpiredBufferRaised 11 ∷ ExpiredBufferRaised 12 ∷ ExpiredBufferRaised 13 ∷
     ExpiredBufferRaised 14 ∷ ExpiredBufferRaised 15 ∷ ExpiredBufferRaised 16 ∷ ExpiredBufferRaised 17 ∷ ExpiredBufferRaised 18 ∷ ExpiredBufferRaised 19 ∷
     ExpiredBufferRaised 20 ∷ ExpiredBufferRaised 21 ∷ ExpiredBufferRaised 22 ∷ ExpiredBufferRaised 23 ∷ ExpiredBufferRaised 24 ∷ ExpiredBufferRaised 25 ∷

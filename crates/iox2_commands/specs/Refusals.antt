@@ -1,18 +1,14 @@
--- Runs in which no memory was refused, as their replies and the warnings tell.
-use Rattle.std.specs.Prelude.{ℕ, Bool, true, false, List, [], ◌∷◌, ◌++◌, length, ◌≡◌, ◌<◌, slice_get}
-use Rattle.std.specs.List.{list_all, All}
+-- Runs in which no memory was refused, as their replies and the count of refused connections tell.
+use Rattle.std.specs.Prelude.{ℕ, true, List, [], ◌∷◌, ◌++◌, ◌≡◌, slice_get}
+use Rattle.std.specs.List.{All}
 use Rattle.std.specs.declared.option.Option.TheVariants.{Some}
-use Rattle.iox2_store.specs.machine.Limits.{warning_limit}
 use Rattle.iox2_store.specs.machine.Ports.{first_segment_fits}
-use Rattle.iox2_store.specs.machine.State.{State, Messages, fresh, no_messages}
+use Rattle.iox2_store.specs.machine.State.{State, Warnings, Messages, fresh, no_messages}
 use Rattle.iox2_store.specs.machine.Environments.{fixed_handlers, ample_memory}
 use Rattle.iox2_store.specs.declared.allocation.AllocationStrategy.TheVariants.{Static}
-use Rattle.iox2_store.specs.declared.degradation.DegradationAction.TheVariants.{Warn}
 use Rattle.iox2_store.specs.declared.errors.PublisherCreateError.TheVariants.{UnableToCreateDataSegment, FailedToDeployThreadsafetyPolicy as NoPublisherState}
 use Rattle.iox2_store.specs.declared.errors.SubscriberCreateError.TheVariants.{FailedToDeployThreadsafetyPolicy as NoSubscriberState}
 use Rattle.iox2_store.specs.declared.service_config.ServiceConfig.{ServiceConfig}
-use Rattle.iox2_store.specs.declared.warning.Warning.{Warning}
-use Rattle.iox2_store.specs.declared.warning.Warning.TheVariants.{ConnectionNotMade}
 use Rattle.iox2_commands.specs.Outcomes.{Handle, Event}
 use Rattle.iox2_commands.specs.Points.{PointOf}
 use Rattle.iox2_commands.specs.Runs.{RunTo, only_defaults}
@@ -24,34 +20,28 @@ use Rattle.iox2_commands.specs.declared.command.Command.TheVariants.{Nothing, Cr
 use Rattle.iox2_commands.specs.declared.reply.Reply.{Reply}
 use Rattle.iox2_commands.specs.declared.reply.Reply.TheVariants.{SubscriberMade, PublisherRefused, SubscriberRefused}
 
--- The warning doesn't say that a connection wasn't made.
-abbrev pub is_other_warning : Warning → Bool
-is_other_warning (ConnectionNotMade p q) = false
-is_other_warning _ = true
-
--- No warning says that a connection wasn't made, and none was forgotten.
-pub record TellNoRefusal (warnings : List Warning) : Type 0 where
-  pub few : length warnings < warning_limit
-  pub others : list_all is_other_warning warnings ≡ true
+-- No connection was refused memory.
+abbrev pub TellNoRefusal : Warnings → Type 0
+TellNoRefusal warnings = warnings.refused_connections ≡ 0
 
 module _ {T U : Type 0} where
-  -- A port that the command makes warns where memory for a connection is refused, and a publisher has its memory from the
+  -- Memory that is refused to the command shows in its reply or in the count: a publisher that it makes has its memory from the
   -- start. These are the commands that `run` carries out so far.
-  abbrev pub WarnsOfRefusals : Command T U → Type 0
-  WarnsOfRefusals Nothing = Unit {0}
-  WarnsOfRefusals (CreatePublisher loans strategy allocation len override_slots degradation backpressure) = (allocation ≡ Static) × (degradation ≡ Warn)
-  WarnsOfRefusals (CreateSubscriber buffer degradation) = degradation ≡ Warn
-  WarnsOfRefusals (LoanUninit of) = Unit {0}
-  WarnsOfRefusals (WriteAll of value) = Unit {0}
-  WarnsOfRefusals (Send of) = Unit {0}
-  WarnsOfRefusals (Discard of) = Unit {0}
-  WarnsOfRefusals (Update of) = Unit {0}
-  WarnsOfRefusals (Receive of) = Unit {0}
-  WarnsOfRefusals (HasSamples of) = Unit {0}
-  WarnsOfRefusals (Read of at) = Unit {0}
-  WarnsOfRefusals (Release of) = Unit {0}
-  WarnsOfRefusals (Close of) = Unit {0}
-  WarnsOfRefusals _ = ⊥
+  abbrev pub TellsOfRefusals : Command T U → Type 0
+  TellsOfRefusals Nothing = Unit {0}
+  TellsOfRefusals (CreatePublisher loans strategy allocation len override_slots degradation backpressure) = allocation ≡ Static
+  TellsOfRefusals (CreateSubscriber buffer degradation) = Unit {0}
+  TellsOfRefusals (LoanUninit of) = Unit {0}
+  TellsOfRefusals (WriteAll of value) = Unit {0}
+  TellsOfRefusals (Send of) = Unit {0}
+  TellsOfRefusals (Discard of) = Unit {0}
+  TellsOfRefusals (Update of) = Unit {0}
+  TellsOfRefusals (Receive of) = Unit {0}
+  TellsOfRefusals (HasSamples of) = Unit {0}
+  TellsOfRefusals (Read of at) = Unit {0}
+  TellsOfRefusals (Release of) = Unit {0}
+  TellsOfRefusals (Close of) = Unit {0}
+  TellsOfRefusals _ = ⊥
 
   -- The reply to the command refuses a port for want of memory.
   abbrev pub RefusesPort : ServiceConfig → Command T U → Reply T U → Type 0
@@ -66,8 +56,8 @@ module _ {T U : Type 0} where
   RefuseNoPort c (command ∷ commands) (reply ∷ replies) = (RefusesPort c command reply → ⊥) × RefuseNoPort c commands replies
   RefuseNoPort c _ _ = Unit {0}
 
-  -- No warning and no reply tells that memory was refused.
-  pub record MetNoRefusal (c : ServiceConfig) (commands : List (Command T U)) (replies : List (Reply T U)) (warnings : List Warning) : Type 0 where
+  -- No reply and no count tells that memory was refused.
+  pub record MetNoRefusal (c : ServiceConfig) (commands : List (Command T U)) (replies : List (Reply T U)) (warnings : Warnings) : Type 0 where
     pub ports : RefuseNoPort c commands replies
     pub told : TellNoRefusal warnings
 
@@ -76,7 +66,7 @@ abbrev pub RunsWithoutRefusalsAreAmple : Type 0 → Type 0 → Type 0
 RunsWithoutRefusalsAreAmple T U =
     (default_value : T) (default_header : U) (c : ServiceConfig) (commands : List (Command T U)) (replies : List (Reply T U)) (events : List (Event T U))
     (m : Messages T U) (s : State T U) (handles : List Handle)
-    → All WarnsOfRefusals commands → MetNoRefusal c commands replies s.warnings
+    → All TellsOfRefusals commands → MetNoRefusal c commands replies s.warnings
     → RunTo fixed_handlers (only_defaults default_value default_header) no_messages (fresh c) [] commands replies events m s handles
     → RunTo ample_memory (only_defaults default_value default_header) no_messages (fresh c) [] commands replies events m s handles
 
@@ -86,10 +76,10 @@ abbrev pub SubscribersAreIsolatedWithoutRefusals : Type 0 → Type 0 → Type 0
 SubscribersAreIsolatedWithoutRefusals T U =
     (default_value : T) (default_header : U) (c : ServiceConfig) (position q : ℕ) (commands reduced later : List (Command T U))
     (replies replies' : List (Reply T U)) (events events' : List (Event T U)) (m m' : Messages T U) (s s' : State T U) (handles handles' : List Handle)
-    → All WarnsOfRefusals commands → All WarnsOfRefusals reduced
+    → All TellsOfRefusals commands → All TellsOfRefusals reduced
     → MetNoRefusal c commands replies s.warnings → MetNoRefusal c reduced replies' s'.warnings
     → OmitsOthersFrom position (commands ++ later) commands reduced
-    → AreIndependent c commands replies reduced replies'
+    → AreIndependent c position commands replies reduced replies'
     → RunTo fixed_handlers (only_defaults default_value default_header) no_messages (fresh c) [] commands replies events m s handles
     → RunTo fixed_handlers (only_defaults default_value default_header) no_messages (fresh c) [] reduced replies' events' m' s' handles'
     → slice_get replies position ≡ Some (SubscriberMade q)
@@ -103,10 +93,10 @@ abbrev pub ViewsStayAlikeWithoutRefusals : Type 0 → Type 0 → Type 0
 ViewsStayAlikeWithoutRefusals T U =
     (default_value : T) (default_header : U) (c : ServiceConfig) (position q n : ℕ) (commands reduced : List (Command T U))
     (replies replies' : List (Reply T U)) (events events' : List (Event T U)) (m m' : Messages T U) (s s' : State T U)
-    → All WarnsOfRefusals commands → All WarnsOfRefusals reduced
+    → All TellsOfRefusals commands → All TellsOfRefusals reduced
     → MetNoRefusal c commands replies s.warnings → MetNoRefusal c reduced replies' s'.warnings
     → OmitsOthersFrom position commands commands reduced
-    → AreIndependent c commands replies reduced replies'
+    → AreIndependent c position commands replies reduced replies'
     → slice_get replies position ≡ Some (SubscriberMade q)
     → ((i : ℕ) → slice_get commands i ≡ Some (Receive position) → slice_get replies i ≡ slice_get replies' i)
     → (x : PointOf fixed_handlers (only_defaults default_value default_header) no_messages (fresh c) commands replies events m s n)

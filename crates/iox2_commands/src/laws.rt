@@ -95,14 +95,13 @@ pub fn views_stay_alike<T, U>()
     ensures { ViewsStayAlike T U }
 {}
 
-/// Where memory for a connection is refused a port warns, so long as its degradation handler says so. A run from a new domain
-/// in which memory might have been refused, after which no warning was forgotten and none says that a connection wasn't made,
-/// and that made each port that could be, is a run with ample memory.
+/// A run from a new domain in which memory might have been refused, after which the count of refused connections is 0, and that
+/// made each port that could be, is a run with ample memory, whatever degradation handlers answer.
 pub fn runs_without_refusals_are_ample<T, U>()
     ensures { RunsWithoutRefusalsAreAmple T U }
 {}
 
-/// Subscribers are isolated in runs in which memory might have been refused, where warnings and replies tell that none was.
+/// Subscribers are isolated in runs in which memory might have been refused, where the count of refused connections and replies tell that none was.
 pub fn subscribers_are_isolated_without_refusals<T, U>()
     ensures { SubscribersAreIsolatedWithoutRefusals T U }
 {}

@@ -4,7 +4,6 @@ use Rattle.std.specs.declared.option.Option.{Option}
 use Rattle.std.specs.declared.option.Option.TheVariants.{None, Some}
 use Rattle.std.specs.Option.{option_map, option_and_then, option_map_or}
 use Rattle.slab.specs.Slab.{Slab}
-use Rattle.circular_buffer.specs.Buffer.{Buffer}
 use Rattle.iox2_store.specs.Link.{Link}
 use Rattle.iox2_store.specs.machine.Places.{occupants}
 use Rattle.iox2_store.specs.SlotBook.{Book, holders_at}
@@ -14,9 +13,9 @@ use Rattle.iox2_store.specs.declared.header.Header.{Header}
 use Rattle.iox2_store.specs.declared.slots.mark.SlotMark.{SlotMark}
 use Rattle.iox2_store.specs.declared.slots.mark.SlotMark.TheVariants.{Unwritten, Written, Sent}
 use Rattle.iox2_store.specs.declared.service_config.ServiceConfig.{ServiceConfig}
-use Rattle.iox2_store.specs.declared.warning.Warning.{Warning}
 use Rattle.iox2_ends.specs.LookUp.{look_up}
 use Rattle.iox2_ends.specs.Mailboxes.{mailbox_of, sender_ends, receiver_ends}
+use Rattle.iox2_domain.specs.WarningRing.{WarningRing}
 use Rattle.iox2_domain.specs.Ports.{BlockedDelivery, PublisherFields, SubscriberFields}
 use Rattle.iox2_domain.specs.Kept.{Named, Between, KeptMessage, Lent_message, Sent_message, KeptBook, Kept}
 
@@ -24,7 +23,7 @@ pub record Fields (T U : Type 0) : Type 0 where
   pub config : ServiceConfig
   pub next_port : ℕ
   pub next_message : ℕ
-  pub warnings : Buffer Warning
+  pub warnings : WarningRing
   pub publishers : List (Option PublisherFields)  -- by place
   pub subscribers : List (Option SubscriberFields)  -- by place
   pub connections : Slab Link

@@ -1,8 +1,9 @@
 -- The fields of a new domain.
 use Rattle.std.specs.Prelude.{◌≡◌, []}
-use Rattle.circular_buffer.specs.Buffer.{buffer}
 use Rattle.iox2_store.specs.machine.Limits.{warning_limit}
+use Rattle.iox2_store.specs.machine.State.{no_warnings}
 use Rattle.iox2_store.specs.declared.service_config.ServiceConfig.{ServiceConfig}
+use Rattle.iox2_domain.specs.WarningRing.{warning_ring}
 use Rattle.iox2_domain.specs.Fields.{Fields}
 
 -- There are no ports, connections, messages or warnings, and both counters are at 1.
@@ -10,7 +11,7 @@ pub record IsFresh {T U : Type 0} (config : ServiceConfig) (f : Fields T U) : Ty
   pub settings : f.config ≡ config
   pub next_port : f.next_port ≡ 1
   pub next_message : f.next_message ≡ 1
-  pub warnings : f.warnings ≡ buffer [] warning_limit
+  pub warnings : f.warnings ≡ warning_ring no_warnings warning_limit
   pub publishers : f.publishers ≡ []
   pub subscribers : f.subscribers ≡ []
   pub connections : (f.connections).slots ≡ []

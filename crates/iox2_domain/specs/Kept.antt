@@ -5,10 +5,9 @@ use Rattle.std.specs.declared.option.Option.TheVariants.{None, Some}
 use Rattle.std.specs.Option.{option_map, option_and_then}
 use Rattle.iox2_store.specs.machine.Mailbox.{Mailbox, empty_mailbox}
 use Rattle.iox2_store.specs.machine.Records.{Entry, Loan, Publisher, Subscriber}
-use Rattle.iox2_store.specs.machine.State.{State, Messages}
+use Rattle.iox2_store.specs.machine.State.{State, Warnings, Messages}
 use Rattle.iox2_store.specs.declared.header.Header.{Header}
 use Rattle.iox2_store.specs.declared.service_config.ServiceConfig.{ServiceConfig}
-use Rattle.iox2_store.specs.declared.warning.Warning.{Warning}
 use Rattle.iox2_ends.specs.LookUp.{look_up}
 
 -- A port and its id.
@@ -40,7 +39,7 @@ pub record Kept (T U : Type 0) : Type 0 where
   pub subscribers : List (Option (Named Subscriber))  -- by place
   pub connections : List (Option Between)  -- in no order that means anything
   pub books : List (Option (KeptBook T U))  -- in no order that means anything
-  pub warnings : List Warning  -- oldest first
+  pub warnings : Warnings
 
 -- ---- ports and mailboxes
 

@@ -1,6 +1,7 @@
 pub mod Ports
 pub mod Kept
 pub mod Shows
+pub mod WarningRing
 pub mod Fields
 pub mod Invariant
 pub mod FreshFields

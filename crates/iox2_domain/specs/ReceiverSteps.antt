@@ -4,7 +4,6 @@ use Rattle.std.specs.declared.option.Option.{Option}
 use Rattle.std.specs.declared.option.Option.TheVariants.{None, Some}
 use Rattle.std.specs.Option.{option_map}
 use Rattle.slab.specs.Slab.{get, with_value}
-use Rattle.circular_buffer.specs.Buffer.{buffer}
 use Rattle.iox2_store.specs.Link.{Link}
 use Rattle.iox2_store.specs.SlotBook.{Book}
 use Rattle.iox2_store.specs.machine.Limits.{warning_limit, expired_limit}
@@ -17,6 +16,7 @@ use Rattle.iox2_store.specs.declared.errors.ConnectionFailure.{ConnectionFailure
 use Rattle.iox2_store.specs.declared.warning.Warning.TheVariants.{ExpiredDataDiscarded}
 use Rattle.iox2_ends.specs.Counters.{with_counters}
 use Rattle.iox2_ends.specs.Drops.{RemovesDropped}
+use Rattle.iox2_domain.specs.WarningRing.{warning_ring}
 use Rattle.iox2_domain.specs.Ports.{PublisherFields, SubscriberFields}
 use Rattle.iox2_domain.specs.Kept.{state_of, entries_of}
 use Rattle.iox2_domain.specs.Fields.{Fields, kept_of, subscriber_of}
@@ -97,7 +97,7 @@ module _ {T U : Type 0} where
     pub fields : f' ≡ record f {
       connections = f'.connections;
       books = with_value f.books c.home.book (with_counters b holders);
-      warnings = buffer (warned f.warnings.items (ExpiredDataDiscarded c.home.publisher c.home.subscriber)) warning_limit;
+      warnings = warning_ring (warned f.warnings.items (ExpiredDataDiscarded c.home.publisher c.home.subscriber)) warning_limit;
     }
 
   -- The book at the key is gone where no slot of it has a holder. The state stays.

@@ -7,12 +7,11 @@ use Rattle.std.specs.declared.result.Result.TheVariants.{Ok, Err}
 use Rattle.iox2_store.specs.machine.Limits.{buffer_limit, last_number}
 use Rattle.iox2_store.specs.machine.Ports.{buffer_for, FirstSubscriberUpdate}
 use Rattle.iox2_store.specs.machine.Records.{Environment, SubscriberSettings, Fixed}
-use Rattle.iox2_store.specs.machine.State.{State, warned}
+use Rattle.iox2_store.specs.machine.State.{State, Warnings, warned}
 use Rattle.iox2_store.specs.declared.degradation.DegradationAction.TheVariants.{Warn}
 use Rattle.iox2_store.specs.declared.errors.SubscriberCreateError.{SubscriberCreateError}
 use Rattle.iox2_store.specs.declared.errors.SubscriberCreateError.TheVariants.{UnableToCreatePortTag, BufferSizeExceedsMaxSupportedBufferSizeOfService, ExceedsMaxSupportedSubscribers}
 use Rattle.iox2_store.specs.declared.errors.ConnectionFailure.{ConnectionFailure}
-use Rattle.iox2_store.specs.declared.warning.Warning.{Warning}
 use Rattle.iox2_store.specs.declared.warning.Warning.TheVariants.{SubscriberPartlyConnected}
 use Rattle.iox2_domain.specs.Ports.{SubscriberFields}
 use Rattle.iox2_domain.specs.Kept.{state_of}
@@ -25,7 +24,7 @@ abbrev pub asked_for : (buffer_size : ℕ) → SubscriberSettings
 asked_for buffer_size = record { buffer_size = buffer_size; degradation_handler = Fixed Warn }
 
 -- The warnings after the first update of the subscriber q, with this failure if any.
-abbrev pub failure_warned : (q : ℕ) → Option ConnectionFailure → List Warning → List Warning
+abbrev pub failure_warned : (q : ℕ) → Option ConnectionFailure → Warnings → Warnings
 failure_warned q None warnings = warnings
 failure_warned q (Some failure) warnings = warned warnings (SubscriberPartlyConnected q failure)
 

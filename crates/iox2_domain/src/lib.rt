@@ -15,6 +15,7 @@ mod publisher_state;
 mod sample_slots;
 mod state;
 mod subscriber_state;
+mod warnings;
 
 pub use loan_slots::LoanAt;
 pub use message_slots::MessageSlot;
@@ -29,3 +30,4 @@ pub use state::DomainState;
 pub use subscriber_state::{
     SubscriberState, expire_at, forget_at, is_open_at, replace_expired_at, reserve_connection_at,
 };
+pub use warnings::Warnings;

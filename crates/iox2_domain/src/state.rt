@@ -4,14 +4,11 @@ ghost use Rattle.iox2_domain.specs.FreshFields.{IsFresh};
 
 use crate::publisher_state::PublisherState;
 use crate::subscriber_state::SubscriberState;
-use circular_buffer::HeapCircularBuffer;
-use iox2_store::{Connection, Contents, ServiceConfig, SlotBook, Warning};
+use crate::warnings::Warnings;
+use iox2_store::{Connection, Contents, ServiceConfig, SlotBook};
 use slab::Slab;
 use std::alloc::{AllocError, Global};
 use std::marker::Model;
-
-// So many warnings are kept.
-const WARNING_LIMIT: usize = 32;
 
 /// All that a domain keeps. Each call that changes it asks that its fields agree (`IsDomain`) and
 /// leaves them so.
@@ -21,7 +18,7 @@ pub struct DomainState<T, U> {
     pub config: ServiceConfig,
     pub next_port: u128,
     pub next_message: u128,
-    pub warnings: HeapCircularBuffer<Warning>,
+    pub warnings: Warnings,
     // At each place the publisher that stands there.
     pub publishers: Vec<Option<PublisherState>>,
     // At each place the subscriber that stands there.
@@ -55,7 +52,7 @@ impl<T: Drop, U: Default + Drop> DomainState<T, U> {
     pub fn new(alloc: Global, config: ServiceConfig) -> Result<Self, AllocError>
         ensures { IfOk result (IsFresh config) }
     {
-        let warnings = HeapCircularBuffer::with_capacity(alloc, WARNING_LIMIT)?;
+        let warnings = Warnings::new(alloc)?;
         Ok(DomainState {
             alloc,
             config,
@@ -75,5 +72,12 @@ impl<T: Drop, U: Default + Drop> DomainState<T, U> {
         ensures { result.now ≡ self.now.config }
     {
         &self.config
+    }
+
+    /// How many connections were refused memory: `u64::MAX` says at least so many.
+    pub fn refused_connections(&self) -> u64
+        ensures { result ≡ (self.now.warnings).items.refused_connections }
+    {
+        self.warnings.refused_connections()
     }
 }

@@ -8,10 +8,9 @@ use Rattle.iox2_store.specs.machine.Numbers.{contains, size}
 use Rattle.iox2_store.specs.machine.Places.{occupant, occupants}
 use Rattle.iox2_store.specs.machine.Mailbox.{Mailbox, numbers_in, has_numbers, has_borrows, waiting_count}
 use Rattle.iox2_store.specs.machine.Records.{Loan, Publisher, Subscriber}
-use Rattle.iox2_store.specs.machine.State.{State, publishers_due, subscribers_due}
+use Rattle.iox2_store.specs.machine.State.{State, Warnings, publishers_due, subscribers_due}
 use Rattle.iox2_store.specs.machine.WellFormed.{LeadsTo, PlacesAgree, publisher_place, subscriber_place, BlockedIsWellFormed, PublisherIsWellFormed}
 use Rattle.iox2_store.specs.machine.WellFormed.{SubscriberIsWellFormed, MailboxIsWellFormed, LoanIsWellFormed, IsWellFormed}
-use Rattle.iox2_store.specs.declared.warning.Warning.{Warning}
 use Rattle.iox2_laws.proofs.Puts.{found_mapped}
 use Rattle.iox2_laws.proofs.NumberLemmas.{contains_in_append, contains_left, contains_right, contains_in_flat_map, contains-flat_map, size_le, absent_from}
 
@@ -246,7 +245,7 @@ module _ {T U : Type 0} where
   -- ---- warnings, and ports that become due
 
   -- Warnings don't matter.
-  pub with_warning_keeps : (s : State T U) → IsWellFormed s → (ws : List Warning) → IsWellFormed (record s { warnings = ws })
+  pub with_warning_keeps : (s : State T U) → IsWellFormed s → (ws : Warnings) → IsWellFormed (record s { warnings = ws })
   with_warning_keeps s w ws = record {
     publisher_places = w.publisher_places;
     subscriber_places = w.subscriber_places;

@@ -15,13 +15,12 @@ use Rattle.iox2_store.specs.machine.Numbers.{put_at, contains, without, IsOnce}
 use Rattle.iox2_store.specs.machine.Places.{occupant, set_place}
 use Rattle.iox2_store.specs.machine.Mailbox.{Mailbox, has_numbers, has_borrows, has_data, waiting_dropped}
 use Rattle.iox2_store.specs.machine.Records.{Publisher, Subscriber, Handler, Environment}
-use Rattle.iox2_store.specs.machine.State.{State, warned}
+use Rattle.iox2_store.specs.machine.State.{State, Warnings, warned}
 use Rattle.iox2_store.specs.machine.Connections.{expired_buffer_full}
 use Rattle.iox2_store.specs.machine.SubscriberUpdate.{ReceiverSide, Retirement, Keep_expired, Evict, Discard_data, Refuse, first_without_borrows, evict_or_refuse, retirement_of, after_retirement, is_refused, with_end, ConnectReceiver, Retire, ConnectAtPlace, DisconnectAtPlace, receiver_side}
 use Rattle.iox2_store.specs.machine.WellFormed.{LeadsTo, IsInjective, SubscriberIsWellFormed, IsWellFormed}
 use Rattle.iox2_store.specs.declared.degradation.DegradationAction.{DegradationAction}
 use Rattle.iox2_store.specs.declared.errors.ConnectionFailure.{ConnectionFailure}
-use Rattle.iox2_store.specs.declared.warning.Warning.{Warning}
 use Rattle.iox2_store.specs.declared.warning.Warning.TheVariants.{ExpiredDataDiscarded}
 
 -- ---- ends
@@ -139,7 +138,7 @@ module _ {T U : Type 0} where
       }
 
   -- Its mark and the warnings don't matter.
-  pub receiver_side_marked : (s : State T U) (q : ℕ) (side : ReceiverSide) (is_due : Bool) (warnings : List Warning) → ReceiverSideIsWellFormed s q side
+  pub receiver_side_marked : (s : State T U) (q : ℕ) (side : ReceiverSide) (is_due : Bool) (warnings : Warnings) → ReceiverSideIsWellFormed s q side
       → ReceiverSideIsWellFormed s q (record side { is_due = is_due; warnings = warnings })
   receiver_side_marked s q side is_due warnings b = record {
     ends_bound = b.ends_bound;
@@ -195,7 +194,7 @@ module _ {T U : Type 0} where
   -- but of nobody that stays.
   left_end_keeps : (s : State T U) (q : ℕ) (side : ReceiverSide) (place old : ℕ) → ReceiverSideIsWellFormed s q side
       → occupant side.ends place ≡ Some old → s.publishers old ≡ None
-      → (expired : List ℕ) (boxes : ℕ → Mailbox) (warnings : List Warning)
+      → (expired : List ℕ) (boxes : ℕ → Mailbox) (warnings : Warnings)
       → length expired ≤ expired_limit s.config → IsOnce expired
       → ((r : ℕ) → contains expired r ≡ true → (r ≡ old) ⊎ (contains side.expired r ≡ true))
       → ((r : ℕ) → contains expired r ≡ true → boxes r ≡ side.mailboxes r)

@@ -16,10 +16,9 @@ use Rattle.iox2_store.specs.machine.Numbers.{put_at, contains, size}
 use Rattle.iox2_store.specs.machine.Places.{occupant, occupants}
 use Rattle.iox2_store.specs.machine.Mailbox.{Mailbox, numbers_in, has_numbers, has_borrows, has_data, waiting_count, with_released, IsWithin}
 use Rattle.iox2_store.specs.machine.Records.{Publisher, Subscriber}
-use Rattle.iox2_store.specs.machine.State.{State, held, is_present}
+use Rattle.iox2_store.specs.machine.State.{State, Warnings, held, is_present}
 use Rattle.iox2_store.specs.machine.Releases.{is_connected, pruned, unborrowed, subscriber_pruned, released}
 use Rattle.iox2_store.specs.machine.WellFormed.{LeadsTo, subscriber_place, BlockedIsWellFormed, PublisherIsWellFormed, SubscriberIsWellFormed, MailboxIsWellFormed, LoanIsWellFormed, IsWellFormed}
-use Rattle.iox2_store.specs.declared.warning.Warning.{Warning}
 
 -- ---- less in the mailboxes
 
@@ -75,12 +74,12 @@ at_each_mailbox f p q box P i j new old =
 
 module _ {T U : Type 0} where
   -- The state with these subscribers, mailboxes and warnings.
-  abbrev pub with_receivers : State T U → (ℕ → Option Subscriber) → (ℕ → ℕ → Mailbox) → List Warning → State T U
+  abbrev pub with_receivers : State T U → (ℕ → Option Subscriber) → (ℕ → ℕ → Mailbox) → Warnings → State T U
   with_receivers s subscribers boxes warnings = record s { subscribers = subscribers; mailboxes = boxes; warnings = warnings }
 
   -- The subscribers keep their places and buffers, nothing is new in a mailbox, who has borrowed something knows of whom, and so
   -- does an open subscriber for which something waits from a departed publisher.
-  pub record ReceiversAgree (s : State T U) (subscribers : ℕ → Option Subscriber) (boxes : ℕ → ℕ → Mailbox) (warnings : List Warning) : Type 0 where
+  pub record ReceiversAgree (s : State T U) (subscribers : ℕ → Option Subscriber) (boxes : ℕ → ℕ → Mailbox) (warnings : Warnings) : Type 0 where
     pub places : (q : ℕ) → subscriber_place (with_receivers s subscribers boxes warnings) q ≡ subscriber_place s q
     pub stays : (q : ℕ) (y : Subscriber) → subscribers q ≡ Some y → (z : Subscriber) × (s.subscribers q ≡ Some z) × (y.place ≡ z.place) × (y.buffer ≡ z.buffer)
     pub shrinks : (p q : ℕ) → Shrinks (buffer_limit s.config) (s.config).subscriber_max_borrowed_samples (s.mailboxes p q) (boxes p q)
@@ -94,7 +93,7 @@ module _ {T U : Type 0} where
       → contains (numbers_in (s.mailboxes p q)) n ≡ false → contains (numbers_in (boxes p q)) n ≡ false
   absent_still s boxes p q n a h = absent_from (numbers_in (boxes p q)) n (λ k. true≢false (sym (a.numbers n k) ∙ h))
 
-  publisher_agrees : (s : State T U) (subscribers : ℕ → Option Subscriber) (boxes : ℕ → ℕ → Mailbox) (warnings : List Warning)
+  publisher_agrees : (s : State T U) (subscribers : ℕ → Option Subscriber) (boxes : ℕ → ℕ → Mailbox) (warnings : Warnings)
       → ReceiversAgree s subscribers boxes warnings
       → (p : ℕ) (x : Publisher) → PublisherIsWellFormed s p x → PublisherIsWellFormed (with_receivers s subscribers boxes warnings) p x
   publisher_agrees s subscribers boxes warnings a p x b = record {
@@ -133,7 +132,7 @@ module _ {T U : Type 0} where
         };
   }
 
-  mailbox_agrees : (s : State T U) (subscribers : ℕ → Option Subscriber) (boxes : ℕ → ℕ → Mailbox) (warnings : List Warning) → ReceiversAgree s subscribers boxes warnings
+  mailbox_agrees : (s : State T U) (subscribers : ℕ → Option Subscriber) (boxes : ℕ → ℕ → Mailbox) (warnings : Warnings) → ReceiversAgree s subscribers boxes warnings
       → (p q : ℕ) → MailboxIsWellFormed s p q → MailboxIsWellFormed (with_receivers s subscribers boxes warnings) p q
   mailbox_agrees s subscribers boxes warnings a p q b = record {
     within = (a.shrinks p q).within;
@@ -151,7 +150,7 @@ module _ {T U : Type 0} where
   }
 
   -- What agrees with a well-formed state is well-formed, but for its subscribers.
-  pub receivers_agree : (s : State T U) (subscribers : ℕ → Option Subscriber) (boxes : ℕ → ℕ → Mailbox) (warnings : List Warning)
+  pub receivers_agree : (s : State T U) (subscribers : ℕ → Option Subscriber) (boxes : ℕ → ℕ → Mailbox) (warnings : Warnings)
       → IsWellFormed s → ReceiversAgree s subscribers boxes warnings → RestIsWellFormed (with_receivers s subscribers boxes warnings)
   receivers_agree s subscribers boxes warnings w a = record {
     publisher_places = record { bound = w.publisher_places.bound; stands = w.publisher_places.stands; known = w.publisher_places.known };
@@ -176,7 +175,7 @@ module _ {T U : Type 0} where
   }
 
   -- What agrees with a well-formed state is well-formed where its subscribers are.
-  pub receivers_keep : (s : State T U) (subscribers : ℕ → Option Subscriber) (boxes : ℕ → ℕ → Mailbox) (warnings : List Warning)
+  pub receivers_keep : (s : State T U) (subscribers : ℕ → Option Subscriber) (boxes : ℕ → ℕ → Mailbox) (warnings : Warnings)
       → IsWellFormed s → ReceiversAgree s subscribers boxes warnings
       → ((q : ℕ) (y : Subscriber) → subscribers q ≡ Some y → SubscriberIsWellFormed (with_receivers s subscribers boxes warnings) q y)
       → IsWellFormed (with_receivers s subscribers boxes warnings)
@@ -184,7 +183,7 @@ module _ {T U : Type 0} where
       with_rest (with_receivers s subscribers boxes warnings) (receivers_agree s subscribers boxes warnings w a)
 
   -- A subscriber whose mailboxes are left with something where they had it, and with something borrowed, is well-formed.
-  pub subscriber_keeps : (s : State T U) (subscribers : ℕ → Option Subscriber) (boxes : ℕ → ℕ → Mailbox) (warnings : List Warning) (q : ℕ) (y : Subscriber)
+  pub subscriber_keeps : (s : State T U) (subscribers : ℕ → Option Subscriber) (boxes : ℕ → ℕ → Mailbox) (warnings : Warnings) (q : ℕ) (y : Subscriber)
       → SubscriberIsWellFormed s q y → ((p : ℕ) → has_numbers (s.mailboxes p q) ≡ true → has_numbers (boxes p q) ≡ true)
       → ((p : ℕ) → has_borrows (s.mailboxes p q) ≡ true → has_borrows (boxes p q) ≡ true)
       → SubscriberIsWellFormed (with_receivers s subscribers boxes warnings) q y
@@ -214,7 +213,7 @@ module _ {T U : Type 0} where
   pruned_place s q (Some y) = refl
 
   -- A subscriber that forgets whom it has no message of would be well-formed if it were open, whatever of its messages went.
-  pub pruned_keeps : (s : State T U) (q : ℕ) (y : Subscriber) (subscribers : ℕ → Option Subscriber) (boxes : ℕ → ℕ → Mailbox) (warnings : List Warning)
+  pub pruned_keeps : (s : State T U) (q : ℕ) (y : Subscriber) (subscribers : ℕ → Option Subscriber) (boxes : ℕ → ℕ → Mailbox) (warnings : Warnings)
       → SubscriberIsWellFormed s q y
       → SubscriberIsWellFormed (with_receivers s subscribers boxes warnings) q (record (pruned (with_receivers s subscribers boxes warnings) q y) { is_open = true })
   pruned_keeps s q y subscribers boxes warnings b =

@@ -2,8 +2,11 @@
 ghost use Rattle.std.specs.Prelude.{◌≡◌, ℕ, ◌<◌, cond, true, false, Some, None, length, slice_index_or, [], IsSomeAnd, IfOk, OnOk, OnErr, MatchOption};
 ghost use Rattle.slab.specs.Slab.{get};
 ghost use Rattle.iox2_store.specs.Link.{Link};
+ghost use Rattle.iox2_store.specs.machine.Connections.{warnings_after};
 ghost use Rattle.iox2_store.specs.machine.Environments.{fixed_handlers};
-ghost use Rattle.iox2_store.specs.declared.warning.Warning.TheVariants.{ConnectionNotMade};
+ghost use Rattle.iox2_store.specs.machine.Limits.{warning_limit};
+ghost use Rattle.iox2_store.specs.declared.degradation.DegradationAction.TheVariants.{Warn};
+ghost use Rattle.iox2_domain.specs.WarningRing.{warning_ring};
 ghost use Rattle.iox2_domain.specs.Ports.{PublisherFields, SubscriberFields};
 ghost use Rattle.iox2_domain.specs.Updates.{MakesConnection, StandApart, home_of, is_open_subscriber, key_from, sender_key};
 ghost use Rattle.iox2_domain.specs.Invariant.{IsDomain, ReceiverHas, connection_count, one_if_receivers};
@@ -12,9 +15,8 @@ ghost use Rattle.iox2_domain.specs.Drops.{HasEnd, LosesSenderEnd, LosesWaiting};
 ghost use Rattle.iox2_domain.specs.Histories.{HasNewEnd, HandsOut};
 
 use crate::marks::mark_end;
-use crate::warnings::warn;
 use iox2_domain::{
-    DomainState, PublisherState, SubscriberState, clear_key_at, is_open_at, key_at,
+    DomainState, PublisherState, SubscriberState, Warnings, clear_key_at, is_open_at, key_at,
     reserve_connection_at, reserve_key_at, set_key_at, stands_at,
 };
 use iox2_ends::sender::{deliver_history, drop_all, reclaim_all, remove_connection};
@@ -39,14 +41,16 @@ pub(crate) fn home_of(
     }
 }
 
-// That the connection which was to stand there wasn't made.
-pub(crate) fn not_made(home: Home) -> Warning
-    ensures { result ≡ ConnectionNotMade home.publisher home.subscriber }
+/// The connection which was to stand there is refused memory: it is counted, and that is a warning.
+pub(crate) fn warn_of_refusal(warnings: &mut Warnings, home: Home)
+    requires { warnings.old.capacity ≡ warning_limit }
+    ensures { warnings.new ≡ warning_ring (warnings_after home.publisher home.subscriber Warn warnings.old.items) warning_limit }
 {
-    Warning::ConnectionNotMade {
+    warnings.count_refusal();
+    warnings.warn(Warning::ConnectionNotMade {
         sender: UniquePublisherId::new(home.publisher),
         receiver: UniqueSubscriberId::new(home.subscriber),
-    }
+    });
 }
 
 // Makes a connection in which no slot stands, and returns its key.
@@ -185,7 +189,7 @@ fn make_sender_end<T: Drop, U: Default + Drop>(
         return Some(key);
     }
     let Ok(key) = make_between(state, publisher_place, subscriber_place, home, buffer) else {
-        warn(&mut state.warnings, not_made(home));
+        warn_of_refusal(&mut state.warnings, home);
         return None;
     };
     set_key_at(

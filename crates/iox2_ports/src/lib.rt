@@ -16,7 +16,6 @@ mod segments;
 mod subscriber_closes;
 mod subscriber_entry;
 mod updates;
-mod warnings;
 
 pub use closes::{close_publisher, close_subscriber};
 pub use departures::{forget_if_empty, free_book_if_unused, leave_if_unused};

@@ -10,9 +10,8 @@ ghost use Rattle.iox2_domain.specs.Invariant.{IsDomain};
 ghost use Rattle.iox2_domain.specs.Updates.{home_of, is_subscriber_due};
 ghost use Rattle.iox2_domain.specs.ReceiverSteps.{NotJoined, JoinsAt, ConnectsEnd, ConnectsAt, DisconnectsAt, UpdatesReceiver};
 
-use crate::connects::{home_of, make_between, not_made};
+use crate::connects::{home_of, make_between, warn_of_refusal};
 use crate::retirements::retire;
-use crate::warnings::warn;
 use iox2_domain::{DomainState, PublisherState, is_due_at, key_at, set_key_at, settle};
 use iox2_store::{ConnectionFailure, Home, ZeroCopyCreationError};
 
@@ -142,7 +141,7 @@ fn connect_end<T: Drop, U: Default + Drop>(
         return;
     }
     let Ok(key) = make_between(state, publisher_place, subscriber_place, home, buffer) else {
-        warn(&mut state.warnings, not_made(home));
+        warn_of_refusal(&mut state.warnings, home);
         return;
     };
     set_key_at(

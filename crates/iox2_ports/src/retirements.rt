@@ -13,7 +13,6 @@ ghost use Rattle.iox2_domain.specs.Invariant.{IsDomain};
 ghost use Rattle.iox2_domain.specs.ReceiverSteps.{HasDepartedEnd, ChangesReceiver, LosesConnection, RetiresReceiver, retired};
 
 use crate::departures::free_book_if_unused;
-use crate::warnings::warn;
 use iox2_domain::{DomainState, clear_key_at, expire_at, make_due, replace_expired_at};
 use iox2_ends::drops::remove_connection;
 use iox2_ends::retirement::{Retirement, choose_retirement};
@@ -48,7 +47,7 @@ fn lose_connection<T: Drop, U: Default + Drop>(state: &mut DomainState<T, U>, ke
 {
     let home = state.connections[key].home();
     remove_connection(&mut state.connections, key, &mut state.books[home.book]);
-    warn(&mut state.warnings, data_discarded(home));
+    state.warnings.warn(data_discarded(home));
     home.book
 }
 

@@ -1,6 +1,5 @@
 //! A subscriber enters a domain.
 ghost use Rattle.std.specs.Prelude.{◌≡◌, None, Some, cond, nat_lt, slice_index_or, IfOk, MatchResult};
-ghost use Rattle.circular_buffer.specs.Buffer.{buffer};
 ghost use Rattle.iox2_store.specs.machine.Limits.{warning_limit};
 ghost use Rattle.iox2_store.specs.machine.Environments.{fixed_handlers};
 ghost use Rattle.iox2_store.specs.machine.Ports.{with_new_subscriber, CreateSubscriber};
@@ -8,6 +7,7 @@ ghost use Rattle.iox2_store.specs.machine.State.{State, warned};
 ghost use Rattle.iox2_store.specs.declared.errors.SubscriberCreateError.TheVariants.{FailedToDeployThreadsafetyPolicy};
 ghost use Rattle.iox2_store.specs.declared.warning.Warning.TheVariants.{ExpiredBufferRaised};
 ghost use Rattle.iox2_domain.specs.Ports.{SubscriberFields};
+ghost use Rattle.iox2_domain.specs.WarningRing.{warning_ring};
 ghost use Rattle.iox2_domain.specs.Kept.{state_of};
 ghost use Rattle.iox2_domain.specs.Fields.{kept_of};
 ghost use Rattle.iox2_domain.specs.Invariant.{IsDomain};
@@ -15,44 +15,41 @@ ghost use Rattle.iox2_domain.specs.Reaches.{Reaches};
 ghost use Rattle.iox2_domain.specs.SubscriberEntry.{FirstUpdates, asked_for, failure_warned, place_for_subscriber};
 
 use crate::receiver_updates::update_subscriber;
-use crate::warnings::warn;
-use circular_buffer::HeapCircularBuffer;
-use iox2_domain::{DomainState, PortAt, SubscriberState, free_place, make_all_due, put_at_place};
+use iox2_domain::{
+    DomainState, PortAt, SubscriberState, Warnings, free_place, make_all_due, put_at_place,
+};
 use iox2_store::{
     ConnectionFailure, ServiceConfig, SubscriberCreateError, UniqueSubscriberId, Warning,
 };
 
 // It is warned where the setting for expired publishers is too small for what may be borrowed.
 fn warn_of_expired_buffer(
-    warnings: &mut HeapCircularBuffer<Warning>,
+    warnings: &mut Warnings,
     config: &ServiceConfig,
     subscriber: UniqueSubscriberId,
 )
     requires { warnings.old.capacity ≡ warning_limit }
-    ensures { warnings.new ≡ buffer (cond (nat_lt (config.now).subscriber_expired_connection_buffer (config.now).subscriber_max_borrowed_samples) (warned warnings.old.items (ExpiredBufferRaised subscriber)) warnings.old.items) warning_limit }
+    ensures { warnings.new ≡ warning_ring (cond (nat_lt (config.now).subscriber_expired_connection_buffer (config.now).subscriber_max_borrowed_samples) (warned warnings.old.items (ExpiredBufferRaised subscriber)) warnings.old.items) warning_limit }
 {
     if config.subscriber_expired_connection_buffer < config.subscriber_max_borrowed_samples {
-        warn(warnings, Warning::ExpiredBufferRaised { subscriber });
+        warnings.warn(Warning::ExpiredBufferRaised { subscriber });
     }
 }
 
 // It is warned where the first update of a new subscriber failed.
 fn warn_of_failure(
-    warnings: &mut HeapCircularBuffer<Warning>,
+    warnings: &mut Warnings,
     subscriber: UniqueSubscriberId,
     failure: Option<ConnectionFailure>,
 )
     requires { warnings.old.capacity ≡ warning_limit }
-    ensures { warnings.new ≡ buffer (failure_warned subscriber failure warnings.old.items) warning_limit }
+    ensures { warnings.new ≡ warning_ring (failure_warned subscriber failure warnings.old.items) warning_limit }
 {
     if let Some(failure) = failure {
-        warn(
-            warnings,
-            Warning::SubscriberPartlyConnected {
-                subscriber,
-                failure,
-            },
-        );
+        warnings.warn(Warning::SubscriberPartlyConnected {
+            subscriber,
+            failure,
+        });
     }
 }
 

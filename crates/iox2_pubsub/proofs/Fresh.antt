@@ -3,14 +3,14 @@ use Rattle.std.proofs.Common.{◌≡◌, ℕ, zero, suc, List, [], Bool, refl, s
 use Rattle.std.specs.declared.option.Option.{Option}
 use Rattle.std.specs.declared.option.Option.TheVariants.{None, Some}
 use Rattle.slab.specs.Slab.{Slab}
-use Rattle.circular_buffer.specs.Buffer.{buffer}
 use Rattle.iox2_store.specs.machine.Limits.{warning_limit}
 use Rattle.iox2_store.specs.Link.{Link}
 use Rattle.iox2_store.specs.SlotBook.{Book}
-use Rattle.iox2_store.specs.machine.State.{fresh, no_messages}
+use Rattle.iox2_store.specs.machine.State.{fresh, no_messages, no_warnings}
 use Rattle.iox2_store.specs.declared.service_config.ServiceConfig.{ServiceConfig}
 use Rattle.iox2_ends.specs.LookUp.{IsOnly}
 use Rattle.iox2_laws.proofs.Enough.{fresh_is_well_formed}
+use Rattle.iox2_domain.specs.WarningRing.{warning_ring}
 use Rattle.iox2_domain.specs.Fields.{Fields, kept_of}
 use Rattle.iox2_domain.specs.Invariant.{IsDomain, IsLinked, HasBooks, IsNumbered, IsSupportedConfig}
 use Rattle.iox2_domain.specs.FreshFields.{IsFresh}
@@ -31,7 +31,7 @@ fresh_fields config connections books = record {
   config = config;
   next_port = 1;
   next_message = 1;
-  warnings = buffer [] warning_limit;
+  warnings = warning_ring no_warnings warning_limit;
   publishers = [];
   subscribers = [];
   connections = connections;

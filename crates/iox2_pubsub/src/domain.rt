@@ -84,6 +84,17 @@ impl<T: Drop, U: Default + Drop, F: BackpressureFn, G: DegradationFn> Domain<T, 
         self.state.config()
     }
 
+    /// How often a port was refused memory for a connection since the domain was made;
+    /// `u64::MAX` says at least so often. The call in which that happened went on without the
+    /// connection, through which no message goes until a later update makes it.
+    ///
+    /// This library's own, where iceoryx2 asks the degradation handler alone.
+    pub fn refused_connections(&self) -> u64
+        ensures { result ≡ (self.now.warnings).refused_connections }
+    {
+        self.state.refused_connections()
+    }
+
     /// What the payload of each message is: so far a single value.
     pub fn variant(&self) -> TypeVariant
         ensures value { result ≡ (self.now.config).variant }

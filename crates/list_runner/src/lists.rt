@@ -76,7 +76,8 @@ fn replies_of(
 }
 
 /// Makes so many allocations, and then has two runs of the list compared. Prints how many commands
-/// were skipped or refused in each run, or that there is no comparison.
+/// were skipped or refused in each run and how many of its connections were refused memory, or that
+/// there is no comparison.
 pub(crate) fn compare(rt: &HostRuntime, sizes: &Sizes, allocations: usize) -> Result<(), Failure>
     requires { (sizes.now).config.variant ≡ FixedSize }
 {
@@ -84,20 +85,19 @@ pub(crate) fn compare(rt: &HostRuntime, sizes: &Sizes, allocations: usize) -> Re
     let same = filling(rt.alloc(), sizes)?;
     allocate(rt.alloc(), allocations)?;
     match compare_runs(rt.alloc(), &sizes.config, commands, same) {
-        Some((first, second)) => print_both(rt, refused_in(first), refused_in(second))?,
+        Some((first, second)) => print_both(rt, &first, &second)?,
         None => println!(rt; "no comparison")?,
     }
     Ok(())
 }
 
-// How many commands of a run were skipped or refused.
-fn refused_in((_, replies): End) -> usize {
-    refused(&replies)
-}
-
-// Prints how many commands were skipped or refused in each of two runs.
-fn print_both(rt: &HostRuntime, first: usize, second: usize) -> io::Result<()> {
-    println!(rt; "skipped or refused: {first} and {second}")
+// Prints how many commands were skipped or refused in each of two runs, and how many connections.
+fn print_both(rt: &HostRuntime, first: &End, second: &End) -> io::Result<()> {
+    let (one, other) = (refused(&first.1), refused(&second.1));
+    println!(rt; "skipped or refused: {one} and {other}")?;
+    let one = first.0.refused_connections();
+    let other = second.0.refused_connections();
+    println!(rt; "refused connections: {one} and {other}")
 }
 
 // Makes so many allocations.

@@ -3,7 +3,7 @@ use Rattle.std.specs.Prelude.{ℕ, List, [], ◌∷◌, ◌≡◌, ◌+◌}
 use Rattle.std.specs.declared.option.Option.{Option}
 use Rattle.std.specs.declared.option.Option.TheVariants.{None, Some}
 use Rattle.iox2_store.specs.machine.Records.{Handler, Fixed, Custom, Environment}
-use Rattle.iox2_store.specs.machine.State.{warned}
+use Rattle.iox2_store.specs.machine.State.{Warnings, warned, refusal_counted}
 use Rattle.iox2_store.specs.declared.degradation.DegradationAction.{DegradationAction}
 use Rattle.iox2_store.specs.declared.degradation.DegradationAction.TheVariants.{Ignore, Warn, DegradeAndFail}
 use Rattle.iox2_store.specs.declared.degradation.DegradationCause.TheVariants.{FailedToEstablishConnection as NotEstablished}
@@ -11,7 +11,6 @@ use Rattle.iox2_store.specs.declared.degradation.DegradationInfo.{DegradationInf
 use Rattle.iox2_store.specs.declared.errors.ConnectionFailure.{ConnectionFailure}
 use Rattle.iox2_store.specs.declared.errors.ConnectionFailure.TheVariants.{FailedToEstablishConnection}
 use Rattle.iox2_store.specs.declared.errors.ZeroCopyCreationError.TheVariants.{OutOfMemory, ExpiredConnectionBufferFull}
-use Rattle.iox2_store.specs.declared.warning.Warning.{Warning}
 use Rattle.iox2_store.specs.declared.warning.Warning.TheVariants.{ConnectionNotMade}
 
 -- The failure that came first.
@@ -41,15 +40,16 @@ failure_of Ignore = None
 failure_of Warn = None
 failure_of DegradeAndFail = Some (FailedToEstablishConnection OutOfMemory)
 
--- The handler's answer may add a warning, which names the publisher p as sender and the subscriber q as receiver.
-abbrev pub warnings_after : (p q : ℕ) → DegradationAction → List Warning → List Warning
-warnings_after p q Ignore warnings = warnings
-warnings_after p q Warn warnings = warned warnings (ConnectionNotMade p q)
-warnings_after p q DegradeAndFail warnings = warnings
+-- The refused connection is counted, whatever the handler's answer, which may add a warning: that names the publisher p as sender
+-- and the subscriber q as receiver.
+abbrev pub warnings_after : (p q : ℕ) → DegradationAction → Warnings → Warnings
+warnings_after p q Ignore warnings = refusal_counted warnings
+warnings_after p q Warn warnings = warned (refusal_counted warnings) (ConnectionNotMade p q)
+warnings_after p q DegradeAndFail warnings = refusal_counted warnings
 
 -- Memory for the connection of p and q is refused to a port, which asks its degradation handler.
 -- (iceoryx2: `port/details/sender.rs` and `port/details/receiver.rs`, `update_connection`.)
-abbrev pub ConnectionRefused : Environment → (service_id p q port : ℕ) → Handler DegradationAction → List Warning → List Warning → Option ConnectionFailure → Type 0
+abbrev pub ConnectionRefused : Environment → (service_id p q port : ℕ) → Handler DegradationAction → Warnings → Warnings → Option ConnectionFailure → Type 0
 ConnectionRefused environment service_id p q port handler warnings warnings' failure =
     (action : DegradationAction)
     × environment.may_refuse_memory

@@ -29,6 +29,10 @@ segment_limit = 255
 abbrev pub warning_limit : ℕ
 warning_limit = 32
 
+-- The count of refused connections ends here: this number says "at least so many".
+abbrev pub refusal_limit : ℕ
+refusal_limit = 2 ^ 64 - 1
+
 -- The number fits a machine word (`usize`).
 abbrev pub fits : ℕ → Bool
 fits n = nat_lt n (2 ^ 64)

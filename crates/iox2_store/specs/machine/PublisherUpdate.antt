@@ -8,17 +8,16 @@ use Rattle.iox2_store.specs.machine.Numbers.{put_at, last_n}
 use Rattle.iox2_store.specs.machine.Places.{occupant, set_place, is_port}
 use Rattle.iox2_store.specs.machine.Mailbox.{Mailbox, with_waiting, waiting_dropped}
 use Rattle.iox2_store.specs.machine.Records.{Publisher, Handler, Environment}
-use Rattle.iox2_store.specs.machine.State.{State, receiving_buffer, has_receiver_end}
+use Rattle.iox2_store.specs.machine.State.{State, Warnings, receiving_buffer, has_receiver_end}
 use Rattle.iox2_store.specs.machine.Connections.{ForEachPlace, ConnectionRefused}
 use Rattle.iox2_store.specs.declared.degradation.DegradationAction.{DegradationAction}
 use Rattle.iox2_store.specs.declared.errors.ConnectionFailure.{ConnectionFailure}
-use Rattle.iox2_store.specs.declared.warning.Warning.{Warning}
 
 -- What a publisher's update changes.
 pub record SenderSide : Type 0 where
   pub ends : List (Option ℕ)
   pub mailboxes : ℕ → Mailbox  -- the publisher's, by the subscriber's id
-  pub warnings : List Warning
+  pub warnings : Warnings
 
 -- What is to be done at a subscriber's place.
 pub data SenderAction : Type 0 where
@@ -61,7 +60,7 @@ module _ (environment : Environment) (service_id p : ℕ) (handler : Handler Deg
   abbrev pub ConnectSender : SenderSide → (place q buffer : ℕ) → SenderSide → Option ConnectionFailure → Type 0
   ConnectSender side place q buffer side' failure =
       ((side' ≡ connected history side place q buffer) × (failure ≡ None))
-      ⊎ ((has_receiver_end q ≡ false) × (warnings : List Warning)
+      ⊎ ((has_receiver_end q ≡ false) × (warnings : Warnings)
       × ConnectionRefused environment service_id p q p handler side.warnings warnings failure
       × (side' ≡ record side { warnings = warnings }))
 

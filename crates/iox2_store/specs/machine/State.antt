@@ -1,16 +1,21 @@
 -- The machine's state, and how it is read and written.
-use Rattle.std.specs.Prelude.{ℕ, Bool, true, false, cond, List, [], ◌∷◌, ◌++◌, is_some}
+use Rattle.std.specs.Prelude.{ℕ, Bool, true, false, cond, List, [], ◌∷◌, ◌++◌, ◌+◌, min, is_some}
 use Rattle.std.specs.declared.option.Option.{Option}
 use Rattle.std.specs.declared.option.Option.TheVariants.{None, Some}
 use Rattle.std.specs.List.{flat_map}
 use Rattle.std.specs.Option.{option_and_then, option_map, option_map_or}
-use Rattle.iox2_store.specs.machine.Limits.{warning_limit}
+use Rattle.iox2_store.specs.machine.Limits.{warning_limit, refusal_limit}
 use Rattle.iox2_store.specs.machine.Numbers.{put_at, last_n}
 use Rattle.iox2_store.specs.machine.Places.{occupant, occupants, is_port}
 use Rattle.iox2_store.specs.machine.Mailbox.{Mailbox, empty_mailbox, numbers_in}
 use Rattle.iox2_store.specs.machine.Records.{Entry, Loan, Publisher, Subscriber}
 use Rattle.iox2_store.specs.declared.service_config.ServiceConfig.{ServiceConfig}
 use Rattle.iox2_store.specs.declared.warning.Warning.{Warning}
+
+-- What a domain tells without failing a call.
+pub record Warnings : Type 0 where
+  pub latest : List Warning  -- oldest first
+  pub refused_connections : ℕ  -- how many connections were refused memory
 
 -- All but the messages that were sent. A port that is gone has no record: ids are never used again.
 pub record State (T U : Type 0) : Type 0 where
@@ -23,11 +28,15 @@ pub record State (T U : Type 0) : Type 0 where
   pub mailboxes : ℕ → ℕ → Mailbox  -- by the publisher's id, then the subscriber's
   pub publisher_places : List (Option ℕ)
   pub subscriber_places : List (Option ℕ)
-  pub warnings : List Warning  -- oldest first
+  pub warnings : Warnings
 
 -- The messages that were ever sent, by number. Each of these stays as it was sent.
 abbrev pub Messages : Type 0 → Type 0 → Type 0
 Messages T U = ℕ → Option (Entry T U)
+
+-- No warning, and no refused connection.
+abbrev pub no_warnings : Warnings
+no_warnings = record { latest = []; refused_connections = 0 }
 
 -- A new domain: no port, loan, message, mailbox or warning, and both counters are at 1.
 abbrev pub fresh : {T U : Type 0} → ServiceConfig → State T U
@@ -41,7 +50,7 @@ fresh c = record {
   mailboxes = λ _ _. empty_mailbox;
   publisher_places = [];
   subscriber_places = [];
-  warnings = [];
+  warnings = no_warnings;
 }
 
 -- No message was sent yet.
@@ -49,8 +58,12 @@ abbrev pub no_messages : {T U : Type 0} → Messages T U
 no_messages = λ _. None
 
 -- The warnings with one more, the oldest left out where they are too many.
-abbrev pub warned : List Warning → Warning → List Warning
-warned ws w = last_n warning_limit (ws ++ w ∷ [])
+abbrev pub warned : Warnings → Warning → Warnings
+warned ws w = record ws { latest = last_n warning_limit (ws.latest ++ w ∷ []) }
+
+-- One more connection was refused memory. The count stays at its greatest value.
+abbrev pub refusal_counted : Warnings → Warnings
+refusal_counted ws = record ws { refused_connections = min (ws.refused_connections + 1) refusal_limit }
 
 -- The publishers whose messages a subscriber may receive: departed ones that it keeps, and those at its ends.
 abbrev pub connected_publishers : Subscriber → List ℕ

@@ -9,11 +9,10 @@ use Rattle.iox2_store.specs.machine.Numbers.{put_at, without}
 use Rattle.iox2_store.specs.machine.Places.{occupant, set_place}
 use Rattle.iox2_store.specs.machine.Mailbox.{Mailbox, has_borrows, waiting_dropped}
 use Rattle.iox2_store.specs.machine.Records.{Subscriber, Handler, Environment}
-use Rattle.iox2_store.specs.machine.State.{State, has_sender_end, warned}
+use Rattle.iox2_store.specs.machine.State.{State, Warnings, has_sender_end, warned}
 use Rattle.iox2_store.specs.machine.Connections.{ForEachPlace, ConnectionRefused, first_failure, expired_buffer_full}
 use Rattle.iox2_store.specs.declared.degradation.DegradationAction.{DegradationAction}
 use Rattle.iox2_store.specs.declared.errors.ConnectionFailure.{ConnectionFailure}
-use Rattle.iox2_store.specs.declared.warning.Warning.{Warning}
 use Rattle.iox2_store.specs.declared.warning.Warning.TheVariants.{ExpiredDataDiscarded}
 
 -- What a subscriber's update changes.
@@ -22,7 +21,7 @@ pub record ReceiverSide : Type 0 where
   pub expired : List ℕ
   pub is_due : Bool
   pub mailboxes : ℕ → Mailbox  -- the subscriber's, by the publisher's id
-  pub warnings : List Warning
+  pub warnings : Warnings
 
 -- What becomes of a departed publisher, which still has messages for the subscriber.
 pub data Retirement : Type 0 where
@@ -81,7 +80,7 @@ module _ (environment : Environment) (service_id q : ℕ) (handler : Handler Deg
   abbrev pub ConnectReceiver : ReceiverSide → (place p : ℕ) → ReceiverSide → Option ConnectionFailure → Type 0
   ConnectReceiver side place p side' failure =
       ((side' ≡ with_end side place (Some p)) × (failure ≡ None))
-      ⊎ ((has_sender_end p ≡ false) × (warnings : List Warning)
+      ⊎ ((has_sender_end p ≡ false) × (warnings : Warnings)
       × ConnectionRefused environment service_id p q q handler side.warnings warnings failure
       × (side' ≡ record side { warnings = warnings }))
 

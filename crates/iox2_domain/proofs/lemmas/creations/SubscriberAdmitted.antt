@@ -3,14 +3,13 @@ use Rattle.std.proofs.Common.{◌≡◌, ℕ, zero, suc, ◌+◌, ◌<◌, ◌�
 use Rattle.std.specs.declared.option.Option.{Option}
 use Rattle.std.specs.declared.option.Option.TheVariants.{None, Some}
 use Rattle.std.specs.Option.{option_map}
-use Rattle.circular_buffer.specs.Buffer.{Buffer}
 use Rattle.iox2_store.specs.machine.Limits.{buffer_limit, warning_limit}
 use Rattle.iox2_store.specs.machine.Numbers.{put_at}
 use Rattle.iox2_store.specs.machine.Places.{occupant, set_place}
-use Rattle.iox2_store.specs.machine.State.{State}
+use Rattle.iox2_store.specs.machine.State.{State, Warnings}
 use Rattle.iox2_store.specs.machine.Ports.{new_subscriber, buffer_for, with_buffer_warning, with_new_subscriber}
-use Rattle.iox2_store.specs.declared.warning.Warning.{Warning}
 use Rattle.iox2_laws.proofs.PortLaws.{new_subscriber_keeps}
+use Rattle.iox2_domain.specs.WarningRing.{WarningRing}
 use Rattle.iox2_domain.specs.Ports.{SubscriberFields}
 use Rattle.iox2_domain.specs.Kept.{Named, state_of, ids}
 use Rattle.iox2_domain.specs.Fields.{Fields, kept_of, subscriber_of}
@@ -29,7 +28,7 @@ module _ {T U : Type 0} (f : Fields T U) where
   occupant-free (x ∷ xs) zero free = ap (λ o. option_map (λ (z : Named _). z.id) (option_map (subscriber_of f.books f.connections) o)) free
   occupant-free (x ∷ xs) (suc place) free = occupant-free xs place free
 
-module _ {T U : Type 0} (f : Fields T U) (sound : IsDomain f) (warnings : Buffer Warning) (place asked key_room expired_room : ℕ) (free : get_or f.subscribers place None ≡ None) where
+module _ {T U : Type 0} (f : Fields T U) (sound : IsDomain f) (warnings : WarningRing) (place asked key_room expired_room : ℕ) (free : get_or f.subscribers place None ≡ None) where
   -- the fields with every publisher due, and with the new subscriber
   abbrev pub with_admitted : Fields T U
   with_admitted = with_entered_subscriber (with_publishers_due f) (publishers_due-agree f sound) warnings place asked key_room expired_room free
@@ -45,7 +44,7 @@ module _ {T U : Type 0} (f : Fields T U) (sound : IsDomain f) (warnings : Buffer
         subscribers = put_at s.subscribers f.next_port (Some (new_subscriber (asked_for asked) place));
         subscriber_places = set_place s.subscriber_places place (Some f.next_port);
       }) (publishers_due-are f)
-      ∙ ap (λ (ws : List Warning). record (with_new_subscriber (state_of (kept_of f)) (asked_for asked) place) { warnings = ws }) warned
+      ∙ ap (λ (ws : Warnings). record (with_new_subscriber (state_of (kept_of f)) (asked_for asked) place) { warnings = ws }) warned
 
   -- the invariant is kept
   pub admitted-agrees : warnings.items ≡ (with_buffer_warning (state_of (kept_of f)) f.next_port).warnings → warnings.capacity ≡ warning_limit

@@ -4,14 +4,13 @@ use Rattle.std.proofs.lemmas.Bool.{cases_eq, eqb-true}
 use Rattle.std.specs.declared.option.Option.{Option}
 use Rattle.std.specs.declared.option.Option.TheVariants.{None, Some}
 use Rattle.std.specs.Option.{option_map}
-use Rattle.circular_buffer.specs.Buffer.{Buffer}
 use Rattle.iox2_store.specs.machine.Numbers.{put_at}
 use Rattle.iox2_store.specs.machine.Places.{set_place}
 use Rattle.iox2_store.specs.machine.Records.{Subscriber}
 use Rattle.iox2_store.specs.machine.Ports.{new_subscriber, buffer_for}
-use Rattle.iox2_store.specs.declared.warning.Warning.{Warning}
 use Rattle.iox2_ends.specs.LookUp.{look_up, IsOnly}
 use Rattle.iox2_laws.proofs.PortLaws.{no_subscriber_yet}
+use Rattle.iox2_domain.specs.WarningRing.{WarningRing}
 use Rattle.iox2_domain.specs.Ports.{SubscriberFields, entering}
 use Rattle.iox2_domain.specs.Kept.{Named, state_of, port_named, ids, is_named}
 use Rattle.iox2_domain.specs.Fields.{Fields, kept_of, subscriber_of}
@@ -22,7 +21,7 @@ use Rattle.iox2_domain.specs.SubscriberEntry.{asked_for}
 use Rattle.iox2_domain.proofs.lemmas.containers.Placed.{placed-here, placed-others, map-placed, placed-ids}
 use mathlib.Core.Path.{fun_ext}
 
-module _ {T U : Type 0} (f : Fields T U) (sound : IsDomain f) (warnings : Buffer Warning) (place asked key_room expired_room : ℕ) (free : get_or f.subscribers place None ≡ None) where
+module _ {T U : Type 0} (f : Fields T U) (sound : IsDomain f) (warnings : WarningRing) (place asked key_room expired_room : ℕ) (free : get_or f.subscribers place None ≡ None) where
   -- the subscriber that enters
   abbrev pub newcomer : SubscriberFields
   newcomer = entering f.next_port place (buffer_for (asked_for asked)) key_room expired_room

@@ -7,7 +7,6 @@ use Rattle.std.specs.declared.option.Option.TheVariants.{None, Some}
 use Rattle.std.specs.declared.result.Result.{Result}
 use Rattle.std.specs.declared.result.Result.TheVariants.{Ok, Err}
 use Rattle.std.specs.Option.{option_map}
-use Rattle.circular_buffer.specs.Buffer.{Buffer, buffer}
 use Rattle.iox2_store.specs.machine.Limits.{buffer_limit, warning_limit, last_number}
 use Rattle.iox2_store.specs.machine.Places.{lowest_free}
 use Rattle.iox2_store.specs.machine.Ports.{buffer_for, with_buffer_warning, with_new_subscriber, CreateSubscriber, FirstSubscriberUpdate, MakeSubscriber}
@@ -15,7 +14,7 @@ use Rattle.iox2_store.specs.machine.Records.{Subscriber, Environment}
 use Rattle.iox2_store.specs.machine.State.{State}
 use Rattle.iox2_store.specs.declared.errors.SubscriberCreateError.{SubscriberCreateError}
 use Rattle.iox2_store.specs.declared.errors.SubscriberCreateError.TheVariants.{UnableToCreatePortTag, BufferSizeExceedsMaxSupportedBufferSizeOfService, ExceedsMaxSupportedSubscribers}
-use Rattle.iox2_store.specs.declared.warning.Warning.{Warning}
+use Rattle.iox2_domain.specs.WarningRing.{WarningRing, warning_ring}
 use Rattle.iox2_domain.specs.Ports.{PublisherFields, SubscriberFields, due, entering}
 use Rattle.iox2_domain.specs.Kept.{Named, state_of}
 use Rattle.iox2_domain.specs.Fields.{Fields, kept_of, subscriber_of}
@@ -97,7 +96,7 @@ module _ {T U : Type 0} (f : Fields T U) (asked : ℕ) where
         by a b c ea eb ec made = rw (ea, eb, ec) made
 
   -- a subscriber that has entered at its place
-  pub entered-reaches : IsDomain f → (new : Fields T U) (place : ℕ) (y : SubscriberFields) (warnings : Buffer Warning) → place_for_subscriber f asked ≡ Ok place
+  pub entered-reaches : IsDomain f → (new : Fields T U) (place : ℕ) (y : SubscriberFields) (warnings : WarningRing) → place_for_subscriber f asked ≡ Ok place
       → y ≡ entering f.next_port place (buffer_for (asked_for asked)) y.key_room y.expired_room
       → warnings.items ≡ (with_buffer_warning shown f.next_port).warnings → warnings.capacity ≡ warning_limit
       → new ≡ record f { next_port = f.next_port + 1; warnings = warnings; publishers = map (option_map due) f.publishers; subscribers = placed f.subscribers place y }
@@ -116,18 +115,18 @@ module _ {T U : Type 0} (f : Fields T U) (asked : ℕ) where
       })
 
   -- a subscriber that has entered, where the fields are known by another name, and two of the new ones
-  pub has-entered : (before : Fields T U) → before ≡ f → IsDomain f → (place : ℕ) (y : SubscriberFields) (warnings : Buffer Warning)
+  pub has-entered : (before : Fields T U) → before ≡ f → IsDomain f → (place : ℕ) (y : SubscriberFields) (warnings : WarningRing)
       → (publishers : List (Option PublisherFields)) (subscribers : List (Option SubscriberFields)) → place_for_subscriber f asked ≡ Ok place
       → y ≡ entering before.next_port place (buffer_for (asked_for asked)) y.key_room y.expired_room
-      → warnings ≡ buffer (with_buffer_warning (state_of (kept_of before)) before.next_port).warnings warning_limit
+      → warnings ≡ warning_ring (with_buffer_warning (state_of (kept_of before)) before.next_port).warnings warning_limit
       → publishers ≡ map (option_map due) before.publishers → subscribers ≡ placed before.subscribers place y
       → Reaches f (record before { next_port = before.next_port + 1; warnings = warnings; publishers = publishers; subscribers = subscribers }) (with_new_subscriber shown (asked_for asked) place)
       × (z : SubscriberFields) × (get_or subscribers place None ≡ Some z) × (z.id ≡ f.next_port)
   has-entered before e sound place y warnings publishers subscribers h is warned all_due put = (
     entered-reaches sound (record before { next_port = before.next_port + 1; warnings = warnings; publishers = publishers; subscribers = subscribers }) place y warnings h
         (subst (λ (g : Fields T U). y ≡ entering g.next_port place (buffer_for (asked_for asked)) y.key_room y.expired_room) e is)
-        (ap (λ (ws : Buffer Warning). ws.items) warned ∙ ap (λ (g : Fields T U). (with_buffer_warning (state_of (kept_of g)) g.next_port).warnings) e)
-        (ap (λ (ws : Buffer Warning). ws.capacity) warned)
+        (ap (λ (ws : WarningRing). ws.items) warned ∙ ap (λ (g : Fields T U). (with_buffer_warning (state_of (kept_of g)) g.next_port).warnings) e)
+        (ap (λ (ws : WarningRing). ws.capacity) warned)
         (same ∙ ap (λ (g : Fields T U). record g { next_port = g.next_port + 1; warnings = warnings; publishers = map (option_map due) g.publishers; subscribers = placed g.subscribers place y }) e),
     y,
     ap (λ ys. get_or ys place None) put ∙ placed-here y before.subscribers place,

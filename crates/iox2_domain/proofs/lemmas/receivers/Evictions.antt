@@ -5,7 +5,6 @@ use Rattle.std.specs.declared.option.Option.{Option}
 use Rattle.std.specs.declared.option.Option.TheVariants.{None, Some}
 use Rattle.std.specs.Option.{option_map}
 use Rattle.slab.specs.Slab.{Slab, get}
-use Rattle.circular_buffer.specs.Buffer.{Buffer, buffer}
 use Rattle.iox2_store.specs.Link.{Link}
 use Rattle.iox2_store.specs.SlotBook.{Book}
 use Rattle.iox2_store.specs.machine.Limits.{warning_limit}
@@ -15,7 +14,6 @@ use Rattle.iox2_store.specs.machine.Places.{occupants, set_place}
 use Rattle.iox2_store.specs.machine.Records.{Subscriber}
 use Rattle.iox2_store.specs.machine.State.{State, warned}
 use Rattle.iox2_store.specs.machine.SubscriberUpdate.{ReceiverSide, Evict, with_receiver_side}
-use Rattle.iox2_store.specs.declared.warning.Warning.{Warning}
 use Rattle.iox2_store.specs.declared.warning.Warning.TheVariants.{ExpiredDataDiscarded}
 use Rattle.iox2_laws.proofs.ReceiverSides.{evicted_keeps}
 use Rattle.iox2_laws.proofs.SubscriberUpdates.{with_receiver_side_keeps}
@@ -23,6 +21,7 @@ use Rattle.iox2_ends.specs.Drops.{RemovesDropped}
 use Rattle.iox2_ends.specs.Finds.{IsReceivers}
 use Rattle.iox2_ends.specs.Mailboxes.{publisher_of_key, receiver_ends, with_box}
 use Rattle.iox2_ends.proofs.MailboxChanges.{Updates-with_value}
+use Rattle.iox2_domain.specs.WarningRing.{WarningRing, warning_ring}
 use Rattle.iox2_domain.specs.Ports.{SubscriberFields}
 use Rattle.iox2_domain.specs.Kept.{state_of}
 use Rattle.iox2_domain.specs.Invariant.{HasParts, IsDomain, IsDomainBut}
@@ -103,8 +102,8 @@ module _ {T U : Type 0} (f : Fields T U) (sound : IsDomain f) (j i : ℕ) (y : S
   module _ (nothing_borrowed : has_borrows (s.mailboxes lost y.id) ≡ false)
       (b : Book) (at_b : get f.books d.home.book ≡ Some b) (mine : b.publisher ≡ lost)
       (holders : List ℕ) (new : Slab Link) (removes : RemovesDropped b.holders f.connections first d holders new) where
-    abbrev pub told : Buffer Warning
-    told = buffer (warned f.warnings.items (ExpiredDataDiscarded lost y.id)) warning_limit
+    abbrev pub told : WarningRing
+    told = warning_ring (warned f.warnings.items (ExpiredDataDiscarded lost y.id)) warning_limit
 
     pub fits : LeavesReceiver (dropped_fields f sound j y end.stands first d old.link lost-departed old.unborrowed b at_b mine holders new removes) y y.keys (without first y.expired) new
     fits = expired-fits f sound j y end.stands first d old.link lost-departed old.unborrowed b at_b mine holders new removes elsewhere

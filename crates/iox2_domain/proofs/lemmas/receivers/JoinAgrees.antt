@@ -4,15 +4,14 @@ use Rattle.std.specs.declared.option.Option.{Option}
 use Rattle.std.specs.declared.option.Option.TheVariants.{None, Some}
 use Rattle.std.specs.Option.{option_map, IsSomeAnd}
 use Rattle.slab.specs.Slab.{Slab, get}
-use Rattle.circular_buffer.specs.Buffer.{Buffer}
 use Rattle.iox2_store.specs.machine.Limits.{warning_limit}
 use Rattle.iox2_store.specs.Link.{Link}
 use Rattle.iox2_store.specs.machine.Mailbox.{Mailbox}
 use Rattle.iox2_store.specs.machine.State.{State}
 use Rattle.iox2_store.specs.machine.WellFormed.{IsWellFormed}
-use Rattle.iox2_store.specs.declared.warning.Warning.{Warning}
 use Rattle.iox2_ends.specs.Finds.{IsReceivers}
 use Rattle.iox2_ends.specs.declared.sender.ReceiverDetails.{ReceiverDetails}
+use Rattle.iox2_domain.specs.WarningRing.{WarningRing}
 use Rattle.iox2_domain.specs.Ports.{SubscriberFields}
 use Rattle.iox2_domain.specs.Kept.{state_of}
 use Rattle.iox2_domain.specs.Fields.{Fields, kept_of}
@@ -29,7 +28,7 @@ use Rattle.std.proofs.lemmas.Bool.{true≢false}
 use Rattle.iox2_domain.proofs.lemmas.fields.OpenReceivers.{open-changed}
 
 module _ {T U : Type 0} (f : Fields T U) (sound : IsDomain f) (j : ℕ) (y : SubscriberFields) (at : get_or f.subscribers j None ≡ Some y)
-    (keys : List (Option ℕ)) (key_room expired_room : ℕ) (is_due : Bool) (connections : Slab Link) (warnings : Buffer Warning) (fits : FitsReceiver f j y keys key_room expired_room connections) where
+    (keys : List (Option ℕ)) (key_room expired_room : ℕ) (is_due : Bool) (connections : Slab Link) (warnings : WarningRing) (fits : FitsReceiver f j y keys key_room expired_room connections) where
   abbrev changed : SubscriberFields
   changed = with_keys y keys key_room expired_room is_due
 

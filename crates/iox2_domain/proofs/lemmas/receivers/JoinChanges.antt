@@ -5,12 +5,11 @@ use Rattle.std.specs.declared.option.Option.{Option}
 use Rattle.std.specs.declared.option.Option.TheVariants.{None, Some}
 use Rattle.std.specs.Option.{option_map}
 use Rattle.slab.specs.Slab.{Slab}
-use Rattle.circular_buffer.specs.Buffer.{Buffer}
 use Rattle.iox2_store.specs.Link.{Link}
 use Rattle.iox2_store.specs.machine.Numbers.{put_at}
 use Rattle.iox2_store.specs.machine.Records.{Subscriber}
-use Rattle.iox2_store.specs.declared.warning.Warning.{Warning}
 use Rattle.iox2_ends.specs.Mailboxes.{receiver_ends}
+use Rattle.iox2_domain.specs.WarningRing.{WarningRing}
 use Rattle.iox2_domain.specs.Ports.{SubscriberFields}
 use Rattle.iox2_domain.specs.Kept.{Named, state_of, port_named, ids, is_named}
 use Rattle.iox2_domain.specs.Invariant.{HasParts, is_subscriber}
@@ -22,7 +21,7 @@ use Rattle.iox2_domain.proofs.lemmas.updates.ReceiverChanges.{FitsReceiver, with
 use mathlib.Core.Path.{fun_ext}
 
 module _ {T U : Type 0} (f : Fields T U) (parts : HasParts f) (j : ℕ) (y : SubscriberFields) (at : get_or f.subscribers j None ≡ Some y)
-    (keys : List (Option ℕ)) (key_room expired_room : ℕ) (is_due : Bool) (connections : Slab Link) (warnings : Buffer Warning) (fits : FitsReceiver f j y keys key_room expired_room connections) where
+    (keys : List (Option ℕ)) (key_room expired_room : ℕ) (is_due : Bool) (connections : Slab Link) (warnings : WarningRing) (fits : FitsReceiver f j y keys key_room expired_room connections) where
   abbrev shown : List (Option (Named Subscriber))
   shown = map (option_map (subscriber_of f.books f.connections)) f.subscribers
 

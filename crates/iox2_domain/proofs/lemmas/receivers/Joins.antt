@@ -7,7 +7,6 @@ use Rattle.std.specs.declared.option.Option.{Option}
 use Rattle.std.specs.declared.option.Option.TheVariants.{None, Some}
 use Rattle.std.specs.Option.{option_map, option_map_or}
 use Rattle.slab.specs.Slab.{Slab, get}
-use Rattle.circular_buffer.specs.Buffer.{Buffer, buffer}
 use Rattle.iox2_store.specs.machine.Connections.{DegradationAnswers, failure_of, warnings_after}
 use Rattle.iox2_store.specs.machine.Limits.{warning_limit, expired_limit}
 use Rattle.iox2_store.specs.Link.{Link, empty_link}
@@ -19,13 +18,13 @@ use Rattle.iox2_store.specs.machine.SubscriberUpdate.{ReceiverSide, ConnectRecei
 use Rattle.iox2_store.specs.machine.WellFormed.{IsWellFormed}
 use Rattle.iox2_store.specs.declared.degradation.DegradationAction.{DegradationAction}
 use Rattle.iox2_store.specs.declared.errors.ConnectionFailure.{ConnectionFailure}
-use Rattle.iox2_store.specs.declared.warning.Warning.{Warning}
 use Rattle.iox2_ends.specs.LookUp.{look_up}
 use Rattle.iox2_ends.specs.Finds.{IsReceiverLinked, IsReceivers}
 use Rattle.iox2_ends.specs.Mailboxes.{is_between, receiver_ends, subscriber_of_key, publisher_of_key}
 use Rattle.iox2_ends.proofs.MailboxChanges.{put_at-own}
 use Rattle.iox2_laws.proofs.ReceiverSides.{connect_at_place_keeps}
 use Rattle.iox2_laws.proofs.SubscriberUpdates.{with_receiver_side_keeps}
+use Rattle.iox2_domain.specs.WarningRing.{WarningRing, warning_ring}
 use Rattle.iox2_domain.specs.Ports.{PublisherFields, SubscriberFields}
 use Rattle.iox2_domain.specs.Kept.{state_of}
 use Rattle.iox2_domain.specs.Invariant.{HasParts, IsDomain, connection_count}
@@ -60,12 +59,12 @@ module _ {T U : Type 0} (environment : Environment) (f : Fields T U) (sound : Is
   most = (f.config).subscriber_max_borrowed_samples
 
   -- the subscriber's side with these keys, connections and warnings
-  abbrev side_with : List (Option ℕ) → Slab Link → Buffer Warning → ReceiverSide
+  abbrev side_with : List (Option ℕ) → Slab Link → WarningRing → ReceiverSide
   side_with keys connections warnings =
       record { ends = receiver_ends connections keys; expired = Q.expired; is_due = y.is_due; mailboxes = λ p. s.mailboxes p y.id; warnings = warnings.items }
 
   -- the fields with these
-  abbrev pub joined_fields : List (Option ℕ) → Slab Link → Buffer Warning → Fields T U
+  abbrev pub joined_fields : List (Option ℕ) → Slab Link → WarningRing → Fields T U
   joined_fields keys connections warnings =
       record f { subscribers = slice_set f.subscribers j (Some (record y { keys = keys })); connections = connections; warnings = warnings }
 
@@ -77,7 +76,7 @@ module _ {T U : Type 0} (environment : Environment) (f : Fields T U) (sound : Is
   no_end = occupant-receiver_ends f.connections y.keys i ∙ ap (publisher_of_key f.connections) none
 
   -- the machine's step is done where the fields change so
-  steps-join : (keys : List (Option ℕ)) (connections : Slab Link) (warnings : Buffer Warning) (failure : Option ConnectionFailure) → FitsReceiver f j y keys y.key_room y.expired_room connections
+  steps-join : (keys : List (Option ℕ)) (connections : Slab Link) (warnings : WarningRing) (failure : Option ConnectionFailure) → FitsReceiver f j y keys y.key_room y.expired_room connections
       → warnings.capacity ≡ warning_limit → Step (side_with keys connections warnings) failure → ConnectsEnd environment f j i y x.id (joined_fields keys connections warnings) failure
   steps-join keys connections warnings failure fits room step = (
     side_with keys connections warnings,
@@ -246,14 +245,14 @@ module _ {T U : Type 0} (environment : Environment) (f : Fields T U) (sound : Is
         → DegradationAnswers environment y.id y.degradation_handler (record { service_id = (f.config).service_id; sender_port_id = x.id; receiver_port_id = y.id }) action
         → (n : ℕ) → ConnectsEnd environment f j i y x.id (record f {
           connections = record f.connections { capacity = n };
-          warnings = buffer (warnings_after x.id y.id action f.warnings.items) warning_limit;
+          warnings = warning_ring (warnings_after x.id y.id action f.warnings.items) warning_limit;
         }) (failure_of action)
     misses-connection may action answers n =
         subst (λ (h : Fields T U). ConnectsEnd environment f j i y x.id h (failure_of action)) (λ k. record f {
           subscribers = same_subscribers k;
           connections = record f.connections { capacity = n };
-          warnings = buffer (warnings_after x.id y.id action f.warnings.items) warning_limit;
+          warnings = warning_ring (warnings_after x.id y.id action f.warnings.items) warning_limit;
         })
-        (steps-join y.keys (record f.connections { capacity = n }) (buffer (warnings_after x.id y.id action f.warnings.items) warning_limit) (failure_of action)
+        (steps-join y.keys (record f.connections { capacity = n }) (warning_ring (warnings_after x.id y.id action f.warnings.items) warning_limit) (failure_of action)
         (receiver_fits-same f sound.parts j y at_y n) refl
         (inr (no_sender, warnings_after x.id y.id action f.warnings.items, (action, may, answers, refl, refl), refl)))

@@ -2,15 +2,14 @@
 use Rattle.std.proofs.Common.{◌≡◌, ℕ, List, get_or, refl, ap, sym, ◌∙◌}
 use Rattle.std.specs.declared.option.Option.{Option}
 use Rattle.std.specs.declared.option.Option.TheVariants.{None, Some}
-use Rattle.circular_buffer.specs.Buffer.{Buffer}
 use Rattle.iox2_store.specs.machine.Limits.{warning_limit}
 use Rattle.iox2_store.specs.machine.Numbers.{put_at}
 use Rattle.iox2_store.specs.machine.Records.{Subscriber}
 use Rattle.iox2_store.specs.machine.State.{State}
 use Rattle.iox2_store.specs.machine.SubscriberUpdate.{ReceiverSide, receiver_side, with_receiver_side}
-use Rattle.iox2_store.specs.declared.warning.Warning.{Warning}
 use Rattle.iox2_laws.proofs.ReceiverSides.{ReceiverSideIsWellFormed, receiver_side_begins, receiver_side_marked}
 use Rattle.iox2_laws.proofs.SubscriberUpdates.{with_receiver_side_keeps}
+use Rattle.iox2_domain.specs.WarningRing.{WarningRing}
 use Rattle.iox2_domain.specs.Ports.{SubscriberFields}
 use Rattle.iox2_domain.specs.Kept.{state_of}
 use Rattle.iox2_domain.specs.Invariant.{HasParts, IsDomain}
@@ -23,7 +22,7 @@ use Rattle.iox2_domain.proofs.lemmas.receivers.LeftEnds.{LeavesReceiver, left_fi
 use Rattle.iox2_domain.proofs.lemmas.receivers.LeftStates.{left-is, left_port}
 
 -- warnings matter to nothing else
-pub parts-warned : {T U : Type 0} (f : Fields T U) (warnings : Buffer Warning) → HasParts f → warnings.capacity ≡ warning_limit → HasParts (record f { warnings = warnings })
+pub parts-warned : {T U : Type 0} (f : Fields T U) (warnings : WarningRing) → HasParts f → warnings.capacity ≡ warning_limit → HasParts (record f { warnings = warnings })
 parts-warned f warnings parts room = record {
   publisher_ids = parts.publisher_ids;
   subscriber_ids = parts.subscriber_ids;

@@ -3,14 +3,13 @@ use Rattle.std.proofs.Common.{◌≡◌, ◌≢◌, ◌<◌, ◌≤◌, ℕ, get
 use Rattle.std.specs.declared.option.Option.TheVariants.{None, Some}
 use Rattle.std.specs.Option.{option_map, option_map_or}
 use Rattle.slab.specs.Slab.{get}
-use Rattle.circular_buffer.specs.Buffer.{Buffer, buffer}
 use Rattle.iox2_store.specs.Link.{Link}
 use Rattle.iox2_store.specs.machine.Connections.{DegradationAnswers, failure_of, warnings_after}
 use Rattle.iox2_store.specs.machine.Limits.{warning_limit}
 use Rattle.iox2_store.specs.machine.Records.{Environment}
 use Rattle.iox2_store.specs.declared.connection.Home.{Home}
 use Rattle.iox2_store.specs.declared.degradation.DegradationAction.{DegradationAction}
-use Rattle.iox2_store.specs.declared.warning.Warning.{Warning}
+use Rattle.iox2_domain.specs.WarningRing.{WarningRing, warning_ring}
 use Rattle.iox2_domain.specs.Ports.{PublisherFields, SubscriberFields}
 use Rattle.iox2_domain.specs.Fields.{Fields}
 use Rattle.iox2_domain.specs.Invariant.{IsDomain, connection_count}
@@ -96,14 +95,14 @@ module _ {T U : Type 0} (environment : Environment) (f : Fields T U) (sound : Is
     -- memory for a new one is refused, and the subscriber's handler says what comes of that
     pub misses-as : environment.may_refuse_memory → (action : DegradationAction)
         → DegradationAnswers environment y.id y.degradation_handler (record { service_id = (f.config).service_id; sender_port_id = x.id; receiver_port_id = y.id }) action
-        → (warnings : Buffer Warning) → mid.connections ≡ record f.connections { capacity = mid.connections.capacity }
-        → warnings ≡ buffer (warnings_after home.publisher home.subscriber action f.warnings.items) warning_limit
+        → (warnings : WarningRing) → mid.connections ≡ record f.connections { capacity = mid.connections.capacity }
+        → warnings ≡ warning_ring (warnings_after home.publisher home.subscriber action f.warnings.items) warning_limit
         → (f' : Fields T U) → f' ≡ record mid { warnings = warnings } → ConnectsEnd environment f j i y x.id f' (failure_of action)
     misses-as may action answers warnings same warned_is f' is =
         end-from-grown f sound i j x y n m e at_x at_y more_x more_y more_e environment f' (failure_of action)
         (subst (λ (h : Fields T U). ConnectsEnd environment g j i (with_receiver_rooms m e y) x.id h (failure_of action))
-        (sym (is ∙ (λ k. record (mid-is k) { warnings = told k }) ∙ (λ k. record g { connections = same k; warnings = buffer (warnings_after x.id y.id action f.warnings.items) warning_limit })))
+        (sym (is ∙ (λ k. record (mid-is k) { warnings = told k }) ∙ (λ k. record g { connections = same k; warnings = warning_ring (warnings_after x.id y.id action f.warnings.items) warning_limit })))
         (misses-connection environment g sound-grown i j (with_sender_room n x) (with_receiver_rooms m e y) here_x here_y none none_x may action answers mid.connections.capacity))
       where
-        told : warnings ≡ buffer (warnings_after x.id y.id action f.warnings.items) warning_limit
-        told = warned_is ∙ ap (λ (h : Home). buffer (warnings_after h.publisher h.subscriber action f.warnings.items) warning_limit) home-is
+        told : warnings ≡ warning_ring (warnings_after x.id y.id action f.warnings.items) warning_limit
+        told = warned_is ∙ ap (λ (h : Home). warning_ring (warnings_after h.publisher h.subscriber action f.warnings.items) warning_limit) home-is

@@ -5,7 +5,6 @@ use Rattle.std.specs.declared.option.Option.{Option}
 use Rattle.std.specs.declared.option.Option.TheVariants.{Some}
 use Rattle.std.specs.Option.{option_map, option_map_or}
 use Rattle.slab.specs.Slab.{get, with_value, ContainsKey}
-use Rattle.circular_buffer.specs.Buffer.{buffer}
 use Rattle.iox2_store.specs.Link.{Link}
 use Rattle.iox2_store.specs.SlotBook.{Book, holders_at}
 use Rattle.iox2_store.specs.machine.Limits.{warning_limit, expired_limit}
@@ -21,6 +20,7 @@ use Rattle.iox2_ends.specs.declared.retirement.Retirement.TheVariants.{Refuse as
 use Rattle.iox2_ends.proofs.LookUps.{look_up-found}
 use Rattle.iox2_ends.proofs.ReclaimedPuts.{held-at}
 use Rattle.std.proofs.lemmas.Bool.{eq-eqb}
+use Rattle.iox2_domain.specs.WarningRing.{warning_ring}
 use Rattle.iox2_domain.specs.Ports.{SubscriberFields}
 use Rattle.iox2_domain.specs.Kept.{state_of}
 use Rattle.iox2_domain.specs.Fields.{Fields, kept_of, is_book_of}
@@ -142,7 +142,7 @@ module _ {T U : Type 0} (f : Fields T U) (sound : IsDomain f) (j i : ℕ) (y : S
         subscribers = (written (without_receiver_key i) ∙ ap (λ (keys : List (Option ℕ)). slice_set f.subscribers j (Some (record y { keys = keys }))) (cleared-place y.keys i key end.has)) k;
         connections = f1.connections;
         books = with_value f.books c.home.book (with_counters b loses.holders);
-        warnings = buffer (warned f.warnings.items (ExpiredDataDiscarded c.home.publisher (its.subscriber k))) warning_limit;
+        warnings = warning_ring (warned f.warnings.items (ExpiredDataDiscarded c.home.publisher (its.subscriber k))) warning_limit;
       })))
       (discards f sound j i y key c end (none-borrowed f.connections key c end.link unborrowed) (borrows-are f sound j i y key c end key c end.link its.subscriber ∙ unborrowed)
       b at_b mine loses.holders f1.connections loses.removes)
@@ -169,13 +169,13 @@ module _ {T U : Type 0} (f : Fields T U) (sound : IsDomain f) (j i : ℕ) (y : S
         subscribers = written (replacing_expired i key first) k;
         connections = f1.connections;
         books = with_value f.books d.home.book (with_counters b loses.holders);
-        warnings = buffer (warned f.warnings.items (ExpiredDataDiscarded d.home.publisher (its.subscriber k))) warning_limit;
+        warnings = warning_ring (warned f.warnings.items (ExpiredDataDiscarded d.home.publisher (its.subscriber k))) warning_limit;
       })
       ∙ sym (ap (λ (ys : List (Option SubscriberFields)). record f {
         subscribers = ys;
         connections = f1.connections;
         books = with_value f.books d.home.book (with_counters b loses.holders);
-        warnings = buffer (warned f.warnings.items (ExpiredDataDiscarded d.home.publisher y.id)) warning_limit;
+        warnings = warning_ring (warned f.warnings.items (ExpiredDataDiscarded d.home.publisher y.id)) warning_limit;
       }) (set-set f.subscribers j (Some (without_expired first y)) (Some (replacing_expired i key first y))))))
       (evicts f sound j i y key c end first d old (borrows-are f sound j i y key c end first d at_d its.subscriber ∙ unborrowed)
       b at_b mine loses.holders f1.connections loses.removes)

@@ -4,7 +4,6 @@ use Rattle.std.proofs.lemmas.Bool.{ne_eqb}
 use Rattle.std.specs.declared.option.Option.TheVariants.{None, Some}
 use Rattle.std.specs.Option.{option_map}
 use Rattle.slab.specs.Slab.{Slab, get}
-use Rattle.circular_buffer.specs.Buffer.{Buffer, buffer}
 use Rattle.iox2_store.specs.Link.{Link}
 use Rattle.iox2_store.specs.SlotBook.{Book}
 use Rattle.iox2_store.specs.machine.Limits.{warning_limit, expired_limit}
@@ -14,7 +13,6 @@ use Rattle.iox2_store.specs.machine.Places.{occupant, set_place}
 use Rattle.iox2_store.specs.machine.Records.{Publisher, Subscriber}
 use Rattle.iox2_store.specs.machine.State.{State, warned}
 use Rattle.iox2_store.specs.machine.SubscriberUpdate.{ReceiverSide, Retirement, Keep_expired, Discard_data, Refuse, after_retirement, with_end, with_receiver_side}
-use Rattle.iox2_store.specs.declared.warning.Warning.{Warning}
 use Rattle.iox2_store.specs.declared.warning.Warning.TheVariants.{ExpiredDataDiscarded}
 use Rattle.iox2_laws.proofs.NumberLemmas.{false_from}
 use Rattle.iox2_laws.proofs.ReceiverSides.{receiver_side_marked, kept_expired_keeps, discarded_keeps}
@@ -23,6 +21,7 @@ use Rattle.iox2_ends.specs.Drops.{RemovesDropped}
 use Rattle.iox2_ends.specs.Mailboxes.{publisher_of_key, with_box}
 use Rattle.iox2_ends.proofs.LookUps.{look_up-nothing}
 use Rattle.iox2_ends.proofs.MailboxChanges.{put_at-own}
+use Rattle.iox2_domain.specs.WarningRing.{WarningRing, warning_ring}
 use Rattle.iox2_domain.specs.Ports.{SubscriberFields}
 use Rattle.iox2_domain.specs.Kept.{Named, state_of, is_named}
 use Rattle.iox2_domain.specs.Invariant.{HasParts, IsDomain, IsDomainBut, is_publisher}
@@ -128,8 +127,8 @@ module _ {T U : Type 0} (f : Fields T U) (sound : IsDomain f) (j i : ℕ) (y : S
     pub fits : LeavesReceiver (dropped_fields f sound j y end.stands key c end.link departed unborrowed b at_b mine holders new removes) y (set_place y.keys i None) y.expired new
     fits = place-fits f sound j y end.stands key c end.link departed unborrowed b at_b mine holders new removes i end.has unexpired
 
-    abbrev pub told : Buffer Warning
-    told = buffer (warned f.warnings.items (ExpiredDataDiscarded p y.id)) warning_limit
+    abbrev pub told : WarningRing
+    told = warning_ring (warned f.warnings.items (ExpiredDataDiscarded p y.id)) warning_limit
 
     -- the fields without the connection
     abbrev pub without_end : Fields T U

@@ -3,10 +3,9 @@ use Rattle.std.proofs.Common.{◌≡◌, ◌<◌, ◌≤◌, ℕ, Bool, false, L
 use Rattle.std.specs.declared.option.Option.{Option}
 use Rattle.std.specs.declared.option.Option.TheVariants.{None, Some}
 use Rattle.slab.specs.Slab.{Slab, get}
-use Rattle.circular_buffer.specs.Buffer.{Buffer}
 use Rattle.iox2_store.specs.Link.{Link}
-use Rattle.iox2_store.specs.declared.warning.Warning.{Warning}
 use Rattle.iox2_ends.specs.Finds.{IsReceiverLinked}
+use Rattle.iox2_domain.specs.WarningRing.{WarningRing}
 use Rattle.iox2_domain.specs.Ports.{PublisherFields, SubscriberFields}
 use Rattle.iox2_domain.specs.Fields.{Fields}
 use Rattle.iox2_domain.specs.Invariant.{HasExpiredRoom}
@@ -17,7 +16,7 @@ abbrev pub with_keys : SubscriberFields → List (Option ℕ) → (key_room expi
 with_keys y keys key_room expired_room is_due = record y { keys = keys; key_room = key_room; expired_room = expired_room; is_due = is_due }
 
 -- the fields with these keys of the subscriber y at the place j, these connections and these warnings
-abbrev pub with_receiver : {T U : Type 0} → Fields T U → (j : ℕ) → SubscriberFields → List (Option ℕ) → (key_room expired_room : ℕ) → Bool → Slab Link → Buffer Warning → Fields T U
+abbrev pub with_receiver : {T U : Type 0} → Fields T U → (j : ℕ) → SubscriberFields → List (Option ℕ) → (key_room expired_room : ℕ) → Bool → Slab Link → WarningRing → Fields T U
 with_receiver f j y keys key_room expired_room is_due connections warnings =
     record f { subscribers = slice_set f.subscribers j (Some (with_keys y keys key_room expired_room is_due)); connections = connections; warnings = warnings }
 

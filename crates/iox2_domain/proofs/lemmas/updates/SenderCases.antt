@@ -9,7 +9,6 @@ use Rattle.std.specs.declared.option.Option.{Option}
 use Rattle.std.specs.declared.option.Option.TheVariants.{None, Some}
 use Rattle.std.specs.Option.{option_map, option_map_or}
 use Rattle.slab.specs.Slab.{Slab, get}
-use Rattle.circular_buffer.specs.Buffer.{buffer}
 use Rattle.iox2_store.specs.machine.Connections.{DegradationAnswers, failure_of, warnings_after}
 use Rattle.iox2_store.specs.machine.Limits.{warning_limit}
 use Rattle.iox2_store.specs.Link.{Link, empty_link, load}
@@ -22,6 +21,7 @@ use Rattle.iox2_ends.specs.LookUp.{look_up}
 use Rattle.iox2_ends.specs.Homes.{IsSenderLinked}
 use Rattle.iox2_ends.proofs.LookUps.{look_up-found}
 use Rattle.iox2_ends.specs.Mailboxes.{mailbox_of, mailbox_if_any, is_between, sender_ends, subscriber_of_key, publisher_of_key}
+use Rattle.iox2_domain.specs.WarningRing.{warning_ring}
 use Rattle.iox2_domain.specs.Ports.{PublisherFields, SubscriberFields}
 use Rattle.iox2_domain.specs.Kept.{state_of}
 use Rattle.iox2_domain.specs.Fields.{Fields, kept_of, publisher_of, subscriber_of, numbers_of}
@@ -197,15 +197,15 @@ module _ {T U : Type 0} (environment : Environment) (f : Fields T U) (sound : Is
           → DegradationAnswers environment x.id x.degradation_handler (record { service_id = (f.config).service_id; sender_port_id = x.id; receiver_port_id = y.id }) action
           → (n : ℕ) → ConnectsSender environment f i j x (record f {
             connections = record f.connections { capacity = n };
-            warnings = buffer (warnings_after x.id y.id action f.warnings.items) warning_limit;
+            warnings = warning_ring (warnings_after x.id y.id action f.warnings.items) warning_limit;
           }) (failure_of action)
       misses-connection may action answers n =
           subst (λ (h : Fields T U). ConnectsSender environment f i j x h (failure_of action)) (λ k. record f {
             publishers = same_publishers k;
             connections = with_capacity n;
-            warnings = buffer (warnings_after x.id y.id action f.warnings.items) warning_limit;
+            warnings = warning_ring (warnings_after x.id y.id action f.warnings.items) warning_limit;
           })
-          (steps-connect environment f sound i j x y at_x at_y due opened x.keys (with_capacity n) (buffer (warnings_after x.id y.id action f.warnings.items) warning_limit) (failure_of action)
+          (steps-connect environment f sound i j x y at_x at_y due opened x.keys (with_capacity n) (warning_ring (warnings_after x.id y.id action f.warnings.items) warning_limit) (failure_of action)
           (fits-same f sound i x at_x n) refl
           (makes-end environment f sound i j x y at_x at_y due opened (no_end environment f sound i j x y at_x at_y due opened none) _ (failure_of action)
           (inr (no_receiver, warnings_after x.id y.id action f.warnings.items, (action, may, answers, refl, refl), refl))))

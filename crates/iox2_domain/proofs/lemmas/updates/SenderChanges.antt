@@ -5,14 +5,13 @@ use Rattle.std.specs.declared.option.Option.{Option}
 use Rattle.std.specs.declared.option.Option.TheVariants.{None, Some}
 use Rattle.std.specs.Option.{option_map}
 use Rattle.slab.specs.Slab.{Slab, get}
-use Rattle.circular_buffer.specs.Buffer.{Buffer}
 use Rattle.iox2_store.specs.Link.{Link}
 use Rattle.iox2_store.specs.machine.Numbers.{put_at}
 use Rattle.iox2_store.specs.machine.Places.{occupants}
 use Rattle.iox2_store.specs.machine.Records.{Publisher}
-use Rattle.iox2_store.specs.declared.warning.Warning.{Warning}
 use Rattle.iox2_ends.specs.Homes.{IsSenderLinked}
 use Rattle.iox2_ends.specs.Mailboxes.{sender_ends, receiver_ends}
+use Rattle.iox2_domain.specs.WarningRing.{WarningRing}
 use Rattle.iox2_domain.specs.Ports.{PublisherFields, SubscriberFields}
 use Rattle.iox2_domain.specs.Kept.{Named, state_of, port_named, ids, is_named}
 use Rattle.iox2_domain.specs.Fields.{Fields, kept_of, publisher_of, subscriber_of, numbers_of, blocked_send}
@@ -28,7 +27,7 @@ abbrev pub with_keys : PublisherFields → List (Option ℕ) → (key_room : ℕ
 with_keys x keys key_room is_due = record x { keys = keys; key_room = key_room; is_due = is_due }
 
 -- the fields with these keys of the publisher x at the place i, these connections and these warnings
-abbrev pub with_sender : {T U : Type 0} → Fields T U → (i : ℕ) → PublisherFields → List (Option ℕ) → (key_room : ℕ) → Bool → Slab Link → Buffer Warning → Fields T U
+abbrev pub with_sender : {T U : Type 0} → Fields T U → (i : ℕ) → PublisherFields → List (Option ℕ) → (key_room : ℕ) → Bool → Slab Link → WarningRing → Fields T U
 with_sender f i x keys key_room is_due connections warnings =
     record f { publishers = slice_set f.publishers i (Some (with_keys x keys key_room is_due)); connections = connections; warnings = warnings }
 
@@ -87,7 +86,7 @@ module _ {T U : Type 0} (f : Fields T U) (sound : IsDomain f) (connections : Sla
       mailboxes-are (record f { connections = connections }) p q ∙ e.boxes (numbers_of f.books) p q ∙ sym (mailboxes-are f p q)))
 
 module _ {T U : Type 0} (f : Fields T U) (sound : IsDomain f) (i : ℕ) (x : PublisherFields) (at : get_or f.publishers i None ≡ Some x)
-    (keys : List (Option ℕ)) (key_room : ℕ) (is_due : Bool) (connections : Slab Link) (warnings : Buffer Warning) (fits : FitsSender f i x keys key_room connections) where
+    (keys : List (Option ℕ)) (key_room : ℕ) (is_due : Bool) (connections : Slab Link) (warnings : WarningRing) (fits : FitsSender f i x keys key_room connections) where
   abbrev shown : List (Option (Named Publisher))
   shown = map (option_map (publisher_of f.books f.connections)) f.publishers
 

@@ -4,7 +4,6 @@ use Rattle.std.specs.declared.option.Option.{Option}
 use Rattle.std.specs.declared.option.Option.TheVariants.{None, Some}
 use Rattle.std.specs.Option.{option_map, option_map_or, option_and_then}
 use Rattle.slab.specs.Slab.{Slab, get}
-use Rattle.circular_buffer.specs.Buffer.{Buffer, buffer}
 use Rattle.std.proofs.lemmas.Bool.{eqb-true}
 use Rattle.std.proofs.lemmas.Option.{same_Some}
 use Rattle.iox2_store.specs.Link.{Link}
@@ -16,7 +15,7 @@ use Rattle.iox2_store.specs.declared.connection.Home.{Home}
 use Rattle.iox2_store.specs.declared.degradation.DegradationAction.{DegradationAction}
 use Rattle.iox2_store.specs.declared.degradation.DegradationAction.TheVariants.{Warn}
 use Rattle.iox2_store.specs.declared.degradation.DegradationInfo.{DegradationInfo}
-use Rattle.iox2_store.specs.declared.warning.Warning.{Warning}
+use Rattle.iox2_domain.specs.WarningRing.{WarningRing, warning_ring}
 use Rattle.iox2_domain.specs.Ports.{PublisherFields, SubscriberFields}
 use Rattle.iox2_domain.specs.Fields.{Fields}
 use Rattle.iox2_domain.specs.Invariant.{IsDomain, connection_count}
@@ -167,14 +166,14 @@ module _ {T U : Type 0} (environment : Environment) (f : Fields T U) (sound : Is
         -- memory for a new one is refused, and the publisher's handler says what comes of that
         pub misses-as : environment.may_refuse_memory → (action : DegradationAction)
             → DegradationAnswers environment x.id x.degradation_handler (record { service_id = (f.config).service_id; sender_port_id = x.id; receiver_port_id = y.id }) action
-            → (warnings : Buffer Warning) → mid.connections ≡ record f.connections { capacity = mid.connections.capacity }
-            → warnings ≡ buffer (warnings_after home.publisher home.subscriber action f.warnings.items) warning_limit
+            → (warnings : WarningRing) → mid.connections ≡ record f.connections { capacity = mid.connections.capacity }
+            → warnings ≡ warning_ring (warnings_after home.publisher home.subscriber action f.warnings.items) warning_limit
             → (f' : Fields T U) → f' ≡ record mid { warnings = warnings } → ConnectsSender environment f i j x f' (failure_of action)
         misses-as may action answers warnings same warned_is f' is =
             sender-from f i j x y n m e sound at_x apart.subscriber_stands more_x more_y more_e environment f' (failure_of action)
             (subst (λ (h : Fields T U). ConnectsSender environment g i j (with_sender_room n x) h (failure_of action))
-            (sym (is ∙ (λ k. record (mid-is k) { warnings = told k }) ∙ (λ k. record g { connections = same k; warnings = buffer (warnings_after x.id y.id action f.warnings.items) warning_limit })))
+            (sym (is ∙ (λ k. record (mid-is k) { warnings = told k }) ∙ (λ k. record g { connections = same k; warnings = warning_ring (warnings_after x.id y.id action f.warnings.items) warning_limit })))
             (misses-connection environment g sound-grown i j (with_sender_room n x) (with_receiver_rooms m e y) here_x here_y due opened_y no_key no_key_y may action answers mid.connections.capacity))
           where
-            told : warnings ≡ buffer (warnings_after x.id y.id action f.warnings.items) warning_limit
-            told = warned_is ∙ ap (λ (h : Home). buffer (warnings_after h.publisher h.subscriber action f.warnings.items) warning_limit) (home-is f sound i j x at_x home size apart)
+            told : warnings ≡ warning_ring (warnings_after x.id y.id action f.warnings.items) warning_limit
+            told = warned_is ∙ ap (λ (h : Home). warning_ring (warnings_after h.publisher h.subscriber action f.warnings.items) warning_limit) (home-is f sound i j x at_x home size apart)

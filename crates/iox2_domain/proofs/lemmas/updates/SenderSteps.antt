@@ -5,7 +5,6 @@ use Rattle.std.specs.declared.option.Option.{Option}
 use Rattle.std.specs.declared.option.Option.TheVariants.{None, Some}
 use Rattle.std.specs.Option.{option_and_then}
 use Rattle.slab.specs.Slab.{Slab, get}
-use Rattle.circular_buffer.specs.Buffer.{Buffer}
 use Rattle.iox2_store.specs.machine.Limits.{warning_limit}
 use Rattle.iox2_store.specs.Link.{Link, load}
 use Rattle.iox2_store.specs.machine.Mailbox.{Mailbox, has_numbers, with_waiting}
@@ -16,12 +15,12 @@ use Rattle.iox2_store.specs.machine.State.{State, receiving_buffer, has_receiver
 use Rattle.iox2_store.specs.machine.PublisherUpdate.{SenderSide, UpdateSenderPlace, ConnectSender, connected, sender_side, with_sender_side}
 use Rattle.iox2_store.specs.machine.WellFormed.{LeadsTo, IsWellFormed}
 use Rattle.iox2_store.specs.declared.errors.ConnectionFailure.{ConnectionFailure}
-use Rattle.iox2_store.specs.declared.warning.Warning.{Warning}
 use Rattle.iox2_ends.specs.Mailboxes.{sender_ends, subscriber_of_key}
 use Rattle.iox2_ends.proofs.MailboxChanges.{put_at-own}
 use Rattle.iox2_laws.proofs.PlaceLemmas.{occupied_within}
 use Rattle.iox2_laws.proofs.SenderSides.{sender_side_begins, performed_keeps, connected_with_keeps}
 use Rattle.iox2_laws.proofs.PublisherUpdates.{with_sender_side_keeps}
+use Rattle.iox2_domain.specs.WarningRing.{WarningRing}
 use Rattle.iox2_domain.specs.Ports.{PublisherFields, SubscriberFields}
 use Rattle.iox2_domain.specs.Kept.{state_of}
 use Rattle.iox2_domain.specs.Fields.{Fields, kept_of, publisher_of, subscriber_of}
@@ -48,11 +47,11 @@ module _ {T U : Type 0} (f : Fields T U) where
       j (occupant now.subscriber_places j) (sender_side now x.id (port x)) side failure
 
   -- the publisher's side with these keys, connections and warnings
-  abbrev pub side_with : PublisherFields → List (Option ℕ) → Slab Link → Buffer Warning → SenderSide
+  abbrev pub side_with : PublisherFields → List (Option ℕ) → Slab Link → WarningRing → SenderSide
   side_with x keys connections warnings = record { ends = sender_ends connections keys; mailboxes = now.mailboxes x.id; warnings = warnings.items }
 
   -- the fields with these keys, connections and warnings
-  abbrev pub connected_sender : (i : ℕ) → PublisherFields → List (Option ℕ) → Slab Link → Buffer Warning → Fields T U
+  abbrev pub connected_sender : (i : ℕ) → PublisherFields → List (Option ℕ) → Slab Link → WarningRing → Fields T U
   connected_sender i x keys connections warnings =
       record f { publishers = slice_set f.publishers i (Some (record x { keys = keys })); connections = connections; warnings = warnings }
 
@@ -68,7 +67,7 @@ module _ {T U : Type 0} (environment : Environment) (f : Fields T U) (sound : Is
   present = publisher-stands f sound i x at_x
 
   -- the machine's step is done where the fields change so
-  pub steps-connect : (keys : List (Option ℕ)) (connections : Slab Link) (warnings : Buffer Warning) (failure : Option ConnectionFailure) → FitsSender f i x keys x.key_room connections
+  pub steps-connect : (keys : List (Option ℕ)) (connections : Slab Link) (warnings : WarningRing) (failure : Option ConnectionFailure) → FitsSender f i x keys x.key_room connections
       → warnings.capacity ≡ warning_limit → StepsSender f environment j x (side_with f x keys connections warnings) failure
       → ConnectsSender environment f i j x (connected_sender f i x keys connections warnings) failure
   steps-connect keys connections warnings failure fits room step = record {

@@ -1,12 +1,11 @@
 use Rattle.std.proofs.Common.{◌≡◌, ◌∙◌, ap, sym}
 use Rattle.std.proofs.lemmas.List.{with_items_is}
 use Rattle.std.specs.declared.option.Option.TheVariants.{None, Some}
-use Rattle.circular_buffer.specs.Buffer.{buffer}
 use Rattle.iox2_store.specs.machine.Environments.{fixed_handlers}
 use Rattle.iox2_store.specs.machine.Limits.{warning_limit}
-use Rattle.iox2_store.specs.machine.State.{warned}
+use Rattle.iox2_store.specs.machine.Connections.{warnings_after}
 use Rattle.iox2_store.specs.declared.degradation.DegradationAction.TheVariants.{Warn}
-use Rattle.iox2_store.specs.declared.warning.Warning.TheVariants.{ConnectionNotMade}
+use Rattle.iox2_domain.specs.WarningRing.{warning_ring}
 use Rattle.iox2_domain.specs.Fields.{Fields}
 use Rattle.iox2_domain.specs.Updates.{receiver_key, changed_at, key_from, with_sender_key}
 use Rattle.iox2_domain.proofs.lemmas.fields.Standing.{some-buffer}
@@ -67,10 +66,10 @@ returns-in_default-make_between g c = λ x at due.
     let mid = c.make_between.new.state in
     misses-as fixed_handlers old c.requires.agrees c.args.publisher_place c.args.subscriber_place x at due _ _ c.ports_at-buffer.ensures c.requires.none c.requires.opened
     looked mid c.make_between.ensures.grows tt Warn
-    (answers-warn fixed_handlers x.id x.degradation_handler _ (c.requires.agrees.parts.plain c.args.publisher_place x at).degradation) c.warn.new.warnings
+    (answers-warn fixed_handlers x.id x.degradation_handler _ (c.requires.agrees.parts.plain c.args.publisher_place x at).degradation) c.warn_of_refusal.new.warnings
     c.in_default-make_between.ensures.refused
-    (c.warn.ensures ∙ (λ k. buffer (warned (c.state-2.view_is k).warnings.items (c.not_made.ensures k)) warning_limit) ∙ ap (λ (f : Fields g.row.T.Denot g.row.U.Denot). buffer (warned f.warnings.items (ConnectionNotMade c.ports_at-buffer.result.0.publisher c.ports_at-buffer.result.0.subscriber)) warning_limit) c.make_between.ensures.grows.fields)
-    _ (λ k. record (c.state-2.view_is k) { warnings = c.warn.new.warnings })
+    (c.warn_of_refusal.ensures ∙ ap (λ (f : Fields g.row.T.Denot g.row.U.Denot). warning_ring (warnings_after c.ports_at-buffer.result.0.publisher c.ports_at-buffer.result.0.subscriber Warn f.warnings.items) warning_limit) (c.state-2.view_is ∙ c.make_between.ensures.grows.fields))
+    _ (λ k. record (c.state-2.view_is k) { warnings = c.warn_of_refusal.new.warnings })
 
 pub returns : goal.returns
 returns g c = λ x at due.

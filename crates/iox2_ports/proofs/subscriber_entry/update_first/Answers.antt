@@ -1,7 +1,7 @@
 use Rattle.std.proofs.Common.{◌≡◌, ◌∙◌, Some, ap, sym}
-use Rattle.circular_buffer.specs.Buffer.{buffer}
 use Rattle.iox2_store.specs.machine.Environments.{fixed_handlers}
 use Rattle.iox2_store.specs.machine.Limits.{warning_limit}
+use Rattle.iox2_domain.specs.WarningRing.{warning_ring}
 use Rattle.iox2_domain.specs.Fields.{Fields}
 use Rattle.iox2_domain.specs.Ports.{SubscriberFields}
 use Rattle.iox2_domain.specs.SubscriberEntry.{failure_warned}
@@ -22,4 +22,4 @@ returns g c = λ y at.
     let is : c.requires.stands.0 ≡ y = cc in
     first-updates fixed_handlers c.args.state.now c.update_subscriber-failure.new.state _ c.args.place c.args.subscriber c.update_subscriber-failure.result y
     (c.update_subscriber-failure.ensures y at) at (sym (ap (λ (z : SubscriberFields). z.id) is) ∙ c.requires.stands.2)
-    (λ k. record (c.state.view_is k) { warnings = (c.warn_of_failure.ensures ∙ ap (λ (f : Fields g.row.T.Denot g.row.U.Denot). buffer (failure_warned c.args.subscriber c.update_subscriber-failure.result f.warnings.items) warning_limit) c.state.view_is) k })
+    (λ k. record (c.state.view_is k) { warnings = (c.warn_of_failure.ensures ∙ ap (λ (f : Fields g.row.T.Denot g.row.U.Denot). warning_ring (failure_warned c.args.subscriber c.update_subscriber-failure.result f.warnings.items) warning_limit) c.state.view_is) k })

@@ -7,9 +7,9 @@ returns g c = record {
   next_port = refl;
   next_message = refl;
   warnings = c.in_ok-warnings.ensures;
-  publishers = c.new.ensures.items;
-  subscribers = c.new-2.ensures.items;
-  connections = c.new-3.ensures.empty;
-  books = c.new-4.ensures.empty;
-  contents = c.new-5.ensures.items;
+  publishers = c.new-2.ensures.items;
+  subscribers = c.new-3.ensures.items;
+  connections = c.new-4.ensures.empty;
+  books = c.new-5.ensures.empty;
+  contents = c.new-6.ensures.items;
 }

@@ -1,0 +1,12 @@
+-- The warnings of a domain as they are kept: in a ring.
+use Rattle.std.specs.Prelude.{ℕ}
+use Rattle.iox2_store.specs.machine.State.{Warnings}
+
+-- What is kept, and so many of the last warnings have room.
+pub record WarningRing : Type 0 where
+  pub items : Warnings
+  pub capacity : ℕ
+
+-- The ring with that room which keeps these.
+abbrev pub warning_ring : Warnings → (capacity : ℕ) → WarningRing
+warning_ring items capacity = record { items = items; capacity = capacity }

@@ -1,0 +1,405 @@
+-- What operations leave of the loans that publishers may still take.
+use Rattle.std.proofs.Common.{◌≡◌, ℕ, suc, ◌+◌, ◌<◌, ◌≤◌, Bool, true, false, List, [], ◌∷◌, ◌++◌, length, cond, refl, sym, ap, subst, ◌∙◌, arith, Option, None, Some}
+use Rattle.std.specs.Prelude.{◌==◌, ◌≢◌, max, nat_lt}
+use Rattle.std.specs.Option.{option_map}
+use Rattle.std.proofs.lemmas.Bool.{ne_eqb}
+use Rattle.std.proofs.lemmas.List.{length-append}
+use Rattle.std.proofs.lemmas.Option.{none-some, same_Some}
+use Rattle.iox2_store.specs.machine.Limits.{worst_case, last_number, buffer_limit}
+use Rattle.iox2_store.specs.machine.Numbers.{put_at, contains, without, size, last_n, IsOnce}
+use Rattle.iox2_store.specs.machine.Places.{free_place}
+use Rattle.iox2_store.specs.machine.Mailbox.{Mailbox}
+use Rattle.iox2_store.specs.machine.Records.{Loan, Publisher, Subscriber, Environment, PublisherSettings, SubscriberSettings}
+use Rattle.iox2_store.specs.machine.State.{State, held, with_loan, publisher_changed}
+use Rattle.iox2_store.specs.machine.Delivery.{DeliveryEnd, Complete, Suspended}
+use Rattle.iox2_store.specs.machine.PublisherUpdate.{UpdatePublisher}
+use Rattle.iox2_store.specs.machine.SubscriberUpdate.{UpdateSubscriber}
+use Rattle.iox2_store.specs.machine.Loans.{GrantLoan, limit_error, is_static, loan_granted, loan_discarded}
+use Rattle.iox2_store.specs.machine.LoansLeft.{CanLend}
+use Rattle.iox2_store.specs.machine.Ports.{CreatePublisher, CreateSubscriber, MakePublisher, MakeSubscriber, with_new_publisher, with_new_subscriber, new_publisher, with_failure_warning, first_segment_fits, slots_for, buffer_for, publisher_closed, subscriber_shut, subscriber_closed}
+use Rattle.iox2_store.specs.machine.Receives.{ReceiveResult, Got_sample, No_sample, Receive_error, TakeSample, Receive}
+use Rattle.iox2_store.specs.machine.Releases.{place_freed, unborrowed, subscriber_pruned, is_unused, freed_if_unused, released}
+use Rattle.iox2_store.specs.machine.Sends.{Send, ConcludeSend, SendResult, Blocked_send, published, with_mailboxes}
+use Rattle.iox2_store.specs.machine.WellFormed.{IsWellFormed}
+use Rattle.iox2_store.specs.declared.errors.ConnectionFailure.{ConnectionFailure}
+use Rattle.iox2_store.specs.declared.errors.PublisherCreateError.{PublisherCreateError}
+use Rattle.iox2_store.specs.declared.errors.SubscriberCreateError.{SubscriberCreateError}
+use Rattle.iox2_store.specs.declared.warning.Warning.{Warning}
+use Rattle.iox2_store.specs.declared.warning.Warning.TheVariants.{PublisherPartlyConnected, SubscriberPartlyConnected}
+use Rattle.iox2_store.specs.declared.service_config.ServiceConfig.{ServiceConfig}
+use Rattle.iox2_laws.proofs.Cases.{by_option, by_bool}
+use Rattle.iox2_laws.proofs.NumberLemmas.{length-without}
+use Rattle.iox2_laws.proofs.PortsClose.{publisher_closed_others}
+use Rattle.iox2_laws.proofs.Puts.{at_each, put_at-same, put_at-other}
+
+-- ---- one publisher
+
+-- The publisher has the same limit of loans, the same slots and the same loans out.
+pub record KeepsTerms (x x' : Publisher) : Type 0 where
+  pub allocation : x'.allocation_strategy ≡ x.allocation_strategy
+  pub most : x'.max_loaned_samples ≡ x.max_loaned_samples
+  pub slots : x'.slots ≡ x.slots
+  pub loans : x'.loans ≡ x.loans
+
+same_terms : (x : Publisher) → KeepsTerms x x
+same_terms x = record { allocation = refl; most = refl; slots = refl; loans = refl }
+
+terms_trans : (x y z : Publisher) → KeepsTerms x y → KeepsTerms y z → KeepsTerms x z
+terms_trans x y z a b = record { allocation = b.allocation ∙ a.allocation; most = b.most ∙ a.most; slots = b.slots ∙ a.slots; loans = b.loans ∙ a.loans }
+
+-- what is found under an id afterwards
+abbrev Kept_at : Publisher → Option Publisher → Type 0
+Kept_at x v = (x' : Publisher) × (v ≡ Some x') × KeepsTerms x x'
+
+put_terms : (f : ℕ → Option Publisher) (i : ℕ) (z : Publisher) → ((x : Publisher) → f i ≡ Some x → KeepsTerms x z) → (p : ℕ) (x : Publisher) → f p ≡ Some x → Kept_at x (put_at f i (Some z) p)
+put_terms f i z keeps p x e = at_each f i (Some z) (λ k v. f k ≡ Some x → Kept_at x v) p (λ here old. (z, refl, keeps x old)) (λ apart old. (x, old, same_terms x)) e
+
+changed_terms : (f : ℕ → Option Publisher) (i : ℕ) (change : Publisher → Publisher) → ((x : Publisher) → KeepsTerms x (change x)) → (p : ℕ) (x : Publisher) → f p ≡ Some x
+    → Kept_at x (put_at f i (option_map change (f i)) p)
+changed_terms f i change keeps p x e =
+    at_each f i (option_map change (f i)) (λ k v. f k ≡ Some x → Kept_at x v) p (λ here old. (change x, ap (option_map change) old, keeps x)) (λ apart old. (x, old, same_terms x)) e
+
+module _ {T U : Type 0} where
+  -- ---- what leaves all of them
+
+  -- Each publisher keeps its terms and its loans, and no message number is used.
+  pub record LoansKept (s s' : State T U) : Type 0 where
+    pub config : s'.config ≡ s.config
+    pub numbers : s'.next_message ≡ s.next_message
+    pub publishers : (p : ℕ) (x : Publisher) → s.publishers p ≡ Some x → Kept_at x (s'.publishers p)
+
+  pub kept_itself : (s : State T U) → LoansKept s s
+  kept_itself s = record { config = refl; numbers = refl; publishers = λ p x e. (x, e, same_terms x) }
+
+  kept_trans : (a b c : State T U) → LoansKept a b → LoansKept b c → LoansKept a c
+  kept_trans a b c h k = record {
+    config = k.config ∙ h.config;
+    numbers = k.numbers ∙ h.numbers;
+    publishers = λ p x e. let y = h.publishers p x e in let z = k.publishers p y.0 y.1 in (z.0, z.1, terms_trans x y.0 z.0 y.2 z.2);
+  }
+
+  kept_same : (s s' : State T U) → s' ≡ s → LoansKept s s'
+  kept_same s s' e = subst (LoansKept s) (sym e) (kept_itself s)
+
+  pub set_kept : (s : State T U) (n : ℕ) (l : Option (Loan T U)) → LoansKept s (with_loan s n l)
+  set_kept s n l = record { config = refl; numbers = refl; publishers = λ p x e. (x, e, same_terms x) }
+
+  changed_kept : (s : State T U) (i : ℕ) (change : Publisher → Publisher) → ((x : Publisher) → KeepsTerms x (change x)) → LoansKept s (publisher_changed s i change)
+  changed_kept s i change keeps = record { config = refl; numbers = refl; publishers = changed_terms s.publishers i change keeps }
+
+  pub update_publisher_kept : (environment : Environment) (s : State T U) (p : ℕ) (s' : State T U) (failure : Option ConnectionFailure) → UpdatePublisher environment s p s' failure → LoansKept s s'
+  update_publisher_kept environment s p s' failure h =
+      by_option (LoansKept s s') (s.publishers p) _ _ h (λ _ v. absurd v) (λ x present h.
+      by_bool (LoansKept s s') x.is_due _ _ h
+      (λ _ h. subst (LoansKept s) (sym h.2) (record {
+        config = refl;
+        numbers = refl;
+        publishers = put_terms s.publishers p (record x { ends = (h.0).ends; is_due = false })
+            (λ z e. subst (λ (v : Publisher). KeepsTerms v (record x { ends = (h.0).ends; is_due = false })) (same_Some x z (sym present ∙ e)) (record { allocation = refl; most = refl; slots = refl; loans = refl }));
+      }))
+      (λ _ h. kept_same s s' h.0))
+
+  pub update_subscriber_kept : (environment : Environment) (s : State T U) (q : ℕ) (s' : State T U) (failure : Option ConnectionFailure) → UpdateSubscriber environment s q s' failure → LoansKept s s'
+  update_subscriber_kept environment s q s' failure h =
+      by_option (LoansKept s s') (s.subscribers q) _ _ h (λ _ v. absurd v) (λ y present h.
+      by_bool (LoansKept s s') y.is_due _ _ h
+      (λ _ h. subst (LoansKept s) (sym h.2) (record { config = refl; numbers = refl; publishers = λ p x e. (x, e, same_terms x) }))
+      (λ _ h. kept_same s s' h.0))
+
+  taken_kept : (s : State T U) (q : ℕ) (y : Subscriber) (s' : State T U) (result : ReceiveResult) → TakeSample s q y s' result → LoansKept s s'
+  taken_kept s q y s' (Got_sample p n) h = subst (LoansKept s) (sym h.3) (record { config = refl; numbers = refl; publishers = λ p x e. (x, e, same_terms x) })
+  taken_kept s q y s' No_sample h = kept_same s s' h.1
+  taken_kept s q y s' (Receive_error e) h = kept_same s s' h.3
+
+  pub receive_kept : (environment : Environment) (s : State T U) (q : ℕ) (s' : State T U) (result : ReceiveResult) → Receive environment s q s' result → LoansKept s s'
+  receive_kept environment s q s' result h =
+      let first : LoansKept s h.0 = update_subscriber_kept environment s q h.0 h.1 h.2 in
+      by_option (LoansKept s s') h.1 _ _ h.3
+      (λ _ k. by_option (LoansKept s s') ((h.0).subscribers q) _ _ k (λ _ v. absurd v) (λ y _ k. kept_trans s h.0 s' first (taken_kept h.0 q y s' result k)))
+      (λ e _ k. kept_trans s h.0 s' first (kept_same h.0 s' k.0))
+
+  freed_kept : (s : State T U) (q : ℕ) → LoansKept s (freed_if_unused s q)
+  freed_kept s q = at (is_unused s q) where
+    at : (b : Bool) → LoansKept s (cond b (place_freed s q) s)
+    at true = record {
+      config = refl;
+      numbers = refl;
+      publishers = λ p x e. (record x { is_due = true }, ap (option_map {T = Publisher} (λ z. record z { is_due = true })) e, record { allocation = refl; most = refl; slots = refl; loans = refl });
+    }
+    at false = kept_itself s
+
+  pub released_kept : (s : State T U) (p q n : ℕ) → LoansKept s (released s p q n)
+  released_kept s p q n =
+      kept_trans s (subscriber_pruned (unborrowed s p q n) q) (released s p q n) (record { config = refl; numbers = refl; publishers = λ p x e. (x, e, same_terms x) })
+      (freed_kept (subscriber_pruned (unborrowed s p q n) q) q)
+
+  pub subscriber_closed_kept : (s : State T U) (q : ℕ) (y : Subscriber) → LoansKept s (subscriber_closed s q y)
+  subscriber_closed_kept s q y =
+      kept_trans s (subscriber_pruned (subscriber_shut s q y) q) (subscriber_closed s q y)
+      (record {
+        config = refl;
+        numbers = refl;
+        publishers = λ p x e. (record x { is_due = true }, ap (option_map {T = Publisher} (λ z. record z { is_due = true })) e, record { allocation = refl; most = refl; slots = refl; loans = refl });
+      })
+      (freed_kept (subscriber_pruned (subscriber_shut s q y) q) q)
+
+  warning_kept : (s : State T U) (warning : ConnectionFailure → Warning) (failure : Option ConnectionFailure) → LoansKept s (with_failure_warning s warning failure)
+  warning_kept s warning None = kept_itself s
+  warning_kept s warning (Some failure) = record { config = refl; numbers = refl; publishers = λ p x e. (x, e, same_terms x) }
+
+  new_publisher_kept : (s : State T U) → IsWellFormed s → (given : PublisherSettings) (place : ℕ) → LoansKept s (with_new_publisher s given place)
+  new_publisher_kept s w given place = record {
+    config = refl;
+    numbers = refl;
+    publishers = put_terms s.publishers s.next_port (new_publisher s given place)
+        (λ x e. let low : s.next_port < s.next_port = (w.publishers s.next_port x e).is_known in absurd (omega arith));
+  }
+
+  -- a publisher is made
+  made_kept : (environment : Environment) (s : State T U) (given : PublisherSettings) (place : ℕ) (s' : State T U) → MakePublisher environment s given place s' None → LoansKept (with_new_publisher s given place) s'
+  made_kept environment s given place s' h =
+      subst (LoansKept (with_new_publisher s given place)) (sym h.3)
+      (kept_trans (with_new_publisher s given place) h.0 _ (update_publisher_kept environment (with_new_publisher s given place) s.next_port h.0 h.1 h.2) (warning_kept h.0 (PublisherPartlyConnected s.next_port) h.1))
+
+  pub create_publisher_kept : (environment : Environment) (s : State T U) → IsWellFormed s → (given : PublisherSettings) (s' : State T U) (refusal : Option PublisherCreateError)
+      → CreatePublisher environment s given s' refusal → LoansKept s s'
+  create_publisher_kept environment s w given s' refusal h =
+      by_bool (LoansKept s s') (s.next_port == last_number) _ _ h (λ _ k. kept_same s s' k.0) (λ _ k.
+      by_option (LoansKept s s') (free_place (s.config).max_publishers s.publisher_places) _ _ k (λ _ j. kept_same s s' j.0) (λ place _ j.
+      by_bool (LoansKept s s') (first_segment_fits s.config given) _ _ j (λ _ i. made place refusal i) (λ _ i. kept_same s s' i.0)))
+    where
+      made : (place : ℕ) (refusal : Option PublisherCreateError) → MakePublisher environment s given place s' refusal → LoansKept s s'
+      made place None h = kept_trans s (with_new_publisher s given place) s' (new_publisher_kept s w given place) (made_kept environment s given place s' h)
+      made place (Some e) h = kept_same s s' h.1
+
+  -- A publisher that was made has all of its loans left, where it is static and has the worst case of slots.
+  pub created_lends : (environment : Environment) (s : State T U) (given : PublisherSettings) (s' : State T U) → is_static given.allocation_strategy ≡ true
+      → worst_case s.config given.max_loaned_samples ≤ slots_for s.config given → CreatePublisher environment s given s' None → CanLend s' s.next_port given.max_loaned_samples
+  created_lends environment s given s' static slots h =
+      by_bool (CanLend s' s.next_port given.max_loaned_samples) (s.next_port == last_number) _ _ h (λ _ k. absurd (none-some _ k.1)) (λ _ k.
+      by_option (CanLend s' s.next_port given.max_loaned_samples) (free_place (s.config).max_publishers s.publisher_places) _ _ k (λ _ j. absurd (none-some _ j.1)) (λ place _ j.
+      by_bool (CanLend s' s.next_port given.max_loaned_samples) (first_segment_fits s.config given) _ _ j (λ _ i. made place i) (λ _ i. absurd (none-some _ i.1))))
+    where
+      made : (place : ℕ) → MakePublisher environment s given place s' None → CanLend s' s.next_port given.max_loaned_samples
+      made place h =
+          let kept : LoansKept (with_new_publisher s given place) s' = made_kept environment s given place s' h in
+          let there = kept.publishers s.next_port (new_publisher s given place) (put_at-same s.publishers s.next_port (Some (new_publisher s given place))) in
+          let terms : KeepsTerms (new_publisher s given place) there.0 = there.2 in
+          let none : length (there.0).loans ≡ 0 = ap (λ (ns : List ℕ). length ns) terms.loans in
+          record {
+            port = there.0;
+            stands = there.1;
+            static = ap is_static terms.allocation ∙ static;
+            slots = subst (λ (k : ℕ). worst_case s'.config (there.0).max_loaned_samples ≤ k) (sym terms.slots)
+                (subst (λ (k : ℕ). worst_case s'.config k ≤ slots_for s.config given) (sym terms.most) (subst (λ (c : ServiceConfig). worst_case c given.max_loaned_samples ≤ slots_for s.config given) (sym kept.config) slots));
+            few = omega (arith, none, terms.most);
+          }
+
+  pub create_subscriber_kept : (environment : Environment) (s : State T U) (given : SubscriberSettings) (s' : State T U) (refusal : Option SubscriberCreateError)
+      → CreateSubscriber environment s given s' refusal → LoansKept s s'
+  create_subscriber_kept environment s given s' refusal h =
+      by_bool (LoansKept s s') (s.next_port == last_number) _ _ h (λ _ k. kept_same s s' k.0) (λ _ k.
+      by_bool (LoansKept s s') (nat_lt (buffer_limit s.config) (buffer_for given)) _ _ k (λ _ j. kept_same s s' j.0) (λ _ j.
+      by_option (LoansKept s s') (free_place (s.config).max_subscribers s.subscriber_places) _ _ j (λ _ i. kept_same s s' i.0) (λ place _ i. made place refusal i)))
+    where
+      made : (place : ℕ) (refusal : Option SubscriberCreateError) → MakeSubscriber environment s given place s' refusal → LoansKept s s'
+      made place None h =
+          let new : State T U = with_new_subscriber s given place in
+          subst (LoansKept s) (sym h.3) (kept_trans s new _
+          (record {
+            config = refl;
+            numbers = refl;
+            publishers = λ p x e. (record x { is_due = true }, ap (option_map {T = Publisher} (λ z. record z { is_due = true })) e, record { allocation = refl; most = refl; slots = refl; loans = refl });
+          })
+          (kept_trans new h.0 _ (update_subscriber_kept environment new s.next_port h.0 h.1 h.2) (warning_kept h.0 (SubscriberPartlyConnected s.next_port) h.1)))
+      made place (Some e) h = kept_same s s' h.1
+
+  -- ---- what leaves the loans that may be taken
+
+  -- where terms and loans are kept
+  pub kept_lends : (s s' : State T U) → LoansKept s s' → (p n : ℕ) → CanLend s p n → CanLend s' p n
+  kept_lends s s' h p n can =
+      let there = h.publishers p can.port can.stands in
+      let terms : KeepsTerms can.port there.0 = there.2 in
+      let loans : length (there.0).loans ≡ length (can.port).loans = ap (λ (ns : List ℕ). length ns) terms.loans in
+      record {
+        port = there.0;
+        stands = there.1;
+        static = ap is_static terms.allocation ∙ can.static;
+        slots = subst (λ (k : ℕ). worst_case s'.config (there.0).max_loaned_samples ≤ k) (sym terms.slots)
+            (subst (λ (k : ℕ). worst_case s'.config k ≤ (can.port).slots) (sym terms.most) (subst (λ (c : ServiceConfig). worst_case c (can.port).max_loaned_samples ≤ (can.port).slots) (sym h.config) can.slots));
+        few = omega (arith, loans, terms.most, can.few);
+      }
+
+  -- another publisher's close
+  pub closed_lends : (s : State T U) (p : ℕ) (x : Publisher) (i n : ℕ) → i ≢ p → CanLend s i n → CanLend (publisher_closed s p x) i n
+  closed_lends s p x i n away can = record {
+    port = can.port;
+    stands = publisher_closed_others s p x i away ∙ can.stands;
+    static = can.static;
+    slots = can.slots;
+    few = can.few;
+  }
+
+  -- ---- a loan is granted
+
+  -- A loan more of p is out, under the next number; other publishers are as they were.
+  pub record LoanTaken (p : ℕ) (s s' : State T U) : Type 0 where
+    pub config : s'.config ≡ s.config
+    pub numbers : s'.next_message ≡ s.next_message + 1
+    pub own : (n : ℕ) → CanLend s p (n + 1) → CanLend s' p n
+    pub others : (i : ℕ) → i ≢ p → s'.publishers i ≡ s.publishers i
+
+  granted_taken : (default_header : U) (s : State T U) (p : ℕ) (x : Publisher) → s.publishers p ≡ Some x → (len segments : ℕ) → LoanTaken p s (loan_granted default_header s p x len segments)
+  granted_taken default_header s p x present len segments = record {
+    config = refl;
+    numbers = refl;
+    own = λ n can.
+        let same : x ≡ can.port = same_Some x can.port (sym present ∙ can.stands) in
+        let few : length (can.port).loans + (n + 1) ≤ (can.port).max_loaned_samples = can.few in
+        let of_x : length x.loans + (n + 1) ≤ x.max_loaned_samples = subst (λ (z : Publisher). length z.loans + (n + 1) ≤ z.max_loaned_samples) (sym same) few in
+        record {
+          port = record x { loans = x.loans ++ s.next_message ∷ []; longest_granted = max x.longest_granted len; segments = segments };
+          stands = put_at-same s.publishers p _;
+          static = ap (λ (z : Publisher). is_static z.allocation_strategy) same ∙ can.static;
+          slots = subst (λ (z : Publisher). worst_case s.config z.max_loaned_samples ≤ z.slots) (sym same) can.slots;
+          few = omega (arith, length-append x.loans (s.next_message ∷ []), of_x);
+        };
+    others = λ i away. put_at-other s.publishers p _ i (ne_eqb i p away);
+  }
+
+  pub loan_taken : (environment : Environment) (default_header : U) (checks_length : Bool) (len : ℕ) (s : State T U) (p : ℕ) (s' : State T U)
+      → GrantLoan environment default_header checks_length len s p s' None → LoanTaken p s s'
+  loan_taken environment default_header checks_length len s p s' h =
+      by_option (LoanTaken p s s') (s.publishers p) _ _ h (λ _ v. absurd v) (λ x present k.
+      by_option (LoanTaken p s s') (limit_error checks_length x len) _ _ k
+      (λ _ j. by_bool (LoanTaken p s s') (is_static x.allocation_strategy) _ _ j
+      (λ _ i. by_bool (LoanTaken p s s') (size (held s p x) == x.slots) _ _ i (λ _ g. absurd (none-some _ g.1)) (λ _ g.
+      by_bool (LoanTaken p s s') (s.next_message == last_number) _ _ g (λ _ f. absurd (none-some _ f.1))
+      (λ _ f. subst (LoanTaken p s) (sym f.0) (granted_taken default_header s p x present len x.segments))))
+      (λ _ i. subst (LoanTaken p s) (sym i.4) (granted_taken default_header s p x present len i.2)))
+      (λ limit _ j. absurd (none-some _ j.1)))
+
+  -- ---- a loan ends
+
+  -- The loan n of p is out no more; nothing else changes of the loans that may be taken.
+  pub record LoanEnds (p n : ℕ) (s s' : State T U) : Type 0 where
+    pub config : s'.config ≡ s.config
+    pub numbers : s'.next_message ≡ s.next_message
+    pub own : (x : Publisher) → s.publishers p ≡ Some x
+        → (x' : Publisher) × (s'.publishers p ≡ Some x') × (x'.allocation_strategy ≡ x.allocation_strategy) × (x'.max_loaned_samples ≡ x.max_loaned_samples) × (x'.slots ≡ x.slots) × (x'.loans ≡ without n x.loans)
+    pub others : (i : ℕ) (x : Publisher) → i ≢ p → s.publishers i ≡ Some x → Kept_at x (s'.publishers i)
+
+  kept_ends : (p n : ℕ) (a b c : State T U) → LoansKept a b → LoanEnds p n b c → LoanEnds p n a c
+  kept_ends p n a b c h k = record {
+    config = k.config ∙ h.config;
+    numbers = k.numbers ∙ h.numbers;
+    own = λ x e.
+        let y = h.publishers p x e in
+        let z = k.own y.0 y.1 in
+        let terms : KeepsTerms x y.0 = y.2 in
+        (z.0, z.1, z.2 ∙ terms.allocation, z.3 ∙ terms.most, z.4 ∙ terms.slots, z.5 ∙ ap (without n) terms.loans);
+    others = λ i x away e. let y = h.publishers i x e in let z = k.others i y.0 away y.1 in (z.0, z.1, terms_trans x y.0 z.0 y.2 z.2);
+  }
+
+  -- where its publisher is gone
+  kept_gone : (p n : ℕ) (s s' : State T U) → s.publishers p ≡ None → LoansKept s s' → LoanEnds p n s s'
+  kept_gone p n s s' gone h = record {
+    config = h.config;
+    numbers = h.numbers;
+    own = λ x e. absurd (none-some x (sym gone ∙ e));
+    others = λ i x away e. h.publishers i x e;
+  }
+
+  returned_ends : (s : State T U) (p n : ℕ) → LoanEnds p n s (publisher_changed s p (λ x. record x { loans = without n x.loans }))
+  returned_ends s p n = record {
+    config = refl;
+    numbers = refl;
+    own = λ x e. (record x { loans = without n x.loans }, put_at-same s.publishers p _ ∙ ap (option_map (λ (x : Publisher). record x { loans = without n x.loans })) e, refl, refl, refl, refl);
+    others = λ i x away e. (x, put_at-other s.publishers p _ i (ne_eqb i p away) ∙ e, same_terms x);
+  }
+
+  concluded_ends : (s : State T U) (p n : ℕ) (how : DeliveryEnd) (s' : State T U) (result : SendResult) → (result ≡ Blocked_send → ⊥) → ConcludeSend s p n how s' result → LoanEnds p n s s'
+  concluded_ends s p n (Complete count has_failed) s' result free h = subst (LoanEnds p n s) (sym h.0) (record {
+    config = refl;
+    numbers = refl;
+    own = λ x e. (
+      record x { loans = without n x.loans; blocked = None },
+      put_at-same s.publishers p _ ∙ ap (option_map (λ (x : Publisher). record x { loans = without n x.loans; blocked = None })) e,
+      refl,
+      refl,
+      refl,
+      refl,
+    );
+    others = λ i x away e. (x, put_at-other s.publishers p _ i (ne_eqb i p away) ∙ e, same_terms x);
+  })
+  concluded_ends s p n (Suspended b) s' result free h = absurd (free h.1)
+
+  pub discarded_ends : (s : State T U) (n : ℕ) (l : Loan T U) → LoanEnds l.publisher n s (loan_discarded s n l)
+  discarded_ends s n l = kept_ends l.publisher n s (with_loan s n None) (loan_discarded s n l) (set_kept s n None) (returned_ends (with_loan s n None) l.publisher n)
+
+  published_kept : (s : State T U) (p n : ℕ) → LoansKept s (published s p n)
+  published_kept s p n =
+      kept_trans s (with_loan s n None) (published s p n) (set_kept s n None)
+      (changed_kept (with_loan s n None) p (λ x. record x { history = last_n (s.config).history_size (x.history ++ n ∷ []) }) (λ x. record { allocation = refl; most = refl; slots = refl; loans = refl }))
+
+  mailboxes_kept : (s : State T U) (p : ℕ) (boxes : ℕ → Mailbox) → LoansKept s (with_mailboxes s p boxes)
+  mailboxes_kept s p boxes = record { config = refl; numbers = refl; publishers = λ p x e. (x, e, same_terms x) }
+
+  pub send_ends : (environment : Environment) (s : State T U) (n : ℕ) (l : Loan T U) (s' : State T U) (result : SendResult) → (result ≡ Blocked_send → ⊥)
+      → Send environment s n l s' result → LoanEnds l.publisher n s s'
+  send_ends environment s n l s' result free h =
+      by_option Ends (s.publishers l.publisher) _ _ h
+      (λ gone k. subst (LoanEnds l.publisher n s) (sym k.0) (kept_gone l.publisher n s (with_loan s n None) gone (set_kept s n None)))
+      (λ x _ k.
+      let first : LoansKept s k.0 = update_publisher_kept environment s l.publisher k.0 k.1 k.2 in
+      by_option Ends k.1 _ _ k.3
+      (λ _ j. by_option Ends ((k.0).publishers l.publisher) _ _ j (λ _ v. absurd v) (λ z _ j.
+      by_option Ends ((published k.0 l.publisher n).publishers l.publisher) _ _ j (λ _ v. absurd v) (λ w _ j.
+      let before : State T U = published k.0 l.publisher n in
+      let boxed : State T U = with_mailboxes before l.publisher j.1 in
+      kept_ends l.publisher n s boxed s'
+      (kept_trans s k.0 boxed first (kept_trans k.0 before boxed (published_kept k.0 l.publisher n) (mailboxes_kept before l.publisher j.1)))
+      (concluded_ends boxed l.publisher n j.0 s' result free j.3))))
+      (λ e _ j. kept_ends l.publisher n s k.0 s' first (subst (LoanEnds l.publisher n k.0) (sym j.0) (discarded_ends k.0 n l))))
+    where
+      Ends : Type 0
+      Ends = LoanEnds l.publisher n s s'
+
+  -- Its publisher may take one loan more.
+  pub ended_lends : (p n : ℕ) (s s' : State T U) → IsWellFormed s → (l : Loan T U) → s.loans n ≡ Some l → l.publisher ≡ p → LoanEnds p n s s'
+      → (more : ℕ) → CanLend s p more → CanLend s' p (more + 1)
+  ended_lends p n s s' w l out its h more can =
+      let there = h.own can.port can.stands in
+      let is_out : contains (can.port).loans n ≡ true = ((w.loans n l out).is_out can.port (ap s.publishers its ∙ can.stands)).0 in
+      let one : suc (length (without n (can.port).loans)) ≡ length (can.port).loans = length-without n (can.port).loans (w.publishers p can.port can.stands).loans_once is_out in
+      let left : length (there.0).loans ≡ length (without n (can.port).loans) = ap (λ (ns : List ℕ). length ns) there.5 in
+      record {
+        port = there.0;
+        stands = there.1;
+        static = ap is_static there.2 ∙ can.static;
+        slots = subst (λ (k : ℕ). worst_case s'.config (there.0).max_loaned_samples ≤ k) (sym there.4)
+            (subst (λ (k : ℕ). worst_case s'.config k ≤ (can.port).slots) (sym there.3) (subst (λ (c : ServiceConfig). worst_case c (can.port).max_loaned_samples ≤ (can.port).slots) (sym h.config) can.slots));
+        few = omega (arith, one, left, there.3, can.few);
+      }
+
+  -- each other publisher may take as many as before
+  pub others_lend : (p n : ℕ) (s s' : State T U) → LoanEnds p n s s' → (i more : ℕ) → i ≢ p → CanLend s i more → CanLend s' i more
+  others_lend p n s s' h i more away can =
+      let there = h.others i can.port away can.stands in
+      let terms : KeepsTerms can.port there.0 = there.2 in
+      let loans : length (there.0).loans ≡ length (can.port).loans = ap (λ (ns : List ℕ). length ns) terms.loans in
+      record {
+        port = there.0;
+        stands = there.1;
+        static = ap is_static terms.allocation ∙ can.static;
+        slots = subst (λ (k : ℕ). worst_case s'.config (there.0).max_loaned_samples ≤ k) (sym terms.slots)
+            (subst (λ (k : ℕ). worst_case s'.config k ≤ (can.port).slots) (sym terms.most) (subst (λ (c : ServiceConfig). worst_case c (can.port).max_loaned_samples ≤ (can.port).slots) (sym h.config) can.slots));
+        few = omega (arith, loans, terms.most, can.few);
+      }
+
+-- fewer than may be taken may be taken
+pub lends_fewer : {T U : Type 0} (s : State T U) (p n more : ℕ) → n ≤ more → CanLend s p more → CanLend s p n
+lends_fewer s p n more low can =
+    let few : length (can.port).loans + more ≤ (can.port).max_loaned_samples = can.few in
+    record { port = can.port; stands = can.stands; static = can.static; slots = can.slots; few = omega arith }
