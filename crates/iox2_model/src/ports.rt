@@ -16,11 +16,18 @@ impl Model {
     // For each subscriber its buffer and what it may borrow; then the history; then the loans.
     // Nothing where that doesn't fit.
     fn worst_case(&self, loans: usize) -> Option<usize> {
+        self.for_subscribers()?
+            .checked_add(self.config.history_size)?
+            .checked_add(loans)
+    }
+
+    fn for_subscribers(&self) -> Option<usize> {
+        if self.config.max_subscribers == 0 {
+            return Some(0);
+        }
         let borrowed = self.config.subscriber_max_borrowed_samples;
         let each = self.buffer_limit().checked_add(borrowed)?;
-        let all = self.config.max_subscribers.checked_mul(each)?;
-        all.checked_add(self.config.history_size)?
-            .checked_add(loans)
+        self.config.max_subscribers.checked_mul(each)
     }
 
     // A publisher is made at the lowest free place. Where memory is refused, `given` is the reply.
