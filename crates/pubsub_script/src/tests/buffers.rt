@@ -17,9 +17,9 @@ fn assert_two_arrive(
     let subscriber = plan.call("sub", 2, "ok")?;
     write!(plan.text, "pub 1 discard")?;
     let publisher = plan.end("ok")?;
-    plan.send(alloc, publisher, 1, 1)?;
-    plan.send(alloc, publisher, 2, 1)?;
-    plan.send(alloc, publisher, 3, takers)?;
+    plan.copy(alloc, publisher, 1, 1)?;
+    plan.copy(alloc, publisher, 2, 1)?;
+    plan.copy(alloc, publisher, 3, takers)?;
     for value in arrived {
         let sample = plan.call("recv", subscriber, "sample")?;
         let reply = format!(in alloc; "ok {value}")?;

@@ -82,41 +82,27 @@ const ASKED: &[u8] = b"\
 domain 1 1 2 1 0 0 keep
 sub 2
 pub 1 discard
-has 1
-loan 2
-write 4 1
-send 4
-has 1
-loan 2
-write 8 2
-send 8
+copy 2 1
+copy 2 2
 recv 1
 has 1
 recv 1
-has 1
-release 11
+release 5
 recv 1
-read 16
+read 9
 has 1
 has 2
-has 16
+has 9
 ";
 
 const ASKED_REPLIES: &[u8] = b"\
 ok
 ok
-false
-ok
-ok
 ok 1
-true
-ok
-ok
 ok 1
 sample
 true
 err ReceiveError::ExceedsMaxBorrows
-true
 ok
 sample
 ok 2
@@ -128,6 +114,49 @@ skipped
 #[test]
 fn a_subscriber_says_whether_messages_wait(rt: HostRuntime) {
     Outcome::of(rt.alloc(), ASKED).assert(&rt, 0, ASKED_REPLIES, b"");
+}
+
+/// A value is sent at once by a publisher that may lend, and by nothing else.
+const COPIED: &[u8] = b"\
+domain 1 1 2 1 0 0 keep
+sub 2
+pub 1 discard
+loan 2
+copy 2 4
+copy 1 4
+copy 3 4
+discard 3
+copy 2 5
+send 8
+read 8
+recv 1
+read 11
+copy 11 6
+close 2
+copy 2 7
+";
+
+const COPIED_REPLIES: &[u8] = b"\
+ok
+ok
+ok
+err SendError::LoanError(ExceedsMaxLoans)
+skipped
+skipped
+ok
+ok 1
+skipped
+skipped
+sample
+ok 5
+skipped
+ok
+skipped
+";
+
+#[test]
+fn a_value_is_sent_at_once(rt: HostRuntime) {
+    Outcome::of(rt.alloc(), COPIED).assert(&rt, 0, COPIED_REPLIES, b"");
 }
 
 /// Ports are updated as often as is asked, and nothing else is.

@@ -77,38 +77,31 @@ const DEPARTED_COMES_FIRST: &[(&str, &str)] = &[
     ("sub 1", "ok"),
     ("pub 1 discard", "ok"),
     ("update 1", "ok"),
-    ("loan 2", "ok"),
-    ("write 4 7", "ok"),
-    ("send 4", "ok 1"),
+    ("copy 2 7", "ok 1"),
     ("close 2", "ok"),
     ("pub 1 discard", "ok"),
-    ("loan 8", "ok"),
-    ("write 9 8", "ok"),
-    ("send 9", "ok 1"),
+    ("copy 6 8", "ok 1"),
     ("recv 1", "sample"),
-    ("read 12", "ok 7"),
+    ("read 8", "ok 7"),
     ("recv 1", "sample"),
-    ("read 14", "ok 8"),
+    ("read 10", "ok 8"),
 ];
 
 /// The same without that update: what waits is lost with its publisher.
 const UNKNOWN_IS_LOST: &[(&str, &str)] = &[
     ("sub 1", "ok"),
     ("pub 1 discard", "ok"),
-    ("loan 2", "ok"),
-    ("write 3 7", "ok"),
-    ("send 3", "ok 1"),
+    ("copy 2 7", "ok 1"),
     ("close 2", "ok"),
     ("pub 1 discard", "ok"),
-    ("loan 7", "ok"),
-    ("write 8 8", "ok"),
-    ("send 8", "ok 1"),
+    ("copy 5 8", "ok 1"),
     ("recv 1", "sample"),
-    ("read 11", "ok 8"),
+    ("read 7", "ok 8"),
     ("recv 1", "none"),
 ];
 
-/// A subscriber has room for one departed publisher, and has borrowed a message of two.
+/// A subscriber has room for one departed publisher, and has borrowed a message of two. A receive and
+/// a question for messages are refused as its update is, until it gives the first one back.
 const TWO_DEPARTED: &[(&str, &str)] = &[
     ("sub 1", "ok"),
     ("pub 1 discard", "ok"),
@@ -128,17 +121,6 @@ const TWO_DEPARTED: &[(&str, &str)] = &[
         "update 1",
         "err ConnectionFailure::FailedToEstablishConnection(ExpiredConnectionBufferFull)",
     ),
-];
-
-/// Its update is refused until it gives the first one back.
-const UPDATED_AFTER_RELEASE: &[(&str, &str)] = &[
-    ("release 6", "ok"),
-    ("update 1", "ok"),
-    ("read 12", "ok 2"),
-];
-
-/// A receive and a question for messages are refused as the update is.
-const ASKED_AFTER_RELEASE: &[(&str, &str)] = &[
     (
         "recv 1",
         "err ReceiveError::ConnectionFailure(FailedToEstablishConnection(ExpiredConnectionBufferFull))",
@@ -150,6 +132,47 @@ const ASKED_AFTER_RELEASE: &[(&str, &str)] = &[
     ("release 6", "ok"),
     ("has 1", "false"),
     ("read 12", "ok 2"),
+];
+
+/// The same for an update.
+const UPDATED_AFTER_RELEASE: &[(&str, &str)] = &[
+    ("sub 1", "ok"),
+    ("pub 1 discard", "ok"),
+    ("copy 2 1", "ok 1"),
+    ("recv 1", "sample"),
+    ("close 2", "ok"),
+    ("pub 1 discard", "ok"),
+    ("copy 6 2", "ok 1"),
+    ("recv 1", "sample"),
+    ("close 6", "ok"),
+    ("pub 1 discard", "ok"),
+    (
+        "update 1",
+        "err ConnectionFailure::FailedToEstablishConnection(ExpiredConnectionBufferFull)",
+    ),
+    ("release 4", "ok"),
+    ("update 1", "ok"),
+    ("read 8", "ok 2"),
+];
+
+/// There is room for one departed publisher, of which nothing is borrowed. It loses what waits from it
+/// to the second one, whose message is borrowed.
+const FIRST_DEPARTED_LOSES: &[(&str, &str)] = &[
+    ("sub 2", "ok"),
+    ("pub 1 discard", "ok"),
+    ("copy 2 1", "ok 1"),
+    ("copy 2 2", "ok 1"),
+    ("recv 1", "sample"),
+    ("close 2", "ok"),
+    ("pub 1 discard", "ok"),
+    ("copy 7 3", "ok 1"),
+    ("recv 1", "sample"),
+    ("release 5", "ok"),
+    ("close 7", "ok"),
+    ("pub 1 discard", "ok"),
+    ("update 1", "ok"),
+    ("recv 1", "none"),
+    ("read 9", "ok 3"),
 ];
 
 /// There is room for one departed publisher. The second one, of which nothing is borrowed, loses what
@@ -192,27 +215,19 @@ const LOAN_OF_CLOSED: &[(&str, &str)] = &[
 
 #[test]
 fn a_script_with_closed_ports_gets_these_replies(rt: HostRuntime) -> Result<(), Fail> {
-    for (domain, parts) in [
-        ("domain 1 1 2 2 0 1 keep", [CLOSED_PUBLISHER].as_slice()),
-        ("domain 1 1 2 1 0 0 keep", [CLOSED_SUBSCRIBER].as_slice()),
-        ("domain 1 1 1 1 0 0 keep", [DEPARTED_COMES_FIRST].as_slice()),
-        ("domain 1 1 1 1 0 0 keep", [UNKNOWN_IS_LOST].as_slice()),
-        (
-            "domain 1 1 1 1 0 1 keep",
-            [TWO_DEPARTED, UPDATED_AFTER_RELEASE].as_slice(),
-        ),
-        (
-            "domain 1 1 1 1 0 1 keep",
-            [TWO_DEPARTED, ASKED_AFTER_RELEASE].as_slice(),
-        ),
-        (
-            "domain 1 1 1 1 0 1 keep",
-            [SECOND_DEPARTED_LOSES].as_slice(),
-        ),
-        ("domain 1 1 1 1 0 0 keep", [LOAN_OF_CLOSED].as_slice()),
+    for (domain, lines) in [
+        ("domain 1 1 2 2 0 1 keep", CLOSED_PUBLISHER),
+        ("domain 1 1 2 1 0 0 keep", CLOSED_SUBSCRIBER),
+        ("domain 1 1 1 1 0 0 keep", DEPARTED_COMES_FIRST),
+        ("domain 1 1 1 1 0 0 keep", UNKNOWN_IS_LOST),
+        ("domain 1 1 1 1 0 1 keep", TWO_DEPARTED),
+        ("domain 1 1 1 1 0 1 keep", UPDATED_AFTER_RELEASE),
+        ("domain 1 1 2 1 0 1 keep", FIRST_DEPARTED_LOSES),
+        ("domain 1 1 1 1 0 1 keep", SECOND_DEPARTED_LOSES),
+        ("domain 1 1 1 1 0 0 keep", LOAN_OF_CLOSED),
     ] {
         let mut plan = Plan::new(rt.alloc(), domain)?;
-        for &(line, reply) in parts.iter().copied().flatten() {
+        for &(line, reply) in lines {
             write!(plan.text, "{line}")?;
             plan.end(reply)?;
         }
@@ -228,7 +243,7 @@ fn a_closed_subscriber_keeps_what_it_borrowed(rt: HostRuntime) -> Result<(), Fai
     let subscriber = plan.call("sub", 1, "ok")?;
     write!(plan.text, "pub 1 discard")?;
     let publisher = plan.end("ok")?;
-    plan.send(rt.alloc(), publisher, 5, 1)?;
+    plan.copy(rt.alloc(), publisher, 5, 1)?;
     let sample = plan.call("recv", subscriber, "sample")?;
     plan.call("close", subscriber, "ok")?;
     plan.call(
@@ -237,7 +252,7 @@ fn a_closed_subscriber_keeps_what_it_borrowed(rt: HostRuntime) -> Result<(), Fai
         "err SubscriberCreateError::ExceedsMaxSupportedSubscribers",
     )?;
     for _ in 0..10 {
-        plan.send(rt.alloc(), publisher, 6, 0)?;
+        plan.copy(rt.alloc(), publisher, 6, 0)?;
     }
     plan.call("read", sample, "ok 5")?;
     plan.call("release", sample, "ok")?;

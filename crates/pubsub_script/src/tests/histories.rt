@@ -24,13 +24,15 @@ fn assert_received(rt: &impl Abort, alloc: Global, late: &LateSubscriber) -> Res
     let mut sent = 0usize;
     for _ in 0..late.sent_before {
         sent = sent.saturating_add(1);
-        plan.send(alloc, publisher, sent, 0)?;
+        plan.copy(alloc, publisher, sent, 0)?;
     }
     let subscriber = plan.call("sub", late.buffer, "ok")?;
-    plan.call("update", publisher, "ok")?;
+    if late.sent_after == 0 {
+        plan.call("update", publisher, "ok")?;
+    }
     for _ in 0..late.sent_after {
         sent = sent.saturating_add(1);
-        plan.send(alloc, publisher, sent, late.takers_after)?;
+        plan.copy(alloc, publisher, sent, late.takers_after)?;
     }
     for value in late.received {
         let sample = plan.call("recv", subscriber, "sample")?;
@@ -101,7 +103,7 @@ fn a_subscriber_that_stands_gets_nothing_again(rt: HostRuntime) -> Result<(), Fa
     write!(plan.text, "pub 1 discard")?;
     let publisher = plan.end("ok")?;
     for value in 1..=3 {
-        plan.send(rt.alloc(), publisher, value, 0)?;
+        plan.copy(rt.alloc(), publisher, value, 0)?;
     }
     let first = plan.call("sub", 3, "ok")?;
     plan.call("update", publisher, "ok")?;

@@ -55,6 +55,20 @@ impl Plan {
         Ok(())
     }
 
+    /// Adds a message that is sent at once, which so many subscribers take.
+    pub(super) fn copy(
+        &mut self,
+        alloc: Global,
+        publisher: usize,
+        value: usize,
+        takers: usize,
+    ) -> Result<(), Fail> {
+        write!(self.text, "copy {publisher} {value}")?;
+        let reply = format!(in alloc; "ok {takers}")?;
+        self.end(&reply)?;
+        Ok(())
+    }
+
     /// Asserts that the script prints these lines, and nothing else.
     pub(super) fn assert(&self, rt: &impl Abort, alloc: Global) {
         Outcome::of(alloc, self.text.as_slice()).assert(rt, 0, self.replies.as_slice(), b"");
