@@ -52,12 +52,12 @@ fn ending(index: usize) -> Command<u64, u8>
     match index {
         0 => Command::Close { of: 0 },
         1 => Command::Close { of: 1 },
-        RELEASE => Command::Release { of: 5 },
-        _ => Command::Discard { of: 6 },
+        RELEASE => Command::Release { of: 3 },
+        _ => Command::Discard { of: 4 },
     }
 }
 
-const READ: Command<u64, u8> = Command::Read { of: 5, at: 0 };
+const READ: Command<u64, u8> = Command::Read { of: 3, at: 0 };
 
 /// A message is received and a loan is out. Then the four end, and the message is read before each.
 /// Then the next two ports carry a message.
@@ -67,9 +67,7 @@ fn commands_in_order(alloc: Global, order: Order) -> Result<Vec<Command<u64, u8>
     let commands = [
         CREATE_SUBSCRIBER,
         create_publisher(2),
-        Command::LoanUninit { of: 1 },
-        Command::WriteAll { of: 2, value: 5 },
-        Command::Send { of: 2 },
+        Command::SendCopy { of: 1, value: 5 },
         Command::Receive { of: 0 },
         Command::LoanUninit { of: 1 },
         READ,
@@ -82,11 +80,9 @@ fn commands_in_order(alloc: Global, order: Order) -> Result<Vec<Command<u64, u8>
         ending(order[3]),
         create_publisher(2),
         CREATE_SUBSCRIBER,
-        Command::LoanUninit { of: 15 },
-        Command::WriteAll { of: 17, value: 6 },
-        Command::Send { of: 17 },
-        Command::Receive { of: 16 },
-        Command::Read { of: 20, at: 0 },
+        Command::SendCopy { of: 13, value: 6 },
+        Command::Receive { of: 14 },
+        Command::Read { of: 16, at: 0 },
     ];
     Ok(Vec::from_array(alloc, commands)?)
 }
@@ -100,12 +96,10 @@ fn read_after(ended: &[usize]) -> Reply<u64, u8> {
     }
 }
 
-fn replies_in_order(order: Order) -> [Reply<u64, u8>; 22] {
+fn replies_in_order(order: Order) -> [Reply<u64, u8>; 18] {
     [
         Reply::SubscriberMade(UniqueSubscriberId::new(1)),
         Reply::PublisherMade(UniquePublisherId::new(2)),
-        Reply::Loaned,
-        Reply::Done,
         Reply::Delivered(1),
         Reply::Sample(UniquePublisherId::new(2)),
         Reply::Loaned,
@@ -119,8 +113,6 @@ fn replies_in_order(order: Order) -> [Reply<u64, u8>; 22] {
         Reply::Done,
         Reply::PublisherMade(UniquePublisherId::new(3)),
         Reply::SubscriberMade(UniqueSubscriberId::new(4)),
-        Reply::Loaned,
-        Reply::Done,
         Reply::Delivered(1),
         Reply::Sample(UniquePublisherId::new(3)),
         Reply::Cell(Some(6)),

@@ -24,36 +24,28 @@ const PUBLISHER: Command<u64, u8> = Command::CreatePublisher {
 };
 
 // Two messages are sent to two subscribers. The first subscriber receives one in between.
-const WITH_A_RECEIVE: [Command<u64, u8>; 13] = [
+const WITH_A_RECEIVE: [Command<u64, u8>; 9] = [
     SUBSCRIBER,
     SUBSCRIBER,
     PUBLISHER,
-    Command::LoanUninit { of: 2 },
-    Command::WriteAll { of: 3, value: 1 },
-    Command::Send { of: 3 },
+    Command::SendCopy { of: 2, value: 1 },
     Command::Receive { of: 0 },
-    Command::LoanUninit { of: 2 },
-    Command::WriteAll { of: 7, value: 2 },
-    Command::Send { of: 7 },
+    Command::SendCopy { of: 2, value: 2 },
     Command::Receive { of: 1 },
-    Command::Read { of: 10, at: 0 },
+    Command::Read { of: 6, at: 0 },
     Command::Receive { of: 1 },
 ];
 
 // The same, but the first subscriber receives nothing.
-const WITHOUT_IT: [Command<u64, u8>; 13] = [
+const WITHOUT_IT: [Command<u64, u8>; 9] = [
     SUBSCRIBER,
     SUBSCRIBER,
     PUBLISHER,
-    Command::LoanUninit { of: 2 },
-    Command::WriteAll { of: 3, value: 1 },
-    Command::Send { of: 3 },
+    Command::SendCopy { of: 2, value: 1 },
     Command::Nothing,
-    Command::LoanUninit { of: 2 },
-    Command::WriteAll { of: 7, value: 2 },
-    Command::Send { of: 7 },
+    Command::SendCopy { of: 2, value: 2 },
     Command::Receive { of: 1 },
-    Command::Read { of: 10, at: 0 },
+    Command::Read { of: 6, at: 0 },
     Command::Receive { of: 1 },
 ];
 
@@ -76,30 +68,22 @@ fn a_subscriber_sees_the_same_beside_a_slower_one(rt: HostRuntime) {
     let (first, second) = ends.expect(&rt, "two runs");
     let replies = replies_of(first);
     let others = replies_of(second);
-    let expected: [Reply<u64, u8>; 13] = [
+    let expected: [Reply<u64, u8>; 9] = [
         Reply::SubscriberMade(UniqueSubscriberId::new(1)),
         Reply::SubscriberMade(UniqueSubscriberId::new(2)),
         Reply::PublisherMade(UniquePublisherId::new(3)),
-        Reply::Loaned,
-        Reply::Done,
         Reply::Delivered(2),
         Reply::Sample(UniquePublisherId::new(3)),
-        Reply::Loaned,
-        Reply::Done,
         Reply::Delivered(1),
         Reply::Sample(UniquePublisherId::new(3)),
         Reply::Cell(Some(1)),
         Reply::NoSample,
     ];
-    let slower: [Reply<u64, u8>; 13] = [
+    let slower: [Reply<u64, u8>; 9] = [
         Reply::SubscriberMade(UniqueSubscriberId::new(1)),
         Reply::SubscriberMade(UniqueSubscriberId::new(2)),
         Reply::PublisherMade(UniquePublisherId::new(3)),
-        Reply::Loaned,
-        Reply::Done,
         Reply::Delivered(2),
-        Reply::Done,
-        Reply::Loaned,
         Reply::Done,
         Reply::Delivered(0),
         Reply::Sample(UniquePublisherId::new(3)),
@@ -111,83 +95,67 @@ fn a_subscriber_sees_the_same_beside_a_slower_one(rt: HostRuntime) {
 }
 
 // The first subscriber receives a message and releases it before it is closed. A new one takes its place.
-const WITH_A_CLOSE: [Command<u64, u8>; 17] = [
+const WITH_A_CLOSE: [Command<u64, u8>; 13] = [
     SUBSCRIBER,
     SUBSCRIBER,
     PUBLISHER,
-    Command::LoanUninit { of: 2 },
-    Command::WriteAll { of: 3, value: 1 },
-    Command::Send { of: 3 },
+    Command::SendCopy { of: 2, value: 1 },
     Command::Receive { of: 0 },
-    Command::Release { of: 6 },
+    Command::Release { of: 4 },
     Command::Close { of: 0 },
     SUBSCRIBER,
-    Command::LoanUninit { of: 2 },
-    Command::WriteAll { of: 10, value: 2 },
-    Command::Send { of: 10 },
+    Command::SendCopy { of: 2, value: 2 },
     Command::Receive { of: 1 },
-    Command::Read { of: 13, at: 0 },
-    Command::Receive { of: 9 },
-    Command::Read { of: 15, at: 0 },
+    Command::Read { of: 9, at: 0 },
+    Command::Receive { of: 7 },
+    Command::Read { of: 11, at: 0 },
 ];
 
 // The same, but the first subscriber receives nothing before it is closed.
-const WITHOUT_ITS_RECEIVE: [Command<u64, u8>; 17] = [
+const WITHOUT_ITS_RECEIVE: [Command<u64, u8>; 13] = [
     SUBSCRIBER,
     SUBSCRIBER,
     PUBLISHER,
-    Command::LoanUninit { of: 2 },
-    Command::WriteAll { of: 3, value: 1 },
-    Command::Send { of: 3 },
+    Command::SendCopy { of: 2, value: 1 },
     Command::Nothing,
     Command::Nothing,
     Command::Close { of: 0 },
     SUBSCRIBER,
-    Command::LoanUninit { of: 2 },
-    Command::WriteAll { of: 10, value: 2 },
-    Command::Send { of: 10 },
+    Command::SendCopy { of: 2, value: 2 },
     Command::Receive { of: 1 },
-    Command::Read { of: 13, at: 0 },
-    Command::Receive { of: 9 },
-    Command::Read { of: 15, at: 0 },
+    Command::Read { of: 9, at: 0 },
+    Command::Receive { of: 7 },
+    Command::Read { of: 11, at: 0 },
 ];
 
 // The same, but the first subscriber has the message still when it is closed.
-const WITHOUT_ITS_RELEASE: [Command<u64, u8>; 17] = [
+const WITHOUT_ITS_RELEASE: [Command<u64, u8>; 13] = [
     SUBSCRIBER,
     SUBSCRIBER,
     PUBLISHER,
-    Command::LoanUninit { of: 2 },
-    Command::WriteAll { of: 3, value: 1 },
-    Command::Send { of: 3 },
+    Command::SendCopy { of: 2, value: 1 },
     Command::Receive { of: 0 },
     Command::Nothing,
     Command::Close { of: 0 },
     SUBSCRIBER,
-    Command::LoanUninit { of: 2 },
-    Command::WriteAll { of: 10, value: 2 },
-    Command::Send { of: 10 },
+    Command::SendCopy { of: 2, value: 2 },
     Command::Receive { of: 1 },
-    Command::Read { of: 13, at: 0 },
-    Command::Receive { of: 9 },
-    Command::Read { of: 15, at: 0 },
+    Command::Read { of: 9, at: 0 },
+    Command::Receive { of: 7 },
+    Command::Read { of: 11, at: 0 },
 ];
 
 // What `WITH_A_CLOSE` is answered.
-fn answers() -> [Reply<u64, u8>; 17] {
+fn answers() -> [Reply<u64, u8>; 13] {
     [
         Reply::SubscriberMade(UniqueSubscriberId::new(1)),
         Reply::SubscriberMade(UniqueSubscriberId::new(2)),
         Reply::PublisherMade(UniquePublisherId::new(3)),
-        Reply::Loaned,
-        Reply::Done,
         Reply::Delivered(2),
         Reply::Sample(UniquePublisherId::new(3)),
         Reply::Done,
         Reply::Done,
         Reply::SubscriberMade(UniqueSubscriberId::new(4)),
-        Reply::Loaned,
-        Reply::Done,
         Reply::Delivered(2),
         Reply::Sample(UniquePublisherId::new(3)),
         Reply::Cell(Some(1)),
@@ -209,7 +177,7 @@ fn a_subscriber_sees_the_same_beside_one_that_is_closed(rt: HostRuntime) {
     let replies = replies_of(first);
     let others = replies_of(second);
     let mut without = answers();
-    without[6] = Reply::Done;
+    without[4] = Reply::Done;
     assert!(rt; replies.as_slice() == answers().as_slice());
     assert!(rt; others.as_slice() == without.as_slice());
 }
@@ -228,10 +196,10 @@ fn a_subscriber_that_keeps_a_sample_keeps_its_place(rt: HostRuntime) {
     let replies = replies_of(first);
     let others = replies_of(second);
     let mut keeping = answers();
-    keeping[9] = Reply::SubscriberRefused(SubscriberCreateError::ExceedsMaxSupportedSubscribers);
-    keeping[12] = Reply::Delivered(1);
-    keeping[15] = Reply::Skipped;
-    keeping[16] = Reply::Skipped;
+    keeping[7] = Reply::SubscriberRefused(SubscriberCreateError::ExceedsMaxSupportedSubscribers);
+    keeping[8] = Reply::Delivered(1);
+    keeping[11] = Reply::Skipped;
+    keeping[12] = Reply::Skipped;
     assert!(rt; replies.as_slice() == answers().as_slice());
     assert!(rt; others.as_slice() == keeping.as_slice());
 }

@@ -12,6 +12,8 @@ mod commands;
 #[cfg(test)]
 mod comparisons;
 #[cfg(test)]
+mod copies;
+#[cfg(test)]
 mod deliveries;
 #[cfg(test)]
 mod discards;
@@ -22,7 +24,11 @@ mod fixtures;
 #[cfg(test)]
 mod histories;
 #[cfg(test)]
+mod in_place;
+#[cfg(test)]
 mod laws;
+#[cfg(test)]
+mod loan_commands;
 #[cfg(test)]
 mod loans;
 #[cfg(test)]

@@ -1,0 +1,66 @@
+//! Values that are lent or sent at once.
+use crate::fixtures::{Reading, Station, receiver_count, settings};
+use iox2_pubsub::{Domain, LoanError, SendError};
+use iox2_store::ServiceConfig;
+
+#[test]
+fn a_value_is_sent_and_received(rt: HostRuntime) {
+    let config = ServiceConfig {
+        node_id: 9,
+        ..settings()
+    };
+    let mut domain: Domain<Reading, Station> = Domain::new(rt.alloc(), config).expect(
+        &rt, "a domain",
+    );
+    let factory = domain.subscriber_builder();
+    let subscriber = factory.create(&mut domain).expect(&rt, "a subscriber");
+    let factory = domain.publisher_builder();
+    let publisher = factory.create(&mut domain).expect(&rt, "a publisher");
+    let ids = [subscriber.id().value(), publisher.id().value()];
+    let sent = publisher.send_copy(&mut domain, Reading { celsius: 4 });
+    publisher.disown();
+    let received = subscriber.receive(&mut domain).expect(&rt, "an answer");
+    let sample = received.expect(&rt, "a sample");
+    subscriber.disown();
+    let celsius = sample.payload(&domain).celsius;
+    let header = *sample.header(&domain);
+    let origin = sample.origin().value();
+    let station = sample.user_header(&domain).number;
+    sample.disown();
+    drop(domain);
+    assert!(rt; ids == [1, 2]);
+    assert!(rt; sent.map(receiver_count) == Ok(1));
+    assert!(rt; [celsius, header.number_of_elements()] == [4, 1]);
+    assert!(rt; [origin, header.publisher_id.value(), header.node_id.value()] == [2, 2, 9]);
+    assert!(rt; station == 0);
+}
+
+#[test]
+fn a_default_value_is_lent_and_sent(rt: HostRuntime) {
+    let mut domain: Domain<Station, Station> = Domain::new(rt.alloc(), settings()).expect(
+        &rt, "a domain",
+    );
+    let factory = domain.publisher_builder().max_loaned_samples(1);
+    let publisher = factory.create(&mut domain).expect(&rt, "a publisher");
+    let message = publisher.loan(&mut domain).expect(&rt, "a loan");
+    let numbers = [
+        message.payload(&domain).number,
+        message.user_header(&domain).number,
+    ];
+    let refused = match publisher.loan(&mut domain) {
+        Ok(second) => {
+            second.disown();
+            None
+        }
+        Err(error) => Some(error),
+    };
+    let unsent = publisher.send_copy(&mut domain, Station { number: 3 });
+    publisher.disown();
+    let sent = message.send(&mut domain);
+    drop(domain);
+    assert!(rt; numbers == [0, 0]);
+    assert!(rt; refused == Some(LoanError::ExceedsMaxLoans));
+    let refusal = SendError::LoanError(LoanError::ExceedsMaxLoans);
+    assert!(rt; unsent.map(receiver_count) == Err(refusal));
+    assert!(rt; sent.map(receiver_count) == Ok(0));
+}
