@@ -15,9 +15,7 @@ mod reclaims;
 mod sample_reads;
 mod sends;
 
-pub use contents::{
-    cell_at_mut, cells_at_mut, user_header_at_mut, value_at_mut, values_at_mut,
-};
+pub use contents::{cell_at_mut, cells_at_mut, user_header_at_mut, value_at_mut, values_at_mut};
 pub use discards::discard_loan;
 pub use loan_calls::{
     assume_loan, loan_cell, loan_cells, loan_header, loan_user_header, loan_value, loan_values,

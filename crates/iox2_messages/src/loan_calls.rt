@@ -129,10 +129,7 @@ pub fn write_loan_from_slice<T: Copy + Drop, U: Default + Drop>(
 
 /// Takes a publisher's unwritten loan as written, where each of its cells is, and returns whether it
 /// did. Nothing changes where some cell isn't written.
-pub fn assume_loan<T: Drop, U: Default + Drop>(
-    state: &mut DomainState<T, U>,
-    loan: &LoanAt,
-) -> bool
+pub fn assume_loan<T: Drop, U: Default + Drop>(state: &mut DomainState<T, U>, loan: &LoanAt) -> bool
     requires agrees { IsDomain state.old }
     requires live { HoldsUnwritten (state_of (kept_of state.old)) loan.now.publisher loan.now.number }
     ensures { AssumesLoan state.old state.new loan.now.number result }

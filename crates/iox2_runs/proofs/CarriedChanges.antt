@@ -34,7 +34,6 @@ past_one : (i : ℕ) → nat_lt (suc i) 1 ≡ false
 past_one i = grind arith
 
 module _ {T U : Type 0} (defaults : Defaults T U) (old new : Domain T U) (table table' : List Made) (of : ℕ) where
-
   -- ---- a cell is written
 
   cell_at : (m : Messages T U) (s : State T U) (handles : List Handle) (default_value : T) (default_header : U) (at n : ℕ) (l : Loan T U) (cell : Option T) (value : T)

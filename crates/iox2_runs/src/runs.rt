@@ -82,11 +82,12 @@ fn carry_out<
         Command::WriteAll { of, value } => {
             (loans::write_all(domain, table, of, value), Made::Nothing)
         }
-        Command::AssumeInit { of } => {
-            (changes::assume_init(domain, table, of), Made::Nothing)
-        }
+        Command::AssumeInit { of } => { (changes::assume_init(domain, table, of), Made::Nothing) }
         Command::WriteHeader { of, value } => {
-            (changes::write_header(domain, table, of, value), Made::Nothing)
+            (
+                changes::write_header(domain, table, of, value),
+                Made::Nothing,
+            )
         }
         Command::SetPayload { of, at, value } => (
             changes::set_payload(domain, table, of, at, value),

@@ -96,10 +96,7 @@ fn cells_are_taken_only_once_each_is_written(rt: HostRuntime) {
     ];
     contents.cells_mut(0)[0] = Some(Reading { celsius: 20 });
     let is_written_later = contents.assume_init(0);
-    let values = [
-        contents.values(0)[0].celsius,
-        contents.values(0)[1].celsius,
-    ];
+    let values = [contents.values(0)[0].celsius, contents.values(0)[1].celsius];
     drop(contents);
     assert!(rt; !is_written && kept == [true, true] && is_written_later && values == [20, 21]);
 }
@@ -112,7 +109,11 @@ fn a_slice_is_written_from_a_function_in_order(rt: HostRuntime) {
     contents.start(0, 12);
     contents.write_from_fn(0, |index| index as u64 * 1234);
     contents.values_mut(0)[0] = 42;
-    let values = [contents.values(0)[0], contents.values(0)[1], contents.values(0)[11]];
+    let values = [
+        contents.values(0)[0],
+        contents.values(0)[1],
+        contents.values(0)[11],
+    ];
     contents.start(0, 3);
     contents.write_from_slice(0, &[1, 2, 3]);
     let copied = [contents.values(0)[0], contents.values(0)[2]];

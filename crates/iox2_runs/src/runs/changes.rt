@@ -12,12 +12,7 @@ use iox2_pubsub::{Domain, SampleMut, SampleMutUninit};
 use iox2_store::{BackpressureFn, DegradationFn};
 
 /// Writes a cell of the unwritten loan that the command at the position made.
-pub(crate) fn write_cell<
-    T: Default + Drop,
-    U: Default + Drop,
-    F: BackpressureFn,
-    G: DegradationFn,
->(
+pub(crate) fn write_cell<T: Default + Drop, U: Default + Drop, F: BackpressureFn, G: DegradationFn>(
     domain: &mut Domain<T, U, F, G>,
     table: &mut Vec<Made>,
     of: usize,
@@ -91,12 +86,7 @@ pub(crate) fn write_header<
     U: Default + Drop,
     F: BackpressureFn,
     G: DegradationFn,
->(
-    domain: &mut Domain<T, U, F, G>,
-    table: &mut Vec<Made>,
-    of: usize,
-    value: U,
-) -> Reply<T, U>
+>(domain: &mut Domain<T, U, F, G>, table: &mut Vec<Made>, of: usize, value: U) -> Reply<T, U>
     requires { IsLiveTable domain.old table.old.items }
     ensures carries { Carries fixed_handlers (defaults_of T.is_default U.is_default) domain.old domain.new table.old.items (WriteHeader of value) result table.new.items Nothing }
     ensures leaves { Leaves domain.old domain.new table.old.items table.new.items Nothing }
@@ -126,11 +116,7 @@ pub(crate) fn assume_init<
     U: Default + Drop,
     F: BackpressureFn,
     G: DegradationFn,
->(
-    domain: &mut Domain<T, U, F, G>,
-    table: &mut Vec<Made>,
-    of: usize,
-) -> Reply<T, U>
+>(domain: &mut Domain<T, U, F, G>, table: &mut Vec<Made>, of: usize) -> Reply<T, U>
     requires { IsLiveTable domain.old table.old.items }
     ensures carries { Carries fixed_handlers (defaults_of T.is_default U.is_default) domain.old domain.new table.old.items (AssumeInit of) result table.new.items Nothing }
     ensures leaves { Leaves domain.old domain.new table.old.items table.new.items Nothing }

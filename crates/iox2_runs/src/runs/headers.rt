@@ -10,11 +10,12 @@ use iox2_pubsub::Domain;
 use iox2_store::{BackpressureFn, DegradationFn};
 
 /// Reads the header of the sample or the loan that the command at the position made.
-pub(crate) fn read_header<T: Default + Drop, U: Default + Drop, F: BackpressureFn, G: DegradationFn>(
-    domain: &Domain<T, U, F, G>,
-    table: &[Made],
-    of: usize,
-) -> Reply<T, U>
+pub(crate) fn read_header<
+    T: Default + Drop,
+    U: Default + Drop,
+    F: BackpressureFn,
+    G: DegradationFn,
+>(domain: &Domain<T, U, F, G>, table: &[Made], of: usize) -> Reply<T, U>
     requires { IsLiveTable domain.now table.now }
     ensures { Carries fixed_handlers (defaults_of T.is_default U.is_default) domain.now domain.now table.now (ReadHeader of) result table.now Nothing }
 {

@@ -18,11 +18,10 @@ write_from_fn-requires-clause-in_lists g c =
     c.contents_mut.result.now c.contents_mut.ensures.value c.requires.live c.requires.several
 
 pub returns-clause-writes : goal.returns-clause-writes
-returns-clause-writes g c =
-    (
-      c.write_from_fn.ensures.0,
-      c.write_from_fn.ensures.1,
-      many-written {T = g.row.T.Denot} {U = g.row.U.Denot} c.args.state.now c.requires.agrees c.args.loan.publisher c.args.loan.number c.find_live_loan-at.result.book c.find_live_loan-at.result.slot c.find_live_loan-at.ensures
-    c.mark_written.new.state (c.mark_written.ensures (c.find_live_loan-at.ensures).book (c.find_live_loan-at.ensures).stands)
-    c.contents_mut.result.now c.contents_mut.ensures.value c.requires.live c.write_from_fn.ensures.0 c.write_from_fn.new.self c.write_from_fn.ensures.2,
-    )
+returns-clause-writes g c = (
+  c.write_from_fn.ensures.0,
+  c.write_from_fn.ensures.1,
+  many-written {T = g.row.T.Denot} {U = g.row.U.Denot} c.args.state.now c.requires.agrees c.args.loan.publisher c.args.loan.number c.find_live_loan-at.result.book c.find_live_loan-at.result.slot c.find_live_loan-at.ensures
+      c.mark_written.new.state (c.mark_written.ensures (c.find_live_loan-at.ensures).book (c.find_live_loan-at.ensures).stands)
+      c.contents_mut.result.now c.contents_mut.ensures.value c.requires.live c.write_from_fn.ensures.0 c.write_from_fn.new.self c.write_from_fn.ensures.2,
+)
