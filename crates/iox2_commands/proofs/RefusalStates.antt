@@ -1,12 +1,12 @@
 -- Publishers that have their memory from the start go on having it.
-use Rattle.std.proofs.Common.{◌≡◌, ℕ, Bool, true, false, List, [], ◌∷◌, ◌++◌, cond, refl, sym, ap, subst, ◌∙◌, Option, None, Some, eqb}
-use Rattle.std.specs.Prelude.{nat_lt, MatchOption}
+use Rattle.std.proofs.Common.{◌≡◌, ℕ, Bool, true, false, [], ◌∷◌, ◌++◌, cond, sym, subst, ◌∙◌, Option, None, Some, eqb}
+use Rattle.std.specs.Prelude.{nat_lt}
 use Rattle.std.specs.Option.{option_map}
 use Rattle.std.proofs.lemmas.Bool.{true≢false}
 use Rattle.iox2_store.specs.machine.Limits.{buffer_limit, last_number}
 use Rattle.iox2_store.specs.machine.Numbers.{put_at, size, without, last_n}
 use Rattle.iox2_store.specs.machine.Places.{free_place}
-use Rattle.iox2_store.specs.machine.Records.{Loan, Publisher, Subscriber, Environment, PublisherSettings, SubscriberSettings, BlockedSend}
+use Rattle.iox2_store.specs.machine.Records.{Loan, Publisher, Subscriber, Environment, PublisherSettings, SubscriberSettings}
 use Rattle.iox2_store.specs.machine.State.{State, held, with_loan, publisher_changed}
 use Rattle.iox2_store.specs.machine.Delivery.{DeliveryEnd, Complete, Suspended}
 use Rattle.iox2_store.specs.machine.PublisherUpdate.{UpdatePublisher}

@@ -1,5 +1,5 @@
 -- A subscriber enters a domain.
-use Rattle.std.specs.Prelude.{ℕ, cond, nat_lt, List, ◌==◌, ◌≡◌, slice_index_or}
+use Rattle.std.specs.Prelude.{ℕ, cond, nat_lt, ◌==◌, ◌≡◌, slice_index_or}
 use Rattle.std.specs.declared.option.Option.{Option}
 use Rattle.std.specs.declared.option.Option.TheVariants.{None, Some}
 use Rattle.std.specs.declared.result.Result.{Result}
