@@ -1,5 +1,5 @@
 -- A subscriber that went over its connections is closed.
-use Rattle.std.proofs.Common.{◌≡◌, ℕ, ◌<◌, ◌≤◌, Bool, true, false, not, List, [], map, eqb, get_or, refl, ap, sym, subst, ◌∙◌, inl, inr, ◌⊎◌, arith}
+use Rattle.std.proofs.Common.{◌≡◌, ℕ, ◌<◌, Bool, true, false, not, List, [], map, eqb, get_or, refl, ap, sym, subst, ◌∙◌, inl, inr, ◌⊎◌, arith}
 use Rattle.std.proofs.lemmas.Bool.{cases_eq, eqb-true}
 use Rattle.std.proofs.lemmas.Option.{same_Some}
 use Rattle.std.specs.declared.option.Option.{Option}
@@ -43,8 +43,7 @@ use Rattle.iox2_domain.proofs.lemmas.fields.Parts.{whole_of}
 use Rattle.iox2_domain.proofs.lemmas.releases.Leaving.{FreesMidway}
 use Rattle.iox2_closes.specs.Agreement.{IsOrphan, HasOwnedParts, KeepsMessages}
 use Rattle.iox2_closes.specs.Closes.{IsDeparted, is_empty_link}
-use Rattle.iox2_closes.proofs.OwnedParts.{owned_parts_of}
-use Rattle.iox2_closes.proofs.ClosedSubscribers.{due-parts}
+use Rattle.iox2_closes.proofs.OwnedParts.{owned_parts_of, due-parts}
 use Rattle.iox2_closes.proofs.KeptMessages.{keeps-trans, keeps-entries, keeps-complete}
 use Rattle.iox2_closes.proofs.Sheds.{sheds-closed}
 use Rattle.iox2_closes.proofs.CloseSteps.{sender-stands, receiver-stands, box-numbers, link-empty, nothing-returned}

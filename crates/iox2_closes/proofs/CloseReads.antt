@@ -1,5 +1,5 @@
 -- The steps of a close, as they read the fields.
-use Rattle.std.proofs.Common.{◌≡◌, ◌≢◌, ℕ, zero, suc, ◌+◌, ◌<◌, ◌≤◌, ◌⊎◌, ◌&&◌, Bool, true, false, List, map, length, get_or, slice_set, refl, ap, sym, subst, ◌∙◌, inl, inr, arith}
+use Rattle.std.proofs.Common.{◌≡◌, ◌≢◌, ℕ, zero, suc, ◌<◌, ◌≤◌, ◌⊎◌, ◌&&◌, Bool, true, false, List, map, length, get_or, slice_set, refl, ap, sym, subst, ◌∙◌, inl, inr, arith}
 use Rattle.std.proofs.lemmas.List.{length-map}
 use Rattle.std.specs.Prelude.{IsSomeAnd, IsSome}
 use Rattle.std.specs.declared.option.Option.{Option}
@@ -20,7 +20,7 @@ use Rattle.iox2_domain.specs.LeftBooks.{CanGo, SettlesBook}
 use Rattle.iox2_domain.specs.Updates.{changed_at}
 use Rattle.iox2_domain.proofs.lemmas.containers.LookUps.{map-at}
 use Rattle.iox2_domain.proofs.lemmas.releases.BookFreed.{contents-within, unused-book}
-use Rattle.iox2_domain.proofs.lemmas.releases.OrphanRemoved.{no-length}
+use Rattle.iox2_domain.proofs.lemmas.fields.LostConnections.{no-length}
 use Rattle.iox2_domain.proofs.lemmas.containers.ChangedRecords.{changed-here}
 use Rattle.iox2_domain.proofs.lemmas.creations.PublishersDue.{with_publishers_due}
 use Rattle.iox2_domain.proofs.lemmas.fields.Standing.{some_is}

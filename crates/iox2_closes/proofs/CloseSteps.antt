@@ -33,11 +33,13 @@ use Rattle.iox2_domain.specs.Updates.{changed_at}
 use Rattle.iox2_domain.proofs.lemmas.containers.LookUps.{look_up-map}
 use Rattle.iox2_domain.proofs.lemmas.containers.ChangedRecords.{changed-here}
 use Rattle.iox2_domain.proofs.lemmas.fields.Views.{mailboxes-are}
+use Rattle.iox2_domain.proofs.lemmas.fields.LostConnections.{IsEmptyLink}
 use Rattle.iox2_domain.proofs.lemmas.fields.Standing.{some_is}
+use Rattle.iox2_domain.proofs.lemmas.releases.Forgotten.{forgetting}
 use Rattle.iox2_domain.proofs.lemmas.slots.BookChanges.{book-others}
 use Rattle.iox2_closes.specs.Agreement.{IsOrphan, HasOwnedParts}
-use Rattle.iox2_closes.specs.Closes.{IsEmptyLink, IsDeparted, IsBusy, LosesWaiting, FreesBook, ForgetsIfEmpty, is_empty_link, lost_from, forgotten_if_empty, without_publisher}
-use Rattle.iox2_closes.proofs.ClosedSubscribers.{with_forgetful, forgetful-parts, forgetful-is}
+use Rattle.iox2_closes.specs.Closes.{IsDeparted, IsBusy, LosesWaiting, FreesBook, ForgetsIfEmpty, is_empty_link, lost_from, forgotten_if_empty, without_publisher}
+use Rattle.iox2_closes.proofs.ClosedSubscribers.{forgetful-parts, forgetful-is}
 use Rattle.iox2_closes.proofs.KeptMessages.{keeps-same, keeps-trans}
 use Rattle.iox2_closes.proofs.LeftRecounts.{with_fewer, fewer-parts, fewer-is, fewer-keeps}
 use mathlib.Core.Path.{fun_ext}
@@ -236,7 +238,7 @@ module _ {T U : Type 0} (f : Fields T U) (parts : HasOwnedParts f) where
           forgot = record f { subscribers = changed_at (key_forgotten key) f.subscribers place; connections = connections }
 
           abbrev forgot_it : Fields T U
-          forgot_it = with_forgetful f parts place y at_y key c at its empty unsent connections removed
+          forgot_it = forgetting f parts.parts place y at_y key c at its empty unsent connections removed
 
           forgot-is : forgot_it ≡ forgot
           forgot-is = λ i. record f { subscribers = slice_set f.subscribers place (option_map (key_forgotten key) (sym at_y i)); connections = connections }

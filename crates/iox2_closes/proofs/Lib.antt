@@ -1,6 +1,4 @@
 pub mod OwnedParts
-pub mod ForgottenKeys
-pub mod ForgottenStates
 pub mod ClosedSubscribers
 pub mod KeptMessages
 pub mod LeftRecounts

@@ -1,5 +1,5 @@
 -- The steps of a close.
-use Rattle.std.specs.Prelude.{◌≡◌, ◌≢◌, ◌⊎◌, ◌<◌, ◌&&◌, ℕ, Bool, false, cond, List, [], slice_index_or, IsSomeAnd}
+use Rattle.std.specs.Prelude.{◌≡◌, ◌≢◌, ◌⊎◌, ◌<◌, ◌&&◌, ℕ, Bool, false, cond, List, slice_index_or, IsSomeAnd}
 use Rattle.std.specs.declared.option.Option.{Option}
 use Rattle.std.specs.declared.option.Option.TheVariants.{None, Some}
 use Rattle.slab.specs.Slab.{get, Updates}
@@ -39,12 +39,6 @@ IsStanding publishers home = IsSomeAnd (slice_index_or publishers home.publisher
 -- The publisher of the connection stands nowhere.
 abbrev pub IsDeparted : List (Option PublisherFields) → Link → Type 0
 IsDeparted publishers c = (i : ℕ) (x : PublisherFields) → slice_index_or publishers i None ≡ Some x → x.id ≢ c.home.publisher
-
--- No slot stands in the connection.
-pub record IsEmptyLink (c : Link) : Type 0 where
-  pub waiting : c.waiting ≡ []
-  pub borrowed : c.borrowed ≡ []
-  pub returned : c.returned ≡ []
 
 -- No slot waits there, and none is borrowed.
 abbrev pub is_empty_link : Link → Bool

@@ -1,8 +1,8 @@
 -- An independent state stays independent.
-use Rattle.std.proofs.Common.{◌≡◌, ℕ, Bool, true, false, not, List, [], ◌∷◌, ◌++◌, refl, sym, ap, subst, ◌∙◌, Option, None, Some, is_none, eqb}
-use Rattle.std.specs.Prelude.{nat_lt}
+use Rattle.std.proofs.Common.{◌≡◌, ⊎_elim, ℕ, Bool, true, false, cond, not, List, [], ◌∷◌, ◌++◌, refl, sym, ap, subst, ◌∙◌, Option, None, Some, is_none, eqb}
+use Rattle.std.specs.Prelude.{◌≢◌, nat_lt}
 use Rattle.std.specs.Option.{option_map}
-use Rattle.std.proofs.lemmas.Bool.{true≢false}
+use Rattle.std.proofs.lemmas.Bool.{true≢false, cases_eq}
 use Rattle.iox2_store.specs.machine.Limits.{worst_case, buffer_limit, last_number}
 use Rattle.iox2_store.specs.machine.Places.{free_place}
 use Rattle.iox2_store.specs.machine.Numbers.{put_at, size, without, last_n}
@@ -14,7 +14,7 @@ use Rattle.iox2_store.specs.machine.Loans.{GrantLoan, is_static, limit_error, lo
 use Rattle.iox2_store.specs.machine.SingleCalls.{GrantWrittenLoan}
 use Rattle.iox2_store.specs.machine.Sends.{Send, SendResult, Publish}
 use Rattle.iox2_store.specs.machine.Receives.{Receive, TakeSample, ReceiveResult, Got_sample, No_sample, Receive_error}
-use Rattle.iox2_store.specs.machine.Releases.{released, pruned, unborrowed}
+use Rattle.iox2_store.specs.machine.Releases.{released, pruned, unborrowed, subscriber_pruned, is_unused, place_freed, freed_if_unused}
 use Rattle.iox2_store.specs.machine.Ports.{new_publisher, new_subscriber, with_new_publisher, with_new_subscriber, with_failure_warning, MakePublisher, CreatePublisher, MakeSubscriber, CreateSubscriber, first_segment_fits, buffer_for, slots_for, publisher_gone, publisher_closed, subscribers_pruned, subscriber_shut, subscriber_closed}
 use Rattle.iox2_store.specs.declared.service_config.ServiceConfig.{ServiceConfig}
 use Rattle.iox2_store.specs.declared.warning.Warning.{Warning}
@@ -30,7 +30,7 @@ use Rattle.iox2_commands.specs.Isolation.{IsIndependentPublisher, HasBorrowedNot
 use Rattle.iox2_commands.proofs.AlikeViews.{View, view_of}
 use Rattle.iox2_commands.proofs.AlikeCloses.{before_going, closed_at_once}
 use Rattle.iox2_commands.proofs.AlikeSends.{delivered_view, published_view, publish_is}
-use Rattle.iox2_commands.proofs.ApartSteps.{AllOpen, changed_open, released_is}
+use Rattle.iox2_commands.proofs.ApartSteps.{AllOpen, changed_open}
 
 -- a change of what independence doesn't look at leaves a publisher independent
 independent_changed : (c : ServiceConfig) (x x' : Publisher) → x'.allocation_strategy ≡ x.allocation_strategy → x'.slots ≡ x.slots
@@ -73,19 +73,19 @@ pub record AreIndependentSettings (c : ServiceConfig) (given : PublisherSettings
   pub slots : slots_for c given ≡ worst_case c given.max_loaned_samples
   pub never_waits : never_waits c given.backpressure_strategy (not (is_none given.backpressure_handler)) ≡ true
 
-module _ {T U : Type 0} where
-  -- Publishers are independent, and subscribers open.
+module _ {T U : Type 0} (q : ℕ) where
+  -- Publishers are independent, and subscribers but q open.
   pub record StaysOpen (s : State T U) : Type 0 where
     pub publishers : AllIndependent s.config s.publishers
-    pub all_open : AllOpen s
+    pub all_open : AllOpen q s
 
   -- each subscriber is changed and stays open
-  each_open : (s : State T U) (g : ℕ → Subscriber → Subscriber) → ((r : ℕ) (y : Subscriber) → (g r y).is_open ≡ y.is_open) → AllOpen s
-      → AllOpen (record s { subscribers = λ r. option_map {T = Subscriber} (g r) (s.subscribers r) })
-  each_open s g same all r z e = found_mapped (g r) (s.subscribers r) z (z.is_open ≡ true) e (λ y f h. ap (λ (v : Subscriber). v.is_open) h ∙ same r y ∙ all r y f)
+  each_open : (s : State T U) (g : ℕ → Subscriber → Subscriber) → ((r : ℕ) (y : Subscriber) → (g r y).is_open ≡ y.is_open) → AllOpen q s
+      → AllOpen q (record s { subscribers = λ r. option_map {T = Subscriber} (g r) (s.subscribers r) })
+  each_open s g same all r z apart e = found_mapped (g r) (s.subscribers r) z (z.is_open ≡ true) e (λ y f h. ap (λ (v : Subscriber). v.is_open) h ∙ same r y ∙ all r y apart f)
 
-  put_open : (s : State T U) (r : ℕ) (y : Subscriber) → y.is_open ≡ true → AllOpen s → AllOpen (record s { subscribers = put_at s.subscribers r (Some y) })
-  put_open s r y new all i z e = found_put s.subscribers r y (λ _ v. v.is_open ≡ true) i z e (λ _. new) (λ _ f. all i z f)
+  put_open : (s : State T U) (r : ℕ) (y : Subscriber) → (r ≢ q → y.is_open ≡ true) → AllOpen q s → AllOpen q (record s { subscribers = put_at s.subscribers r (Some y) })
+  put_open s r y new all i z apart e = found_put s.subscribers r y (λ k v. k ≢ q → v.is_open ≡ true) i z e (λ _. new) (λ _ f apart. all i z apart f) apart
 
   -- ---- updates
 
@@ -108,7 +108,7 @@ module _ {T U : Type 0} where
       by_bool (StaysOpen s') y.is_due _ _ h
       (λ _ h. subst StaysOpen (sym h.2) (record {
         publishers = k.publishers;
-        all_open = put_open s r (record y { ends = (h.0).ends; expired = (h.0).expired; is_due = (h.0).is_due }) (k.all_open r y e) k.all_open;
+        all_open = put_open s r (record y { ends = (h.0).ends; expired = (h.0).expired; is_due = (h.0).is_due }) (λ apart. k.all_open r y apart e) k.all_open;
       }))
       (λ _ h. subst StaysOpen (sym h.0) k))
 
@@ -125,12 +125,23 @@ module _ {T U : Type 0} where
       (λ _ j. by_option (StaysOpen s') ((h.0).subscribers r) _ _ j (λ _ v. absurd v) (λ y _ j. take_open h.0 s' r y result j mid))
       (λ f _ j. subst StaysOpen (sym j.0) mid)
 
+  -- what is left where a closed subscriber goes, if it has to
+  freed_open : (s : State T U) (r : ℕ) → StaysOpen s → StaysOpen (freed_if_unused s r)
+  freed_open s r k =
+      elim (is_unused s r) as (λ b. StaysOpen (cond b (place_freed s r) s)) [
+        | true ↦ record {
+          publishers = each_independent s.config s.publishers (λ x. record x { is_due = true }) k.publishers (λ x. independent_changed s.config x _ refl refl refl refl refl refl);
+          all_open = λ i z apart e. found_removed s.subscribers r i z (z.is_open ≡ true) e (λ _ f. k.all_open i z apart f);
+        }
+        | false ↦ k
+      ]
+
+  pruned_open : (s : State T U) (r : ℕ) → StaysOpen s → StaysOpen (subscriber_pruned s r)
+  pruned_open s r k = record { publishers = k.publishers; all_open = changed_open q s r (pruned s r) (λ y. refl) k.all_open }
+
   -- a release
   pub released_open : (s : State T U) (p r n : ℕ) → StaysOpen s → StaysOpen (released s p r n)
-  released_open s p r n k = subst StaysOpen (sym (released_is s p r n k.all_open)) (record {
-    publishers = k.publishers;
-    all_open = changed_open (unborrowed s p r n) r (pruned (unborrowed s p r n) r) (λ y. refl) k.all_open;
-  })
+  released_open s p r n k = freed_open (subscriber_pruned (unborrowed s p r n) r) r (pruned_open (unborrowed s p r n) r (record { publishers = k.publishers; all_open = k.all_open }))
 
   -- ---- loans
 
@@ -176,14 +187,14 @@ module _ {T U : Type 0} where
   publish_open : (s s' : State T U) (p n : ℕ) (x : Publisher) (result : SendResult) → s.publishers p ≡ Some x → Publish ample_memory s p n s' result → StaysOpen s
       → StaysOpen s'
   publish_open s s' p n x result e h k =
-      let seen : (q : ℕ) → view_of q s' ≡ delivered_view q p n x.ends (published_view q p n (view_of q s)) = λ q. (publish_is q s s' p n x result e (k.publishers p x e).never_waits h).2 in
+      let seen : (r : ℕ) → view_of r s' ≡ delivered_view r p n x.ends (published_view r p n (view_of r s)) = λ r. (publish_is r s s' p n x result e (k.publishers p x e).never_waits h).2 in
       let independent : AllIndependent s.config (delivered_view 0 p n x.ends (published_view 0 p n (view_of 0 s))).publishers =
       map_independent s.config (published_view 0 p n (view_of 0 s)).publishers p (λ x. record x { loans = without n x.loans; blocked = None })
       (map_independent s.config s.publishers p (λ x. record x { history = last_n (s.config).history_size (x.history ++ n ∷ []) }) k.publishers (λ x. independent_changed s.config x _ refl refl refl refl refl refl))
       (λ x c. independent_changed s.config x _ refl refl refl (sym c.unblocked) refl refl c) in
       record {
         publishers = subst (λ (v : View T U). AllIndependent v.config v.publishers) (sym (seen 0)) independent;
-        all_open = λ r y f. k.all_open r y (sym (ap (λ (v : View T U). v.own) (seen r)) ∙ f);
+        all_open = λ r y apart f. k.all_open r y apart (sym (ap (λ (v : View T U). v.own) (seen r)) ∙ f);
       }
 
   -- a send
@@ -237,7 +248,7 @@ module _ {T U : Type 0} where
       new : (place : ℕ) → StaysOpen (with_new_subscriber s given place)
       new place = record {
         publishers = each_independent s.config s.publishers (λ x. record x { is_due = true }) k.publishers (λ x. independent_changed s.config x _ refl refl refl refl refl refl);
-        all_open = put_open s s.next_port (new_subscriber given place) refl k.all_open;
+        all_open = put_open s s.next_port (new_subscriber given place) (λ _. refl) k.all_open;
       }
 
       make : (refusal : Option SubscriberCreateError) (place : ℕ) → MakeSubscriber ample_memory s given place s' refusal → StaysOpen s'
@@ -252,15 +263,31 @@ module _ {T U : Type 0} where
         (each_open (publisher_gone s p x) (pruned (publisher_gone s p x)) (λ r y. refl) k.all_open);
   }
 
-  -- a subscriber that is closed and has borrowed nothing
-  pub subscriber_closed_open : (s : State T U) (r : ℕ) (y : Subscriber) → HasBorrowedNothing s r → StaysOpen s → StaysOpen (subscriber_closed s r y)
+  -- q is closed
+  own_closed_open : (s : State T U) (y : Subscriber) → StaysOpen s → StaysOpen (subscriber_closed s q y)
+  own_closed_open s y k =
+      freed_open (subscriber_pruned (subscriber_shut s q y) q) q (pruned_open (subscriber_shut s q y) q (record {
+        publishers = each_independent s.config s.publishers (λ x. record x { is_due = true }) k.publishers (λ x. independent_changed s.config x _ refl refl refl refl refl refl);
+        all_open = put_open s q (record y { is_open = false }) (λ apart. absurd (apart refl)) k.all_open;
+      }))
+
+  -- a subscriber that is closed, and has borrowed nothing where it isn't q
+  pub subscriber_closed_open : (s : State T U) (r : ℕ) (y : Subscriber) → (r ≢ q → HasBorrowedNothing s r) → StaysOpen s → StaysOpen (subscriber_closed s r y)
   subscriber_closed_open s r y nothing k =
-      let due : Publisher → Publisher = λ (x : Publisher). record x { is_due = true } in
-      subst StaysOpen (sym (closed_at_once s r y nothing)) (record {
+      ⊎_elim
+      (λ same. subst (λ i. StaysOpen (subscriber_closed s i y)) (sym same) (own_closed_open s y k))
+      (λ apart. at_once (nothing apart))
+      (cases_eq r q)
+    where
+      due : Publisher → Publisher
+      due x = record x { is_due = true }
+
+      at_once : HasBorrowedNothing s r → StaysOpen (subscriber_closed s r y)
+      at_once nothing = subst StaysOpen (sym (closed_at_once s r y nothing)) (record {
         publishers = each_independent s.config (λ p. option_map due (s.publishers p)) due
             (each_independent s.config s.publishers due k.publishers (λ x. independent_changed s.config x _ refl refl refl refl refl refl))
             (λ x. independent_changed s.config x _ refl refl refl refl refl refl);
-        all_open = λ i z e. found_removed (before_going s r y).subscribers r i z (z.is_open ≡ true) e
-            (λ apart f. k.all_open i z
+        all_open = λ i z other e. found_removed (before_going s r y).subscribers r i z (z.is_open ≡ true) e
+            (λ apart f. k.all_open i z other
             (sym (put_at-other (subscriber_shut s r y).subscribers r _ i apart ∙ put_at-other s.subscribers r (Some (record y { is_open = false })) i apart) ∙ f));
       })

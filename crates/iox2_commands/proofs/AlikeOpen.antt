@@ -1,6 +1,6 @@
--- One command keeps publishers independent and subscribers open.
+-- One command keeps publishers independent, and subscribers open but for the one looked at.
 use Rattle.std.proofs.Common.{◌≡◌, ℕ, Bool, true, false, cond, ◌&&◌, List, refl, sym, ap, subst, ◌∙◌, Option, None, Some, is_none, eqb}
-use Rattle.std.specs.Prelude.{slice_get, not}
+use Rattle.std.specs.Prelude.{◌≢◌, slice_get, not}
 use Rattle.std.specs.Option.{MatchOption, option_map}
 use Rattle.std.proofs.lemmas.Bool.{eqb-true, true≢false}
 use Rattle.iox2_store.specs.machine.Limits.{worst_case}
@@ -97,93 +97,93 @@ module _ {T U : Type 0} where
   state_send s' p n entry (Send_error (ConnectionError e)) = refl
   state_send s' p n entry (Send_error InternalError) = refl
 
-  module _ (default_value : T) (default_header : U) (m : Messages T U) (s : State T U) (handles : List Handle) (independent : IsIndependent s) where
+  module _ (q : ℕ) (default_value : T) (default_header : U) (m : Messages T U) (s : State T U) (handles : List Handle) (independent : IsIndependent q s) where
     abbrev Steps : Command T U → Outcome T U → Type 0
     Steps = Step ample_memory default_value default_header m s handles
 
-    kept : StaysOpen s
-    kept = open_of s independent
+    kept : StaysOpen q s
+    kept = open_of q s independent
 
-    by : (o x : Outcome T U) (s' : State T U) → o ≡ x → x.state ≡ s' → StaysOpen s' → StaysOpen o.state
-    by o x s' e f k = subst StaysOpen (sym (ap (λ (v : Outcome T U). v.state) e ∙ f)) k
+    by : (o x : Outcome T U) (s' : State T U) → o ≡ x → x.state ≡ s' → StaysOpen q s' → StaysOpen q o.state
+    by o x s' e f k = subst (StaysOpen q) (sym (ap (λ (v : Outcome T U). v.state) e ∙ f)) k
 
     live : {A : Type 0} (o : Outcome T U) (named : Option A) (Then : A → Type 0) → MatchOption named (o ≡ skipped s) Then
-        → ((x : A) → named ≡ Some x → Then x → StaysOpen o.state) → StaysOpen o.state
-    live o named Then h go = by_option (StaysOpen o.state) named _ _ h (λ _ e. by o (skipped s) s e refl kept) go
+        → ((x : A) → named ≡ Some x → Then x → StaysOpen q o.state) → StaysOpen q o.state
+    live o named Then h go = by_option (StaysOpen q o.state) named _ _ h (λ _ e. by o (skipped s) s e refl kept) go
 
     loan_open : (checks_length : Bool) (len : ℕ) (named : Option (ℕ × Publisher)) (o : Outcome T U)
         → MatchOption (if_single_units s named) (o ≡ skipped s) (λ (publisher : ℕ × Publisher).
         (s' : State T U) × (refusal : Option LoanError) × GrantLoan ample_memory default_header checks_length len s publisher.0 s' refusal × (o ≡ after_loan s' s.next_message refusal))
-        → StaysOpen o.state
+        → StaysOpen q o.state
     loan_open checks_length len named o h = live o (if_single_units s named) _ h (λ publisher _ k.
-        by o _ k.0 k.3 (state_loan k.0 s.next_message k.1) (grant_loan_open default_header checks_length len s k.0 publisher.0 k.1 k.2 kept))
+        by o _ k.0 k.3 (state_loan k.0 s.next_message k.1) (grant_loan_open q default_header checks_length len s k.0 publisher.0 k.1 k.2 kept))
 
     -- The state after a command is independent, its well-formedness apart.
     pub step_open : (command : Command T U) (o : Outcome T U) → ((p : ℕ) → o.reply ≡ PublisherMade p → makes_independent_publisher s.config command ≡ true)
-        → ((of r : ℕ) → command ≡ Close of → slice_get handles of ≡ Some (Subscriber_handle r) → HasBorrowedNothing s r) → Steps command o → StaysOpen o.state
+        → ((of r : ℕ) → r ≢ q → command ≡ Close of → slice_get handles of ≡ Some (Subscriber_handle r) → HasBorrowedNothing s r) → Steps command o → StaysOpen q o.state
     step_open Nothing o makes closes h = by o (done s) s h refl kept
     step_open (PublisherCommand loans strategy allocation len override_slots degradation backpressure) o makes closes h =
-        by o _ h.0 h.3 (state_publisher h.0 s.next_port h.1) (create_publisher_open s h.0 _ h.1
+        by o _ h.0 h.3 (state_publisher h.0 s.next_port h.1) (create_publisher_open q s h.0 _ h.1
         (λ e. independent_settings s.config loans strategy allocation len override_slots degradation backpressure
         (makes s.next_port (ap (λ (v : Outcome T U). v.reply) h.3 ∙ ap (λ (v : Option PublisherCreateError). (after_publisher h.0 s.next_port v).reply) e)))
         h.2 kept)
     step_open (SubscriberCommand buffer degradation) o makes closes h =
-        by o _ h.0 h.3 (state_subscriber h.0 s.next_port h.1) (create_subscriber_open s h.0 _ h.1 h.2 kept)
+        by o _ h.0 h.3 (state_subscriber h.0 s.next_port h.1) (create_subscriber_open q s h.0 _ h.1 h.2 kept)
     step_open (LoanUninit of) o makes closes h = loan_open false 1 (if_fixed_size s (unblocked_at s handles of)) o h
     step_open (LoanDefault of) o makes closes h =
         live o (if_single_units s (if_fixed_size s (unblocked_at s handles of))) _ h (λ publisher _ k.
-        by o _ k.0 k.3 (state_loan k.0 s.next_message k.1) (grant_written_loan_open default_value default_header false 1 s k.0 publisher.0 k.1 k.2 kept))
+        by o _ k.0 k.3 (state_loan k.0 s.next_message k.1) (grant_written_loan_open q default_value default_header false 1 s k.0 publisher.0 k.1 k.2 kept))
     step_open (LoanSlice of len) o makes closes h = loan_open true len (if_dynamic s (unblocked_at s handles of)) o h
     step_open (WriteCell of at value) o makes closes h =
-        live o (with_cell_at at (unwritten_at s handles of)) _ h (λ loan _ k. by o _ _ k refl (with_loan_open s loan.0 _ kept))
+        live o (with_cell_at at (unwritten_at s handles of)) _ h (λ loan _ k. by o _ _ k refl (with_loan_open q s loan.0 _ kept))
     step_open (WriteAll of value) o makes closes h =
-        live o (unwritten_at s handles of) _ h (λ loan _ k. by o _ _ k refl (with_loan_open s loan.0 _ kept))
+        live o (unwritten_at s handles of) _ h (λ loan _ k. by o _ _ k refl (with_loan_open q s loan.0 _ kept))
     step_open (AssumeInit of) o makes closes h =
         live o (unwritten_at s handles of) _ h (λ loan _ k.
-        subst (λ (v : Outcome T U). StaysOpen v.state) (sym k)
-        (elim (is_initialized loan.1) as (λ c. StaysOpen (cond c (done (initialized s loan.0 loan.1)) (replied Unwritten s)).state) [ true ↦ with_loan_open s loan.0 _ kept | false ↦ kept ]))
+        subst (λ (v : Outcome T U). StaysOpen q v.state) (sym k)
+        (elim (is_initialized loan.1) as (λ c. StaysOpen q (cond c (done (initialized s loan.0 loan.1)) (replied Unwritten s)).state) [ true ↦ with_loan_open q s loan.0 _ kept | false ↦ kept ]))
     step_open (WriteHeader of value) o makes closes h =
-        live o (loan_at s handles of) _ h (λ loan _ k. by o _ _ k refl (with_loan_open s loan.0 _ kept))
+        live o (loan_at s handles of) _ h (λ loan _ k. by o _ _ k refl (with_loan_open q s loan.0 _ kept))
     step_open (SetPayload of at value) o makes closes h =
-        live o (with_cell_at at (written_at s handles of)) _ h (λ loan _ k. by o _ _ k refl (with_loan_open s loan.0 _ kept))
+        live o (with_cell_at at (written_at s handles of)) _ h (λ loan _ k. by o _ _ k refl (with_loan_open q s loan.0 _ kept))
     step_open (SendLoan of) o makes closes h =
-        live o (sendable_at s handles of) _ h (λ loan _ k. by o _ k.0 k.3 (state_send k.0 _ _ _ k.1) (send_open s k.0 loan.0 loan.1 k.1 k.2 kept))
+        live o (sendable_at s handles of) _ h (λ loan _ k. by o _ k.0 k.3 (state_send k.0 _ _ _ k.1) (send_open q s k.0 loan.0 loan.1 k.1 k.2 kept))
     step_open (SendCopy of value) o makes closes h =
         live o (if_single_units s (if_fixed_size s (unblocked_at s handles of))) _ h (λ publisher _ k.
-        let mid : StaysOpen k.0 = grant_written_loan_open value default_header false 1 s k.0 publisher.0 k.1 k.2 kept in
-        by_option (StaysOpen o.state) k.1 _ _ k.3
-        (λ _ j. by_option (StaysOpen o.state) ((k.0).loans s.next_message) _ _ j (λ _ v. absurd v) (λ loan _ j. by o _ j.0 j.3 (state_send j.0 _ _ _ j.1) (send_open k.0 j.0 s.next_message loan j.1 j.2 mid)))
+        let mid : StaysOpen q k.0 = grant_written_loan_open q value default_header false 1 s k.0 publisher.0 k.1 k.2 kept in
+        by_option (StaysOpen q o.state) k.1 _ _ k.3
+        (λ _ j. by_option (StaysOpen q o.state) ((k.0).loans s.next_message) _ _ j (λ _ v. absurd v) (λ loan _ j. by o _ j.0 j.3 (state_send j.0 _ _ _ j.1) (send_open q k.0 j.0 s.next_message loan j.1 j.2 mid)))
         (λ e _ j. by o _ k.0 j refl mid))
     step_open (Discard of) o makes closes h =
-        live o (loan_at s handles of) _ h (λ loan _ k. by o _ _ k refl (loan_discarded_open s loan.0 loan.1 kept))
-    step_open (Retry of elapsed) o makes closes h = live o (blocked_at s handles of) _ h (λ named e _. absurd (none_blocked s handles of named independent e))
-    step_open (GiveUp of) o makes closes h = live o (blocked_at s handles of) _ h (λ named e _. absurd (none_blocked s handles of named independent e))
+        live o (loan_at s handles of) _ h (λ loan _ k. by o _ _ k refl (loan_discarded_open q s loan.0 loan.1 kept))
+    step_open (Retry of elapsed) o makes closes h = live o (blocked_at s handles of) _ h (λ named e _. absurd (none_blocked q s handles of named independent e))
+    step_open (GiveUp of) o makes closes h = live o (blocked_at s handles of) _ h (λ named e _. absurd (none_blocked q s handles of named independent e))
     step_open (Update of) o makes closes h =
-        by_option (StaysOpen o.state) (unblocked_at s handles of) _ _ h
-        (λ _ j. live o (subscriber_at s handles of) _ j (λ subscriber _ k. by o _ k.0 k.3 (state_update k.0 k.1) (update_subscriber_open ample_memory s k.0 subscriber.0 k.1 k.2 kept)))
-        (λ publisher _ k. by o _ k.0 k.3 (state_update k.0 k.1) (update_publisher_open s k.0 publisher.0 k.1 k.2 kept))
+        by_option (StaysOpen q o.state) (unblocked_at s handles of) _ _ h
+        (λ _ j. live o (subscriber_at s handles of) _ j (λ subscriber _ k. by o _ k.0 k.3 (state_update k.0 k.1) (update_subscriber_open q ample_memory s k.0 subscriber.0 k.1 k.2 kept)))
+        (λ publisher _ k. by o _ k.0 k.3 (state_update k.0 k.1) (update_publisher_open q s k.0 publisher.0 k.1 k.2 kept))
     step_open (Receive of) o makes closes h =
-        live o (if_single_units s (subscriber_at s handles of)) _ h (λ subscriber _ k. by o _ k.0 k.3 (state_receive k.0 subscriber.0 k.1) (receive_open ample_memory s k.0 subscriber.0 k.1 k.2 kept))
+        live o (if_single_units s (subscriber_at s handles of)) _ h (λ subscriber _ k. by o _ k.0 k.3 (state_receive k.0 subscriber.0 k.1) (receive_open q ample_memory s k.0 subscriber.0 k.1 k.2 kept))
     step_open (HasSamples of) o makes closes h =
-        live o (subscriber_at s handles of) _ h (λ subscriber _ k. by o _ k.0 k.4 (state_question k.0 k.1 k.2) (update_subscriber_open ample_memory s k.0 subscriber.0 k.1 (k.3).0 kept))
+        live o (subscriber_at s handles of) _ h (λ subscriber _ k. by o _ k.0 k.4 (state_question k.0 k.1 k.2) (update_subscriber_open q ample_memory s k.0 subscriber.0 k.1 (k.3).0 kept))
     step_open (Read of at) o makes closes h =
-        by_option (StaysOpen o.state) (sample_at s handles of) _ _ h
+        by_option (StaysOpen q o.state) (sample_at s handles of) _ _ h
         (λ _ j. live o (with_cell_at at (loan_at s handles of)) _ j (λ loan _ k.
-        by_option (StaysOpen o.state) (slice_get (loan.1).cells at) _ _ k (λ _ v. absurd v) (λ cell _ e. by o _ s e refl kept)))
-        (λ sample _ k. by_option (StaysOpen o.state) (m sample.2) _ _ k (λ _ v. absurd v)
+        by_option (StaysOpen q o.state) (slice_get (loan.1).cells at) _ _ k (λ _ v. absurd v) (λ cell _ e. by o _ s e refl kept)))
+        (λ sample _ k. by_option (StaysOpen q o.state) (m sample.2) _ _ k (λ _ v. absurd v)
         (λ entry _ j. live o (slice_get entry.values at) _ j (λ value _ e. by o _ s e refl kept)))
     step_open (ReadHeader of) o makes closes h =
-        by_option (StaysOpen o.state) (sample_at s handles of) _ _ h
+        by_option (StaysOpen q o.state) (sample_at s handles of) _ _ h
         (λ _ j. live o (loan_at s handles of) _ j (λ loan _ e. by o _ s e refl kept))
-        (λ sample _ k. by_option (StaysOpen o.state) (m sample.2) _ _ k (λ _ v. absurd v) (λ entry _ e. by o _ s e refl kept))
+        (λ sample _ k. by_option (StaysOpen q o.state) (m sample.2) _ _ k (λ _ v. absurd v) (λ entry _ e. by o _ s e refl kept))
     step_open (ReadUserHeader of) o makes closes h =
-        by_option (StaysOpen o.state) (sample_at s handles of) _ _ h
+        by_option (StaysOpen q o.state) (sample_at s handles of) _ _ h
         (λ _ j. live o (loan_at s handles of) _ j (λ loan _ e. by o _ s e refl kept))
-        (λ sample _ k. by_option (StaysOpen o.state) (m sample.2) _ _ k (λ _ v. absurd v) (λ entry _ e. by o _ s e refl kept))
+        (λ sample _ k. by_option (StaysOpen q o.state) (m sample.2) _ _ k (λ _ v. absurd v) (λ entry _ e. by o _ s e refl kept))
     step_open (Release of) o makes closes h =
-        live o (sample_at s handles of) _ h (λ sample _ k. by o _ _ k refl (released_open s sample.0 sample.1 sample.2 kept))
+        live o (sample_at s handles of) _ h (λ sample _ k. by o _ _ k refl (released_open q s sample.0 sample.1 sample.2 kept))
     step_open (Close of) o makes closes h =
-        by_option (StaysOpen o.state) (unblocked_at s handles of) _ _ h
+        by_option (StaysOpen q o.state) (unblocked_at s handles of) _ _ h
         (λ _ j. live o (subscriber_at s handles of) _ j (λ subscriber e k.
-        by o _ _ k refl (subscriber_closed_open s subscriber.0 subscriber.1 (closes of subscriber.0 refl (subscriber_handle_at 0 s handles of subscriber e)) kept)))
-        (λ publisher _ k. by o _ _ k refl (publisher_closed_open s publisher.0 publisher.1 kept))
+        by o _ _ k refl (subscriber_closed_open q s subscriber.0 subscriber.1 (λ apart. closes of subscriber.0 apart refl (subscriber_handle_at 0 s handles of subscriber e)) kept)))
+        (λ publisher _ k. by o _ _ k refl (publisher_closed_open q s publisher.0 publisher.1 kept))

@@ -1,19 +1,19 @@
 -- Ports that are made and closed, and samples that are released, in two states that look alike to a subscriber.
-use Rattle.std.proofs.Common.{◌≡◌, ℕ, ◌+◌, true, false, cond, ◌&&◌, ◌||◌, [], refl, sym, ap, subst, ◌∙◌, Option, None, Some, is_some, eqb}
+use Rattle.std.proofs.Common.{◌≡◌, ℕ, ◌+◌, Bool, true, false, cond, not, ◌&&◌, ◌||◌, [], refl, sym, ap, subst, ◌∙◌, Option, None, Some, is_some, eqb}
 use Rattle.std.specs.Prelude.{nat_lt}
 use Rattle.std.specs.Option.{option_map, option_map_or}
-use Rattle.std.specs.List.{filter}
+use Rattle.std.specs.List.{filter, list_all}
 use Rattle.std.proofs.lemmas.Bool.{eqb-true}
 use Rattle.iox2_store.specs.machine.Limits.{last_number, buffer_limit}
 use Rattle.iox2_store.specs.machine.Numbers.{put_at}
 use Rattle.iox2_store.specs.machine.Places.{occupant, is_port, vacated, set_place, free_place, places_kept}
-use Rattle.iox2_store.specs.machine.Mailbox.{has_numbers, waiting_dropped, with_released}
+use Rattle.iox2_store.specs.machine.Mailbox.{has_numbers, has_borrows, waiting_dropped, with_released}
 use Rattle.iox2_store.specs.machine.Records.{Publisher, Subscriber, PublisherSettings, SubscriberSettings}
-use Rattle.iox2_store.specs.machine.State.{State, subscribers_due}
+use Rattle.iox2_store.specs.machine.State.{State, connected_publishers, subscribers_due}
 use Rattle.iox2_store.specs.machine.PublisherUpdate.{UpdatePublisher}
 use Rattle.iox2_store.specs.machine.SubscriberUpdate.{UpdateSubscriber}
-use Rattle.iox2_store.specs.machine.Releases.{released, pruned, unborrowed}
-use Rattle.iox2_store.specs.machine.Ports.{new_publisher, new_subscriber, with_new_publisher, with_new_subscriber, with_failure_warning, MakePublisher, CreatePublisher, MakeSubscriber, CreateSubscriber, first_segment_fits, buffer_for, publisher_gone, subscribers_pruned, publisher_closed, mailbox_after_publisher, slots_for}
+use Rattle.iox2_store.specs.machine.Releases.{released, pruned, unborrowed, subscriber_pruned, is_unused, place_freed, freed_if_unused}
+use Rattle.iox2_store.specs.machine.Ports.{new_publisher, new_subscriber, with_new_publisher, with_new_subscriber, with_failure_warning, MakePublisher, CreatePublisher, MakeSubscriber, CreateSubscriber, first_segment_fits, buffer_for, publisher_gone, subscribers_pruned, publisher_closed, mailbox_after_publisher, mailbox_after_subscriber, subscriber_shut, subscriber_closed, slots_for}
 use Rattle.iox2_store.specs.declared.service_config.ServiceConfig.{ServiceConfig}
 use Rattle.iox2_store.specs.declared.warning.Warning.{Warning}
 use Rattle.iox2_store.specs.declared.errors.ConnectionFailure.{ConnectionFailure}
@@ -28,7 +28,15 @@ use Rattle.iox2_commands.proofs.AlikeViews.{View, view_of, others_put, others_sa
 use Rattle.iox2_commands.proofs.AlikeUpdates.{update_publisher_alike}
 use Rattle.iox2_commands.proofs.AlikeReceives.{update_subscriber_alike}
 use Rattle.iox2_laws.proofs.Puts.{put_at-same}
-use Rattle.iox2_commands.proofs.ApartSteps.{AllOpen, public_map, released_is, update_apart}
+use Rattle.iox2_commands.proofs.ApartSteps.{public_map, update_apart}
+
+-- publishers that are all due
+abbrev all_due : (ℕ → Option Publisher) → ℕ → Option Publisher
+all_due publishers p = option_map {T = Publisher} {U = Publisher} (λ x. record x { is_due = true }) (publishers p)
+
+-- a subscriber that takes no messages any more
+abbrev shut_record : Subscriber → Subscriber
+shut_record y = record y { is_open = false }
 
 module _ {T U : Type 0} (q : ℕ) where
   -- each record is changed so that its public part stays
@@ -220,21 +228,74 @@ module _ {T U : Type 0} (q : ℕ) where
       → view_of q (publisher_closed a p x) ≡ view_of q (publisher_closed b p x)
   publisher_closed_alike a b p x e = closed_seen a p x ∙ ap (λ v. due_view (pruned_view (gone_view p x v))) e ∙ sym (closed_seen b p x)
 
-  -- ---- a sample is released
+  -- ---- the subscriber itself releases a sample, and closes
+
+  own_pruned_seen : (s : State T U) → view_of q (subscriber_pruned s q) ≡ pruned_view (view_of q s)
+  own_pruned_seen s = λ i. record (view_of q s) {
+    others = λ r. others_same s q (option_map {T = Subscriber} (pruned s q) (s.subscribers q)) r (public_map (pruned s q) (λ y. refl) (s.subscribers q)) i;
+    own = put_at-same s.subscribers q (option_map {T = Subscriber} (pruned s q) (s.subscribers q)) i;
+  }
+
+  -- whether it was closed and has borrowed nothing, told from its view
+  abbrev is_unused_in : View T U → Bool
+  is_unused_in v = option_map_or (λ (y : Subscriber). not y.is_open && list_all (λ p. not (has_borrows (v.mailboxes p))) (connected_publishers y)) v.own false
+
+  -- the view of one that is gone
+  abbrev left_view : View T U → View T U
+  left_view v = record v {
+    publishers = all_due v.publishers;
+    subscriber_places = vacated q v.subscriber_places;
+    others = put_at v.others q None;
+    own = None;
+  }
+
+  abbrev freed_view : View T U → View T U
+  freed_view v = cond (is_unused_in v) (left_view v) v
+
+  freed_seen : (s : State T U) → view_of q (freed_if_unused s q) ≡ freed_view (view_of q s)
+  freed_seen s =
+      elim (is_unused s q) as (λ b. view_of q (cond b (place_freed s q) s) ≡ cond b (left_view (view_of q s)) (view_of q s)) [
+        | true ↦ λ i. record (left_view (view_of q s)) { others = λ r. others_put s q None r i; own = put_at-same s.subscribers q None i }
+        | false ↦ refl
+      ]
 
   abbrev unborrowed_view : (p n : ℕ) → View T U → View T U
   unborrowed_view p n v = record v { mailboxes = put_at v.mailboxes p (with_released n (v.mailboxes p)) }
 
-  released_seen : (s : State T U) (p n : ℕ) → AllOpen s → view_of q (released s p q n) ≡ pruned_view (unborrowed_view p n (view_of q s))
-  released_seen s p n all =
-      let mid : State T U = unborrowed s p q n in
-      ap (view_of q) (released_is s p q n all)
-      ∙ (λ i. record (view_of q mid) {
-        others = λ r. others_same mid q (option_map {T = Subscriber} (pruned mid q) (mid.subscribers q)) r (public_map (pruned mid q) (λ y. refl) (mid.subscribers q)) i;
-        own = put_at-same mid.subscribers q (option_map {T = Subscriber} (pruned mid q) (mid.subscribers q)) i;
-      })
-      ∙ (λ i. pruned_view (record (view_of q s) { mailboxes = λ k. cell_put s.mailboxes q p (with_released n (s.mailboxes p q)) k i }))
+  unborrowed_seen : (s : State T U) (p n : ℕ) → view_of q (unborrowed s p q n) ≡ unborrowed_view p n (view_of q s)
+  unborrowed_seen s p n = λ i. record (view_of q s) { mailboxes = λ k. cell_put s.mailboxes q p (with_released n (s.mailboxes p q)) k i }
+
+  released_seen : (s : State T U) (p n : ℕ) → view_of q (released s p q n) ≡ freed_view (pruned_view (unborrowed_view p n (view_of q s)))
+  released_seen s p n =
+      freed_seen (subscriber_pruned (unborrowed s p q n) q)
+      ∙ ap freed_view (own_pruned_seen (unborrowed s p q n))
+      ∙ ap (λ v. freed_view (pruned_view v)) (unborrowed_seen s p n)
 
   -- a sample of q is released in both
-  pub released_alike : (a b : State T U) (p n : ℕ) → AllOpen a → AllOpen b → view_of q a ≡ view_of q b → view_of q (released a p q n) ≡ view_of q (released b p q n)
-  released_alike a b p n all all' e = released_seen a p n all ∙ ap (λ v. pruned_view (unborrowed_view p n v)) e ∙ sym (released_seen b p n all')
+  pub released_alike : (a b : State T U) (p n : ℕ) → view_of q a ≡ view_of q b → view_of q (released a p q n) ≡ view_of q (released b p q n)
+  released_alike a b p n e = released_seen a p n ∙ ap (λ v. freed_view (pruned_view (unborrowed_view p n v))) e ∙ sym (released_seen b p n)
+
+  abbrev shut_view : Subscriber → View T U → View T U
+  shut_view y v = record v {
+    publishers = all_due v.publishers;
+    others = put_at v.others q (public_part (Some (shut_record y)));
+    own = Some (shut_record y);
+    mailboxes = λ p. cond (is_some (v.publishers p)) (v.mailboxes p) (waiting_dropped (v.mailboxes p));
+  }
+
+  shut_seen : (s : State T U) (y : Subscriber) → view_of q (subscriber_shut s q y) ≡ shut_view y (view_of q s)
+  shut_seen s y = λ i. record (shut_view y (view_of q s)) {
+    others = λ r. others_put s q (Some (shut_record y)) r i;
+    own = put_at-same s.subscribers q (Some (shut_record y)) i;
+    mailboxes = λ p. put_at-same (s.mailboxes p) q (mailbox_after_subscriber s q p) i;
+  }
+
+  own_closed_seen : (s : State T U) (y : Subscriber) → view_of q (subscriber_closed s q y) ≡ freed_view (pruned_view (shut_view y (view_of q s)))
+  own_closed_seen s y =
+      freed_seen (subscriber_pruned (subscriber_shut s q y) q)
+      ∙ ap freed_view (own_pruned_seen (subscriber_shut s q y))
+      ∙ ap (λ v. freed_view (pruned_view v)) (shut_seen s y)
+
+  -- q is closed in both, whatever it has borrowed
+  pub own_closed_alike : (a b : State T U) (y : Subscriber) → view_of q a ≡ view_of q b → view_of q (subscriber_closed a q y) ≡ view_of q (subscriber_closed b q y)
+  own_closed_alike a b y e = own_closed_seen a y ∙ ap (λ v. freed_view (pruned_view (shut_view y v))) e ∙ sym (own_closed_seen b y)

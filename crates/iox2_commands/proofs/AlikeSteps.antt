@@ -1,8 +1,8 @@
 -- One command from two independent states that look alike to a subscriber.
-use Rattle.std.proofs.Common.{◌≡◌, ℕ, Bool, true, false, cond, List, refl, sym, ap, subst, ◌∙◌, Option, None, Some}
+use Rattle.std.proofs.Common.{◌≡◌, ℕ, Bool, true, false, cond, List, refl, sym, ap, subst, ◌∙◌, Option, None, Some, eqb}
 use Rattle.std.specs.Prelude.{slice_get, map}
 use Rattle.std.specs.Option.{MatchOption, option_and_then, option_map}
-use Rattle.std.proofs.lemmas.Bool.{eqb-true, true≢false}
+use Rattle.std.proofs.lemmas.Bool.{eqb-true, eq-eqb, true≢false}
 use Rattle.std.proofs.lemmas.Option.{none-some, same_Some}
 use Rattle.iox2_store.specs.machine.Limits.{buffer_limit}
 use Rattle.iox2_store.specs.machine.Numbers.{put_at}
@@ -35,8 +35,8 @@ use Rattle.iox2_commands.proofs.AlikeUpdates.{update_publisher_alike}
 use Rattle.iox2_commands.proofs.AlikeReceives.{IsAlike, alike_equal, alike_sym, alike_trans, update_subscriber_alike, receive_alike, after_update_alike, after_question_alike}
 use Rattle.iox2_commands.proofs.AlikeSends.{send_alike, loan_discarded_alike}
 use Rattle.iox2_commands.proofs.AlikeLoans.{grant_loan_alike, grant_written_loan_alike}
-use Rattle.iox2_commands.proofs.AlikePorts.{create_publisher_alike, create_subscriber_alike, publisher_closed_alike, released_alike}
-use Rattle.iox2_commands.proofs.AlikeNamed.{names_subscriber, names_sample, named-subscriber, named-sample, same_sample, subscriber_handle_at, own_at, own_sample_at, no_sample_at, looked_up, subscriber_id_same, names_subscriber_same, names_sample_same, unblocked_at_same, loan_at_same, unwritten_at_same, written_at_same, sendable_at_same, single_same, fixed_size_same, dynamic_same}
+use Rattle.iox2_commands.proofs.AlikePorts.{create_publisher_alike, create_subscriber_alike, publisher_closed_alike, released_alike, own_closed_alike}
+use Rattle.iox2_commands.proofs.AlikeNamed.{names_subscriber, names_sample, named-subscriber, named-sample, same_sample, subscriber_handle_at, subscriber_apart, own_at, own_sample_at, no_sample_at, looked_up, subscriber_id_same, names_subscriber_same, names_sample_same, unblocked_at_same, loan_at_same, unwritten_at_same, written_at_same, sendable_at_same, single_same, fixed_size_same, dynamic_same}
 use Rattle.iox2_commands.proofs.AlikeCloses.{subscriber_closed_alike}
 use Rattle.iox2_commands.proofs.AlikeIndependent.{StaysOpen, grant_written_loan_open}
 use Rattle.iox2_store.specs.machine.Receives.{Receive as Receives}
@@ -58,12 +58,12 @@ by_images f R (Some x) None P P' Q Q' e h k none some = absurd (none-some (f x) 
 
 module _ {T U : Type 0} where
   -- an independent state's parts
-  pub open_of : (s : State T U) → IsIndependent s → StaysOpen s
-  open_of s k = record { publishers = k.publishers; all_open = k.all_open }
+  pub open_of : (q : ℕ) (s : State T U) → IsIndependent q s → StaysOpen q s
+  open_of q s k = record { publishers = k.publishers; all_open = k.all_open }
 
   -- in an independent state no send is blocked
-  pub none_blocked : (s : State T U) (handles : List Handle) (of : ℕ) (named : ℕ × BlockedSend) → IsIndependent s → blocked_at s handles of ≡ Some named → ⊥
-  none_blocked s handles of named k e =
+  pub none_blocked : (q : ℕ) (s : State T U) (handles : List Handle) (of : ℕ) (named : ℕ × BlockedSend) → IsIndependent q s → blocked_at s handles of ≡ Some named → ⊥
+  none_blocked q s handles of named k e =
       let is : (x : Publisher) × (s.publishers named.0 ≡ Some x) × (x.blocked ≡ Some named.1) = blocked_is s handles of named e in
       none-some named.1 (sym (k.publishers named.0 is.0 is.1).unblocked ∙ is.2)
 
@@ -99,7 +99,7 @@ module _ {T U : Type 0} where
     loan_put a b n l e = λ i. record (e i) { loans = put_at (e i).loans n l }
 
     module _ (default_value : T) (default_header : U) (m m' : Messages T U) (a b : State T U) (handles handles' : List Handle)
-        (e : view_of q a ≡ view_of q b) (same : map (seen_handle q) handles ≡ map (seen_handle q) handles') (independent : IsIndependent a) (independent' : IsIndependent b) where
+        (e : view_of q a ≡ view_of q b) (same : map (seen_handle q) handles ≡ map (seen_handle q) handles') (independent : IsIndependent q a) (independent' : IsIndependent q b) where
       abbrev StepA : Command T U → Outcome T U → Type 0
       StepA = Step ample_memory default_value default_header m a handles
 
@@ -195,6 +195,11 @@ module _ {T U : Type 0} where
           ∙ (λ i. cond (is_borrowed (numbers.1 i) ((e i).mailboxes (numbers.0 i))) (Some (numbers.0 i, q, numbers.1 i)) None)
           ∙ sym (own_sample_at q b handles' of there.0 there.1 there.2)
 
+      close_own : (r : ℕ) (y : Subscriber) (o o' : Outcome T U) → r ≡ q → o ≡ done (subscriber_closed a r y) → o' ≡ done (subscriber_closed b r y) → IsAlike q o o'
+      close_own r y o o' is h k =
+          alike_equal q o _ o' _ (h ∙ ap (λ (i : ℕ). done (subscriber_closed a i y)) is) (k ∙ ap (λ (i : ℕ). done (subscriber_closed b i y)) is)
+          (done_alike _ _ (own_closed_alike q a b y e))
+
       release_own : (of : ℕ) (o o' : Outcome T U) → names_sample q (slice_get handles of) ≡ true → StepA (Release of) o → StepB (Release of) o' → IsAlike q o o'
       release_own of o o' t h k =
           let here : (p : ℕ) × (n : ℕ) × (slice_get handles of ≡ Some (Sample_handle p q n)) = named-sample q (slice_get handles of) t in
@@ -203,11 +208,11 @@ module _ {T U : Type 0} where
           (same_Some (here.0, q, here.1) sample (kept_if (is_borrowed here.1 (a.mailboxes here.0 q)) (Some (here.0, q, here.1)) sample (sym (own_sample_at q a handles of here.0 here.1 here.2) ∙ f)))) in
           alike_equal q o _ o' _
           (j ∙ ap (λ (r : ℕ). done (released a sample.0 r sample.2)) is) (l ∙ ap (λ (r : ℕ). done (released b sample.0 r sample.2)) is)
-          (done_alike _ _ (released_alike q a b sample.0 sample.2 independent.all_open independent'.all_open e)))
+          (done_alike _ _ (released_alike q a b sample.0 sample.2 e)))
 
-      -- The law: outcomes are alike where no subscriber is closed that has borrowed anything, and the subscriber's own receives get
-      -- the same replies.
-      pub step_alike : (command : Command T U) (o o' : Outcome T U) → ClosesUnborrowed a b handles command → StepA command o → StepB command o'
+      -- The law: outcomes are alike where no other subscriber is closed that has borrowed anything, and the subscriber's own receives
+      -- get the same replies.
+      pub step_alike : (command : Command T U) (o o' : Outcome T U) → ClosesUnborrowed q a b handles command → StepA command o → StepB command o'
           → ((of : ℕ) → command ≡ Receive of → slice_get handles of ≡ Some (Subscriber_handle q) → o.reply ≡ o'.reply) → IsAlike q o o'
       step_alike Nothing o o' closes h k replies = alike_equal q o (done a) o' (done b) h k (done_alike a b e)
       step_alike (PublisherCommand loans strategy allocation len override_slots degradation backpressure) o o' closes h k replies =
@@ -259,7 +264,7 @@ module _ {T U : Type 0} where
           (single_same q a b handles handles' e same of _ _ (fixed_size_same q a b handles handles' e same of _ _ (unblocked_at_same q a b handles handles' e same of))) h k (λ publisher _ j l.
           let granted : (view_of q j.0 ≡ view_of q l.0) × (j.1 ≡ l.1) =
           grant_written_loan_alike q a b j.0 l.0 value default_header false 1 publisher.0 j.1 l.1 e independent.well_formed independent'.well_formed (λ x. independent.publishers publisher.0 x) j.2 l.2 in
-          let kept : StaysOpen j.0 = grant_written_loan_open value default_header false 1 a j.0 publisher.0 j.1 j.2 (open_of a independent) in
+          let kept : StaysOpen q j.0 = grant_written_loan_open q value default_header false 1 a j.0 publisher.0 j.1 j.2 (open_of q a independent) in
           by_options (IsAlike q o o') j.1 l.1 _ _ _ _ granted.1 j.3 l.3
           (λ _ x y. by_options (IsAlike q o o') ((j.0).loans a.next_message) ((l.0).loans b.next_message) _ _ _ _ (λ i. (granted.0 i).loans (next_same i)) x y (λ _ v _. absurd v)
           (λ loan _ x y. sends_alike j.0 l.0 a.next_message loan o o' granted.0 (λ z. kept.publishers loan.publisher z) x
@@ -270,12 +275,12 @@ module _ {T U : Type 0} where
           (λ loan _ j l. alike_equal q o _ o' _ j l (done_alike _ _ (loan_discarded_alike q a b loan.0 loan.1 e)))
       step_alike (Retry of elapsed) o o' closes h k replies =
           by_option (IsAlike q o o') (blocked_at a handles of) _ _ h
-          (λ _ h. by_option (IsAlike q o o') (blocked_at b handles' of) _ _ k (λ _ k. skipped_alike o o' h k) (λ named f _. absurd (none_blocked b handles' of named independent' f)))
-          (λ named f _. absurd (none_blocked a handles of named independent f))
+          (λ _ h. by_option (IsAlike q o o') (blocked_at b handles' of) _ _ k (λ _ k. skipped_alike o o' h k) (λ named f _. absurd (none_blocked q b handles' of named independent' f)))
+          (λ named f _. absurd (none_blocked q a handles of named independent f))
       step_alike (GiveUp of) o o' closes h k replies =
           by_option (IsAlike q o o') (blocked_at a handles of) _ _ h
-          (λ _ h. by_option (IsAlike q o o') (blocked_at b handles' of) _ _ k (λ _ k. skipped_alike o o' h k) (λ named f _. absurd (none_blocked b handles' of named independent' f)))
-          (λ named f _. absurd (none_blocked a handles of named independent f))
+          (λ _ h. by_option (IsAlike q o o') (blocked_at b handles' of) _ _ k (λ _ k. skipped_alike o o' h k) (λ named f _. absurd (none_blocked q b handles' of named independent' f)))
+          (λ named f _. absurd (none_blocked q a handles of named independent f))
       step_alike (Update of) o o' closes h k replies =
           by_options (IsAlike q o o') (unblocked_at a handles of) (unblocked_at b handles' of) _ _ _ _ (unblocked_at_same q a b handles handles' e same of) h k
           (λ _ j l. by_subscriber of (IsAlike q o o')
@@ -315,12 +320,17 @@ module _ {T U : Type 0} where
           (λ f g. both_quiet o o' (release_of_other q default_value default_header m a handles of o independent.all_open f h) (release_of_other q default_value default_header m' b handles' of o' independent'.all_open g k))
       step_alike (Close of) o o' closes h k replies =
           by_options (IsAlike q o o') (unblocked_at a handles of) (unblocked_at b handles' of) _ _ _ _ (unblocked_at_same q a b handles handles' e same of) h k
-          (λ _ j l. by_images (λ (n : ℕ × Subscriber). n.0) (IsAlike q o o') (subscriber_at a handles of) (subscriber_at b handles' of) _ _ _ _ (subscriber_id_same q a b handles handles' e same of) j l
+          (λ _ j l. by_subscriber of (IsAlike q o o')
+          (λ t. let own : (slice_get handles of ≡ Some (Subscriber_handle q)) × (subscriber_at a handles of ≡ subscriber_at b handles' of) × ((named : ℕ × Subscriber) → subscriber_at a handles of ≡ Some named → named.0 ≡ q) = own_same of t in
+          live o o' (subscriber_at a handles of) (subscriber_at b handles' of) _ _ own.1 j l (λ subscriber f x y. close_own subscriber.0 subscriber.1 o o' (own.2 subscriber f) x y))
+          (λ other _. by_images (λ (n : ℕ × Subscriber). n.0) (IsAlike q o o') (subscriber_at a handles of) (subscriber_at b handles' of) _ _ _ _ (subscriber_id_same q a b handles handles' e same of) j l
           (λ j l. skipped_alike o o' j l)
           (λ named named' f is j l.
-          let nothing : HasBorrowedNothing a named.0 × HasBorrowedNothing b named.0 = closes of named.0 refl (subscriber_handle_at q a handles of named f) in
+          let apart : eqb q named.0 ≡ false = subscriber_apart q a handles of named other f in
+          let nothing : HasBorrowedNothing a named.0 × HasBorrowedNothing b named.0 =
+          closes of named.0 (λ same. true≢false (sym (eq-eqb q named.0 (sym same)) ∙ apart)) refl (subscriber_handle_at q a handles of named f) in
           alike_equal q o _ o' _ j (l ∙ ap (λ (r : ℕ). done (subscriber_closed b r named'.1)) (sym is))
-          (done_alike _ _ (subscriber_closed_alike q a b named.0 named.1 named'.1 nothing.0 nothing.1 e))))
+          (done_alike _ _ (subscriber_closed_alike q a b named.0 named.1 named'.1 nothing.0 nothing.1 e)))))
           (λ publisher _ j l. alike_equal q o _ o' _ j l (done_alike _ _ (publisher_closed_alike q a b publisher.0 publisher.1 e)))
 
       -- ---- reads

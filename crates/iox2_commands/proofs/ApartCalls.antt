@@ -107,13 +107,13 @@ module _ {T U : Type 0} (q : ℕ) where
         stays o _ k.3 (after_update_apart s k.0 k.1 (update_apart q subscriber.0 apart ample_memory s k.0 k.1 k.2)))
 
     -- a release where no sample of q is named
-    pub release_of_other : (of : ℕ) (o : Outcome T U) → AllOpen s → names_sample q (slice_get handles of) ≡ false → Steps (Release of) o → IsAlike q o (done s)
+    pub release_of_other : (of : ℕ) (o : Outcome T U) → AllOpen q s → names_sample q (slice_get handles of) ≡ false → Steps (Release of) o → IsAlike q o (done s)
     release_of_other of o all other h =
         live o (sample_at s handles of) _ h (λ sample e k.
         stays o _ k (record { state = released_apart q sample.1 (sample_apart q s handles of sample other e) s sample.0 sample.2 all; event = refl; handle = refl }))
 
     -- A call of others is as if nothing was done.
-    pub others_alike : (command : Command T U) (of : ℕ) (o : Outcome T U) → AllOpen s → subscriber_call command ≡ Some of
+    pub others_alike : (command : Command T U) (of : ℕ) (o : Outcome T U) → AllOpen q s → subscriber_call command ≡ Some of
         → is_of_others q (slice_get handles of) ≡ true → Steps command o → IsAlike q o (done s)
     others_alike (Receive of') of o all e other h = receive_of_other of' o (others_no_subscriber q _ (subst (λ i. is_of_others q (slice_get handles i) ≡ true) (sym (same_Some of' of e)) other)) h
     others_alike (HasSamples of') of o all e other h = question_of_other of' o (others_no_subscriber q _ (subst (λ i. is_of_others q (slice_get handles i) ≡ true) (sym (same_Some of' of e)) other)) h

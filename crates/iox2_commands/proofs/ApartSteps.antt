@@ -1,6 +1,8 @@
 -- What one subscriber does isn't seen by another.
 use Rattle.std.proofs.Common.{◌≡◌, ℕ, Bool, true, false, cond, not, ◌&&◌, refl, sym, ap, ◌∙◌, Option, None, Some, eqb}
+use Rattle.std.specs.Prelude.{◌≢◌}
 use Rattle.std.specs.List.{list_all}
+use Rattle.std.proofs.lemmas.Bool.{eq-eqb, true≢false}
 use Rattle.std.specs.Option.{option_map, option_map_or}
 use Rattle.iox2_store.specs.machine.Mailbox.{Mailbox, has_borrows}
 use Rattle.iox2_store.specs.machine.Records.{Subscriber, Environment}
@@ -21,31 +23,31 @@ public_map g same None = refl
 public_map g same (Some y) = same y
 
 module _ {T U : Type 0} where
-  -- Every subscriber with a record is open.
-  abbrev pub AllOpen : State T U → Type 0
-  AllOpen s = (r : ℕ) (y : Subscriber) → s.subscribers r ≡ Some y → y.is_open ≡ true
+  -- Every subscriber with a record is open, but for q.
+  abbrev pub AllOpen : (q : ℕ) → State T U → Type 0
+  AllOpen q s = (r : ℕ) (y : Subscriber) → r ≢ q → s.subscribers r ≡ Some y → y.is_open ≡ true
 
   -- an open subscriber isn't unused
-  pub open_is_used : (s : State T U) (r : ℕ) → AllOpen s → is_unused s r ≡ false
-  open_is_used s r all = at (s.subscribers r) refl
+  open_is_used : (q : ℕ) (s : State T U) (r : ℕ) → r ≢ q → AllOpen q s → is_unused s r ≡ false
+  open_is_used q s r apart all = at (s.subscribers r) refl
     where
       at : (v : Option Subscriber) → s.subscribers r ≡ v → option_map_or (λ (y : Subscriber). not y.is_open && list_all (λ p. not (has_borrows (s.mailboxes p r))) (connected_publishers y)) v false ≡ false
       at None e = refl
-      at (Some y) e = let opened : y.is_open ≡ true = all r y e in rw opened refl
+      at (Some y) e = let opened : y.is_open ≡ true = all r y apart e in rw opened refl
 
   -- all subscribers stay open where one is changed and stays so
-  pub changed_open : (s : State T U) (r : ℕ) (g : Subscriber → Subscriber) → ((y : Subscriber) → (g y).is_open ≡ y.is_open) → AllOpen s
-      → AllOpen (subscriber_changed s r g)
-  changed_open s r g same all i z e =
-      at_each s.subscribers r (option_map g (s.subscribers r)) (λ k v. v ≡ Some z → z.is_open ≡ true) i
-      (λ _ e. found_mapped g (s.subscribers r) z (z.is_open ≡ true) e (λ y f h. ap (λ (v : Subscriber). v.is_open) h ∙ same y ∙ all r y f))
-      (λ _ e. all i z e) e
+  pub changed_open : (q : ℕ) (s : State T U) (r : ℕ) (g : Subscriber → Subscriber) → ((y : Subscriber) → (g y).is_open ≡ y.is_open) → AllOpen q s
+      → AllOpen q (subscriber_changed s r g)
+  changed_open q s r g same all i z apart e =
+      at_each s.subscribers r (option_map g (s.subscribers r)) (λ k v. k ≢ q → v ≡ Some z → z.is_open ≡ true) i
+      (λ _ apart e. found_mapped g (s.subscribers r) z (z.is_open ≡ true) e (λ y f h. ap (λ (v : Subscriber). v.is_open) h ∙ same y ∙ all r y apart f))
+      (λ _ apart e. all i z apart e) apart e
 
   -- a release of an open subscriber frees no place
-  pub released_is : (s : State T U) (p r n : ℕ) → AllOpen s → released s p r n ≡ subscriber_pruned (unborrowed s p r n) r
-  released_is s p r n all =
+  released_is : (q : ℕ) (s : State T U) (p r n : ℕ) → r ≢ q → AllOpen q s → released s p r n ≡ subscriber_pruned (unborrowed s p r n) r
+  released_is q s p r n apart all =
       let used : is_unused (subscriber_pruned (unborrowed s p r n) r) r ≡ false =
-      open_is_used (subscriber_pruned (unborrowed s p r n) r) r (changed_open (unborrowed s p r n) r (pruned (unborrowed s p r n) r) (λ y. refl) all) in
+      open_is_used q (subscriber_pruned (unborrowed s p r n) r) r apart (changed_open q (unborrowed s p r n) r (pruned (unborrowed s p r n) r) (λ y. refl) all) in
       ap (λ (b : Bool). cond b (place_freed (subscriber_pruned (unborrowed s p r n) r) r) (subscriber_pruned (unborrowed s p r n) r)) used
 
   module _ (q r : ℕ) (apart : eqb q r ≡ false) where
@@ -89,8 +91,8 @@ module _ {T U : Type 0} where
         (put_at-other s.subscribers r _ q apart) (λ p. refl)
 
     -- a release of another subscriber
-    pub released_apart : (s : State T U) (p n : ℕ) → AllOpen s → view_of q (released s p r n) ≡ view_of q s
+    pub released_apart : (s : State T U) (p n : ℕ) → AllOpen q s → view_of q (released s p r n) ≡ view_of q s
     released_apart s p n all =
-        ap (view_of q) (released_is s p r n all)
+        ap (view_of q) (released_is q s p r n (λ same. true≢false (sym (eq-eqb q r (sym same)) ∙ apart)) all)
         ∙ pruned_apart (unborrowed s p r n) (pruned (unborrowed s p r n) r) (λ y. refl)
         ∙ mailbox_apart s p _

@@ -1,6 +1,6 @@
 -- A slow subscriber isn't felt by another.
 use Rattle.std.proofs.Common.{◌≡◌, ◌⊎◌, inl, ⊎_elim, ℕ, zero, suc, ◌+◌, ◌≤◌, ◌<◌, true, List, [], ◌∷◌, ◌++◌, length, take, drop, refl, sym, ap, subst, ◌∙◌, arith, Option, None, Some}
-use Rattle.std.specs.Prelude.{slice_get, map}
+use Rattle.std.specs.Prelude.{◌≢◌, slice_get, map}
 use Rattle.std.specs.Option.{option_map}
 use Rattle.std.proofs.Math.Path.{fun_ext}
 use Rattle.std.proofs.lemmas.Bool.{true≢false}
@@ -91,18 +91,18 @@ module _ {T U : Type 0} (q : ℕ) where
       (messages_alike o o' m m' a e) (handles_alike q o.handle o'.handle named named' f a.handle)
 
   -- a state with the view of an independent one is so too, its well-formedness apart
-  open_seen : (a b : State T U) → view_of q a ≡ view_of q b → StaysOpen a → StaysOpen b
+  open_seen : (a b : State T U) → view_of q a ≡ view_of q b → StaysOpen q a → StaysOpen q b
   open_seen a b e k = record {
     publishers = λ p x f. subst (λ (v : View T U). (p : ℕ) (x : _) → v.publishers p ≡ Some x → IsIndependentPublisher v.config x) e k.publishers p x f;
-    all_open = λ r y f. at r y (a.subscribers r) refl (ap (λ (v : View T U). v.others r) e ∙ ap public_part f);
+    all_open = λ r y apart f. at r y apart (a.subscribers r) refl (ap (λ (v : View T U). v.others r) e ∙ ap public_part f);
   }
     where
       part_of : Subscriber → PublicPart
       part_of y = record { is_open = y.is_open; place = y.place; buffer = y.buffer }
 
-      at : (r : ℕ) (y : Subscriber) (o : Option Subscriber) → a.subscribers r ≡ o → public_part o ≡ Some (part_of y) → y.is_open ≡ true
-      at r y None f g = absurd (none-some (part_of y) g)
-      at r y (Some z) f g = sym (ap (λ (v : PublicPart). v.is_open) (same_Some (part_of z) (part_of y) g)) ∙ k.all_open r z f
+      at : (r : ℕ) (y : Subscriber) → r ≢ q → (o : Option Subscriber) → a.subscribers r ≡ o → public_part o ≡ Some (part_of y) → y.is_open ≡ true
+      at r y apart None f g = absurd (none-some (part_of y) g)
+      at r y apart (Some z) f g = sym (ap (λ (v : PublicPart). v.is_open) (same_Some (part_of z) (part_of y) g)) ∙ k.all_open r z apart f
 
 -- ---- the laws of one step
 
@@ -202,7 +202,7 @@ module _ {T U : Type 0} where
 -- ---- two runs
 
 module _ {T U : Type 0} (default_value : T) (default_header : U) (c : ServiceConfig) (position q : ℕ) (beginning after : List (Command T U)) (all_replies : List (Reply T U))
-    (beginning' : List (Command T U)) (all_replies' : List (Reply T U)) (all_independent : AreIndependent c beginning all_replies beginning' all_replies') where
+    (beginning' : List (Command T U)) (all_replies' : List (Reply T U)) (all_independent : AreIndependent c position beginning all_replies beginning' all_replies') where
   -- The commands and what comes after them.
   abbrev whole : List (Command T U)
   whole = beginning ++ after
@@ -217,19 +217,19 @@ module _ {T U : Type 0} (default_value : T) (default_header : U) (c : ServiceCon
     pub received : ReceivesOwn position q whole handles
     pub received' : ReceivesOwn position q whole handles'
     pub config : a.config ≡ c
-    pub independent : IsIndependent a
-    pub independent' : IsIndependent b
+    pub independent : IsIndependent q a
+    pub independent' : IsIndependent q b
     pub views : view_of q a ≡ view_of q b
     pub messages : m ≡ m'
     pub handles_seen : map (seen_handle q) handles ≡ map (seen_handle q) handles'
 
-  independent_of : (s : State T U) → IsWellFormed s → StaysOpen s → IsIndependent s
+  independent_of : (s : State T U) → IsWellFormed s → StaysOpen q s → IsIndependent q s
   independent_of s w k = record { well_formed = w; publishers = k.publishers; all_open = k.all_open }
 
   -- the step of a command that is the same or left out
   one_alike : (command other : Command T U) (commands others : List (Command T U)) (replies replies' : List (Reply T U)) (m m' : Messages T U) (a b : State T U) (handles handles' : List Handle) (o o' : Outcome T U)
       → StandAlike (command ∷ commands) (other ∷ others) replies replies' m m' a b handles handles' → ((other ≡ command) ⊎ ((other ≡ Nothing) × (may_be_omitted position whole command ≡ true)))
-      → ClosesUnborrowed a b handles command
+      → ClosesUnborrowed q a b handles command
       → Step ample_memory default_value default_header m a handles command o → Step ample_memory default_value default_header m' b handles' other o'
       → (command ≡ Receive position → o.reply ≡ o'.reply) → IsAlike q o o'
   one_alike command other commands others replies replies' m m' a b handles handles' o o' stand reduced closes h k agree =
@@ -248,15 +248,15 @@ module _ {T U : Type 0} (default_value : T) (default_header : U) (c : ServiceCon
   -- one command later both stand alike
   later_alike : (command other : Command T U) (commands others : List (Command T U)) (replies replies' later later' : List (Reply T U)) (m m' : Messages T U) (a b : State T U) (handles handles' : List Handle) (o o' : Outcome T U)
       → StandAlike (command ∷ commands) (other ∷ others) replies replies' m m' a b handles handles' → ((other ≡ command) ⊎ ((other ≡ Nothing) × (may_be_omitted position whole command ≡ true)))
-      → ((p : ℕ) → o.reply ≡ PublisherMade p → makes_independent_publisher c command ≡ true) → ClosesUnborrowed a b handles command
+      → ((p : ℕ) → o.reply ≡ PublisherMade p → makes_independent_publisher c command ≡ true) → ClosesUnborrowed q a b handles command
       → Step ample_memory default_value default_header m a handles command o → Step ample_memory default_value default_header m' b handles' other o'
       → replies ≡ o.reply ∷ later → replies' ≡ o'.reply ∷ later' → ((j : ℕ) → slice_get later j ≡ Some (SubscriberMade q) → (o.state).next_port ≤ q) → IsAlike q o o'
       → StandAlike commands others later later' (messages_after o.event m) (messages_after o'.event m') o.state o'.state (handles ++ o.handle ∷ []) (handles' ++ o'.handle ∷ [])
   later_alike command other commands others replies replies' later later' m m' a b handles handles' o o' stand reduced makes closes h k are are' below alike =
       let sound : IsSound a o = step_sound ample_memory default_value default_header m a handles (stand.independent).well_formed command o h in
       let sound' : IsSound b o' = step_sound ample_memory default_value default_header m' b handles' (stand.independent').well_formed other o' k in
-      let kept : StaysOpen o.state = step_open default_value default_header m a handles stand.independent command o
-      (λ p e. subst (λ (v : ServiceConfig). makes_independent_publisher v command ≡ true) (sym stand.config) (makes p e)) (λ of r e f. (closes of r e f).0) h in
+      let kept : StaysOpen q o.state = step_open q default_value default_header m a handles stand.independent command o
+      (λ p e. subst (λ (v : ServiceConfig). makes_independent_publisher v command ≡ true) (sym stand.config) (makes p e)) (λ of r apart e f. (closes of r apart e f).0) h in
       let fits : Fits a handles command o = step_fits default_value default_header m a handles command o h in
       let awaits : Awaits position q (length handles) (o.reply ∷ later) a.next_port = subst (λ (v : List (Reply T U)). Awaits position q (length handles) v a.next_port) are stand.awaits in
       let one_more : length (handles ++ o.handle ∷ []) ≡ length handles + 1 = length-append handles (o.handle ∷ []) in
@@ -302,13 +302,13 @@ module _ {T U : Type 0} (default_value : T) (default_header : U) (c : ServiceCon
       (λ out. absurd (read_kept position of whole command here t out.1))
       reduced
 
-  -- a subscriber that is closed has borrowed nothing in either state
+  -- another subscriber that is closed has borrowed nothing in either state
   closed_unborrowed : (command other : Command T U) (commands others : List (Command T U)) (replies replies' : List (Reply T U)) (m m' : Messages T U) (a b : State T U) (handles handles' : List Handle)
-      → StandAlike (command ∷ commands) (other ∷ others) replies replies' m m' a b handles handles' → ClosesUnborrowed a b handles command
-  closed_unborrowed command other commands others replies replies' m m' a b handles handles' stand of r e f =
+      → StandAlike (command ∷ commands) (other ∷ others) replies replies' m m' a b handles handles' → ClosesUnborrowed q a b handles command
+  closed_unborrowed command other commands others replies replies' m m' a b handles handles' stand of r apart e f =
       let low : of < length handles = found_below handles of (Subscriber_handle r) f in
       let released : HasReleased of (length handles) beginning all_replies × HasReleased of (length handles) beginning' all_replies' =
-      all_independent.closes (length handles) of r low
+      all_independent.closes (length handles) of r (λ same. apart (stand.made r (subst (λ (i : ℕ). slice_get handles i ≡ Some (Subscriber_handle r)) same f))) low
       (next_command beginning all_replies (command ∷ commands) replies a handles command commands refl stand.first ∙ ap (λ (v : Command T U). Some v) e)
       ((stand.fit).subscribers of r f) in
       let named : slice_get handles' of ≡ Some (Subscriber_handle r) =
@@ -353,7 +353,7 @@ module _ {T U : Type 0} (default_value : T) (default_header : U) (c : ServiceCon
       λ p e. all_independent.publishers (length handles) p command
       (next_command beginning all_replies (command ∷ commands) (replies ++ ahead) a handles command commands refl stand.first)
       (next_reply beginning all_replies (command ∷ commands) (replies ++ ahead) a handles o.reply (x.later ++ ahead) are stand.first ∙ ap Some e) in
-      let closes : ClosesUnborrowed a b handles command = closed_unborrowed command other commands others (replies ++ ahead) (replies' ++ ahead') m m' a b handles handles' stand in
+      let closes : ClosesUnborrowed q a b handles command = closed_unborrowed command other commands others (replies ++ ahead) (replies' ++ ahead') m m' a b handles handles' stand in
       let alike : IsAlike q o o' = one_alike command other commands others (replies ++ ahead) (replies' ++ ahead') m m' a b handles handles' o o' stand reduced.0 closes x.step y.step
       (λ e. same_Some o.reply o'.reply (agreed 0 (ap Some e))) in
       let sound : IsSound a o = step_sound ample_memory default_value default_header m a handles (stand.independent).well_formed command o x.step in
@@ -384,13 +384,13 @@ module _ {T U : Type 0} (default_value : T) (default_header : U) (c : ServiceCon
       both_told command commands o o' later later' first rest (suc i) of read here e t = rest i of read here e t
 
 module _ {T U : Type 0} (c : ServiceConfig) (position q : ℕ) (beginning after : List (Command T U)) (all_replies : List (Reply T U))
-    (beginning' : List (Command T U)) (all_replies' : List (Reply T U)) (all_independent : AreIndependent c beginning all_replies beginning' all_replies')
+    (beginning' : List (Command T U)) (all_replies' : List (Reply T U)) (all_independent : AreIndependent c position beginning all_replies beginning' all_replies')
     (default_value : T) (default_header : U) where
   zero_plus : (n : ℕ) → n ≡ 0 + n
   zero_plus n = omega arith
 
-  new : IsIndependent (fresh {T = T} {U = U} c)
-  new = record { well_formed = fresh_is_well_formed c; publishers = λ p x e. absurd (none-some x e); all_open = λ r y e. absurd (none-some y e) }
+  new : IsIndependent q (fresh {T = T} {U = U} c)
+  new = record { well_formed = fresh_is_well_formed c; publishers = λ p x e. absurd (none-some x e); all_open = λ r y _ e. absurd (none-some y e) }
 
   -- two runs begin alike on new domains
   begin_alike : (commands others : List (Command T U)) (replies replies' : List (Reply T U)) → ((i : ℕ) (command : Command T U) → slice_get commands i ≡ Some command → slice_get beginning i ≡ Some command)

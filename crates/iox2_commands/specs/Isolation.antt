@@ -1,5 +1,5 @@
 -- What one subscriber sees doesn't depend on how fast the others are.
-use Rattle.std.specs.Prelude.{ℕ, Bool, true, false, not, ◌&&◌, ◌||◌, List, [], ◌∷◌, ◌++◌, ◌≡◌, ◌==◌, ◌<◌, slice_get, is_none}
+use Rattle.std.specs.Prelude.{ℕ, Bool, true, false, not, ◌&&◌, ◌||◌, List, [], ◌∷◌, ◌++◌, ◌≡◌, ◌≢◌, ◌==◌, ◌<◌, slice_get, is_none}
 use Rattle.std.specs.declared.option.Option.{Option}
 use Rattle.std.specs.declared.option.Option.TheVariants.{None, Some}
 use Rattle.iox2_store.specs.machine.Limits.{worst_case}
@@ -41,11 +41,11 @@ pub record IsIndependentPublisher (c : ServiceConfig) (x : Publisher) : Type 0 w
   pub unblocked : x.blocked ≡ None
   pub never_waits : never_waits c x.backpressure_strategy (not (is_none x.backpressure_handler)) ≡ true
 
--- The state is well-formed, all publishers are independent, and no closed subscriber is left.
-pub record IsIndependent {T U : Type 0} (s : State T U) : Type 0 where
+-- The state is well-formed, all publishers are independent, and no closed subscriber is left but q.
+pub record IsIndependent {T U : Type 0} (q : ℕ) (s : State T U) : Type 0 where
   pub well_formed : IsWellFormed s
   pub publishers : (p : ℕ) (x : Publisher) → s.publishers p ≡ Some x → IsIndependentPublisher s.config x
-  pub all_open : (r : ℕ) (y : Subscriber) → s.subscribers r ≡ Some y → y.is_open ≡ true
+  pub all_open : (r : ℕ) (y : Subscriber) → r ≢ q → s.subscribers r ≡ Some y → y.is_open ≡ true
 
 -- The publisher that the command makes, if it makes one, is independent.
 abbrev pub makes_independent_publisher : {T U : Type 0} → ServiceConfig → Command T U → Bool
@@ -61,12 +61,12 @@ HasReleased of i commands replies =
     (j p : ℕ) → j < i → slice_get commands j ≡ Some (Receive of) → slice_get replies j ≡ Some (Sample p)
     → (k : ℕ) × (j < k) × (k < i) × (slice_get commands k ≡ Some (Release j))
 
--- Of two runs: each publisher that the first made is independent; and a subscriber that the first made, and a later command of it
--- closes, has released each of its samples before that command, in both runs.
-pub record AreIndependent {T U : Type 0} (c : ServiceConfig) (commands : List (Command T U)) (replies : List (Reply T U)) (reduced : List (Command T U)) (replies' : List (Reply T U)) : Type 0 where
+-- Of two runs: each publisher that the first made is independent; and a subscriber that the first made, but not at `position`, and
+-- a later command of it closes, has released each of its samples before that command, in both runs.
+pub record AreIndependent {T U : Type 0} (c : ServiceConfig) (position : ℕ) (commands : List (Command T U)) (replies : List (Reply T U)) (reduced : List (Command T U)) (replies' : List (Reply T U)) : Type 0 where
   pub publishers : (i p : ℕ) (command : Command T U) → slice_get commands i ≡ Some command → slice_get replies i ≡ Some (PublisherMade p)
       → makes_independent_publisher c command ≡ true
-  pub closes : (i of r : ℕ) → of < i → slice_get commands i ≡ Some (Close of) → slice_get replies of ≡ Some (SubscriberMade r)
+  pub closes : (i of r : ℕ) → of ≢ position → of < i → slice_get commands i ≡ Some (Close of) → slice_get replies of ≡ Some (SubscriberMade r)
       → HasReleased of i commands replies × HasReleased of i reduced replies'
 
 -- ---- the laws of one step
@@ -100,26 +100,26 @@ module _ {T U : Type 0} where
   abbrev pub HasBorrowedNothing : State T U → (r : ℕ) → Type 0
   HasBorrowedNothing s r = (p : ℕ) → has_borrows (s.mailboxes p r) ≡ false
 
-  -- A subscriber that a handle names and the command closes has borrowed nothing in either state.
-  abbrev pub ClosesUnborrowed : State T U → State T U → List Handle → Command T U → Type 0
-  ClosesUnborrowed s s' handles command =
-      (of r : ℕ) → command ≡ Close of → slice_get handles of ≡ Some (Subscriber_handle r) → HasBorrowedNothing s r × HasBorrowedNothing s' r
+  -- A subscriber other than q that a handle names and the command closes has borrowed nothing in either state.
+  abbrev pub ClosesUnborrowed : (q : ℕ) → State T U → State T U → List Handle → Command T U → Type 0
+  ClosesUnborrowed q s s' handles command =
+      (of r : ℕ) → r ≢ q → command ≡ Close of → slice_get handles of ≡ Some (Subscriber_handle r) → HasBorrowedNothing s r × HasBorrowedNothing s' r
 
--- A subscriber's call leaves the view of each other subscriber as it was, while no closed subscriber is left.
+-- A subscriber's call leaves the view of each other subscriber q as it was, while no closed subscriber is left but q.
 abbrev pub CallsLeaveOthersViews : Type 0 → Type 0 → Type 0
 CallsLeaveOthersViews T U =
     (default_value : T) (default_header : U) (q : ℕ) (m : Messages T U) (s : State T U) (handles : List Handle) (command : Command T U) (of : ℕ) (o : Outcome T U)
-    → ((r : ℕ) (y : Subscriber) → s.subscribers r ≡ Some y → y.is_open ≡ true)
+    → ((r : ℕ) (y : Subscriber) → r ≢ q → s.subscribers r ≡ Some y → y.is_open ≡ true)
     → subscriber_call command ≡ Some of → is_of_others q (slice_get handles of) ≡ true
     → Step ample_memory default_value default_header m s handles command o
     → SameView q m s (handles ++ No_handle ∷ []) (messages_after o.event m) o.state (handles ++ o.handle ∷ [])
 
--- One command from two independent states that look alike to a subscriber ends in states that do, where it closes no subscriber
--- that has borrowed anything, and where the replies are alike if it is a receive of that subscriber.
+-- One command from two independent states that look alike to a subscriber ends in states that do, where it closes no other
+-- subscriber that has borrowed anything, and where the replies are alike if it is a receive of that subscriber.
 abbrev pub AlikeStatesStayAlike : Type 0 → Type 0 → Type 0
 AlikeStatesStayAlike T U =
     (default_value : T) (default_header : U) (q : ℕ) (m m' : Messages T U) (s s' : State T U) (handles handles' : List Handle) (command : Command T U) (o o' : Outcome T U)
-    → IsIndependent s → IsIndependent s' → SameView q m s handles m' s' handles' → ClosesUnborrowed s s' handles command
+    → IsIndependent q s → IsIndependent q s' → SameView q m s handles m' s' handles' → ClosesUnborrowed q s s' handles command
     → Step ample_memory default_value default_header m s handles command o
     → Step ample_memory default_value default_header m' s' handles' command o'
     → ((of : ℕ) → command ≡ Receive of → slice_get handles of ≡ Some (Subscriber_handle q) → o.reply ≡ o'.reply)
@@ -138,15 +138,15 @@ module _ {T U : Type 0} where
 -- One run is of some commands in a new domain, and the other is of a reduced list, in which `Nothing` stands in place of
 -- some calls of subscribers other than the one made at `position`. Positions are looked up in the commands and what may
 -- come later. Memory is ample in both runs, and both have the same default values. In the first run each publisher that was
--- made is independent, and q is the subscriber made at `position`. Each subscriber that is closed has released its samples
--- before, in both runs. The receives of q get the same replies in both. Then the view of q is the same at the end of both,
--- and reads of what its receives made get the same replies in both.
+-- made is independent, and q is the subscriber made at `position`. Each other subscriber that is closed has released its
+-- samples before, in both runs. The receives of q get the same replies in both. Then the view of q is the same at the end of
+-- both, and reads of what its receives made get the same replies in both.
 abbrev pub SubscribersAreIsolated : Type 0 → Type 0 → Type 0
 SubscribersAreIsolated T U =
     (default_value : T) (default_header : U) (c : ServiceConfig) (position q : ℕ) (commands reduced later : List (Command T U))
     (replies replies' : List (Reply T U)) (events events' : List (Event T U)) (m m' : Messages T U) (s s' : State T U) (handles handles' : List Handle)
     → OmitsOthersFrom position (commands ++ later) commands reduced
-    → AreIndependent c commands replies reduced replies'
+    → AreIndependent c position commands replies reduced replies'
     → RunTo ample_memory (only_defaults default_value default_header) no_messages (fresh c) [] commands replies events m s handles
     → RunTo ample_memory (only_defaults default_value default_header) no_messages (fresh c) [] reduced replies' events' m' s' handles'
     → slice_get replies position ≡ Some (SubscriberMade q)
@@ -162,7 +162,7 @@ ViewsStayAlike T U =
     (default_value : T) (default_header : U) (c : ServiceConfig) (position q n : ℕ) (commands reduced : List (Command T U))
     (replies replies' : List (Reply T U)) (events events' : List (Event T U)) (m m' : Messages T U) (s s' : State T U)
     → OmitsOthersFrom position commands commands reduced
-    → AreIndependent c commands replies reduced replies'
+    → AreIndependent c position commands replies reduced replies'
     → slice_get replies position ≡ Some (SubscriberMade q)
     → ((i : ℕ) → slice_get commands i ≡ Some (Receive position) → slice_get replies i ≡ slice_get replies' i)
     → (x : PointOf ample_memory (only_defaults default_value default_header) no_messages (fresh c) commands replies events m s n)

@@ -79,7 +79,7 @@ SubscribersAreIsolatedWithoutRefusals T U =
     → All TellsOfRefusals commands → All TellsOfRefusals reduced
     → MetNoRefusal c commands replies s.warnings → MetNoRefusal c reduced replies' s'.warnings
     → OmitsOthersFrom position (commands ++ later) commands reduced
-    → AreIndependent c commands replies reduced replies'
+    → AreIndependent c position commands replies reduced replies'
     → RunTo fixed_handlers (only_defaults default_value default_header) no_messages (fresh c) [] commands replies events m s handles
     → RunTo fixed_handlers (only_defaults default_value default_header) no_messages (fresh c) [] reduced replies' events' m' s' handles'
     → slice_get replies position ≡ Some (SubscriberMade q)
@@ -96,7 +96,7 @@ ViewsStayAlikeWithoutRefusals T U =
     → All TellsOfRefusals commands → All TellsOfRefusals reduced
     → MetNoRefusal c commands replies s.warnings → MetNoRefusal c reduced replies' s'.warnings
     → OmitsOthersFrom position commands commands reduced
-    → AreIndependent c commands replies reduced replies'
+    → AreIndependent c position commands replies reduced replies'
     → slice_get replies position ≡ Some (SubscriberMade q)
     → ((i : ℕ) → slice_get commands i ≡ Some (Receive position) → slice_get replies i ≡ slice_get replies' i)
     → (x : PointOf fixed_handlers (only_defaults default_value default_header) no_messages (fresh c) commands replies events m s n)

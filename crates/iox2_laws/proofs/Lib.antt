@@ -38,3 +38,4 @@ pub mod SliceLoans
 pub mod PortsCome
 pub mod PortsClose
 pub mod WaitingCloses
+pub mod LoansLeft

@@ -1,14 +1,13 @@
 -- No operation brings back a port that left, nor opens one that was shut; and no publisher waits for a receiver that didn't,
 -- but after a send that was blocked.
-use Rattle.std.proofs.Common.{◌≡◌, ℕ, ◌≤◌, ◌<◌, Bool, true, false, List, cond, [], ◌∷◌, ◌++◌, refl, sym, ap, subst, ◌∙◌, le_refl, le_trans, arith, Option, None, Some}
+use Rattle.std.proofs.Common.{◌≡◌, ℕ, ◌≤◌, ◌<◌, Bool, true, false, List, [], ◌∷◌, ◌++◌, refl, sym, ap, subst, ◌∙◌, le_refl, le_trans, arith, Option, None, Some}
 use Rattle.std.specs.Prelude.{max, ◌==◌, nat_lt}
 use Rattle.std.specs.Option.{option_map}
 use Rattle.std.proofs.lemmas.Bool.{cond_both}
 use Rattle.std.specs.declared.time.Duration.{Duration}
-use Rattle.iox2_store.specs.machine.Limits.{last_number, buffer_limit, expired_limit}
+use Rattle.iox2_store.specs.machine.Limits.{last_number, buffer_limit}
 use Rattle.iox2_store.specs.machine.Numbers.{put_at, without, size, last_n}
 use Rattle.iox2_store.specs.machine.Places.{free_place}
-use Rattle.iox2_store.specs.machine.Mailbox.{Mailbox}
 use Rattle.iox2_store.specs.machine.Records.{Loan, Publisher, Subscriber, Environment, PublisherSettings, SubscriberSettings}
 use Rattle.iox2_store.specs.machine.State.{State, held, with_loan, with_mailbox, publisher_changed, subscriber_changed}
 use Rattle.iox2_store.specs.machine.Delivery.{DeliveryEnd, Complete, Suspended, no_time}

@@ -11,7 +11,7 @@ use Rattle.iox2_store.specs.machine.Ports.{publisher_gone, mailbox_after_publish
 use Rattle.iox2_store.specs.machine.Records.{Publisher, Subscriber}
 use Rattle.iox2_store.specs.machine.Releases.{subscriber_pruned, place_freed, is_unused, pruned}
 use Rattle.iox2_store.specs.machine.State.{State, connected_publishers}
-use Rattle.iox2_store.specs.machine.Waiting.{receives_from, waiting_from, waiting_for}
+use Rattle.iox2_store.specs.machine.Waiting.{waiting_from, waiting_for}
 use Rattle.iox2_store.specs.machine.WellFormed.{IsWellFormed}
 use Rattle.iox2_laws.proofs.NumberLemmas.{contains_in_append}
 use Rattle.iox2_laws.proofs.PlaceLemmas.{is_port-false, leads_to}

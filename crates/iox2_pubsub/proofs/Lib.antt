@@ -20,6 +20,5 @@ pub mod PayloadLists
 pub mod WaitingShown
 pub mod UpToDateShown
 pub mod ClosesWait
-pub mod LoansLeft
 pub mod LoansLeftShown
 pub mod SureLoans

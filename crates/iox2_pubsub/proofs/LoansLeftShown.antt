@@ -5,6 +5,7 @@ use Rattle.std.proofs.lemmas.Bool.{cases_eq}
 use Rattle.iox2_store.specs.machine.Environments.{ample_memory}
 use Rattle.iox2_store.specs.machine.Limits.{last_number, worst_case}
 use Rattle.iox2_store.specs.machine.Loans.{is_static, loan_discarded}
+use Rattle.iox2_store.specs.machine.LoansLeft.{CanLend}
 use Rattle.iox2_store.specs.machine.Ports.{CreatePublisher, CreateSubscriber, publisher_closed, subscriber_closed, slots_for}
 use Rattle.iox2_store.specs.machine.PublisherUpdate.{UpdatePublisher}
 use Rattle.iox2_store.specs.machine.Receives.{ReceiveResult, Receive}
@@ -19,16 +20,16 @@ use Rattle.iox2_store.specs.declared.errors.SendError.{SendError}
 use Rattle.iox2_store.specs.declared.errors.PublisherCreateError.{PublisherCreateError}
 use Rattle.iox2_store.specs.declared.errors.SubscriberCreateError.{SubscriberCreateError}
 use Rattle.iox2_store.specs.declared.service_config.ServiceConfig.{ServiceConfig}
+use Rattle.iox2_laws.proofs.LoansLeft.{LoansKept, LoanTaken, LoanEnds, set_kept, update_publisher_kept, update_subscriber_kept, receive_kept, released_kept, subscriber_closed_kept, create_publisher_kept, created_lends, create_subscriber_kept, kept_itself, kept_lends, closed_lends, loan_taken, discarded_ends, send_ends, ended_lends, others_lend, lends_fewer}
 use Rattle.iox2_domain.specs.Kept.{Kept, state_of}
 use Rattle.iox2_domain.specs.Lending.{LoanCall}
 use Rattle.iox2_domain.specs.NewPublisher.{plain_publisher}
 use Rattle.iox2_domain.specs.Shows.{Shows}
-use Rattle.iox2_pubsub.specs.LoansLeft.{CanLend, HasLoansLeft, HasNumbersLeft, NumbersLeftStay, LoansLeftStay, OthersLoansLeftStay, HasOneMoreLeft, TakesOneLeft}
+use Rattle.iox2_pubsub.specs.LoansLeft.{HasLoansLeft, HasNumbersLeft, NumbersLeftStay, LoansLeftStay, OthersLoansLeftStay, HasOneMoreLeft, TakesOneLeft}
 use Rattle.iox2_pubsub.specs.SendCalls.{result_of_send}
 use Rattle.iox2_pubsub.specs.declared.publisher.Publisher.{Publisher}
 use Rattle.iox2_pubsub.specs.declared.send_outcome.SendOutcome.{SendOutcome}
 use Rattle.iox2_pubsub.specs.declared.send_outcome.SendOutcome.TheVariants.{Delivered}
-use Rattle.iox2_pubsub.proofs.LoansLeft.{LoansKept, LoanTaken, LoanEnds, set_kept, update_publisher_kept, update_subscriber_kept, receive_kept, released_kept, subscriber_closed_kept, create_publisher_kept, created_lends, create_subscriber_kept, kept_itself, kept_lends, closed_lends, loan_taken, discarded_ends, send_ends, ended_lends, others_lend, lends_fewer}
 
 -- a number that is left is below the last
 below_last : (now n last : ℕ) → now + (n + 1) ≤ last → now < last

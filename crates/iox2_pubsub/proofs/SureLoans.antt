@@ -9,6 +9,7 @@ use Rattle.iox2_store.specs.SlotContents.{ContentState}
 use Rattle.iox2_store.specs.machine.Environments.{ample_memory}
 use Rattle.iox2_store.specs.machine.Limits.{buffer_limit, worst_case, last_number}
 use Rattle.iox2_store.specs.machine.Loans.{GrantLoan, is_static}
+use Rattle.iox2_store.specs.machine.LoansLeft.{CanLend}
 use Rattle.iox2_store.specs.machine.Records.{Publisher}
 use Rattle.iox2_store.specs.machine.State.{State}
 use Rattle.iox2_store.specs.declared.errors.LoanError.{LoanError}
@@ -21,7 +22,7 @@ use Rattle.iox2_domain.specs.Ports.{PublisherFields}
 use Rattle.iox2_domain.specs.declared.loan_slots.LoanAt.{LoanAt}
 use Rattle.iox2_domain.proofs.lemmas.fields.ConnectionEnds.{publisher-stands}
 use Rattle.iox2_pubsub.proofs.LoansLeftShown.{lends-in, number-left}
-use Rattle.iox2_pubsub.specs.LoansLeft.{CanLend, HasLoansLeft, HasNumbersLeft}
+use Rattle.iox2_pubsub.specs.LoansLeft.{HasLoansLeft, HasNumbersLeft}
 use Rattle.iox2_pubsub.specs.declared.publisher.Publisher.{Publisher as PublisherHandle}
 
 -- The publisher has its slots in one segment, at least as many as the worst case for its limit of loans, and has fewer loans

@@ -1,21 +1,9 @@
 -- How many loans a publisher may still take, and how many message numbers a domain has left.
-use Rattle.std.specs.Prelude.{ℕ, true, length, ◌≡◌, ◌≢◌, ◌+◌, ◌≤◌}
-use Rattle.std.specs.declared.option.Option.TheVariants.{Some}
-use Rattle.iox2_store.specs.machine.Limits.{worst_case, last_number}
-use Rattle.iox2_store.specs.machine.Loans.{is_static}
-use Rattle.iox2_store.specs.machine.Records.{Publisher as MachinePublisher}
-use Rattle.iox2_store.specs.machine.State.{State}
+use Rattle.std.specs.Prelude.{ℕ, ◌≡◌, ◌≢◌, ◌+◌, ◌≤◌}
+use Rattle.iox2_store.specs.machine.Limits.{last_number}
+use Rattle.iox2_store.specs.machine.LoansLeft.{CanLend}
 use Rattle.iox2_domain.specs.Kept.{Kept, state_of}
 use Rattle.iox2_pubsub.specs.declared.publisher.Publisher.{Publisher}
-
--- The publisher p stands, has its slots in one segment, at least as many as the worst case for its limit of loans, and at
--- least n loans fewer out than that limit.
-pub record CanLend {T U : Type 0} (s : State T U) (p n : ℕ) : Type 0 where
-  pub port : MachinePublisher
-  pub stands : s.publishers p ≡ Some port
-  pub static : is_static port.allocation_strategy ≡ true
-  pub slots : worst_case s.config port.max_loaned_samples ≤ port.slots
-  pub few : length port.loans + n ≤ port.max_loaned_samples
 
 module _ {T U : Type 0} where
   -- The publisher wasn't closed, and can't be refused n loans more for want of a slot or for its limit of loans.

@@ -21,7 +21,7 @@ use std::alloc::Global;
 /// place of each. Then that subscriber isn't felt to be slower or faster: if its own receives get
 /// the same replies in both runs, it sees the same after each number of commands in both, and reads
 /// of its samples get the same replies. So it is where each publisher has as many slots as
-/// `worst_case_slots` says and never waits for a receiver, each subscriber that is closed has
+/// `worst_case_slots` says and never waits for a receiver, each other subscriber that is closed has
 /// released all its samples before, in both runs, and neither run was refused memory: no port was
 /// refused for want of it, and `refused_connections` of both domains is 0.
 ///

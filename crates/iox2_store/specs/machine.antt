@@ -10,6 +10,7 @@ pub mod Connections
 pub mod PublisherUpdate
 pub mod SubscriberUpdate
 pub mod Loans
+pub mod LoansLeft
 pub mod Sends
 pub mod Receives
 pub mod Releases

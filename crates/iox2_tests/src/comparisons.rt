@@ -1,4 +1,5 @@
-ghost use Rattle.std.specs.Prelude.{◌≡◌, true};
+//! Two runs of commands that differ in what one subscriber does.
+ghost use Rattle.std.specs.Prelude.{◌≡◌, true, IfOk};
 ghost use Rattle.std.specs.List.{All};
 ghost use Rattle.iox2_commands.specs.Refusals.{TellNoRefusal};
 ghost use Rattle.iox2_runs.specs.Supported.{IsSupportedCommand};
@@ -10,10 +11,14 @@ use iox2_store::{
     AllocationStrategy, BackpressureStrategy, DegradationAction, ServiceConfig,
     SubscriberCreateError, UniquePublisherId, UniqueSubscriberId,
 };
-use std::alloc::Global;
+use std::alloc::{AllocError, Global};
 use std::process::Abort;
 
-type End = (Domain<u64, u8>, Vec<Reply<u64, u8>>);
+type Commands = Vec<Command<u64, u8>>;
+
+type Replies = Vec<Reply<u64, u8>>;
+
+type End = (Domain<u64, u8>, Replies);
 
 const SUBSCRIBER: Command<u64, u8> = Command::CreateSubscriber {
     buffer: None,
@@ -30,59 +35,111 @@ const PUBLISHER: Command<u64, u8> = Command::CreatePublisher {
     backpressure: None,
 };
 
-// Two messages are sent to two subscribers. The first subscriber receives one in between.
-const WITH_A_RECEIVE: [Command<u64, u8>; 13] = [
-    SUBSCRIBER,
-    SUBSCRIBER,
-    PUBLISHER,
-    Command::LoanUninit { of: 2 },
-    Command::WriteAll { of: 3, value: 1 },
-    Command::Send { of: 3 },
-    Command::Receive { of: 0 },
-    Command::LoanUninit { of: 2 },
-    Command::WriteAll { of: 7, value: 2 },
-    Command::Send { of: 7 },
-    Command::Receive { of: 1 },
-    Command::Read { of: 10, at: 0 },
-    Command::Receive { of: 1 },
-];
+// The command, or nothing in its place.
+fn if_kept(is_kept: bool, command: Command<u64, u8>) -> Command<u64, u8>
+    requires { IsSupportedCommand command }
+    ensures { IsSupportedCommand result }
+{
+    if is_kept { command } else { Command::Nothing }
+}
 
-// The same, but the first subscriber receives nothing.
-const WITHOUT_IT: [Command<u64, u8>; 13] = [
-    SUBSCRIBER,
-    SUBSCRIBER,
-    PUBLISHER,
-    Command::LoanUninit { of: 2 },
-    Command::WriteAll { of: 3, value: 1 },
-    Command::Send { of: 3 },
-    Command::Nothing,
-    Command::LoanUninit { of: 2 },
-    Command::WriteAll { of: 7, value: 2 },
-    Command::Send { of: 7 },
-    Command::Receive { of: 1 },
-    Command::Read { of: 10, at: 0 },
-    Command::Receive { of: 1 },
-];
+// Two messages are sent to two subscribers. In between the first subscriber receives one, or doesn't.
+fn two_messages(alloc: Global, receives: bool) -> Result<Commands, AllocError>
+    ensures { IfOk result (λ commands. All IsSupportedCommand commands.items) }
+{
+    let commands = [
+        SUBSCRIBER,
+        SUBSCRIBER,
+        PUBLISHER,
+        Command::LoanUninit { of: 2 },
+        Command::WriteAll { of: 3, value: 1 },
+        Command::Send { of: 3 },
+        if_kept(receives, Command::Receive { of: 0 }),
+        Command::LoanUninit { of: 2 },
+        Command::WriteAll { of: 7, value: 2 },
+        Command::Send { of: 7 },
+        Command::Receive { of: 1 },
+        Command::Read { of: 10, at: 0 },
+        Command::Receive { of: 1 },
+    ];
+    Ok(Vec::from_array(alloc, commands)?)
+}
+
+// The first subscriber is closed, before which it may receive a message and release it. A new one
+// takes its place.
+fn close_of_another(alloc: Global, receives: bool, releases: bool) -> Result<Commands, AllocError>
+    ensures { IfOk result (λ commands. All IsSupportedCommand commands.items) }
+{
+    let commands = [
+        SUBSCRIBER,
+        SUBSCRIBER,
+        PUBLISHER,
+        Command::LoanUninit { of: 2 },
+        Command::WriteAll { of: 3, value: 1 },
+        Command::Send { of: 3 },
+        if_kept(receives, Command::Receive { of: 0 }),
+        if_kept(releases, Command::Release { of: 6 }),
+        Command::Close { of: 0 },
+        SUBSCRIBER,
+        Command::LoanUninit { of: 2 },
+        Command::WriteAll { of: 10, value: 2 },
+        Command::Send { of: 10 },
+        Command::Receive { of: 1 },
+        Command::Read { of: 13, at: 0 },
+        Command::Receive { of: 9 },
+        Command::Read { of: 15, at: 0 },
+    ];
+    Ok(Vec::from_array(alloc, commands)?)
+}
+
+// The second subscriber is closed while it has a sample, before which the first one may receive too.
+fn close_with_a_sample(alloc: Global, other_receives: bool) -> Result<Commands, AllocError>
+    ensures { IfOk result (λ commands. All IsSupportedCommand commands.items) }
+{
+    let commands = [
+        SUBSCRIBER,
+        SUBSCRIBER,
+        PUBLISHER,
+        Command::LoanUninit { of: 2 },
+        Command::WriteAll { of: 3, value: 1 },
+        Command::Send { of: 3 },
+        if_kept(other_receives, Command::Receive { of: 0 }),
+        Command::Receive { of: 1 },
+        Command::Close { of: 1 },
+        Command::Read { of: 7, at: 0 },
+        SUBSCRIBER,
+        Command::Release { of: 7 },
+        SUBSCRIBER,
+    ];
+    Ok(Vec::from_array(alloc, commands)?)
+}
 
 // The replies of a run whose domain isn't needed.
-fn replies_of((_, replies): End) -> Vec<Reply<u64, u8>> {
+fn replies_of((_, replies): End) -> Replies {
     replies
 }
 
-#[test]
-fn a_subscriber_sees_the_same_beside_a_slower_one(rt: HostRuntime) {
+// The replies of both runs, with two subscribers at most.
+fn compared(rt: &impl Abort, alloc: Global, commands: Commands, reduced: Commands) -> [Replies; 2]
+    requires commands { All IsSupportedCommand commands.items }
+    requires reduced { All IsSupportedCommand reduced.items }
+{
     let config = ServiceConfig {
         max_subscribers: 2,
         subscriber_max_buffer_size: 1,
         subscriber_max_borrowed_samples: 1,
         ..settings()
     };
-    let commands = Vec::from_array(rt.alloc(), WITH_A_RECEIVE).expect(&rt, "commands");
-    let reduced = Vec::from_array(rt.alloc(), WITHOUT_IT).expect(&rt, "fewer commands");
-    let ends: Option<(End, End)> = compare_runs(rt.alloc(), &config, commands, reduced);
-    let (first, second) = ends.expect(&rt, "two runs");
-    let replies = replies_of(first);
-    let others = replies_of(second);
+    let ends: Option<(End, End)> = compare_runs(alloc, &config, commands, reduced);
+    let (first, second) = ends.expect(rt, "two runs");
+    [replies_of(first), replies_of(second)]
+}
+
+#[test]
+fn a_subscriber_sees_the_same_beside_a_slower_one(rt: HostRuntime) {
+    let commands = two_messages(rt.alloc(), true).expect(&rt, "commands");
+    let reduced = two_messages(rt.alloc(), false).expect(&rt, "fewer commands");
+    let [replies, others] = compared(&rt, rt.alloc(), commands, reduced);
     let expected: [Reply<u64, u8>; 13] = [
         Reply::SubscriberMade(UniqueSubscriberId::new(1)),
         Reply::SubscriberMade(UniqueSubscriberId::new(2)),
@@ -98,89 +155,14 @@ fn a_subscriber_sees_the_same_beside_a_slower_one(rt: HostRuntime) {
         Reply::Cell(Some(1)),
         Reply::NoSample,
     ];
-    let slower: [Reply<u64, u8>; 13] = [
-        Reply::SubscriberMade(UniqueSubscriberId::new(1)),
-        Reply::SubscriberMade(UniqueSubscriberId::new(2)),
-        Reply::PublisherMade(UniquePublisherId::new(3)),
-        Reply::Loaned,
-        Reply::Done,
-        Reply::Delivered(2),
-        Reply::Done,
-        Reply::Loaned,
-        Reply::Done,
-        Reply::Delivered(0),
-        Reply::Sample(UniquePublisherId::new(3)),
-        Reply::Cell(Some(1)),
-        Reply::NoSample,
-    ];
+    let mut slower = expected;
+    slower[6] = Reply::Done;
+    slower[9] = Reply::Delivered(0);
     assert!(rt; replies.as_slice() == expected.as_slice());
     assert!(rt; others.as_slice() == slower.as_slice());
 }
 
-// The first subscriber receives a message and releases it before it is closed. A new one takes its place.
-const WITH_A_CLOSE: [Command<u64, u8>; 17] = [
-    SUBSCRIBER,
-    SUBSCRIBER,
-    PUBLISHER,
-    Command::LoanUninit { of: 2 },
-    Command::WriteAll { of: 3, value: 1 },
-    Command::Send { of: 3 },
-    Command::Receive { of: 0 },
-    Command::Release { of: 6 },
-    Command::Close { of: 0 },
-    SUBSCRIBER,
-    Command::LoanUninit { of: 2 },
-    Command::WriteAll { of: 10, value: 2 },
-    Command::Send { of: 10 },
-    Command::Receive { of: 1 },
-    Command::Read { of: 13, at: 0 },
-    Command::Receive { of: 9 },
-    Command::Read { of: 15, at: 0 },
-];
-
-// The same, but the first subscriber receives nothing before it is closed.
-const WITHOUT_ITS_RECEIVE: [Command<u64, u8>; 17] = [
-    SUBSCRIBER,
-    SUBSCRIBER,
-    PUBLISHER,
-    Command::LoanUninit { of: 2 },
-    Command::WriteAll { of: 3, value: 1 },
-    Command::Send { of: 3 },
-    Command::Nothing,
-    Command::Nothing,
-    Command::Close { of: 0 },
-    SUBSCRIBER,
-    Command::LoanUninit { of: 2 },
-    Command::WriteAll { of: 10, value: 2 },
-    Command::Send { of: 10 },
-    Command::Receive { of: 1 },
-    Command::Read { of: 13, at: 0 },
-    Command::Receive { of: 9 },
-    Command::Read { of: 15, at: 0 },
-];
-
-// The same, but the first subscriber has the message still when it is closed.
-const WITHOUT_ITS_RELEASE: [Command<u64, u8>; 17] = [
-    SUBSCRIBER,
-    SUBSCRIBER,
-    PUBLISHER,
-    Command::LoanUninit { of: 2 },
-    Command::WriteAll { of: 3, value: 1 },
-    Command::Send { of: 3 },
-    Command::Receive { of: 0 },
-    Command::Nothing,
-    Command::Close { of: 0 },
-    SUBSCRIBER,
-    Command::LoanUninit { of: 2 },
-    Command::WriteAll { of: 10, value: 2 },
-    Command::Send { of: 10 },
-    Command::Receive { of: 1 },
-    Command::Read { of: 13, at: 0 },
-    Command::Receive { of: 9 },
-    Command::Read { of: 15, at: 0 },
-];
-
-// What `WITH_A_CLOSE` is answered.
+// What the close of another subscriber is answered, where it received and released a message.
 fn answers() -> [Reply<u64, u8>; 17] {
     [
         Reply::SubscriberMade(UniqueSubscriberId::new(1)),
@@ -195,7 +177,7 @@ fn answers() -> [Reply<u64, u8>; 17] {
         Reply::SubscriberMade(UniqueSubscriberId::new(4)),
         Reply::Loaned,
         Reply::Done,
-        Reply::Delivered(2),
+        Reply::Delivered(1),
         Reply::Sample(UniquePublisherId::new(3)),
         Reply::Cell(Some(1)),
         Reply::Sample(UniquePublisherId::new(3)),
@@ -205,16 +187,9 @@ fn answers() -> [Reply<u64, u8>; 17] {
 
 #[test]
 fn a_subscriber_sees_the_same_beside_one_that_is_closed(rt: HostRuntime) {
-    let config = ServiceConfig {
-        max_subscribers: 2,
-        ..settings()
-    };
-    let commands = Vec::from_array(rt.alloc(), WITH_A_CLOSE).expect(&rt, "commands");
-    let reduced = Vec::from_array(rt.alloc(), WITHOUT_ITS_RECEIVE).expect(&rt, "fewer commands");
-    let ends: Option<(End, End)> = compare_runs(rt.alloc(), &config, commands, reduced);
-    let (first, second) = ends.expect(&rt, "two runs");
-    let replies = replies_of(first);
-    let others = replies_of(second);
+    let commands = close_of_another(rt.alloc(), true, true).expect(&rt, "commands");
+    let reduced = close_of_another(rt.alloc(), false, false).expect(&rt, "fewer commands");
+    let [replies, others] = compared(&rt, rt.alloc(), commands, reduced);
     let mut without = answers();
     without[6] = Reply::Done;
     assert!(rt; replies.as_slice() == answers().as_slice());
@@ -224,23 +199,42 @@ fn a_subscriber_sees_the_same_beside_one_that_is_closed(rt: HostRuntime) {
 // A close is felt where a sample is out in one run alone: the place of its subscriber isn't free.
 #[test]
 fn a_subscriber_that_keeps_a_sample_keeps_its_place(rt: HostRuntime) {
-    let config = ServiceConfig {
-        max_subscribers: 2,
-        ..settings()
-    };
-    let commands = Vec::from_array(rt.alloc(), WITH_A_CLOSE).expect(&rt, "commands");
-    let reduced = Vec::from_array(rt.alloc(), WITHOUT_ITS_RELEASE).expect(&rt, "fewer commands");
-    let ends: Option<(End, End)> = compare_runs(rt.alloc(), &config, commands, reduced);
-    let (first, second) = ends.expect(&rt, "two runs");
-    let replies = replies_of(first);
-    let others = replies_of(second);
+    let commands = close_of_another(rt.alloc(), true, true).expect(&rt, "commands");
+    let reduced = close_of_another(rt.alloc(), true, false).expect(&rt, "fewer commands");
+    let [replies, others] = compared(&rt, rt.alloc(), commands, reduced);
     let mut keeping = answers();
     keeping[9] = Reply::SubscriberRefused(SubscriberCreateError::ExceedsMaxSupportedSubscribers);
-    keeping[12] = Reply::Delivered(1);
+    keeping[12] = Reply::Delivered(0);
     keeping[15] = Reply::Skipped;
     keeping[16] = Reply::Skipped;
     assert!(rt; replies.as_slice() == answers().as_slice());
     assert!(rt; others.as_slice() == keeping.as_slice());
+}
+
+#[test]
+fn a_subscriber_sees_the_same_where_it_is_closed_with_a_sample(rt: HostRuntime) {
+    let commands = close_with_a_sample(rt.alloc(), true).expect(&rt, "commands");
+    let reduced = close_with_a_sample(rt.alloc(), false).expect(&rt, "fewer commands");
+    let [replies, others] = compared(&rt, rt.alloc(), commands, reduced);
+    let expected: [Reply<u64, u8>; 13] = [
+        Reply::SubscriberMade(UniqueSubscriberId::new(1)),
+        Reply::SubscriberMade(UniqueSubscriberId::new(2)),
+        Reply::PublisherMade(UniquePublisherId::new(3)),
+        Reply::Loaned,
+        Reply::Done,
+        Reply::Delivered(2),
+        Reply::Sample(UniquePublisherId::new(3)),
+        Reply::Sample(UniquePublisherId::new(3)),
+        Reply::Done,
+        Reply::Cell(Some(1)),
+        Reply::SubscriberRefused(SubscriberCreateError::ExceedsMaxSupportedSubscribers),
+        Reply::Done,
+        Reply::SubscriberMade(UniqueSubscriberId::new(4)),
+    ];
+    let mut without = expected;
+    without[6] = Reply::Done;
+    assert!(rt; replies.as_slice() == expected.as_slice());
+    assert!(rt; others.as_slice() == without.as_slice());
 }
 
 // Before these, 33 subscribers were made. The first of the two that follow receives a message.

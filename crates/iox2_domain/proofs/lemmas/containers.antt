@@ -1,6 +1,7 @@
 -- Lists, places and slabs, whatever is in them.
 pub mod LookUps
 pub mod ChangedRecords
+pub mod RemovedPorts
 pub mod SetRecords
 pub mod MapSteps
 pub mod Placed

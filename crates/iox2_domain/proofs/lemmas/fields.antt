@@ -13,5 +13,8 @@ pub mod NamedBooks
 pub mod KeptBooks
 pub mod ExpiredRoom
 pub mod OpenReceivers
-pub mod RemovedConnections
 pub mod OwnKeys
+pub mod LostConnections
+pub mod ForgottenKeys
+pub mod ForgottenStates
+pub mod ForgetfulSubscribers

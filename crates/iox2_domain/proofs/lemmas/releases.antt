@@ -1,6 +1,5 @@
 -- A borrowed message is given back.
 pub mod Pruning
-pub mod OrphanRemoved
 pub mod Forgotten
 pub mod ForgottenEnds
 pub mod Departed
@@ -9,7 +8,6 @@ pub mod Released
 pub mod LetGo
 pub mod HandedBack
 pub mod Drops
-pub mod Unshared
 pub mod Left
 pub mod Idle
 pub mod Leaving

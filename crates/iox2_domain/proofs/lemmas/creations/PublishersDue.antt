@@ -1,24 +1,23 @@
 -- Every publisher becomes due for an update.
-use Rattle.std.proofs.Common.{◌≡◌, ℕ, List, [], ◌∷◌, map, Bool, true, false, cond, eqb, ◌+◌, get_or, refl, ap, sym, ◌∙◌, inl, inr, ◌⊎◌, length, suc, arith}
+use Rattle.std.proofs.Common.{◌≡◌, ℕ, List, [], ◌∷◌, map, Bool, true, false, cond, eqb, get_or, refl, ap, sym, subst, ◌∙◌, inl, inr}
 use Rattle.std.specs.declared.option.Option.{Option}
 use Rattle.std.specs.declared.option.Option.TheVariants.{None, Some}
-use Rattle.std.specs.Option.{option_map, option_map_or}
-use Rattle.std.specs.List.{sum_by}
+use Rattle.std.specs.Option.{option_map}
 use Rattle.iox2_store.specs.Link.{Link}
 use Rattle.iox2_store.specs.machine.Records.{Publisher}
-use Rattle.iox2_store.specs.machine.State.{publishers_due}
+use Rattle.iox2_store.specs.machine.State.{State, publishers_due}
 use Rattle.iox2_store.specs.Stored.{IsHeldMessage}
 use Rattle.iox2_ends.specs.LookUp.{look_up}
-use Rattle.iox2_ends.specs.Counters.{times, stands}
 use Rattle.iox2_laws.proofs.PortChanges.{publishers_due_keeps}
 use Rattle.iox2_domain.specs.Ports.{PublisherFields, due}
 use Rattle.iox2_domain.specs.Kept.{Named, state_of, port_named, ids, is_named}
-use Rattle.iox2_domain.specs.Fields.{Fields, kept_of, publisher_of, is_book_of}
-use Rattle.iox2_domain.specs.Invariant.{IsDomain, IsLinked, HasBooks, KeepsBooks, IsCounted, SenderHas, ReceiverHas, is_publisher, own_holders, is_loan_in, HasParts}
-use Rattle.iox2_domain.proofs.lemmas.containers.LookUps.{look_up-map, map-at, viewed, IsOnly-map}
+use Rattle.iox2_domain.specs.Fields.{Fields, kept_of, publisher_of}
+use Rattle.iox2_domain.specs.Invariant.{IsDomain, IsOwned, IsGone, SenderHas, HasParts}
+use Rattle.iox2_domain.specs.Midway.{IsMidway}
+use Rattle.iox2_domain.proofs.lemmas.containers.LookUps.{map-at, viewed}
+use Rattle.iox2_domain.proofs.lemmas.fields.ForgottenKeys.{ForgetsSenderKeys, Forgets, forgotten-parts, owned-still, gone-still}
 use Rattle.iox2_domain.proofs.lemmas.fields.Parts.{whole_of}
 use Rattle.iox2_domain.proofs.lemmas.fields.Views.{KeepsHeld, held-before}
-use Rattle.iox2_domain.proofs.lemmas.fields.KeptBooks.{kept-publishers}
 use mathlib.Core.Path.{fun_ext}
 
 -- the fields with every publisher due
@@ -62,92 +61,35 @@ module _ {T U : Type 0} (f : Fields T U) where
       → (y : PublisherFields) × (get_or f.publishers i None ≡ Some y) × (x ≡ due y)
   is_due i x at = viewed due f.publishers i x at
 
-  linked-due : IsLinked f → IsLinked (with_publishers_due f)
-  linked-due linked = record {
-    senders = λ i x at. let was = is_due i x at in rw was.2 (linked.senders i was.0 was.1);
-    receivers = linked.receivers;
-    expired = linked.expired;
-    ends = λ key c at. by key c (linked.ends key c at);
-    receiver_places = linked.receiver_places;
-    knows = linked.knows;
-    knows_publishers = λ key i c x at_c at_x same. let was = is_due i x at_x in
-        linked.knows_publishers key i c was.0 at_c was.1 (sym (ap (λ (z : PublisherFields). z.id) was.2) ∙ same);
-    sender_rooms = λ key i c x at_c at_x same. let was = is_due i x at_x in
-        rw was.2 (linked.sender_rooms key i c was.0 at_c was.1 (sym (ap (λ (z : PublisherFields). z.id) was.2) ∙ same));
-    receiver_rooms = linked.receiver_rooms;
-    limits = linked.limits;
-    returned = λ key c at. reclaims key c (linked.returned key c at);
-    marked = λ key c at is. let both = linked.marked key c at is in record { sender = sender key c both.sender; receiver = both.receiver };
-  } where
-    sender : (key : ℕ) (c : Link) → SenderHas f.publishers key c → SenderHas (map (option_map due) f.publishers) key c
-    sender key c has = record {
-      publisher = due has.publisher;
-      stands = map-at due f.publishers c.home.publisher_place ∙ ap (option_map due) has.stands;
-      is_its = has.is_its;
-      has = has.has;
-    }
-
-    reclaims : (key : ℕ) (c : Link) → SenderHas f.publishers key c ⊎ (c.returned ≡ []) → SenderHas (map (option_map due) f.publishers) key c ⊎ (c.returned ≡ [])
-    reclaims key c (inl has) = inl (sender key c has)
-    reclaims key c (inr none) = inr none
-
-    by : (key : ℕ) (c : Link) → SenderHas f.publishers key c ⊎ ReceiverHas f.subscribers key c
-        → SenderHas (map (option_map due) f.publishers) key c ⊎ ReceiverHas f.subscribers key c
-    by key c (inl has) = inl (sender key c has)
-    by key c (inr has) = inr has
-
-  books-due : HasBooks f → HasBooks (with_publishers_due f)
-  books-due books = record {
-    one_each = books.one_each;
-    books = books.books;
-    publishers = λ i x at. let was = is_due i x at in let has = books.publishers i was.0 was.1 in
-        rw was.2 (record { book = has.book; stands = has.stands; is_its = has.is_its; slots = has.slots; no_more = has.no_more; room = has.room });
-    no_others = books.no_others;
-  }
-
-  -- what the publisher itself has of the slot, or what is out of one that is gone
-  abbrev own : (p slot : ℕ) → Option PublisherFields → ℕ
-  own p slot o =
-      option_map_or (λ (x : PublisherFields). times slot x.loans + times slot (x.history).items) o
-      (option_map_or (λ b. cond (is_loan_in b slot) 1 0) (look_up (is_book_of p) f.books.slots) 0)
-
-  own-due : (p slot : ℕ) → own_holders f p slot ≡ own_holders (with_publishers_due f) p slot
-  own-due p slot = by (look_up (is_publisher p) f.publishers) ∙ ap (own p slot) (sym (look_up-map (is_publisher p) due f.publishers)) where
-    by : (o : Option PublisherFields) → own p slot o ≡ own p slot (option_map due o)
-    by None = refl
-    by (Some x) = refl
-
-  counted-due : IsCounted f → IsCounted (with_publishers_due f)
-  counted-due counted = record { at = λ p slot. counted.at p slot ∙ ap (λ n. n + sum_by (stands p slot) f.connections.slots) (own-due p slot) }
-
-  length-due : (xs : List (Option PublisherFields)) → length (map (option_map due) xs) ≡ length xs
-  length-due [] = refl
-  length-due (x ∷ xs) = ap suc (length-due xs)
-
   stands-due : (i : ℕ) (x : PublisherFields) → get_or f.publishers i None ≡ Some x → get_or (map (option_map due) f.publishers) i None ≡ Some (due x)
   stands-due i x at = map-at due f.publishers i ∙ ap (option_map due) at
 
+  sender-due : (key : ℕ) (c : Link) → SenderHas f.publishers key c → SenderHas (map (option_map due) f.publishers) key c
+  sender-due key c has = record {
+    publisher = due has.publisher;
+    stands = stands-due c.home.publisher_place has.publisher has.stands;
+    is_its = has.is_its;
+    has = has.has;
+  }
+
+  keys-due : (x : PublisherFields) → ForgetsSenderKeys x (due x)
+  keys-due x = record { fields = refl; keys = λ i key at. at }
+
+  forgets-due : HasParts f → Forgets f (map (option_map due) f.publishers) f.subscribers f.connections
+  forgets-due parts = record {
+    senders = λ i x at. let was = is_due i x at in (was.0, was.1, subst (ForgetsSenderKeys was.0) (sym was.2) (keys-due was.0));
+    senders_stay = λ i x at. (due x, stands-due i x at, keys-due x);
+    receivers = λ i y at. (y, at, record { fields = refl; keys = λ k key at. at; expired = λ key has. inl has });
+    fewer = λ key c at. at;
+    gone = λ key c at none. absurd (let no : None ≡ Some c = sym none ∙ at in cc);
+    ends = λ key c at. elim (parts.linked.ends key c at) [ inl has ↦ inl (sender-due key c has) | inr has ↦ inr has ];
+    returned = λ key c at. elim (parts.linked.returned key c at) [ inl has ↦ inl (sender-due key c has) | inr none ↦ inr none ];
+    marked = λ key c at is. let both = parts.linked.marked key c at is in record { sender = sender-due key c both.sender; receiver = both.receiver };
+  }
+
   -- the fields still agree with one another
   pub publishers_due-consistent : HasParts f → HasParts (with_publishers_due f)
-  publishers_due-consistent parts = record {
-    publisher_ids = λ p. IsOnly-map due (is_publisher p) (is_publisher p) (λ x. refl) f.publishers (parts.publisher_ids p);
-    subscriber_ids = parts.subscriber_ids;
-    apart = parts.apart;
-    linked = linked-due parts.linked;
-    expired_room = parts.expired_room;
-    books = books-due parts.books;
-    names = parts.names;
-    counted = counted-due parts.counted;
-    numbered = parts.numbered;
-    publisher_room = λ i x at. let was = is_due i x at in let has = parts.publisher_room i was.0 was.1 in
-        rw was.2 (record { loans = has.loans; history = has.history });
-    warning_room = parts.warning_room;
-    shapes = record { at = parts.shapes.at };
-    supported = parts.supported;
-    plain = λ i x at. let was = is_due i x at in let has = parts.plain i was.0 was.1 in
-        rw was.2 (record { strategy = has.strategy; backpressure = has.backpressure; degradation = has.degradation; unblocked = has.unblocked; allocation = has.allocation; length = has.length });
-    plain_subscribers = parts.plain_subscribers;
-  }
+  publishers_due-consistent parts = forgotten-parts f parts (map (option_map due) f.publishers) f.subscribers f.connections (forgets-due parts)
 
   -- whoever holds a message then held it before
   pub held-due : (p n : ℕ) → IsHeldMessage (state_of (kept_of (with_publishers_due f))) p n → IsHeldMessage (state_of (kept_of f)) p n
@@ -162,15 +104,41 @@ module _ {T U : Type 0} (f : Fields T U) where
           (x, e, record { history = ap (λ (z : Publisher). z.history) is; blocked = ap (λ (z : Publisher). z.blocked) is })
 
   -- each book is somebody's still, or left
-  pub kept-due : KeepsBooks f.next_port f.publishers f.books → KeepsBooks f.next_port (map (option_map due) f.publishers) f.books
-  kept-due = kept-publishers f.next_port f.next_port f.publishers (map (option_map due) f.publishers) (omega arith)
-      (λ i x at. (due x, stands-due i x at, refl, refl))
-      (λ i y at. let was = is_due i y at in inl (was.0, was.1, ap (λ (z : PublisherFields). z.id) was.2)) f.books
+  pub owned-due : HasParts f → (key p : ℕ) → IsOwned f.publishers key p → IsOwned (map (option_map due) f.publishers) key p
+  owned-due parts = owned-still f parts (map (option_map due) f.publishers) f.subscribers f.connections (forgets-due parts)
+
+  pub gone-due : HasParts f → (p : ℕ) → IsGone f.next_port f.publishers p → IsGone f.next_port (map (option_map due) f.publishers) p
+  gone-due parts = gone-still f parts (map (option_map due) f.publishers) f.subscribers f.connections (forgets-due parts)
 
   -- the invariant is kept
   pub publishers_due-agree : IsDomain f → IsDomain (with_publishers_due f)
   publishers_due-agree sound =
       whole_of (with_publishers_due f) (publishers_due-consistent sound.parts) sound.lone
-      (kept-due sound.kept_books)
+      (record {
+        at = λ key b at. elim (sound.kept_books.at key b at) [
+          | inl owned ↦ inl (owned-due sound.parts key b.publisher owned)
+          | inr left ↦ inr (gone-due sound.parts b.publisher left.0, left.1)
+        ];
+      })
       (rw publishers_due-are (publishers_due_keeps (state_of (kept_of f)) sound.well_formed))
       (λ p n held. sound.entries p n (held-due p n held))
+
+  -- so it is in the midst of a step
+  pub publishers_due-midway : (old : Fields T U) (s : State T U) (book : ℕ) → IsMidway old f s book → IsMidway old (with_publishers_due f) (publishers_due s) book
+  publishers_due-midway old s book midway = record {
+    consistent = publishers_due-consistent midway.consistent;
+    lone = midway.lone;
+    kept_books = record {
+      own = λ b at. elim (midway.kept_books.own b at) [
+        | inl owned ↦ inl (owned-due midway.consistent book b.publisher owned)
+        | inr gone ↦ inr (gone-due midway.consistent b.publisher gone)
+      ];
+      others = λ k b away at. elim (midway.kept_books.others k b away at) [
+        | inl owned ↦ inl (owned-due midway.consistent k b.publisher owned)
+        | inr left ↦ inr (gone-due midway.consistent b.publisher left.0, left.1)
+      ];
+    };
+    state = publishers_due-are ∙ ap publishers_due midway.state;
+    entries = midway.entries;
+    complete = λ p n held. midway.complete p n (held-due p n held);
+  }

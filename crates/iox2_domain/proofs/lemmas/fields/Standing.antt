@@ -24,7 +24,7 @@ use Rattle.iox2_laws.proofs.PlaceLemmas.{contains-occupants}
 use Rattle.iox2_domain.specs.Ports.{PublisherFields, SubscriberFields}
 use Rattle.iox2_domain.specs.Kept.{Named, state_of, ids}
 use Rattle.iox2_domain.specs.Fields.{Fields, kept_of, publisher_of, subscriber_of}
-use Rattle.iox2_domain.specs.Invariant.{IsDomain, SenderHas, ReceiverHas, details_of}
+use Rattle.iox2_domain.specs.Invariant.{IsDomain, IsLinked, SenderHas, ReceiverHas, details_of}
 use Rattle.iox2_domain.specs.Updates.{key_from}
 use Rattle.iox2_domain.proofs.lemmas.containers.LookUps.{map-at}
 use Rattle.iox2_domain.proofs.lemmas.fields.ConnectionEnds.{publisher-stands, subscriber-stands}
@@ -53,6 +53,18 @@ key-from connections p key c at its =
 pub some_is : {A : Type 0} (P : A → Type 0) (o : Option A) → IsSomeAnd o P → (x : A) × (o ≡ Some x) × P x
 some_is P None h = absurd h
 some_is P (Some x) h = (x, refl, h)
+
+-- a publisher that has a key has its connection
+pub key-sender : {T U : Type 0} (f : Fields T U) → IsLinked f → (i place key : ℕ) (x : PublisherFields) (c : Link) → get_or f.publishers i None ≡ Some x → get_or x.keys place None ≡ Some key
+    → get f.connections key ≡ Some c → SenderHas f.publishers key c
+key-sender f linked i place key x c at_x at_k at_c =
+    let own : IsSenders x.id place c = rw at_c at ((linked.senders i x at_x).at place key at_k) in
+    record {
+      publisher = x;
+      stands = ap (λ (n : ℕ). get_or f.publishers n None) (sym (linked.knows_publishers key i c x at_c at_x (sym own.publisher))) ∙ at_x;
+      is_its = sym own.publisher;
+      has = ap (λ (n : ℕ). get_or x.keys n None) own.place ∙ at_k;
+    }
 
 -- the machine has as many places
 pub place-within : {T U : Type 0} (f : Fields T U) (j : ℕ) → j < length f.subscribers → j < length (state_of (kept_of f)).subscriber_places

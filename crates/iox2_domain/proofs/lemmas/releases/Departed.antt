@@ -22,12 +22,12 @@ use Rattle.iox2_domain.specs.Kept.{Named, state_of, is_named}
 use Rattle.iox2_domain.specs.Midway.{IsMidway}
 use Rattle.iox2_domain.specs.Ports.{SubscriberFields}
 use Rattle.iox2_domain.proofs.lemmas.containers.LookUps.{look_up-map}
+use Rattle.iox2_domain.proofs.lemmas.fields.LostConnections.{unloaded}
 use Rattle.iox2_domain.proofs.lemmas.fields.Standing.{occupant-receiver_ends, some_is}
 use Rattle.iox2_domain.proofs.lemmas.fields.SubscriberSet.{subscriber-in}
 use Rattle.iox2_domain.proofs.lemmas.fields.Views.{mailboxes-are}
 use Rattle.iox2_domain.proofs.lemmas.releases.Forgotten.{forgetting, forgetting-midway}
 use Rattle.iox2_domain.proofs.lemmas.releases.ForgottenEnds.{ends-forgotten, expired-contains, expired-forgotten}
-use Rattle.iox2_domain.proofs.lemmas.releases.OrphanRemoved.{waiting-none, borrowed-none}
 use Rattle.iox2_domain.proofs.lemmas.releases.Pruning.{others-connected, pruned-none}
 
 -- a publisher that stands nowhere is gone
@@ -69,7 +69,7 @@ module _ {T U : Type 0} (s : State T U) (well : IsWellFormed s) (n : ℕ) (g : F
       ∙ none
     where
       none : has_numbers (mailbox_of (numbers_of g.books c.home.publisher) c) ≡ false
-      none = rw (waiting-none g.connections new key c at_c empty goes parts.apart, borrowed-none g.connections new key c at_c empty goes parts.apart) refl
+      none = let is = unloaded c empty in rw (is.waiting, is.borrowed) refl
 
   -- another connection of it is with another publisher
   other-publisher : (k : ℕ) (d : Link) → k ≢ key → get g.connections k ≡ Some d → d.home.subscriber ≡ y.id → d.home.publisher ≢ c.home.publisher
@@ -114,10 +114,10 @@ module _ {T U : Type 0} (s : State T U) (well : IsWellFormed s) (n : ℕ) (g : F
 
   -- the machine's subscriber is pruned
   pub departed-midway : (old : Fields T U) (book : ℕ) → IsMidway old g after book
-      → IsMidway old (forgetting g parts j y at_y key c at_c mine empty (nobody-has g key c gone) new goes) (subscriber_pruned after y.id) book
+      → IsMidway old (forgetting g parts j y at_y key c at_c mine (unloaded c empty) (nobody-has g key c gone) new goes) (subscriber_pruned after y.id) book
   departed-midway old book midway =
-      subst (λ (t : State T U). IsMidway old (forgetting g parts j y at_y key c at_c mine empty (nobody-has g key c gone) new goes) t book) pruned-state
-      (forgetting-midway g parts j y at_y key c at_c mine empty (nobody-has g key c gone) new goes old after book midway)
+      subst (λ (t : State T U). IsMidway old (forgetting g parts j y at_y key c at_c mine (unloaded c empty) (nobody-has g key c gone) new goes) t book) pruned-state
+      (forgetting-midway g parts j y at_y key c at_c mine (unloaded c empty) (nobody-has g key c gone) new goes old after book midway)
 
 -- some slot stands in a connection, and none was given back
 some-numbers : (number : ℕ → ℕ) (waiting borrowed returned : List ℕ) → returned ≡ [] → (length waiting + length borrowed + length returned ≡ 0 → ⊥)

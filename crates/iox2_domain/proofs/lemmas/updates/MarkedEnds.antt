@@ -22,8 +22,7 @@ use Rattle.iox2_domain.specs.Reaches.{Reaches}
 use Rattle.iox2_domain.specs.Updates.{is_open_subscriber, sender_key}
 use Rattle.iox2_domain.proofs.lemmas.containers.LookUps.{map-at}
 use Rattle.iox2_domain.proofs.lemmas.fields.ChangedMarks.{changes-mark, mark-was}
-use Rattle.iox2_domain.proofs.lemmas.fields.Standing.{some_is}
-use Rattle.iox2_domain.proofs.lemmas.releases.Unshared.{key-sender}
+use Rattle.iox2_domain.proofs.lemmas.fields.Standing.{key-sender, some_is}
 
 module _ {T U : Type 0} (f : Fields T U) where
   -- nothing changed

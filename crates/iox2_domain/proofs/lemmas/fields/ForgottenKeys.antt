@@ -1,26 +1,22 @@
 -- Ports forget connections, and connections that no port has any more go: what holds still.
-use Rattle.std.proofs.Common.{◌≡◌, ℕ, zero, suc, ◌+◌, ◌<◌, ◌≤◌, List, [], ◌∷◌, map, length, Bool, true, false, cond, eqb, get_or, refl, ap, sym, subst, ◌∙◌, inl, inr, ◌⊎◌, arith}
+use Rattle.std.proofs.Common.{◌≡◌, ℕ, ◌+◌, ◌<◌, ◌≤◌, List, [], map, true, cond, eqb, get_or, refl, ap, sym, subst, ◌∙◌, inl, inr, ◌⊎◌, arith}
 use Rattle.std.specs.Prelude.{Contains, IsSomeAnd}
 use Rattle.std.specs.declared.option.Option.{Option}
 use Rattle.std.specs.declared.option.Option.TheVariants.{None, Some}
 use Rattle.std.specs.Option.{option_map, option_map_or}
-use Rattle.std.specs.List.{sum_by}
 use Rattle.slab.specs.Slab.{Slab, get}
 use Rattle.iox2_store.specs.Link.{Link}
 use Rattle.iox2_ends.specs.LookUp.{look_up, IsOnly}
 use Rattle.iox2_ends.specs.Homes.{IsSenders}
 use Rattle.iox2_ends.specs.Finds.{IsReceivers}
-use Rattle.iox2_ends.specs.Counters.{times, stands, stands_in}
+use Rattle.iox2_ends.specs.Counters.{times}
 use Rattle.iox2_ends.specs.declared.sender.ReceiverDetails.{ReceiverDetails}
 use Rattle.iox2_ends.proofs.LookUps.{look_up-there, look_up-none, look_up-found, look_up-nothing}
 use Rattle.iox2_domain.specs.Ports.{PublisherFields, SubscriberFields}
 use Rattle.iox2_domain.specs.Fields.{Fields, is_book_of}
-use Rattle.iox2_domain.specs.Invariant.{IsLinked, HasBook, HasBooks, IsCounted, HasPublisherRoom, IsPlain, IsPlainSubscriber, HasExpiredRoom, SenderHas, ReceiverHas, is_publisher, is_subscriber, own_holders, is_loan_in, details_of, connection_count, one_if_receivers, IsBetweenOpen}
-use Rattle.iox2_domain.proofs.lemmas.containers.FewerSums.{sum-fewer}
-use Rattle.iox2_domain.proofs.lemmas.slots.Recounts.{sum-alike}
+use Rattle.iox2_domain.specs.Invariant.{HasParts, IsLinked, IsOwned, IsGone, HasBook, HasBooks, IsCounted, HasPublisherRoom, IsPlain, IsPlainSubscriber, HasExpiredRoom, SenderHas, ReceiverHas, is_publisher, is_subscriber, own_holders, is_loan_in, details_of, connection_count, IsBetweenOpen}
 use Rattle.iox2_domain.proofs.lemmas.containers.LookUps.{map-at, viewed}
-use Rattle.iox2_closes.specs.Closes.{IsEmptyLink}
-use Rattle.iox2_closes.specs.Agreement.{HasOwners, HasOwnedParts}
+use Rattle.iox2_domain.proofs.lemmas.fields.LostConnections.{IsEmptyLink, LosesEmpty, lost-apart, lost-sums, lost-counts}
 use Rattle.iox2_domain.proofs.lemmas.fields.OwnKeys.{listed-at, listed-has}
 use Rattle.iox2_domain.proofs.lemmas.fields.Standing.{some_is}
 
@@ -55,7 +51,7 @@ pub record Forgets {T U : Type 0} (f : Fields T U) (publishers : List (Option Pu
   pub returned : (key : ℕ) (c : Link) → get connections key ≡ Some c → SenderHas publishers key c ⊎ (c.returned ≡ [])
   pub marked : (key : ℕ) (c : Link) → get connections key ≡ Some c → c.is_open ≡ true → IsBetweenOpen publishers subscribers key c
 
-module _ {T U : Type 0} (f : Fields T U) (parts : HasOwnedParts f) (publishers : List (Option PublisherFields)) (subscribers : List (Option SubscriberFields)) (connections : Slab Link)
+module _ {T U : Type 0} (f : Fields T U) (parts : HasParts f) (publishers : List (Option PublisherFields)) (subscribers : List (Option SubscriberFields)) (connections : Slab Link)
     (g : Forgets f publishers subscribers connections) where
   -- the fields with these ports and connections
   abbrev pub forgotten : Fields T U
@@ -65,6 +61,9 @@ module _ {T U : Type 0} (f : Fields T U) (parts : HasOwnedParts f) (publishers :
   most = (f.config).subscriber_max_borrowed_samples
 
   -- ---- what stays
+
+  pub loses : LosesEmpty f.connections connections
+  loses = record { fewer = g.fewer; gone = λ key c at none. (g.gone key c at none).empty }
 
   -- a connection that some port has stays
   pub stays : (key : ℕ) (c : Link) → get f.connections key ≡ Some c → SenderHas publishers key c ⊎ ReceiverHas subscribers key c → get connections key ≡ Some c
@@ -78,10 +77,10 @@ module _ {T U : Type 0} (f : Fields T U) (parts : HasOwnedParts f) (publishers :
       → (c : Link) × (get f.connections key ≡ Some c) × (get connections key ≡ Some c) × IsSenders x'.id place c
   sender-key i place key x' at at_key =
       let was = g.senders i x' at in
-      let own = some_is (IsSenders (was.0).id place) (get f.connections key) ((parts.parts.linked.senders i was.0 was.1).at place key (was.2.keys place key at_key)) in
+      let own = some_is (IsSenders (was.0).id place) (get f.connections key) ((parts.linked.senders i was.0 was.1).at place key (was.2.keys place key at_key)) in
       let c = own.0 in
       let id : x'.id ≡ (was.0).id = ap (λ (x : PublisherFields). x.id) was.2.fields in
-      let here : i ≡ c.home.publisher_place = parts.parts.linked.knows_publishers key i c was.0 own.1 was.1 (sym own.2.publisher) in
+      let here : i ≡ c.home.publisher_place = parts.linked.knows_publishers key i c was.0 own.1 was.1 (sym own.2.publisher) in
       let has : SenderHas publishers key c = record {
         publisher = x';
         stands = ap (λ (n : ℕ). get_or publishers n None) (sym here) ∙ at;
@@ -96,7 +95,7 @@ module _ {T U : Type 0} (f : Fields T U) (parts : HasOwnedParts f) (publishers :
 
   -- a subscriber stands at the place that its connections name
   receiver-place : (i key : ℕ) (y : SubscriberFields) (c : Link) → get_or f.subscribers i None ≡ Some y → get f.connections key ≡ Some c → c.home.subscriber ≡ y.id → i ≡ c.home.subscriber_place
-  receiver-place i key y c at at_c mine = (parts.parts.linked.knows.at key i c (details_of y) at_c (details-at i y at) (sym mine)).0
+  receiver-place i key y c at at_c mine = (parts.linked.knows.at key i c (details_of y) at_c (details-at i y at) (sym mine)).0
 
   -- a subscriber's key leads where it led
   pub receiver-key : (i place key : ℕ) (y' : SubscriberFields) → get_or subscribers i None ≡ Some y' → get_or y'.keys place None ≡ Some key
@@ -104,7 +103,7 @@ module _ {T U : Type 0} (f : Fields T U) (parts : HasOwnedParts f) (publishers :
   receiver-key i place key y' at at_key =
       let was = g.receivers i y' at in
       let old = was.2.keys place key at_key in
-      let own = some_is (IsReceivers (was.0).id most) (get f.connections key) ((parts.parts.linked.receivers i was.0 was.1).at place key old) in
+      let own = some_is (IsReceivers (was.0).id most) (get f.connections key) ((parts.linked.receivers i was.0 was.1).at place key old) in
       let c = own.0 in
       let id : y'.id ≡ (was.0).id = ap (λ (y : SubscriberFields). y.id) was.2.fields in
       let here : i ≡ c.home.subscriber_place = receiver-place i key was.0 c was.1 own.1 own.2.subscriber in
@@ -112,7 +111,7 @@ module _ {T U : Type 0} (f : Fields T U) (parts : HasOwnedParts f) (publishers :
         subscriber = y';
         stands = ap (λ (n : ℕ). get_or subscribers n None) (sym here) ∙ at;
         is_its = id ∙ sym own.2.subscriber;
-        has = inl (ap (λ (n : ℕ). get_or y'.keys n None) (parts.parts.linked.receiver_places i place key was.0 c was.1 old own.1) ∙ at_key);
+        has = inl (ap (λ (n : ℕ). get_or y'.keys n None) (parts.linked.receiver_places i place key was.0 c was.1 old own.1) ∙ at_key);
       } in
       (c, own.1, stays key c own.1 (inr has), record { subscriber = own.2.subscriber ∙ sym id; limit = own.2.limit })
 
@@ -123,8 +122,8 @@ module _ {T U : Type 0} (f : Fields T U) (parts : HasOwnedParts f) (publishers :
       let was = g.receivers i y' at in
       let y = was.0 in
       let linked : IsSomeAnd (get f.connections key) (IsReceivers y.id most) = elim (was.2.expired key among) [
-        | inl expired ↦ let there = listed-at y.expired key expired in (parts.parts.linked.expired i y was.1).at there.0 key there.1
-        | inr placed ↦ (parts.parts.linked.receivers i y was.1).at placed.0 key placed.1
+        | inl expired ↦ let there = listed-at y.expired key expired in (parts.linked.expired i y was.1).at there.0 key there.1
+        | inr placed ↦ (parts.linked.receivers i y was.1).at placed.0 key placed.1
       ] in
       let own = some_is (IsReceivers y.id most) (get f.connections key) linked in
       let c = own.0 in
@@ -145,7 +144,7 @@ module _ {T U : Type 0} (f : Fields T U) (parts : HasOwnedParts f) (publishers :
     one = λ i j x z at_i at_j is_x is_z.
         let a = g.senders i x at_i in
         let b = g.senders j z at_j in
-        (parts.parts.publisher_ids p).one i j a.0 b.0 a.1 b.1
+        (parts.publisher_ids p).one i j a.0 b.0 a.1 b.1
         (sym (ap (λ (w : PublisherFields). eqb w.id p) a.2.fields) ∙ is_x) (sym (ap (λ (w : PublisherFields). eqb w.id p) b.2.fields) ∙ is_z);
   }
 
@@ -154,7 +153,7 @@ module _ {T U : Type 0} (f : Fields T U) (parts : HasOwnedParts f) (publishers :
     one = λ i j y z at_i at_j is_y is_z.
         let a = g.receivers i y at_i in
         let b = g.receivers j z at_j in
-        (parts.parts.subscriber_ids q).one i j a.0 b.0 a.1 b.1
+        (parts.subscriber_ids q).one i j a.0 b.0 a.1 b.1
         (sym (ap (λ (w : SubscriberFields). eqb w.id q) a.2.fields) ∙ is_y) (sym (ap (λ (w : SubscriberFields). eqb w.id q) b.2.fields) ∙ is_z);
   }
 
@@ -171,17 +170,17 @@ module _ {T U : Type 0} (f : Fields T U) (parts : HasOwnedParts f) (publishers :
     };
     ends = g.ends;
     receiver_places = λ i place key y c at at_key at_c. let was = g.receivers i y at in
-        parts.parts.linked.receiver_places i place key was.0 c was.1 (was.2.keys place key at_key) (g.fewer key c at_c);
+        parts.linked.receiver_places i place key was.0 c was.1 (was.2.keys place key at_key) (g.fewer key c at_c);
     knows = record { at = λ key i c d at_c at_d same. knows key i c d at_c (viewed details_of subscribers i d at_d) same };
     knows_publishers = λ key i c x at_c at same. let was = g.senders i x at in
-        parts.parts.linked.knows_publishers key i c was.0 (g.fewer key c at_c) was.1 (sym (ap (λ (z : PublisherFields). z.id) was.2.fields) ∙ same);
+        parts.linked.knows_publishers key i c was.0 (g.fewer key c at_c) was.1 (sym (ap (λ (z : PublisherFields). z.id) was.2.fields) ∙ same);
     sender_rooms = λ key i c x at_c at same. let was = g.senders i x at in
         subst (λ (n : ℕ). c.home.subscriber_place < n) (sym (ap (λ (z : PublisherFields). z.key_room) was.2.fields))
-        (parts.parts.linked.sender_rooms key i c was.0 (g.fewer key c at_c) was.1 (sym (ap (λ (z : PublisherFields). z.id) was.2.fields) ∙ same));
+        (parts.linked.sender_rooms key i c was.0 (g.fewer key c at_c) was.1 (sym (ap (λ (z : PublisherFields). z.id) was.2.fields) ∙ same));
     receiver_rooms = λ key i c y at_c at same. let was = g.receivers i y at in
         subst (λ (n : ℕ). c.home.publisher_place < n) (sym (ap (λ (z : SubscriberFields). z.key_room) was.2.fields))
-        (parts.parts.linked.receiver_rooms key i c was.0 (g.fewer key c at_c) was.1 (sym (ap (λ (z : SubscriberFields). z.id) was.2.fields) ∙ same));
-    limits = λ key c at. parts.parts.linked.limits key c (g.fewer key c at);
+        (parts.linked.receiver_rooms key i c was.0 (g.fewer key c at_c) was.1 (sym (ap (λ (z : SubscriberFields). z.id) was.2.fields) ∙ same));
+    limits = λ key c at. parts.linked.limits key c (g.fewer key c at);
     returned = g.returned;
     marked = g.marked;
   } where
@@ -190,7 +189,7 @@ module _ {T U : Type 0} (f : Fields T U) (parts : HasOwnedParts f) (publishers :
     knows key i c d at_c there same =
         let was = g.receivers i there.0 there.1 in
         let id : (was.0).id ≡ c.home.subscriber = sym (ap (λ (z : SubscriberFields). z.id) was.2.fields) ∙ sym (ap (λ (e : ReceiverDetails). e.port_id) there.2) ∙ same in
-        let known = parts.parts.linked.knows.at key i c (details_of was.0) (g.fewer key c at_c) (details-at i was.0 was.1) id in
+        let known = parts.linked.knows.at key i c (details_of was.0) (g.fewer key c at_c) (details-at i was.0 was.1) id in
         (known.0, known.1 ∙ sym (ap (λ (z : SubscriberFields). z.buffer) was.2.fields) ∙ sym (ap (λ (e : ReceiverDetails). e.buffer_size) there.2))
 
   -- no subscriber has more connections
@@ -198,26 +197,19 @@ module _ {T U : Type 0} (f : Fields T U) (parts : HasOwnedParts f) (publishers :
   room = record {
     at = λ i y at.
         let was = g.receivers i y at in
-        let enough : connection_count f.connections (was.0).id ≤ (was.0).expired_room = parts.parts.expired_room.at i was.0 was.1 in
+        let enough : connection_count f.connections (was.0).id ≤ (was.0).expired_room = parts.expired_room.at i was.0 was.1 in
         subst (λ (z : SubscriberFields). connection_count connections z.id ≤ z.expired_room) (sym was.2.fields)
-        (let less : connection_count connections (was.0).id ≤ connection_count f.connections (was.0).id = count (was.0).id in omega (arith, enough, less));
-  } where
-    count : (q : ℕ) → connection_count connections q ≤ connection_count f.connections q
-    count q = sum-fewer (one_if_receivers q) refl f.connections.slots connections.slots (λ key. by key (get connections key) refl) where
-      by : (key : ℕ) (o : Option Link) → get connections key ≡ o → one_if_receivers q (get connections key) ≤ one_if_receivers q (get f.connections key)
-      by key None none = let e : one_if_receivers q (get connections key) ≡ 0 = ap (one_if_receivers q) none in omega (arith, e)
-      by key (Some c) there =
-          let e : one_if_receivers q (get connections key) ≡ one_if_receivers q (get f.connections key) = ap (one_if_receivers q) (there ∙ sym (g.fewer key c there)) in
-          omega (arith, e)
+        (let less = lost-counts f.connections connections loses (was.0).id in omega (arith, enough, less));
+  }
 
   books : HasBooks forgotten
   books = record {
-    one_each = parts.parts.books.one_each;
-    books = parts.parts.books.books;
-    publishers = λ i x at. let was = g.senders i x at in let has = parts.parts.books.publishers i was.0 was.1 in
+    one_each = parts.books.one_each;
+    books = parts.books.books;
+    publishers = λ i x at. let was = g.senders i x at in let has = parts.books.publishers i was.0 was.1 in
         subst (λ (z : PublisherFields). HasBook forgotten z) (sym was.2.fields)
         (record { book = has.book; stands = has.stands; is_its = has.is_its; slots = has.slots; no_more = has.no_more; room = has.room });
-    no_others = parts.parts.books.no_others;
+    no_others = parts.books.no_others;
   }
 
   -- what the publisher itself has of the slot, or what is out of one that is gone
@@ -239,69 +231,47 @@ module _ {T U : Type 0} (f : Fields T U) (parts : HasOwnedParts f) (publishers :
         ∙ sym (ap (λ (z : PublisherFields). times slot z.loans + times slot (z.history).items) now.2.fields)
         ∙ sym (ap (own p slot) (look_up-found (is_publisher p) publishers there.0 now.0 (only_publishers p) now.1 (ap (λ (z : PublisherFields). eqb z.id p) now.2.fields ∙ there.2)))
 
-  -- each slot stands as often as before
-  pub sums-same : (p slot : ℕ) → sum_by (stands p slot) connections.slots ≡ sum_by (stands p slot) f.connections.slots
-  sums-same p slot = sum-alike (stands p slot) refl connections.slots f.connections.slots (λ key. by key (get f.connections key) (get connections key) refl refl) where
-    none : (c : Link) → IsEmptyLink c → stands p slot (Some c) ≡ 0
-    none c empty =
-        let here : stands_in slot c ≡ 0 = omega (arith, ap (times slot) empty.waiting, ap (times slot) empty.borrowed, ap (times slot) empty.returned) in
-        ap (λ (n : ℕ). cond (eqb c.home.publisher p) n 0) here ∙ nothing (eqb c.home.publisher p)
-      where
-        nothing : (b : Bool) → cond {A = ℕ} b 0 0 ≡ 0
-        nothing true = refl
-        nothing false = refl
-
-    by : (key : ℕ) (o n : Option Link) → get f.connections key ≡ o → get connections key ≡ n → stands p slot (get connections key) ≡ stands p slot (get f.connections key)
-    by key None None e h = ap (stands p slot) (h ∙ sym e)
-    by key o (Some d) e h = ap (stands p slot) (h ∙ sym (g.fewer key d h))
-    by key (Some c) None e h = ap (stands p slot) h ∙ sym (none c (g.gone key c e h).empty) ∙ sym (ap (stands p slot) e)
-
   counted : IsCounted forgotten
   counted = record {
-    at = λ p slot. let before = parts.parts.counted.at p slot in before ∙ (λ i. own-same p slot i + sym (sums-same p slot) i);
+    at = λ p slot. let before = parts.counted.at p slot in before ∙ (λ i. own-same p slot i + sym (lost-sums f.connections connections loses p slot) i);
   }
 
-  owners : HasOwners forgotten
-  owners = record {
-    at = λ key b at. elim (parts.owners.at key b at) [
-      | inl has ↦ let now = g.senders_stay has.place has.publisher has.stands in inl (record {
-        place = has.place;
-        publisher = now.0;
-        stands = now.1;
-        is_its = ap (λ (z : PublisherFields). z.id) now.2.fields ∙ has.is_its;
-        has = ap (λ (z : PublisherFields). z.book) now.2.fields ∙ has.has;
-      })
-      | inr gone ↦ inr (record {
-        known = gone.known;
-        absent = λ i x at_x same. let was = g.senders i x at_x in gone.absent i was.0 was.1 (sym (ap (λ (z : PublisherFields). z.id) was.2.fields) ∙ same);
-      })
-    ];
+  -- a publisher stands with its book still, or is gone still
+  pub owned-still : (key p : ℕ) → IsOwned f.publishers key p → IsOwned publishers key p
+  owned-still key p has = let now = g.senders_stay has.place has.publisher has.stands in record {
+    place = has.place;
+    publisher = now.0;
+    stands = now.1;
+    is_its = ap (λ (z : PublisherFields). z.id) now.2.fields ∙ has.is_its;
+    has = ap (λ (z : PublisherFields). z.book) now.2.fields ∙ has.has;
+  }
+
+  pub gone-still : (p : ℕ) → IsGone f.next_port f.publishers p → IsGone f.next_port publishers p
+  gone-still p gone = record {
+    known = gone.known;
+    absent = λ i x at_x same. let was = g.senders i x at_x in gone.absent i was.0 was.1 (sym (ap (λ (z : PublisherFields). z.id) was.2.fields) ∙ same);
   }
 
   -- the fields agree with one another
-  pub forgotten-parts : HasOwnedParts forgotten
+  pub forgotten-parts : HasParts forgotten
   forgotten-parts = record {
-    parts = record {
-      publisher_ids = only_publishers;
-      subscriber_ids = only_subscribers;
-      apart = record { one = λ p q. record { one = λ i j c d at_c at_d is_c is_d. (parts.parts.apart.one p q).one i j c d (g.fewer i c at_c) (g.fewer j d at_d) is_c is_d } };
-      linked = linked;
-      expired_room = room;
-      books = books;
-      names = record { at = λ key c at. parts.parts.names.at key c (g.fewer key c at) };
-      counted = counted;
-      numbered = parts.parts.numbered;
-      publisher_room = λ i x at. let was = g.senders i x at in let has = parts.parts.publisher_room i was.0 was.1 in
-          subst (λ (z : PublisherFields). HasPublisherRoom f.config z) (sym was.2.fields) (record { loans = has.loans; history = has.history });
-      warning_room = parts.parts.warning_room;
-      shapes = record { at = parts.parts.shapes.at };
-      supported = parts.parts.supported;
-      plain = λ i x at. let was = g.senders i x at in let has = parts.parts.plain i was.0 was.1 in
-          subst IsPlain (sym was.2.fields)
-          (record { strategy = has.strategy; backpressure = has.backpressure; degradation = has.degradation; unblocked = has.unblocked; allocation = has.allocation; length = has.length });
-      plain_subscribers = λ i y at. let was = g.receivers i y at in let has = parts.parts.plain_subscribers i was.0 was.1 in
-          subst IsPlainSubscriber (sym was.2.fields) (record { degradation = has.degradation });
-    };
-    lone = parts.lone;
-    owners = owners;
+    publisher_ids = only_publishers;
+    subscriber_ids = only_subscribers;
+    apart = lost-apart f.connections connections loses parts.apart;
+    linked = linked;
+    expired_room = room;
+    books = books;
+    names = record { at = λ key c at. parts.names.at key c (g.fewer key c at) };
+    counted = counted;
+    numbered = parts.numbered;
+    publisher_room = λ i x at. let was = g.senders i x at in let has = parts.publisher_room i was.0 was.1 in
+        subst (λ (z : PublisherFields). HasPublisherRoom f.config z) (sym was.2.fields) (record { loans = has.loans; history = has.history });
+    warning_room = parts.warning_room;
+    shapes = record { at = parts.shapes.at };
+    supported = parts.supported;
+    plain = λ i x at. let was = g.senders i x at in let has = parts.plain i was.0 was.1 in
+        subst IsPlain (sym was.2.fields)
+        (record { strategy = has.strategy; backpressure = has.backpressure; degradation = has.degradation; unblocked = has.unblocked; allocation = has.allocation; length = has.length });
+    plain_subscribers = λ i y at. let was = g.receivers i y at in let has = parts.plain_subscribers i was.0 was.1 in
+        subst IsPlainSubscriber (sym was.2.fields) (record { degradation = has.degradation });
   }

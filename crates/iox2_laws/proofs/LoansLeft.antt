@@ -15,6 +15,7 @@ use Rattle.iox2_store.specs.machine.Delivery.{DeliveryEnd, Complete, Suspended}
 use Rattle.iox2_store.specs.machine.PublisherUpdate.{UpdatePublisher}
 use Rattle.iox2_store.specs.machine.SubscriberUpdate.{UpdateSubscriber}
 use Rattle.iox2_store.specs.machine.Loans.{GrantLoan, limit_error, is_static, loan_granted, loan_discarded}
+use Rattle.iox2_store.specs.machine.LoansLeft.{CanLend}
 use Rattle.iox2_store.specs.machine.Ports.{CreatePublisher, CreateSubscriber, MakePublisher, MakeSubscriber, with_new_publisher, with_new_subscriber, new_publisher, with_failure_warning, first_segment_fits, slots_for, buffer_for, publisher_closed, subscriber_shut, subscriber_closed}
 use Rattle.iox2_store.specs.machine.Receives.{ReceiveResult, Got_sample, No_sample, Receive_error, TakeSample, Receive}
 use Rattle.iox2_store.specs.machine.Releases.{place_freed, unborrowed, subscriber_pruned, is_unused, freed_if_unused, released}
@@ -30,7 +31,6 @@ use Rattle.iox2_laws.proofs.Cases.{by_option, by_bool}
 use Rattle.iox2_laws.proofs.NumberLemmas.{length-without}
 use Rattle.iox2_laws.proofs.PortsClose.{publisher_closed_others}
 use Rattle.iox2_laws.proofs.Puts.{at_each, put_at-same, put_at-other}
-use Rattle.iox2_pubsub.specs.LoansLeft.{CanLend}
 
 -- ---- one publisher
 
