@@ -250,24 +250,44 @@ fn a_subscriber_sees_the_same_where_it_is_closed_with_a_sample(rt: HostRuntime) 
     assert!(rt; others.as_slice() == without.as_slice());
 }
 
-// After 33 subscribers two more are made. The first of these receives a message, or doesn't.
-fn after_many_subscribers(alloc: Global, receives: bool) -> Result<Commands, AllocError>
-    ensures { IfOk result (λ commands. All IsSupportedCommand commands.items) }
+// Before these, 33 subscribers were made. The first of the two that follow receives a message.
+const WITH_A_LATE_RECEIVE: [Command<u64, u8>; 9] = [
+    SUBSCRIBER,
+    SUBSCRIBER,
+    PUBLISHER,
+    Command::LoanUninit { of: 35 },
+    Command::WriteAll { of: 36, value: 1 },
+    Command::Send { of: 36 },
+    Command::Receive { of: 33 },
+    Command::Receive { of: 34 },
+    Command::Read { of: 40, at: 0 },
+];
+
+// The same, but it receives nothing.
+const WITHOUT_IT_LATE: [Command<u64, u8>; 9] = [
+    SUBSCRIBER,
+    SUBSCRIBER,
+    PUBLISHER,
+    Command::LoanUninit { of: 35 },
+    Command::WriteAll { of: 36, value: 1 },
+    Command::Send { of: 36 },
+    Command::Nothing,
+    Command::Receive { of: 34 },
+    Command::Read { of: 40, at: 0 },
+];
+
+// The commands, after those that make 33 subscribers.
+fn after_many_subscribers(
+    rt: &impl Abort,
+    alloc: Global,
+    last: &[Command<u64, u8>],
+) -> Vec<Command<u64, u8>>
+    requires { All IsSupportedCommand last.now }
+    ensures { All IsSupportedCommand result.items }
 {
-    let last = [
-        SUBSCRIBER,
-        SUBSCRIBER,
-        PUBLISHER,
-        Command::LoanUninit { of: 35 },
-        Command::WriteAll { of: 36, value: 1 },
-        Command::Send { of: 36 },
-        if_kept(receives, Command::Receive { of: 33 }),
-        Command::Receive { of: 34 },
-        Command::Read { of: 40, at: 0 },
-    ];
-    let mut commands = Vec::from_array(alloc, [SUBSCRIBER; 33])?;
-    commands.extend_from_slice(&last)?;
-    Ok(commands)
+    let mut commands = Vec::from_array(alloc, [SUBSCRIBER; 33]).expect(rt, "subscribers");
+    commands.extend_from_slice(last).expect(rt, "commands");
+    commands
 }
 
 // Whether the domain of a run was refused no connection, as the law of two runs asks.
@@ -287,8 +307,8 @@ fn runs_are_compared_after_more_warnings_than_are_kept(rt: HostRuntime) {
         subscriber_expired_connection_buffer: 0,
         ..settings()
     };
-    let commands = after_many_subscribers(rt.alloc(), true).expect(&rt, "commands");
-    let reduced = after_many_subscribers(rt.alloc(), false).expect(&rt, "fewer commands");
+    let commands = after_many_subscribers(&rt, rt.alloc(), &WITH_A_LATE_RECEIVE);
+    let reduced = after_many_subscribers(&rt, rt.alloc(), &WITHOUT_IT_LATE);
     let ends: Option<(End, End)> = compare_runs(rt.alloc(), &config, commands, reduced);
     let (first, second) = ends.expect(&rt, "two runs");
     assert!(rt; met_no_refusal(&first) && met_no_refusal(&second));
