@@ -67,14 +67,6 @@ module _ {T U : Type 0} (f : Fields T U) (parts : HasOwnedParts f) (place key : 
             was.2 (rw (ap (λ (n : ℕ). get_or f.publishers n None) (sym here) ∙ at) mine);
       }
 
-  -- and else the publisher is there
-  pub left-nowhere : (v : Fields T U) → v ≡ f → (IsSomeAnd (get v.connections key) (λ c. IsStanding v.publishers c.home → ⊥) → ⊥)
-      → (c : Link) → get f.connections key ≡ Some c → IsDeparted f.publishers c → ⊥
-  left-nowhere v same read c at departed = read
-      (subst (λ (g : Fields T U). IsSomeAnd (get g.connections key) (λ d. IsStanding g.publishers d.home → ⊥)) (sym same) (rw at (λ standing.
-      let x = some_is (λ (x : PublisherFields). x.id ≡ c.home.publisher) (get_or f.publishers c.home.publisher_place None) standing in
-      departed c.home.publisher_place x.0 x.1 x.2)))
-
 module _ {T U : Type 0} (f : Fields T U) (place key : ℕ) (left : IsLeftAt f place key) where
   -- its home, as it was read
   pub home-read : (v : Fields T U) → v ≡ f → (c : Link) → get v.connections key ≡ Some c → c.home ≡ (left.link).home
@@ -82,10 +74,6 @@ module _ {T U : Type 0} (f : Fields T U) (place key : ℕ) (left : IsLeftAt f pl
       let one : Some c ≡ Some left.link = sym at ∙ ap (λ (g : Fields T U). get g.connections key) same ∙ left.link_stands in
       let is : c ≡ left.link = cc in
       ap (λ (d : Link). d.home) is
-
-  -- what waits in it may be lost
-  pub left-departed : IsSomeAnd (get f.connections key) (IsDeparted f.publishers)
-  left-departed = rw left.link_stands left.departed
 
   module _ (between : Fields T U) (loses : LosesWaiting f key left.link between) where
     -- it may be forgotten then

@@ -119,10 +119,6 @@ module _ {T U : Type 0} where
       pub sheds-there : t.subscribers q ≡ Some (with_publishers x.test y)
       sheds-there = ap (λ (v : State T U). v.subscribers q) x.state ∙ put_at-same s.subscribers q (Some (with_publishers x.test y))
 
-      -- publishers stay
-      pub sheds-publishers : t.publishers ≡ s.publishers
-      sheds-publishers = ap (λ (v : State T U). v.publishers) x.state
-
       module _ (p : ℕ) (gone : s.publishers p ≡ None) where
         -- what waits from one more is lost
         pub sheds-dropped : Sheds s q y (with_mailbox t p q (waiting_dropped (t.mailboxes p q)))

@@ -50,10 +50,6 @@ drops-more hs hs' slot a c d held x r = let y = drops-one hs' slot c d held r in
 pub dropped-held : (hs : List ℕ) (slot : ℕ) (c d : Link) → IsHeld hs c → IsDropped c (Some slot) d → IsHeld (one_holder_less slot hs) d
 dropped-held hs slot c d held r = record { at = λ n. omega (arith, held.at n, (drops-one hs slot c d held r).counters n) }
 
--- and so where many slots went
-pub drops-held : (hs hs' : List ℕ) (c d : Link) → IsHeld hs c → DropsFrom hs c hs' d → IsHeld hs' d
-drops-held hs hs' c d held r = record { at = λ n. omega (arith, held.at n, r.counters n) }
-
 -- then what was given back is reclaimed
 pub drops-reclaims : (hs hs' hs'' : List ℕ) (a b c : Link) → DropsFrom hs a hs' b → ReclaimsFrom hs' b hs'' c → EmptiesFrom hs a hs'' c
 drops-reclaims hs hs' hs'' a b c x y = record {
@@ -136,17 +132,6 @@ drops-recount p hs hs' slab key c d at mine drops = record {
     u = Updates-with_value slab key c d at
 
 -- ---- what waits at a key
-
--- where all went, none waits
-pub drops-all : (hs hs' : List ℕ) (slab new : Slab Link) (key : ℕ) (c d : Link) → get slab key ≡ Some c → DropsFrom hs c hs' d → d.waiting ≡ [] → new ≡ with_value slab key d → DropsWaiting key hs slab hs' new
-drops-all hs hs' slab new key c d at r none is =
-    let empty : d ≡ without_waiting c = r.kept ∙ ap (λ (ws : List ℕ). let l : Link = record c { waiting = ws } in l) none in
-    record {
-      link = c;
-      stands = at;
-      drops = rw (sym empty) r;
-      new_is = is ∙ ap (with_value slab key) empty;
-    }
 
 module _ (hs hs' : List ℕ) (slab new : Slab Link) (key : ℕ) (r : DropsWaiting key hs slab hs' new) where
   updates : Updates slab (with_value slab key (without_waiting r.link)) key (Some (without_waiting r.link))

@@ -1,6 +1,6 @@
 -- A publisher's history is put into a connection, one slot after the other.
 use Rattle.std.proofs.Common.{◌≡◌, ℕ, ◌+◌, ◌-◌, ◌<◌, ◌≤◌, ◌^◌, List, [], ◌∷◌, ◌++◌, length, drop, ap, sym, ◌∙◌, arith, append_assoc, add-one, drop-cons, suc}
-use Rattle.std.proofs.lemmas.List.{length-set, drop_all, append-nil}
+use Rattle.std.proofs.lemmas.List.{length-set}
 use Rattle.std.proofs.lemmas.List.Sums.{sum_by-append, sum_by-take-drop}
 use Rattle.std.proofs.lemmas.Option.{slice_get_within, get_or_from_slice_get}
 use Rattle.std.specs.Prelude.{slice_get}
@@ -65,13 +65,3 @@ pub stands-below : (slots : List ℕ) (index : ℕ) → index < length slots →
 stands-below slots index low none =
     let some = slice_get-some slots index low in
     absurd (let no : None ≡ Some some.0 = sym none ∙ some.1 in cc)
-
--- all were put in
-pub hands-out-all : (slots : List ℕ) (c : Link) (b : Book) (index : ℕ) (c' : Link) (b' : Book) → HandsOutFrom slots c b index c' b' → length slots ≤ index
-    → (c' ≡ record c { waiting = last_n c.buffer slots }) × ((s : ℕ) → holders_at b' s ≡ holders_at b s + times s (last_n c.buffer slots))
-hands-out-all slots c b index c' b' h past =
-    let none : drop index slots ≡ [] = drop_all index slots past in
-    let all : c'.waiting ≡ last_n c.buffer slots = sym (append-nil c'.waiting) ∙ ap (λ xs. c'.waiting ++ xs) (sym none) ∙ h.waiting in (
-      h.connection ∙ ap (λ ns. record c { waiting = ns }) all,
-      λ s. let no : times s (drop index slots) ≡ 0 = ap (times s) none in omega (arith, h.counters s, no),
-    )

@@ -1,5 +1,5 @@
 -- A publisher's reclaims, one after the other.
-use Rattle.std.proofs.Common.{◌≡◌, ℕ, Bool, ◌+◌, ◌<◌, List, length, Option, None, Some, get_or, refl, ap, sym, ◌∙◌, inl, inr, arith}
+use Rattle.std.proofs.Common.{◌≡◌, ℕ, Bool, ◌+◌, ◌<◌, List, Option, None, Some, get_or, refl, ap, sym, ◌∙◌, inl, inr, arith}
 use Rattle.std.proofs.lemmas.Bool.{cases_eq}
 use Rattle.std.proofs.lemmas.List.{length-set}
 use Rattle.std.specs.Prelude.{IsSomeAnd}
@@ -25,10 +25,6 @@ own-at p slab key c own at = rw at at own
 -- a mailbox is written over by itself
 with_box-same : (boxes : ℕ → ℕ → Mailbox) (p q : ℕ) → with_box boxes p q (boxes p q) ≡ boxes
 with_box-same boxes p q = ap (put_at boxes p) (sym (put_at-own (boxes p) q)) ∙ sym (put_at-own boxes p)
-
--- how many are left
-reclaimed-count : (slab : Slab Link) (key : ℕ) (c : Link) → get slab key ≡ Some c → returned_count slab key ≡ length c.returned
-reclaimed-count slab key c at = rw at refl
 
 -- ---- from one connection
 

@@ -1,11 +1,10 @@
 -- A publisher leaves its connections at some keys and then at others.
 use Rattle.std.proofs.Common.{◌≡◌, ℕ, ◌+◌, ◌<◌, ◌≤◌, Bool, true, false, cond, List, length, eqb, get_or, refl, ap, sym, ◌∙◌, inl, inr, ◌⊎◌, arith}
 use Rattle.std.proofs.lemmas.Bool.{cases_eq, ne_eqb}
-use Rattle.std.specs.Prelude.{IsSomeAnd}
 use Rattle.std.specs.declared.option.Option.{Option}
 use Rattle.std.specs.declared.option.Option.TheVariants.{None, Some}
 use Rattle.std.specs.Option.{option_and_then}
-use Rattle.slab.specs.Slab.{Slab, get, Updates}
+use Rattle.slab.specs.Slab.{Slab, get}
 use Rattle.iox2_store.specs.Link.{Link}
 use Rattle.iox2_ends.specs.Leaves.{left_link, holds_slots}
 use Rattle.iox2_ends.proofs.MailboxChanges.{within_if_some}
@@ -49,28 +48,6 @@ module _ (p : ℕ) (subscribers : List (Option SubscriberFields)) where
   -- nothing happens where there are no keys
   pub leaves-none : (keys : ℕ → Type 0) (old : Slab Link) → ((k : ℕ) → keys k → ⊥) → LeavesAt p subscribers keys old old
   leaves-none keys old none = record { at = λ k has. absurd (none k has); others = λ k. inl refl }
-
-  -- it leaves the connection at one key
-  pub leaves-one : (key : ℕ) (old new : Slab Link) → Updates old new key (left key (get old key)) → LeavesAt p subscribers (λ k. Some key ≡ Some k) old new
-  leaves-one key old new updates = record {
-    at = λ k has. let same : key ≡ k = cc in ap (get new) (sym same) ∙ updates.changed ∙ ap (λ (n : ℕ). left n (get old n)) same;
-    others = λ k. elim (cases_eq k key) [
-      | inl same ↦ inr (ap (get new) same ∙ updates.changed ∙ ap (λ (n : ℕ). left n (get old n)) (sym same))
-      | inr away ↦ inl (updates.others k away)
-    ];
-  }
-
-  -- what stands there isn't its own
-  pub leaves-other : (key : ℕ) (old : Slab Link) → (IsSomeAnd (get old key) (λ c. c.home.publisher ≡ p) → ⊥) → LeavesAt p subscribers (λ k. Some key ≡ Some k) old old
-  leaves-other key old differs = record {
-    at = λ k has. let same : key ≡ k = cc in ap (get old) (sym same) ∙ by (get old key) refl ∙ ap (λ (n : ℕ). left n (get old n)) same;
-    others = λ k. inl refl;
-  } where
-    by : (o : Option Link) → get old key ≡ o → get old key ≡ left key (get old key)
-    by None e = e ∙ sym (ap (left key) e)
-    by (Some c) e =
-        let away : eqb c.home.publisher p ≡ false = ne_eqb c.home.publisher p (λ same. differs (rw e same)) in
-        e ∙ sym (ap (λ (t : Bool). cond t (if_holding (left_at key c)) (Some c)) away) ∙ sym (ap (left key) e)
 
   -- first at some keys, and then at others
   pub leaves-both : (first second keys : ℕ → Type 0) (old now new : Slab Link) → LeavesAt p subscribers first old now → LeavesAt p subscribers second now new

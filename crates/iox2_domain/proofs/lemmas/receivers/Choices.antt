@@ -1,6 +1,5 @@
 -- What is chosen for a departed publisher's connection is what the machine does.
-use Rattle.std.proofs.Common.{◌≡◌, ◌<◌, ℕ, List, [], ◌∷◌, length, map, Bool, true, false, not, cond, nat_lt, refl, ap, sym, ◌∙◌, arith}
-use Rattle.std.proofs.lemmas.Bool.{ltb-true}
+use Rattle.std.proofs.Common.{◌≡◌, ℕ, List, [], ◌∷◌, length, map, Bool, true, false, not, cond, nat_lt, refl, ap, sym, ◌∙◌, arith}
 use Rattle.std.specs.declared.option.Option.{Option}
 use Rattle.std.specs.declared.option.Option.TheVariants.{None, Some}
 use Rattle.std.specs.Option.{option_map, option_map_or}
@@ -38,14 +37,6 @@ in_machine connections DiscardData = Discard_data
 in_machine connections RefuseIt = Refuse
 
 -- ---- what a choice says
-
-pub chosen-keeps : (connections : Slab Link) (limit : ℕ) (expired : List ℕ) (key : ℕ) → chosen connections limit expired key ≡ KeepExpired → length expired < limit
-chosen-keeps connections limit expired key = by (nat_lt (length expired) limit) refl (has_borrowed (get connections key)) (first_unborrowed connections expired) where
-  by : (a : Bool) → nat_lt (length expired) limit ≡ a → (b : Bool) (o : Option ℕ) → cond a KeepExpired (cond b (evict_key_or_refuse o) DiscardData) ≡ KeepExpired → length expired < limit
-  by true e b o is = ltb-true (length expired) limit e
-  by false e true None is = absurd cc
-  by false e true (Some k) is = absurd cc
-  by false e false o is = absurd cc
 
 pub chosen-discards : (connections : Slab Link) (limit : ℕ) (expired : List ℕ) (key : ℕ) → chosen connections limit expired key ≡ DiscardData → has_borrowed (get connections key) ≡ false
 chosen-discards connections limit expired key = by (nat_lt (length expired) limit) (has_borrowed (get connections key)) (first_unborrowed connections expired) where

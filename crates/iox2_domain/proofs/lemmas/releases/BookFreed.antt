@@ -96,9 +96,6 @@ module _ {T U : Type 0} (f : Fields T U) where
     ];
   }
 
-  pub kept-absent : (before : Fields T U) (s : State T U) (key : ℕ) → IsMidway before f s key → get f.books key ≡ None → KeepsBooks f.next_port f.publishers f.books
-  kept-absent before s key midway none = kept-used before s key midway (λ b at_b. absurd (let no : None ≡ Some b = sym none ∙ at_b in cc))
-
 -- the book goes
 pub frees : {T U : Type 0} (f : Fields T U) (key : ℕ) (b : Book) → get f.books key ≡ Some b → ((slot : ℕ) → holders_at b slot ≡ 0) → look_up (is_publisher b.publisher) f.publishers ≡ None
     → (before : Fields T U) (s : State T U) → IsMidway before f s key → IsWellFormed s → Reaches before (with_book_gone f key) s

@@ -32,7 +32,7 @@ use Rattle.iox2_domain.proofs.lemmas.containers.LookUps.{look_up-map, map-at}
 use Rattle.iox2_domain.proofs.lemmas.fields.SameEnds.{with_connections}
 use Rattle.iox2_domain.proofs.lemmas.fields.Standing.{some_is}
 use Rattle.iox2_domain.proofs.lemmas.fields.Views.{mailboxes-are}
-use Rattle.iox2_domain.proofs.lemmas.releases.Forgets.{ItsSubscriber, PrunesMidway}
+use Rattle.iox2_domain.proofs.lemmas.releases.Forgets.{ItsSubscriber}
 use Rattle.iox2_domain.proofs.lemmas.releases.LetGo.{let_go-midway}
 use Rattle.iox2_domain.proofs.lemmas.releases.Released.{gives-back-midway}
 use Rattle.iox2_domain.proofs.lemmas.slots.ConnectionSlots.{borrowed-in_use, contains-one}
@@ -160,11 +160,6 @@ module _ {T U : Type 0} (f : Fields T U) (sound : IsDomain f) (key slot : ℕ) (
   -- the connection's home is the same afterwards
   pub home-left : (new : Slab Link) → IsSomeAnd (get f.connections key) (λ (d : Link). get new key ≡ Some (without_borrowed slot d)) → IsSomeAnd (get new key) (λ (d : Link). d.home ≡ home)
   home-left new left = let there : get new key ≡ Some (without_borrowed slot c) = rw own.1 at left in rw there own.2.0
-
-  -- the subscriber is pruned then
-  pub hands-back-gone : (b : Book) (mid : Slab Link) (new : Fields T U) → IsMidway f (less b mid) (unborrowed (state_of (kept_of f)) home.publisher home.subscriber (numbers_of f.books home.publisher slot)) home.book
-      → PrunesMidway (less b mid) home new → HandsBack f home slot new
-  hands-back-gone b mid new midway prunes = prunes f (state_of (kept_of f)) (numbers_of f.books home.publisher slot) home.book sound.well_formed midway
 
 -- the slot has one holder less in these fields, and its publisher is gone
 pub record IsLetGo {T U : Type 0} (now : Fields T U) (key slot : ℕ) (home : Home) (mid : Fields T U) : Type 0 where

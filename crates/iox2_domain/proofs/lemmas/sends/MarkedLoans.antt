@@ -1,6 +1,6 @@
 -- A publisher's loans are the slots of its book that are marked so.
-use Rattle.std.proofs.Common.{◌≡◌, ℕ, zero, suc, ◌<◌, Bool, true, false, cond, map, get_or, refl, ap, sym, subst, ◌∙◌, inl, inr, arith}
-use Rattle.std.proofs.lemmas.Bool.{ltb-true, true≢false}
+use Rattle.std.proofs.Common.{◌≡◌, ℕ, ◌<◌, true, false, map, get_or, refl, ap, sym, subst, ◌∙◌, inl, inr, arith}
+use Rattle.std.proofs.lemmas.Bool.{ltb-true}
 use Rattle.std.specs.Prelude.{nat_lt, slice_get, slice_index}
 use Rattle.std.specs.declared.option.Option.TheVariants.{None, Some}
 use Rattle.std.specs.Option.{option_map_or}
@@ -63,14 +63,3 @@ module _ {T U : Type 0} (f : Fields T U) (sound : IsDomain f) (i : ℕ) (x : Pub
 
     number : slice_index b.numbers slot ≡ numbers_of f.books x.id slot
     number = sym (number-at f sound x.book slot b at) ∙ ap (λ (p : ℕ). numbers_of f.books p slot) mine
-
-  -- each slot stands as often among its loans as its mark says, and so it will when the publisher is gone
-  pub loans-marked : (slot : ℕ) → times slot x.loans ≡ cond (is_loan_in b slot) 1 0
-  loans-marked slot = by (is_loan_in b slot) refl where
-    none : (k : ℕ) → times slot x.loans ≡ k → is_loan_in b slot ≡ false → k ≡ 0
-    none zero e unmarked = refl
-    none (suc k) e unmarked = absurd (true≢false (sym (lent-marked slot (omega (arith, e))) ∙ unmarked))
-
-    by : (t : Bool) → is_loan_in b slot ≡ t → times slot x.loans ≡ cond t 1 0
-    by true is = marked-once slot is
-    by false is = none (times slot x.loans) refl is

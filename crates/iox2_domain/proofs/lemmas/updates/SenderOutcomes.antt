@@ -1,5 +1,5 @@
 -- What a publisher's connection at a place comes to, by what its update found there.
-use Rattle.std.proofs.Common.{◌≡◌, ◌<◌, ◌≤◌, ℕ, true, false, Bool, cond, eqb, List, get_or, is_some, refl, ap, sym, subst, ◌∙◌, slice_set}
+use Rattle.std.proofs.Common.{◌≡◌, ◌<◌, ◌≤◌, ℕ, true, false, Bool, cond, eqb, List, get_or, refl, ap, sym, subst, ◌∙◌, slice_set}
 use Rattle.std.specs.declared.option.Option.{Option}
 use Rattle.std.specs.declared.option.Option.TheVariants.{None, Some}
 use Rattle.std.specs.Option.{option_map, option_map_or, option_and_then}
@@ -26,14 +26,6 @@ use Rattle.iox2_domain.proofs.lemmas.updates.Grown.{grown, grown-sound, sender-f
 use Rattle.iox2_domain.proofs.lemmas.fields.Standing.{receiver-joins, sender-room}
 use Rattle.iox2_domain.proofs.lemmas.updates.SenderCases.{joins-connection, makes-connection, misses-connection}
 
-pub none_or_some : (o : Option ℕ) → is_some o ≡ false → o ≡ None
-none_or_some None e = refl
-none_or_some (Some key) e = absurd cc
-
-pub some_key : (o : Option ℕ) → is_some o ≡ true → (key : ℕ) × (o ≡ Some key)
-some_key None e = absurd cc
-some_key (Some key) e = (key, refl)
-
 -- a key that leads to a connection of the publisher, and that connection
 pub some_from : (connections : Slab Link) (p : ℕ) (o : Option ℕ) (key : ℕ) → key_from connections p o ≡ Some key
     → (c : Link) × (o ≡ Some key) × (get connections key ≡ Some c) × (c.home.publisher ≡ p)
@@ -53,13 +45,6 @@ answers-warn environment port handler info is = subst (λ h. DegradationAnswers 
 -- who stands where an open subscriber does is open
 pub open-at : (subscribers : List (Option SubscriberFields)) (j : ℕ) (y : SubscriberFields) → get_or subscribers j None ≡ Some y → is_open_subscriber subscribers j ≡ true → y.is_open ≡ true
 open-at subscribers j y at opened = sym (ap (λ o. option_map_or (λ (z : SubscriberFields). z.is_open) o false) at) ∙ opened
-
--- where an open subscriber stands a subscriber stands
-pub open-stands : (subscribers : List (Option SubscriberFields)) (j : ℕ) → is_open_subscriber subscribers j ≡ true → (y : SubscriberFields) × (get_or subscribers j None ≡ Some y)
-open-stands subscribers j opened = by (get_or subscribers j None) refl where
-  by : (o : Option SubscriberFields) → get_or subscribers j None ≡ o → (y : SubscriberFields) × (get_or subscribers j None ≡ Some y)
-  by None e = absurd (let shut : false ≡ true = sym (ap (λ o. option_map_or (λ (z : SubscriberFields). z.is_open) o false) e) ∙ opened in cc)
-  by (Some y) e = (y, e)
 
 module _ {T U : Type 0} (f : Fields T U) (sound : IsDomain f) (i j : ℕ) (x : PublisherFields) (at_x : get_or f.publishers i None ≡ Some x)
     (home : Home) (size : ℕ) (apart : StandApart f.publishers f.subscribers i j home size) where

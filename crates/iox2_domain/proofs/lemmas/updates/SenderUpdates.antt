@@ -1,6 +1,6 @@
 -- A publisher's update of a domain's fields.
 use Rattle.std.proofs.Common.{◌≡◌, ℕ, ◌+◌, ◌<◌, ◌≤◌, true, false, List, map, length, drop, get_or, slice_set, refl, ap, sym, subst, ◌∙◌, arith}
-use Rattle.std.proofs.lemmas.List.{set-set, set-get_or, length-map, length-set}
+use Rattle.std.proofs.lemmas.List.{set-set, set-get_or, length-map}
 use Rattle.std.proofs.lemmas.Option.{same_Some}
 use Rattle.std.specs.declared.option.Option.{Option}
 use Rattle.std.specs.declared.option.Option.TheVariants.{None, Some}
@@ -157,10 +157,6 @@ module _ {T U : Type 0} (environment : Environment) (f : Fields T U) (sound : Is
 -- what a publisher is due for by its place
 pub due-at : (xs : List (Option PublisherFields)) (i : ℕ) (x : PublisherFields) → get_or xs i None ≡ Some x → is_publisher_due xs i ≡ x.is_due
 due-at xs i x at = ap (λ o. option_map_or (λ (z : PublisherFields). z.is_due) o false) at
-
--- how many places there are on the way
-pub walking-publishers : {T U : Type 0} (environment : Environment) (f : Fields T U) (i : ℕ) (x : PublisherFields) (j : ℕ) (f' : Fields T U) (failure : Option ConnectionFailure) → WalksSender environment f i x j f' failure → length f'.publishers ≡ length f.publishers
-walking-publishers environment f i x j f' failure walks = ap (λ g. length g.publishers) walks.fields ∙ length-set f.publishers i (Some (record x { keys = walks.keys; key_room = walks.key_room; is_due = false }))
 
 pub walking-subscribers : {T U : Type 0} (environment : Environment) (f : Fields T U) (i : ℕ) (x : PublisherFields) (j : ℕ) (f' : Fields T U) (failure : Option ConnectionFailure) → WalksSender environment f i x j f' failure → length f'.subscribers ≡ length f.subscribers
 walking-subscribers environment f i x j f' failure walks =
