@@ -1,4 +1,5 @@
 //! Runs in which loans are changed where they lie, and values are lent and sent at once.
+use crate::comparisons::PUBLISHER;
 use crate::fixtures::settings;
 use crate::runs::{CREATE_SUBSCRIBER, create_publisher, replies_to_numbers};
 use iox2_pubsub::Domain;
@@ -7,61 +8,62 @@ use iox2_store::{
     Header, LoanError, SendError, UniqueNodeId, UniquePublisherId, UniqueSubscriberId,
 };
 
+// A loan is written, changed and sent. Some commands don't fit it.
+const CHANGES: [Command<u64, u8>; 24] = [
+    CREATE_SUBSCRIBER,
+    PUBLISHER,
+    Command::LoanUninit { of: 1 },
+    Command::AssumeInit { of: 2 },
+    Command::SetPayload {
+        of: 2,
+        at: 0,
+        value: 7,
+    },
+    Command::WriteCell {
+        of: 2,
+        at: 1,
+        value: 7,
+    },
+    Command::WriteCell {
+        of: 2,
+        at: 0,
+        value: 8,
+    },
+    Command::Read { of: 2, at: 0 },
+    Command::WriteHeader { of: 2, value: 3 },
+    Command::AssumeInit { of: 2 },
+    Command::AssumeInit { of: 2 },
+    Command::WriteCell {
+        of: 2,
+        at: 0,
+        value: 7,
+    },
+    Command::Read { of: 2, at: 0 },
+    Command::SetPayload {
+        of: 2,
+        at: 1,
+        value: 7,
+    },
+    Command::SetPayload {
+        of: 2,
+        at: 0,
+        value: 9,
+    },
+    Command::ReadUserHeader { of: 2 },
+    Command::WriteHeader { of: 2, value: 4 },
+    Command::Send { of: 2 },
+    Command::ReadUserHeader { of: 2 },
+    Command::Receive { of: 0 },
+    Command::Read { of: 19, at: 0 },
+    Command::ReadHeader { of: 19 },
+    Command::ReadUserHeader { of: 19 },
+    Command::WriteHeader { of: 19, value: 5 },
+];
+
 #[test]
 fn a_loan_is_changed_until_it_is_sent(rt: HostRuntime) {
     let mut domain: Domain<u64, u8> = Domain::new(rt.alloc(), settings()).expect(&rt, "a domain");
-    let commands = [
-        CREATE_SUBSCRIBER,
-        create_publisher(1),
-        Command::LoanUninit { of: 1 },
-        Command::AssumeInit { of: 2 },
-        Command::SetPayload {
-            of: 2,
-            at: 0,
-            value: 7,
-        },
-        Command::WriteCell {
-            of: 2,
-            at: 1,
-            value: 7,
-        },
-        Command::WriteCell {
-            of: 2,
-            at: 0,
-            value: 8,
-        },
-        Command::Read { of: 2, at: 0 },
-        Command::WriteHeader { of: 2, value: 3 },
-        Command::AssumeInit { of: 2 },
-        Command::AssumeInit { of: 2 },
-        Command::WriteCell {
-            of: 2,
-            at: 0,
-            value: 7,
-        },
-        Command::Read { of: 2, at: 0 },
-        Command::SetPayload {
-            of: 2,
-            at: 1,
-            value: 7,
-        },
-        Command::SetPayload {
-            of: 2,
-            at: 0,
-            value: 9,
-        },
-        Command::ReadUserHeader { of: 2 },
-        Command::WriteHeader { of: 2, value: 4 },
-        Command::ReadHeader { of: 2 },
-        Command::Send { of: 2 },
-        Command::ReadUserHeader { of: 2 },
-        Command::Receive { of: 0 },
-        Command::Read { of: 20, at: 0 },
-        Command::ReadHeader { of: 20 },
-        Command::ReadUserHeader { of: 20 },
-        Command::WriteHeader { of: 20, value: 5 },
-    ];
-    let commands = Vec::from_array(rt.alloc(), commands).expect(&rt, "commands");
+    let commands = Vec::from_array(rt.alloc(), CHANGES).expect(&rt, "commands");
     let outcome = replies_to_numbers(rt.alloc(), &mut domain, commands);
     drop(domain);
     let replies = outcome.ok().expect(&rt, "replies");
@@ -70,7 +72,7 @@ fn a_loan_is_changed_until_it_is_sent(rt: HostRuntime) {
         publisher_id: UniquePublisherId::new(2),
         number_of_elements: 1,
     };
-    let expected: [Reply<u64, u8>; 25] = [
+    let expected: [Reply<u64, u8>; 24] = [
         Reply::SubscriberMade(UniqueSubscriberId::new(1)),
         Reply::PublisherMade(UniquePublisherId::new(2)),
         Reply::Loaned,
@@ -88,7 +90,6 @@ fn a_loan_is_changed_until_it_is_sent(rt: HostRuntime) {
         Reply::Done,
         Reply::UserHeader(3),
         Reply::Done,
-        Reply::Header(header),
         Reply::Delivered(1),
         Reply::Skipped,
         Reply::Sample(UniquePublisherId::new(2)),
@@ -108,6 +109,7 @@ fn values_are_lent_and_sent_at_once(rt: HostRuntime) {
         create_publisher(1),
         Command::Loan { of: 1 },
         Command::Read { of: 2, at: 0 },
+        Command::ReadHeader { of: 2 },
         Command::Loan { of: 1 },
         Command::SendCopy { of: 1, value: 5 },
         Command::Send { of: 2 },
@@ -115,8 +117,8 @@ fn values_are_lent_and_sent_at_once(rt: HostRuntime) {
         Command::Receive { of: 0 },
         Command::SendCopy { of: 1, value: 6 },
         Command::Receive { of: 0 },
-        Command::Read { of: 10, at: 0 },
-        Command::ReadUserHeader { of: 10 },
+        Command::Read { of: 11, at: 0 },
+        Command::ReadUserHeader { of: 11 },
         Command::Loan { of: 0 },
         Command::SendCopy { of: 0, value: 7 },
     ];
@@ -124,11 +126,17 @@ fn values_are_lent_and_sent_at_once(rt: HostRuntime) {
     let outcome = replies_to_numbers(rt.alloc(), &mut domain, commands);
     drop(domain);
     let replies = outcome.ok().expect(&rt, "replies");
-    let expected: [Reply<u64, u8>; 15] = [
+    let header = Header {
+        node_id: UniqueNodeId::new(3),
+        publisher_id: UniquePublisherId::new(2),
+        number_of_elements: 1,
+    };
+    let expected: [Reply<u64, u8>; 16] = [
         Reply::SubscriberMade(UniqueSubscriberId::new(1)),
         Reply::PublisherMade(UniquePublisherId::new(2)),
         Reply::Loaned,
         Reply::Cell(Some(0)),
+        Reply::Header(header),
         Reply::LoanRefused(LoanError::ExceedsMaxLoans),
         Reply::SendRefused(SendError::LoanError(LoanError::ExceedsMaxLoans)),
         Reply::Delivered(1),
