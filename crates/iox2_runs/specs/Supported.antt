@@ -12,7 +12,8 @@ use Rattle.iox2_commands.specs.declared.command.Command.{Command}
 use Rattle.iox2_commands.specs.declared.command.Command.TheVariants.{Nothing, CreatePublisher, CreateSubscriber, LoanUninit, Loan, WriteCell, WriteAll, AssumeInit, WriteHeader, SetPayload, Send, SendCopy, Discard, Update, Receive, HasSamples, Read, ReadHeader, ReadUserHeader, Release, Close}
 
 -- The command makes a port, with nothing set that a factory can't be told yet, updates one or closes one; or it takes a message
--- of a single value from its loan to its release, gives a loan back unsent, or asks whether messages wait.
+-- of a single value from its loan to its release, sends a value at once, changes a loan where it lies, reads a header, gives a
+-- loan back unsent, or asks whether messages wait.
 abbrev pub IsSupportedCommand : {T U : Type 0} → Command T U → Type 0
 IsSupportedCommand Nothing = Unit {0}
 IsSupportedCommand (CreatePublisher loans strategy allocation len override_slots degradation backpressure) =

@@ -130,7 +130,8 @@ fn carry_out<
 ///
 /// So far a publisher discards what a full receiver doesn't take, has one segment and no handlers,
 /// and a command is one of those that make, update or close ports, take a message of a single value
-/// from its loan to its release, give a loan back unsent, or ask whether messages wait.
+/// from its loan to its release, send a value at once, change a loan where it lies, read headers,
+/// give a loan back unsent, or ask whether messages wait.
 pub fn run<T: Copy + Default + Drop, U: Copy + Default + Drop, F: BackpressureFn, G: DegradationFn>(
     alloc: Global,
     domain: &mut Domain<T, U, F, G>,

@@ -39,7 +39,6 @@ use Rattle.iox2_domain.proofs.lemmas.slots.PublisherBooks.{its-book}
 pub spares-same : {T U : Type 0} (f : Fields T U) (k key : ℕ) → k ≡ key → IsDomainBut key f → IsDomainBut k f
 spares-same f k key same sound = subst (λ (n : ℕ). IsDomainBut n f) (sym same) sound
 
--- a book that is freed changes nothing else
 -- a book was freed where the step keeps the fields but for the books
 pub frees-book : {T U : Type 0} (f f' : Fields T U) (key : ℕ) → IsDomainBut key f
     → ((before : Fields T U) (s : State T U) → IsMidway before f s key → IsWellFormed s → Reaches before f' s) → ChangesBooks f f' → FreesBook f f'
