@@ -55,6 +55,7 @@ fn push_line(
             write!(text, "sub {size}")
         }
         Command::WriteAll { of, value } => write!(text, "write {} {value}", number(of)),
+        Command::SendCopy { of, value } => write!(text, "copy {} {value}", number(of)),
         Command::LoanUninit { of } => push_use(text, "loan", of),
         Command::Send { of } => push_use(text, "send", of),
         Command::Discard { of } => push_use(text, "discard", of),

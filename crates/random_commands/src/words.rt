@@ -25,13 +25,21 @@ pub fn is_word(command: &Command<u64, u64>) -> bool
         } => true,
         Command::Nothing
         | Command::LoanUninit { .. }
+        | Command::Loan { .. }
+        | Command::WriteCell { .. }
         | Command::WriteAll { .. }
+        | Command::AssumeInit { .. }
+        | Command::WriteHeader { .. }
+        | Command::SetPayload { .. }
         | Command::Send { .. }
+        | Command::SendCopy { .. }
         | Command::Discard { .. }
         | Command::Update { .. }
         | Command::Receive { .. }
         | Command::HasSamples { .. }
         | Command::Read { .. }
+        | Command::ReadHeader { .. }
+        | Command::ReadUserHeader { .. }
         | Command::Release { .. }
         | Command::Close { .. } => true,
         _ => false,

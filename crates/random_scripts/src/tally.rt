@@ -6,7 +6,7 @@ use iox2_runs::Reply;
 use std::io;
 
 // The kinds of replies that the words can give with ample memory.
-const KINDS: [&str; 25] = [
+const KINDS: [&str; 28] = [
     "Done",
     "Skipped",
     "PublisherMade",
@@ -31,21 +31,24 @@ const KINDS: [&str; 25] = [
     "Has(true)",
     "Cell(None)",
     "Cell(Some)",
+    "Unwritten",
+    "Header",
+    "UserHeader",
     "any other",
 ];
 
 // The position of the last kind, which no reply should have.
-const OTHER: usize = 24;
+const OTHER: usize = 27;
 
 /// How often each kind of reply was met.
 #[derive(Drop)]
 pub(crate) struct Tally {
-    counts: [u64; 25],
+    counts: [u64; 28],
 }
 
 impl Tally {
     pub(crate) fn new() -> Tally {
-        Tally { counts: [0; 25] }
+        Tally { counts: [0; 28] }
     }
 
     pub(crate) fn add(&mut self, replies: &[Reply<u64, u64>]) {
@@ -107,6 +110,9 @@ fn kind_of_use(reply: &Reply<u64, u64>) -> usize {
         Reply::Has(true) => 21,
         Reply::Cell(None) => 22,
         Reply::Cell(Some(_)) => 23,
+        Reply::Unwritten => 24,
+        Reply::Header(_) => 25,
+        Reply::UserHeader(_) => 26,
         _ => OTHER,
     }
 }
