@@ -18,11 +18,6 @@ impl Memory {
         }
     }
 
-    /// Whether a refusal is still to come.
-    pub fn will_refuse(&self) -> bool {
-        self.granted.is_some()
-    }
-
     // Whether it is refused this time.
     pub(crate) fn refuses(&mut self) -> bool {
         match self.granted {

@@ -14,6 +14,7 @@ pub struct Model {
     pub(crate) alloc: Global,
     pub(crate) config: ServiceConfig,
     pub(crate) memory: Memory,
+    pub(crate) refused_connections: u64,
     // By id. None has the id 0.
     pub(crate) publishers: Vec<Option<Publisher>>,
     pub(crate) subscribers: Vec<Option<Subscriber>>,
@@ -47,6 +48,7 @@ impl Model {
             alloc,
             config,
             memory,
+            refused_connections: 0,
             publishers: Vec::new(alloc),
             subscribers: Vec::new(alloc),
             loans: Vec::new(alloc),
@@ -68,9 +70,18 @@ impl Model {
         self.made.len()
     }
 
-    /// Whether memory was refused as often as it was to be.
-    pub fn has_refused_memory(&self) -> bool {
-        !self.memory.will_refuse()
+    /// How many connections were refused memory.
+    pub fn refused_connections(&self) -> u64 {
+        self.refused_connections
+    }
+
+    // Whether a connection is refused memory this time, which is counted.
+    pub(crate) fn refuses_connection(&mut self) -> bool {
+        let refuses = self.memory.refuses();
+        if refuses {
+            self.refused_connections = self.refused_connections.saturating_add(1);
+        }
+        refuses
     }
 
     /// Whether the command at this position made such a thing, which is still live.

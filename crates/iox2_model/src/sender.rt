@@ -77,7 +77,7 @@ impl Model {
         q: usize,
         buffer: usize,
     ) -> Result<(), ModelError> {
-        if !self.has_receiver_end(p, q) && self.memory.refuses() {
+        if !self.has_receiver_end(p, q) && self.refuses_connection() {
             return Ok(());
         }
         self.set_sender_end(p, place, Some(q))?;

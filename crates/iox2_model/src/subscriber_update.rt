@@ -58,7 +58,7 @@ impl Model {
                 return Ok(false);
             }
         }
-        if self.has_sender_end(p, q) || !self.memory.refuses() {
+        if self.has_sender_end(p, q) || !self.refuses_connection() {
             self.set_receiver_end(q, place, Some(p))?;
         }
         Ok(true)

@@ -33,12 +33,20 @@ fn words(alloc: Global, commands: &[Command<u64, u64>]) -> Result<Vec<Command<u6
     Ok(words)
 }
 
-/// The replies of the commands on a new domain.
-pub(crate) fn replies_of(
+/// What became of the commands of a script.
+#[derive(Drop)]
+pub(crate) struct Ran {
+    pub(crate) replies: Vec<Reply<u64, u64>>,
+    /// How many connections the domain was refused memory for.
+    pub(crate) refused_connections: u64,
+}
+
+/// Carries out the commands on a new domain.
+pub(crate) fn carry_out_all(
     alloc: Global,
     config: ServiceConfig,
     commands: &[Command<u64, u64>],
-) -> Result<Vec<Reply<u64, u64>>, Failure> {
+) -> Result<Ran, Failure> {
     let words = words(alloc, commands)?;
     match config.variant {
         TypeVariant::Dynamic => Err(Failure::NoWord),
@@ -46,20 +54,54 @@ pub(crate) fn replies_of(
             let Ok(mut domain) = Domain::<u64, u64>::new(alloc, config) else {
                 return Err(Failure::OutOfMemory);
             };
-            run(alloc, &mut domain, words).map_err(|_| Failure::OutOfMemory)
+            let Ok(replies) = run(alloc, &mut domain, words) else {
+                return Err(Failure::OutOfMemory);
+            };
+            Ok(Ran {
+                replies,
+                refused_connections: domain.refused_connections(),
+            })
         }
     }
 }
 
-/// The first reply that isn't one that the model has.
+/// Whether each reply is the model's, and so is the number of connections that were refused memory.
+pub(crate) fn agrees(
+    alloc: Global,
+    config: ServiceConfig,
+    commands: &[Command<u64, u64>],
+    ran: &Ran,
+    memory: Memory,
+) -> Result<bool, Failure> {
+    let mut model = Model::new(alloc, config, memory)?;
+    for position in 0..commands.len() {
+        if let (Some(command), Some(reply)) = (commands.get(position), ran.replies.get(position)) {
+            if model.carry_out(*command, Some(*reply))? != *reply {
+                return Ok(false);
+            }
+        }
+    }
+    Ok(model.refused_connections() == ran.refused_connections)
+}
+
+/// Runs the commands. Whether what becomes of them isn't what the model says.
+pub(crate) fn is_refuted(
+    alloc: Global,
+    config: ServiceConfig,
+    commands: &[Command<u64, u64>],
+) -> Result<bool, Failure> {
+    let ran = carry_out_all(alloc, config, commands)?;
+    Ok(!agrees(alloc, config, commands, &ran, Memory::ample())?)
+}
+
+/// The first reply that isn't the model's with ample memory.
 pub(crate) fn first_difference(
     alloc: Global,
     config: ServiceConfig,
     commands: &[Command<u64, u64>],
     replies: &[Reply<u64, u64>],
-    memory: Memory,
 ) -> Result<Option<Difference>, Failure> {
-    let mut model = Model::new(alloc, config, memory)?;
+    let mut model = Model::new(alloc, config, Memory::ample())?;
     for position in 0..commands.len() {
         if let (Some(command), Some(reply)) = (commands.get(position), replies.get(position)) {
             let expected = model.carry_out(*command, Some(*reply))?;
@@ -73,21 +115,4 @@ pub(crate) fn first_difference(
         }
     }
     Ok(None)
-}
-
-/// Runs the commands. Whether some reply isn't one that the model has.
-pub(crate) fn is_refuted(
-    alloc: Global,
-    config: ServiceConfig,
-    commands: &[Command<u64, u64>],
-) -> Result<bool, Failure> {
-    let replies = replies_of(alloc, config, commands)?;
-    let difference = first_difference(
-        alloc,
-        config,
-        commands,
-        replies.as_slice(),
-        Memory::ample(),
-    )?;
-    Ok(difference.is_some())
 }

@@ -6,7 +6,7 @@ use std::io;
 /// Why the scripts didn't all pass.
 #[derive(Clone, Copy)]
 pub(crate) enum Failure {
-    /// The arguments aren't a count and a seed.
+    /// The arguments name no task, or one isn't a number.
     Usage,
     /// A reply isn't the model's.
     Refuted,
@@ -26,7 +26,8 @@ impl Failure {
     /// What is said of it.
     pub(crate) fn text(self) -> &'static str {
         match self {
-            Failure::Usage => "usage: random_scripts COUNT SEED, two numbers",
+            Failure::Usage =>
+                "usage: random_scripts COUNT SEED, or draw 0 SCRIPT SEED, or run 0 SCRIPT SEED, or refused COUNT SCRIPT SEED",
             Failure::Refuted => "a reply isn't one that the model has",
             Failure::NeverMet => "a reply was never met",
             Failure::NoRule => "the model has no rule for a command",

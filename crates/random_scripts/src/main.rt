@@ -1,13 +1,16 @@
-//! Runs random scripts, and compares each reply with the model's.
+//! Runs random scripts, and compares each reply with the model's; or runs one while an allocation is
+//! refused.
 #![tactic(auto)]
 
 mod comparison;
 mod failure;
+mod refusals;
 mod rounds;
 mod shortest;
 mod tally;
 
 use failure::Failure;
+use refusals::{only_draw, only_run, run_refused};
 use rounds::run_scripts;
 use std::env;
 use std::process::ExitCode;
@@ -27,6 +30,15 @@ fn carry_out(rt: &HostRuntime) -> Result<(), Failure> {
     let words: Vec<String> = env::args(rt)?.collect(rt.alloc())?;
     match words.as_slice() {
         [_, count, seed] => run_scripts(rt, number(count)?, number(seed)?),
+        [_, task, _, script, seed] if task.as_str() == "draw" => {
+            only_draw(rt, number(script)?, number(seed)?)
+        }
+        [_, task, _, script, seed] if task.as_str() == "run" => {
+            only_run(rt, number(script)?, number(seed)?)
+        }
+        [_, task, count, script, seed] if task.as_str() == "refused" => {
+            run_refused(rt, number(count)?, number(script)?, number(seed)?)
+        }
         _ => Err(Failure::Usage),
     }
 }

@@ -1,15 +1,15 @@
 //! Script after script.
-use crate::comparison::{first_difference, replies_of};
+use crate::comparison::{Ran, agrees, carry_out_all, first_difference};
 use crate::failure::Failure;
 use crate::shortest::shortest;
 use crate::tally::Tally;
 use iox2_model::Memory;
 use iox2_pubsub::ServiceConfig;
-use iox2_runs::{Command, Reply};
+use iox2_runs::Command;
 use random_commands::{Script, draw_script, script_text};
 
-// How many commands a script has at most.
-const MOST_COMMANDS: usize = 200;
+/// How many commands a script has at most.
+pub(crate) const MOST_COMMANDS: usize = 200;
 
 /// Runs so many scripts of a seed, and prints how often each kind of reply was met. Fails at the
 /// first reply that isn't one that the model has, with the shortest script that fails, and where a
@@ -33,45 +33,49 @@ pub(crate) fn run_scripts(rt: &HostRuntime, count: u64, seed: u64) -> Result<(),
     }
 }
 
-// Runs a script and counts its replies. Where one isn't the model's, it is printed with the shortest
-// script that has such a reply.
+// Runs a script and counts its replies. Where they aren't the model's, the shortest script is printed
+// that has such a reply.
 fn check(rt: &HostRuntime, number: u64, script: &Script, tally: &mut Tally) -> Result<(), Failure> {
+    let alloc = rt.alloc();
     let commands = script.commands.as_slice();
-    let replies = replies_of(rt.alloc(), script.config, commands)?;
-    tally.add(replies.as_slice());
-    if agrees(rt, script.config, commands, replies.as_slice())? {
+    let ran = carry_out_all(alloc, script.config, commands)?;
+    tally.add(ran.replies.as_slice());
+    if agrees(alloc, script.config, commands, &ran, Memory::ample())? {
         return Ok(());
     }
-    println!(rt; "in script {number}; the shortest such script is:")?;
+    println!(rt; "script {number} fails:")?;
+    print_difference(rt, script.config, commands, &ran)?;
     print_shortest(rt, script)?;
     Err(Failure::Refuted)
 }
 
-// Whether each reply is the model's. The first that isn't is printed.
-fn agrees(
+// Prints the first reply that isn't the model's, or how many connections were refused memory.
+fn print_difference(
     rt: &HostRuntime,
     config: ServiceConfig,
     commands: &[Command<u64, u64>],
-    replies: &[Reply<u64, u64>],
-) -> Result<bool, Failure> {
-    match first_difference(rt.alloc(), config, commands, replies, Memory::ample())? {
-        None => Ok(true),
+    ran: &Ran,
+) -> Result<(), Failure> {
+    match first_difference(rt.alloc(), config, commands, ran.replies.as_slice())? {
+        None => println!(rt;
+            "{} connections were refused memory",
+            ran.refused_connections
+        )?,
         Some(difference) => {
             let line = difference.position.saturating_add(1);
             let run = difference.run;
             let model = difference.model;
-            println!(rt; "command {line}: run replies {run:?}, and the model {model:?},")?;
-            Ok(false)
+            println!(rt; "command {line}: run replies {run:?}, and the model {model:?}")?;
         }
     }
+    Ok(())
 }
 
 fn print_shortest(rt: &HostRuntime, script: &Script) -> Result<(), Failure> {
     let fewest = shortest(rt.alloc(), script.config, script.commands.as_slice())?;
+    println!(rt; "the shortest such script has {} commands:", fewest.len())?;
     let text = script_text(rt.alloc(), &script.config, fewest.as_slice())?;
     print!(rt; "{text}")?;
-    let replies = replies_of(rt.alloc(), script.config, fewest.as_slice())?;
-    agrees(rt, script.config, fewest.as_slice(), replies.as_slice())?;
-    println!(rt; "{} commands", fewest.len())?;
-    Ok(())
+    let ran = carry_out_all(rt.alloc(), script.config, fewest.as_slice())?;
+    print_difference(rt, script.config, fewest.as_slice(), &ran)
 }
