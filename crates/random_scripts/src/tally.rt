@@ -6,7 +6,7 @@ use iox2_runs::Reply;
 use std::io;
 
 // The kinds of replies that the words can give with ample memory.
-const KINDS: [&str; 28] = [
+const KINDS: [&str; 29] = [
     "Done",
     "Skipped",
     "PublisherMade",
@@ -22,6 +22,7 @@ const KINDS: [&str; 28] = [
     "Delivered to 2 to 64",
     "Delivered to 65 or more",
     "SendRefused(ConnectionBrokenSinceSenderNoLongerExists)",
+    "SendRefused(LoanError)",
     "UpdateRefused",
     "Sample",
     "NoSample",
@@ -38,17 +39,17 @@ const KINDS: [&str; 28] = [
 ];
 
 // The position of the last kind, which no reply should have.
-const OTHER: usize = 27;
+const OTHER: usize = 28;
 
 /// How often each kind of reply was met.
 #[derive(Drop)]
 pub(crate) struct Tally {
-    counts: [u64; 28],
+    counts: [u64; 29],
 }
 
 impl Tally {
     pub(crate) fn new() -> Tally {
-        Tally { counts: [0; 28] }
+        Tally { counts: [0; 29] }
     }
 
     pub(crate) fn add(&mut self, replies: &[Reply<u64, u64>]) {
@@ -94,6 +95,7 @@ fn kind_of(reply: &Reply<u64, u64>) -> usize {
         Reply::Delivered(2..=64) => 12,
         Reply::Delivered(_) => 13,
         Reply::SendRefused(SendError::ConnectionBrokenSinceSenderNoLongerExists) => 14,
+        Reply::SendRefused(SendError::LoanError(_)) => 15,
         _ => kind_of_use(reply),
     }
 }
@@ -101,18 +103,18 @@ fn kind_of(reply: &Reply<u64, u64>) -> usize {
 // The same for what is received and read.
 fn kind_of_use(reply: &Reply<u64, u64>) -> usize {
     match *reply {
-        Reply::UpdateRefused(_) => 15,
-        Reply::Sample(_) => 16,
-        Reply::NoSample => 17,
-        Reply::ReceiveRefused(ReceiveError::ExceedsMaxBorrows) => 18,
-        Reply::ReceiveRefused(ReceiveError::ConnectionFailure(_)) => 19,
-        Reply::Has(false) => 20,
-        Reply::Has(true) => 21,
-        Reply::Cell(None) => 22,
-        Reply::Cell(Some(_)) => 23,
-        Reply::Unwritten => 24,
-        Reply::Header(_) => 25,
-        Reply::UserHeader(_) => 26,
+        Reply::UpdateRefused(_) => 16,
+        Reply::Sample(_) => 17,
+        Reply::NoSample => 18,
+        Reply::ReceiveRefused(ReceiveError::ExceedsMaxBorrows) => 19,
+        Reply::ReceiveRefused(ReceiveError::ConnectionFailure(_)) => 20,
+        Reply::Has(false) => 21,
+        Reply::Has(true) => 22,
+        Reply::Cell(None) => 23,
+        Reply::Cell(Some(_)) => 24,
+        Reply::Unwritten => 25,
+        Reply::Header(_) => 26,
+        Reply::UserHeader(_) => 27,
         _ => OTHER,
     }
 }
