@@ -100,23 +100,3 @@ fn cells_are_taken_only_once_each_is_written(rt: HostRuntime) {
     drop(contents);
     assert!(rt; !is_written && kept == [true, true] && is_written_later && values == [20, 21]);
 }
-
-#[test]
-fn a_slice_is_written_from_a_function_in_order(rt: HostRuntime) {
-    let mut contents: Contents<u64, Station> = Contents::new(rt.alloc(), 1, 12, true).expect(
-        &rt, "room",
-    );
-    contents.start(0, 12);
-    contents.write_from_fn(0, |index| index as u64 * 1234);
-    contents.values_mut(0)[0] = 42;
-    let values = [
-        contents.values(0)[0],
-        contents.values(0)[1],
-        contents.values(0)[11],
-    ];
-    contents.start(0, 3);
-    contents.write_from_slice(0, &[1, 2, 3]);
-    let copied = [contents.values(0)[0], contents.values(0)[2]];
-    drop(contents);
-    assert!(rt; values == [42, 1234, 13574] && copied == [1, 3]);
-}
