@@ -44,7 +44,7 @@ use Rattle.iox2_domain.proofs.lemmas.releases.Leaving.{FreesMidway}
 use Rattle.iox2_domain.proofs.lemmas.fields.ConnectionEnds.{publisher-stands, subscriber-stands}
 use Rattle.iox2_domain.proofs.lemmas.receivers.DepartedEnds.{nothing-returned}
 use Rattle.iox2_closes.specs.Agreement.{IsOrphan, HasOwnedParts, KeepsMessages}
-use Rattle.iox2_closes.specs.Closes.{IsDeparted, is_empty_link}
+use Rattle.iox2_closes.specs.Closes.{HasNoPublisher, is_empty_link}
 use Rattle.iox2_closes.proofs.OwnedParts.{due-parts}
 use Rattle.iox2_closes.proofs.KeptMessages.{keeps-trans, keeps-entries, keeps-complete}
 use Rattle.iox2_closes.proofs.Sheds.{sheds-closed}
@@ -95,7 +95,7 @@ module _ {T U : Type 0} (f : Fields T U) (sound : IsDomain f) (place : ℕ) (y :
   same-publishers = ap (λ (v : State T U). v.publishers) (closing.sheds).state
 
   -- a publisher that the machine doesn't have stands nowhere
-  departed-from : (p : ℕ) → s.publishers p ≡ None → (c : Link) → c.home.publisher ≡ p → IsDeparted f.publishers c
+  departed-from : (p : ℕ) → s.publishers p ≡ None → (c : Link) → c.home.publisher ≡ p → HasNoPublisher f.publishers c
   departed-from p gone c mine i x at_x same =
       let no : None ≡ Some _ = sym gone ∙ ap s.publishers (sym (same ∙ mine)) ∙ publisher-stands f sound.parts i x at_x in absurd cc
 
@@ -114,13 +114,13 @@ module _ {T U : Type 0} (f : Fields T U) (sound : IsDomain f) (place : ℕ) (y :
         ap (λ (ws : List ℕ). not (is_nil (map (numbers_of f'.books p) ws))) none
 
   -- something is borrowed in a connection with a publisher that is gone
-  busy-numbers : (k : ℕ) (c : Link) → get f'.connections k ≡ Some c → IsDeparted f.publishers c → is_empty_link c ≡ false
+  busy-numbers : (k : ℕ) (c : Link) → get f'.connections k ≡ Some c → HasNoPublisher f.publishers c → is_empty_link c ≡ false
   busy-numbers k c at departed = by (is_empty_link c) refl where
     by : (b : Bool) → is_empty_link c ≡ b → is_empty_link c ≡ false
     by false e = e
     by true e =
         let no = link-empty c e in
-        let back = nothing-returned f' closing.parts.parts k c at (subst (λ (xs : List (Option PublisherFields)). IsDeparted xs c) (sym closing.publishers) departed) in
+        let back = nothing-returned f' closing.parts.parts k c at (subst (λ (xs : List (Option PublisherFields)). HasNoPublisher xs c) (sym closing.publishers) departed) in
         let busy = closing.busy k c at departed in
         let some = busy.stands in
         absurd (omega (arith, some, ap (times busy.slot) no.0, ap (times busy.slot) no.1, ap (times busy.slot) back))

@@ -25,7 +25,7 @@ use Rattle.iox2_domain.proofs.lemmas.containers.ChangedRecords.{changed-here}
 use Rattle.iox2_domain.proofs.lemmas.creations.PublishersDue.{with_publishers_due}
 use Rattle.iox2_domain.proofs.lemmas.fields.Standing.{some_is}
 use Rattle.iox2_closes.specs.Agreement.{IsOrphan, HasOwnedParts}
-use Rattle.iox2_closes.specs.Closes.{IsDeparted, IsBusy, IsLeftAt, IsStanding, FreesBook, ForgetsIfEmpty, LosesLeft, LosesWaiting, is_empty_link, shut_subscriber}
+use Rattle.iox2_closes.specs.Closes.{HasNoPublisher, IsBusy, IsLeftAt, IsStanding, FreesBook, ForgetsIfEmpty, LosesLeft, LosesWaiting, is_empty_link, shut_subscriber}
 use Rattle.iox2_closes.proofs.CloseSteps.{book, link-busy, link-empty, stays-busy, forgot-parts, book-left, others-busy, forgets-empty}
 use Rattle.iox2_closes.proofs.FreedBooks.{can-go, frees}
 use Rattle.iox2_closes.proofs.CloseWalk.{IsClosing, closing-begins, closing-passes}
@@ -88,10 +88,10 @@ module _ {T U : Type 0} (f : Fields T U) (place key : ℕ) (left : IsLeftAt f pl
     }
 
     -- and the others are as busy as they were
-    pub others-after : ((k : ℕ) (c : Link) → get f.connections k ≡ Some c → IsDeparted f.publishers c → IsBusy c)
-        → (k : ℕ) (c : Link) → k ≢ key → get between.connections k ≡ Some c → IsDeparted between.publishers c → IsBusy c
+    pub others-after : ((k : ℕ) (c : Link) → get f.connections k ≡ Some c → HasNoPublisher f.publishers c → IsBusy c)
+        → (k : ℕ) (c : Link) → k ≢ key → get between.connections k ≡ Some c → HasNoPublisher between.publishers c → IsBusy c
     others-after busy k c away at departed =
-        busy k c (sym (loses.connection.others k away) ∙ at) (subst (λ (xs : List (Option PublisherFields)). IsDeparted xs c) loses.publishers departed)
+        busy k c (sym (loses.connection.others k away) ∙ at) (subst (λ (xs : List (Option PublisherFields)). HasNoPublisher xs c) loses.publishers departed)
 
     -- so it is done with
     pub left-loses : (f' : Fields T U) → ((y : SubscriberFields) → get_or between.subscribers place None ≡ Some y → (c : Link) → get between.connections key ≡ Some c → ForgetsIfEmpty between place key y c f')
@@ -112,7 +112,7 @@ module _ {T U : Type 0} (f : Fields T U) (parts : HasOwnedParts f) (place key : 
     pub used-ends : (v : Fields T U) → v ≡ f → is_empty_link left.link ≡ false → ForgetsIfEmpty f place key y c v
     used-ends v same some =
         subst (ForgetsIfEmpty f place key y c) (sym same)
-        (stays-busy f parts key c at_c (subst (IsDeparted f.publishers) same-link left.departed) place y at_y
+        (stays-busy f parts key c at_c (subst (HasNoPublisher f.publishers) same-link left.departed) place y at_y
         (ap (λ (d : Link). d.home.subscriber) (sym same-link) ∙ left.is_its ∙ ap (λ (z : SubscriberFields). z.id) same-subscriber) (ap is_empty_link (sym same-link) ∙ some))
 
   module _ (none : is_empty_link left.link ≡ true) (g : Fields T U)
@@ -139,7 +139,7 @@ module _ {T U : Type 0} (f : Fields T U) (parts : HasOwnedParts f) (place key : 
             o)
 
     -- and no connection that names it is empty
-    pub removed-busy : ((k : ℕ) (d : Link) → k ≢ key → get f.connections k ≡ Some d → IsDeparted f.publishers d → IsBusy d)
+    pub removed-busy : ((k : ℕ) (d : Link) → k ≢ key → get f.connections k ≡ Some d → HasNoPublisher f.publishers d → IsBusy d)
         → (i : ℕ) → i ≡ (left.link).home.book → (k : ℕ) (d : Link) → get g.connections k ≡ Some d → d.home.book ≡ i → IsBusy d
     removed-busy busy i is k d at_d named =
         others-busy f parts key left.link left.link_stands left.departed place left.subscriber left.stands left.is_its none g.connections removed busy k d at_d (named ∙ is)
@@ -177,7 +177,7 @@ module _ {T U : Type 0} (f : Fields T U) (parts : HasOwnedParts f) (place key : 
 
   module _ (mid : Fields T U) (empty : (d : Link) → get f.connections key ≡ Some d → load d ≡ 0 → ForgetsConnection f home.subscriber_place key mid)
       (full : (d : Link) → get f.connections key ≡ Some d → (load d ≡ 0 → ⊥) → mid ≡ f)
-      (others : (k : ℕ) (d : Link) → k ≢ key → get f.connections k ≡ Some d → IsDeparted f.publishers d → IsBusy d) where
+      (others : (k : ℕ) (d : Link) → k ≢ key → get f.connections k ≡ Some d → HasNoPublisher f.publishers d → IsBusy d) where
     -- it was empty and is gone, or some slot stands in it and nothing changed
     outcome : ((is_empty_link c ≡ true) × ForgetsConnection f place key mid) ⊎ ((is_empty_link c ≡ false) × (mid ≡ f))
     outcome = by (load c) refl where

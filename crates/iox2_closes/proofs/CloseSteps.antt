@@ -38,7 +38,7 @@ use Rattle.iox2_domain.proofs.lemmas.releases.Departed.{gone-in}
 use Rattle.iox2_domain.proofs.lemmas.slots.PublisherBooks.{its-book, link-held}
 use Rattle.iox2_domain.proofs.lemmas.receivers.DepartedEnds.{nothing-returned}
 use Rattle.iox2_closes.specs.Agreement.{IsOrphan, HasOwnedParts}
-use Rattle.iox2_closes.specs.Closes.{IsDeparted, IsBusy, LosesWaiting, FreesBook, ForgetsIfEmpty, is_empty_link, lost_from, forgotten_if_empty, without_publisher}
+use Rattle.iox2_closes.specs.Closes.{HasNoPublisher, IsBusy, LosesWaiting, FreesBook, ForgetsIfEmpty, is_empty_link, lost_from, forgotten_if_empty, without_publisher}
 use Rattle.iox2_closes.proofs.ClosedSubscribers.{forgetful-parts, forgetful-is}
 use Rattle.iox2_closes.proofs.KeptMessages.{keeps-same, keeps-trans}
 use Rattle.iox2_closes.proofs.LeftRecounts.{with_fewer, fewer-parts, fewer-is, fewer-keeps}
@@ -102,7 +102,7 @@ module _ {T U : Type 0} (f : Fields T U) (parts : HasOwnedParts f) where
     pub book : IsBookOf f.books p c.home.book
     book = its-book f parts.parts key c at
 
-    module _ (departed : IsDeparted f.publishers c) where
+    module _ (departed : HasNoPublisher f.publishers c) where
       -- its publisher's book is left
       pub book-orphan : IsOrphan f book.book
       book-orphan = elim (parts.owners.at c.home.book book.book book.stands) [
@@ -227,7 +227,7 @@ module _ {T U : Type 0} (f : Fields T U) (parts : HasOwnedParts f) where
               let away : k ≢ key = λ here. (let no : None ≡ Some d = sym removed.changed ∙ sym (ap (get connections) here) ∙ at_d in absurd cc) in
               (away, sym (removed.others k away) ∙ at_d)
 
-          pub others-busy : ((k : ℕ) (d : Link) → k ≢ key → get f.connections k ≡ Some d → IsDeparted f.publishers d → IsBusy d)
+          pub others-busy : ((k : ℕ) (d : Link) → k ≢ key → get f.connections k ≡ Some d → HasNoPublisher f.publishers d → IsBusy d)
               → (k : ℕ) (d : Link) → get forgot.connections k ≡ Some d → d.home.book ≡ c.home.book → IsBusy d
           others-busy busy k d at_d same_book =
               let was = left-before k d at_d in
@@ -262,14 +262,14 @@ module _ {T U : Type 0} (f : Fields T U) (parts : HasOwnedParts f) where
 
 -- ---- as a step reads the fields
 
-module _ {T U : Type 0} (v f : Fields T U) (same : v ≡ f) (parts : HasOwnedParts f) (key : ℕ) (some : IsSomeAnd (get f.connections key) (IsDeparted f.publishers)) where
-  found : (c : Link) → get v.connections key ≡ Some c → (get f.connections key ≡ Some c) × IsDeparted f.publishers c
+module _ {T U : Type 0} (v f : Fields T U) (same : v ≡ f) (parts : HasOwnedParts f) (key : ℕ) (some : IsSomeAnd (get f.connections key) (HasNoPublisher f.publishers)) where
+  found : (c : Link) → get v.connections key ≡ Some c → (get f.connections key ≡ Some c) × HasNoPublisher f.publishers c
   found c at =
-      let is = some_is (IsDeparted f.publishers) (get f.connections key) some in
+      let is = some_is (HasNoPublisher f.publishers) (get f.connections key) some in
       let here : get f.connections key ≡ Some c = ap (λ (g : Fields T U). get g.connections key) (sym same) ∙ at in
       let one : Some is.0 ≡ Some c = sym is.1 ∙ here in
       let one_link : is.0 ≡ c = cc in
-      (here, subst (IsDeparted f.publishers) one_link is.2)
+      (here, subst (HasNoPublisher f.publishers) one_link is.2)
 
   -- the book of the connection stands
   pub book-stands : (c : Link) → get v.connections key ≡ Some c → (i : ℕ) → i ≡ c.home.book → ContainsKey v.books i

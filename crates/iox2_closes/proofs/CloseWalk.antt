@@ -25,7 +25,7 @@ use Rattle.iox2_domain.proofs.lemmas.containers.ChangedRecords.{changed-here}
 use Rattle.iox2_domain.proofs.lemmas.fields.OwnKeys.{known, listed-at}
 use Rattle.iox2_domain.proofs.lemmas.fields.Standing.{occupant-receiver_ends}
 use Rattle.iox2_closes.specs.Agreement.{IsOrphan, HasOwnedParts, KeepsMessages}
-use Rattle.iox2_closes.specs.Closes.{IsDeparted, IsBusy, LosesWaiting, ForgetsIfEmpty, LosesLeft, LosesIfLeft, is_empty_link, lost_from, forgotten_if_empty, without_publisher}
+use Rattle.iox2_closes.specs.Closes.{HasNoPublisher, IsBusy, LosesWaiting, ForgetsIfEmpty, LosesLeft, LosesIfLeft, is_empty_link, lost_from, forgotten_if_empty, without_publisher}
 use Rattle.iox2_closes.proofs.OwnedParts.{owned_parts_of, left-held}
 use Rattle.iox2_closes.proofs.ClosedSubscribers.{shut, with_shut, shut-parts, shut-is}
 use Rattle.iox2_closes.proofs.KeptMessages.{keeps-trans}
@@ -41,7 +41,7 @@ module _ {T U : Type 0} (f : Fields T U) (sound : IsDomain f) where
   parts = owned_parts_of f sound
 
   -- something stands in each connection with a publisher that is gone
-  pub sound-busy : (key : ℕ) (c : Link) → get f.connections key ≡ Some c → IsDeparted f.publishers c → IsBusy c
+  pub sound-busy : (key : ℕ) (c : Link) → get f.connections key ≡ Some c → HasNoPublisher f.publishers c → IsBusy c
   sound-busy key c at departed = elim (sound.parts.linked.ends key c at) [
     | inl has ↦ absurd (departed c.home.publisher_place has.publisher has.stands has.is_its)
     | inr has ↦ busy (kept has has.has)
@@ -94,13 +94,13 @@ module _ {T U : Type 0} (f : Fields T U) (sound : IsDomain f) (place : ℕ) (y :
     pub publishers : f'.publishers ≡ f.publishers
     pub next_port : f'.next_port ≡ f.next_port
     pub subscriber : (z : SubscriberFields) × (get_or f'.subscribers place None ≡ Some z) × (z.id ≡ y.id)
-    pub busy : (k : ℕ) (c : Link) → get f'.connections k ≡ Some c → IsDeparted f.publishers c → IsBusy c
-    pub dropped : (k : ℕ) (c : Link) → get f'.connections k ≡ Some c → c.home.subscriber ≡ y.id → IsDeparted f.publishers c → (c.waiting ≡ []) ⊎ rest subscriber.0 k
+    pub busy : (k : ℕ) (c : Link) → get f'.connections k ≡ Some c → HasNoPublisher f.publishers c → IsBusy c
+    pub dropped : (k : ℕ) (c : Link) → get f'.connections k ≡ Some c → c.home.subscriber ≡ y.id → HasNoPublisher f.publishers c → (c.waiting ≡ []) ⊎ rest subscriber.0 k
     pub held : (k : ℕ) (b : Book) → get f'.books k ≡ Some b → IsOrphan f b → IsUsed b
     pub sheds : Sheds shut_state y.id (record port { is_open = false }) (state_of (kept_of f'))
 
   -- the subscriber knows each of its connections with a publisher that is gone
-  left-known : (k : ℕ) (c : Link) → get f.connections k ≡ Some c → c.home.subscriber ≡ y.id → IsDeparted f.publishers c → KnowsKey y k
+  left-known : (k : ℕ) (c : Link) → get f.connections k ≡ Some c → c.home.subscriber ≡ y.id → HasNoPublisher f.publishers c → KnowsKey y k
   left-known k c at its departed = elim (sound.parts.linked.ends k c at) [
     | inl has ↦ absurd (departed c.home.publisher_place has.publisher has.stands has.is_its)
     | inr has ↦
@@ -134,7 +134,7 @@ module _ {T U : Type 0} (f : Fields T U) (sound : IsDomain f) (place : ℕ) (y :
 
   module _ (rest : SubscriberFields → ℕ → Type 0) (f' : Fields T U) (so_far : IsClosing rest f') where
     -- where no other key is left than before
-    pub closing-passes : (fewer : SubscriberFields → ℕ → Type 0) → ((k : ℕ) (c : Link) → get f'.connections k ≡ Some c → IsDeparted f.publishers c → rest so_far.subscriber.0 k → fewer so_far.subscriber.0 k)
+    pub closing-passes : (fewer : SubscriberFields → ℕ → Type 0) → ((k : ℕ) (c : Link) → get f'.connections k ≡ Some c → HasNoPublisher f.publishers c → rest so_far.subscriber.0 k → fewer so_far.subscriber.0 k)
         → IsClosing fewer f'
     closing-passes fewer still = record {
       parts = so_far.parts;
@@ -170,8 +170,8 @@ module _ {T U : Type 0} (f : Fields T U) (sound : IsDomain f) (place : ℕ) (y :
       its : c.home.subscriber ≡ y.id
       its = (loses_left.left).is_its ∙ ap (λ (z : SubscriberFields). z.id) same ∙ so_far.subscriber.2
 
-      departed-then : IsDeparted f.publishers c
-      departed-then = subst (λ (xs : List (Option PublisherFields)). IsDeparted xs c) so_far.publishers (loses_left.left).departed
+      departed-then : HasNoPublisher f.publishers c
+      departed-then = subst (λ (xs : List (Option PublisherFields)). HasNoPublisher xs c) so_far.publishers (loses_left.left).departed
 
       -- the subscriber then
       now : (forgets.subscriber.0 ≡ so_far.subscriber.0) ⊎ (forgets.subscriber.0 ≡ key_forgotten key so_far.subscriber.0)
@@ -251,5 +251,5 @@ module _ {T U : Type 0} (f : Fields T U) (sound : IsDomain f) (place : ℕ) (y :
         (λ same. let here : k ≡ key = cc in away here) left)
     closing-more (Some key) fewer still next (inr stays) =
         subst (IsClosing fewer) (sym stays.1) (closing-passes fewer (λ k c at departed left. still so_far.subscriber.0 (inl refl) k
-        (λ same. let here : key ≡ k = cc in stays.0 c (ap (get f'.connections) here ∙ at) (subst (λ (xs : List (Option PublisherFields)). IsDeparted xs c) (sym so_far.publishers) departed))
+        (λ same. let here : key ≡ k = cc in stays.0 c (ap (get f'.connections) here ∙ at) (subst (λ (xs : List (Option PublisherFields)). HasNoPublisher xs c) (sym so_far.publishers) departed))
         left))

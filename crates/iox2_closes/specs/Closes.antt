@@ -17,7 +17,7 @@ use Rattle.iox2_domain.specs.Departures.{key_forgotten}
 use Rattle.iox2_domain.specs.Ports.{PublisherFields, SubscriberFields}
 use Rattle.iox2_domain.specs.Kept.{state_of}
 use Rattle.iox2_domain.specs.Fields.{Fields, kept_of}
-use Rattle.iox2_domain.specs.Invariant.{IsUsed}
+use Rattle.iox2_domain.specs.Invariant.{IsUsed, StandsNowhere}
 use Rattle.iox2_closes.specs.Agreement.{Passes}
 
 -- ---- records
@@ -37,8 +37,8 @@ abbrev pub IsStanding : List (Option PublisherFields) → Home → Type 0
 IsStanding publishers home = IsSomeAnd (slice_index_or publishers home.publisher_place None) (λ (x : PublisherFields). x.id ≡ home.publisher)
 
 -- The publisher of the connection stands nowhere.
-abbrev pub IsDeparted : List (Option PublisherFields) → Link → Type 0
-IsDeparted publishers c = (i : ℕ) (x : PublisherFields) → slice_index_or publishers i None ≡ Some x → x.id ≢ c.home.publisher
+abbrev pub HasNoPublisher : List (Option PublisherFields) → Link → Type 0
+HasNoPublisher publishers c = StandsNowhere publishers c.home.publisher
 
 -- No slot waits there, and none is borrowed.
 abbrev pub is_empty_link : Link → Bool
@@ -65,7 +65,7 @@ module _ {T U : Type 0} where
     pub link : Link
     pub link_stands : get f.connections key ≡ Some link
     pub is_its : link.home.subscriber ≡ subscriber.id
-    pub departed : IsDeparted f.publishers link
+    pub departed : HasNoPublisher f.publishers link
 
   -- What waited in the connection at the key is lost.
   pub record LosesWaiting (f : Fields T U) (key : ℕ) (c : Link) (f' : Fields T U) : Type 0 where
@@ -109,4 +109,4 @@ module _ {T U : Type 0} where
   -- The same, where there is such a key; or there is none, or the publisher is there, and nothing changed.
   abbrev pub LosesIfLeft : Fields T U → (place : ℕ) → Option ℕ → Fields T U → Type 0
   LosesIfLeft f place None f' = f' ≡ f
-  LosesIfLeft f place (Some key) f' = LosesLeft f place key f' ⊎ (((c : Link) → get f.connections key ≡ Some c → IsDeparted f.publishers c → ⊥) × (f' ≡ f))
+  LosesIfLeft f place (Some key) f' = LosesLeft f place key f' ⊎ (((c : Link) → get f.connections key ≡ Some c → HasNoPublisher f.publishers c → ⊥) × (f' ≡ f))

@@ -165,10 +165,14 @@ pub record IsOwned (publishers : List (Option PublisherFields)) (key p : ℕ) : 
   pub is_its : publisher.id ≡ p
   pub has : publisher.book ≡ key
 
+-- No publisher has the id p.
+abbrev pub StandsNowhere : List (Option PublisherFields) → (p : ℕ) → Type 0
+StandsNowhere publishers p = (i : ℕ) (x : PublisherFields) → slice_index_or publishers i None ≡ Some x → x.id ≢ p
+
 -- The publisher p was there, and is gone.
 pub record IsGone (next_port : ℕ) (publishers : List (Option PublisherFields)) (p : ℕ) : Type 0 where
   pub known : p < next_port
-  pub absent : (i : ℕ) (x : PublisherFields) → slice_index_or publishers i None ≡ Some x → x.id ≢ p
+  pub absent : StandsNowhere publishers p
 
 -- Some slot of the book has a holder.
 pub record IsUsed (b : Book) : Type 0 where

@@ -40,7 +40,7 @@ lending len slot x = record x { loans = x.loans ++ slot ∷ []; longest_granted 
 
 module _ {T U : Type 0} where
   -- The publisher at the place has fewer loans out than it may have, some slot of its book is free, and a number is left.
-  pub record CanLend (f : Fields T U) (checks : Bool) (len place : ℕ) : Type 0 where
+  pub record CanGrant (f : Fields T U) (checks : Bool) (len place : ℕ) : Type 0 where
     pub publisher : PublisherFields
     pub book : Book
     pub stands : slice_index_or f.publishers place None ≡ Some publisher
@@ -57,7 +57,7 @@ module _ {T U : Type 0} where
 
   -- A loan of a single value by the publisher at the place is refused for this reason, or a slot may be lent.
   abbrev pub LoanDecided : Fields T U → (checks : Bool) → (len place : ℕ) → Option LoanError → Type 0
-  LoanDecided f checks len place decision = IsSomeAnd (slice_index_or f.publishers place None) (λ x. MatchOption decision (CanLend f checks len place)
+  LoanDecided f checks len place decision = IsSomeAnd (slice_index_or f.publishers place None) (λ x. MatchOption decision (CanGrant f checks len place)
       (λ e. (user_header : U) → GrantLoan ample_memory user_header checks len (state_of (kept_of f)) x.id (state_of (kept_of f)) (Some e)))
 
   -- In the slot of these contents starts a loan of that length, with a default user header.

@@ -3,7 +3,7 @@ ghost use Rattle.std.specs.Prelude.{◌≡◌, ◌≤◌, ◌&&◌, nat_lt, fals
 ghost use Rattle.iox2_store.specs.machine.Loans.{is_static};
 ghost use Rattle.iox2_store.specs.declared.service_config.TypeVariant.TheVariants.{FixedSize};
 ghost use Rattle.iox2_store.specs.SlotContents.{SomeAt};
-ghost use Rattle.iox2_domain.specs.Lending.{Starts, CanLend, IsReclaimedIfFull, LoanDecided, IsNamed, Lends, LoanReaches};
+ghost use Rattle.iox2_domain.specs.Lending.{Starts, CanGrant, IsReclaimedIfFull, LoanDecided, IsNamed, Lends, LoanReaches};
 ghost use Rattle.iox2_domain.specs.LoanSlots.{LiesInSlot};
 ghost use Rattle.iox2_domain.specs.Ports.{PublisherFields};
 ghost use Rattle.iox2_domain.specs.Invariant.{IsDomain};
@@ -105,7 +105,7 @@ fn grant<T: Drop, U: Default + Drop>(
     requires agrees { IsDomain state.old }
     requires unchecked { checks_length ≡ false → (state.old.config).variant ≡ FixedSize }
     requires single { (state.old.config).variant ≡ FixedSize → len ≡ 1 }
-    requires can { CanLend state.old checks_length len place }
+    requires can { CanGrant state.old checks_length len place }
     ensures named { IsSomeAnd (slice_index_or state.old.publishers place None) (λ x. IsNamed state.old x result) }
     ensures lends { IsSomeAnd (slice_index_or state.old.publishers place None) (λ x. Lends U.is_default state.old place x result.slot len state.new) }
     ensures placed { result.place ≡ place }

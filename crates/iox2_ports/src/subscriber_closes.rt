@@ -13,7 +13,7 @@ ghost use Rattle.iox2_domain.specs.OpenMarks.{IsUnmarkedReceiver};
 ghost use Rattle.iox2_domain.specs.Reaches.{Reaches};
 ghost use Rattle.iox2_domain.specs.Updates.{changed_at};
 ghost use Rattle.iox2_closes.specs.Agreement.{HasOwnedParts, IsOrphan};
-ghost use Rattle.iox2_closes.specs.Closes.{shut_subscriber, is_empty_link, IsDeparted, IsBusy, IsLeftAt, IsStanding, LosesWaiting, FreesBook, ForgetsIfEmpty, LosesIfLeft};
+ghost use Rattle.iox2_closes.specs.Closes.{shut_subscriber, is_empty_link, HasNoPublisher, IsBusy, IsLeftAt, IsStanding, LosesWaiting, FreesBook, ForgetsIfEmpty, LosesIfLeft};
 
 use crate::departures::{forget_if_empty, leave_if_unused};
 use iox2_domain::{DomainState, SubscriberState, key_at, make_all_due, stands_at};
@@ -77,7 +77,7 @@ fn is_left<T: Drop, U: Default + Drop>(state: &DomainState<T, U>, key: usize) ->
 // What waits in the connection at a key, whose publisher is gone, is lost.
 fn lose_waiting<T: Drop, U: Default + Drop>(state: &mut DomainState<T, U>, key: usize)
     requires parts { HasOwnedParts state.old }
-    requires departed { IsSomeAnd (get state.old.connections key) (IsDeparted state.old.publishers) }
+    requires departed { IsSomeAnd (get state.old.connections key) (HasNoPublisher state.old.publishers) }
     ensures { (c : Link) → get state.old.connections key ≡ Some c → LosesWaiting state.old key c state.new }
 {
     let book = state.connections[key].home().book;
@@ -93,7 +93,7 @@ fn lose_if_left<T: Drop, U: Default + Drop>(
 )
     requires parts { HasOwnedParts state.old }
     requires known { (k : _) → key ≡ Some k → (y : SubscriberFields) × (slice_index_or state.old.subscribers place None ≡ Some y) × KnowsKey y k }
-    requires busy { (k : _) (c : Link) → get state.old.connections k ≡ Some c → IsDeparted state.old.publishers c → IsBusy c }
+    requires busy { (k : _) (c : Link) → get state.old.connections k ≡ Some c → HasNoPublisher state.old.publishers c → IsBusy c }
     ensures { LosesIfLeft state.old place key state.new }
 {
     let Some(key) = key else {

@@ -19,7 +19,7 @@ use Rattle.iox2_ends.proofs.MailboxChanges.{within_if_some}
 use Rattle.iox2_domain.specs.Ports.{PublisherFields}
 use Rattle.iox2_domain.specs.Fields.{Fields}
 use Rattle.iox2_domain.specs.Invariant.{IsDomain, IsBook, HasBook}
-use Rattle.iox2_domain.specs.Lending.{header_for, with_taken_slot, lending, Starts, CanLend, IsNamed, Lends}
+use Rattle.iox2_domain.specs.Lending.{header_for, with_taken_slot, lending, Starts, CanGrant, IsNamed, Lends}
 use Rattle.iox2_domain.specs.declared.loan_slots.LoanAt.{LoanAt}
 use Rattle.iox2_domain.proofs.lemmas.slots.PublisherBooks.{read-there}
 use Rattle.iox2_domain.proofs.lemmas.slots.SlotRoom.{slot-fits}
@@ -58,7 +58,7 @@ module _ {T U : Type 0} (f : Fields T U) (sound : IsDomain f) (i : ℕ) (x : Pub
       subst (λ (o : Option (List (ContentState T U))). IsSomeAnd o (λ cs. SomeAt cs slot (λ content. len * (f.config).units_per_element ≤ content.room))) (sym found.1 ∙ is)
       (subst (λ (o : Option (ContentState T U)). IsSomeAnd o (λ content. len * (f.config).units_per_element ≤ content.room)) (sym some.1) fits)
 
-  module _ (checks : Bool) (len : ℕ) (can : CanLend f checks len i) where
+  module _ (checks : Bool) (len : ℕ) (can : CanGrant f checks len i) where
     is-lender : can.publisher ≡ x
     is-lender = let found : Some can.publisher ≡ Some x = sym can.stands ∙ at in cc
 
@@ -96,7 +96,7 @@ module _ {T U : Type 0} (f : Fields T U) (sound : IsDomain f) (i : ℕ) (x : Pub
         not-none (h ∷ hs) free = omega arith
 
   -- it has room for a loan more
-  pub loan-fits : (checks : Bool) (len : ℕ) → CanLend f checks len i → length x.loans < x.loan_room
+  pub loan-fits : (checks : Bool) (len : ℕ) → CanGrant f checks len i → length x.loans < x.loan_room
   loan-fits checks len can =
       let found : Some can.publisher ≡ Some x = sym can.stands ∙ at in
       let same : can.publisher ≡ x = cc in

@@ -24,7 +24,7 @@ use Rattle.iox2_domain.specs.Ports.{PublisherFields}
 use Rattle.iox2_domain.specs.Kept.{Lent_message, state_of}
 use Rattle.iox2_domain.specs.Fields.{Fields, kept_of, publisher_of, numbers_of, contents_at}
 use Rattle.iox2_domain.specs.Invariant.{IsDomain}
-use Rattle.iox2_domain.specs.Lending.{with_taken_slot, header_for, lending, CanLend, IsReclaimedIfFull, LoanDecided, Lends}
+use Rattle.iox2_domain.specs.Lending.{with_taken_slot, header_for, lending, CanGrant, IsReclaimedIfFull, LoanDecided, Lends}
 use Rattle.iox2_domain.specs.LoanSlots.{IsLoanSlot, LiesInSlot}
 use Rattle.iox2_domain.specs.Reaches.{Reaches}
 use Rattle.iox2_domain.proofs.lemmas.fields.ConnectionEnds.{publisher-stands}
@@ -113,7 +113,7 @@ module _ {T U : Type 0} (f : Fields T U) (sound : IsDomain f) (i : ℕ) (x : Pub
 
   -- what is decided of this publisher
   abbrev Decided : Option LoanError → PublisherFields → Type 0
-  Decided decision y = MatchOption decision (CanLend f checks len i) (λ e. (user_header : U) → GrantLoan ample_memory user_header checks len state y.id state (Some e))
+  Decided decision y = MatchOption decision (CanGrant f checks len i) (λ e. (user_header : U) → GrantLoan ample_memory user_header checks len state y.id state (Some e))
 
   decided : (decision : Option LoanError) → Decided decision x → LoanDecided f checks len i decision
   decided decision h = subst (λ (o : Option PublisherFields). IsSomeAnd o (Decided decision)) (sym at) h

@@ -13,7 +13,7 @@ use Rattle.iox2_domain.specs.Ports.{PublisherFields}
 use Rattle.iox2_domain.specs.Kept.{state_of}
 use Rattle.iox2_domain.specs.Fields.{Fields, kept_of, publisher_of}
 use Rattle.iox2_domain.specs.Invariant.{IsDomain}
-use Rattle.iox2_domain.specs.Lending.{CanLend, LoanDecided, IsNamed, Lends, LoanReaches}
+use Rattle.iox2_domain.specs.Lending.{CanGrant, LoanDecided, IsNamed, Lends, LoanReaches}
 use Rattle.iox2_domain.specs.LoanSlots.{LiesInSlot}
 use Rattle.iox2_domain.specs.Reaches.{Reaches}
 use Rattle.iox2_domain.specs.declared.loan_slots.LoanAt.{LoanAt}
@@ -39,8 +39,8 @@ module _ {T U : Type 0} (is_default : U → Type 0) (f mid : Fields T U) (sound 
       here = subst (λ (o : Option PublisherFields). IsSomeAnd o (λ z. (user_header : U) → GrantLoan ample_memory user_header checks len (state_of (kept_of mid)) z.id (state_of (kept_of mid)) (Some e))) at_mid refused
 
   -- a slot may be lent
-  pub may-lend : LoanDecided mid checks len i None → CanLend mid checks len i
-  may-lend free = subst (λ (o : Option PublisherFields). IsSomeAnd o (λ z. CanLend mid checks len i)) at_mid free
+  pub may-lend : LoanDecided mid checks len i None → CanGrant mid checks len i
+  may-lend free = subst (λ (o : Option PublisherFields). IsSomeAnd o (λ z. CanGrant mid checks len i)) at_mid free
 
   -- a slot is lent
   pub loan-lent : ((mid.config).variant ≡ FixedSize → len ≡ 1) → LoanDecided mid checks len i None → (loan : LoanAt) (new : Fields T U)
@@ -53,7 +53,7 @@ module _ {T U : Type 0} (is_default : U → Type 0) (f mid : Fields T U) (sound 
       its : Lends is_default mid i x loan.slot len new
       its = subst (λ (o : Option PublisherFields). IsSomeAnd o (λ z. Lends is_default mid i z loan.slot len new)) at_mid lends
 
-      can : CanLend mid checks len i
+      can : CanGrant mid checks len i
       can = may-lend free
 
       short : (checks && is_static x.allocation && nat_lt x.initial_max_slice_len len) ≡ false
@@ -106,7 +106,7 @@ module _ {T U : Type 0} (is_default : U → Type 0) (f mid : Fields T U) (sound 
       its : Lends is_default mid i x loan.slot len new
       its = subst (λ (o : Option PublisherFields). IsSomeAnd o (λ z. Lends is_default mid i z loan.slot len new)) at_mid lends
 
-      can : CanLend mid checks len i
+      can : CanGrant mid checks len i
       can = may-lend free
 
       short : (checks && is_static x.allocation && nat_lt x.initial_max_slice_len len) ≡ false

@@ -10,12 +10,8 @@ use Rattle.iox2_store.specs.Link.{Link}
 use Rattle.iox2_store.specs.machine.Numbers.{contains}
 use Rattle.iox2_laws.proofs.NumberLemmas.{contains_in_cons, contains_first, contains_later}
 use Rattle.iox2_domain.specs.Ports.{PublisherFields, SubscriberFields}
-use Rattle.iox2_domain.specs.Invariant.{HasParts}
+use Rattle.iox2_domain.specs.Invariant.{HasParts, StandsNowhere}
 use Rattle.iox2_domain.specs.Fields.{Fields}
-
--- no publisher that stands has this id
-abbrev pub StandsNowhere : List (Option PublisherFields) → ℕ → Type 0
-StandsNowhere publishers p = (i : ℕ) (x : PublisherFields) → get_or publishers i None ≡ Some x → x.id ≢ p
 
 -- ---- keys in a list
 

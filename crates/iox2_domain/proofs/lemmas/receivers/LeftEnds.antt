@@ -12,13 +12,13 @@ use Rattle.iox2_store.specs.machine.Places.{set_place}
 use Rattle.iox2_store.proofs.LinkLemmas.{contains-from}
 use Rattle.iox2_laws.proofs.NumberLemmas.{contains_in_append, contains_one, contains_in_without, contains-without_same, contains-without_other}
 use Rattle.iox2_domain.specs.Ports.{SubscriberFields}
-use Rattle.iox2_domain.specs.Invariant.{HasParts, SenderHas}
+use Rattle.iox2_domain.specs.Invariant.{HasParts, SenderHas, StandsNowhere}
 use Rattle.iox2_domain.specs.Fields.{Fields}
 use Rattle.iox2_domain.proofs.lemmas.containers.ConnectionKeys.{set_place-here, set_place-others}
 use Rattle.iox2_domain.proofs.lemmas.fields.ForgetfulSubscribers.{Forgetful, Knows, forgetful}
 use Rattle.iox2_domain.proofs.lemmas.fields.ForgottenKeys.{Forgets, forgotten-parts}
 use Rattle.iox2_domain.proofs.lemmas.fields.LostConnections.{IsEmptyLink, LosesEmpty, loses-one}
-use Rattle.iox2_domain.proofs.lemmas.receivers.DepartedEnds.{StandsNowhere, contained}
+use Rattle.iox2_domain.proofs.lemmas.receivers.DepartedEnds.{contained}
 
 -- The connection is the subscriber y's, and its publisher is gone.
 pub record IsDeparted {T U : Type 0} (f : Fields T U) (y : SubscriberFields) (c : Link) : Type 0 where

@@ -24,7 +24,7 @@ use Rattle.iox2_ends.proofs.MailboxChanges.{put_at-own}
 use Rattle.iox2_domain.specs.WarningRing.{WarningRing, warning_ring}
 use Rattle.iox2_domain.specs.Ports.{SubscriberFields}
 use Rattle.iox2_domain.specs.Kept.{Named, state_of, is_named}
-use Rattle.iox2_domain.specs.Invariant.{HasParts, IsDomain, IsDomainBut, is_publisher}
+use Rattle.iox2_domain.specs.Invariant.{HasParts, IsDomain, IsDomainBut, StandsNowhere, is_publisher}
 use Rattle.iox2_domain.specs.Fields.{Fields, kept_of, publisher_of, subscriber_of}
 use Rattle.iox2_domain.specs.ReceiverSteps.{current_side, HasDepartedEnd, ChangesReceiverTo, ChangesReceiver}
 use Rattle.iox2_domain.proofs.lemmas.containers.LookUps.{look_up-map}
@@ -32,7 +32,7 @@ use Rattle.iox2_domain.proofs.lemmas.containers.ConnectionKeys.{map-set_place}
 use Rattle.iox2_domain.proofs.lemmas.fields.Standing.{leads-among, occupant-receiver_ends, receiver-link}
 use Rattle.iox2_domain.proofs.lemmas.fields.Views.{held-before}
 use Rattle.iox2_domain.proofs.lemmas.fields.Parts.{but-of}
-use Rattle.iox2_domain.proofs.lemmas.receivers.DepartedEnds.{StandsNowhere, departed-nowhere}
+use Rattle.iox2_domain.proofs.lemmas.receivers.DepartedEnds.{departed-nowhere}
 use Rattle.iox2_domain.proofs.lemmas.receivers.LeftEnds.{IsDeparted, LeavesReceiver, left_fields, end-expires, nothing-leaves}
 use Rattle.iox2_domain.proofs.lemmas.receivers.LeftStates.{left-is, occupants-pushed}
 use Rattle.iox2_domain.proofs.lemmas.receivers.LeftChanges.{parts-warned, present, side-sound, left-changes}

@@ -2,7 +2,7 @@ use Rattle.std.proofs.Common.{rules, arith, ◌*◌, ◌^◌, ◌<◌, ◌≡◌
 use Rattle.std.specs.Option.{option_map}
 use Rattle.iox2_domain.specs.Fields.{Fields}
 use Rattle.iox2_domain.specs.Invariant.{IsDomain}
-use Rattle.iox2_domain.specs.Lending.{CanLend, lending}
+use Rattle.iox2_domain.specs.Lending.{CanGrant, lending}
 use Rattle.iox2_domain.proofs.lemmas.slots.PublisherBooks.{read-there}
 use Rattle.iox2_domain.proofs.lemmas.loans.LendingSteps.{contents-within, length-fits, lent-fits, lent-short, loan-fits, lends-from, lends-seen, named-seen}
 use Rattle.iox2_messages.proofs.loans.grant.Goals as goal
@@ -18,10 +18,10 @@ overflow_mul-len g c =
     let low : c.args.len * c.state.inside.config.units_per_element < 2 ^ 64 =
     lent-fits _ (subst (IsDomain {T = g.row.T.Denot} {U = g.row.U.Denot}) (sym c.state.view_is) c.requires.agrees) c.args.place _
     (read-there _ c.args.place _ _ (ap (λ (f : Fields g.row.T.Denot g.row.U.Denot). slice_index_or f.publishers c.args.place None) c.state.view_is ∙ c.requires.can.stands) c.index_mut.ensures.value ∙ c.in-Some.is ∙ ap Some (sym c.publisher.view_is))
-    c.args.checks_length c.args.len (subst (λ (f : Fields g.row.T.Denot g.row.U.Denot). CanLend f c.args.checks_length c.args.len c.args.place) (sym c.state.view_is) c.requires.can)
+    c.args.checks_length c.args.len (subst (λ (f : Fields g.row.T.Denot g.row.U.Denot). CanGrant f c.args.checks_length c.args.len c.args.place) (sym c.state.view_is) c.requires.can)
     (lent-short _ (subst (IsDomain {T = g.row.T.Denot} {U = g.row.U.Denot}) (sym c.state.view_is) c.requires.agrees) c.args.place _
     (read-there _ c.args.place _ _ (ap (λ (f : Fields g.row.T.Denot g.row.U.Denot). slice_index_or f.publishers c.args.place None) c.state.view_is ∙ c.requires.can.stands) c.index_mut.ensures.value ∙ c.in-Some.is ∙ ap Some (sym c.publisher.view_is))
-    c.args.checks_length c.args.len (subst (λ (f : Fields g.row.T.Denot g.row.U.Denot). CanLend f c.args.checks_length c.args.len c.args.place) (sym c.state.view_is) c.requires.can)
+    c.args.checks_length c.args.len (subst (λ (f : Fields g.row.T.Denot g.row.U.Denot). CanGrant f c.args.checks_length c.args.len c.args.place) (sym c.state.view_is) c.requires.can)
     (λ unchecked. ap (λ (f : Fields g.row.T.Denot g.row.U.Denot). (f.config).variant) c.state.view_is ∙ c.requires.unchecked unchecked)
     (λ fixed. c.requires.single (sym (ap (λ (f : Fields g.row.T.Denot g.row.U.Denot). (f.config).variant) c.state.view_is) ∙ fixed))) in
     omega (arith, low)
@@ -32,7 +32,7 @@ start-requires g c =
     (read-there _ c.args.place _ _ (ap (λ (f : Fields g.row.T.Denot g.row.U.Denot). slice_index_or f.publishers c.args.place None) c.state.view_is ∙ c.requires.can.stands) c.index_mut.ensures.value ∙ c.in-Some.is ∙ ap Some (sym c.publisher.view_is))
     c.args.len (lent-short _ (subst (IsDomain {T = g.row.T.Denot} {U = g.row.U.Denot}) (sym c.state.view_is) c.requires.agrees) c.args.place _
     (read-there _ c.args.place _ _ (ap (λ (f : Fields g.row.T.Denot g.row.U.Denot). slice_index_or f.publishers c.args.place None) c.state.view_is ∙ c.requires.can.stands) c.index_mut.ensures.value ∙ c.in-Some.is ∙ ap Some (sym c.publisher.view_is))
-    c.args.checks_length c.args.len (subst (λ (f : Fields g.row.T.Denot g.row.U.Denot). CanLend f c.args.checks_length c.args.len c.args.place) (sym c.state.view_is) c.requires.can)
+    c.args.checks_length c.args.len (subst (λ (f : Fields g.row.T.Denot g.row.U.Denot). CanGrant f c.args.checks_length c.args.len c.args.place) (sym c.state.view_is) c.requires.can)
     (λ unchecked. ap (λ (f : Fields g.row.T.Denot g.row.U.Denot). (f.config).variant) c.state.view_is ∙ c.requires.unchecked unchecked)
     (λ fixed. c.requires.single (sym (ap (λ (f : Fields g.row.T.Denot g.row.U.Denot). (f.config).variant) c.state.view_is) ∙ fixed)))
     _ c.index_mut-2.ensures.value c.in-Some-take.slot c.in-Some-take.ensures.taken.in_bounds _ c.index_mut-3.ensures.value
@@ -41,7 +41,7 @@ pub lend-requires : goal.lend-requires
 lend-requires g c =
     loan-fits _ (subst (IsDomain {T = g.row.T.Denot} {U = g.row.U.Denot}) (sym c.state.view_is) c.requires.agrees) c.args.place _
     (read-there _ c.args.place _ _ (ap (λ (f : Fields g.row.T.Denot g.row.U.Denot). slice_index_or f.publishers c.args.place None) c.state.view_is ∙ c.requires.can.stands) c.index_mut.ensures.value ∙ c.in-Some.is)
-    c.args.checks_length c.args.len (subst (λ (f : Fields g.row.T.Denot g.row.U.Denot). CanLend f c.args.checks_length c.args.len c.args.place) (sym c.state.view_is) c.requires.can)
+    c.args.checks_length c.args.len (subst (λ (f : Fields g.row.T.Denot g.row.U.Denot). CanGrant f c.args.checks_length c.args.len c.args.place) (sym c.state.view_is) c.requires.can)
 
 pub returns-clause-lends : goal.returns-clause-lends
 returns-clause-lends g c =

@@ -10,7 +10,7 @@ use Rattle.iox2_domain.specs.Ports.{SubscriberFields, due}
 use Rattle.iox2_domain.specs.Updates.{changed_at}
 use Rattle.iox2_domain.specs.Invariant.{HasParts}
 use Rattle.iox2_domain.proofs.lemmas.releases.Leaving.{FreesMidway}
-use Rattle.iox2_closes.specs.Closes.{IsDeparted, shut_subscriber}
+use Rattle.iox2_closes.specs.Closes.{HasNoPublisher, shut_subscriber}
 use Rattle.iox2_closes.proofs.CloseReads.{some-of, closing-starts, closing-turns, due-read}
 use Rattle.iox2_closes.proofs.CloseKeys.{KeysLeft, expired-known, closing-expired, key-known, closing-key, none-left}
 use Rattle.iox2_closes.proofs.CloseEnds.{closes-parts, closes-stands, closes}
@@ -41,7 +41,7 @@ pub lose_if_left-requires-clause-busy : goal.lose_if_left-requires-clause-busy
 lose_if_left-requires-clause-busy g c = λ k l at departed.
     let y = some-of (slice_index_or c.args.state.now.subscribers c.args.place None) c.requires.stands in
     let so_far = c.loop-index.invariant c.requires.sound y.0 y.1 in
-    so_far.busy k l at (subst (λ ps. IsDeparted ps l) so_far.publishers departed)
+    so_far.busy k l at (subst (λ ps. HasNoPublisher ps l) so_far.publishers departed)
 
 pub loop-index-preserved : goal.loop-index-preserved
 loop-index-preserved g c = λ sound y at.
@@ -74,7 +74,7 @@ pub lose_if_left-requires-in-loop-publisher_place-clause-busy : goal.lose_if_lef
 lose_if_left-requires-in-loop-publisher_place-clause-busy g c = λ k l at departed.
     let y = some-of (slice_index_or c.args.state.now.subscribers c.args.place None) c.requires.stands in
     let so_far = c.loop-publisher_place.invariant c.requires.sound y.0 y.1 in
-    so_far.busy k l at (subst (λ ps. IsDeparted ps l) so_far.publishers departed)
+    so_far.busy k l at (subst (λ ps. HasNoPublisher ps l) so_far.publishers departed)
 
 pub loop-publisher_place-preserved : goal.loop-publisher_place-preserved
 loop-publisher_place-preserved g c = λ sound y at.
