@@ -39,3 +39,5 @@ pub mod PortsCome
 pub mod PortsClose
 pub mod WaitingCloses
 pub mod LoansLeft
+pub mod Waits
+pub mod SendsRemain

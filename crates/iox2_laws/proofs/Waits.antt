@@ -1,0 +1,296 @@
+-- Who waits for a receiver: no operation changes what a publisher does with a full receiver, and only a send of its own, tried
+-- again or given up, changes whether it waits, and with which message.
+use Rattle.std.proofs.Common.{◌≡◌, ℕ, ◌≤◌, ◌<◌, Bool, true, false, List, cond, [], ◌∷◌, ◌++◌, refl, sym, ap, subst, ◌∙◌, le_refl, le_trans, arith, Option, None, Some}
+use Rattle.std.specs.Prelude.{max, ◌==◌, nat_lt}
+use Rattle.std.specs.Option.{option_map}
+use Rattle.std.proofs.lemmas.Bool.{cond_both}
+use Rattle.std.specs.declared.time.Duration.{Duration}
+use Rattle.iox2_store.specs.machine.Limits.{last_number, buffer_limit}
+use Rattle.iox2_store.specs.machine.Numbers.{without, size, last_n}
+use Rattle.iox2_store.specs.machine.Numbers.{put_at}
+use Rattle.iox2_store.specs.machine.Places.{free_place}
+use Rattle.iox2_store.specs.machine.Records.{Loan, Publisher, Subscriber, Environment, BlockedSend, PublisherSettings, SubscriberSettings}
+use Rattle.iox2_store.specs.machine.State.{State, held, with_loan, with_mailbox, publisher_changed}
+use Rattle.iox2_store.specs.machine.Delivery.{DeliveryEnd, Complete, Suspended, no_time}
+use Rattle.iox2_store.specs.machine.PublisherUpdate.{UpdatePublisher}
+use Rattle.iox2_store.specs.machine.SubscriberUpdate.{UpdateSubscriber}
+use Rattle.iox2_store.specs.machine.Loans.{GrantLoan, StaticLoan, DynamicLoan, limit_error, is_static, loan_granted, loan_discarded}
+use Rattle.iox2_store.specs.machine.Sends.{Send, Publish, Retry, GiveUp, DeliverAndConclude, ConcludeSend, SendResult, with_mailboxes, published, more_retries}
+use Rattle.iox2_store.specs.machine.Ports.{CreatePublisher, CreateSubscriber, MakePublisher, MakeSubscriber, with_new_publisher, with_new_subscriber, new_publisher, with_failure_warning, first_segment_fits, buffer_for, publisher_closed, subscriber_shut, subscriber_closed}
+use Rattle.iox2_store.specs.machine.Receives.{Receive, TakeSample, ReceiveResult, Got_sample, No_sample, Receive_error}
+use Rattle.iox2_store.specs.machine.Releases.{released, unborrowed, subscriber_pruned, freed_if_unused, place_freed, is_unused}
+use Rattle.iox2_store.specs.declared.errors.ConnectionFailure.{ConnectionFailure}
+use Rattle.iox2_store.specs.declared.errors.LoanError.{LoanError}
+use Rattle.iox2_store.specs.declared.errors.LoanError.TheVariants.{OutOfMemory, ExceedsMaxLoans, ExceedsMaxLoanSize, InternalFailure}
+use Rattle.iox2_store.specs.declared.errors.PublisherCreateError.{PublisherCreateError}
+use Rattle.iox2_store.specs.declared.errors.SubscriberCreateError.{SubscriberCreateError}
+use Rattle.iox2_store.specs.declared.warning.Warning.{Warning}
+use Rattle.iox2_store.specs.declared.warning.Warning.TheVariants.{PublisherPartlyConnected, SubscriberPartlyConnected}
+use Rattle.iox2_laws.proofs.Cases.{by_option, by_bool}
+use Rattle.iox2_laws.proofs.Puts.{at_each, found_put, found_removed, found_mapped}
+
+-- the publisher does with a full receiver what it did, and waits as it did, unless it is spared
+pub record IsAsItWas (Spared : ℕ → Type 0) (p : ℕ) (x x' : Publisher) : Type 0 where
+  pub strategy : x'.backpressure_strategy ≡ x.backpressure_strategy
+  pub handler : x'.backpressure_handler ≡ x.backpressure_handler
+  pub blocked : (Spared p → ⊥) → x'.blocked ≡ x.blocked
+
+-- where a publisher came from
+abbrev pub WasPublisher : (Spared : ℕ → Type 0) → (publishers : ℕ → Option Publisher) → (p : ℕ) → Publisher → Type 0
+WasPublisher Spared publishers p x' = (x : Publisher) × (publishers p ≡ Some x) × IsAsItWas Spared p x x'
+
+-- Each publisher that is there, of those whose ids were given out, was so before.
+pub record Waits {T U : Type 0} (Spared : ℕ → Type 0) (s s' : State T U) : Type 0 where
+  pub next_port : s.next_port ≤ s'.next_port
+  pub publishers : (p : ℕ) (x' : Publisher) → p < s.next_port → s'.publishers p ≡ Some x' → WasPublisher Spared s.publishers p x'
+
+module _ (Spared : ℕ → Type 0) where
+  as_it_is : (p : ℕ) (x : Publisher) → IsAsItWas Spared p x x
+  as_it_is p x = record { strategy = refl; handler = refl; blocked = λ _. refl }
+
+  as_it_was : (p : ℕ) (x y z : Publisher) → IsAsItWas Spared p x y → IsAsItWas Spared p y z → IsAsItWas Spared p x z
+  as_it_was p x y z a b = record { strategy = b.strategy ∙ a.strategy; handler = b.handler ∙ a.handler; blocked = λ apart. b.blocked apart ∙ a.blocked apart }
+
+  -- a publisher is set
+  put_publisher : (publishers : ℕ → Option Publisher) (next i : ℕ) (z : Publisher) → (i < next → WasPublisher Spared publishers i z)
+      → (p : ℕ) (x' : Publisher) → p < next → put_at publishers i (Some z) p ≡ Some x' → WasPublisher Spared publishers p x'
+  put_publisher publishers next i z known p x' low e =
+      found_put publishers i z (λ k a. k < next → WasPublisher Spared publishers k a) p x' e (λ _. known) (λ k old _. (x', old, as_it_is p x')) low
+
+  -- a publisher that may be there is changed
+  mapped_publisher : (publishers : ℕ → Option Publisher) (f : Publisher → Publisher) (p : ℕ) → ((x : Publisher) → IsAsItWas Spared p x (f x))
+      → (x' : Publisher) → option_map f (publishers p) ≡ Some x' → WasPublisher Spared publishers p x'
+  mapped_publisher publishers f p stays x' e =
+      found_mapped f (publishers p) x' (WasPublisher Spared publishers p x') e (λ x old same. (x, old, subst (IsAsItWas Spared p x) (sym same) (stays x)))
+
+  module _ {T U : Type 0} where
+    pub waits_itself : (s : State T U) → Waits Spared s s
+    waits_itself s = record { next_port = le_refl s.next_port; publishers = λ p x low e. (x, e, as_it_is p x) }
+
+    pub waits_trans : (s s' s'' : State T U) → Waits Spared s s' → Waits Spared s' s'' → Waits Spared s s''
+    waits_trans s s' s'' a b = record {
+      next_port = le_trans a.next_port b.next_port;
+      publishers = λ p x low e.
+          let low' : p < s'.next_port = (let rises = a.next_port in omega (arith, rises)) in
+          let v = b.publishers p x low' e in let u = a.publishers p v.0 low v.1 in (u.0, u.1, as_it_was p u.0 v.0 x u.2 v.2);
+    }
+
+    -- the publishers are the same
+    same_publishers : (s s' : State T U) → s'.next_port ≡ s.next_port → s'.publishers ≡ s.publishers → Waits Spared s s'
+    same_publishers s s' next publishers = record {
+      next_port = omega (arith, next);
+      publishers = λ p x low e. (x, ap (λ (f : ℕ → Option Publisher). f p) (sym publishers) ∙ e, as_it_is p x);
+    }
+
+    -- each publisher is due
+    all_due : (s s' : State T U) → s.next_port ≤ s'.next_port → s'.publishers ≡ (λ p. option_map (λ (z : Publisher). record z { is_due = true }) (s.publishers p)) → Waits Spared s s'
+    all_due s s' next publishers = record {
+      next_port = next;
+      publishers = λ p x low e. mapped_publisher s.publishers (λ z. record z { is_due = true }) p (λ z. record { strategy = refl; handler = refl; blocked = λ _. refl }) x
+          (ap (λ (f : ℕ → Option Publisher). f p) (sym publishers) ∙ e);
+    }
+
+    -- ---- updates
+
+    pub update_publisher_waits : (environment : Environment) (s : State T U) (p : ℕ) (s' : State T U) (failure : Option ConnectionFailure)
+        → UpdatePublisher environment s p s' failure → Waits Spared s s'
+    update_publisher_waits environment s p s' failure h =
+        by_option (Waits Spared s s') (s.publishers p) _ _ h (λ _ v. absurd v) (λ x present h.
+        by_bool (Waits Spared s s') x.is_due _ _ h
+        (λ _ h. subst (Waits Spared s) (sym h.2) (record {
+          next_port = le_refl s.next_port;
+          publishers = put_publisher s.publishers s.next_port p (record x { ends = (h.0).ends; is_due = false }) (λ _. (x, present, record { strategy = refl; handler = refl; blocked = λ _. refl }));
+        }))
+        (λ _ h. subst (Waits Spared s) (sym h.0) (waits_itself s)))
+
+    pub update_subscriber_waits : (environment : Environment) (s : State T U) (q : ℕ) (s' : State T U) (failure : Option ConnectionFailure)
+        → UpdateSubscriber environment s q s' failure → Waits Spared s s'
+    update_subscriber_waits environment s q s' failure h =
+        by_option (Waits Spared s s') (s.subscribers q) _ _ h (λ _ v. absurd v) (λ y present h.
+        by_bool (Waits Spared s s') y.is_due _ _ h
+        (λ _ h. subst (Waits Spared s) (sym h.2) (record { next_port = le_refl s.next_port; publishers = λ p x low e. (x, e, as_it_is p x) }))
+        (λ _ h. subst (Waits Spared s) (sym h.0) (waits_itself s)))
+
+    -- ---- ports are made
+
+    warning_waits : (s : State T U) (warning : ConnectionFailure → Warning) (failure : Option ConnectionFailure) → Waits Spared s (with_failure_warning s warning failure)
+    warning_waits s warning None = waits_itself s
+    warning_waits s warning (Some failure) = same_publishers s (with_failure_warning s warning (Some failure)) refl refl
+
+    new_publisher_waits : (s : State T U) (given : PublisherSettings) (place : ℕ) → Waits Spared s (with_new_publisher s given place)
+    new_publisher_waits s given place = record {
+      next_port = omega arith;
+      publishers = put_publisher s.publishers s.next_port s.next_port (new_publisher s given place) (λ low. absurd (omega arith));
+    }
+
+    new_subscriber_waits : (s : State T U) (given : SubscriberSettings) (place : ℕ) → Waits Spared s (with_new_subscriber s given place)
+    new_subscriber_waits s given place = all_due s (with_new_subscriber s given place) (omega arith) refl
+
+    pub create_publisher_waits : (environment : Environment) (s : State T U) (given : PublisherSettings) (s' : State T U) (refusal : Option PublisherCreateError)
+        → CreatePublisher environment s given s' refusal → Waits Spared s s'
+    create_publisher_waits environment s given s' refusal h =
+        by_bool (Waits Spared s s') (s.next_port == last_number) _ _ h (λ _ k. same k.0) (λ _ k.
+        by_option (Waits Spared s s') (free_place (s.config).max_publishers s.publisher_places) _ _ k (λ _ j. same j.0) (λ place _ j.
+        by_bool (Waits Spared s s') (first_segment_fits s.config given) _ _ j (λ _ i. made place refusal i) (λ _ i. same i.0)))
+      where
+        same : s' ≡ s → Waits Spared s s'
+        same e = subst (Waits Spared s) (sym e) (waits_itself s)
+
+        made : (place : ℕ) (refusal : Option PublisherCreateError) → MakePublisher environment s given place s' refusal → Waits Spared s s'
+        made place None h =
+            let new : State T U = with_new_publisher s given place in
+            subst (Waits Spared s) (sym h.3) (waits_trans s new _ (new_publisher_waits s given place)
+            (waits_trans new h.0 _ (update_publisher_waits environment new s.next_port h.0 h.1 h.2) (warning_waits h.0 (PublisherPartlyConnected s.next_port) h.1)))
+        made place (Some e) h = same h.1
+
+    pub create_subscriber_waits : (environment : Environment) (s : State T U) (given : SubscriberSettings) (s' : State T U) (refusal : Option SubscriberCreateError)
+        → CreateSubscriber environment s given s' refusal → Waits Spared s s'
+    create_subscriber_waits environment s given s' refusal h =
+        by_bool (Waits Spared s s') (s.next_port == last_number) _ _ h (λ _ k. same k.0) (λ _ k.
+        by_bool (Waits Spared s s') (nat_lt (buffer_limit s.config) (buffer_for given)) _ _ k (λ _ j. same j.0) (λ _ j.
+        by_option (Waits Spared s s') (free_place (s.config).max_subscribers s.subscriber_places) _ _ j (λ _ i. same i.0) (λ place _ i. made place refusal i)))
+      where
+        same : s' ≡ s → Waits Spared s s'
+        same e = subst (Waits Spared s) (sym e) (waits_itself s)
+
+        made : (place : ℕ) (refusal : Option SubscriberCreateError) → MakeSubscriber environment s given place s' refusal → Waits Spared s s'
+        made place None h =
+            let new : State T U = with_new_subscriber s given place in
+            subst (Waits Spared s) (sym h.3) (waits_trans s new _ (new_subscriber_waits s given place)
+            (waits_trans new h.0 _ (update_subscriber_waits environment new s.next_port h.0 h.1 h.2) (warning_waits h.0 (SubscriberPartlyConnected s.next_port) h.1)))
+        made place (Some e) h = same h.1
+
+    -- ---- loans
+
+    granted_waits : (default_header : U) (s : State T U) (p : ℕ) (x : Publisher) → s.publishers p ≡ Some x → (len segments : ℕ) → Waits Spared s (loan_granted default_header s p x len segments)
+    granted_waits default_header s p x present len segments = record {
+      next_port = le_refl s.next_port;
+      publishers = put_publisher s.publishers s.next_port p
+          (record x { loans = x.loans ++ s.next_message ∷ []; longest_granted = max x.longest_granted len; segments = segments })
+          (λ _. (x, present, record { strategy = refl; handler = refl; blocked = λ _. refl }));
+    }
+
+    pub loan_set_waits : (s : State T U) (n : ℕ) (l : Option (Loan T U)) → Waits Spared s (with_loan s n l)
+    loan_set_waits s n l = same_publishers s (with_loan s n l) refl refl
+
+    -- a publisher that may be there is changed
+    publisher_changed_waits : (s : State T U) (i : ℕ) (f : Publisher → Publisher) → ((x : Publisher) → IsAsItWas Spared i x (f x)) → Waits Spared s (publisher_changed s i f)
+    publisher_changed_waits s i f stays = record {
+      next_port = le_refl s.next_port;
+      publishers = λ p x low e. at_each s.publishers i (option_map f (s.publishers i)) (λ k o. o ≡ Some x → WasPublisher Spared s.publishers k x) p
+          (λ _ e. mapped_publisher s.publishers f i stays x e) (λ _ e. (x, e, as_it_is p x)) e;
+    }
+
+    pub published_waits : (s : State T U) (p n : ℕ) → Waits Spared s (published s p n)
+    published_waits s p n =
+        waits_trans s (with_loan s n None) (published s p n) (loan_set_waits s n None)
+        (publisher_changed_waits (with_loan s n None) p (λ x. record x { history = last_n (s.config).history_size (x.history ++ n ∷ []) }) (λ x. record { strategy = refl; handler = refl; blocked = λ _. refl }))
+
+    pub loan_discarded_waits : (s : State T U) (n : ℕ) (l : Loan T U) → Waits Spared s (loan_discarded s n l)
+    loan_discarded_waits s n l =
+        waits_trans s (with_loan s n None) (loan_discarded s n l) (loan_set_waits s n None)
+        (publisher_changed_waits (with_loan s n None) l.publisher (λ x. record x { loans = without n x.loans }) (λ x. record { strategy = refl; handler = refl; blocked = λ _. refl }))
+
+    static_waits : (default_header : U) (s : State T U) (p : ℕ) (x : Publisher) → s.publishers p ≡ Some x → (len : ℕ) (s' : State T U) (refusal : Option LoanError)
+        → StaticLoan default_header s p x len s' refusal → Waits Spared s s'
+    static_waits default_header s p x present len s' refusal h =
+        by_bool (Waits Spared s s') (size (held s p x) == x.slots) _ _ h (λ _ k. subst (Waits Spared s) (sym k.0) (waits_itself s)) (λ _ k.
+        by_bool (Waits Spared s s') (s.next_message == last_number) _ _ k (λ _ j. subst (Waits Spared s) (sym j.0) (waits_itself s))
+        (λ _ j. subst (Waits Spared s) (sym j.0) (granted_waits default_header s p x present len x.segments)))
+
+    dynamic_waits : (environment : Environment) (default_header : U) (s : State T U) (p : ℕ) (x : Publisher) → s.publishers p ≡ Some x → (len : ℕ) (s' : State T U) (refusal : Option LoanError)
+        → DynamicLoan environment default_header s p x len s' refusal → Waits Spared s s'
+    dynamic_waits environment default_header s p x present len s' None h = subst (Waits Spared s) (sym h.4) (granted_waits default_header s p x present len h.2)
+    dynamic_waits environment default_header s p x present len s' (Some OutOfMemory) h = subst (Waits Spared s) (sym h.0) (waits_itself s)
+    dynamic_waits environment default_header s p x present len s' (Some InternalFailure) h = subst (Waits Spared s) (sym h.0) (waits_itself s)
+    dynamic_waits environment default_header s p x present len s' (Some ExceedsMaxLoans) h = absurd h
+    dynamic_waits environment default_header s p x present len s' (Some ExceedsMaxLoanSize) h = absurd h
+
+    pub grant_loan_waits : (environment : Environment) (default_header : U) (checks_length : Bool) (len : ℕ) (s : State T U) (p : ℕ) (s' : State T U) (refusal : Option LoanError)
+        → GrantLoan environment default_header checks_length len s p s' refusal → Waits Spared s s'
+    grant_loan_waits environment default_header checks_length len s p s' refusal h =
+        by_option (Waits Spared s s') (s.publishers p) _ _ h (λ _ v. absurd v) (λ x present k.
+        by_option (Waits Spared s s') (limit_error checks_length x len) _ _ k
+        (λ _ j. by_bool (Waits Spared s s') (is_static x.allocation_strategy) _ _ j
+        (λ _ i. static_waits default_header s p x present len s' refusal i) (λ _ i. dynamic_waits environment default_header s p x present len s' refusal i))
+        (λ limit _ j. subst (Waits Spared s) (sym j.0) (waits_itself s)))
+
+    -- ---- sends, of a publisher that is spared
+
+    module _ (p : ℕ) (spared : Spared p) where
+      concluded_waits : (s : State T U) (n : ℕ) (how : DeliveryEnd) (s' : State T U) (result : SendResult) → ConcludeSend s p n how s' result → Waits Spared s s'
+      concluded_waits s n (Complete count has_failed) s' result h =
+          subst (Waits Spared s) (sym h.0) (publisher_changed_waits s p (λ x. record x { loans = without n x.loans; blocked = None })
+          (λ x. record { strategy = refl; handler = refl; blocked = λ apart. absurd (apart spared) }))
+      concluded_waits s n (Suspended b) s' result h =
+          subst (Waits Spared s) (sym h.0) (publisher_changed_waits s p (λ x. record x { blocked = Some b })
+          (λ x. record { strategy = refl; handler = refl; blocked = λ apart. absurd (apart spared) }))
+
+      pub delivered_waits : (environment : Environment) (s : State T U) (n retries : ℕ) (elapsed : Duration) (place : ℕ) (ends : List (Option ℕ)) (count : ℕ)
+          (has_failed : Bool) (s' : State T U) (result : SendResult)
+          → DeliverAndConclude environment s p n retries elapsed place ends count has_failed s' result → Waits Spared s s'
+      delivered_waits environment s n retries elapsed place ends count has_failed s' result h =
+          by_option (Waits Spared s s') (s.publishers p) _ _ h (λ _ v. absurd v) (λ x present h.
+          let mid : State T U = with_mailboxes s p h.1 in
+          waits_trans s mid s' (same_publishers s mid refl refl) (concluded_waits mid n h.0 s' result h.3))
+
+      publish_waits : (environment : Environment) (s : State T U) (n : ℕ) (s' : State T U) (result : SendResult) → Publish environment s p n s' result → Waits Spared s s'
+      publish_waits environment s n s' result h =
+          by_option (Waits Spared s s') (s.publishers p) _ _ h (λ _ v. absurd v) (λ x present h.
+          let mid : State T U = published s p n in
+          waits_trans s mid s' (published_waits s p n) (delivered_waits environment mid n 0 no_time 0 x.ends 0 false s' result h))
+
+      pub retry_waits : (environment : Environment) (s : State T U) (b : BlockedSend) (elapsed : Duration) (s' : State T U) (result : SendResult)
+          → Retry environment s p b elapsed s' result → Waits Spared s s'
+      retry_waits environment s b elapsed s' result = delivered_waits environment s b.message (more_retries b.retries) elapsed b.place b.ends b.count b.has_failed s' result
+
+      pub give_up_waits : (environment : Environment) (s : State T U) (b : BlockedSend) (s' : State T U) (result : SendResult) → GiveUp environment s p b s' result → Waits Spared s s'
+      give_up_waits environment s b s' result = delivered_waits environment s b.message 0 no_time _ _ b.count b.has_failed s' result
+
+    pub send_waits : (environment : Environment) (s : State T U) (n : ℕ) (l : Loan T U) → Spared l.publisher → (s' : State T U) (result : SendResult) → Send environment s n l s' result → Waits Spared s s'
+    send_waits environment s n l spared s' result h =
+        by_option (Waits Spared s s') (s.publishers l.publisher) _ _ h
+        (λ _ k. subst (Waits Spared s) (sym k.0) (loan_set_waits s n None))
+        (λ x _ k.
+        let first : Waits Spared s k.0 = update_publisher_waits environment s l.publisher k.0 k.1 k.2 in
+        by_option (Waits Spared s s') k.1 _ _ k.3
+        (λ _ j. waits_trans s k.0 s' first (publish_waits l.publisher spared environment k.0 n s' result j))
+        (λ e _ j. waits_trans s k.0 s' first (subst (Waits Spared k.0) (sym j.0) (loan_discarded_waits k.0 n l))))
+
+    -- ---- receives and releases
+
+    pub receive_waits : (environment : Environment) (s : State T U) (q : ℕ) (s' : State T U) (result : ReceiveResult) → Receive environment s q s' result → Waits Spared s s'
+    receive_waits environment s q s' result h =
+        let first : Waits Spared s h.0 = update_subscriber_waits environment s q h.0 h.1 h.2 in
+        by_option (Waits Spared s s') h.1 _ _ h.3
+        (λ _ k. by_option (Waits Spared s s') ((h.0).subscribers q) _ _ k (λ _ v. absurd v) (λ y _ k. waits_trans s h.0 s' first (taken h.0 y result k)))
+        (λ e _ k. subst (Waits Spared s) (sym k.0) first)
+      where
+        taken : (mid : State T U) (y : Subscriber) (result : ReceiveResult) → TakeSample mid q y s' result → Waits Spared mid s'
+        taken mid y (Got_sample p n) k = subst (Waits Spared mid) (sym k.3) (same_publishers mid (with_mailbox mid p q k.1) refl refl)
+        taken mid y No_sample k = subst (Waits Spared mid) (sym k.1) (waits_itself mid)
+        taken mid y (Receive_error e) k = subst (Waits Spared mid) (sym k.3) (waits_itself mid)
+
+    -- a subscriber that is unused is gone
+    freed_waits : (s : State T U) (q : ℕ) → Waits Spared s (freed_if_unused s q)
+    freed_waits s q = cond_both (is_unused s q) (place_freed s q) s (Waits Spared s) (λ _. all_due s (place_freed s q) (le_refl s.next_port) refl) (λ _. waits_itself s)
+
+    pub released_waits : (s : State T U) (p q n : ℕ) → Waits Spared s (released s p q n)
+    released_waits s p q n =
+        let mid : State T U = unborrowed s p q n in
+        waits_trans s mid (released s p q n) (same_publishers s mid refl refl)
+        (waits_trans mid (subscriber_pruned mid q) (released s p q n) (same_publishers mid (subscriber_pruned mid q) refl refl) (freed_waits (subscriber_pruned mid q) q))
+
+    -- ---- closes
+
+    pub publisher_closed_waits : (s : State T U) (p : ℕ) (x : Publisher) → Waits Spared s (publisher_closed s p x)
+    publisher_closed_waits s p x = record {
+      next_port = le_refl s.next_port;
+      publishers = λ i z low e. found_removed s.publishers p i z (WasPublisher Spared s.publishers i z) e (λ _ old. (z, old, as_it_is i z));
+    }
+
+    pub subscriber_closed_waits : (s : State T U) (q : ℕ) (y : Subscriber) → Waits Spared s (subscriber_closed s q y)
+    subscriber_closed_waits s q y =
+        let mid : State T U = subscriber_shut s q y in
+        waits_trans s mid (subscriber_closed s q y) (all_due s mid (le_refl s.next_port) refl)
+        (waits_trans mid (subscriber_pruned mid q) (subscriber_closed s q y) (same_publishers mid (subscriber_pruned mid q) refl refl) (freed_waits (subscriber_pruned mid q) q))
