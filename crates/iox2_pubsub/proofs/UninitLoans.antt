@@ -1,6 +1,8 @@
 -- A loan that isn't written yet, seen from outside.
-use Rattle.std.proofs.Common.{◌≡◌, Bool, ℕ, ◌*◌, List, replicate, false, cond, get_or, refl, ap, sym, subst, ◌∙◌, inl, inr, arith, Result, Ok, Err}
+use Rattle.std.proofs.Common.{◌≡◌, Bool, ℕ, ◌*◌, List, length, replicate, false, cond, get_or, refl, ap, sym, subst, ◌∙◌, inl, inr, arith, Result, Ok, Err}
 use Rattle.std.proofs.lemmas.Bool.{cases_eq, eq-eqb, ne_eqb}
+use Rattle.std.proofs.lemmas.List.{length-replicate}
+use Rattle.std.proofs.lemmas.Option.{same_Some}
 use Rattle.std.specs.declared.option.Option.{Option}
 use Rattle.std.specs.declared.option.Option.TheVariants.{None, Some}
 use Rattle.std.specs.Option.{option_map}
@@ -17,7 +19,7 @@ use Rattle.iox2_pubsub.specs.Slices.{HasUnwrittenCells}
 use Rattle.iox2_pubsub.specs.declared.publisher.Publisher.{Publisher as PublisherHandle}
 use Rattle.iox2_pubsub.specs.declared.sample_mut_uninit.SampleMutUninit.{SampleMutUninit}
 use Rattle.iox2_pubsub.proofs.LiveParts.{loan-header, publisher-parts, unwritten-live}
-use Rattle.iox2_pubsub.proofs.SliceParts.{has-cells}
+use Rattle.iox2_pubsub.proofs.SliceParts.{has-cells, cells-parts}
 use Rattle.iox2_domain.specs.Ports.{PublisherFields}
 use Rattle.iox2_domain.specs.Kept.{Kept, Named, state_of, is_named}
 use Rattle.iox2_domain.specs.Fields.{Fields, kept_of, publisher_of}
@@ -149,6 +151,16 @@ module _ {T U : Type 0} (is_default : U → Type 0) (checks : Bool) (len : ℕ) 
       let names : IsNamed f stands.0 loan = subst (λ (o : Option PublisherFields). IsSomeAnd o (λ z. IsNamed f z loan)) stands.1 named in
       let granted : LoanReaches {A = LoanAt} is_default checks len f stands.0 (Ok loan) new = subst (λ (r : Result LoanAt LoanError). LoanReaches is_default checks len f stands.0 r new) is its in
       has-cells (kept_of new) loan.number _ (lent_loan f stands.0 granted.0 len, granted-out f is_default checks len new stands.0 loan names granted, refl)
+
+  -- there are no others
+  pub ok-lengths : (loan : LoanAt) → answer ≡ Ok loan → IsSomeAnd (get_or f.publishers i None) (λ z. IsNamed f z loan) → (cells : List (Option T))
+      → HasUnwrittenCells (kept_of new) loan.number cells → length cells ≡ len * (f.config).units_per_element
+  ok-lengths loan is named cells has =
+      let names : IsNamed f stands.0 loan = subst (λ (o : Option PublisherFields). IsSomeAnd o (λ z. IsNamed f z loan)) stands.1 named in
+      let granted : LoanReaches {A = LoanAt} is_default checks len f stands.0 (Ok loan) new = subst (λ (r : Result LoanAt LoanError). LoanReaches is_default checks len f stands.0 r new) is its in
+      let there = cells-parts (kept_of new) loan.number cells has in
+      let same : there.0 ≡ lent_loan f stands.0 granted.0 len = same_Some there.0 (lent_loan f stands.0 granted.0 len) (sym there.1 ∙ granted-out f is_default checks len new stands.0 loan names granted) in
+      ap (λ (cs : List (Option T)). length cs) (sym there.2 ∙ ap (λ (l : Loan T U). l.cells) same) ∙ length-replicate (len * (f.config).units_per_element) (None {T = T})
 
   -- and its header says whose it is, and how long
   pub ok-header : (loan : LoanAt) → answer ≡ Ok loan → IsSomeAnd (get_or f.publishers i None) (λ z. IsNamed f z loan) → (key : Key) → key.message ≡ loan.number

@@ -1,5 +1,5 @@
 //! A publisher lends a message.
-ghost use Rattle.std.specs.Prelude.{◌≡◌, ◌≤◌, ◌+◌, ◌*◌, ℕ, IfOk, IsOk, OnErr, None, replicate, true, false};
+ghost use Rattle.std.specs.Prelude.{◌≡◌, ◌≤◌, ◌+◌, ◌*◌, ℕ, List, Option, length, IfOk, IsOk, OnErr, None, replicate, true, false};
 
 use crate::domain::Domain;
 use crate::publisher::Publisher;
@@ -72,6 +72,7 @@ impl Publisher {
             → (checks_length ≡ true → len ≤ self.now.initial_max_slice_len) → IsOk result }
         ensures live { IfOk result (λ loan. IsUnwrittenLoan domain.new loan) }
         ensures cells { IfOk result (λ loan. HasUnwrittenCells domain.new loan.loan.number (replicate (len * (domain.old.config).units_per_element) None)) }
+        ensures lengths { IfOk result (λ loan. (cells : List (Option T)) → HasUnwrittenCells domain.new loan.loan.number cells → length cells ≡ len * (domain.old.config).units_per_element) }
         ensures header { IfOk result (λ loan. LoanHasHeader domain.new (unwritten_key loan) (header_for domain.old.config self.now.id len)) }
         ensures new { IfOk result (λ loan. IsNewIn domain.old (unwritten_loan loan)) }
         ensures number { IfOk result (λ loan. loan.loan.number ≡ domain.old.next_message) }

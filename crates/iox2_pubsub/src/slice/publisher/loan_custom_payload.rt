@@ -1,5 +1,5 @@
 //! A publisher lends custom bytes.
-ghost use Rattle.std.specs.Prelude.{◌≡◌, ◌≤◌, ◌+◌, ◌*◌, ℕ, IfOk, IsOk, OnErr, None, replicate, true};
+ghost use Rattle.std.specs.Prelude.{◌≡◌, ◌≤◌, ◌+◌, ◌*◌, ℕ, List, Option, length, IfOk, IsOk, OnErr, None, replicate, true};
 
 use crate::custom_markers::{CustomHeaderMarker, CustomPayloadMarker};
 use crate::domain::Domain;
@@ -34,6 +34,7 @@ impl Publisher {
             → slice_len ≤ self.now.publisher.initial_max_slice_len → IsOk result }
         ensures live { IfOk result (λ loan. IsUnwrittenLoan domain.new loan.sample) }
         ensures cells { IfOk result (λ loan. HasUnwrittenCells domain.new loan.sample.loan.number (replicate (slice_len * (domain.old.config).units_per_element) None)) }
+        ensures lengths { IfOk result (λ loan. (cells : List (Option CustomPayloadMarker)) → HasUnwrittenCells domain.new loan.sample.loan.number cells → length cells ≡ slice_len * (domain.old.config).units_per_element) }
         ensures header { IfOk result (λ loan. LoanHasHeader domain.new (unwritten_key loan.sample) (header_for domain.old.config self.now.publisher.id slice_len)) }
         ensures new { IfOk result (λ loan. IsNewIn domain.old (unwritten_loan loan.sample)) }
         ensures number { IfOk result (λ loan. loan.sample.loan.number ≡ domain.old.next_message) }

@@ -1,10 +1,10 @@
-use Rattle.std.proofs.Common.{ℕ, ◌*◌, replicate, None, ap, subst, sym, ◌∙◌, refl, Ok}
+use Rattle.std.proofs.Common.{◌≡◌, ℕ, ◌*◌, length, replicate, None, ap, subst, sym, ◌∙◌, refl, Ok}
 use Rattle.iox2_domain.specs.Fields.{kept_of}
 use Rattle.iox2_domain.specs.Kept.{Kept}
 use Rattle.iox2_domain.specs.Lending.{header_for}
 use Rattle.iox2_pubsub.specs.Live.{IsPublisherKey, LoanHasHeader, lender_key, publisher_key, unwritten_key}
 use Rattle.iox2_pubsub.specs.Slices.{HasUnwrittenCells}
-use Rattle.iox2_pubsub.proofs.UninitLoans.{err-shown, ok-cells, ok-header, ok-shown, ok-live, ok-number, ok-publisher, publisher-missing}
+use Rattle.iox2_pubsub.proofs.UninitLoans.{err-shown, ok-cells, ok-header, ok-lengths, ok-shown, ok-live, ok-number, ok-publisher, publisher-missing}
 use Rattle.iox2_pubsub.proofs.CallsStay.{always-shown, loan-is-new, loan-stays}
 use Rattle.iox2_pubsub.proofs.LiveParts.{publisher-parts}
 use Rattle.iox2_pubsub.proofs.WaitingShown.{loan-waits}
@@ -40,6 +40,12 @@ returns-clause-cells g c =
     subst (λ (k : Kept g.row.T.Denot g.row.U.Denot). HasUnwrittenCells (kept_of c.loan.new.state) c.in_ok-loan.loan.number (replicate (c.args.len * (k.config).units_per_element) None)) c.domain.view_is
     (ok-cells {T = g.row.T.Denot} {U = g.row.U.Denot} g.U.Default.is_default c.args.checks_length c.args.len c.domain.inside.state c.loan.new.state c.find_live_publisher-place.result c.args.self.now.id c.loan.result
     c.find_live_publisher-place.ensures c.loan.ensures.reaches c.in_ok-loan.loan c.in_ok-loan.was c.in_ok-loan.ensures.named)
+
+pub returns-clause-lengths : goal.returns-clause-lengths
+returns-clause-lengths g c = λ cells has.
+    subst (λ (k : Kept g.row.T.Denot g.row.U.Denot). length cells ≡ c.args.len * (k.config).units_per_element) c.domain.view_is
+    (ok-lengths {T = g.row.T.Denot} {U = g.row.U.Denot} g.U.Default.is_default c.args.checks_length c.args.len c.domain.inside.state c.loan.new.state c.find_live_publisher-place.result c.args.self.now.id c.loan.result
+    c.find_live_publisher-place.ensures c.loan.ensures.reaches c.in_ok-loan.loan c.in_ok-loan.was c.in_ok-loan.ensures.named cells has)
 
 pub returns-clause-header : goal.returns-clause-header
 returns-clause-header g c =
