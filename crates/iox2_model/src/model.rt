@@ -75,6 +75,11 @@ impl Model {
         self.refused_connections
     }
 
+    /// How often a port or a connection asked for memory.
+    pub fn questions(&self) -> usize {
+        self.memory.questions()
+    }
+
     // Whether a connection is refused memory this time, which is counted.
     pub(crate) fn refuses_connection(&mut self) -> bool {
         let refuses = self.memory.refuses();

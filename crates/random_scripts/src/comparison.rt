@@ -3,27 +3,19 @@ ghost use Rattle.std.specs.Prelude.{IfOk};
 ghost use Rattle.std.specs.List.{All};
 ghost use Rattle.iox2_runs.specs.Supported.{IsSupportedCommand};
 
+use crate::difference::Difference;
 use crate::failure::Failure;
-use iox2_model::{Memory, Model};
+use iox2_model::{Memory, Model, ModelError};
 use iox2_pubsub::{Domain, ServiceConfig, TypeVariant};
 use iox2_runs::{Command, Reply, run};
 use random_commands::is_word;
 use std::alloc::Global;
 
-/// A reply that isn't one that the model has.
-#[derive(Clone, Copy)]
-pub(crate) struct Difference {
-    /// The position of the command.
-    pub(crate) position: usize,
-    pub(crate) run: Reply<u64, u64>,
-    pub(crate) model: Reply<u64, u64>,
-}
-
 // The commands, where each is a word that exists.
 fn words(alloc: Global, commands: &[Command<u64, u64>]) -> Result<Vec<Command<u64, u64>>, Failure>
     ensures { IfOk result (λ words. All IsSupportedCommand words.items) }
 {
-    let mut words = Vec::new(alloc);
+    let mut words = Vec::with_capacity(alloc, commands.len())?;
     for command in commands {
         if !is_word(command) {
             return Err(Failure::NoWord);
@@ -65,23 +57,75 @@ pub(crate) fn carry_out_all(
     }
 }
 
-/// Whether each reply is the model's, and so is the number of connections that were refused memory.
-pub(crate) fn agrees(
+/// What the model says of a run.
+#[derive(Clone, Copy)]
+pub(crate) struct Comparison {
+    pub(crate) difference: Option<Difference>,
+    /// How often a port or a connection asked the model for memory, up to the difference.
+    pub(crate) questions: usize,
+}
+
+/// Carries the commands out by the model with such a memory, and compares each reply and the number
+/// of connections that were refused memory.
+pub(crate) fn compare(
     alloc: Global,
     config: ServiceConfig,
     commands: &[Command<u64, u64>],
     ran: &Ran,
     memory: Memory,
-) -> Result<bool, Failure> {
+) -> Result<Comparison, Failure> {
     let mut model = Model::new(alloc, config, memory)?;
+    let mut difference = different_reply(&mut model, commands, ran.replies.as_slice())?;
+    if difference.is_none() {
+        difference = different_count(&model, commands.len(), ran);
+    }
+    Ok(Comparison {
+        difference,
+        questions: model.questions(),
+    })
+}
+
+// The first reply that isn't the model's.
+fn different_reply(
+    model: &mut Model,
+    commands: &[Command<u64, u64>],
+    replies: &[Reply<u64, u64>],
+) -> Result<Option<Difference>, Failure> {
     for position in 0..commands.len() {
-        if let (Some(command), Some(reply)) = (commands.get(position), ran.replies.get(position)) {
-            if model.carry_out(*command, Some(*reply))? != *reply {
-                return Ok(false);
+        if let (Some(command), Some(reply)) = (commands.get(position), replies.get(position)) {
+            let run = *reply;
+            match model.carry_out(*command, Some(run)) {
+                Ok(model) if model == run => {}
+                Ok(model) => {
+                    return Ok(Some(Difference::Reply {
+                        position,
+                        run,
+                        model,
+                    }));
+                }
+                Err(ModelError::NoRule) => return Ok(Some(Difference::NoRule { position })),
+                Err(ModelError::OutOfMemory) => return Err(Failure::OutOfMemory),
             }
         }
     }
-    Ok(model.refused_connections() == ran.refused_connections)
+    Ok(None)
+}
+
+// Whether there are as many replies and refused connections as the model has.
+fn different_count(model: &Model, commands: usize, ran: &Ran) -> Option<Difference> {
+    let run = ran.replies.len();
+    if run != commands {
+        return Some(Difference::Count {
+            run,
+            model: commands,
+        });
+    }
+    let run = ran.refused_connections;
+    let model = model.refused_connections();
+    if run != model {
+        return Some(Difference::Refusals { run, model });
+    }
+    None
 }
 
 /// Runs the commands. Whether what becomes of them isn't what the model says.
@@ -91,28 +135,6 @@ pub(crate) fn is_refuted(
     commands: &[Command<u64, u64>],
 ) -> Result<bool, Failure> {
     let ran = carry_out_all(alloc, config, commands)?;
-    Ok(!agrees(alloc, config, commands, &ran, Memory::ample())?)
-}
-
-/// The first reply that isn't the model's with ample memory.
-pub(crate) fn first_difference(
-    alloc: Global,
-    config: ServiceConfig,
-    commands: &[Command<u64, u64>],
-    replies: &[Reply<u64, u64>],
-) -> Result<Option<Difference>, Failure> {
-    let mut model = Model::new(alloc, config, Memory::ample())?;
-    for position in 0..commands.len() {
-        if let (Some(command), Some(reply)) = (commands.get(position), replies.get(position)) {
-            let expected = model.carry_out(*command, Some(*reply))?;
-            if expected != *reply {
-                return Ok(Some(Difference {
-                    position,
-                    run: *reply,
-                    model: expected,
-                }));
-            }
-        }
-    }
-    Ok(None)
+    let comparison = compare(alloc, config, commands, &ran, Memory::ample())?;
+    Ok(comparison.difference.is_some())
 }

@@ -10,8 +10,10 @@ pub(crate) enum Failure {
     Usage,
     /// A reply isn't the model's.
     Refuted,
-    /// Some reply that the words can give was never met.
+    /// Some kind of reply that the words can give was never met.
     NeverMet,
+    /// A reply is of a kind that isn't counted.
+    NoKind,
     /// The model has no rule for a command.
     NoRule,
     /// A script has a word that `run` doesn't carry out.
@@ -27,9 +29,12 @@ impl Failure {
     pub(crate) fn text(self) -> &'static str {
         match self {
             Failure::Usage =>
-                "usage: random_scripts COUNT SEED, or draw 0 SCRIPT SEED, or run 0 SCRIPT SEED, or refused COUNT SCRIPT SEED",
+                "usage: random_scripts COUNT SEED, or one SCRIPT SEED, or draw 0 SCRIPT SEED, or run 0 SCRIPT SEED, or refused COUNT SCRIPT SEED",
             Failure::Refuted => "a reply isn't one that the model has",
-            Failure::NeverMet => "a reply was never met",
+            Failure::NeverMet =>
+                "a kind of reply has the count 0: more scripts have to be run, or crates/random_commands draws too seldom what gives it",
+            Failure::NoKind =>
+                "a reply is of a kind that crates/random_scripts/src/tally.rt doesn't count: it has to be added there",
             Failure::NoRule => "the model has no rule for a command",
             Failure::NoWord => "a script has a word that isn't carried out yet",
             Failure::OutOfMemory => "out of memory",
@@ -40,7 +45,7 @@ impl Failure {
     /// The exit status.
     pub(crate) fn status(self) -> u8 {
         match self {
-            Failure::Refuted | Failure::NeverMet => 1,
+            Failure::Refuted | Failure::NeverMet | Failure::NoKind => 1,
             Failure::Usage => 2,
             Failure::OutOfMemory => 3,
             Failure::InputOutput => 4,

@@ -3,6 +3,7 @@
 #![tactic(auto)]
 
 mod comparison;
+mod difference;
 mod failure;
 mod refusals;
 mod rounds;
@@ -11,7 +12,7 @@ mod tally;
 
 use failure::Failure;
 use refusals::{only_draw, only_run, run_refused};
-use rounds::run_scripts;
+use rounds::{run_one, run_scripts};
 use std::env;
 use std::process::ExitCode;
 
@@ -30,14 +31,18 @@ fn carry_out(rt: &HostRuntime) -> Result<(), Failure> {
     let words: Vec<String> = env::args(rt)?.collect(rt.alloc())?;
     match words.as_slice() {
         [_, count, seed] => run_scripts(rt, number(count)?, number(seed)?),
-        [_, task, _, script, seed] if task.as_str() == "draw" => {
-            only_draw(rt, number(script)?, number(seed)?)
+        [_, task, script, seed] if task.as_str() == "one" => {
+            run_one(rt, number(script)?, number(seed)?)
         }
-        [_, task, _, script, seed] if task.as_str() == "run" => {
-            only_run(rt, number(script)?, number(seed)?)
-        }
-        [_, task, count, script, seed] if task.as_str() == "refused" => {
-            run_refused(rt, number(count)?, number(script)?, number(seed)?)
+        // All of these have as many words, so that as many allocations were made before.
+        [_, task, count, script, seed] => {
+            let (count, script, seed) = (number(count)?, number(script)?, number(seed)?);
+            match task.as_str() {
+                "draw" => only_draw(rt, script, seed),
+                "run" => only_run(rt, script, seed),
+                "refused" => run_refused(rt, count, script, seed),
+                _ => Err(Failure::Usage),
+            }
         }
         _ => Err(Failure::Usage),
     }

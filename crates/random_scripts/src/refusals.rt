@@ -1,16 +1,13 @@
 //! A script while one allocation is refused.
-use crate::comparison::{Ran, agrees, carry_out_all};
+use crate::comparison::{Ran, carry_out_all, compare};
 use crate::failure::Failure;
-use crate::rounds::MOST_COMMANDS;
+use crate::rounds::{MOST_COMMANDS, print_lines};
 use iox2_model::Memory;
 use random_commands::{Script, draw_script};
 use std::alloc::Global;
 
-// How often a script asks for memory for a port or a connection, at most.
-const MOST_QUESTIONS: usize = 2000;
-
 // How many allocations are tried at most.
-const MOST_ALLOCATIONS: u64 = 1_000_000;
+const MOST_ALLOCATIONS: u64 = 10_000_000;
 
 /// Draws a script and doesn't run it. Prints which allocation after that is refused.
 pub(crate) fn only_draw(rt: &HostRuntime, number: u64, seed: u64) -> Result<(), Failure> {
@@ -38,37 +35,41 @@ pub(crate) fn run_refused(
 ) -> Result<(), Failure> {
     let script = draw_script(rt.alloc(), seed, number, MOST_COMMANDS)?;
     allocate(rt.alloc(), allocations)?;
-    let Ok(ran) = carry_out_all(rt.alloc(), script.config, script.commands.as_slice()) else {
-        println!(rt; "no run")?;
-        return Ok(());
-    };
-    if is_explained(rt.alloc(), &script, &ran, Memory::ample())? {
-        println!(rt; "nothing seen")?;
-        return Ok(());
-    }
-    for count in 0..MOST_QUESTIONS {
-        if is_explained(rt.alloc(), &script, &ran, Memory::refused_after(count))? {
-            print_refusal(rt, &ran)?;
-            return Ok(());
+    match carry_out_all(rt.alloc(), script.config, script.commands.as_slice()) {
+        Ok(ran) => explain(rt, &script, &ran),
+        Err(Failure::OutOfMemory) => {
+            println!(rt; "no run")?;
+            Ok(())
         }
+        Err(failure) => Err(failure),
     }
-    Err(Failure::Refuted)
 }
 
-// Whether what became of the script is what the model says.
-fn is_explained(
-    alloc: Global,
-    script: &Script,
-    ran: &Ran,
-    memory: Memory,
-) -> Result<bool, Failure> {
-    agrees(
-        alloc,
-        script.config,
-        script.commands.as_slice(),
-        ran,
-        memory,
-    )
+// Says what was refused memory, where the model has these replies then. It is asked about each time
+// that a port or a connection needs memory, up to the first reply that it hasn't with ample memory:
+// what was refused was refused before. Most likely it was shortly before.
+fn explain(rt: &HostRuntime, script: &Script, ran: &Ran) -> Result<(), Failure> {
+    let commands = script.commands.as_slice();
+    let ample = compare(rt.alloc(), script.config, commands, ran, Memory::ample())?;
+    let Some(mut closest) = ample.difference else {
+        println!(rt; "nothing seen")?;
+        return Ok(());
+    };
+    for later in 0..ample.questions {
+        let memory = Memory::refused_after(ample.questions - 1 - later);
+        match compare(rt.alloc(), script.config, commands, ran, memory)?.difference {
+            None => return print_refusal(rt, ran),
+            Some(other) => {
+                if other.rank(commands.len()) > closest.rank(commands.len()) {
+                    closest = other;
+                }
+            }
+        }
+    }
+    print_lines(rt, script)?;
+    println!(rt; "no refusal to a port or a connection explains the replies; after the best one:")?;
+    closest.print(rt)?;
+    Err(Failure::Refuted)
 }
 
 // Says what was refused memory: a connection or a port.

@@ -1,11 +1,9 @@
 //! Script after script.
-use crate::comparison::{Ran, agrees, carry_out_all, first_difference};
+use crate::comparison::{carry_out_all, compare};
 use crate::failure::Failure;
 use crate::shortest::shortest;
 use crate::tally::Tally;
 use iox2_model::Memory;
-use iox2_pubsub::ServiceConfig;
-use iox2_runs::Command;
 use random_commands::{Script, draw_script, script_text};
 
 /// How many commands a script has at most.
@@ -21,61 +19,85 @@ pub(crate) fn run_scripts(rt: &HostRuntime, count: u64, seed: u64) -> Result<(),
         if number % 100 == 0 {
             eprintln!(rt; "{number} of {count} scripts")?;
         }
-        let script = draw_script(rt.alloc(), seed, number, MOST_COMMANDS)?;
-        commands = commands.saturating_add(script.commands.len() as u64);
-        check(rt, number, &script, &mut tally)?;
+        match run_script(rt, number, seed, &mut tally) {
+            Ok(length) => commands = commands.saturating_add(length),
+            Err(failure) => {
+                print_advice(rt, number, seed)?;
+                return Err(failure);
+            }
+        }
     }
     println!(rt; "{count} scripts of seed {seed}, {commands} commands")?;
-    if tally.print(rt)? {
-        Ok(())
-    } else {
-        Err(Failure::NeverMet)
-    }
+    tally.print(rt)
+}
+
+/// Prints one script of a seed, and runs it alone.
+pub(crate) fn run_one(rt: &HostRuntime, number: u64, seed: u64) -> Result<(), Failure> {
+    let script = draw_script(rt.alloc(), seed, number, MOST_COMMANDS)?;
+    print_lines(rt, &script)?;
+    let mut tally = Tally::new();
+    check(rt, number, seed, &script, &mut tally)?;
+    println!(rt; "script {number} of seed {seed} passes")?;
+    Ok(())
+}
+
+// Draws a script, runs it and counts its replies. Returns how many commands it has.
+fn run_script(rt: &HostRuntime, number: u64, seed: u64, tally: &mut Tally) -> Result<u64, Failure> {
+    let script = draw_script(rt.alloc(), seed, number, MOST_COMMANDS)?;
+    check(rt, number, seed, &script, tally)?;
+    Ok(script.commands.len() as u64)
 }
 
 // Runs a script and counts its replies. Where they aren't the model's, the shortest script is printed
 // that has such a reply.
-fn check(rt: &HostRuntime, number: u64, script: &Script, tally: &mut Tally) -> Result<(), Failure> {
-    let alloc = rt.alloc();
+fn check(
+    rt: &HostRuntime,
+    number: u64,
+    seed: u64,
+    script: &Script,
+    tally: &mut Tally,
+) -> Result<(), Failure> {
     let commands = script.commands.as_slice();
-    let ran = carry_out_all(alloc, script.config, commands)?;
+    let ran = carry_out_all(rt.alloc(), script.config, commands)?;
     tally.add(ran.replies.as_slice());
-    if agrees(alloc, script.config, commands, &ran, Memory::ample())? {
+    let comparison = compare(rt.alloc(), script.config, commands, &ran, Memory::ample())?;
+    let Some(difference) = comparison.difference else {
         return Ok(());
-    }
-    println!(rt; "script {number} fails:")?;
-    print_difference(rt, script.config, commands, &ran)?;
+    };
+    println!(rt; "script {number} of seed {seed} fails:")?;
+    difference.print(rt)?;
     print_shortest(rt, script)?;
     Err(Failure::Refuted)
 }
 
-// Prints the first reply that isn't the model's, or how many connections were refused memory.
-fn print_difference(
-    rt: &HostRuntime,
-    config: ServiceConfig,
-    commands: &[Command<u64, u64>],
-    ran: &Ran,
-) -> Result<(), Failure> {
-    match first_difference(rt.alloc(), config, commands, ran.replies.as_slice())? {
-        None => println!(rt;
-            "{} connections were refused memory",
-            ran.refused_connections
-        )?,
-        Some(difference) => {
-            let line = difference.position.saturating_add(1);
-            let run = difference.run;
-            let model = difference.model;
-            println!(rt; "command {line}: run replies {run:?}, and the model {model:?}")?;
-        }
+fn print_shortest(rt: &HostRuntime, script: &Script) -> Result<(), Failure> {
+    let commands = shortest(rt.alloc(), script.config, script.commands.as_slice())?;
+    let fewest = Script {
+        config: script.config,
+        commands,
+    };
+    println!(rt; "the shortest such script has {} commands:", fewest.commands.len())?;
+    print_lines(rt, &fewest)?;
+    let commands = fewest.commands.as_slice();
+    let ran = carry_out_all(rt.alloc(), fewest.config, commands)?;
+    let comparison = compare(rt.alloc(), fewest.config, commands, &ran, Memory::ample())?;
+    if let Some(difference) = comparison.difference {
+        difference.print(rt)?;
     }
     Ok(())
 }
 
-fn print_shortest(rt: &HostRuntime, script: &Script) -> Result<(), Failure> {
-    let fewest = shortest(rt.alloc(), script.config, script.commands.as_slice())?;
-    println!(rt; "the shortest such script has {} commands:", fewest.len())?;
-    let text = script_text(rt.alloc(), &script.config, fewest.as_slice())?;
+/// Prints the lines of a script.
+pub(crate) fn print_lines(rt: &HostRuntime, script: &Script) -> Result<(), Failure> {
+    let text = script_text(rt.alloc(), &script.config, script.commands.as_slice())?;
     print!(rt; "{text}")?;
-    let ran = carry_out_all(rt.alloc(), script.config, fewest.as_slice())?;
-    print_difference(rt, script.config, fewest.as_slice(), &ran)
+    Ok(())
+}
+
+// What to do where a script fails.
+fn print_advice(rt: &HostRuntime, number: u64, seed: u64) -> Result<(), Failure> {
+    println!(rt; "What now: 'tools/random_scripts one {number} {seed}' runs this script alone.")?;
+    println!(rt; "A script of lines of docs/SCRIPT.md can be given to pubsub_script.")?;
+    println!(rt; "docs/MACHINE.md says whether the library is wrong, or crates/iox2_model.")?;
+    Ok(())
 }

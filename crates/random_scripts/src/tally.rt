@@ -1,12 +1,12 @@
 //! How often each kind of reply was met.
+use crate::failure::Failure;
 use iox2_pubsub::{
     LoanError, PublisherCreateError, ReceiveError, SendError, SubscriberCreateError,
 };
 use iox2_runs::Reply;
-use std::io;
 
 // The kinds of replies that the words can give with ample memory.
-const KINDS: [&str; 29] = [
+const KINDS: [&str; 28] = [
     "Done",
     "Skipped",
     "PublisherMade",
@@ -22,7 +22,7 @@ const KINDS: [&str; 29] = [
     "Delivered to 2 to 64",
     "Delivered to 65 or more",
     "SendRefused(ConnectionBrokenSinceSenderNoLongerExists)",
-    "SendRefused(LoanError)",
+    "SendRefused(LoanError(ExceedsMaxLoans))",
     "UpdateRefused",
     "Sample",
     "NoSample",
@@ -35,10 +35,9 @@ const KINDS: [&str; 29] = [
     "Unwritten",
     "Header",
     "UserHeader",
-    "any other",
 ];
 
-// The position of the last kind, which no reply should have.
+// The position of the count of all other replies, which no command should have.
 const OTHER: usize = 28;
 
 /// How often each kind of reply was met.
@@ -60,8 +59,8 @@ impl Tally {
         }
     }
 
-    /// Prints a line for each kind. Whether each was met.
-    pub(crate) fn print(&self, rt: &impl Print) -> io::Result<bool> {
+    /// Prints a line for each kind. Fails where one was never met, or where a reply is of none.
+    pub(crate) fn print(&self, rt: &impl Print) -> Result<(), Failure> {
         let mut all_met = true;
         for kind in 0..OTHER {
             if let (Some(name), Some(count)) = (KINDS.get(kind), self.counts.get(kind)) {
@@ -71,7 +70,13 @@ impl Tally {
                 }
             }
         }
-        Ok(all_met)
+        if self.counts.get(OTHER).is_some_and(|count| *count > 0) {
+            Err(Failure::NoKind)
+        } else if all_met {
+            Ok(())
+        } else {
+            Err(Failure::NeverMet)
+        }
     }
 }
 
@@ -95,7 +100,7 @@ fn kind_of(reply: &Reply<u64, u64>) -> usize {
         Reply::Delivered(2..=64) => 12,
         Reply::Delivered(_) => 13,
         Reply::SendRefused(SendError::ConnectionBrokenSinceSenderNoLongerExists) => 14,
-        Reply::SendRefused(SendError::LoanError(_)) => 15,
+        Reply::SendRefused(SendError::LoanError(LoanError::ExceedsMaxLoans)) => 15,
         _ => kind_of_use(reply),
     }
 }
