@@ -137,9 +137,13 @@ module _ {T U : Type 0} where
     ended true e = absurd cc
     ended false e = absurd cc
   concluded_waits_with s p n x here (Suspended b) s' result message h is =
-      subst (λ (t : State T U). HoldsBlocked t p n) (sym h.0) (record x { blocked = Some b }, b,
-      put_at-same s.publishers p (option_map (λ (v : Publisher). record v { blocked = Some b }) (s.publishers p)) ∙ ap (option_map (λ (v : Publisher). record v { blocked = Some b })) here,
-      refl, message b refl)
+      subst (λ (t : State T U). HoldsBlocked t p n) (sym h.0) (
+        record x { blocked = Some b },
+        b,
+        put_at-same s.publishers p (option_map (λ (v : Publisher). record v { blocked = Some b }) (s.publishers p)) ∙ ap (option_map (λ (v : Publisher). record v { blocked = Some b })) here,
+        refl,
+        message b refl,
+      )
 
   pub delivered_waits_with : (environment : Environment) (s : State T U) (p n retries : ℕ) (elapsed : Duration) (place : ℕ) (ends : List (Option ℕ)) (count : ℕ)
       (has_failed : Bool) (s' : State T U) (result : SendResult)
