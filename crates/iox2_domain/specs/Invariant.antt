@@ -248,10 +248,6 @@ pub record HasForms {T U : Type 0} (c : ServiceConfig) (contents : List (Option 
 
 -- ---- what isn't there yet
 
--- The settings that a domain may have.
-pub record IsSupportedConfig (c : ServiceConfig) : Type 0 where
-  pub single_values : c.variant ≡ FixedSize
-
 -- The publisher discards what a full receiver doesn't take, has one segment and no handlers, and no delivery of it is blocked.
 pub record IsPlain (x : PublisherFields) : Type 0 where
   pub strategy : x.strategy ≡ DiscardData
@@ -281,7 +277,6 @@ pub record HasParts {T U : Type 0} (f : Fields T U) : Type 0 where
   pub warning_room : (f.warnings).capacity ≡ warning_limit
   pub shapes : HasShapes f
   pub forms : HasForms f.config f.contents
-  pub supported : IsSupportedConfig f.config
   pub plain : (i : ℕ) (x : PublisherFields) → slice_index_or f.publishers i None ≡ Some x → IsPlain x
   pub plain_subscribers : (i : ℕ) (y : SubscriberFields) → slice_index_or f.subscribers i None ≡ Some y → IsPlainSubscriber y
 

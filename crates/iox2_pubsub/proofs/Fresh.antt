@@ -12,7 +12,7 @@ use Rattle.iox2_ends.specs.LookUp.{IsOnly}
 use Rattle.iox2_laws.proofs.Enough.{fresh_is_well_formed}
 use Rattle.iox2_domain.specs.WarningRing.{warning_ring}
 use Rattle.iox2_domain.specs.Fields.{Fields, kept_of}
-use Rattle.iox2_domain.specs.Invariant.{IsDomain, IsLinked, HasBooks, IsNumbered, IsSupportedConfig}
+use Rattle.iox2_domain.specs.Invariant.{IsDomain, IsLinked, HasBooks, IsNumbered}
 use Rattle.iox2_domain.specs.FreshFields.{IsFresh}
 use Rattle.iox2_store.specs.Stored.{In_history, In_mailbox, In_blocked_send}
 use Rattle.iox2_domain.specs.Shows.{Shows, KeepsEntries}
@@ -83,8 +83,8 @@ module _ {T U : Type 0} (config : ServiceConfig) (v c v' c' : ℕ) where
     no_others = λ key at. refl;
   }
 
-  is_domain : IsSupportedConfig config → IsDomain empty_fields
-  is_domain supported = record {
+  is_domain : IsDomain empty_fields
+  is_domain = record {
     parts = record {
       publisher_ids = λ p. none_only _;
       subscriber_ids = λ q. none_only _;
@@ -99,7 +99,6 @@ module _ {T U : Type 0} (config : ServiceConfig) (v c v' c' : ℕ) where
       warning_room = refl;
       shapes = record { at = λ key slot b m at _. absurd (nothing_at key b at) };
       forms = record { at = λ several key cs at. absurd cc };
-      supported = supported;
       plain = λ i x at. absurd (nothing_at i x at);
       plain_subscribers = λ i y at. absurd (nothing_at i y at);
     };
@@ -128,10 +127,10 @@ module _ {A B : Type 0} (P : Slab A → Slab B → Type 0) where
       subst with_second (sym f) (subst with_first (sym e) h)
 
 module _ {T U : Type 0} (config : ServiceConfig) (connections : Slab Link) (books : Slab Book) (e : connections.slots ≡ []) (f : books.slots ≡ []) where
-  fresh_is_domain : IsSupportedConfig config → IsDomain {T = T} {U = U} (fresh_fields config connections books)
-  fresh_is_domain supported =
+  fresh_is_domain : IsDomain {T = T} {U = U} (fresh_fields config connections books)
+  fresh_is_domain =
       at_empty (λ s t. IsDomain {T = T} {U = U} (fresh_fields config s t)) connections books e f
-      (is_domain config connections.vacant_key connections.capacity books.vacant_key books.capacity supported)
+      (is_domain config connections.vacant_key connections.capacity books.vacant_key books.capacity)
 
   fresh_is_shown : Shows {T = T} {U = U} (kept_of (fresh_fields config connections books)) no_messages (fresh config)
   fresh_is_shown =
@@ -153,8 +152,8 @@ module _ {T U : Type 0} (config : ServiceConfig) (f : Fields T U) (is : IsFresh 
   }
 
   -- a new domain's fields agree
-  pub new_is_domain : IsSupportedConfig config → IsDomain f
-  new_is_domain supported = subst IsDomain (sym fields-are) (fresh_is_domain config f.connections f.books is.connections is.books supported)
+  pub new_is_domain : IsDomain f
+  new_is_domain = subst IsDomain (sym fields-are) (fresh_is_domain config f.connections f.books is.connections is.books)
 
   -- and they show the fresh state
   pub new_is_shown : Shows (kept_of f) no_messages (fresh config)

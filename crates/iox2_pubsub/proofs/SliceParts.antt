@@ -1,6 +1,7 @@
 -- What the words of slices say, part by part.
 use Rattle.std.proofs.Common.{◌≡◌, ℕ, List, map, length, true, false, refl, ap, sym, subst, ◌∙◌, Option, Some}
 use Rattle.iox2_store.specs.SingleValues.{is_single_valued}
+use Rattle.iox2_store.specs.declared.service_config.TypeVariant.TheVariants.{Dynamic}
 use Rattle.iox2_store.specs.machine.Records.{Loan}
 use Rattle.iox2_store.specs.machine.SingleCalls.{HoldsLoan, WriteAllFrom}
 use Rattle.iox2_store.specs.machine.State.{State, Messages, with_loan}
@@ -9,6 +10,7 @@ use Rattle.iox2_domain.specs.Fields.{Fields, kept_of}
 use Rattle.iox2_domain.specs.Invariant.{IsDomain}
 use Rattle.iox2_domain.specs.LoanCalls.{HasCells, WritesLoan}
 use Rattle.iox2_domain.specs.Shows.{Shows}
+use Rattle.iox2_domain.proofs.lemmas.fields.SingleSettings.{dynamic-several}
 use Rattle.iox2_pubsub.specs.Live.{IsUnwrittenLoan, IsWrittenLoan, A_loan, StaysBut}
 use Rattle.iox2_pubsub.specs.Slices.{IsSliced, HasUnwrittenCells, HasValues}
 use Rattle.iox2_pubsub.specs.declared.sample_mut.SampleMut.{SampleMut}
@@ -23,6 +25,11 @@ module _ {T U : Type 0} (kept : Kept T U) where
   pub sliced-parts : IsSliced kept → is_single_valued kept.config ≡ false
   unfolding IsSliced
   sliced-parts sliced = sliced
+
+  -- messages of a service for slices are slices
+  pub dynamic-sliced : (kept.config).variant ≡ Dynamic → IsSliced kept
+  unfolding IsSliced
+  dynamic-sliced dynamic = dynamic-several kept.config dynamic
 
   pub cells-parts : (n : ℕ) (cells : List (Option T)) → HasUnwrittenCells kept n cells → HasCells (state_of kept) n cells
   unfolding HasUnwrittenCells

@@ -5,11 +5,11 @@ ghost use Rattle.std.specs.Option.{is_some};
 ghost use Rattle.iox2_store.specs.machine.Limits.{last_number};
 ghost use Rattle.iox2_store.specs.machine.State.{Messages, fresh, no_messages};
 ghost use Rattle.iox2_domain.specs.Kept.{state_of};
-ghost use Rattle.iox2_domain.specs.Invariant.{IsSupportedConfig};
-ghost use Rattle.iox2_store.specs.declared.service_config.TypeVariant.TheVariants.{FixedSize};
+ghost use Rattle.iox2_store.specs.declared.service_config.TypeVariant.TheVariants.{Dynamic, FixedSize};
 ghost use Rattle.iox2_domain.specs.Shows.{Shows};
 ghost use Rattle.iox2_pubsub.specs.Live.{IsSingleValued};
 ghost use Rattle.iox2_pubsub.specs.LoansLeft.{HasNumbersLeft};
+ghost use Rattle.iox2_pubsub.specs.Slices.{IsSliced};
 
 use iox2_domain::DomainState;
 use iox2_store::{BackpressureFn, DegradationFn, DomainCreateError, ServiceConfig, TypeVariant};
@@ -41,15 +41,16 @@ impl<T, U, F, G> Model for Domain<T, U, F, G> {
 
 impl<T: Drop, U: Default + Drop> Domain<T, U> {
     /// A domain with these settings and no port, as in `Domain::new(alloc, ServiceConfig::new(7))`.
-    /// So far it takes single values.
+    /// Each message has one element in a domain of the variant `FixedSize`, and any number of them in
+    /// one of `Dynamic`. So far its ports lend no slices.
     ///
     /// Fails with `DomainCreateError::OutOfMemory` where memory is refused.
     pub fn new(alloc: Global, config: ServiceConfig) -> Result<Self, DomainCreateError>
-        requires fixed_size { config.variant ≡ FixedSize }
         ensures fresh { IfOk result (λ d. Shows d no_messages (fresh config)) }
         ensures settings { IfOk result (λ d. d.config ≡ config) }
         ensures numbers_left { IfOk result (λ d. (n : ℕ) → n < last_number → HasNumbersLeft d n) }
-        ensures single_valued { IfOk result (λ d. config.units_per_element ≡ 1 → IsSingleValued d) }
+        ensures single_valued { IfOk result (λ d. config.variant ≡ FixedSize → config.units_per_element ≡ 1 → IsSingleValued d) }
+        ensures sliced { IfOk result (λ d. config.variant ≡ Dynamic → IsSliced d) }
     {
         Self::with_handlers(alloc, config)
     }
@@ -60,11 +61,11 @@ impl<T: Drop, U: Default + Drop, F: BackpressureFn, G: DegradationFn> Domain<T, 
     ///
     /// Fails with `DomainCreateError::OutOfMemory` where memory is refused.
     pub fn with_handlers(alloc: Global, config: ServiceConfig) -> Result<Self, DomainCreateError>
-        requires fixed_size { config.variant ≡ FixedSize }
         ensures fresh { IfOk result (λ d. Shows d no_messages (fresh config)) }
         ensures settings { IfOk result (λ d. d.config ≡ config) }
         ensures numbers_left { IfOk result (λ d. (n : ℕ) → n < last_number → HasNumbersLeft d n) }
-        ensures single_valued { IfOk result (λ d. config.units_per_element ≡ 1 → IsSingleValued d) }
+        ensures single_valued { IfOk result (λ d. config.variant ≡ FixedSize → config.units_per_element ≡ 1 → IsSingleValued d) }
+        ensures sliced { IfOk result (λ d. config.variant ≡ Dynamic → IsSliced d) }
     {
         let Ok(state) = DomainState::new(alloc, config) else {
             return Err(DomainCreateError::OutOfMemory);
@@ -79,8 +80,8 @@ impl<T: Drop, U: Default + Drop, F: BackpressureFn, G: DegradationFn> Domain<T, 
     /// The domain's settings. A domain always shows some state, with some messages.
     pub fn config(&self) -> &ServiceConfig
         ensures value { result.now ≡ self.now.config }
-        ensures supported { IsSupportedConfig self.now.config }
-        ensures single_valued { (result.now).units_per_element ≡ 1 → IsSingleValued self.now }
+        ensures single_valued { (result.now).variant ≡ FixedSize → (result.now).units_per_element ≡ 1 → IsSingleValued self.now }
+        ensures sliced { (result.now).variant ≡ Dynamic → IsSliced self.now }
         ensures shown { (messages : Messages T U) × Shows self.now messages (state_of self.now) }
     {
         self.state.config()
@@ -97,10 +98,9 @@ impl<T: Drop, U: Default + Drop, F: BackpressureFn, G: DegradationFn> Domain<T, 
         self.state.refused_connections()
     }
 
-    /// What the payload of each message is: so far a single value.
+    /// What the payload of each message is: a single value, or a slice.
     pub fn variant(&self) -> TypeVariant
-        ensures value { result ≡ (self.now.config).variant }
-        ensures single { (self.now.config).variant ≡ FixedSize }
+        ensures { result ≡ (self.now.config).variant }
     {
         self.state.config().variant
     }

@@ -1,6 +1,7 @@
 -- Commands on loans, with what a run holds.
-use Rattle.std.proofs.Common.{◌≡◌, ℕ, false, List, [], ◌∷◌, ◌++◌, map, refl, sym, ap, subst, ◌∙◌, None, Some}
+use Rattle.std.proofs.Common.{◌≡◌, ℕ, true, false, List, [], ◌∷◌, ◌++◌, map, refl, sym, ap, subst, ◌∙◌, None, Some}
 use Rattle.std.specs.Prelude.{slice_set, slice_index_or}
+use Rattle.iox2_store.specs.SingleValues.{is_single_valued}
 use Rattle.iox2_store.specs.machine.Records.{Loan, Environment}
 use Rattle.iox2_store.specs.machine.State.{State, Messages, with_loan}
 use Rattle.iox2_store.specs.machine.Numbers.{put_at}
@@ -10,7 +11,6 @@ use Rattle.iox2_store.specs.machine.Sends.{Send, Delivered_to, Send_error}
 use Rattle.iox2_store.specs.declared.errors.LoanError.{LoanError}
 use Rattle.iox2_store.specs.declared.errors.SendError.{SendError}
 use Rattle.iox2_store.specs.declared.errors.SendError.TheVariants.{ConnectionBrokenSinceSenderNoLongerExists}
-use Rattle.iox2_store.specs.declared.service_config.TypeVariant.TheVariants.{FixedSize}
 use Rattle.iox2_laws.proofs.SendLaws.{send_advances}
 use Rattle.iox2_domain.specs.Kept.{Kept as Domain}
 use Rattle.iox2_domain.specs.Shows.{Shows}
@@ -29,6 +29,7 @@ use Rattle.iox2_runs.proofs.TableLooks.{is_publisher_entry, is_unwritten_entry, 
 use Rattle.iox2_runs.proofs.TableCalls.{write_comes, write_skipped, send_comes, send_lost_comes, send_skipped}
 use Rattle.iox2_runs.proofs.TableMakes.{loan_skipped, loan_elsewhere, loan_comes, loan_refused_comes, loan_any}
 use Rattle.iox2_runs.proofs.TableEntries.{entries-set, entry-stands, lacks}
+use Rattle.iox2_runs.proofs.SingleStates.{single_state, other_state}
 
 module _ {T U : Type 0} (environment : Environment) (defaults : Defaults T U) (old new : Domain T U) (table table' : List Made) (of : ℕ) where
   -- a written loan
@@ -66,18 +67,18 @@ module _ {T U : Type 0} (environment : Environment) (defaults : Defaults T U) (o
       (loan_skipped environment defaults (Shows new) m s handles events (map entry_for table) w default_value default_header is_value is_header of
       (lacks is_publisher_entry refl table of other) (subst (λ (d : Domain T U). Shows d m s) same shown))
 
-  pub loan_of_other : ((old.config).units_per_element ≡ 1 → ⊥) → old ≡ new → Carries environment defaults old new table (LoanUninit of) Skipped table Nothing
+  pub loan_of_other : is_single_valued old.config ≡ false → old ≡ new → Carries environment defaults old new table (LoanUninit of) Skipped table Nothing
   loan_of_other other same = λ m s handles events shown w default_value default_header is_value is_header.
       loan_elsewhere environment defaults (Shows new) m s handles events (map entry_for table) w default_value default_header is_value is_header of
-      (λ single. other (sym (ap (λ (t : State T U). (t.config).units_per_element) shown.state) ∙ single.1)) (subst (λ (d : Domain T U). Shows d m s) same shown)
+      (other_state old m s shown other) (subst (λ (d : Domain T U). Shows d m s) same shown)
 
   pub loan_carried : table' ≡ table → (h : PublisherHandle) (h' : SampleMutUninit) → slice_index_or table of Nothing ≡ MadePublisher h
-      → (old.config).variant ≡ FixedSize → (old.config).units_per_element ≡ 1
+      → is_single_valued old.config ≡ true
       → ((m : Messages T U) (s : State T U) → Shows old m s → (s' : State T U) × Shows new m s'
       × ((header : U) × defaults.IsDefaultHeader header × GrantLoan ample_memory header false 1 s h.id s' None))
       → h'.service_id ≡ (new.config).service_id → h'.loan.publisher ≡ h.id → h'.loan.number ≡ old.next_message
       → Carries environment defaults old new table (LoanUninit of) Loaned table' (Unwritten h')
-  loan_carried is h h' at variant units lends service publisher number = λ m s handles events shown w default_value default_header is_value is_header.
+  loan_carried is h h' at single lends service publisher number = λ m s handles events shown w default_value default_header is_value is_header.
       let lent = lends m s shown in
       let loan = lent.2 in
       let made : Unwritten_entry h'.service_id h.id s.next_message ≡ entry_for (Unwritten h') =
@@ -86,20 +87,20 @@ module _ {T U : Type 0} (environment : Environment) (defaults : Defaults T U) (o
       (subst (λ (k : TableEntry). Comes environment defaults (Shows new) m s handles events (LoanUninit of) Loaned (map entry_for table ++ k ∷ [])) made
       (loan_comes environment defaults (Shows new) m s handles events (map entry_for table) w default_value default_header is_value is_header of h.service_id h.id
       (entry-stands table of (MadePublisher h) at (λ e. let clash : MadePublisher h ≡ Nothing = e in cc))
-      (ap (λ (t : State T U). (t.config).variant) shown.state ∙ variant, ap (λ (t : State T U). (t.config).units_per_element) shown.state ∙ units)
+      (single_state old m s shown single)
       loan.0 loan.1 lent.0 (loan_any environment loan.0 false 1 s h.id lent.0 None loan.2) lent.1
       h'.service_id (service ∙ sym (ap (λ (t : State T U). (t.config).service_id) (lent.1).state))))
 
   pub loan_denied : table' ≡ table → (h : PublisherHandle) (e : LoanError) → slice_index_or table of Nothing ≡ MadePublisher h
-      → (old.config).variant ≡ FixedSize → (old.config).units_per_element ≡ 1
+      → is_single_valued old.config ≡ true
       → ((m : Messages T U) (s : State T U) → Shows old m s → (s' : State T U) × Shows new m s' × ((s' ≡ s) × ((header : U) → GrantLoan ample_memory header false 1 s h.id s' (Some e))))
       → Carries environment defaults old new table (LoanUninit of) (LoanRefused e) table' Nothing
-  loan_denied is h e at variant units refuses = λ m s handles events shown w default_value default_header is_value is_header.
+  loan_denied is h e at single refuses = λ m s handles events shown w default_value default_header is_value is_header.
       let refused = refuses m s shown in
       subst (λ (t : List Made). Comes environment defaults (Shows new) m s handles events (LoanUninit of) (LoanRefused e) (map entry_for t ++ No_entry ∷ [])) (sym is)
       (loan_refused_comes environment defaults (Shows new) m s handles events (map entry_for table) w default_value default_header is_value is_header of h.service_id h.id
       (entry-stands table of (MadePublisher h) at (λ e. let clash : MadePublisher h ≡ Nothing = e in cc))
-      (ap (λ (t : State T U). (t.config).variant) shown.state ∙ variant, ap (λ (t : State T U). (t.config).units_per_element) shown.state ∙ units)
+      (single_state old m s shown single)
       default_header is_header refused.0 e (loan_any environment default_header false 1 s h.id refused.0 (Some e) ((refused.2).1 default_header)) refused.1)
 
   -- ---- a send

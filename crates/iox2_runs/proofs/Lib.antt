@@ -6,6 +6,7 @@ pub mod TableSamples
 pub mod RunsOn
 pub mod TableEntries
 pub mod LiveEntries
+pub mod SingleStates
 pub mod RunLoop
 pub mod CarriedLoans
 pub mod CarriedDiscards

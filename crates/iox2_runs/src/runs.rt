@@ -3,6 +3,7 @@ ghost use Rattle.std.specs.Prelude.{◌≡◌, List, IfOk, IfErr};
 ghost use Rattle.std.specs.List.{All};
 ghost use Rattle.iox2_store.specs.machine.Environments.{fixed_handlers};
 ghost use Rattle.iox2_store.specs.machine.State.{State, Messages};
+ghost use Rattle.iox2_store.specs.declared.service_config.TypeVariant.TheVariants.{FixedSize};
 ghost use Rattle.iox2_domain.specs.Shows.{Shows};
 ghost use Rattle.iox2_pubsub.specs.Live.{Stays};
 ghost use Rattle.iox2_runs.specs.Leaves.{Leaves};
@@ -62,6 +63,7 @@ fn carry_out<
     table: &mut Vec<Made>,
     command: Command<T, U>,
 ) -> (Reply<T, U>, Made)
+    requires fixed_size { (domain.old.config).variant ≡ FixedSize }
     requires supported { IsSupportedCommand command }
     requires keeps { IsLiveTable domain.old table.old.items }
     ensures carries { Carries fixed_handlers (defaults_of T.is_default U.is_default) domain.old domain.new table.old.items command result.0 table.new.items result.1 }
@@ -128,16 +130,17 @@ fn carry_out<
 /// messages stay borrowed. The memory for the replies and for what the commands make is taken
 /// first. Where it is refused the commands are handed back, and none was carried out.
 ///
-/// So far a publisher discards what a full receiver doesn't take, has one segment and no handlers,
-/// and a command is one of those that make, update or close ports, take a message of a single value
-/// from its loan to its release, send a value at once, change a loan where it lies, read headers,
-/// give a loan back unsent, or ask whether messages wait.
+/// So far the domain is of the variant `FixedSize`, a publisher discards what a full receiver doesn't
+/// take, has one segment and no handlers, and a command is one of those that make, update or close
+/// ports, take a message of a single value from its loan to its release, send a value at once, change
+/// a loan where it lies, read headers, give a loan back unsent, or ask whether messages wait.
 pub fn run<T: Copy + Default + Drop, U: Copy + Default + Drop, F: BackpressureFn, G: DegradationFn>(
     alloc: Global,
     domain: &mut Domain<T, U, F, G>,
     commands: Vec<Command<T, U>>,
 ) -> Result<Vec<Reply<T, U>>, Vec<Command<T, U>>>
-    requires { All IsSupportedCommand commands.items }
+    requires fixed_size { (domain.old.config).variant ≡ FixedSize }
+    requires supported { All IsSupportedCommand commands.items }
     ensures ran { IfOk result (λ replies. (m : Messages T U) (s : State T U) → Shows domain.old m s
         → (events : List (Event T U)) × (m' : Messages T U) × (s' : State T U) × Shows domain.new m' s'
         × Run fixed_handlers (defaults_of T.is_default U.is_default) m s commands.items replies.items events m' s'

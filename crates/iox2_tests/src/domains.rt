@@ -1,5 +1,21 @@
-use crate::fixtures::{domain, settings};
-use iox2_store::TypeVariant;
+ghost use Rattle.iox2_pubsub.specs.Slices.{IsSliced};
+
+use crate::fixtures::{Reading, Station, domain, settings};
+use iox2_pubsub::{Domain, UpdateConnections};
+use iox2_store::{ServiceConfig, TypeVariant};
+use std::alloc::Global;
+use std::process::Abort;
+
+// A domain for slices.
+fn sliced_domain(rt: &impl Abort, alloc: Global) -> Domain<Reading, Station>
+    ensures { IsSliced result }
+{
+    let config = ServiceConfig {
+        variant: TypeVariant::Dynamic,
+        ..settings()
+    };
+    Domain::new(alloc, config).expect(rt, "a domain")
+}
 
 #[test]
 fn a_new_domain_has_its_settings(rt: HostRuntime) {
@@ -9,4 +25,24 @@ fn a_new_domain_has_its_settings(rt: HostRuntime) {
     drop(domain);
     assert!(rt; is_alike);
     assert!(rt; variant == TypeVariant::FixedSize);
+}
+
+// Ports are made and connected there as elsewhere.
+#[test]
+fn a_domain_may_be_for_slices(rt: HostRuntime) {
+    let mut domain = sliced_domain(&rt, rt.alloc());
+    let variant = domain.variant();
+    let factory = domain.publisher_builder();
+    let publisher = factory.create(&mut domain).expect(&rt, "a publisher");
+    let factory = domain.subscriber_builder();
+    let subscriber = factory.create(&mut domain).expect(&rt, "a subscriber");
+    let updated = publisher.update_connections(&mut domain);
+    let waits = subscriber.has_samples(&mut domain);
+    let connections = domain.connection_count();
+    publisher.close(&mut domain);
+    subscriber.close(&mut domain);
+    drop(domain);
+    assert!(rt; variant == TypeVariant::Dynamic);
+    assert!(rt; updated.is_ok() && waits == Ok(false));
+    assert_eq!(rt; connections, 1);
 }

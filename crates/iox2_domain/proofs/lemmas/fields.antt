@@ -1,5 +1,6 @@
 -- What the fields of a domain show of the machine, and where its ports stand.
 pub mod Views
+pub mod SingleSettings
 pub mod Parts
 pub mod ReachesShows
 pub mod ConnectionEnds

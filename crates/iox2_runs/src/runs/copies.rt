@@ -23,7 +23,7 @@ pub(crate) fn loan<T: Default + Drop, U: Default + Drop, F: BackpressureFn, G: D
     ensures carries { Carries fixed_handlers (defaults_of T.is_default U.is_default) domain.old domain.new table.now (Loan of) result.0 table.now result.1 }
     ensures leaves { Leaves domain.old domain.new table.now table.now result.1 }
 {
-    if domain.config().units_per_element != 1 {
+    if !domain.config().is_single_valued() {
         return (Reply::Skipped, Made::Nothing);
     }
     let Some(made) = table.get(of) else {
@@ -49,7 +49,7 @@ pub(crate) fn send_copy<T: Default + Drop, U: Default + Drop, F: BackpressureFn,
     ensures carries { Carries fixed_handlers (defaults_of T.is_default U.is_default) domain.old domain.new table.now (SendCopy of value) result table.now Nothing }
     ensures leaves { Leaves domain.old domain.new table.now table.now Nothing }
 {
-    if domain.config().units_per_element != 1 {
+    if !domain.config().is_single_valued() {
         return Reply::Skipped;
     }
     let Some(made) = table.get(of) else {

@@ -25,7 +25,7 @@ pub(crate) fn loan_uninit<
     ensures carries { Carries fixed_handlers (defaults_of T.is_default U.is_default) domain.old domain.new table.now (LoanUninit of) result.0 table.now result.1 }
     ensures leaves { Leaves domain.old domain.new table.now table.now result.1 }
 {
-    if domain.config().units_per_element != 1 {
+    if !domain.config().is_single_valued() {
         return (Reply::Skipped, Made::Nothing);
     }
     let Some(made) = table.get(of) else {

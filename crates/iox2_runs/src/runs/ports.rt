@@ -1,10 +1,11 @@
 //! Commands that make ports.
-ghost use Rattle.std.specs.Prelude.{ℕ};
+ghost use Rattle.std.specs.Prelude.{◌≡◌, ℕ};
 ghost use Rattle.std.specs.declared.option.Option.TheVariants.{None};
 ghost use Rattle.iox2_store.specs.machine.Environments.{fixed_handlers};
 ghost use Rattle.iox2_store.specs.declared.allocation.AllocationStrategy.TheVariants.{Static};
 ghost use Rattle.iox2_store.specs.declared.backpressure.BackpressureStrategy.TheVariants.{DiscardData};
 ghost use Rattle.iox2_store.specs.declared.degradation.DegradationAction.TheVariants.{Warn};
+ghost use Rattle.iox2_store.specs.declared.service_config.TypeVariant.TheVariants.{FixedSize};
 ghost use Rattle.iox2_runs.specs.Leaves.{Leaves};
 ghost use Rattle.iox2_runs.specs.Carries.{IsLiveTable, Carries, defaults_of};
 ghost use Rattle.iox2_commands.specs.declared.command.Command.TheVariants.{CreatePublisher, CreateSubscriber};
@@ -21,13 +22,12 @@ pub(crate) fn create_publisher<
     F: BackpressureFn,
     G: DegradationFn,
 >(domain: &mut Domain<T, U, F, G>, table: &[Made], loans: usize) -> (Reply<T, U>, Made)
-    requires { IsLiveTable domain.old table.now }
+    requires keeps { IsLiveTable domain.old table.now }
+    requires fixed_size { (domain.old.config).variant ≡ FixedSize }
     ensures carries { (len : ℕ) → Carries fixed_handlers (defaults_of T.is_default U.is_default) domain.old domain.new table.now
         (CreatePublisher loans DiscardData Static len None Warn None) result.0 table.now result.1 }
     ensures leaves { Leaves domain.old domain.new table.now table.now result.1 }
 {
-    // For the proof alone: the machine reads the command by the variant.
-    domain.variant();
     match domain
         .publisher_builder()
         .max_loaned_samples(loans)

@@ -2,6 +2,7 @@
 ghost use Rattle.std.specs.Prelude.{◌≡◌, ◌==◌, cond};
 ghost use Rattle.iox2_commands.specs.declared.reply.Reply.TheVariants.{Cell, Skipped};
 ghost use Rattle.iox2_store.specs.machine.Environments.{fixed_handlers};
+ghost use Rattle.iox2_store.specs.declared.service_config.TypeVariant.TheVariants.{FixedSize};
 ghost use Rattle.iox2_runs.specs.Rooms.{SameRoom};
 ghost use Rattle.iox2_runs.specs.Leaves.{Leaves};
 ghost use Rattle.iox2_runs.specs.Carries.{IsLiveTable, Carries, defaults_of};
@@ -74,7 +75,8 @@ pub(crate) fn receive<T: Default + Drop, U: Default + Drop, F: BackpressureFn, G
     table: &[Made],
     of: usize,
 ) -> (Reply<T, U>, Made)
-    requires { IsLiveTable domain.old table.now }
+    requires keeps { IsLiveTable domain.old table.now }
+    requires fixed_size { (domain.old.config).variant ≡ FixedSize }
     ensures carries { Carries fixed_handlers (defaults_of T.is_default U.is_default) domain.old domain.new table.now (Receive of) result.0 table.now result.1 }
     ensures leaves { Leaves domain.old domain.new table.now table.now result.1 }
 {

@@ -455,7 +455,6 @@ module _ {T U : Type 0} (f : Fields T U) (sound : IsDomain f) (i : ℕ) (x : Pub
       warning_room = sound.parts.warning_room;
       shapes = shapes;
       forms = sound.parts.forms;
-      supported = sound.parts.supported;
       plain = plain;
       plain_subscribers = λ k y at_y. let was = subscriber-was k y at_y in
           subst IsPlainSubscriber (sym was.2) (record { degradation = (sound.parts.plain_subscribers k was.0 was.1).degradation });

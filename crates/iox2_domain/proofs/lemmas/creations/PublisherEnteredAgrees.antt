@@ -271,7 +271,6 @@ module _ {T U : Type 0} (f : Fields T U) (place loans len loan_room key_room key
       warning_room = enters.sound.parts.warning_room;
       shapes = record { at = shaped };
       forms = enters.forms;
-      supported = enters.sound.parts.supported;
       plain = λ i x at. elim (was i x at) [ inl e ↦ rw e.1 (record { strategy = refl; backpressure = refl; degradation = refl; unblocked = refl; allocation = refl }) | inr old ↦ enters.sound.parts.plain i x old ];
       plain_subscribers = enters.sound.parts.plain_subscribers;
     };

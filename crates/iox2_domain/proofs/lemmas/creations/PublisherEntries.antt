@@ -66,7 +66,6 @@ module _ {T U : Type 0} (f : Fields T U) where
       warning_room = sound.parts.warning_room;
       shapes = record { at = sound.parts.shapes.at };
       forms = sound.parts.forms;
-      supported = sound.parts.supported;
       plain = sound.parts.plain;
       plain_subscribers = sound.parts.plain_subscribers;
     };

@@ -137,7 +137,6 @@ module _ {T U : Type 0} (f : Fields T U) (sound : IsDomain f) (warnings : Warnin
       warning_room = room;
       shapes = record { at = sound.parts.shapes.at };
       forms = sound.parts.forms;
-      supported = sound.parts.supported;
       plain = sound.parts.plain;
       plain_subscribers = λ i y at. elim (was i y at) [ inl e ↦ rw e (record { degradation = refl }) | inr old ↦ sound.parts.plain_subscribers i y old ];
     };

@@ -139,7 +139,6 @@ module _ {T U : Type 0} (f : Fields T U) (sound : IsDomain f) (p n key slot : â„
     warning_room = sound.parts.warning_room;
     shapes = left-shapes f parts key at.book at.stands slot n at.loan lies alone;
     forms = sound.parts.forms;
-    supported = sound.parts.supported;
     plain = sound.parts.plain;
     plain_subscribers = sound.parts.plain_subscribers;
   }

@@ -269,7 +269,6 @@ module _ {T U : Type 0} (f : Fields T U) (parts : HasParts f) (publishers : List
     warning_room = parts.warning_room;
     shapes = record { at = parts.shapes.at };
     forms = parts.forms;
-    supported = parts.supported;
     plain = λ i x at. let was = g.senders i x at in let has = parts.plain i was.0 was.1 in
         subst IsPlain (sym was.2.fields)
         (record { strategy = has.strategy; backpressure = has.backpressure; degradation = has.degradation; unblocked = has.unblocked; allocation = has.allocation });

@@ -242,7 +242,6 @@ module _ {T U : Type 0} (f : Fields T U) (sound : IsDomain f) (p n key slot : â„
           warning_room = sound.parts.warning_room;
           shapes = change-shapes;
           forms = slot-forms f sound key slot at.book at.stands cs at_c mark g change.form sound.parts.forms;
-          supported = sound.parts.supported;
           plain = sound.parts.plain;
           plain_subscribers = sound.parts.plain_subscribers;
         };

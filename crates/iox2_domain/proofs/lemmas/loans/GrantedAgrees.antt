@@ -278,7 +278,6 @@ module _ {T U : Type 0} (f : Fields T U) (sound : IsDomain f) (i : ℕ) (x : Pub
         warning_room = sound.parts.warning_room;
         shapes = granted-shapes;
         forms = forms-changed f.config f.contents x.book slot can.contents can.has (unwritten_content user_header (len * (f.config).units_per_element)) (λ c. refl) sound.parts.forms;
-        supported = sound.parts.supported;
         plain = changed-plain mid i x new_lender at refl sound.parts.plain keeps;
         plain_subscribers = sound.parts.plain_subscribers;
       };

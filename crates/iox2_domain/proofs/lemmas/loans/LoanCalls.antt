@@ -1,33 +1,30 @@
 -- What calls on a loan that is out read and write.
-use Rattle.std.proofs.Common.{◌≡◌, ℕ, ◌<◌, ◌==◌, Bool, is_some, List, [], ◌∷◌, map, length, true, false, get_or, slice_set, refl, ap, sym, subst, ◌∙◌, arith}
+use Rattle.std.proofs.Common.{◌≡◌, ℕ, ◌<◌, Bool, is_some, List, [], ◌∷◌, map, length, true, false, get_or, slice_set, refl, ap, sym, subst, ◌∙◌, arith}
 use Rattle.std.proofs.lemmas.List.{get_or_default, length-map, set-get_or}
 use Rattle.std.proofs.lemmas.Option.{slice_get_within, get_or_from_slice_get}
 use Rattle.std.specs.Prelude.{slice_get, IsSomeAnd}
 use Rattle.std.specs.List.{All, list_all}
 use Rattle.std.specs.Bool.{MatchBool}
-use Rattle.std.proofs.lemmas.Bool.{eqb-true}
 use Rattle.std.specs.declared.option.Option.{Option}
 use Rattle.std.specs.declared.option.Option.TheVariants.{None, Some}
 use Rattle.std.specs.Option.{option_map, option_and_then}
 use Rattle.slab.specs.Slab.{get, with_value}
 use Rattle.iox2_store.specs.machine.Records.{Loan}
 use Rattle.iox2_store.specs.machine.State.{State, with_loan}
-use Rattle.iox2_store.specs.SingleValues.{is_fixed_size, is_single_valued}
+use Rattle.iox2_store.specs.SingleValues.{is_single_valued}
 use Rattle.iox2_store.specs.machine.Loans.{is_initialized}
 use Rattle.iox2_store.specs.SlotBook.{Book}
 use Rattle.iox2_store.specs.SlotContents.{ContentState, SomeAt, WritesValues, AssumesWritten, with_changed, written_content, first_cell_at, first_value_at, cells_at, values_at, user_header_at}
 use Rattle.iox2_store.specs.declared.header.Header.{Header}
-use Rattle.iox2_store.specs.declared.service_config.ServiceConfig.{ServiceConfig}
-use Rattle.iox2_store.specs.declared.service_config.TypeVariant.{TypeVariant}
-use Rattle.iox2_store.specs.declared.service_config.TypeVariant.TheVariants.{FixedSize, Dynamic}
 use Rattle.iox2_store.specs.declared.slots.mark.SlotMark.TheVariants.{Written}
 use Rattle.iox2_domain.specs.Reaches.{Reaches}
-use Rattle.iox2_ends.proofs.MailboxChanges.{within_if_some, both-true}
+use Rattle.iox2_ends.proofs.MailboxChanges.{within_if_some}
 use Rattle.iox2_domain.specs.Kept.{Lent_message, state_of}
 use Rattle.iox2_domain.specs.Fields.{Fields, kept_of, contents_at}
 use Rattle.iox2_domain.specs.Invariant.{IsDomain}
 use Rattle.iox2_domain.specs.LoanSlots.{LiesInSlot}
 use Rattle.iox2_domain.specs.LoanCalls.{HoldsUnwritten, HoldsWritten, HasCells, HasCell, HasLoanHeader, HasLoanUserHeader, HasContents, with_mark, with_values_written, WritesLoan, AssumesLoan}
+use Rattle.iox2_domain.proofs.lemmas.fields.SingleSettings.{single-settings}
 use Rattle.iox2_domain.proofs.lemmas.slots.Messages.{LiesIn, message_in-parts}
 use Rattle.iox2_domain.proofs.lemmas.loans.ChangedLoan.{one-cell, unwritten-parts, written-parts, loan-header, loan-user_header, loan-parts, with_change, change-reaches}
 use Rattle.iox2_domain.proofs.lemmas.loans.LoanChanges.{values-written}
@@ -223,16 +220,6 @@ module _ {T U : Type 0} (f : Fields T U) (sound : IsDomain f) (p n key slot : �
         write-done f sound p n key slot at there was-there unwritten values long at.book at.stands mid _ marked there left has writes.written refl
 
 -- ---- cells are taken as written
-
--- the two settings of a domain of single values
-single-settings : (c : ServiceConfig) → is_single_valued c ≡ true → (c.variant ≡ FixedSize) × (c.units_per_element ≡ 1)
-single-settings c e =
-    let both = both-true (is_fixed_size c.variant) (c.units_per_element == 1) e in
-    (by c.variant both.0, eqb-true c.units_per_element 1 both.1)
-  where
-    by : (v : TypeVariant) → is_fixed_size v ≡ true → v ≡ FixedSize
-    by FixedSize e = refl
-    by Dynamic e = absurd cc
 
 module _ {T U : Type 0} (f : Fields T U) (sound : IsDomain f) (p n key slot : ℕ) (at : LiesInSlot f p n key slot)
     (there : List (ContentState T U)) (has : get_or f.contents key None ≡ Some there) (live : HoldsUnwritten (state_of (kept_of f)) p n) where

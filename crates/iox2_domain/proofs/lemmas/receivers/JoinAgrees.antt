@@ -207,7 +207,6 @@ module _ {T U : Type 0} (f : Fields T U) (sound : IsDomain f) (j : ℕ) (y : Sub
       warning_room = room;
       shapes = record { at = sound.parts.shapes.at };
       forms = sound.parts.forms;
-      supported = sound.parts.supported;
       plain = sound.parts.plain;
       plain_subscribers = λ k z at_z. elim (stood k z at_z) [
         | inl here ↦ rw here.1 (record { degradation = (sound.parts.plain_subscribers j y at).degradation })

@@ -56,7 +56,6 @@ parts-warned f warnings parts room = record {
   warning_room = room;
   shapes = record { at = parts.shapes.at };
   forms = parts.forms;
-  supported = parts.supported;
   plain = parts.plain;
   plain_subscribers = parts.plain_subscribers;
 }

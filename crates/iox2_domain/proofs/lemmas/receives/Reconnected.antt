@@ -97,7 +97,6 @@ module _ {T U : Type 0} (f : Fields T U) (sound : IsDomain f) (key : ℕ) (c : L
     warning_room = sound.parts.warning_room;
     shapes = record { at = sound.parts.shapes.at };
     forms = sound.parts.forms;
-    supported = sound.parts.supported;
     plain = sound.parts.plain;
     plain_subscribers = sound.parts.plain_subscribers;
   }

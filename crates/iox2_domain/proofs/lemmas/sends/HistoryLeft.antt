@@ -249,7 +249,6 @@ module _ {T U : Type 0} (f : Fields T U) (parts : HasParts f) (i : ℕ) (x : Pub
     warning_room = parts.warning_room;
     shapes = shapes;
     forms = parts.forms;
-    supported = parts.supported;
     plain = changed-plain f i x shorter here refl parts.plain settings;
     plain_subscribers = parts.plain_subscribers;
   }

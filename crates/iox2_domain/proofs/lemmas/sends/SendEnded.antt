@@ -301,7 +301,6 @@ module _ {T U : Type 0} (f : Fields T U) (parts : HasParts f) (i : ℕ) (x : Pub
     warning_room = parts.warning_room;
     shapes = ended-shapes;
     forms = parts.forms;
-    supported = parts.supported;
     plain = changed-plain f i x (with_remembered slot x) here refl parts.plain keeps;
     plain_subscribers = parts.plain_subscribers;
   }

@@ -257,7 +257,6 @@ module _ {T U : Type 0} (f : Fields T U) (parts : HasParts f) (key : ℕ) (b : B
     warning_room = parts.warning_room;
     shapes = shapes;
     forms = forms;
-    supported = parts.supported;
     plain = parts.plain;
     plain_subscribers = parts.plain_subscribers;
   }

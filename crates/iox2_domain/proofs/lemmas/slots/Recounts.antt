@@ -244,7 +244,6 @@ module _ {T U : Type 0} (f : Fields T U) (parts : HasParts f) (p key : ℕ) (b :
     warning_room = parts.warning_room;
     shapes = shapes;
     forms = parts.forms;
-    supported = parts.supported;
     plain = parts.plain;
     plain_subscribers = parts.plain_subscribers;
   }

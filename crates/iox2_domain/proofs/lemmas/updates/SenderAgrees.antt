@@ -235,7 +235,6 @@ module _ {T U : Type 0} (f : Fields T U) (sound : IsDomain f) (i : ℕ) (x : Pub
       warning_room = room;
       shapes = record { at = sound.parts.shapes.at };
       forms = sound.parts.forms;
-      supported = sound.parts.supported;
       plain = λ k z at_z. elim (stood k z at_z) [
         | inl here ↦ rw here.1 (let has = sound.parts.plain i x at in record { strategy = has.strategy; backpressure = has.backpressure; degradation = has.degradation; unblocked = has.unblocked; allocation = has.allocation })
         | inr old ↦ sound.parts.plain k z old

@@ -37,8 +37,8 @@ returns-in-Nothing-clause-carries g c = rw c.in-Nothing.is (λ m s handles event
 pub returns-in-LoanUninit-clause-carries : goal.returns-in-LoanUninit-clause-carries
 returns-in-LoanUninit-clause-carries g c = rw (c.in-LoanUninit.is, sym c.deref-in-LoanUninit.ensures.value) c.loan_uninit.ensures.carries
 
-pub create_publisher-requires : goal.create_publisher-requires
-create_publisher-requires g c = rw c.deref.ensures.value c.requires.keeps
+pub create_publisher-requires-clause-keeps : goal.create_publisher-requires-clause-keeps
+create_publisher-requires-clause-keeps g c = rw c.deref.ensures.value c.requires.keeps
 
 pub create_subscriber-requires : goal.create_subscriber-requires
 create_subscriber-requires g c = rw c.deref-in-CreateSubscriber.ensures.value c.requires.keeps
@@ -58,8 +58,8 @@ discard-requires g c = c.requires.keeps
 pub update-requires : goal.update-requires
 update-requires g c = rw c.deref-in-Update.ensures.value c.requires.keeps
 
-pub receive-requires : goal.receive-requires
-receive-requires g c = rw c.deref-in-Receive.ensures.value c.requires.keeps
+pub receive-requires-clause-keeps : goal.receive-requires-clause-keeps
+receive-requires-clause-keeps g c = rw c.deref-in-Receive.ensures.value c.requires.keeps
 
 pub has_samples-requires : goal.has_samples-requires
 has_samples-requires g c = rw c.deref-in-HasSamples.ensures.value c.requires.keeps

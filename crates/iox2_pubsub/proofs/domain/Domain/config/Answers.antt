@@ -1,6 +1,7 @@
 use Rattle.std.proofs.Common.{ap, sym, ◌∙◌}
 use Rattle.iox2_store.specs.declared.service_config.ServiceConfig.{ServiceConfig}
 use Rattle.iox2_pubsub.proofs.LiveParts.{single-valued}
+use Rattle.iox2_pubsub.proofs.SliceParts.{dynamic-sliced}
 use Rattle.iox2_domain.specs.Fields.{kept_of}
 use Rattle.iox2_domain.specs.Kept.{Kept, entries_of}
 use Rattle.iox2_pubsub.proofs.AlwaysShows.{shows_itself}
@@ -13,10 +14,11 @@ pub returns-clause-shown : goal.returns-clause-shown
 returns-clause-shown g c =
     rw (← c.self.view_is) (entries_of (kept_of c.self.inside.state), shows_itself {T = g.row.T.Denot} {U = g.row.U.Denot} c.self.inside.state c.self.invariant)
 
-pub returns-clause-supported : goal.returns-clause-supported
-returns-clause-supported g c = rw (← c.self.view_is) c.self.invariant.parts.supported
-
 pub returns-clause-single_valued : goal.returns-clause-single_valued
-returns-clause-single_valued g c = λ units.
+returns-clause-single_valued g c = λ variant units.
     let value = returns-clause-value g c in
-    single-valued c.args.self.now (returns-clause-supported g c).single_values (ap (λ (config : ServiceConfig). config.units_per_element) (sym value) ∙ units)
+    single-valued c.args.self.now (ap (λ (config : ServiceConfig). config.variant) (sym value) ∙ variant) (ap (λ (config : ServiceConfig). config.units_per_element) (sym value) ∙ units)
+
+pub returns-clause-sliced : goal.returns-clause-sliced
+returns-clause-sliced g c = λ dynamic.
+    dynamic-sliced c.args.self.now (ap (λ (config : ServiceConfig). config.variant) (sym (returns-clause-value g c)) ∙ dynamic)

@@ -3,10 +3,7 @@ use Rattle.iox2_store.specs.declared.service_config.ServiceConfig.{ServiceConfig
 use Rattle.iox2_domain.specs.Kept.{Kept}
 use Rattle.iox2_pubsub.proofs.domain.Domain.variant.Goals as goal
 
-pub returns-clause-value : goal.returns-clause-value
-returns-clause-value g c =
+pub returns : goal.returns
+returns g c =
     ap (λ (config : ServiceConfig). config.variant)
     (c.config.ensures ∙ ap (λ (k : Kept g.row.T.Denot g.row.U.Denot). k.config) c.self.view_is)
-
-pub returns-clause-single : goal.returns-clause-single
-returns-clause-single g c = rw (← c.self.view_is) c.self.invariant.parts.supported.single_values

@@ -1,5 +1,6 @@
 use Rattle.std.proofs.Common.{refl, sym, ap, ◌∙◌}
-use Rattle.iox2_store.specs.declared.service_config.ServiceConfig.{ServiceConfig}
+use Rattle.iox2_store.specs.SingleValues.{is_single_valued}
+use Rattle.iox2_domain.proofs.lemmas.fields.SingleSettings.{single-settings}
 use Rattle.iox2_runs.specs.Carries.{entry_for}
 use Rattle.iox2_runs.specs.declared.runs.made.Made.{Made}
 use Rattle.iox2_runs.proofs.TableLooks.{is_publisher_entry}
@@ -11,10 +12,10 @@ use Rattle.iox2_pubsub.proofs.StaysBut.{nothing-is-new}
 use Rattle.iox2_runs.specs.declared.runs.made.Made.TheVariants.{Nothing}
 use Rattle.iox2_runs.proofs.runs.copies.send_copy.Goals as goal
 
-pub returns-then-config-ne1-clause-carries : goal.returns-then-config-ne1-clause-carries
-returns-then-config-ne1-clause-carries g c =
+pub returns-then-not-is_single_valued-clause-carries : goal.returns-then-not-is_single_valued-clause-carries
+returns-then-not-is_single_valued-clause-carries g c =
     copy_of_other {T = g.row.T.Denot} {U = g.row.U.Denot} _ c.args.domain.now c.args.domain.now c.args.table.now c.args.of c.args.value
-    (λ units. c.if-config-ne1.true (ap (λ (k : ServiceConfig). k.units_per_element) c.config.ensures.value ∙ units)) refl
+    (ap is_single_valued (sym c.config.ensures.value) ∙ sym c.is_single_valued.ensures ∙ c.if-not-is_single_valued.true) refl
 
 pub send_copy-requires-clause-live : goal.send_copy-requires-clause-live
 send_copy-requires-clause-live g c =
@@ -22,14 +23,16 @@ send_copy-requires-clause-live g c =
     (looked c.args.table.now c.args.of c.get.result c.in-Some.made _ c.get.ensures.lookup c.in-Some.is c.in-Publisher.is)
 
 pub send_copy-requires-clause-single_valued : goal.send_copy-requires-clause-single_valued
-send_copy-requires-clause-single_valued g c = c.config.ensures.single_valued c.if-config-ne1.false
+send_copy-requires-clause-single_valued g c =
+    let single = single-settings c.config.result.now (sym c.is_single_valued.ensures ∙ c.if-not-is_single_valued.false) in
+    c.config.ensures.single_valued single.0 single.1
 
 pub returns-in-Ok-clause-carries : goal.returns-in-Ok-clause-carries
 returns-in-Ok-clause-carries g c =
     copy_carried {T = g.row.T.Denot} {U = g.row.U.Denot} _ c.args.domain.now c.send_copy.new.domain c.args.table.now c.args.of
     c.in-Publisher.publisher c.args.value c.in-Ok.outcome c.delivered_count.result c.delivered_count.ensures
     (looked c.args.table.now c.args.of c.get.result c.in-Some.made _ c.get.ensures.lookup c.in-Some.is c.in-Publisher.is)
-    c.config.ensures.supported.single_values (ap (λ (k : ServiceConfig). k.units_per_element) (sym c.config.ensures.value) ∙ c.if-config-ne1.false)
+    (ap is_single_valued (sym c.config.ensures.value) ∙ sym c.is_single_valued.ensures ∙ c.if-not-is_single_valued.false)
     c.in-Ok.ensures.sends
 
 pub returns-in-Err-clause-carries : goal.returns-in-Err-clause-carries
@@ -37,7 +40,7 @@ returns-in-Err-clause-carries g c =
     copy_denied {T = g.row.T.Denot} {U = g.row.U.Denot} _ c.args.domain.now c.send_copy.new.domain c.args.table.now c.args.of
     c.in-Publisher.publisher c.args.value c.in-Err.error
     (looked c.args.table.now c.args.of c.get.result c.in-Some.made _ c.get.ensures.lookup c.in-Some.is c.in-Publisher.is)
-    c.config.ensures.supported.single_values (ap (λ (k : ServiceConfig). k.units_per_element) (sym c.config.ensures.value) ∙ c.if-config-ne1.false)
+    (ap is_single_valued (sym c.config.ensures.value) ∙ sym c.is_single_valued.ensures ∙ c.if-not-is_single_valued.false)
     c.in-Err.ensures.sends
 
 pub returns-in_default-made-clause-carries : goal.returns-in_default-made-clause-carries
@@ -50,8 +53,8 @@ returns-in_default-clause-carries g c =
     copy_passed {T = g.row.T.Denot} {U = g.row.U.Denot} _ c.args.domain.now c.args.domain.now c.args.table.now c.args.of c.args.value
     (ap (λ (h : Made). is_publisher_entry (entry_for h)) (looked_past c.args.table.now c.args.of c.get.result c.get.ensures.lookup c.in_default.is)) refl
 
-pub returns-then-config-ne1-clause-leaves : goal.returns-then-config-ne1-clause-leaves
-returns-then-config-ne1-clause-leaves g c =
+pub returns-then-not-is_single_valued-clause-leaves : goal.returns-then-not-is_single_valued-clause-leaves
+returns-then-not-is_single_valued-clause-leaves g c =
     leaves-all {T = g.row.T.Denot} {U = g.row.U.Denot} c.args.domain.now c.args.domain.now c.args.table.now c.args.table.now refl refl
 
 pub returns-in-Ok-clause-leaves : goal.returns-in-Ok-clause-leaves

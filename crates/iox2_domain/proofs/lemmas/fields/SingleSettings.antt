@@ -1,0 +1,30 @@
+-- The settings of a service whose messages are single values.
+use Rattle.std.proofs.Common.{◌≡◌, true, false, ◌==◌, ◌&&◌, refl, ap, sym, ◌∙◌}
+use Rattle.std.proofs.lemmas.Bool.{eqb-true, eq-eqb}
+use Rattle.iox2_store.specs.SingleValues.{is_fixed_size, is_single_valued}
+use Rattle.iox2_store.specs.declared.service_config.ServiceConfig.{ServiceConfig}
+use Rattle.iox2_store.specs.declared.service_config.TypeVariant.{TypeVariant}
+use Rattle.iox2_store.specs.declared.service_config.TypeVariant.TheVariants.{FixedSize, Dynamic}
+use Rattle.iox2_ends.proofs.MailboxChanges.{both-true}
+
+module _ (c : ServiceConfig) where
+  -- it has both of these
+  pub single-settings : is_single_valued c ≡ true → (c.variant ≡ FixedSize) × (c.units_per_element ≡ 1)
+  single-settings e =
+      let both = both-true (is_fixed_size c.variant) (c.units_per_element == 1) e in
+      (by c.variant both.0, eqb-true c.units_per_element 1 both.1)
+    where
+      by : (v : TypeVariant) → is_fixed_size v ≡ true → v ≡ FixedSize
+      by FixedSize e = refl
+      by Dynamic e = absurd cc
+
+  -- no other service has both
+  pub not-single : is_single_valued c ≡ false → c.variant ≡ FixedSize → c.units_per_element ≡ 1 → ⊥
+  not-single other variant units =
+      let single : is_single_valued c ≡ true =
+      ap (λ (v : TypeVariant). is_fixed_size v && (c.units_per_element == 1)) variant ∙ eq-eqb c.units_per_element 1 units in
+      let clash : false ≡ true = sym other ∙ single in cc
+
+  -- a service for slices is another one
+  pub dynamic-several : c.variant ≡ Dynamic → is_single_valued c ≡ false
+  dynamic-several dynamic = ap (λ (v : TypeVariant). is_fixed_size v && (c.units_per_element == 1)) dynamic
