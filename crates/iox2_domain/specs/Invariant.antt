@@ -26,7 +26,7 @@ use Rattle.iox2_ends.specs.Finds.{IsReceiverLinked}
 use Rattle.iox2_ends.specs.Receivers.{KnowsReceivers}
 use Rattle.iox2_ends.specs.Counters.{times, stands}
 use Rattle.iox2_ends.specs.declared.sender.ReceiverDetails.{ReceiverDetails}
-use Rattle.iox2_domain.specs.Ports.{PublisherFields, SubscriberFields}
+use Rattle.iox2_domain.specs.Ports.{PublisherFields, SubscriberFields, slot_length}
 use Rattle.iox2_domain.specs.Kept.{KeptMessage, state_of, header_of, length_of}
 use Rattle.iox2_domain.specs.Fields.{Fields, kept_of, is_book_of, message_in, contents_at}
 use Rattle.iox2_domain.specs.Shows.{KeepsEntries}
@@ -45,13 +45,11 @@ is_subscriber q y = y.id == q
 abbrev pub details_of : SubscriberFields → ReceiverDetails
 details_of y = record { port_id = y.id; buffer_size = y.buffer; is_open = y.is_open }
 
--- No call that can't fail has to make room for the publisher. The size of its slots fits a machine word, and where messages are
--- single values, so are its longest loans.
+-- No call that can't fail has to make room for the publisher. The size of its slots fits a machine word.
 pub record HasPublisherRoom (config : ServiceConfig) (x : PublisherFields) : Type 0 where
   pub loans : x.max_loaned_samples ≤ x.loan_room
   pub history : (x.history).capacity ≡ config.history_size
   pub size : segment_fits config x.slots x.initial_max_slice_len ≡ true
-  pub single : config.variant ≡ FixedSize → x.initial_max_slice_len ≡ 1
 
 -- ---- connections
 
@@ -131,14 +129,14 @@ pub record IsBook {T U : Type 0} (b : Book) (contents : Option (List (ContentSta
   pub shaped : IsSomeAnd contents (λ cs. length cs ≡ length b.holders)
 
 -- The publisher's book has at least its slots, and no more where its memory doesn't grow. Each has room for the publisher's
--- first longest slice.
+-- first longest slice, and for one element at least.
 pub record HasBook {T U : Type 0} (f : Fields T U) (x : PublisherFields) : Type 0 where
   pub book : Book
   pub stands : get f.books x.book ≡ Some book
   pub is_its : book.publisher ≡ x.id
   pub slots : x.slots ≤ length book.holders
   pub no_more : is_static x.allocation ≡ true → length book.holders ≡ x.slots
-  pub room : IsSomeAnd (slice_index_or f.contents x.book None) (All (λ content. x.initial_max_slice_len * (f.config).units_per_element ≤ content.room))
+  pub room : IsSomeAnd (slice_index_or f.contents x.book None) (All (λ content. slot_length x.initial_max_slice_len * (f.config).units_per_element ≤ content.room))
 
 -- Each book has its contents, and each publisher its book. Nothing else has contents.
 pub record HasBooks {T U : Type 0} (f : Fields T U) : Type 0 where

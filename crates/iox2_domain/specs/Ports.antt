@@ -1,5 +1,5 @@
 -- What contracts inside this crate see of a publisher and a subscriber: keys of connections and numbers of slots.
-use Rattle.std.specs.Prelude.{ℕ, Bool, true, List, []}
+use Rattle.std.specs.Prelude.{ℕ, Bool, true, max, List, []}
 use Rattle.std.specs.declared.option.Option.{Option}
 use Rattle.circular_buffer.specs.Buffer.{Buffer}
 use Rattle.iox2_store.specs.machine.Records.{Handler, Fixed}
@@ -49,6 +49,10 @@ pub record SubscriberFields : Type 0 where
   pub expired : List ℕ  -- the keys of its connections with departed publishers, in order of entry
   pub expired_room : ℕ  -- so many fit with no allocation
   pub is_due : Bool
+
+-- How many elements each slot of a publisher has room for: as many as its first longest slice has, and one at least.
+abbrev pub slot_length : (initial_max_slice_len : ℕ) → ℕ
+slot_length initial_max_slice_len = max 1 initial_max_slice_len
 
 -- The publisher, due for an update.
 abbrev pub due : PublisherFields → PublisherFields

@@ -15,6 +15,7 @@ mod publisher_state;
 mod sample_slots;
 mod state;
 mod subscriber_state;
+mod units;
 mod warnings;
 
 pub use loan_slots::LoanAt;
@@ -30,4 +31,5 @@ pub use state::DomainState;
 pub use subscriber_state::{
     SubscriberState, expire_at, forget_at, is_open_at, replace_expired_at, reserve_connection_at,
 };
+pub use units::units_of;
 pub use warnings::Warnings;

@@ -74,7 +74,6 @@ impl PublisherState {
     ghost use Rattle.iox2_domain.specs.Invariant.{HasPublisherRoom};
     ghost use Rattle.std.specs.Prelude.{true};
     ghost use Rattle.iox2_store.specs.machine.Limits.{segment_fits};
-    ghost use Rattle.iox2_store.specs.declared.service_config.TypeVariant.TheVariants.{FixedSize};
     ghost use Rattle.iox2_domain.specs.NewPublisher.{entering_publisher};
 
     /// A publisher that enters at a place, with a book at a key of so many slots for messages of so
@@ -90,8 +89,7 @@ impl PublisherState {
         slots: usize,
         initial_max_slice_len: usize,
     ) -> Result<Self, AllocError>
-        requires size { segment_fits config.now slots initial_max_slice_len ≡ true }
-        requires single { (config.now).variant ≡ FixedSize → initial_max_slice_len ≡ 1 }
+        requires { segment_fits config.now slots initial_max_slice_len ≡ true }
         ensures enters { IfOk result (λ x. x ≡ entering_publisher id place book max_loaned_samples slots initial_max_slice_len x.loan_room (buffer [] (config.now).history_size) x.key_room) }
         ensures room { IfOk result (HasPublisherRoom config.now) }
     {

@@ -9,7 +9,7 @@ ghost use Rattle.iox2_domain.specs.Ports.{PublisherFields};
 ghost use Rattle.iox2_domain.specs.Invariant.{IsDomain};
 
 use crate::reclaims::reclaim_if_full;
-use iox2_domain::{DomainState, LoanAt, PublisherState};
+use iox2_domain::{DomainState, LoanAt, PublisherState, units_of};
 use iox2_store::{AllocationStrategy, Contents, Header, LoanError, UniqueNodeId};
 
 // In the slot starts a loan of that length.
@@ -128,7 +128,7 @@ fn grant<T: Drop, U: Default + Drop>(
     start(
         &mut state.contents[key],
         slot,
-        len * state.config.units_per_element,
+        units_of(len, state.config.units_per_element),
     );
     publisher.lend(slot, len);
     LoanAt {

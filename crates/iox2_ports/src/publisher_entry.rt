@@ -4,7 +4,6 @@ ghost use Rattle.iox2_store.specs.machine.Limits.{worst_case, segment_fits};
 ghost use Rattle.iox2_store.specs.machine.Environments.{fixed_handlers};
 ghost use Rattle.iox2_store.specs.machine.Ports.{CreatePublisher, with_new_publisher};
 ghost use Rattle.iox2_store.specs.declared.errors.PublisherCreateError.TheVariants.{UnableToCreateDataSegment, FailedToDeployThreadsafetyPolicy};
-ghost use Rattle.iox2_store.specs.declared.service_config.TypeVariant.TheVariants.{FixedSize};
 ghost use Rattle.iox2_store.specs.machine.State.{State};
 ghost use Rattle.iox2_domain.specs.Ports.{PublisherFields};
 ghost use Rattle.iox2_domain.specs.Kept.{state_of};
@@ -48,7 +47,6 @@ pub(crate) fn admit_publisher<T: Drop, U: Default + Drop>(
     requires has_place { place_for_publisher state.old ≡ Ok place }
     requires slots { slots ≡ worst_case (state.old).config max_loaned_samples }
     requires size { segment_fits (state.old).config slots initial_max_slice_len ≡ true }
-    requires single { ((state.old).config).variant ≡ FixedSize → initial_max_slice_len ≡ 1 }
     ensures stands { OnOk result ((x : PublisherFields) × (slice_index_or state.new.publishers place None ≡ Some x) × (x.id ≡ state.old.next_port)) }
     ensures id { IfOk result (λ id. id ≡ state.old.next_port) }
     ensures step { MatchResult result
@@ -87,8 +85,9 @@ pub(crate) fn admit_publisher<T: Drop, U: Default + Drop>(
     Ok(id)
 }
 
-/// Makes a publisher that may have so many loans out, each of so many elements at most, and connects
-/// it with the subscribers that there are. Returns its id, which was the next, and its place.
+/// Makes a publisher that may have so many loans out, each of so many elements at most where the
+/// length of a loan counts, and connects it with the subscribers that there are. Returns its id,
+/// which was the next, and its place.
 ///
 /// `UnableToCreatePortTag` where no id is left, then `ExceedsMaxSupportedPublishers` where no
 /// place is free, then `UnableToCreateDataSegment` where the segment's size doesn't fit `usize`.
@@ -100,8 +99,7 @@ pub fn create_publisher<T: Drop, U: Default + Drop>(
     max_loaned_samples: usize,
     initial_max_slice_len: usize,
 ) -> Result<PortAt<UniquePublisherId>, PublisherCreateError>
-    requires agrees { IsDomain state.old }
-    requires single { ((state.old).config).variant ≡ FixedSize → initial_max_slice_len ≡ 1 }
+    requires { IsDomain state.old }
     ensures id { IfOk result (λ port. port.id ≡ state.old.next_port) }
     ensures stands { IfOk result (λ port. (x : PublisherFields) × (slice_index_or state.new.publishers port.place None ≡ Some x) × (x.id ≡ port.id)) }
     ensures step { MatchResult result

@@ -4,9 +4,10 @@ ghost use Rattle.slab.specs.Slab.{Updates, get};
 ghost use Rattle.iox2_store.specs.machine.Limits.{worst_case, fits, segment_fits};
 ghost use Rattle.iox2_store.specs.machine.Ports.{first_segment_fits};
 ghost use Rattle.iox2_domain.specs.NewPublisher.{IsNewSegment, plain_publisher};
+ghost use Rattle.iox2_domain.specs.Ports.{slot_length};
 ghost use Rattle.iox2_domain.specs.Placed.{placed};
 
-use iox2_domain::{put_at_place, reserve_place};
+use iox2_domain::{put_at_place, reserve_place, units_of};
 use iox2_store::{Contents, ServiceConfig, SlotBook, UniquePublisherId, worst_case_slots};
 use slab::Slab;
 use std::alloc::{AllocError, Global};
@@ -31,16 +32,16 @@ fn segment_size(slots: usize, len: usize, units: usize) -> Option<usize>
     slots.checked_mul(len)?.checked_mul(units)
 }
 
-/// The room that each of so many slots needs for so many elements. Where there are no slots, none is
-/// needed.
+/// The room that each of so many slots needs for so many elements, and for one at least. Where there
+/// are no slots, none is needed.
 pub(crate) fn room_for(config: &ServiceConfig, slots: usize, len: usize) -> usize
     requires { segment_fits config.now slots len ≡ true }
-    ensures { 0 < slots → result ≡ len * (config.now).units_per_element }
+    ensures { 0 < slots → result ≡ slot_length len * (config.now).units_per_element }
 {
     if slots == 0 {
         return 0;
     }
-    len * config.units_per_element
+    units_of(len.max(1), config.units_per_element)
 }
 
 /// The slots of a publisher: what is known of them, and what lies in them.

@@ -16,7 +16,7 @@ use Rattle.iox2_store.specs.SlotContents.{ContentState}
 use Rattle.iox2_store.specs.machine.Mailbox.{Mailbox}
 use Rattle.iox2_ends.specs.LookUp.{look_up, IsOnly}
 use Rattle.iox2_laws.proofs.PortLaws.{no_publisher_yet}
-use Rattle.iox2_domain.specs.Ports.{PublisherFields}
+use Rattle.iox2_domain.specs.Ports.{PublisherFields, slot_length}
 use Rattle.iox2_domain.specs.Kept.{Named, Between, state_of, port_named, ids, is_named, loan_in, stands_between, box_if_any}
 use Rattle.iox2_domain.specs.Fields.{Fields, kept_of, publisher_of}
 use Rattle.iox2_domain.specs.Invariant.{IsDomain, HasForms, is_publisher}
@@ -32,7 +32,7 @@ pub record PublisherEnters {T U : Type 0} (f : Fields T U) (place loans len loan
     (books : Slab Book) (contents : List (Option (List (ContentState T U)))) : Type 0 where
   pub sound : IsDomain f
   pub free : get_or f.publishers place None ≡ None
-  pub book : BookEnters f.next_port (worst_case f.config loans) (len * (f.config).units_per_element) key f.books f.contents books contents
+  pub book : BookEnters f.next_port (worst_case f.config loans) (slot_length len * (f.config).units_per_element) key f.books f.contents books contents
   pub forms : HasForms f.config contents
 
 module _ {T U : Type 0} (f : Fields T U) (place loans len loan_room key_room key : ℕ) (books : Slab Book) (contents : List (Option (List (ContentState T U))))
@@ -109,7 +109,7 @@ module _ {T U : Type 0} (f : Fields T U) (place loans len loan_room key_room key
       ∙ by (eqb f.next_port p) (eqb p f.next_port) (symmetric f.next_port p) (look_up (is_publisher p) f.publishers)
       ∙ ap (λ o. cond (eqb p f.next_port) (Some made) (port o)) (sym (look_up-map (is_named p) shown f.publishers))
       ∙ ap (λ xs. cond (eqb p f.next_port) (Some made) (port_named p xs))
-      (publishers-shown f enters.sound (worst_case f.config loans) (len * (f.config).units_per_element) key books contents enters.book)
+      (publishers-shown f enters.sound (worst_case f.config loans) (slot_length len * (f.config).units_per_element) key books contents enters.book)
     where
       by : (a b : Bool) → a ≡ b → (o : Option PublisherFields)
           → port (option_map shown (cond a (Some newcomer) o)) ≡ cond b (Some made) (port (option_map shown o))
@@ -128,11 +128,11 @@ module _ {T U : Type 0} (f : Fields T U) (place loans len loan_room key_room key
 
     loans_same : (state_of (kept_of with_entered_publisher)).loans ≡ (state_of (kept_of f)).loans
     loans_same = fun_ext (λ n. ap (option_and_then loan_in)
-        (messages-same f enters.sound (worst_case f.config loans) (len * (f.config).units_per_element) key books contents enters.book n))
+        (messages-same f enters.sound (worst_case f.config loans) (slot_length len * (f.config).units_per_element) key books contents enters.book n))
 
     boxes : (state_of (kept_of with_entered_publisher)).mailboxes ≡ (state_of (kept_of f)).mailboxes
     boxes = ap {B = ℕ → ℕ → Mailbox} (λ (cs : List (Option Between)) (p q : ℕ). box_if_any (look_up (stands_between p q) cs))
-        (connections-shown f enters.sound (worst_case f.config loans) (len * (f.config).units_per_element) key books contents enters.book)
+        (connections-shown f enters.sound (worst_case f.config loans) (slot_length len * (f.config).units_per_element) key books contents enters.book)
 
     places : (state_of (kept_of with_entered_publisher)).publisher_places ≡ set_place (state_of (kept_of f)).publisher_places place (Some f.next_port)
     places =
@@ -140,4 +140,4 @@ module _ {T U : Type 0} (f : Fields T U) (place loans len loan_room key_room key
         ∙ map-placed (shown newcomer) (λ (z : Named Publisher). z.id) (map (option_map shown) f.publishers) place
         ∙ placed-ids f.next_port (ids (map (option_map shown) f.publishers)) place
         ∙ ap (λ xs. set_place (ids xs) place (Some f.next_port))
-        (publishers-shown f enters.sound (worst_case f.config loans) (len * (f.config).units_per_element) key books contents enters.book)
+        (publishers-shown f enters.sound (worst_case f.config loans) (slot_length len * (f.config).units_per_element) key books contents enters.book)

@@ -20,7 +20,7 @@ use Rattle.iox2_store.specs.machine.WellFormed.{IsWellFormed}
 use Rattle.iox2_ends.specs.LookUp.{look_up}
 use Rattle.iox2_ends.specs.Counters.{times, stands}
 use Rattle.iox2_ends.specs.Homes.{IsSenderLinked}
-use Rattle.iox2_domain.specs.Ports.{PublisherFields}
+use Rattle.iox2_domain.specs.Ports.{PublisherFields, slot_length}
 use Rattle.iox2_domain.specs.Kept.{state_of, entries_of, entry_in, KeptMessage}
 use Rattle.iox2_domain.specs.Fields.{Fields, kept_of, is_book_of, message_in, contents_at}
 use Rattle.iox2_domain.specs.Invariant.{IsDomain, IsBook, IsLinked, HasBook, HasBooks, KeepsBooks, HasShape, IsCounted, SenderHas, ReceiverHas, HasPublisherRoom, is_publisher, is_loan_in, holders_of, own_holders}
@@ -56,7 +56,7 @@ module _ {T U : Type 0} (f : Fields T U) (place loans len loan_room key_room key
   units = (f.config).units_per_element
 
   abbrev needed : ℕ
-  needed = len * units
+  needed = slot_length len * units
 
   was : (i : ℕ) (x : PublisherFields) → get_or (placed f.publishers place new) i None ≡ Some x → ((i ≡ place) × (x ≡ new)) ⊎ (get_or f.publishers i None ≡ Some x)
   was i x at = stood f place loans len loan_room key_room key books contents enters i x at
@@ -146,7 +146,7 @@ module _ {T U : Type 0} (f : Fields T U) (place loans len loan_room key_room key
       is_its = has.is_its;
       slots = has.slots;
       no_more = has.no_more;
-      room = subst (λ o. IsSomeAnd o (All (λ (content : ContentState T U). x.initial_max_slice_len * units ≤ content.room)))
+      room = subst (λ o. IsSomeAnd o (All (λ (content : ContentState T U). slot_length x.initial_max_slice_len * units ≤ content.room)))
           (sym (enters.book.contents_others x.book (away_from f enters.sound slots needed key books contents enters.book x.book has.book has.stands))) has.room;
     }
 

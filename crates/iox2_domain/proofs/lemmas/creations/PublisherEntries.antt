@@ -14,7 +14,7 @@ use Rattle.iox2_store.specs.SingleValues.{is_single_valued}
 use Rattle.iox2_store.specs.SlotBook.{Book, IsAligned}
 use Rattle.iox2_store.specs.SlotContents.{ContentState}
 use Rattle.iox2_store.specs.declared.errors.PublisherCreateError.TheVariants.{UnableToCreatePortTag, ExceedsMaxSupportedPublishers}
-use Rattle.iox2_domain.specs.Ports.{PublisherFields}
+use Rattle.iox2_domain.specs.Ports.{PublisherFields, slot_length}
 use Rattle.iox2_domain.specs.Kept.{state_of}
 use Rattle.iox2_domain.specs.Fields.{Fields, kept_of}
 use Rattle.iox2_domain.specs.Invariant.{IsDomain, IsLinked, HasBooks, HasNumber, IsNumbered, HasForms, HasPublisherRoom}
@@ -125,7 +125,7 @@ module _ {T U : Type 0} (f : Fields T U) where
     pub unused : book.holders ≡ replicate slots 0
     pub aligned : IsAligned book
     pub contents_length : length slot_contents ≡ slots
-    pub contents_room : All (λ content. len * (before.config).units_per_element ≤ content.room) slot_contents
+    pub contents_room : All (λ content. slot_length len * (before.config).units_per_element ≤ content.room) slot_contents
     pub contents_form : is_single_valued before.config ≡ false → All (λ content. content.is_in_place ≡ false) slot_contents
     pub vacant : get before.books (before.books).vacant_key ≡ None
     pub updates : Updates before.books books (before.books).vacant_key (Some book)
@@ -146,7 +146,7 @@ module _ {T U : Type 0} (f : Fields T U) where
       let next : place ≤ length f.publishers = subst (λ (p : ℕ). p ≤ length f.publishers) has.lowest (lowest_empty-low f.publishers) in
       let key : ℕ = (f.books).vacant_key in
       let contents : List (Option (List (ContentState T U))) = placed f.contents key slot_contents in
-      let enters : BookEnters f.next_port (worst_case f.config loans) (len * (f.config).units_per_element) key f.books f.contents books contents = record {
+      let enters : BookEnters f.next_port (worst_case f.config loans) (slot_length len * (f.config).units_per_element) key f.books f.contents books contents = record {
         book = book;
         vacant = e.vacant;
         updates = e.updates;

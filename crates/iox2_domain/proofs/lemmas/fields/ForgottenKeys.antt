@@ -265,7 +265,7 @@ module _ {T U : Type 0} (f : Fields T U) (parts : HasParts f) (publishers : List
     counted = counted;
     numbered = parts.numbered;
     publisher_room = λ i x at. let was = g.senders i x at in let has = parts.publisher_room i was.0 was.1 in
-        subst (λ (z : PublisherFields). HasPublisherRoom f.config z) (sym was.2.fields) (record { loans = has.loans; history = has.history; size = has.size; single = has.single });
+        subst (λ (z : PublisherFields). HasPublisherRoom f.config z) (sym was.2.fields) (record { loans = has.loans; history = has.history; size = has.size });
     warning_room = parts.warning_room;
     shapes = record { at = parts.shapes.at };
     forms = parts.forms;

@@ -22,7 +22,7 @@ use Rattle.iox2_ends.specs.Counters.{times, stands}
 use Rattle.iox2_ends.proofs.Counts.{times_push, one_if, one_if_same, one_if_other}
 use Rattle.iox2_laws.proofs.LoanLaws.{grant_loan_keeps}
 use Rattle.iox2_store.specs.declared.service_config.TypeVariant.TheVariants.{FixedSize}
-use Rattle.iox2_domain.specs.Ports.{PublisherFields}
+use Rattle.iox2_domain.specs.Ports.{PublisherFields, slot_length}
 use Rattle.iox2_domain.specs.Kept.{KeptMessage, Lent_message, state_of}
 use Rattle.iox2_store.specs.machine.Environments.{ample_memory}
 use Rattle.iox2_domain.specs.Fields.{Fields, kept_of, publisher_of, numbers_of, is_book_of}
@@ -96,7 +96,7 @@ module _ {T U : Type 0} (f : Fields T U) (sound : IsDomain f) (i : ℕ) (x : Pub
       is_its = has.is_its;
       slots = has.slots;
       no_more = has.no_more;
-      room = subst (λ (o : Option (List (ContentState T U))). IsSomeAnd o (All (λ content. z.initial_max_slice_len * (f.config).units_per_element ≤ content.room)))
+      room = subst (λ (o : Option (List (ContentState T U))). IsSomeAnd o (All (λ content. slot_length z.initial_max_slice_len * (f.config).units_per_element ≤ content.room)))
           (sym (others-have f sound x slot can user_header len z.book away)) has.room;
     }
     | inl here ↦
@@ -109,10 +109,10 @@ module _ {T U : Type 0} (f : Fields T U) (sound : IsDomain f) (i : ℕ) (x : Pub
           is_its = sym (ap (λ (b : Book). b.publisher) same) ∙ has.is_its;
           slots = rw long has.slots;
           no_more = rw long has.no_more;
-          room = subst (λ (o : Option (List (ContentState T U))). IsSomeAnd o (All (λ content. z.initial_max_slice_len * (f.config).units_per_element ≤ content.room)))
+          room = subst (λ (o : Option (List (ContentState T U))). IsSomeAnd o (All (λ content. slot_length z.initial_max_slice_len * (f.config).units_per_element ≤ content.room)))
               (sym (ap (λ (k : ℕ). get_or (begun_contents f sound x slot can user_header len) k None) here ∙ begun-has f sound x slot can user_header len))
-              (room-with_changed can.contents slot user_header (len * (f.config).units_per_element) (z.initial_max_slice_len * (f.config).units_per_element)
-              (subst (λ (o : Option (List (ContentState T U))). IsSomeAnd o (All (λ content. z.initial_max_slice_len * (f.config).units_per_element ≤ content.room)))
+              (room-with_changed can.contents slot user_header (len * (f.config).units_per_element) (slot_length z.initial_max_slice_len * (f.config).units_per_element)
+              (subst (λ (o : Option (List (ContentState T U))). IsSomeAnd o (All (λ content. slot_length z.initial_max_slice_len * (f.config).units_per_element ≤ content.room)))
               (ap (λ (k : ℕ). get_or f.contents k None) here ∙ can.has) has.room));
         }
   ]

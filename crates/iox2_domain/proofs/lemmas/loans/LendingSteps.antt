@@ -1,6 +1,6 @@
 -- What the steps of a loan need and come to.
 use Rattle.std.proofs.Common.{◌≡◌, Bool, true, false, ◌&&◌, nat_lt, ℕ, ◌+◌, ◌*◌, ◌^◌, ◌<◌, ◌≤◌, List, [], ◌∷◌, length, get_or, slice_set, refl, ap, sym, subst, ◌∙◌, arith}
-use Rattle.std.proofs.Math.Nat.{mul-le-mul_right}
+use Rattle.std.proofs.Math.Nat.{mul-le-mul_right, le-max_left, le-max_right}
 use Rattle.std.proofs.lemmas.Bool.{ltb-false}
 use Rattle.std.specs.declared.option.Option.{Option}
 use Rattle.std.specs.declared.option.Option.TheVariants.{None, Some}
@@ -16,13 +16,13 @@ use Rattle.iox2_store.specs.machine.Loans.{is_static}
 use Rattle.iox2_store.specs.declared.service_config.TypeVariant.TheVariants.{FixedSize}
 use Rattle.iox2_store.specs.declared.header.Header.{Header}
 use Rattle.iox2_ends.proofs.MailboxChanges.{within_if_some}
-use Rattle.iox2_domain.specs.Ports.{PublisherFields}
+use Rattle.iox2_domain.specs.Ports.{PublisherFields, slot_length}
 use Rattle.iox2_domain.specs.Fields.{Fields}
 use Rattle.iox2_domain.specs.Invariant.{IsDomain, IsBook, HasBook}
 use Rattle.iox2_domain.specs.Lending.{header_for, with_taken_slot, lending, Starts, CanLend, IsNamed, Lends}
 use Rattle.iox2_domain.specs.declared.loan_slots.LoanAt.{LoanAt}
 use Rattle.iox2_domain.proofs.lemmas.slots.PublisherBooks.{read-there}
-use Rattle.iox2_domain.proofs.lemmas.slots.SlotRoom.{slot-fits}
+use Rattle.iox2_domain.proofs.lemmas.slots.SlotRoom.{several-fit}
 
 module _ {T U : Type 0} (f : Fields T U) (sound : IsDomain f) (i : ℕ) (x : PublisherFields) (at : get_or f.publishers i None ≡ Some x) where
   -- its book has contents
@@ -39,8 +39,8 @@ module _ {T U : Type 0} (f : Fields T U) (sound : IsDomain f) (i : ℕ) (x : Pub
       let found = contents-of has.book has.stands in
       within_if_some f.contents x.book found.0 found.1
 
-  -- a message that is no longer than its longest fits each slot
-  pub length-fits : (len : ℕ) → len ≤ x.initial_max_slice_len → (b : Book) → get f.books x.book ≡ Some b → (slot : ℕ) → slot < length b.holders
+  -- a message that is no longer than its slots fits each of them
+  pub length-fits : (len : ℕ) → len ≤ slot_length x.initial_max_slice_len → (b : Book) → get f.books x.book ≡ Some b → (slot : ℕ) → slot < length b.holders
       → (o : Option (List (ContentState T U))) → o ≡ get_or f.contents x.book o
       → IsSomeAnd o (λ cs. SomeAt cs slot (λ content. len * (f.config).units_per_element ≤ content.room))
   length-fits len short b stands slot low o read =
@@ -48,12 +48,12 @@ module _ {T U : Type 0} (f : Fields T U) (sound : IsDomain f) (i : ℕ) (x : Pub
       let is : get_or f.contents x.book None ≡ o = read-there f.contents x.book found.0 o found.1 read in
       let has : HasBook f x = sound.parts.books.publishers i x at in
       let some = slice_get-some found.0 slot (let e = found.2 in omega arith) in
-      let room : All (λ content. x.initial_max_slice_len * (f.config).units_per_element ≤ content.room) found.0 =
-      subst (λ (o : Option (List (ContentState T U))). IsSomeAnd o (All (λ content. x.initial_max_slice_len * (f.config).units_per_element ≤ content.room))) found.1 has.room in
-      let here : x.initial_max_slice_len * (f.config).units_per_element ≤ (get_or found.0 slot some.0).room = room slot some.0 (let e = found.2 in omega arith) in
+      let room : All (λ content. slot_length x.initial_max_slice_len * (f.config).units_per_element ≤ content.room) found.0 =
+      subst (λ (o : Option (List (ContentState T U))). IsSomeAnd o (All (λ content. slot_length x.initial_max_slice_len * (f.config).units_per_element ≤ content.room))) found.1 has.room in
+      let here : slot_length x.initial_max_slice_len * (f.config).units_per_element ≤ (get_or found.0 slot some.0).room = room slot some.0 (let e = found.2 in omega arith) in
       let same : get_or found.0 slot some.0 ≡ some.0 = get_or_from_slice_get found.0 slot some.0 some.0 some.1 in
-      let enough : x.initial_max_slice_len * (f.config).units_per_element ≤ (some.0).room = subst (λ (c : ContentState T U). x.initial_max_slice_len * (f.config).units_per_element ≤ c.room) same here in
-      let less : len * (f.config).units_per_element ≤ x.initial_max_slice_len * (f.config).units_per_element = mul-le-mul_right (f.config).units_per_element short in
+      let enough : slot_length x.initial_max_slice_len * (f.config).units_per_element ≤ (some.0).room = subst (λ (c : ContentState T U). slot_length x.initial_max_slice_len * (f.config).units_per_element ≤ c.room) same here in
+      let less : len * (f.config).units_per_element ≤ slot_length x.initial_max_slice_len * (f.config).units_per_element = mul-le-mul_right (f.config).units_per_element short in
       let fits : len * (f.config).units_per_element ≤ (some.0).room = omega (arith, enough, less) in
       subst (λ (o : Option (List (ContentState T U))). IsSomeAnd o (λ cs. SomeAt cs slot (λ content. len * (f.config).units_per_element ≤ content.room))) (sym found.1 ∙ is)
       (subst (λ (o : Option (ContentState T U)). IsSomeAnd o (λ content. len * (f.config).units_per_element ≤ content.room)) (sym some.1) fits)
@@ -62,34 +62,33 @@ module _ {T U : Type 0} (f : Fields T U) (sound : IsDomain f) (i : ℕ) (x : Pub
     is-lender : can.publisher ≡ x
     is-lender = let found : Some can.publisher ≡ Some x = sym can.stands ∙ at in cc
 
-    -- a loan that may be lent is no longer than that
-    pub lent-short : (checks ≡ false → (f.config).variant ≡ FixedSize) → ((f.config).variant ≡ FixedSize → len ≡ 1) → len ≤ x.initial_max_slice_len
+    -- a loan that may be lent is no longer than its slots: one whose length doesn't count has one element
+    pub lent-short : (checks ≡ false → (f.config).variant ≡ FixedSize) → ((f.config).variant ≡ FixedSize → len ≡ 1) → len ≤ slot_length x.initial_max_slice_len
     lent-short unchecked one = by checks refl where
-      by : (b : Bool) → checks ≡ b → len ≤ x.initial_max_slice_len
+      by : (b : Bool) → checks ≡ b → len ≤ slot_length x.initial_max_slice_len
       by true e =
           let short : (checks && is_static x.allocation && nat_lt x.initial_max_slice_len len) ≡ false =
           subst (λ (z : PublisherFields). (checks && is_static z.allocation && nat_lt z.initial_max_slice_len len) ≡ false) is-lender can.short in
           let static : is_static x.allocation ≡ true = ap is_static (sound.parts.plain i x at).allocation in
           let no : nat_lt x.initial_max_slice_len len ≡ false =
           sym (ap (λ (b : Bool). b && is_static x.allocation && nat_lt x.initial_max_slice_len len) e ∙ ap (λ (b : Bool). b && nat_lt x.initial_max_slice_len len) static) ∙ short in
-          ltb-false x.initial_max_slice_len len no
+          let low : len ≤ x.initial_max_slice_len = ltb-false x.initial_max_slice_len len no in
+          let longest : x.initial_max_slice_len ≤ slot_length x.initial_max_slice_len = le-max_right 1 x.initial_max_slice_len in
+          omega (arith, low, longest)
       by false e =
-          let fixed : (f.config).variant ≡ FixedSize = unchecked e in
-          let single : x.initial_max_slice_len ≡ 1 = (sound.parts.publisher_room i x at).single fixed in
-          let its : len ≡ 1 = one fixed in
-          omega (arith, single, its)
+          let its : len ≡ 1 = one (unchecked e) in
+          let some : 1 ≤ slot_length x.initial_max_slice_len = le-max_left 1 x.initial_max_slice_len in
+          omega (arith, its, some)
 
-    -- so many elements fit a machine word
-    pub lent-fits : len ≤ x.initial_max_slice_len → len * (f.config).units_per_element < 2 ^ 64
-    lent-fits short =
+    -- several elements of it fit a machine word
+    pub lent-fits : len ≤ slot_length x.initial_max_slice_len → 1 < len → len * (f.config).units_per_element < 2 ^ 64
+    lent-fits short several =
         let has : HasBook f x = sound.parts.books.publishers i x at in
         let found : Some can.book ≡ Some has.book = sym can.its ∙ ap (λ (z : PublisherFields). get f.books z.book) is-lender ∙ has.stands in
         let same : can.book ≡ has.book = cc in
         let count : length (can.book).holders ≡ x.slots = ap (λ (b : Book). length b.holders) same ∙ has.no_more (ap is_static (sound.parts.plain i x at).allocation) in
         let some : 0 < length (can.book).holders = not-none (can.book).holders can.some_free in
-        let low : x.initial_max_slice_len * (f.config).units_per_element < 2 ^ 64 = slot-fits f.config x.slots x.initial_max_slice_len (sound.parts.publisher_room i x at).size (omega (arith, count, some)) in
-        let less : len * (f.config).units_per_element ≤ x.initial_max_slice_len * (f.config).units_per_element = mul-le-mul_right (f.config).units_per_element short in
-        omega (arith, low, less)
+        several-fit f.config x.slots x.initial_max_slice_len len (sound.parts.publisher_room i x at).size (omega (arith, count, some)) short several
       where
         not-none : (hs : List ℕ) → (All (λ n. 0 < n) hs → ⊥) → 0 < length hs
         not-none [] free = absurd (free (λ k d lt. absurd (omega arith)))

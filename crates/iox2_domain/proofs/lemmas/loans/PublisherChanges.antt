@@ -255,7 +255,6 @@ module _ {T U : Type 0} (f : Fields T U) (i : ℕ) (x y : PublisherFields) (at :
       loans = let most = keeps.max_loaned_samples in let room = keeps.loan_room in let enough = has.loans in omega arith;
       history = keeps.history_room ∙ has.history;
       size = rw (keeps.slots, keeps.initial_max_slice_len) has.size;
-      single = λ fixed. keeps.initial_max_slice_len ∙ has.single fixed;
     }
 
   -- it is still plain

@@ -17,7 +17,7 @@ use Rattle.iox2_store.specs.declared.slots.mark.SlotMark.{SlotMark}
 use Rattle.iox2_ends.specs.LookUp.{look_up}
 use Rattle.iox2_ends.specs.Counters.{times, stands}
 use Rattle.iox2_ends.proofs.LookUps.{look_up-found}
-use Rattle.iox2_domain.specs.Ports.{PublisherFields}
+use Rattle.iox2_domain.specs.Ports.{PublisherFields, slot_length}
 use Rattle.iox2_domain.specs.Kept.{KeptMessage, state_of, message_numbered}
 use Rattle.iox2_domain.specs.Fields.{Fields, kept_of, is_book_of, message_of, message_in, contents_at}
 use Rattle.iox2_domain.specs.Invariant.{IsDomain, IsBook, HasBooks, HasForms, HasNumber, IsNumbered, IsCounted, is_publisher, holders_of, own_holders, is_lent, is_loan_in}
@@ -107,8 +107,8 @@ module _ {T U : Type 0} (f : Fields T U) (sound : IsDomain f) (key slot : ℕ) (
       is_its = has.is_its;
       slots = has.slots;
       no_more = has.no_more;
-      room = still (All (λ content. x.initial_max_slice_len * (f.config).units_per_element ≤ content.room))
-          (all-changed (λ content. x.initial_max_slice_len * (f.config).units_per_element ≤ content.room) g
+      room = still (All (λ content. slot_length x.initial_max_slice_len * (f.config).units_per_element ≤ content.room))
+          (all-changed (λ content. slot_length x.initial_max_slice_len * (f.config).units_per_element ≤ content.room) g
           (λ c enough. rw (roomy c) enough) cs slot) x.book has.room;
     };
     no_others = λ k none. elim (cases_eq k key) [

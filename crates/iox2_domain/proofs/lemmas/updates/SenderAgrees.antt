@@ -229,7 +229,7 @@ module _ {T U : Type 0} (f : Fields T U) (sound : IsDomain f) (i : ℕ) (x : Pub
       counted = counted;
       numbered = sound.parts.numbered;
       publisher_room = λ k z at_z. elim (stood k z at_z) [
-        | inl here ↦ rw here.1 (let has = sound.parts.publisher_room i x at in record { loans = has.loans; history = has.history; size = has.size; single = has.single })
+        | inl here ↦ rw here.1 (let has = sound.parts.publisher_room i x at in record { loans = has.loans; history = has.history; size = has.size })
         | inr old ↦ sound.parts.publisher_room k z old
       ];
       warning_room = room;

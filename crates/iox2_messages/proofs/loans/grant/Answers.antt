@@ -1,4 +1,4 @@
-use Rattle.std.proofs.Common.{rules, arith, ◌*◌, ◌^◌, ◌<◌, ◌≡◌, vec_len, length, slice_index_or, None, Some, refl, sym, subst, ap, ◌∙◌}
+use Rattle.std.proofs.Common.{rules, ◌≡◌, vec_len, length, slice_index_or, None, Some, refl, sym, subst, ap, ◌∙◌}
 use Rattle.std.specs.Option.{option_map}
 use Rattle.iox2_domain.specs.Fields.{Fields}
 use Rattle.iox2_domain.specs.Invariant.{IsDomain}
@@ -13,9 +13,8 @@ index_mut-requires-3 g c =
     rw long (contents-within _ (subst (IsDomain {T = g.row.T.Denot} {U = g.row.U.Denot}) (sym c.state.view_is) c.requires.agrees) c.args.place _
     (read-there _ c.args.place _ _ (ap (λ (f : Fields g.row.T.Denot g.row.U.Denot). slice_index_or f.publishers c.args.place None) c.state.view_is ∙ c.requires.can.stands) c.index_mut.ensures.value ∙ c.in-Some.is ∙ ap Some (sym c.publisher.view_is)))
 
-pub overflow_mul-len : goal.overflow_mul-len
-overflow_mul-len g c =
-    let low : c.args.len * c.state.inside.config.units_per_element < 2 ^ 64 =
+pub units_of-requires : goal.units_of-requires
+units_of-requires g c =
     lent-fits _ (subst (IsDomain {T = g.row.T.Denot} {U = g.row.U.Denot}) (sym c.state.view_is) c.requires.agrees) c.args.place _
     (read-there _ c.args.place _ _ (ap (λ (f : Fields g.row.T.Denot g.row.U.Denot). slice_index_or f.publishers c.args.place None) c.state.view_is ∙ c.requires.can.stands) c.index_mut.ensures.value ∙ c.in-Some.is ∙ ap Some (sym c.publisher.view_is))
     c.args.checks_length c.args.len (subst (λ (f : Fields g.row.T.Denot g.row.U.Denot). CanLend f c.args.checks_length c.args.len c.args.place) (sym c.state.view_is) c.requires.can)
@@ -23,19 +22,18 @@ overflow_mul-len g c =
     (read-there _ c.args.place _ _ (ap (λ (f : Fields g.row.T.Denot g.row.U.Denot). slice_index_or f.publishers c.args.place None) c.state.view_is ∙ c.requires.can.stands) c.index_mut.ensures.value ∙ c.in-Some.is ∙ ap Some (sym c.publisher.view_is))
     c.args.checks_length c.args.len (subst (λ (f : Fields g.row.T.Denot g.row.U.Denot). CanLend f c.args.checks_length c.args.len c.args.place) (sym c.state.view_is) c.requires.can)
     (λ unchecked. ap (λ (f : Fields g.row.T.Denot g.row.U.Denot). (f.config).variant) c.state.view_is ∙ c.requires.unchecked unchecked)
-    (λ fixed. c.requires.single (sym (ap (λ (f : Fields g.row.T.Denot g.row.U.Denot). (f.config).variant) c.state.view_is) ∙ fixed))) in
-    omega (arith, low)
+    (λ fixed. c.requires.single (sym (ap (λ (f : Fields g.row.T.Denot g.row.U.Denot). (f.config).variant) c.state.view_is) ∙ fixed)))
 
 pub start-requires : goal.start-requires
 start-requires g c =
-    length-fits _ (subst (IsDomain {T = g.row.T.Denot} {U = g.row.U.Denot}) (sym c.state.view_is) c.requires.agrees) c.args.place _
+    rw c.units_of.ensures (length-fits _ (subst (IsDomain {T = g.row.T.Denot} {U = g.row.U.Denot}) (sym c.state.view_is) c.requires.agrees) c.args.place _
     (read-there _ c.args.place _ _ (ap (λ (f : Fields g.row.T.Denot g.row.U.Denot). slice_index_or f.publishers c.args.place None) c.state.view_is ∙ c.requires.can.stands) c.index_mut.ensures.value ∙ c.in-Some.is ∙ ap Some (sym c.publisher.view_is))
     c.args.len (lent-short _ (subst (IsDomain {T = g.row.T.Denot} {U = g.row.U.Denot}) (sym c.state.view_is) c.requires.agrees) c.args.place _
     (read-there _ c.args.place _ _ (ap (λ (f : Fields g.row.T.Denot g.row.U.Denot). slice_index_or f.publishers c.args.place None) c.state.view_is ∙ c.requires.can.stands) c.index_mut.ensures.value ∙ c.in-Some.is ∙ ap Some (sym c.publisher.view_is))
     c.args.checks_length c.args.len (subst (λ (f : Fields g.row.T.Denot g.row.U.Denot). CanLend f c.args.checks_length c.args.len c.args.place) (sym c.state.view_is) c.requires.can)
     (λ unchecked. ap (λ (f : Fields g.row.T.Denot g.row.U.Denot). (f.config).variant) c.state.view_is ∙ c.requires.unchecked unchecked)
     (λ fixed. c.requires.single (sym (ap (λ (f : Fields g.row.T.Denot g.row.U.Denot). (f.config).variant) c.state.view_is) ∙ fixed)))
-    _ c.index_mut-2.ensures.value c.in-Some-take.slot c.in-Some-take.ensures.taken.in_bounds _ c.index_mut-3.ensures.value
+    _ c.index_mut-2.ensures.value c.in-Some-take.slot c.in-Some-take.ensures.taken.in_bounds _ c.index_mut-3.ensures.value)
 
 pub lend-requires : goal.lend-requires
 lend-requires g c =
@@ -51,7 +49,7 @@ returns-clause-lends g c =
     (read-there _ c.args.place _ _ (ap (λ (f : Fields g.row.T.Denot g.row.U.Denot). slice_index_or f.publishers c.args.place None) c.state.view_is ∙ c.requires.can.stands) c.index_mut.ensures.value ∙ c.in-Some.is ∙ ap Some (sym c.publisher.view_is))
     c.args.len g.U.Default.is_default _ _ c.in-Some-take.slot _ c.index_mut-2.ensures.value
     (λ t. record { node_id = c.new.ensures t; publisher_id = c.publisher.inside.id; number_of_elements = c.args.len }) c.in-Some-take.ensures.taken
-    _ _ c.index_mut-3.ensures.value c.start.ensures _ _ c.index_mut.ensures.value (ap Some c.lend.ensures ∙ ap (option_map (lending c.args.len c.in-Some-take.slot)) (sym c.in-Some.is)))
+    _ _ c.index_mut-3.ensures.value (rw c.units_of.ensures at c.start.ensures) _ _ c.index_mut.ensures.value (ap Some c.lend.ensures ∙ ap (option_map (lending c.args.len c.in-Some-take.slot)) (sym c.in-Some.is)))
 
 pub returns-clause-named : goal.returns-clause-named
 returns-clause-named g c =

@@ -106,8 +106,5 @@ returns-clause-id g c = c.new-id.ensures ∙ ap (λ (f : Fields g.row.T.Denot g.
 pub room_for-room-requires : goal.room_for-room-requires
 room_for-room-requires g c = ap (λ (f : Fields g.row.T.Denot g.row.U.Denot). segment_fits f.config c.args.slots c.args.initial_max_slice_len) c.state.view_is ∙ c.requires.size
 
-pub new-entering-requires-clause-size : goal.new-entering-requires-clause-size
-new-entering-requires-clause-size g c = ap (λ (f : Fields g.row.T.Denot g.row.U.Denot). segment_fits f.config c.args.slots c.args.initial_max_slice_len) c.state.view_is ∙ c.requires.size
-
-pub new-entering-requires-clause-single : goal.new-entering-requires-clause-single
-new-entering-requires-clause-single g c = λ fixed. c.requires.single (sym (ap (λ (f : Fields g.row.T.Denot g.row.U.Denot). (f.config).variant) c.state.view_is) ∙ fixed)
+pub new-entering-requires : goal.new-entering-requires
+new-entering-requires g c = ap (λ (f : Fields g.row.T.Denot g.row.U.Denot). segment_fits f.config c.args.slots c.args.initial_max_slice_len) c.state.view_is ∙ c.requires.size

@@ -20,14 +20,14 @@ returns-in_err-place-clause-step g c =
     let refused = err_from_is_err_and c.from_residual.result c.from_residual.ensures.1 in
     rw (refused.1, refused.2) (
       created-refused {T = g.row.T.Denot} {U = g.row.U.Denot} c.args.state.now c.args.max_loaned_samples c.args.initial_max_slice_len fixed_handlers c.in_err-place.field-0.0 (sym c.place_for_publisher.ensures ∙ c.in_err-place.was),
-      reaches-same c.args.state.now c.requires.agrees,
+      reaches-same c.args.state.now c.requires,
     )
 
 pub returns-in_default-clause-step : goal.returns-in_default-clause-step
 returns-in_default-clause-step g c = (
   created-unfit {T = g.row.T.Denot} {U = g.row.U.Denot} c.args.state.now c.args.max_loaned_samples c.args.initial_max_slice_len fixed_handlers c.in_ok-place.place (sym c.place_for_publisher.ensures ∙ c.in_ok-place.was)
       (subst (λ (f : Fields g.row.T.Denot g.row.U.Denot). IsTrue (first_segment_fits f.config (plain_publisher c.args.max_loaned_samples c.args.initial_max_slice_len)) → ⊥) c.state.view_is c.in_default.ensures),
-  reaches-same c.args.state.now c.requires.agrees,
+  reaches-same c.args.state.now c.requires,
 )
 
 pub returns-in_err-id-clause-step : goal.returns-in_err-id-clause-step
