@@ -1,6 +1,9 @@
 -- What the words of slices say, part by part.
-use Rattle.std.proofs.Common.{◌≡◌, ℕ, List, map, length, true, false, refl, ap, sym, subst, ◌∙◌, Option, Some}
-use Rattle.iox2_store.specs.SingleValues.{is_single_valued}
+use Rattle.std.proofs.Common.{◌≡◌, ℕ, List, map, true, false, refl, ap, sym, subst, ◌∙◌, Option, Some}
+use Rattle.std.specs.Prelude.{◌&&◌, ◌==◌}
+use Rattle.iox2_store.specs.SingleValues.{is_fixed_size, is_single_valued}
+use Rattle.iox2_store.specs.declared.service_config.TypeVariant.{TypeVariant}
+use Rattle.iox2_store.specs.declared.service_config.TypeVariant.TheVariants.{Dynamic}
 use Rattle.iox2_store.specs.machine.Records.{Loan}
 use Rattle.iox2_store.specs.machine.SingleCalls.{HoldsLoan, WriteAllFrom}
 use Rattle.iox2_store.specs.machine.State.{State, Messages, with_loan}
@@ -23,6 +26,11 @@ module _ {T U : Type 0} (kept : Kept T U) where
   pub sliced-parts : IsSliced kept → is_single_valued kept.config ≡ false
   unfolding IsSliced
   sliced-parts sliced = sliced
+
+  -- messages of a service for slices are slices
+  pub dynamic-sliced : (kept.config).variant ≡ Dynamic → IsSliced kept
+  unfolding IsSliced
+  dynamic-sliced dynamic = ap (λ (v : TypeVariant). is_fixed_size v && ((kept.config).units_per_element == 1)) dynamic
 
   pub cells-parts : (n : ℕ) (cells : List (Option T)) → HasUnwrittenCells kept n cells → HasCells (state_of kept) n cells
   unfolding HasUnwrittenCells
