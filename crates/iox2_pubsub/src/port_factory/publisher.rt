@@ -3,7 +3,6 @@ ghost use Rattle.std.specs.Prelude.{◌≡◌, ◌≤◌, ℕ, None, Some, IfOk,
 ghost use Rattle.iox2_store.specs.machine.Environments.{fixed_handlers};
 ghost use Rattle.iox2_store.specs.machine.Ports.{CreatePublisher};
 ghost use Rattle.iox2_store.specs.machine.State.{State, Messages};
-ghost use Rattle.iox2_store.specs.declared.service_config.TypeVariant.TheVariants.{FixedSize};
 ghost use Rattle.iox2_pubsub.specs.Live.{IsLivePublisher, IsNewIn, Stays, publisher_port, payloads, waiting};
 ghost use Rattle.iox2_pubsub.specs.LoansLeft.{HasLoansLeft, LoansLeftStay};
 ghost use Rattle.iox2_domain.specs.NewPublisher.{plain_publisher};
@@ -100,7 +99,6 @@ pub(crate) fn create_plain<T: Drop, U: Default + Drop, F: BackpressureFn, G: Deg
     max_loaned_samples: usize,
     initial_max_slice_len: usize,
 ) -> Result<Publisher, PublisherCreateError>
-    requires single { (domain.old.config).variant ≡ FixedSize → initial_max_slice_len ≡ 1 }
     ensures creates { (m : Messages T U) (s : State T U) → Shows domain.old m s → (s' : State T U) × Shows domain.new m s'
         × MatchResult result
         (λ publisher. (publisher.id ≡ s.next_port) × CreatePublisher fixed_handlers s (plain_publisher max_loaned_samples initial_max_slice_len) s' None)

@@ -60,6 +60,8 @@ impl SampleMutUninit {
         ensures written { (answers : List T) × AnswersInOrder W.step initializer answers × HasValues domain.new result.sample.loan.number answers
             × ((m : Messages T U) (s : State T U) → Shows domain.old m s → (l : Loan T U) × (s.loans self.sample.loan.number ≡ Some l)
             × (s' : State T U) × WriteAllFrom s self.sample.loan.number l answers s' × Shows domain.new m s') }
+        ensures lengths { (cells : List (Option T)) (values : List T) → HasUnwrittenCells domain.old self.sample.loan.number cells
+            → HasValues domain.new result.sample.loan.number values → length values ≡ length cells }
         ensures live { IsWrittenLoan domain.new result.sample }
         ensures key { written_key result.sample ≡ unwritten_key self.sample }
         ensures loans_left { LoansLeftStay domain.old domain.new }

@@ -3,7 +3,6 @@ ghost use Rattle.std.specs.Prelude.{◌≡◌, ◌≤◌, None, Some, IfOk, OnEr
 ghost use Rattle.iox2_store.specs.machine.Environments.{fixed_handlers};
 ghost use Rattle.iox2_store.specs.machine.Ports.{CreatePublisher};
 ghost use Rattle.iox2_store.specs.machine.State.{State, Messages};
-ghost use Rattle.iox2_store.specs.declared.service_config.TypeVariant.TheVariants.{Dynamic};
 ghost use Rattle.iox2_pubsub.specs.Live.{IsLivePublisher, IsNewIn, Stays, publisher_port, payloads, waiting};
 ghost use Rattle.iox2_pubsub.specs.LoansLeft.{HasLoansLeft, LoansLeftStay};
 ghost use Rattle.iox2_domain.specs.NewPublisher.{plain_publisher};
@@ -95,7 +94,6 @@ impl PortFactoryPublisher {
         self,
         domain: &mut Domain<T, U, F, G>,
     ) -> Result<Publisher, PublisherCreateError>
-        requires dynamic { (domain.old.config).variant ≡ Dynamic }
         ensures creates { (m : Messages T U) (s : State T U) → Shows domain.old m s → (s' : State T U) × Shows domain.new m s'
             × MatchResult result
             (λ publisher. (publisher.publisher.id ≡ s.next_port) × CreatePublisher fixed_handlers s self s' None)

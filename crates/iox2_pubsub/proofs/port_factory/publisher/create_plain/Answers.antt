@@ -111,6 +111,3 @@ returns-clause-left g c =
     let step = returns-clause-creates g c it.0 it.1 it.2 in
     created-left {T = g.row.T.Denot} {U = g.row.U.Denot} c.args.domain.now _ it.0 it.0 it.1 step.0 it.2 step.1 fixed_handlers c.args.max_loaned_samples c.args.initial_max_slice_len _ refl
     (record { service_id = c.config.result.now.service_id; id = c.in_ok-port.port.id; place = c.in_ok-port.port.place; initial_max_slice_len = c.args.initial_max_slice_len }) (step.2).0 refl (step.2).1
-
-pub create_publisher-requires-clause-single : goal.create_publisher-requires-clause-single
-create_publisher-requires-clause-single g c = λ fixed. c.requires.single (sym (ap (λ (k : Kept g.row.T.Denot g.row.U.Denot). (k.config).variant) c.domain.view_is) ∙ fixed)

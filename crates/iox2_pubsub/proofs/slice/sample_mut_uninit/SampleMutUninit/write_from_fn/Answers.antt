@@ -1,10 +1,10 @@
-use Rattle.std.proofs.Common.{◌≡◌, false, refl, ap, subst, sym, map, Some}
+use Rattle.std.proofs.Common.{◌≡◌, false, refl, ap, subst, sym}
 use Rattle.iox2_store.specs.SingleValues.{is_single_valued}
-use Rattle.iox2_domain.specs.Kept.{Kept, state_of}
-use Rattle.iox2_domain.specs.LoanCalls.{HasCells, cells_changed}
+use Rattle.iox2_domain.specs.Kept.{Kept}
 use Rattle.iox2_domain.specs.declared.loan_slots.LoanAt.{LoanAt}
-use Rattle.iox2_pubsub.proofs.LoanHandles.{written-out, unwritten-out, loan-out}
-use Rattle.iox2_pubsub.proofs.SliceParts.{sliced-parts, cells-parts, has-cells, has-values, filled-shown, filled-values, filled-live, filled-stays, filled-left}
+use Rattle.iox2_pubsub.proofs.LoanHandles.{unwritten-out}
+use Rattle.iox2_pubsub.proofs.SliceParts.{sliced-parts, filled-shown, filled-values, filled-live, filled-stays, filled-left}
+use Rattle.iox2_pubsub.proofs.FilledLengths.{filled-lengths}
 use Rattle.iox2_pubsub.proofs.slice.sample_mut_uninit.SampleMutUninit.write_from_fn.Goals as goal
 
 pub write_loan_from_fn-loan-requires-clause-live : goal.write_loan_from_fn-loan-requires-clause-live
@@ -24,3 +24,8 @@ returns-clause-stays g c = filled-stays {T = g.row.T.Denot} {U = g.row.U.Denot} 
 
 pub returns-clause-loans_left : goal.returns-clause-loans_left
 returns-clause-loans_left g c = filled-left {T = g.row.T.Denot} {U = g.row.U.Denot} c.domain.inside.state c.write_loan_from_fn-loan.new.state c.domain.invariant c.args.domain.now c.domain.view_is c.args.self.sample.loan.number c.write_loan_from_fn-loan.ensures.writes.0 c.write_loan_from_fn-loan.ensures.writes.2
+
+pub returns-clause-lengths : goal.returns-clause-lengths
+returns-clause-lengths g c = λ cells values has reads.
+    filled-lengths {T = g.row.T.Denot} {U = g.row.U.Denot} c.domain.inside.state c.write_loan_from_fn-loan.new.state c.args.domain.now c.domain.view_is c.args.self.sample.loan.number
+    c.write_loan_from_fn-loan.ensures.writes.0 c.write_loan_from_fn-loan.ensures.writes.2 cells has c.write_loan_from_fn-loan.result.number (ap (λ (at : LoanAt). at.number) c.write_loan_from_fn-loan.ensures.same) values reads
