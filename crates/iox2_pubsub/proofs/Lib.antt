@@ -8,6 +8,7 @@ pub mod LentHandles
 pub mod AssumedLoans
 pub mod WrittenLoanCalls
 pub mod SliceParts
+pub mod FilledLoans
 pub mod SendShown
 pub mod AlwaysShows
 pub mod PublishersShown
