@@ -12,11 +12,19 @@ pub(crate) enum Difference {
         model: Reply<u64, u64>,
     },
     /// The model has no rule for the command at this position.
-    NoRule { position: usize },
+    NoRule {
+        position: usize,
+    },
     /// In how many replies there are.
-    Count { run: usize, model: usize },
+    Count {
+        run: usize,
+        model: usize,
+    },
     /// In how many connections were refused memory.
-    Refusals { run: u64, model: u64 },
+    Refusals {
+        run: u64,
+        model: u64,
+    },
 }
 
 impl Difference {

@@ -76,7 +76,10 @@ fn print_shortest(rt: &HostRuntime, script: &Script) -> Result<(), Failure> {
         config: script.config,
         commands,
     };
-    println!(rt; "the shortest such script has {} commands:", fewest.commands.len())?;
+    println!(rt;
+        "the shortest such script has {} commands:",
+        fewest.commands.len()
+    )?;
     print_lines(rt, &fewest)?;
     let commands = fewest.commands.as_slice();
     let ran = carry_out_all(rt.alloc(), fewest.config, commands)?;
