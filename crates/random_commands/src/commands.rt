@@ -162,7 +162,7 @@ fn change(chance: &mut Chance, model: &Model) -> Command<u64, u64> {
 }
 
 fn read(chance: &mut Chance, model: &Model) -> Command<u64, u64> {
-    let of = if chance.one_in(3) {
+    let of = if chance.one_in(2) {
         any_loan(chance, model)
     } else {
         live_or_any(chance, model, Kind::Sample)

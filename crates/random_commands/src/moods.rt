@@ -11,6 +11,8 @@ pub(crate) enum Mood {
     Receives,
     Releases,
     Closes,
+    // It takes loans, and changes and reads them where they lie.
+    Changes,
     Everything,
 }
 
@@ -36,12 +38,13 @@ pub(crate) enum Wish {
 }
 
 pub(crate) fn draw_mood(chance: &mut Chance) -> Mood {
-    match chance.below(7) {
+    match chance.below(8) {
         0 => Mood::Ports,
         1 | 2 => Mood::Messages,
         3 => Mood::Receives,
         4 => Mood::Releases,
         5 => Mood::Closes,
+        6 => Mood::Changes,
         _ => Mood::Everything,
     }
 }
@@ -58,6 +61,7 @@ pub(crate) fn draw_wish(chance: &mut Chance, mood: Mood) -> Wish {
         Mood::Receives => Wish::Receive,
         Mood::Releases => Wish::Release,
         Mood::Closes => closing_wish(chance),
+        Mood::Changes => changing_wish(chance),
         Mood::Everything => any_wish(chance),
     }
 }
@@ -70,6 +74,15 @@ fn closing_wish(chance: &mut Chance) -> Wish {
         5 => Wish::MakeSubscriber,
         6 | 7 => Wish::Message,
         _ => Wish::Receive,
+    }
+}
+
+fn changing_wish(chance: &mut Chance) -> Wish {
+    match chance.below(6) {
+        0 => Wish::Loan,
+        1..=3 => Wish::Change,
+        4 => Wish::Read,
+        _ => Wish::Message,
     }
 }
 

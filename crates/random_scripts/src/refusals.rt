@@ -1,5 +1,5 @@
 //! A script while one allocation is refused.
-use crate::comparison::{Ran, carry_out_all, compare};
+use crate::comparison::{Comparison, Ran, carry_out_all, compare};
 use crate::failure::Failure;
 use crate::rounds::{MOST_COMMANDS, print_lines};
 use iox2_model::Memory;
@@ -50,13 +50,16 @@ pub(crate) fn run_refused(
 // what was refused was refused before. Most likely it was shortly before.
 fn explain(rt: &HostRuntime, script: &Script, ran: &Ran) -> Result<(), Failure> {
     let commands = script.commands.as_slice();
-    let ample = compare(rt.alloc(), script.config, commands, ran, Memory::ample())?;
-    let Some(mut closest) = ample.difference else {
+    let Comparison {
+        difference,
+        questions,
+    } = compare(rt.alloc(), script.config, commands, ran, Memory::ample())?;
+    let Some(mut closest) = difference else {
         println!(rt; "nothing seen")?;
         return Ok(());
     };
-    for later in 0..ample.questions {
-        let memory = Memory::refused_after(ample.questions - 1 - later);
+    for later in 0..questions {
+        let memory = Memory::refused_after(questions - 1 - later);
         match compare(rt.alloc(), script.config, commands, ran, memory)?.difference {
             None => return print_refusal(rt, ran),
             Some(other) => {
