@@ -5,7 +5,7 @@ use Rattle.std.proofs.lemmas.Option.{same_Some}
 use Rattle.iox2_store.specs.machine.Records.{Loan}
 use Rattle.iox2_domain.specs.Kept.{Kept, state_of}
 use Rattle.iox2_domain.specs.Fields.{Fields, kept_of}
-use Rattle.iox2_domain.specs.LoanCalls.{HasCells, WritesLoan}
+use Rattle.iox2_domain.specs.LoanCalls.{WritesLoan}
 use Rattle.iox2_pubsub.specs.Slices.{HasUnwrittenCells, HasValues}
 use Rattle.iox2_pubsub.proofs.LoanHandles.{changed-out}
 use Rattle.iox2_pubsub.proofs.SliceParts.{cells-parts, values-parts}
