@@ -5,14 +5,10 @@ use Rattle.std.proofs.lemmas.Option.{same_Some}
 use Rattle.iox2_store.specs.machine.Records.{Loan}
 use Rattle.iox2_domain.specs.Kept.{Kept, state_of}
 use Rattle.iox2_domain.specs.Fields.{Fields, kept_of}
-use Rattle.iox2_domain.specs.LoanCalls.{HasCells, WritesLoan}
+use Rattle.iox2_domain.specs.LoanCalls.{WritesLoan}
 use Rattle.iox2_pubsub.specs.Slices.{HasUnwrittenCells, HasValues}
 use Rattle.iox2_pubsub.proofs.LoanHandles.{changed-out}
-use Rattle.iox2_pubsub.proofs.SliceParts.{cells-parts}
-
-values-are : {T U : Type 0} (kept : Kept T U) (n : ℕ) (values : List T) → HasValues kept n values → HasCells (state_of kept) n (map Some values)
-unfolding HasValues
-values-are kept n values has = has
+use Rattle.iox2_pubsub.proofs.SliceParts.{cells-parts, values-parts}
 
 module _ {T U : Type 0} (f g : Fields T U) (kept : Kept T U) (view : kept_of f ≡ kept) (n : ℕ) (answers : List T) (writes : WritesLoan f g n answers) where
   abbrev filled : Loan T U
@@ -21,7 +17,7 @@ module _ {T U : Type 0} (f g : Fields T U) (kept : Kept T U) (view : kept_of f �
   pub filled-lengths : (cells : List (Option T)) → HasUnwrittenCells kept n cells → (k : ℕ) → k ≡ n → (values : List T) → HasValues (kept_of g) k values → length values ≡ length cells
   filled-lengths cells has k its values reads =
       let was = cells-parts kept n cells has in
-      let now = values-are (kept_of g) k values reads in
+      let now = values-parts (kept_of g) k values reads in
       let old : writes.0 ≡ was.0 = same_Some writes.0 was.0 (sym writes.1 ∙ ap (λ (e : Kept T U). (state_of e).loans n) view ∙ was.1) in
       let new : now.0 ≡ filled = same_Some now.0 filled (sym now.1 ∙ ap (state_of (kept_of g)).loans its ∙ changed-out f g kept view n writes.0 filled writes.1 writes.3) in
       sym (length-map values (λ (value : T). Some value))

@@ -8,11 +8,13 @@
 ghost use Rattle.iox2_pubsub.specs.Live.{IsLiveSubscriber, IsSingleValued, Stays};
 ghost use Rattle.iox2_pubsub.specs.LoansLeft.{HasNumbersLeft};
 
+mod batch;
 mod correction;
 mod failure;
 mod reading;
 mod report;
 mod series;
+mod waiting;
 
 use failure::Failure;
 use iox2_pubsub::{Domain, ServiceConfig, Subscriber};

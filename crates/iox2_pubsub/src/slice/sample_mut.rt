@@ -2,6 +2,7 @@
 ghost use Rattle.std.specs.Prelude.{◌≡◌};
 
 mod payload_mut;
+mod user_header_mut;
 
 use crate::domain::Domain;
 use crate::send_outcome::SendOutcome;
@@ -17,7 +18,7 @@ pub struct SampleMut {
 }
 
 impl SampleMut {
-    ghost use Rattle.std.specs.Prelude.{IfErr, IsOk, Some, ◌+◌};
+    ghost use Rattle.std.specs.Prelude.{IfErr, IsOk, List, Some, ◌+◌};
     ghost use Rattle.iox2_store.specs.machine.Loans.{loan_discarded};
     ghost use Rattle.iox2_store.specs.machine.Records.{Loan};
     ghost use Rattle.iox2_store.specs.machine.State.{State, Messages};
@@ -36,7 +37,8 @@ impl SampleMut {
     ) -> &'a [T]
         requires live { IsWrittenLoan domain.now self.now.sample }
         requires sliced { IsSliced domain.now }
-        ensures { HasValues domain.now self.now.sample.loan.number result.now }
+        ensures reads { HasValues domain.now self.now.sample.loan.number result.now }
+        ensures same { (values : List T) → HasValues domain.now self.now.sample.loan.number values → result.now ≡ values }
     {
         loan_values(&domain.state, &self.sample.loan)
     }
