@@ -165,9 +165,13 @@ OthersWait subscriber old new = (other : Subscriber) → other.id ≢ subscriber
 abbrev pub AddAtMost : {T U : Type 0} → (more : ℕ) → (old new : Kept T U) → Type 0
 AddAtMost more old new = (subscriber : Subscriber) → waiting new subscriber ≤ waiting old subscriber + more
 
+-- Each of the payloads has these values.
+unfoldable pub AreAllSlices : {T : Type 0} → List (List T) → List T → Type 0
+AreAllSlices payloads values = AllByRecursion (λ payload. payload ≡ values) payloads
+
 -- Each of the payloads is this one value.
-unfoldable pub AreAll : {T : Type 0} → List (List T) → T → Type 0
-AreAll payloads value = AllByRecursion (λ payload. payload ≡ value ∷ []) payloads
+abbrev pub AreAll : {T : Type 0} → List (List T) → T → Type 0
+AreAll payloads value = AreAllSlices payloads (value ∷ [])
 
 -- ---- what a call spends, and what stays
 

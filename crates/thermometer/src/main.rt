@@ -28,8 +28,9 @@ fn main(rt: HostRuntime) -> Result<(), Failure> {
     let outcome = run(&rt, &mut domain, &subscriber);
     subscriber.close(&mut domain);
     outcome?;
-    let temperatures = exchange(rt.alloc())?;
-    println!(rt; "{temperatures} temperatures in series")?;
+    if let Some(temperatures) = exchange(rt.alloc())? {
+        println!(rt; "{temperatures} temperatures in a series")?;
+    }
     Ok(())
 }
 
