@@ -1,6 +1,5 @@
 //! Temperatures go in series, as slices, from a domain's start to its end.
 ghost use Rattle.std.specs.Prelude.{◌≡◌, ℕ, [], ◌∷◌, List, length, IfOk, IfSome};
-ghost use Rattle.iox2_store.specs.declared.service_config.TypeVariant.TheVariants.{Dynamic};
 ghost use Rattle.iox2_pubsub.specs.Live.{AreAllSlices, IsLivePublisher, IsLiveSubscriber, Stays, payloads, waiting};
 ghost use Rattle.iox2_pubsub.specs.LoansLeft.{HasLoansLeft, HasNumbersLeft};
 ghost use Rattle.iox2_pubsub.specs.Slices.{IsSliced};
@@ -27,7 +26,7 @@ pub fn exchange(alloc: Global) -> Result<Option<usize>, Failure> {
 
 // Makes a publisher of series of three, with one loan out at a time, and sends two series with it.
 fn publish(domain: &mut Domain<u64, ()>, subscriber: &Subscriber) -> Result<Option<usize>, Failure>
-    requires dynamic { (domain.old.config).variant ≡ Dynamic }
+    requires dynamic { (domain.old.config).variant ≡ TypeVariant.Dynamic }
     requires one_unit { (domain.old.config).units_per_element ≡ 1 }
     requires sliced { IsSliced domain.old }
     requires subscriber { IsLiveSubscriber domain.old subscriber.now.subscriber }
@@ -51,7 +50,7 @@ fn send_both(
     publisher: &Publisher,
     subscriber: &Subscriber,
 ) -> Result<Option<usize>, Failure>
-    requires dynamic { (domain.old.config).variant ≡ Dynamic }
+    requires dynamic { (domain.old.config).variant ≡ TypeVariant.Dynamic }
     requires one_unit { (domain.old.config).units_per_element ≡ 1 }
     requires sliced { IsSliced domain.old }
     requires publisher { IsLivePublisher domain.old publisher.now.publisher }
@@ -69,7 +68,7 @@ fn send_both(
 // Sends a series of the hours 0, 1 and 2, the first of which is set to 12 where it lies. Its loan
 // can't be refused, so there is no case for that.
 fn send_made(domain: &mut Domain<u64, ()>, publisher: &Publisher) -> Result<(), Failure>
-    requires dynamic { (domain.old.config).variant ≡ Dynamic }
+    requires dynamic { (domain.old.config).variant ≡ TypeVariant.Dynamic }
     requires one_unit { (domain.old.config).units_per_element ≡ 1 }
     requires sliced { IsSliced domain.old }
     requires publisher { IsLivePublisher domain.old publisher.now.publisher }
@@ -99,7 +98,7 @@ fn pass_copied(
     publisher: &Publisher,
     subscriber: &Subscriber,
 ) -> Result<Option<usize>, Failure>
-    requires dynamic { (domain.old.config).variant ≡ Dynamic }
+    requires dynamic { (domain.old.config).variant ≡ TypeVariant.Dynamic }
     requires one_unit { (domain.old.config).units_per_element ≡ 1 }
     requires sliced { IsSliced domain.old }
     requires publisher { IsLivePublisher domain.old publisher.now.publisher }
@@ -113,7 +112,7 @@ fn pass_copied(
 
 // Sends a series that is copied into its loan.
 fn send_copied(domain: &mut Domain<u64, ()>, publisher: &Publisher) -> Result<(), Failure>
-    requires dynamic { (domain.old.config).variant ≡ Dynamic }
+    requires dynamic { (domain.old.config).variant ≡ TypeVariant.Dynamic }
     requires one_unit { (domain.old.config).units_per_element ≡ 1 }
     requires sliced { IsSliced domain.old }
     requires publisher { IsLivePublisher domain.old publisher.now.publisher }
