@@ -34,18 +34,19 @@ use Rattle.iox2_laws.proofs.Puts.{at_each, put_at-same, put_at-other}
 
 -- ---- one publisher
 
--- The publisher has the same limit of loans, the same slots and the same loans out.
+-- The publisher has the same limits of loans and of their lengths, the same slots and the same loans out.
 pub record KeepsTerms (x x' : Publisher) : Type 0 where
   pub allocation : x'.allocation_strategy ≡ x.allocation_strategy
   pub most : x'.max_loaned_samples ≡ x.max_loaned_samples
   pub slots : x'.slots ≡ x.slots
+  pub longest : x'.initial_max_slice_len ≡ x.initial_max_slice_len
   pub loans : x'.loans ≡ x.loans
 
 same_terms : (x : Publisher) → KeepsTerms x x
-same_terms x = record { allocation = refl; most = refl; slots = refl; loans = refl }
+same_terms x = record { allocation = refl; most = refl; slots = refl; longest = refl; loans = refl }
 
 terms_trans : (x y z : Publisher) → KeepsTerms x y → KeepsTerms y z → KeepsTerms x z
-terms_trans x y z a b = record { allocation = b.allocation ∙ a.allocation; most = b.most ∙ a.most; slots = b.slots ∙ a.slots; loans = b.loans ∙ a.loans }
+terms_trans x y z a b = record { allocation = b.allocation ∙ a.allocation; most = b.most ∙ a.most; slots = b.slots ∙ a.slots; longest = b.longest ∙ a.longest; loans = b.loans ∙ a.loans }
 
 -- what is found under an id afterwards
 abbrev Kept_at : Publisher → Option Publisher → Type 0
@@ -95,7 +96,7 @@ module _ {T U : Type 0} where
         config = refl;
         numbers = refl;
         publishers = put_terms s.publishers p (record x { ends = (h.0).ends; is_due = false })
-            (λ z e. subst (λ (v : Publisher). KeepsTerms v (record x { ends = (h.0).ends; is_due = false })) (same_Some x z (sym present ∙ e)) (record { allocation = refl; most = refl; slots = refl; loans = refl }));
+            (λ z e. subst (λ (v : Publisher). KeepsTerms v (record x { ends = (h.0).ends; is_due = false })) (same_Some x z (sym present ∙ e)) (record { allocation = refl; most = refl; slots = refl; longest = refl; loans = refl }));
       }))
       (λ _ h. kept_same s s' h.0))
 
@@ -124,7 +125,7 @@ module _ {T U : Type 0} where
     at true = record {
       config = refl;
       numbers = refl;
-      publishers = λ p x e. (record x { is_due = true }, ap (option_map {T = Publisher} (λ z. record z { is_due = true })) e, record { allocation = refl; most = refl; slots = refl; loans = refl });
+      publishers = λ p x e. (record x { is_due = true }, ap (option_map {T = Publisher} (λ z. record z { is_due = true })) e, record { allocation = refl; most = refl; slots = refl; longest = refl; loans = refl });
     }
     at false = kept_itself s
 
@@ -139,7 +140,7 @@ module _ {T U : Type 0} where
       (record {
         config = refl;
         numbers = refl;
-        publishers = λ p x e. (record x { is_due = true }, ap (option_map {T = Publisher} (λ z. record z { is_due = true })) e, record { allocation = refl; most = refl; slots = refl; loans = refl });
+        publishers = λ p x e. (record x { is_due = true }, ap (option_map {T = Publisher} (λ z. record z { is_due = true })) e, record { allocation = refl; most = refl; slots = refl; longest = refl; loans = refl });
       })
       (freed_kept (subscriber_pruned (subscriber_shut s q y) q) q)
 
@@ -172,28 +173,47 @@ module _ {T U : Type 0} where
       made place None h = kept_trans s (with_new_publisher s given place) s' (new_publisher_kept s w given place) (made_kept environment s given place s' h)
       made place (Some e) h = kept_same s s' h.1
 
+  -- The publisher that was made stands, on the terms that it was given.
+  pub created_stands : (environment : Environment) (s : State T U) (given : PublisherSettings) (s' : State T U) → CreatePublisher environment s given s' None
+      → (place : ℕ) × Kept_at (new_publisher s given place) (s'.publishers s.next_port) × (s'.config ≡ s.config)
+  created_stands environment s given s' h =
+      by_bool Stands (s.next_port == last_number) _ _ h (λ _ k. absurd (none-some _ k.1)) (λ _ k.
+      by_option Stands (free_place (s.config).max_publishers s.publisher_places) _ _ k (λ _ j. absurd (none-some _ j.1)) (λ place _ j.
+      by_bool Stands (first_segment_fits s.config given) _ _ j (λ _ i. made place i) (λ _ i. absurd (none-some _ i.1))))
+    where
+      Stands : Type 0
+      Stands = (place : ℕ) × Kept_at (new_publisher s given place) (s'.publishers s.next_port) × (s'.config ≡ s.config)
+
+      made : (place : ℕ) → MakePublisher environment s given place s' None → Stands
+      made place h =
+          let kept : LoansKept (with_new_publisher s given place) s' = made_kept environment s given place s' h in
+          (place, kept.publishers s.next_port (new_publisher s given place) (put_at-same s.publishers s.next_port (Some (new_publisher s given place))), kept.config)
+
   -- A publisher that was made has all of its loans left, where it is static and has the worst case of slots.
   pub created_lends : (environment : Environment) (s : State T U) (given : PublisherSettings) (s' : State T U) → is_static given.allocation_strategy ≡ true
       → worst_case s.config given.max_loaned_samples ≤ slots_for s.config given → CreatePublisher environment s given s' None → CanLend s' s.next_port given.max_loaned_samples
   created_lends environment s given s' static slots h =
-      by_bool (CanLend s' s.next_port given.max_loaned_samples) (s.next_port == last_number) _ _ h (λ _ k. absurd (none-some _ k.1)) (λ _ k.
-      by_option (CanLend s' s.next_port given.max_loaned_samples) (free_place (s.config).max_publishers s.publisher_places) _ _ k (λ _ j. absurd (none-some _ j.1)) (λ place _ j.
-      by_bool (CanLend s' s.next_port given.max_loaned_samples) (first_segment_fits s.config given) _ _ j (λ _ i. made place i) (λ _ i. absurd (none-some _ i.1))))
-    where
-      made : (place : ℕ) → MakePublisher environment s given place s' None → CanLend s' s.next_port given.max_loaned_samples
-      made place h =
-          let kept : LoansKept (with_new_publisher s given place) s' = made_kept environment s given place s' h in
-          let there = kept.publishers s.next_port (new_publisher s given place) (put_at-same s.publishers s.next_port (Some (new_publisher s given place))) in
-          let terms : KeepsTerms (new_publisher s given place) there.0 = there.2 in
-          let none : length (there.0).loans ≡ 0 = ap (λ (ns : List ℕ). length ns) terms.loans in
-          record {
-            port = there.0;
-            stands = there.1;
-            static = ap is_static terms.allocation ∙ static;
-            slots = subst (λ (k : ℕ). worst_case s'.config (there.0).max_loaned_samples ≤ k) (sym terms.slots)
-                (subst (λ (k : ℕ). worst_case s'.config k ≤ slots_for s.config given) (sym terms.most) (subst (λ (c : ServiceConfig). worst_case c given.max_loaned_samples ≤ slots_for s.config given) (sym kept.config) slots));
-            few = omega (arith, none, terms.most);
-          }
+      let made = created_stands environment s given s' h in
+      let there = made.1 in
+      let terms : KeepsTerms (new_publisher s given made.0) there.0 = there.2 in
+      let none : length (there.0).loans ≡ 0 = ap (λ (ns : List ℕ). length ns) terms.loans in
+      record {
+        port = there.0;
+        stands = there.1;
+        static = ap is_static terms.allocation ∙ static;
+        slots = subst (λ (k : ℕ). worst_case s'.config (there.0).max_loaned_samples ≤ k) (sym terms.slots)
+            (subst (λ (k : ℕ). worst_case s'.config k ≤ slots_for s.config given) (sym terms.most) (subst (λ (c : ServiceConfig). worst_case c given.max_loaned_samples ≤ slots_for s.config given) (sym made.2) slots));
+        few = omega (arith, none, terms.most);
+      }
+
+  -- It lends slices of as many elements as it was asked for.
+  pub created_longest : (environment : Environment) (s : State T U) (given : PublisherSettings) (s' : State T U) → CreatePublisher environment s given s' None
+      → (x : Publisher) × (s'.publishers s.next_port ≡ Some x) × (x.initial_max_slice_len ≡ given.initial_max_slice_len)
+  created_longest environment s given s' h =
+      let made = created_stands environment s given s' h in
+      let there = made.1 in
+      let terms : KeepsTerms (new_publisher s given made.0) there.0 = there.2 in
+      (there.0, there.1, terms.longest)
 
   pub create_subscriber_kept : (environment : Environment) (s : State T U) (given : SubscriberSettings) (s' : State T U) (refusal : Option SubscriberCreateError)
       → CreateSubscriber environment s given s' refusal → LoansKept s s'
@@ -209,7 +229,7 @@ module _ {T U : Type 0} where
           (record {
             config = refl;
             numbers = refl;
-            publishers = λ p x e. (record x { is_due = true }, ap (option_map {T = Publisher} (λ z. record z { is_due = true })) e, record { allocation = refl; most = refl; slots = refl; loans = refl });
+            publishers = λ p x e. (record x { is_due = true }, ap (option_map {T = Publisher} (λ z. record z { is_due = true })) e, record { allocation = refl; most = refl; slots = refl; longest = refl; loans = refl });
           })
           (kept_trans new h.0 _ (update_subscriber_kept environment new s.next_port h.0 h.1 h.2) (warning_kept h.0 (SubscriberPartlyConnected s.next_port) h.1)))
       made place (Some e) h = kept_same s s' h.1
@@ -248,6 +268,7 @@ module _ {T U : Type 0} where
     pub config : s'.config ≡ s.config
     pub numbers : s'.next_message ≡ s.next_message + 1
     pub own : (n : ℕ) → CanLend s p (n + 1) → CanLend s' p n
+    pub longest : (x : Publisher) → s.publishers p ≡ Some x → (x' : Publisher) × (s'.publishers p ≡ Some x') × (x'.initial_max_slice_len ≡ x.initial_max_slice_len)
     pub others : (i : ℕ) → i ≢ p → s'.publishers i ≡ s.publishers i
 
   granted_taken : (default_header : U) (s : State T U) (p : ℕ) (x : Publisher) → s.publishers p ≡ Some x → (len segments : ℕ) → LoanTaken p s (loan_granted default_header s p x len segments)
@@ -265,6 +286,11 @@ module _ {T U : Type 0} where
           slots = subst (λ (z : Publisher). worst_case s.config z.max_loaned_samples ≤ z.slots) (sym same) can.slots;
           few = omega (arith, length-append x.loans (s.next_message ∷ []), of_x);
         };
+    longest = λ y at. (
+      record x { loans = x.loans ++ s.next_message ∷ []; longest_granted = max x.longest_granted len; segments = segments },
+      put_at-same s.publishers p _,
+      ap (λ (z : Publisher). z.initial_max_slice_len) (same_Some x y (sym present ∙ at)),
+    );
     others = λ i away. put_at-other s.publishers p _ i (ne_eqb i p away);
   }
 
@@ -287,7 +313,7 @@ module _ {T U : Type 0} where
     pub config : s'.config ≡ s.config
     pub numbers : s'.next_message ≡ s.next_message
     pub own : (x : Publisher) → s.publishers p ≡ Some x
-        → (x' : Publisher) × (s'.publishers p ≡ Some x') × (x'.allocation_strategy ≡ x.allocation_strategy) × (x'.max_loaned_samples ≡ x.max_loaned_samples) × (x'.slots ≡ x.slots) × (x'.loans ≡ without n x.loans)
+        → (x' : Publisher) × (s'.publishers p ≡ Some x') × (x'.allocation_strategy ≡ x.allocation_strategy) × (x'.max_loaned_samples ≡ x.max_loaned_samples) × (x'.slots ≡ x.slots) × (x'.loans ≡ without n x.loans) × (x'.initial_max_slice_len ≡ x.initial_max_slice_len)
     pub others : (i : ℕ) (x : Publisher) → i ≢ p → s.publishers i ≡ Some x → Kept_at x (s'.publishers i)
 
   kept_ends : (p n : ℕ) (a b c : State T U) → LoansKept a b → LoanEnds p n b c → LoanEnds p n a c
@@ -298,7 +324,7 @@ module _ {T U : Type 0} where
         let y = h.publishers p x e in
         let z = k.own y.0 y.1 in
         let terms : KeepsTerms x y.0 = y.2 in
-        (z.0, z.1, z.2 ∙ terms.allocation, z.3 ∙ terms.most, z.4 ∙ terms.slots, z.5 ∙ ap (without n) terms.loans);
+        (z.0, z.1, z.2 ∙ terms.allocation, z.3 ∙ terms.most, z.4 ∙ terms.slots, z.5 ∙ ap (without n) terms.loans, z.6 ∙ terms.longest);
     others = λ i x away e. let y = h.publishers i x e in let z = k.others i y.0 away y.1 in (z.0, z.1, terms_trans x y.0 z.0 y.2 z.2);
   }
 
@@ -315,7 +341,7 @@ module _ {T U : Type 0} where
   returned_ends s p n = record {
     config = refl;
     numbers = refl;
-    own = λ x e. (record x { loans = without n x.loans }, put_at-same s.publishers p _ ∙ ap (option_map (λ (x : Publisher). record x { loans = without n x.loans })) e, refl, refl, refl, refl);
+    own = λ x e. (record x { loans = without n x.loans }, put_at-same s.publishers p _ ∙ ap (option_map (λ (x : Publisher). record x { loans = without n x.loans })) e, refl, refl, refl, refl, refl);
     others = λ i x away e. (x, put_at-other s.publishers p _ i (ne_eqb i p away) ∙ e, same_terms x);
   }
 
@@ -326,6 +352,7 @@ module _ {T U : Type 0} where
     own = λ x e. (
       record x { loans = without n x.loans; blocked = None },
       put_at-same s.publishers p _ ∙ ap (option_map (λ (x : Publisher). record x { loans = without n x.loans; blocked = None })) e,
+      refl,
       refl,
       refl,
       refl,
@@ -341,7 +368,7 @@ module _ {T U : Type 0} where
   published_kept : (s : State T U) (p n : ℕ) → LoansKept s (published s p n)
   published_kept s p n =
       kept_trans s (with_loan s n None) (published s p n) (set_kept s n None)
-      (changed_kept (with_loan s n None) p (λ x. record x { history = last_n (s.config).history_size (x.history ++ n ∷ []) }) (λ x. record { allocation = refl; most = refl; slots = refl; loans = refl }))
+      (changed_kept (with_loan s n None) p (λ x. record x { history = last_n (s.config).history_size (x.history ++ n ∷ []) }) (λ x. record { allocation = refl; most = refl; slots = refl; longest = refl; loans = refl }))
 
   mailboxes_kept : (s : State T U) (p : ℕ) (boxes : ℕ → Mailbox) → LoansKept s (with_mailboxes s p boxes)
   mailboxes_kept s p boxes = record { config = refl; numbers = refl; publishers = λ p x e. (x, e, same_terms x) }

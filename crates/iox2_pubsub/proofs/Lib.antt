@@ -7,6 +7,7 @@ pub mod LoanHandles
 pub mod LentHandles
 pub mod AssumedLoans
 pub mod WrittenLoanCalls
+pub mod DefaultSlices
 pub mod SliceParts
 pub mod SendShown
 pub mod AlwaysShows

@@ -20,12 +20,13 @@ use Rattle.iox2_store.specs.declared.errors.SendError.{SendError}
 use Rattle.iox2_store.specs.declared.errors.PublisherCreateError.{PublisherCreateError}
 use Rattle.iox2_store.specs.declared.errors.SubscriberCreateError.{SubscriberCreateError}
 use Rattle.iox2_store.specs.declared.service_config.ServiceConfig.{ServiceConfig}
-use Rattle.iox2_laws.proofs.LoansLeft.{LoansKept, LoanTaken, LoanEnds, set_kept, update_publisher_kept, update_subscriber_kept, receive_kept, released_kept, subscriber_closed_kept, create_publisher_kept, created_lends, create_subscriber_kept, kept_itself, kept_lends, closed_lends, loan_taken, discarded_ends, send_ends, ended_lends, others_lend, lends_fewer}
+use Rattle.iox2_laws.proofs.PortsClose.{publisher_closed_others}
+use Rattle.iox2_laws.proofs.LoansLeft.{KeepsTerms, LoansKept, LoanTaken, LoanEnds, set_kept, update_publisher_kept, update_subscriber_kept, receive_kept, released_kept, subscriber_closed_kept, create_publisher_kept, created_lends, created_longest, create_subscriber_kept, kept_itself, kept_lends, closed_lends, loan_taken, discarded_ends, send_ends, ended_lends, others_lend, lends_fewer}
 use Rattle.iox2_domain.specs.Kept.{Kept, state_of}
 use Rattle.iox2_domain.specs.Lending.{LoanCall}
 use Rattle.iox2_domain.specs.NewPublisher.{plain_publisher}
 use Rattle.iox2_domain.specs.Shows.{Shows}
-use Rattle.iox2_pubsub.specs.LoansLeft.{HasLoansLeft, HasNumbersLeft, NumbersLeftStay, LoansLeftStay, OthersLoansLeftStay, HasOneMoreLeft, TakesOneLeft}
+use Rattle.iox2_pubsub.specs.LoansLeft.{LendsUpTo, HasLoansLeft, HasNumbersLeft, NumbersLeftStay, LoansLeftStay, OthersLoansLeftStay, HasOneMoreLeft, TakesOneLeft}
 use Rattle.iox2_pubsub.specs.SendCalls.{result_of_send}
 use Rattle.iox2_pubsub.specs.declared.publisher.Publisher.{Publisher}
 use Rattle.iox2_pubsub.specs.declared.send_outcome.SendOutcome.{SendOutcome}
@@ -41,14 +42,23 @@ fewer_numbers now was n last e h = omega arith
 one_less : (now n last : ℕ) → now + (n + 1) ≤ last → now + n ≤ last
 one_less now n last h = omega arith
 
+-- the publisher can lend n loans more, and slices as long as its handle says
+abbrev pub LendsAll : {T U : Type 0} → State T U → Publisher → (n : ℕ) → Type 0
+LendsAll s publisher n = CanLend s publisher.id n × LendsUpTo s publisher.id publisher.initial_max_slice_len
+
 module _ {T U : Type 0} (domain : Kept T U) where
-  pub lends-in : (publisher : Publisher) (n : ℕ) → HasLoansLeft domain publisher n → CanLend (state_of domain) publisher.id n
+  pub lends-in : (publisher : Publisher) (n : ℕ) → HasLoansLeft domain publisher n → LendsAll (state_of domain) publisher n
   unfolding HasLoansLeft
   lends-in publisher n h = h
 
-  pub lends-out : (publisher : Publisher) (n : ℕ) → CanLend (state_of domain) publisher.id n → HasLoansLeft domain publisher n
+  pub lends-out : (publisher : Publisher) (n : ℕ) → LendsAll (state_of domain) publisher n → HasLoansLeft domain publisher n
   unfolding HasLoansLeft
   lends-out publisher n h = h
+
+  fewer-left : (publisher : Publisher) (n : ℕ) → HasLoansLeft domain publisher (n + 1) → HasLoansLeft domain publisher n
+  fewer-left publisher n h =
+      let has = lends-in publisher (n + 1) h in
+      lends-out publisher n (lends_fewer (state_of domain) publisher.id n (n + 1) (omega arith) has.0, has.1)
 
   pub numbers-in : (n : ℕ) → HasNumbersLeft domain n → domain.next_message + n ≤ last_number
   unfolding HasNumbersLeft
@@ -62,11 +72,11 @@ module _ {T U : Type 0} (domain : Kept T U) where
   number-left n h = below_last domain.next_message n last_number (numbers-in (n + 1) h)
 
 module _ {T U : Type 0} (kept : Kept T U) (m : Messages T U) (s : State T U) (shown : Shows kept m s) where
-  lends-at : (publisher : Publisher) (n : ℕ) → HasLoansLeft kept publisher n → CanLend s publisher.id n
-  lends-at publisher n h = subst (λ (t : State T U). CanLend t publisher.id n) (sym shown.state) (lends-in kept publisher n h)
+  lends-at : (publisher : Publisher) (n : ℕ) → HasLoansLeft kept publisher n → LendsAll s publisher n
+  lends-at publisher n h = subst (λ (t : State T U). LendsAll t publisher n) (sym shown.state) (lends-in kept publisher n h)
 
-  lends-from : (publisher : Publisher) (n : ℕ) → CanLend s publisher.id n → HasLoansLeft kept publisher n
-  lends-from publisher n h = lends-out kept publisher n (subst (λ (t : State T U). CanLend t publisher.id n) shown.state h)
+  lends-from : (publisher : Publisher) (n : ℕ) → CanLend s publisher.id n → LendsUpTo s publisher.id publisher.initial_max_slice_len → HasLoansLeft kept publisher n
+  lends-from publisher n can long = lends-out kept publisher n (subst (λ (t : State T U). LendsAll t publisher n) shown.state (can, long))
 
   next-at : s.next_message ≡ kept.next_message
   next-at = ap (λ (t : State T U). t.next_message) shown.state
@@ -78,7 +88,11 @@ module _ {T U : Type 0} (old new : Kept T U) (m m' : Messages T U) (s s' : State
 
   pub all-left : LoansKept s s' → LoansLeftStay old new
   all-left kept = record {
-    loans = λ publisher n h. lends-from new m' s' shown' publisher n (kept_lends s s' kept publisher.id n (lends-at old m s shown publisher n h));
+    loans = λ publisher n h.
+        let was = lends-at old m s shown publisher n h in
+        let there = kept.publishers publisher.id (was.1).0 (was.1).1 in
+        let terms : KeepsTerms (was.1).0 there.0 = there.2 in
+        lends-from new m' s' shown' publisher n (kept_lends s s' kept publisher.id n was.0) (there.0, there.1, terms.longest ∙ (was.1).2);
     numbers = numbers-stay kept.numbers;
   }
 
@@ -101,13 +115,15 @@ module _ {T U : Type 0} (old new : Kept T U) (m m' : Messages T U) (s s' : State
   subscriber-creation-left environment given refusal h = all-left (create_subscriber_kept environment s given s' refusal h)
 
   -- a publisher as factories make it so far
-  pub created-left : (environment : Environment) (loans : ℕ) (given : PublisherSettings) → plain_publisher loans 1 ≡ given → (publisher : Publisher) → publisher.id ≡ s.next_port
-      → CreatePublisher environment s given s' None → HasLoansLeft new publisher given.max_loaned_samples
-  created-left environment loans given is publisher its h =
+  pub created-left : (environment : Environment) (loans len : ℕ) (given : PublisherSettings) → plain_publisher loans len ≡ given → (publisher : Publisher) → publisher.id ≡ s.next_port
+      → publisher.initial_max_slice_len ≡ len → CreatePublisher environment s given s' None → HasLoansLeft new publisher given.max_loaned_samples
+  created-left environment loans len given is publisher its long h =
+      let made : CreatePublisher environment s (plain_publisher loans len) s' None = subst (λ (z : PublisherSettings). CreatePublisher environment s z s' None) (sym is) h in
+      let longest = created_longest environment s (plain_publisher loans len) s' made in
       subst (λ (z : PublisherSettings). HasLoansLeft new publisher z.max_loaned_samples) is
       (lends-from new m' s' shown' publisher loans
-      (subst (λ (p : ℕ). CanLend s' p loans) (sym its) (created_lends environment s (plain_publisher loans 1) s' refl (omega arith)
-      (subst (λ (z : PublisherSettings). CreatePublisher environment s z s' None) (sym is) h))))
+      (subst (λ (p : ℕ). CanLend s' p loans) (sym its) (created_lends environment s (plain_publisher loans len) s' refl (omega arith) made))
+      (longest.0, ap s'.publishers its ∙ longest.1, longest.2 ∙ sym long))
 
   -- a call that changes nothing
   pub same-left : s' ≡ s → LoansLeftStay old new
@@ -117,22 +133,26 @@ module _ {T U : Type 0} (old new : Kept T U) (m m' : Messages T U) (s s' : State
   pub loan-takes : {A : Type 0} (is_default : U → Type 0) (checks : Bool) (len : ℕ) (publisher : Publisher) (answer : Result A LoanError) → LoanCall is_default checks len s publisher.id answer s' → TakesOneLeft publisher old new
   loan-takes is_default checks len publisher (Ok a) h =
       let taken : LoanTaken publisher.id s s' = loan_taken ample_memory h.0 checks len s publisher.id s' h.2 in record {
-        loans = λ n left. lends-from new m' s' shown' publisher n (taken.own n (lends-at old m s shown publisher (n + 1) left));
+        loans = λ n left.
+            let was = lends-at old m s shown publisher (n + 1) left in
+            let there = taken.longest (was.1).0 (was.1).1 in
+            lends-from new m' s' shown' publisher n (taken.own n was.0) (there.0, there.1, there.2 ∙ (was.1).2);
         others = λ other n away left.
-            let can : CanLend s other.id n = lends-at old m s shown other n left in
+            let was = lends-at old m s shown other n left in
+            let can : CanLend s other.id n = was.0 in
             lends-from new m' s' shown' other n (record {
               port = can.port;
               stands = taken.others other.id away ∙ can.stands;
               static = can.static;
               slots = subst (λ (c : ServiceConfig). worst_case c (can.port).max_loaned_samples ≤ (can.port).slots) (sym taken.config) can.slots;
               few = can.few;
-            });
+            }) ((was.1).0, taken.others other.id away ∙ (was.1).1, (was.1).2);
         numbers = λ n left. numbers-out new n (fewer_numbers new.next_message old.next_message n last_number
             (sym (next-at new m' s' shown') ∙ taken.numbers ∙ ap (λ (k : ℕ). k + 1) (next-at old m s shown)) (numbers-in old (n + 1) left));
       }
   loan-takes is_default checks len publisher (Err e) h =
       let stay : LoansLeftStay old new = same-left h.0 in record {
-        loans = λ n left. stay.loans publisher n (lends-out old publisher n (lends_fewer (state_of old) publisher.id n (n + 1) (omega arith) (lends-in old publisher (n + 1) left)));
+        loans = λ n left. stay.loans publisher n (fewer-left old publisher n left);
         others = λ other n away left. stay.loans other n left;
         numbers = λ n left. stay.numbers n (numbers-out old n (one_less old.next_message n last_number (numbers-in old (n + 1) left)));
       }
@@ -148,8 +168,11 @@ module _ {T U : Type 0} (old new : Kept T U) (m m' : Messages T U) (s s' : State
 
     pub ended-gives : HasOneMoreLeft p old new
     ended-gives publisher more same left =
-        let can : CanLend s p more = subst (λ (i : ℕ). CanLend s i more) same (lends-at old m s shown publisher more left) in
+        let was = lends-at old m s shown publisher more left in
+        let can : CanLend s p more = subst (λ (i : ℕ). CanLend s i more) same was.0 in
+        let there = ended.own (was.1).0 (ap s.publishers (sym same) ∙ (was.1).1) in
         lends-from new m' s' shown' publisher (more + 1) (subst (λ (i : ℕ). CanLend s' i (more + 1)) (sym same) (ended_lends p n s s' shown.well_formed l out its ended more can))
+        (there.0, ap s'.publishers same ∙ there.1, there.6 ∙ (was.1).2)
 
     pub ended-left : LoansLeftStay old new
     ended-left = record {
@@ -157,16 +180,23 @@ module _ {T U : Type 0} (old new : Kept T U) (m m' : Messages T U) (s s' : State
       numbers = numbers-stay ends.numbers;
     } where
       at : (publisher : Publisher) (more : ℕ) → HasLoansLeft old publisher more → (publisher.id ≡ p) ⊎ (publisher.id ≢ p) → HasLoansLeft new publisher more
-      at publisher more left (inl here) =
-          lends-out new publisher more (lends_fewer (state_of new) publisher.id more (more + 1) (omega arith) (lends-in new publisher (more + 1) (ended-gives publisher more here left)))
-      at publisher more left (inr away) = lends-from new m' s' shown' publisher more (others_lend p n s s' ended publisher.id more away (lends-at old m s shown publisher more left))
+      at publisher more left (inl here) = fewer-left new publisher more (ended-gives publisher more here left)
+      at publisher more left (inr away) =
+          let was = lends-at old m s shown publisher more left in
+          let there = ended.others publisher.id (was.1).0 away (was.1).1 in
+          let terms : KeepsTerms (was.1).0 there.0 = there.2 in
+          lends-from new m' s' shown' publisher more (others_lend p n s s' ended publisher.id more away was.0) (there.0, there.1, terms.longest ∙ (was.1).2)
 
   pub publisher-close-numbers : (p : ℕ) (x : MachinePublisher) → s' ≡ publisher_closed s p x → NumbersLeftStay old new
   publisher-close-numbers p x is = numbers-stay (ap (λ (t : State T U). t.next_message) is)
 
   pub publisher-close-others : (publisher : Publisher) (x : MachinePublisher) → s' ≡ publisher_closed s publisher.id x → OthersLoansLeftStay publisher old new
   publisher-close-others publisher x is = λ other n away left.
-      lends-from new m' s' shown' other n (subst (λ (t : State T U). CanLend t other.id n) (sym is) (closed_lends s publisher.id x other.id n away (lends-at old m s shown other n left)))
+      let was = lends-at old m s shown other n left in
+      let all : LendsAll (publisher_closed s publisher.id x) other n =
+      (closed_lends s publisher.id x other.id n away was.0, ((was.1).0, publisher_closed_others s publisher.id x other.id away ∙ (was.1).1, (was.1).2)) in
+      let there : LendsAll s' other n = subst (λ (t : State T U). LendsAll t other n) (sym is) all in
+      lends-from new m' s' shown' other n there.0 there.1
 
   pub subscriber-close-left : (q : ℕ) (y : MachineSubscriber) → s' ≡ subscriber_closed s q y → LoansLeftStay old new
   subscriber-close-left q y is = all-left (subst (LoansKept s) (sym is) (subscriber_closed_kept s q y))

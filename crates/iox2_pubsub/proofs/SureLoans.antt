@@ -1,6 +1,5 @@
 -- A publisher that can't be refused a loan is granted it.
-use Rattle.std.proofs.Common.{◌≡◌, ℕ, ◌+◌, ◌*◌, ◌<◌, ◌≤◌, List, [], ◌∷◌, length, false, true, get_or, refl, ap, sym, subst, ◌∙◌, arith, Result, Ok, Err}
-use Rattle.std.proofs.lemmas.Bool.{true≢false}
+use Rattle.std.proofs.Common.{◌≡◌, Bool, ℕ, ◌+◌, ◌*◌, ◌<◌, ◌≤◌, List, [], ◌∷◌, length, true, get_or, refl, ap, sym, subst, ◌∙◌, arith, Result, Ok, Err}
 use Rattle.std.proofs.lemmas.Option.{none-some, same_Some}
 use Rattle.std.specs.declared.option.Option.{Option}
 use Rattle.std.specs.declared.option.Option.TheVariants.{None, Some}
@@ -25,14 +24,15 @@ use Rattle.iox2_pubsub.proofs.LoansLeftShown.{lends-in, number-left}
 use Rattle.iox2_pubsub.specs.LoansLeft.{HasLoansLeft, HasNumbersLeft}
 use Rattle.iox2_pubsub.specs.declared.publisher.Publisher.{Publisher as PublisherHandle}
 
--- The publisher has its slots in one segment, at least as many as the worst case for its limit of loans, and has fewer loans
--- out than that limit; and the domain has a message number left.
+-- The publisher has its slots in one segment, at least as many as the worst case for its limit of loans, lends slices as long as
+-- its handle says, and has fewer loans out than that limit; and the domain has a message number left.
 pub record IsSureOfLoan {T U : Type 0} (domain : Kept T U) (publisher : PublisherHandle) : Type 0 where
   pub port : Publisher
   pub stands : (state_of domain).publishers publisher.id ≡ Some port
   pub static : is_static port.allocation_strategy ≡ true
   pub slots : worst_case domain.config port.max_loaned_samples ≤ port.slots
   pub few : length port.loans < port.max_loaned_samples
+  pub longest : port.initial_max_slice_len ≡ publisher.initial_max_slice_len
   pub more : domain.next_message < last_number
 
 fewer_than : (loans more most : ℕ) → loans + (more + 1) ≤ most → loans < most
@@ -42,12 +42,14 @@ fewer_than loans more most h = omega arith
 pub sure-of-loan : {T U : Type 0} (domain : Kept T U) (publisher : PublisherHandle) (loans numbers : ℕ) → HasLoansLeft domain publisher (loans + 1) → HasNumbersLeft domain (numbers + 1)
     → IsSureOfLoan domain publisher
 sure-of-loan {T} {U} domain publisher loans numbers left numbered =
-    let can : CanLend (state_of domain) publisher.id (loans + 1) = lends-in domain publisher (loans + 1) left in record {
+    let has = lends-in domain publisher (loans + 1) left in
+    let can : CanLend (state_of domain) publisher.id (loans + 1) = has.0 in record {
       port = can.port;
       stands = can.stands;
       static = can.static;
       slots = can.slots;
       few = fewer_than (length (can.port).loans) loans (can.port).max_loaned_samples can.few;
+      longest = ap (λ (x : Publisher). x.initial_max_slice_len) (same_Some can.port (has.1).0 (sym can.stands ∙ (has.1).1)) ∙ (has.1).2;
       more = number-left domain numbers numbered;
     }
 
@@ -72,10 +74,10 @@ module _ {T U : Type 0} where
         let has : HasBook f x = (sound.parts.books).publishers i x at in
         first_header (get_or f.contents x.book None) (length (has.book).holders) (omega (arith, some, has.slots)) ((sound.parts.books).books x.book has.book has.stands).shaped
 
-    -- what stands here is no refusal
-    unrefused : (publisher : PublisherHandle) → x.id ≡ publisher.id → IsSureOfLoan (kept_of f) publisher
-        → (e : LoanError) → ((user_header : U) → GrantLoan ample_memory user_header false 1 state x.id state (Some e)) → ⊥
-    unrefused publisher its sure e refuses =
+    -- what stands here is no refusal of a loan of that length
+    unrefused : (checks : Bool) (len : ℕ) (publisher : PublisherHandle) → (checks ≡ true → len ≤ publisher.initial_max_slice_len) → x.id ≡ publisher.id
+        → IsSureOfLoan (kept_of f) publisher → (e : LoanError) → ((user_header : U) → GrantLoan ample_memory user_header checks len state x.id state (Some e)) → ⊥
+    unrefused checks len publisher short its sure e refuses =
         let stands : state.publishers x.id ≡ Some sure.port = ap state.publishers its ∙ sure.stands in
         let same : (publisher_of f.books f.connections x).port ≡ sure.port = same_Some _ _ (sym (publisher-stands f sound.parts i x at) ∙ stands) in
         let slots : x.slots ≡ (sure.port).slots = ap (λ (y : Publisher). y.slots) same in
@@ -83,15 +85,16 @@ module _ {T U : Type 0} where
         some_slot ((f.config).max_subscribers * (buffer_limit f.config + (f.config).subscriber_max_borrowed_samples) + (f.config).history_size)
         (length (sure.port).loans) (sure.port).max_loaned_samples (sure.port).slots sure.slots sure.few in
         let user_header : U = some_header (omega (arith, some, slots)) in
-        none-some e (sym ((worst_case_of_slots_grants ample_memory user_header state x.id sure.port false 1 sound.well_formed stands sure.static sure.slots sure.few sure.more
-        (λ checks. absurd (true≢false (sym checks)))).1 state (Some e) (refuses user_header)))
+        none-some e (sym ((worst_case_of_slots_grants ample_memory user_header state x.id sure.port checks len sound.well_formed stands sure.static sure.slots sure.few sure.more
+        (λ is. subst (λ (longest : ℕ). len ≤ longest) (sym sure.longest) (short is))).1 state (Some e) (refuses user_header)))
 
-  -- no loan is refused to a publisher that can't be
-  pub sure-granted : (is_default : U → Type 0) (f new : Fields T U) → IsDomain f → (i : ℕ) (publisher : PublisherHandle)
+  -- no loan that isn't too long is refused to a publisher that can't be refused one
+  pub sure-granted : (is_default : U → Type 0) (checks : Bool) (len : ℕ) (f new : Fields T U) → IsDomain f → (i : ℕ) (publisher : PublisherHandle)
+      → (checks ≡ true → len ≤ publisher.initial_max_slice_len)
       → ((x : PublisherFields) × (get_or f.publishers i None ≡ Some x) × (x.id ≡ publisher.id)) → (answer : Result LoanAt LoanError)
-      → IsSomeAnd (get_or f.publishers i None) (λ z. LoanReaches is_default false 1 f z answer new) → (e : LoanError) → answer ≡ Err e
+      → IsSomeAnd (get_or f.publishers i None) (λ z. LoanReaches is_default checks len f z answer new) → (e : LoanError) → answer ≡ Err e
       → (kept : Kept T U) → kept_of f ≡ kept → IsSureOfLoan kept publisher → ⊥
-  sure-granted is_default f new sound i publisher stands answer reaches e is kept view sure =
-      let here : LoanReaches is_default false 1 f stands.0 answer new = subst (λ (o : Option PublisherFields). IsSomeAnd o (λ z. LoanReaches is_default false 1 f z answer new)) stands.1 reaches in
-      let refused : LoanReaches {A = LoanAt} is_default false 1 f stands.0 (Err e) new = subst (λ (r : Result LoanAt LoanError). LoanReaches is_default false 1 f stands.0 r new) is here in
-      unrefused f sound i stands.0 stands.1 publisher stands.2 (subst (λ (k : Kept T U). IsSureOfLoan k publisher) (sym view) sure) e refused.0
+  sure-granted is_default checks len f new sound i publisher short stands answer reaches e is kept view sure =
+      let here : LoanReaches is_default checks len f stands.0 answer new = subst (λ (o : Option PublisherFields). IsSomeAnd o (λ z. LoanReaches is_default checks len f z answer new)) stands.1 reaches in
+      let refused : LoanReaches {A = LoanAt} is_default checks len f stands.0 (Err e) new = subst (λ (r : Result LoanAt LoanError). LoanReaches is_default checks len f stands.0 r new) is here in
+      unrefused f sound i stands.0 stands.1 checks len publisher short stands.2 (subst (λ (k : Kept T U). IsSureOfLoan k publisher) (sym view) sure) e refused.0

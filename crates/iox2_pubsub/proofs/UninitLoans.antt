@@ -1,6 +1,8 @@
--- A loan of a single value, seen from outside.
-use Rattle.std.proofs.Common.{◌≡◌, Bool, ℕ, ◌*◌, replicate, false, cond, get_or, refl, ap, sym, subst, ◌∙◌, inl, inr, arith, Result, Ok, Err}
+-- A loan that isn't written yet, seen from outside.
+use Rattle.std.proofs.Common.{◌≡◌, Bool, ℕ, ◌*◌, List, length, replicate, false, cond, get_or, refl, ap, sym, subst, ◌∙◌, inl, inr, arith, Result, Ok, Err}
 use Rattle.std.proofs.lemmas.Bool.{cases_eq, eq-eqb, ne_eqb}
+use Rattle.std.proofs.lemmas.List.{length-replicate}
+use Rattle.std.proofs.lemmas.Option.{same_Some}
 use Rattle.std.specs.declared.option.Option.{Option}
 use Rattle.std.specs.declared.option.Option.TheVariants.{None, Some}
 use Rattle.std.specs.Option.{option_map}
@@ -10,16 +12,19 @@ use Rattle.iox2_store.specs.machine.Numbers.{put_at}
 use Rattle.iox2_store.specs.machine.Records.{Loan, Publisher}
 use Rattle.iox2_store.specs.machine.State.{State, Messages}
 use Rattle.iox2_store.specs.declared.errors.LoanError.{LoanError}
+use Rattle.iox2_store.specs.declared.key.Key.{Key}
 use Rattle.iox2_ends.specs.LookUp.{look_up}
-use Rattle.iox2_pubsub.specs.Live.{IsLivePublisher, IsUnwrittenLoan}
+use Rattle.iox2_pubsub.specs.Live.{IsLivePublisher, IsUnwrittenLoan, LoanHasHeader}
+use Rattle.iox2_pubsub.specs.Slices.{HasUnwrittenCells}
 use Rattle.iox2_pubsub.specs.declared.publisher.Publisher.{Publisher as PublisherHandle}
 use Rattle.iox2_pubsub.specs.declared.sample_mut_uninit.SampleMutUninit.{SampleMutUninit}
-use Rattle.iox2_pubsub.proofs.LiveParts.{publisher-parts, unwritten-live}
+use Rattle.iox2_pubsub.proofs.LiveParts.{loan-header, publisher-parts, unwritten-live}
+use Rattle.iox2_pubsub.proofs.SliceParts.{has-cells, cells-parts}
 use Rattle.iox2_domain.specs.Ports.{PublisherFields}
 use Rattle.iox2_domain.specs.Kept.{Kept, Named, state_of, is_named}
 use Rattle.iox2_domain.specs.Fields.{Fields, kept_of, publisher_of}
 use Rattle.iox2_domain.specs.Invariant.{is_publisher}
-use Rattle.iox2_domain.specs.Lending.{IsNamed, LoanReaches, LoanCall}
+use Rattle.iox2_domain.specs.Lending.{IsNamed, LoanReaches, LoanCall, header_for}
 use Rattle.iox2_domain.specs.declared.loan_slots.LoanAt.{LoanAt}
 use Rattle.iox2_domain.specs.Shows.{Shows}
 use Rattle.iox2_domain.proofs.lemmas.containers.LookUps.{look_up-map}
@@ -75,26 +80,30 @@ module _ {T U : Type 0} (f : Fields T U) where
           (reaches.0, reaches.1, reaches.2),
         )
 
-  -- the new loan is out, and isn't written
+  -- the new loan
+  abbrev lent_loan : (x : PublisherFields) (user_header : U) (len : ℕ) → Loan T U
+  lent_loan x user_header len = record {
+    publisher = x.id;
+    header = header_for f.config x.id len;
+    user_header = user_header;
+    cells = replicate (len * (f.config).units_per_element) None;
+    is_written = false;
+  }
+
+  -- it is out
+  granted-out : (is_default : U → Type 0) (checks : Bool) (len : ℕ) (new : Fields T U) (x : PublisherFields) (loan : LoanAt) → IsNamed f x loan
+      → (reaches : LoanReaches {A = LoanAt} is_default checks len f x (Ok loan) new) → (state_of (kept_of new)).loans loan.number ≡ Some (lent_loan x reaches.0 len)
+  granted-out is_default checks len new x loan names reaches =
+      ap (state_of (kept_of new)).loans names.number
+      ∙ ap (λ (t : State T U). t.loans f.next_message) reaches.3.state
+      ∙ ap (λ b. cond b (Some (lent_loan x reaches.0 len)) (state.loans f.next_message)) (eq-eqb f.next_message f.next_message refl)
+
+  -- and isn't written
   granted-live : (is_default : U → Type 0) (checks : Bool) (len : ℕ) (new : Fields T U) (x : PublisherFields) (loan : SampleMutUninit) → loan.service_id ≡ (f.config).service_id
       → IsNamed f x loan.loan → LoanReaches {A = LoanAt} is_default checks len f x (Ok loan.loan) new → IsUnwrittenLoan (kept_of new) loan
   granted-live is_default checks len new x loan its names reaches =
-      let reached : state_of (kept_of new) ≡ loan_granted reaches.0 state x.id (machine x) len x.segments = reaches.3.state in
-      let lent : Loan T U = record {
-        publisher = x.id;
-        header = record { node_id = (f.config).node_id; publisher_id = x.id; number_of_elements = len };
-        user_header = reaches.0;
-        cells = replicate (len * (f.config).units_per_element) None;
-        is_written = false;
-      } in
-      unwritten-live (kept_of new) loan (its ∙ ap (λ (t : State T U). (t.config).service_id) (sym reached)) (
-        lent,
-        ap (state_of (kept_of new)).loans names.number
-            ∙ ap (λ (t : State T U). t.loans f.next_message) reached
-            ∙ ap (λ b. cond b (Some lent) (state.loans f.next_message)) (eq-eqb f.next_message f.next_message refl),
-        sym names.publisher,
-        refl,
-      )
+      unwritten-live (kept_of new) loan (its ∙ ap (λ (t : State T U). (t.config).service_id) (sym reaches.3.state))
+      (lent_loan x reaches.0 len, granted-out is_default checks len new x loan.loan names reaches, sym names.publisher, refl)
 
 module _ {T U : Type 0} (is_default : U → Type 0) (checks : Bool) (len : ℕ) (f new : Fields T U) (i p : ℕ) (answer : Result LoanAt LoanError)
     (stands : (x : PublisherFields) × (get_or f.publishers i None ≡ Some x) × (x.id ≡ p))
@@ -134,3 +143,30 @@ module _ {T U : Type 0} (is_default : U → Type 0) (checks : Bool) (len : ℕ) 
   -- and has the number that was the next
   pub ok-number : (loan : LoanAt) → IsSomeAnd (get_or f.publishers i None) (λ z. IsNamed f z loan) → loan.number ≡ f.next_message
   ok-number loan named = (subst (λ (o : Option PublisherFields). IsSomeAnd o (λ z. IsNamed f z loan)) stands.1 named).number
+
+  -- its cells aren't written
+  pub ok-cells : (loan : LoanAt) → answer ≡ Ok loan → IsSomeAnd (get_or f.publishers i None) (λ z. IsNamed f z loan)
+      → HasUnwrittenCells (kept_of new) loan.number (replicate (len * (f.config).units_per_element) None)
+  ok-cells loan is named =
+      let names : IsNamed f stands.0 loan = subst (λ (o : Option PublisherFields). IsSomeAnd o (λ z. IsNamed f z loan)) stands.1 named in
+      let granted : LoanReaches {A = LoanAt} is_default checks len f stands.0 (Ok loan) new = subst (λ (r : Result LoanAt LoanError). LoanReaches is_default checks len f stands.0 r new) is its in
+      has-cells (kept_of new) loan.number _ (lent_loan f stands.0 granted.0 len, granted-out f is_default checks len new stands.0 loan names granted, refl)
+
+  -- there are no others
+  pub ok-lengths : (loan : LoanAt) → answer ≡ Ok loan → IsSomeAnd (get_or f.publishers i None) (λ z. IsNamed f z loan) → (cells : List (Option T))
+      → HasUnwrittenCells (kept_of new) loan.number cells → length cells ≡ len * (f.config).units_per_element
+  ok-lengths loan is named cells has =
+      let names : IsNamed f stands.0 loan = subst (λ (o : Option PublisherFields). IsSomeAnd o (λ z. IsNamed f z loan)) stands.1 named in
+      let granted : LoanReaches {A = LoanAt} is_default checks len f stands.0 (Ok loan) new = subst (λ (r : Result LoanAt LoanError). LoanReaches is_default checks len f stands.0 r new) is its in
+      let there = cells-parts (kept_of new) loan.number cells has in
+      let same : there.0 ≡ lent_loan f stands.0 granted.0 len = same_Some there.0 (lent_loan f stands.0 granted.0 len) (sym there.1 ∙ granted-out f is_default checks len new stands.0 loan names granted) in
+      ap (λ (cs : List (Option T)). length cs) (sym there.2 ∙ ap (λ (l : Loan T U). l.cells) same) ∙ length-replicate (len * (f.config).units_per_element) (None {T = T})
+
+  -- and its header says whose it is, and how long
+  pub ok-header : (loan : LoanAt) → answer ≡ Ok loan → IsSomeAnd (get_or f.publishers i None) (λ z. IsNamed f z loan) → (key : Key) → key.message ≡ loan.number
+      → LoanHasHeader (kept_of new) key (header_for f.config p len)
+  ok-header loan is named key number =
+      let names : IsNamed f stands.0 loan = subst (λ (o : Option PublisherFields). IsSomeAnd o (λ z. IsNamed f z loan)) stands.1 named in
+      let granted : LoanReaches {A = LoanAt} is_default checks len f stands.0 (Ok loan) new = subst (λ (r : Result LoanAt LoanError). LoanReaches is_default checks len f stands.0 r new) is its in
+      loan-header (kept_of new) key _
+      (lent_loan f stands.0 granted.0 len, ap (state_of (kept_of new)).loans number ∙ granted-out f is_default checks len new stands.0 loan names granted, ap (λ (q : ℕ). header_for f.config q len) stands.2)

@@ -1,5 +1,6 @@
--- A value is loaned and written, and it may be sent at once.
-use Rattle.std.proofs.Common.{◌≡◌, ℕ, true, false, cond, refl, ap, sym, subst, ◌∙◌, Result, Ok, Err, None, Some}
+-- A value or a slice is loaned and written, and it may be sent at once.
+use Rattle.std.specs.List.{All}
+use Rattle.std.proofs.Common.{◌≡◌, ℕ, List, true, false, cond, refl, ap, sym, subst, ◌∙◌, Result, Ok, Err, None, Some}
 use Rattle.std.proofs.lemmas.Bool.{eq-eqb}
 use Rattle.std.specs.declared.option.Option.{Option}
 use Rattle.std.specs.Option.{MatchOption}
@@ -7,7 +8,7 @@ use Rattle.std.specs.Prelude.{IsOk}
 use Rattle.iox2_store.specs.machine.Environments.{ample_memory}
 use Rattle.iox2_store.specs.machine.Loans.{GrantLoan, written}
 use Rattle.iox2_store.specs.machine.Records.{Loan}
-use Rattle.iox2_store.specs.machine.SingleCalls.{GrantWrittenLoan}
+use Rattle.iox2_store.specs.machine.SingleCalls.{GrantWrittenLoan, GrantDefaultSlice, WriteAllFrom}
 use Rattle.iox2_store.specs.machine.State.{State, Messages, with_loan}
 use Rattle.iox2_store.specs.declared.errors.LoanError.{LoanError}
 use Rattle.iox2_store.specs.declared.errors.SendError.{SendError}
@@ -52,3 +53,21 @@ module _ {T U : Type 0} (s mid : State T U) (p n : ℕ) (next : n ≡ s.next_mes
 pub written-refused : {T U : Type 0} (s s' : State T U) (p : ℕ) (e : LoanError) → ((user_header : U) → GrantLoan ample_memory user_header false 1 s p s' (Some e))
     → (value : T) (user_header : U) → GrantWrittenLoan ample_memory value user_header false 1 s p s' (Some e)
 written-refused s s' p e refused value user_header = (s', refused user_header, refl)
+
+-- a slice that is granted and written has these default values
+pub default-grants : {T U : Type 0} (s mid s' : State T U) (p n : ℕ) → n ≡ s.next_message → (l : Loan T U) → mid.loans n ≡ Some l → (IsValue : T → Type 0) (values : List T) → All IsValue values
+    → (user_header : U) (len : ℕ) → GrantLoan ample_memory user_header true len s p mid None → WriteAllFrom mid n l values s' → GrantDefaultSlice ample_memory IsValue values user_header len s p s' None
+default-grants {T} {U} s mid s' p n next l out IsValue values all user_header len grants writes = (
+  all,
+  (
+    mid,
+    grants,
+    subst (λ (k : ℕ). MatchOption (mid.loans k) ⊥ (λ found. WriteAllFrom mid k found values s')) next
+        (subst (λ (o : Option (Loan T U)). MatchOption o ⊥ (λ found. WriteAllFrom mid n found values s')) (sym out) writes),
+  ),
+)
+
+-- one that is refused is refused with any default values
+pub default-refused : {T U : Type 0} (s s' : State T U) (p : ℕ) (e : LoanError) (IsValue : T → Type 0) (len : ℕ) → ((user_header : U) → GrantLoan ample_memory user_header true len s p s' (Some e))
+    → (values : List T) (user_header : U) → All IsValue values → GrantDefaultSlice ample_memory IsValue values user_header len s p s' (Some e)
+default-refused s s' p e IsValue len refused values user_header all = (all, (s', refused user_header, refl))

@@ -1,14 +1,22 @@
 -- How many loans a publisher may still take, and how many message numbers a domain has left.
 use Rattle.std.specs.Prelude.{ℕ, ◌≡◌, ◌≢◌, ◌+◌, ◌≤◌}
+use Rattle.std.specs.declared.option.Option.TheVariants.{Some}
 use Rattle.iox2_store.specs.machine.Limits.{last_number}
 use Rattle.iox2_store.specs.machine.LoansLeft.{CanLend}
+use Rattle.iox2_store.specs.machine.Records.{Publisher as MachinePublisher}
+use Rattle.iox2_store.specs.machine.State.{State}
 use Rattle.iox2_domain.specs.Kept.{Kept, state_of}
 use Rattle.iox2_pubsub.specs.declared.publisher.Publisher.{Publisher}
 
 module _ {T U : Type 0} where
-  -- The publisher wasn't closed, and can't be refused n loans more for want of a slot or for its limit of loans.
+  -- The publisher p stands, and lends slices of up to so many elements.
+  abbrev pub LendsUpTo : State T U → (p longest : ℕ) → Type 0
+  LendsUpTo s p longest = (x : MachinePublisher) × (s.publishers p ≡ Some x) × (x.initial_max_slice_len ≡ longest)
+
+  -- The publisher wasn't closed, lends slices of up to as many elements as its handle says, and can't be refused n loans more
+  -- for want of a slot or for its limit of loans.
   unfoldable pub HasLoansLeft : Kept T U → Publisher → (n : ℕ) → Type 0
-  HasLoansLeft domain publisher n = CanLend (state_of domain) publisher.id n
+  HasLoansLeft domain publisher n = CanLend (state_of domain) publisher.id n × LendsUpTo (state_of domain) publisher.id publisher.initial_max_slice_len
 
   -- The domain has numbers for at least n messages more.
   unfoldable pub HasNumbersLeft : Kept T U → (n : ℕ) → Type 0

@@ -1,10 +1,11 @@
--- Calls that loan a value and write it at once.
-use Rattle.std.specs.Prelude.{◌≡◌, ℕ, false, Result, MatchResult}
+-- Calls that loan a value or a slice and write it at once.
+use Rattle.std.specs.Prelude.{◌≡◌, ℕ, List, false, Result, MatchResult}
+use Rattle.std.specs.List.{All}
 use Rattle.std.specs.declared.option.Option.TheVariants.{None, Some}
 use Rattle.std.specs.declared.result.Result.TheVariants.{Ok}
 use Rattle.iox2_store.specs.machine.Environments.{ample_memory}
 use Rattle.iox2_store.specs.machine.Records.{Loan}
-use Rattle.iox2_store.specs.machine.SingleCalls.{GrantWrittenLoan}
+use Rattle.iox2_store.specs.machine.SingleCalls.{GrantWrittenLoan, GrantDefaultSlice}
 use Rattle.iox2_store.specs.machine.State.{State, Messages}
 use Rattle.iox2_store.specs.declared.errors.LoanError.{LoanError}
 use Rattle.iox2_store.specs.declared.errors.SendError.{SendError}
@@ -20,6 +21,14 @@ module _ {T U : Type 0} where
       MatchResult result
       (λ _. (value : T) × IsValue value × (user_header : U) × is_default user_header × GrantWrittenLoan ample_memory value user_header false 1 s p s' None)
       (λ e. (s' ≡ s) × ((value : T) (user_header : U) → GrantWrittenLoan ample_memory value user_header false 1 s p s' (Some e)))
+
+  -- The publisher p is asked for a slice of such values: it is granted, with a default user header, or refused for this reason,
+  -- and then nothing changes.
+  abbrev pub DefaultSliceCall : {A : Type 0} → (IsValue : T → Type 0) → (is_default : U → Type 0) → (len : ℕ) → State T U → (p : ℕ) → Result A LoanError → State T U → Type 0
+  DefaultSliceCall IsValue is_default len s p result s' =
+      MatchResult result
+      (λ _. (values : List T) × (user_header : U) × is_default user_header × GrantDefaultSlice ample_memory IsValue values user_header len s p s' None)
+      (λ e. (s' ≡ s) × ((values : List T) (user_header : U) → All IsValue values → GrantDefaultSlice ample_memory IsValue values user_header len s p s' (Some e)))
 
   -- The publisher p was lent this value, and the loan is sent, with this outcome.
   pub record SendsGranted (is_default : U → Type 0) (m : Messages T U) (s : State T U) (p : ℕ) (value : T) (outcome : SendOutcome) (m' : Messages T U) (s' : State T U) : Type 0 where

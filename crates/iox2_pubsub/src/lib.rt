@@ -1,6 +1,7 @@
 //! Publish-subscribe delivery: a domain, and the ports that are made in it.
 #![tactic(auto)]
 
+mod custom_markers;
 mod domain;
 mod port_factory;
 mod publisher;
@@ -12,6 +13,7 @@ pub mod slice;
 mod subscriber;
 mod update_connections;
 
+pub use custom_markers::{CustomHeaderMarker, CustomPayloadMarker};
 pub use domain::Domain;
 pub use iox2_store::{
     AllocationStrategy, BackpressureAction, BackpressureFn, BackpressureInfo, BackpressureStrategy,

@@ -20,6 +20,8 @@ pub struct Publisher {
     pub(crate) id: UniquePublisherId,
     // Where the domain looks for it first.
     pub(crate) place: usize,
+    // How many elements a loan has at most: one in a domain of single values.
+    pub(crate) initial_max_slice_len: usize,
 }
 
 impl Publisher {
@@ -50,6 +52,7 @@ impl Publisher {
             service_id: _,
             id: _,
             place: _,
+            initial_max_slice_len: _,
         } = self;
     }
 }

@@ -1,8 +1,16 @@
-//! Messages that are slices: the same loans and samples, with another view of their payload.
+//! Messages that are slices: the same ports, loans and samples, with other calls to lend, and another
+//! view of their payload.
+mod port_factory;
+mod publisher;
 mod sample;
 mod sample_mut;
 mod sample_mut_uninit;
+mod subscriber;
 
+pub use port_factory::publisher::PortFactoryPublisher;
+pub use port_factory::subscriber::PortFactorySubscriber;
+pub use publisher::Publisher;
 pub use sample::Sample;
 pub use sample_mut::SampleMut;
 pub use sample_mut_uninit::SampleMutUninit;
+pub use subscriber::Subscriber;

@@ -14,6 +14,8 @@ mod comparisons;
 #[cfg(test)]
 mod copies;
 #[cfg(test)]
+mod custom_payloads;
+#[cfg(test)]
 mod deliveries;
 #[cfg(test)]
 mod discards;
@@ -43,6 +45,8 @@ mod runs;
 mod samples;
 #[cfg(test)]
 mod sends;
+#[cfg(test)]
+mod slices;
 #[cfg(test)]
 mod stays;
 #[cfg(test)]

@@ -12,18 +12,23 @@ mod correction;
 mod failure;
 mod reading;
 mod report;
+mod series;
 
 use failure::Failure;
 use iox2_pubsub::{Domain, ServiceConfig, Subscriber};
 use reading::Reading;
 use report::report_day;
+use series::exchange;
 
 fn main(rt: HostRuntime) -> Result<(), Failure> {
     let mut domain = Domain::<Reading, ()>::new(rt.alloc(), ServiceConfig::new(1))?;
     let subscriber = domain.subscriber_builder().create(&mut domain)?;
     let outcome = run(&rt, &mut domain, &subscriber);
     subscriber.close(&mut domain);
-    outcome
+    outcome?;
+    let temperatures = exchange(rt.alloc())?;
+    println!(rt; "{temperatures} temperatures in series")?;
+    Ok(())
 }
 
 // Makes the thermometer's publisher, with up to two loans out at a time, and reports with it.

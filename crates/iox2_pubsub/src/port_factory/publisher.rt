@@ -3,6 +3,7 @@ ghost use Rattle.std.specs.Prelude.{◌≡◌, ◌≤◌, ℕ, None, Some, IfOk,
 ghost use Rattle.iox2_store.specs.machine.Environments.{fixed_handlers};
 ghost use Rattle.iox2_store.specs.machine.Ports.{CreatePublisher};
 ghost use Rattle.iox2_store.specs.machine.State.{State, Messages};
+ghost use Rattle.iox2_store.specs.declared.service_config.TypeVariant.TheVariants.{FixedSize};
 ghost use Rattle.iox2_pubsub.specs.Live.{IsLivePublisher, IsNewIn, Stays, publisher_port, payloads, waiting};
 ghost use Rattle.iox2_pubsub.specs.LoansLeft.{HasLoansLeft, LoansLeftStay};
 ghost use Rattle.iox2_domain.specs.NewPublisher.{plain_publisher};
@@ -89,12 +90,36 @@ impl PortFactoryPublisher {
         ensures left { IfOk result (λ publisher. HasLoansLeft domain.new publisher self.max_loaned_samples) }
         ensures stays { Stays domain.old domain.new }
     {
-        let service_id = domain.state.config().service_id;
-        let port = create_publisher(&mut domain.state, self.max_loaned_samples, 1)?;
-        Ok(Publisher {
-            service_id,
-            id: port.id,
-            place: port.place,
-        })
+        create_plain(domain, self.max_loaned_samples, 1)
     }
+}
+
+// Makes a publisher that may have so many loans out, each of so many elements at most.
+pub(crate) fn create_plain<T: Drop, U: Default + Drop, F: BackpressureFn, G: DegradationFn>(
+    domain: &mut Domain<T, U, F, G>,
+    max_loaned_samples: usize,
+    initial_max_slice_len: usize,
+) -> Result<Publisher, PublisherCreateError>
+    requires single { (domain.old.config).variant ≡ FixedSize → initial_max_slice_len ≡ 1 }
+    ensures creates { (m : Messages T U) (s : State T U) → Shows domain.old m s → (s' : State T U) × Shows domain.new m s'
+        × MatchResult result
+        (λ publisher. (publisher.id ≡ s.next_port) × CreatePublisher fixed_handlers s (plain_publisher max_loaned_samples initial_max_slice_len) s' None)
+        (λ e. CreatePublisher fixed_handlers s (plain_publisher max_loaned_samples initial_max_slice_len) s' (Some e)) }
+    ensures live { IfOk result (λ publisher. IsLivePublisher domain.new publisher) }
+    ensures longest { IfOk result (λ publisher. publisher.initial_max_slice_len ≡ initial_max_slice_len) }
+    ensures new { IfOk result (λ publisher. IsNewIn domain.old (publisher_port publisher)) }
+    ensures refused { OnErr result (payloads domain.new ≡ payloads domain.old) }
+    ensures no_fewer { (subscriber : Subscriber) → waiting domain.old subscriber ≤ waiting domain.new subscriber }
+    ensures loans_left { LoansLeftStay domain.old domain.new }
+    ensures left { IfOk result (λ publisher. HasLoansLeft domain.new publisher max_loaned_samples) }
+    ensures stays { Stays domain.old domain.new }
+{
+    let service_id = domain.state.config().service_id;
+    let port = create_publisher(&mut domain.state, max_loaned_samples, initial_max_slice_len)?;
+    Ok(Publisher {
+        service_id,
+        id: port.id,
+        place: port.place,
+        initial_max_slice_len,
+    })
 }

@@ -1,5 +1,5 @@
 //! A publisher lends a message.
-ghost use Rattle.std.specs.Prelude.{◌≡◌, ◌+◌, ℕ, IfOk, IsOk, OnErr, false};
+ghost use Rattle.std.specs.Prelude.{◌≡◌, ◌≤◌, ◌+◌, ◌*◌, ℕ, List, Option, length, IfOk, IsOk, OnErr, None, replicate, true, false};
 
 use crate::domain::Domain;
 use crate::publisher::Publisher;
@@ -9,9 +9,11 @@ use iox2_store::{BackpressureFn, DegradationFn, Key, LoanError, UniquePublisherI
 
 impl Publisher {
     ghost use Rattle.iox2_store.specs.machine.State.{State, Messages};
-    ghost use Rattle.iox2_pubsub.specs.Live.{HasLender, IsLivePublisher, IsSingleValued, IsUnwrittenLoan, IsNewIn, Stays, lender_key, publisher_key, unwritten_key, unwritten_loan, UpToDateStay, payloads};
+    ghost use Rattle.iox2_store.specs.declared.service_config.TypeVariant.TheVariants.{FixedSize};
+    ghost use Rattle.iox2_pubsub.specs.Live.{HasLender, IsLivePublisher, IsSingleValued, IsUnwrittenLoan, IsNewIn, LoanHasHeader, Stays, lender_key, publisher_key, unwritten_key, unwritten_loan, UpToDateStay, payloads};
     ghost use Rattle.iox2_pubsub.specs.LoansLeft.{HasLoansLeft, HasNumbersLeft, LoansLeftStay, TakesOneLeft};
-    ghost use Rattle.iox2_domain.specs.Lending.{LoanCall};
+    ghost use Rattle.iox2_pubsub.specs.Slices.{HasUnwrittenCells};
+    ghost use Rattle.iox2_domain.specs.Lending.{LoanCall, header_for};
     ghost use Rattle.iox2_domain.specs.Shows.{Shows};
 
     /// Lends a message of one element, whose payload isn't written and whose user header has
@@ -50,8 +52,41 @@ impl Publisher {
         ensures refused { OnErr result (LoansLeftStay domain.old domain.new) }
         ensures stays { Stays domain.old domain.new }
     {
+        self.lend(domain, false, 1)
+    }
+
+    // Lends a message of so many elements. Where the length counts, one that is longer than the
+    // publisher lends is refused.
+    #[inline(always)]
+    pub(crate) fn lend<T: Drop, U: Default + Drop, F: BackpressureFn, G: DegradationFn>(
+        &self,
+        domain: &mut Domain<T, U, F, G>,
+        checks_length: bool,
+        len: usize,
+    ) -> Result<SampleMutUninit, LoanError>
+        requires live { IsLivePublisher domain.old self.now }
+        requires unchecked { checks_length ≡ false → (domain.old.config).variant ≡ FixedSize }
+        requires single { (domain.old.config).variant ≡ FixedSize → len ≡ 1 }
+        ensures lends { (m : Messages T U) (s : State T U) → Shows domain.old m s → (s' : State T U) × Shows domain.new m s' × LoanCall U.is_default checks_length len s self.now.id result s' }
+        ensures granted { (loans numbers : ℕ) → HasLoansLeft domain.old self.now (loans + 1) → HasNumbersLeft domain.old (numbers + 1)
+            → (checks_length ≡ true → len ≤ self.now.initial_max_slice_len) → IsOk result }
+        ensures live { IfOk result (λ loan. IsUnwrittenLoan domain.new loan) }
+        ensures cells { IfOk result (λ loan. HasUnwrittenCells domain.new loan.loan.number (replicate (len * (domain.old.config).units_per_element) None)) }
+        ensures lengths { IfOk result (λ loan. (cells : List (Option T)) → HasUnwrittenCells domain.new loan.loan.number cells → length cells ≡ len * (domain.old.config).units_per_element) }
+        ensures header { IfOk result (λ loan. LoanHasHeader domain.new (unwritten_key loan) (header_for domain.old.config self.now.id len)) }
+        ensures new { IfOk result (λ loan. IsNewIn domain.old (unwritten_loan loan)) }
+        ensures number { IfOk result (λ loan. loan.loan.number ≡ domain.old.next_message) }
+        ensures publisher { IfOk result (λ loan. loan.loan.publisher ≡ self.now.id) }
+        ensures lent { IfOk result (λ loan. HasLender domain.new (unwritten_key loan)) }
+        ensures lender { IfOk result (λ loan. lender_key (unwritten_key loan) ≡ publisher_key self.now) }
+        ensures waits { payloads domain.new ≡ payloads domain.old }
+        ensures up_to_date { UpToDateStay domain.old domain.new }
+        ensures loans_left { TakesOneLeft self.now domain.old domain.new }
+        ensures refused { OnErr result (LoansLeftStay domain.old domain.new) }
+        ensures stays { Stays domain.old domain.new }
+    {
         let place = domain.state.find_live_publisher(self.id, self.place);
-        let loan = loan(&mut domain.state, place, false, 1)?;
+        let loan = loan(&mut domain.state, place, checks_length, len)?;
         Ok(SampleMutUninit {
             service_id: self.service_id,
             loan,

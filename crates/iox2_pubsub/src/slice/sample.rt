@@ -96,6 +96,21 @@ impl Sample {
         self.sample.user_header(domain)
     }
 
+    /// The same sample, as one of a slice. This library's own.
+    pub fn new(sample: crate::Sample) -> Sample
+        ensures { result.sample ≡ sample }
+    {
+        Sample { sample }
+    }
+
+    /// The same sample, as one of a single value. This library's own.
+    pub fn into_inner(self) -> crate::Sample
+        ensures { result ≡ self.sample }
+    {
+        let Sample { sample } = self;
+        sample
+    }
+
     /// Names the sample without being its handle. This library's own.
     pub fn key(&self) -> Key
         ensures { result ≡ sample_key self.now.sample }

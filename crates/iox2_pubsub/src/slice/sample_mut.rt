@@ -110,6 +110,21 @@ impl SampleMut {
         self.sample.user_header(domain)
     }
 
+    /// The same loan, as one of a slice. This library's own.
+    pub fn new(sample: crate::SampleMut) -> SampleMut
+        ensures { result.sample ≡ sample }
+    {
+        SampleMut { sample }
+    }
+
+    /// The same loan, as one of a single value. This library's own.
+    pub fn into_inner(self) -> crate::SampleMut
+        ensures { result ≡ self.sample }
+    {
+        let SampleMut { sample } = self;
+        sample
+    }
+
     /// Names the loan without being its handle. This library's own.
     pub fn key(&self) -> Key
         ensures { result ≡ written_key self.now.sample }

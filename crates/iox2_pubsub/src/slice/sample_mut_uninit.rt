@@ -176,6 +176,21 @@ impl SampleMutUninit {
         self.sample.user_header(domain)
     }
 
+    /// The same loan, as one of a slice. This library's own.
+    pub fn new(sample: crate::SampleMutUninit) -> SampleMutUninit
+        ensures { result.sample ≡ sample }
+    {
+        SampleMutUninit { sample }
+    }
+
+    /// The same loan, as one of a single value. This library's own.
+    pub fn into_inner(self) -> crate::SampleMutUninit
+        ensures { result ≡ self.sample }
+    {
+        let SampleMutUninit { sample } = self;
+        sample
+    }
+
     /// Names the loan without being its handle. This library's own.
     pub fn key(&self) -> Key
         ensures { result ≡ unwritten_key self.now.sample }

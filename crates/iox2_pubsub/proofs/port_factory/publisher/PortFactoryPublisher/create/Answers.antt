@@ -1,115 +1,20 @@
-use Rattle.std.proofs.Common.{refl, ◌∙◌, ap, sym, subst}
-use Rattle.std.proofs.lemmas.Result.{err_from_is_err_and}
+use Rattle.std.proofs.Common.{ap, sym, subst}
+use Rattle.std.specs.Prelude.{IfOk, MatchResult}
 use Rattle.std.specs.declared.option.Option.TheVariants.{None, Some}
 use Rattle.iox2_store.specs.machine.Environments.{fixed_handlers}
 use Rattle.iox2_store.specs.machine.Ports.{CreatePublisher}
 use Rattle.iox2_store.specs.machine.Records.{PublisherSettings}
 use Rattle.iox2_store.specs.machine.State.{State}
-use Rattle.iox2_store.specs.declared.service_config.ServiceConfig.{ServiceConfig}
-use Rattle.iox2_domain.specs.Kept.{Kept, state_of}
-use Rattle.iox2_domain.specs.Fields.{kept_of}
-use Rattle.iox2_domain.specs.NewPublisher.{plain_publisher}
 use Rattle.iox2_domain.specs.Shows.{Shows}
-use Rattle.iox2_pubsub.proofs.PublishersShown.{created-shows, created-live}
-use Rattle.iox2_pubsub.proofs.CallsStay.{always-shown, publisher-creation-stays, publisher-is-new}
-use Rattle.iox2_pubsub.proofs.WaitingShown.{publisher-refused, publisher-no-fewer}
-use Rattle.iox2_pubsub.proofs.LoansLeftShown.{publisher-creation-left, created-left}
+use Rattle.iox2_pubsub.specs.LoansLeft.{HasLoansLeft}
 use Rattle.iox2_pubsub.proofs.port_factory.publisher.PortFactoryPublisher.create.Goals as goal
 
-pub returns-in_err-port-clause-creates : goal.returns-in_err-port-clause-creates
-returns-in_err-port-clause-creates g c m s shows =
-    let refused = err_from_is_err_and c.from_residual.result c.from_residual.ensures.1 in
-    let why = c.in_err-port.field-0.0 in
-    let made = c.in_err-port.ensures.step in
-    let before : State g.row.T.Denot g.row.U.Denot = state_of (kept_of c.domain.inside.state) in
-    let shown : Shows (kept_of c.domain.inside.state) m s = subst (λ (kept : Kept g.row.T.Denot g.row.U.Denot). Shows kept m s) (sym c.domain.view_is) shows in
-    let next = created-shows {T = g.row.T.Denot} {U = g.row.U.Denot} c.domain.inside.state c.create_publisher.new.state c.self.inside.max_loaned_samples 1 fixed_handlers m s before (Some why) shown made.0 made.1 in
-    rw (refused.1, refused.2) (before, next.0, subst (λ (given : PublisherSettings). CreatePublisher fixed_handlers s given before (Some why)) c.self.view_is next.1)
-
 pub returns-clause-creates : goal.returns-clause-creates
-returns-clause-creates g c m s shows =
-    let made = c.in_ok-port.ensures.step in
-    let shown : Shows (kept_of c.domain.inside.state) m s = subst (λ (kept : Kept g.row.T.Denot g.row.U.Denot). Shows kept m s) (sym c.domain.view_is) shows in
-    let next = created-shows {T = g.row.T.Denot} {U = g.row.U.Denot} c.domain.inside.state c.create_publisher.new.state c.self.inside.max_loaned_samples 1 fixed_handlers m s made.0 None shown made.1 made.2 in (
-      made.0,
-      next.0,
-      (
-        c.in_ok-port.ensures.id ∙ sym (ap (λ (u : State g.row.T.Denot g.row.U.Denot). u.next_port) shown.state),
-        subst (λ (given : PublisherSettings). CreatePublisher fixed_handlers s given made.0 None) c.self.view_is next.1,
-      ),
-    )
-
-pub returns-clause-live : goal.returns-clause-live
-returns-clause-live g c =
-    let made = c.in_ok-port.ensures.step in
-    created-live {T = g.row.T.Denot} {U = g.row.U.Denot} c.domain.inside.state c.create_publisher.new.state c.self.inside.max_loaned_samples 1 fixed_handlers made.0 made.1 made.2
-    (record { service_id = c.config.result.now.service_id; id = c.in_ok-port.port.id; place = c.in_ok-port.port.place })
-    (ap (λ (config : ServiceConfig). config.service_id) c.config.ensures) c.in_ok-port.ensures.id
-
-pub returns-in_err-port-clause-stays : goal.returns-in_err-port-clause-stays
-returns-in_err-port-clause-stays g c =
-    let it = always-shown {T = g.row.T.Denot} {U = g.row.U.Denot} c.domain.inside.state c.args.domain.now c.domain.invariant c.domain.view_is in
-    let made = c.in_err-port.ensures.step in
-    let why = c.in_err-port.field-0.0 in
-    let shown : Shows (kept_of c.domain.inside.state) it.0 it.1 = subst (λ (kept : Kept g.row.T.Denot g.row.U.Denot). Shows kept it.0 it.1) (sym c.domain.view_is) it.2 in
-    let next = created-shows {T = g.row.T.Denot} {U = g.row.U.Denot} c.domain.inside.state c.create_publisher.new.state c.self.inside.max_loaned_samples 1 fixed_handlers it.0 it.1 _ (Some why) shown made.0 made.1 in
-    publisher-creation-stays {T = g.row.T.Denot} {U = g.row.U.Denot} c.args.domain.now _ it.0 it.1 it.2 fixed_handlers (plain_publisher c.self.inside.max_loaned_samples 1) (Some why) _ next.0 next.1
-
-pub returns-clause-stays : goal.returns-clause-stays
-returns-clause-stays g c =
-    let it = always-shown {T = g.row.T.Denot} {U = g.row.U.Denot} c.domain.inside.state c.args.domain.now c.domain.invariant c.domain.view_is in
-    let step = returns-clause-creates g c it.0 it.1 it.2 in
-    publisher-creation-stays {T = g.row.T.Denot} {U = g.row.U.Denot} c.args.domain.now _ it.0 it.1 it.2 fixed_handlers c.args.self None step.0 step.1 (step.2).1
-
-pub returns-clause-new : goal.returns-clause-new
-returns-clause-new g c =
-    let it = always-shown {T = g.row.T.Denot} {U = g.row.U.Denot} c.domain.inside.state c.args.domain.now c.domain.invariant c.domain.view_is in
-    let step = returns-clause-creates g c it.0 it.1 it.2 in
-    publisher-is-new {T = g.row.T.Denot} {U = g.row.U.Denot} c.args.domain.now c.args.domain.now it.0 it.1 it.2 c.in_ok-port.port.id (step.2).0
-
-pub returns-in_err-port-clause-refused : goal.returns-in_err-port-clause-refused
-returns-in_err-port-clause-refused g c =
-    let it = always-shown {T = g.row.T.Denot} {U = g.row.U.Denot} c.domain.inside.state c.args.domain.now c.domain.invariant c.domain.view_is in
-    let made = c.in_err-port.ensures.step in
-    let why = c.in_err-port.field-0.0 in
-    let shown : Shows (kept_of c.domain.inside.state) it.0 it.1 = subst (λ (kept : Kept g.row.T.Denot g.row.U.Denot). Shows kept it.0 it.1) (sym c.domain.view_is) it.2 in
-    let next = created-shows {T = g.row.T.Denot} {U = g.row.U.Denot} c.domain.inside.state c.create_publisher.new.state c.self.inside.max_loaned_samples 1 fixed_handlers it.0 it.1 _ (Some why) shown made.0 made.1 in
-    let refused = err_from_is_err_and c.from_residual.result c.from_residual.ensures.1 in
-    rw refused.1 (publisher-refused {T = g.row.T.Denot} {U = g.row.U.Denot} c.args.domain.now _ it.0 it.0 it.1 _ it.2 next.0 fixed_handlers (plain_publisher c.self.inside.max_loaned_samples 1) (Some why) next.1 (λ n entry at. at) why refl)
-
-pub returns-in_err-port-clause-no_fewer : goal.returns-in_err-port-clause-no_fewer
-returns-in_err-port-clause-no_fewer g c =
-    let it = always-shown {T = g.row.T.Denot} {U = g.row.U.Denot} c.domain.inside.state c.args.domain.now c.domain.invariant c.domain.view_is in
-    let made = c.in_err-port.ensures.step in
-    let why = c.in_err-port.field-0.0 in
-    let shown : Shows (kept_of c.domain.inside.state) it.0 it.1 = subst (λ (kept : Kept g.row.T.Denot g.row.U.Denot). Shows kept it.0 it.1) (sym c.domain.view_is) it.2 in
-    let next = created-shows {T = g.row.T.Denot} {U = g.row.U.Denot} c.domain.inside.state c.create_publisher.new.state c.self.inside.max_loaned_samples 1 fixed_handlers it.0 it.1 _ (Some why) shown made.0 made.1 in
-    publisher-no-fewer {T = g.row.T.Denot} {U = g.row.U.Denot} c.args.domain.now _ it.0 it.0 it.1 _ it.2 next.0 fixed_handlers (plain_publisher c.self.inside.max_loaned_samples 1) (Some why) next.1
-
-pub returns-clause-no_fewer : goal.returns-clause-no_fewer
-returns-clause-no_fewer g c =
-    let it = always-shown {T = g.row.T.Denot} {U = g.row.U.Denot} c.domain.inside.state c.args.domain.now c.domain.invariant c.domain.view_is in
-    let step = returns-clause-creates g c it.0 it.1 it.2 in
-    publisher-no-fewer {T = g.row.T.Denot} {U = g.row.U.Denot} c.args.domain.now _ it.0 it.0 it.1 step.0 it.2 step.1 fixed_handlers c.args.self None (step.2).1
-
-pub returns-in_err-port-clause-loans_left : goal.returns-in_err-port-clause-loans_left
-returns-in_err-port-clause-loans_left g c =
-    let it = always-shown {T = g.row.T.Denot} {U = g.row.U.Denot} c.domain.inside.state c.args.domain.now c.domain.invariant c.domain.view_is in
-    let made = c.in_err-port.ensures.step in
-    let why = c.in_err-port.field-0.0 in
-    let shown : Shows (kept_of c.domain.inside.state) it.0 it.1 = subst (λ (kept : Kept g.row.T.Denot g.row.U.Denot). Shows kept it.0 it.1) (sym c.domain.view_is) it.2 in
-    let next = created-shows {T = g.row.T.Denot} {U = g.row.U.Denot} c.domain.inside.state c.create_publisher.new.state c.self.inside.max_loaned_samples 1 fixed_handlers it.0 it.1 _ (Some why) shown made.0 made.1 in
-    publisher-creation-left {T = g.row.T.Denot} {U = g.row.U.Denot} c.args.domain.now _ it.0 it.0 it.1 _ it.2 next.0 fixed_handlers (plain_publisher c.self.inside.max_loaned_samples 1) (Some why) next.1
-
-pub returns-clause-loans_left : goal.returns-clause-loans_left
-returns-clause-loans_left g c =
-    let it = always-shown {T = g.row.T.Denot} {U = g.row.U.Denot} c.domain.inside.state c.args.domain.now c.domain.invariant c.domain.view_is in
-    let step = returns-clause-creates g c it.0 it.1 it.2 in
-    publisher-creation-left {T = g.row.T.Denot} {U = g.row.U.Denot} c.args.domain.now _ it.0 it.0 it.1 step.0 it.2 step.1 fixed_handlers c.args.self None (step.2).1
+returns-clause-creates g c m s shown =
+    subst (λ (given : PublisherSettings). (s' : State g.row.T.Denot g.row.U.Denot) × Shows c.create_plain.new m s'
+    × MatchResult c.create_plain.result (λ publisher. (publisher.id ≡ s.next_port) × CreatePublisher fixed_handlers s given s' None) (λ e. CreatePublisher fixed_handlers s given s' (Some e))) c.self.view_is
+    (c.create_plain.ensures.creates m s shown)
 
 pub returns-clause-left : goal.returns-clause-left
 returns-clause-left g c =
-    let it = always-shown {T = g.row.T.Denot} {U = g.row.U.Denot} c.domain.inside.state c.args.domain.now c.domain.invariant c.domain.view_is in
-    let step = returns-clause-creates g c it.0 it.1 it.2 in
-    created-left {T = g.row.T.Denot} {U = g.row.U.Denot} c.args.domain.now _ it.0 it.0 it.1 step.0 it.2 step.1 fixed_handlers c.self.inside.max_loaned_samples c.args.self c.self.view_is
-    (record { service_id = c.config.result.now.service_id; id = c.in_ok-port.port.id; place = c.in_ok-port.port.place }) (step.2).0 (step.2).1
+    subst (λ (given : PublisherSettings). IfOk c.create_plain.result (λ publisher. HasLoansLeft c.create_plain.new publisher given.max_loaned_samples)) c.self.view_is c.create_plain.ensures.left

@@ -1,0 +1,3 @@
+//! The factories of ports of slices.
+pub(crate) mod publisher;
+pub(crate) mod subscriber;

@@ -1,0 +1,117 @@
+//! The factory of publishers of slices.
+ghost use Rattle.std.specs.Prelude.{◌≡◌, ◌≤◌, None, Some, IfOk, OnErr, MatchResult};
+ghost use Rattle.iox2_store.specs.machine.Environments.{fixed_handlers};
+ghost use Rattle.iox2_store.specs.machine.Ports.{CreatePublisher};
+ghost use Rattle.iox2_store.specs.machine.State.{State, Messages};
+ghost use Rattle.iox2_store.specs.declared.service_config.TypeVariant.TheVariants.{Dynamic};
+ghost use Rattle.iox2_pubsub.specs.Live.{IsLivePublisher, IsNewIn, Stays, publisher_port, payloads, waiting};
+ghost use Rattle.iox2_pubsub.specs.LoansLeft.{HasLoansLeft, LoansLeftStay};
+ghost use Rattle.iox2_domain.specs.NewPublisher.{plain_publisher};
+ghost use Rattle.iox2_pubsub.specs.declared.subscriber.Subscriber.{Subscriber};
+ghost use Rattle.iox2_domain.specs.Shows.{Shows};
+
+use crate::domain::Domain;
+use crate::port_factory::publisher::create_plain;
+use crate::slice::Publisher;
+use iox2_store::{BackpressureFn, DegradationFn, PublisherCreateError};
+use std::marker::Model;
+
+/// Makes a publisher of slices. It begins with the loans that the domain's settings allow a
+/// publisher, each of one element at most. So far a publisher discards what a full receiver doesn't
+/// take, and has from the start all the slots that it may ever need, whatever the settings say of
+/// strategies.
+///
+/// iceoryx2's `PortFactoryPublisher` of a slice (`src/service/port_factory/publisher.rs`).
+#[derive(Drop)]
+pub struct PortFactoryPublisher {
+    max_loaned_samples: usize,
+    initial_max_slice_len: usize,
+}
+
+impl Model for PortFactoryPublisher {
+    ghost use Rattle.iox2_store.specs.machine.Records.{PublisherSettings};
+    ghost use Rattle.iox2_domain.specs.NewPublisher.{plain_publisher};
+
+    ghost Value = { PublisherSettings };
+
+    ghost view = { λ factory. plain_publisher factory.max_loaned_samples factory.initial_max_slice_len };
+}
+
+impl<T: Drop, U: Default + Drop, F: BackpressureFn, G: DegradationFn> Domain<T, U, F, G> {
+    /// A factory of publishers of slices, with as many loans as the domain's settings allow a
+    /// publisher, each of one element at most.
+    ///
+    /// iceoryx2's `publisher_builder` of a service's factory of ports.
+    pub fn slice_publisher_builder(&self) -> PortFactoryPublisher
+        ensures { result ≡ plain_publisher (self.now.config).publisher_max_loaned_samples 1 }
+    {
+        PortFactoryPublisher {
+            max_loaned_samples: self.state.config().publisher_max_loaned_samples,
+            initial_max_slice_len: 1,
+        }
+    }
+}
+
+impl PortFactoryPublisher {
+    /// Sets how many loans of the publisher may be out at a time, 0 or more.
+    ///
+    /// iceoryx2's `PortFactoryPublisher::max_loaned_samples`
+    /// (`src/service/port_factory/publisher.rs`).
+    pub fn max_loaned_samples(self, value: usize) -> Self
+        ensures { result ≡ record self { max_loaned_samples = value } }
+    {
+        PortFactoryPublisher {
+            max_loaned_samples: value,
+            initial_max_slice_len: self.initial_max_slice_len,
+        }
+    }
+
+    /// Sets how many elements a loan of the publisher may have at most, 0 or more.
+    ///
+    /// iceoryx2's `PortFactoryPublisher::initial_max_slice_len`
+    /// (`src/service/port_factory/publisher.rs`).
+    pub fn initial_max_slice_len(self, value: usize) -> Self
+        ensures { result ≡ record self { initial_max_slice_len = value } }
+    {
+        PortFactoryPublisher {
+            max_loaned_samples: self.max_loaned_samples,
+            initial_max_slice_len: value,
+        }
+    }
+
+    /// Makes the publisher, as the factory of publishers of single values does. Each of its slots has
+    /// room for the longest loan.
+    ///
+    /// Fails, in this order, with `UnableToCreatePortTag` where the domain has no ids left, with
+    /// `ExceedsMaxSupportedPublishers` where as many publishers are open as may be, with
+    /// `UnableToCreateDataSegment` where the number of slots, or that times the longest length times
+    /// the units of an element, doesn't fit `usize`. After these, where memory is refused: with
+    /// `UnableToCreateDataSegment` if it was for the slots, with `FailedToDeployThreadsafetyPolicy`
+    /// if it was for the publisher's state. No id is then used, and the domain stays as it is.
+    ///
+    /// iceoryx2's `PortFactoryPublisher::create` (`src/service/port_factory/publisher.rs`) and
+    /// `Publisher::new` (`src/port/publisher.rs`).
+    pub fn create<T: Drop, U: Default + Drop, F: BackpressureFn, G: DegradationFn>(
+        self,
+        domain: &mut Domain<T, U, F, G>,
+    ) -> Result<Publisher, PublisherCreateError>
+        requires dynamic { (domain.old.config).variant ≡ Dynamic }
+        ensures creates { (m : Messages T U) (s : State T U) → Shows domain.old m s → (s' : State T U) × Shows domain.new m s'
+            × MatchResult result
+            (λ publisher. (publisher.publisher.id ≡ s.next_port) × CreatePublisher fixed_handlers s self s' None)
+            (λ e. CreatePublisher fixed_handlers s self s' (Some e)) }
+        ensures live { IfOk result (λ publisher. IsLivePublisher domain.new publisher.publisher) }
+        ensures longest { IfOk result (λ publisher. publisher.publisher.initial_max_slice_len ≡ self.initial_max_slice_len) }
+        ensures new { IfOk result (λ publisher. IsNewIn domain.old (publisher_port publisher.publisher)) }
+        ensures refused { OnErr result (payloads domain.new ≡ payloads domain.old) }
+        ensures no_fewer { (subscriber : Subscriber) → waiting domain.old subscriber ≤ waiting domain.new subscriber }
+        ensures loans_left { LoansLeftStay domain.old domain.new }
+        ensures left { IfOk result (λ publisher. HasLoansLeft domain.new publisher.publisher self.max_loaned_samples) }
+        ensures stays { Stays domain.old domain.new }
+    {
+        match create_plain(domain, self.max_loaned_samples, self.initial_max_slice_len) {
+            Ok(publisher) => Ok(Publisher { publisher }),
+            Err(error) => Err(error),
+        }
+    }
+}

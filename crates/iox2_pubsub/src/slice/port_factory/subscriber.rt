@@ -1,0 +1,81 @@
+//! The factory of subscribers of slices.
+ghost use Rattle.std.specs.Prelude.{◌≡◌, None, Some, IfOk, MatchResult};
+ghost use Rattle.iox2_store.specs.machine.Environments.{fixed_handlers};
+ghost use Rattle.iox2_store.specs.machine.Ports.{default_subscriber_settings, buffer_for, CreateSubscriber};
+ghost use Rattle.iox2_store.specs.machine.State.{State, Messages};
+ghost use Rattle.iox2_pubsub.specs.Live.{IsLiveSubscriber, IsNewIn, Stays, subscriber_port, UpToDateStay, payloads, waiting};
+ghost use Rattle.iox2_pubsub.specs.LoansLeft.{LoansLeftStay};
+ghost use Rattle.iox2_domain.specs.Shows.{Shows};
+
+use crate::domain::Domain;
+use crate::slice::Subscriber;
+use iox2_store::{BackpressureFn, DegradationFn, SubscriberCreateError};
+use std::marker::Model;
+
+/// Makes a subscriber of slices. It begins with the largest buffer that the domain allows.
+///
+/// iceoryx2's `PortFactorySubscriber` of a slice (`src/service/port_factory/subscriber.rs`).
+#[derive(Drop)]
+pub struct PortFactorySubscriber {
+    factory: crate::PortFactorySubscriber,
+}
+
+impl Model for PortFactorySubscriber {
+    ghost use Rattle.iox2_store.specs.machine.Records.{SubscriberSettings};
+
+    ghost Value = { SubscriberSettings };
+
+    ghost view = { λ factory. factory.factory };
+}
+
+impl PortFactorySubscriber {
+    /// Sets how many messages of one publisher may wait for the subscriber. Here 0 counts as 1.
+    ///
+    /// iceoryx2's `PortFactorySubscriber::buffer_size` (`src/service/port_factory/subscriber.rs`).
+    pub fn buffer_size(self, value: usize) -> Self
+        ensures { result ≡ record self { buffer_size = value } }
+    {
+        PortFactorySubscriber {
+            factory: self.factory.buffer_size(value),
+        }
+    }
+
+    /// Makes the subscriber in the domain, as the factory of subscribers of single values does, and
+    /// fails as that does.
+    ///
+    /// iceoryx2's `PortFactorySubscriber::create` (`src/service/port_factory/subscriber.rs`) and
+    /// `Subscriber::new` (`src/port/subscriber.rs`).
+    pub fn create<T: Drop, U: Default + Drop, F: BackpressureFn, G: DegradationFn>(
+        self,
+        domain: &mut Domain<T, U, F, G>,
+    ) -> Result<Subscriber, SubscriberCreateError>
+        ensures creates { (m : Messages T U) (s : State T U) → Shows domain.old m s → (s' : State T U) × Shows domain.new m s' × MatchResult result
+            (λ subscriber. CreateSubscriber fixed_handlers s self s' None × (subscriber.subscriber.id ≡ s.next_port) × (subscriber.subscriber.buffer_size ≡ buffer_for self))
+            (λ error. CreateSubscriber fixed_handlers s self s' (Some error)) }
+        ensures live { IfOk result (λ subscriber. IsLiveSubscriber domain.new subscriber.subscriber) }
+        ensures new { IfOk result (λ subscriber. IsNewIn domain.old (subscriber_port subscriber.subscriber)) }
+        ensures none { IfOk result (λ subscriber. waiting domain.new subscriber.subscriber ≡ 0) }
+        ensures waits { payloads domain.new ≡ payloads domain.old }
+        ensures up_to_date { UpToDateStay domain.old domain.new }
+        ensures loans_left { LoansLeftStay domain.old domain.new }
+        ensures stays { Stays domain.old domain.new }
+    {
+        match self.factory.create(domain) {
+            Ok(subscriber) => Ok(Subscriber { subscriber }),
+            Err(error) => Err(error),
+        }
+    }
+}
+
+impl<T: Drop, U: Default + Drop, F: BackpressureFn, G: DegradationFn> Domain<T, U, F, G> {
+    /// A factory of subscribers of slices, with the largest buffer that the domain allows.
+    ///
+    /// iceoryx2's `subscriber_builder` of a service's factory of ports.
+    pub fn slice_subscriber_builder(&self) -> PortFactorySubscriber
+        ensures { result ≡ default_subscriber_settings self.now.config }
+    {
+        PortFactorySubscriber {
+            factory: self.subscriber_builder(),
+        }
+    }
+}

@@ -1,0 +1,69 @@
+//! A publisher of slices.
+ghost use Rattle.std.specs.Prelude.{◌≡◌};
+
+mod close;
+mod loan_custom_payload;
+mod loan_slice;
+mod loan_slice_uninit;
+mod update_connections;
+
+use iox2_store::{Key, UniquePublisherId};
+
+/// Sends slices to every subscriber of its domain. It is a value to be spent, as the publisher of
+/// single values is, and is that publisher with other calls to lend.
+///
+/// iceoryx2's `port::publisher::Publisher` of a slice (`src/port/publisher.rs`).
+pub struct Publisher {
+    pub(crate) publisher: crate::Publisher,
+}
+
+impl Publisher {
+    ghost use Rattle.iox2_pubsub.specs.Live.{publisher_key};
+
+    /// The same publisher, as one of slices. This library's own.
+    pub fn new(publisher: crate::Publisher) -> Publisher
+        ensures { result.publisher ≡ publisher }
+    {
+        Publisher { publisher }
+    }
+
+    /// The same publisher, as one of single values. This library's own.
+    pub fn into_inner(self) -> crate::Publisher
+        ensures { result ≡ self.publisher }
+    {
+        let Publisher { publisher } = self;
+        publisher
+    }
+
+    /// Names the publisher among all ports of its domain.
+    ///
+    /// iceoryx2's `Publisher::id` (`src/port/publisher.rs`).
+    pub fn id(&self) -> UniquePublisherId
+        ensures { result ≡ self.now.publisher.id }
+    {
+        self.publisher.id()
+    }
+
+    /// How many elements a loan may have at most: any number, 0 too.
+    ///
+    /// iceoryx2's `Publisher::initial_max_slice_len` (`src/port/publisher.rs`).
+    pub fn initial_max_slice_len(&self) -> usize
+        ensures { result ≡ self.now.publisher.initial_max_slice_len }
+    {
+        self.publisher.initial_max_slice_len
+    }
+
+    /// Names the publisher without being its handle. This library's own.
+    pub fn key(&self) -> Key
+        ensures { result ≡ publisher_key self.now.publisher }
+    {
+        self.publisher.key()
+    }
+
+    /// Spends the handle of a publisher whose domain is gone. A domain that is still there isn't
+    /// told, and keeps the publisher. This library's own.
+    pub fn disown(self) {
+        let Publisher { publisher } = self;
+        publisher.disown();
+    }
+}

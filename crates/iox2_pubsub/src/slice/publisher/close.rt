@@ -1,0 +1,37 @@
+//! A publisher of slices is closed.
+ghost use Rattle.std.specs.Prelude.{◌≡◌, ◌≤◌};
+
+use crate::domain::Domain;
+use crate::slice::Publisher;
+use iox2_store::{BackpressureFn, DegradationFn};
+
+impl Publisher {
+    ghost use Rattle.std.specs.Prelude.{Some};
+    ghost use Rattle.iox2_store.specs.machine.Ports.{publisher_closed};
+    ghost use Rattle.iox2_store.specs.machine.Records.{Publisher as Record};
+    ghost use Rattle.iox2_store.specs.machine.State.{State, Messages};
+    ghost use Rattle.iox2_pubsub.specs.Live.{IsLivePublisher, IsUpToDate, StaysBut, publisher_key, publisher_port, waiting};
+    ghost use Rattle.iox2_pubsub.specs.LoansLeft.{NumbersLeftStay, OthersLoansLeftStay};
+    ghost use Rattle.iox2_pubsub.specs.declared.subscriber.Subscriber.{Subscriber};
+    ghost use Rattle.iox2_domain.specs.Shows.{Shows};
+
+    /// Closes the publisher, as one of single values is closed.
+    ///
+    /// iceoryx2's `Publisher`, when it is dropped (`src/port/publisher.rs`).
+    pub fn close<T: Drop, U: Default + Drop, F: BackpressureFn, G: DegradationFn>(
+        self,
+        domain: &mut Domain<T, U, F, G>,
+    )
+        requires { IsLivePublisher domain.old self.publisher }
+        ensures closed { (m : Messages T U) (s : State T U) (x : Record) → Shows domain.old m s → s.publishers (publisher_key self.publisher).port ≡ Some x
+            → Shows domain.new m (publisher_closed s (publisher_key self.publisher).port x) }
+        ensures spent { IsLivePublisher domain.new self.publisher → ⊥ }
+        ensures no_fewer { (subscriber : Subscriber) → IsUpToDate domain.old subscriber → waiting domain.old subscriber ≤ waiting domain.new subscriber }
+        ensures loans_left { OthersLoansLeftStay self.publisher domain.old domain.new }
+        ensures numbers_left { NumbersLeftStay domain.old domain.new }
+        ensures stays { StaysBut (publisher_port self.publisher) domain.old domain.new }
+    {
+        let Publisher { publisher } = self;
+        publisher.close(domain);
+    }
+}

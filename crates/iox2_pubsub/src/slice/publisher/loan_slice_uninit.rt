@@ -1,0 +1,66 @@
+//! A publisher lends a slice.
+ghost use Rattle.std.specs.Prelude.{◌≡◌, ◌≤◌, ◌+◌, ℕ, List, Option, length, IfOk, IsOk, OnErr, None, replicate, true};
+
+use crate::domain::Domain;
+use crate::slice::{Publisher, SampleMutUninit};
+use iox2_store::{BackpressureFn, DegradationFn, LoanError};
+
+impl Publisher {
+    ghost use Rattle.iox2_store.specs.machine.State.{State, Messages};
+    ghost use Rattle.iox2_store.specs.declared.service_config.TypeVariant.TheVariants.{Dynamic};
+    ghost use Rattle.iox2_domain.specs.Lending.{LoanCall, header_for};
+    ghost use Rattle.iox2_domain.specs.Shows.{Shows};
+    ghost use Rattle.iox2_pubsub.specs.Live.{HasLender, IsLivePublisher, IsNewIn, IsUnwrittenLoan, LoanHasHeader, Stays, UpToDateStay, lender_key, payloads, publisher_key, unwritten_key, unwritten_loan};
+    ghost use Rattle.iox2_pubsub.specs.LoansLeft.{HasLoansLeft, HasNumbersLeft, LoansLeftStay, TakesOneLeft};
+    ghost use Rattle.iox2_pubsub.specs.Slices.{HasUnwrittenCells};
+
+    /// Lends a message of so many elements, 0 or more, none of which is written, and whose user
+    /// header has its default value. The loan is out until its message was sent. It takes no
+    /// memory.
+    ///
+    /// # Errors
+    ///
+    /// In this order: `ExceedsMaxLoanSize` where the length is above `initial_max_slice_len`;
+    /// `ExceedsMaxLoans` where as many loans are out as the publisher may have at a time;
+    /// `OutOfMemory` where each of its slots holds a loan, or a message that is kept for later
+    /// subscribers, waits or is borrowed; `InternalFailure` where the domain has no message number
+    /// left. Nothing changes then.
+    ///
+    /// A publisher with as many slots as `worst_case_slots` says for its limit of loans, in one
+    /// segment, is never refused for want of a slot: while fewer loans than its limit are out and a
+    /// message number is left, a loan of permitted length is granted, whatever its subscribers hold.
+    ///
+    /// iceoryx2's `Publisher::loan_slice_uninit` (`src/port/publisher.rs`).
+    pub fn loan_slice_uninit<T: Drop, U: Default + Drop, F: BackpressureFn, G: DegradationFn>(
+        &self,
+        domain: &mut Domain<T, U, F, G>,
+        slice_len: usize,
+    ) -> Result<SampleMutUninit, LoanError>
+        requires live { IsLivePublisher domain.old self.now.publisher }
+        requires dynamic { (domain.old.config).variant ≡ Dynamic }
+        requires one_unit { (domain.old.config).units_per_element ≡ 1 }
+        ensures lends { (m : Messages T U) (s : State T U) → Shows domain.old m s
+            → (s' : State T U) × Shows domain.new m s' × LoanCall U.is_default true slice_len s self.now.publisher.id result s' }
+        ensures granted { (loans numbers : ℕ) → HasLoansLeft domain.old self.now.publisher (loans + 1) → HasNumbersLeft domain.old (numbers + 1)
+            → slice_len ≤ self.now.publisher.initial_max_slice_len → IsOk result }
+        ensures live { IfOk result (λ loan. IsUnwrittenLoan domain.new loan.sample) }
+        ensures cells { IfOk result (λ loan. HasUnwrittenCells domain.new loan.sample.loan.number (replicate slice_len None)) }
+        ensures lengths { IfOk result (λ loan. (cells : List (Option T)) → HasUnwrittenCells domain.new loan.sample.loan.number cells → length cells ≡ slice_len) }
+        ensures header { IfOk result (λ loan. LoanHasHeader domain.new (unwritten_key loan.sample) (header_for domain.old.config self.now.publisher.id slice_len)) }
+        ensures new { IfOk result (λ loan. IsNewIn domain.old (unwritten_loan loan.sample)) }
+        ensures number { IfOk result (λ loan. loan.sample.loan.number ≡ domain.old.next_message) }
+        ensures publisher { IfOk result (λ loan. loan.sample.loan.publisher ≡ self.now.publisher.id) }
+        ensures lent { IfOk result (λ loan. HasLender domain.new (unwritten_key loan.sample)) }
+        ensures lender { IfOk result (λ loan. lender_key (unwritten_key loan.sample) ≡ publisher_key self.now.publisher) }
+        ensures waits { payloads domain.new ≡ payloads domain.old }
+        ensures up_to_date { UpToDateStay domain.old domain.new }
+        ensures loans_left { TakesOneLeft self.now.publisher domain.old domain.new }
+        ensures refused { OnErr result (LoansLeftStay domain.old domain.new) }
+        ensures stays { Stays domain.old domain.new }
+    {
+        match self.publisher.lend(domain, true, slice_len) {
+            Ok(sample) => Ok(SampleMutUninit { sample }),
+            Err(error) => Err(error),
+        }
+    }
+}

@@ -1,0 +1,30 @@
+//! A publisher of slices updates its connections.
+
+use crate::domain::Domain;
+use crate::slice::Publisher;
+use crate::update_connections::UpdateConnections;
+use iox2_store::{BackpressureFn, ConnectionFailure, DegradationFn};
+
+/// A publisher gets its connections with new subscribers, which a send does too.
+///
+/// iceoryx2's `UpdateConnections` of `Publisher` (`src/port/publisher.rs`).
+impl<T: Drop, U: Default + Drop> UpdateConnections<T, U> for Publisher {
+    ghost use Rattle.iox2_store.specs.machine.Environments.{fixed_handlers};
+    ghost use Rattle.iox2_store.specs.machine.PublisherUpdate.{UpdatePublisher};
+    ghost use Rattle.iox2_pubsub.specs.Live.{IsLivePublisher, publisher_key};
+
+    ghost is_live = { λ domain publisher. IsLivePublisher domain publisher.publisher };
+
+    ghost live_stays = { λ old new publisher stays live. stays.publishers (publisher_key publisher.publisher) live tt };
+
+    ghost updates = { λ s publisher s' failure. UpdatePublisher fixed_handlers s publisher.publisher.id s' failure };
+
+    ghost adds = { λ domain. (domain.config).history_size };
+
+    fn update_connections<F: BackpressureFn, G: DegradationFn>(
+        &self,
+        domain: &mut Domain<T, U, F, G>,
+    ) -> Result<(), ConnectionFailure> {
+        self.publisher.update_connections(domain)
+    }
+}

@@ -1,0 +1,69 @@
+//! A subscriber of slices.
+ghost use Rattle.std.specs.Prelude.{◌≡◌};
+
+mod close;
+mod has_samples;
+mod receive;
+mod receive_custom_payload;
+mod update_connections;
+
+use iox2_store::{Key, UniqueSubscriberId};
+
+/// Receives the slices of every publisher of its domain. It is a value to be spent, as the
+/// subscriber of single values is, and is that subscriber with other samples.
+///
+/// iceoryx2's `port::subscriber::Subscriber` of a slice (`src/port/subscriber.rs`).
+pub struct Subscriber {
+    pub(crate) subscriber: crate::Subscriber,
+}
+
+impl Subscriber {
+    ghost use Rattle.iox2_pubsub.specs.Live.{subscriber_key};
+
+    /// The same subscriber, as one of slices. This library's own.
+    pub fn new(subscriber: crate::Subscriber) -> Subscriber
+        ensures { result.subscriber ≡ subscriber }
+    {
+        Subscriber { subscriber }
+    }
+
+    /// The same subscriber, as one of single values. This library's own.
+    pub fn into_inner(self) -> crate::Subscriber
+        ensures { result ≡ self.subscriber }
+    {
+        let Subscriber { subscriber } = self;
+        subscriber
+    }
+
+    /// Names the subscriber among all ports of its domain.
+    ///
+    /// iceoryx2's `Subscriber::id` (`src/port/subscriber.rs`).
+    pub fn id(&self) -> UniqueSubscriberId
+        ensures { result ≡ self.now.subscriber.id }
+    {
+        self.subscriber.id()
+    }
+
+    /// How many messages of one publisher may wait for the subscriber: 1 or more.
+    ///
+    /// iceoryx2's `Subscriber::buffer_size` (`src/port/subscriber.rs`).
+    pub fn buffer_size(&self) -> usize
+        ensures { result ≡ self.now.subscriber.buffer_size }
+    {
+        self.subscriber.buffer_size()
+    }
+
+    /// Names the subscriber without being its handle. This library's own.
+    pub fn key(&self) -> Key
+        ensures { result ≡ subscriber_key self.now.subscriber }
+    {
+        self.subscriber.key()
+    }
+
+    /// Spends the handle of a subscriber whose domain is gone. A domain that is still there isn't
+    /// told, and keeps the subscriber. This library's own.
+    pub fn disown(self) {
+        let Subscriber { subscriber } = self;
+        subscriber.disown();
+    }
+}

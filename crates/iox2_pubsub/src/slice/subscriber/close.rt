@@ -1,0 +1,37 @@
+//! A subscriber of slices is closed.
+ghost use Rattle.std.specs.Prelude.{◌≡◌};
+
+use crate::domain::Domain;
+use crate::slice::Subscriber;
+use iox2_store::{BackpressureFn, DegradationFn};
+
+impl Subscriber {
+    ghost use Rattle.std.specs.Prelude.{Some};
+    ghost use Rattle.iox2_store.specs.machine.Ports.{subscriber_closed};
+    ghost use Rattle.iox2_store.specs.machine.Records.{Subscriber as Record};
+    ghost use Rattle.iox2_store.specs.machine.State.{State, Messages};
+    ghost use Rattle.iox2_pubsub.specs.Live.{IsLiveSubscriber, OthersStayUpToDate, OthersWait, StaysBut, subscriber_key, subscriber_port, waiting};
+    ghost use Rattle.iox2_pubsub.specs.LoansLeft.{LoansLeftStay};
+    ghost use Rattle.iox2_domain.specs.Shows.{Shows};
+
+    /// Closes the subscriber, as one of single values is closed.
+    ///
+    /// iceoryx2's `Subscriber`, when it is dropped (`src/port/subscriber.rs`).
+    pub fn close<T: Drop, U: Default + Drop, F: BackpressureFn, G: DegradationFn>(
+        self,
+        domain: &mut Domain<T, U, F, G>,
+    )
+        requires { IsLiveSubscriber domain.old self.subscriber }
+        ensures closed { (m : Messages T U) (s : State T U) (y : Record) → Shows domain.old m s → s.subscribers (subscriber_key self.subscriber).port ≡ Some y
+            → Shows domain.new m (subscriber_closed s (subscriber_key self.subscriber).port y) }
+        ensures spent { IsLiveSubscriber domain.new self.subscriber → ⊥ }
+        ensures none { waiting domain.new self.subscriber ≡ 0 }
+        ensures others { OthersWait self.subscriber domain.old domain.new }
+        ensures up_to_date { OthersStayUpToDate self.subscriber domain.old domain.new }
+        ensures loans_left { LoansLeftStay domain.old domain.new }
+        ensures stays { StaysBut (subscriber_port self.subscriber) domain.old domain.new }
+    {
+        let Subscriber { subscriber } = self;
+        subscriber.close(domain);
+    }
+}

@@ -1,0 +1,37 @@
+//! A subscriber of slices is asked whether messages wait.
+ghost use Rattle.std.specs.Prelude.{◌≡◌, ◌<◌, ◌≤◌, ◌↔◌, IfOk, IsTrue, OnOk};
+
+use crate::domain::Domain;
+use crate::slice::Subscriber;
+use iox2_store::{BackpressureFn, ConnectionFailure, DegradationFn};
+
+impl Subscriber {
+    ghost use Rattle.iox2_store.specs.machine.State.{State, Messages};
+    ghost use Rattle.iox2_pubsub.specs.Live.{IsLiveSubscriber, IsUpToDate, OthersWait, Stays, UpToDateStay, waiting};
+    ghost use Rattle.iox2_pubsub.specs.LoansLeft.{LoansLeftStay};
+    ghost use Rattle.iox2_pubsub.specs.QuestionCalls.{Answers};
+    ghost use Rattle.iox2_domain.specs.Shows.{Shows};
+
+    /// Updates the subscriber's connections and says whether any message waits for it, also one
+    /// that it can't receive before it has released another. Fails where the update does, as
+    /// `UpdateConnections::update_connections` says.
+    ///
+    /// iceoryx2's `Subscriber::has_samples` (`src/port/subscriber.rs`).
+    pub fn has_samples<T: Drop, U: Default + Drop, F: BackpressureFn, G: DegradationFn>(
+        &self,
+        domain: &mut Domain<T, U, F, G>,
+    ) -> Result<bool, ConnectionFailure>
+        requires { IsLiveSubscriber domain.old self.now.subscriber }
+        ensures answers { (m : Messages T U) (s : State T U) → Shows domain.old m s
+            → (s' : State T U) × Shows domain.new m s' × Answers s self.now.subscriber.id result s' }
+        ensures waits { IfOk result (λ waits. IsTrue waits ↔ (0 < waiting domain.new self.now.subscriber)) }
+        ensures no_more { waiting domain.new self.now.subscriber ≤ waiting domain.old self.now.subscriber }
+        ensures others { OthersWait self.now.subscriber domain.old domain.new }
+        ensures updated { OnOk result (IsUpToDate domain.new self.now.subscriber) }
+        ensures up_to_date { UpToDateStay domain.old domain.new }
+        ensures loans_left { LoansLeftStay domain.old domain.new }
+        ensures stays { Stays domain.old domain.new }
+    {
+        self.subscriber.has_samples(domain)
+    }
+}

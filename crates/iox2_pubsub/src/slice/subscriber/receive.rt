@@ -1,0 +1,54 @@
+//! A subscriber receives a slice.
+ghost use Rattle.std.specs.Prelude.{◌≡◌, ◌<◌, ◌≤◌, IfOk, suc, IfSome, IfNone, OnOk, OnSome};
+
+use crate::domain::Domain;
+use crate::slice::{Sample, Subscriber};
+use iox2_store::{BackpressureFn, DegradationFn, ReceiveError};
+
+impl Subscriber {
+    ghost use Rattle.iox2_store.specs.machine.Environments.{fixed_handlers};
+    ghost use Rattle.iox2_store.specs.machine.Receives.{Receive};
+    ghost use Rattle.iox2_store.specs.machine.State.{State, Messages};
+    ghost use Rattle.iox2_pubsub.specs.Live.{IsFromOrigin, IsLiveSample, IsLiveSubscriber, IsUpToDate, IsNewIn, OthersWait, Stays, UpToDateStay, received_sample, waiting};
+    ghost use Rattle.iox2_pubsub.specs.LoansLeft.{LoansLeftStay};
+    ghost use Rattle.iox2_pubsub.specs.ReceivedSamples.{received_slice};
+    ghost use Rattle.iox2_domain.specs.Shows.{Shows};
+
+    /// Updates the subscriber's connections and receives a message: from a publisher of which it
+    /// may borrow one more, the one that has waited longest. `None` where no message waits. Its
+    /// values stay where they lie.
+    ///
+    /// Fails with `ReceiveError::ExceedsMaxBorrows` where messages wait, but of each publisher that
+    /// they come from as many are borrowed as may be. The update stands then, and no message moves.
+    /// Fails with `ReceiveError::ConnectionFailure` where the update does, as
+    /// `UpdateConnections::update_connections` says.
+    ///
+    /// iceoryx2's `Subscriber::receive` (`src/port/subscriber.rs`).
+    pub fn receive<T: Drop, U: Default + Drop, F: BackpressureFn, G: DegradationFn>(
+        &self,
+        domain: &mut Domain<T, U, F, G>,
+    ) -> Result<Option<Sample>, ReceiveError>
+        requires { IsLiveSubscriber domain.old self.now.subscriber }
+        ensures receives { (m : Messages T U) (s : State T U) → Shows domain.old m s
+            → (s' : State T U) × Shows domain.new m s' × Receive fixed_handlers s self.now.subscriber.id s' (received_slice result) }
+        ensures live { IfOk result (λ sample. IfSome sample (λ it. IsLiveSample domain.new it.sample)) }
+        ensures new { IfOk result (λ sample. IfSome sample (λ it. IsNewIn domain.old (received_sample it.sample))) }
+        ensures origin { IfOk result (λ sample. IfSome sample (λ it. IsFromOrigin domain.new it.sample)) }
+        ensures subscriber { IfOk result (λ sample. IfSome sample (λ it. it.sample.sample.subscriber ≡ self.now.subscriber.id)) }
+        ensures fewer { IfOk result (λ sample. OnSome sample (waiting domain.new self.now.subscriber < waiting domain.old self.now.subscriber)) }
+        ensures one_fewer { IsUpToDate domain.old self.now.subscriber → IfOk result (λ sample. OnSome sample (suc (waiting domain.new self.now.subscriber) ≡ waiting domain.old self.now.subscriber)) }
+        ensures none { IfOk result (λ sample. IfNone sample (waiting domain.new self.now.subscriber ≡ 0)) }
+        ensures no_more { waiting domain.new self.now.subscriber ≤ waiting domain.old self.now.subscriber }
+        ensures others { OthersWait self.now.subscriber domain.old domain.new }
+        ensures updated { OnOk result (IsUpToDate domain.new self.now.subscriber) }
+        ensures up_to_date { UpToDateStay domain.old domain.new }
+        ensures loans_left { LoansLeftStay domain.old domain.new }
+        ensures stays { Stays domain.old domain.new }
+    {
+        match self.subscriber.receive(domain) {
+            Ok(Some(sample)) => Ok(Some(Sample { sample })),
+            Ok(None) => Ok(None),
+            Err(error) => Err(error),
+        }
+    }
+}

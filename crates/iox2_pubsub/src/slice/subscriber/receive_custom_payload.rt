@@ -1,0 +1,45 @@
+//! A subscriber receives custom bytes.
+ghost use Rattle.std.specs.Prelude.{◌≡◌, ◌<◌, ◌≤◌, IfOk, suc, IfSome, IfNone, OnOk, OnSome};
+
+use crate::custom_markers::CustomPayloadMarker;
+use crate::domain::Domain;
+use crate::slice::{Sample, Subscriber};
+use iox2_store::{BackpressureFn, DegradationFn, ReceiveError};
+
+impl Subscriber {
+    ghost use Rattle.iox2_store.specs.machine.Environments.{fixed_handlers};
+    ghost use Rattle.iox2_store.specs.machine.Receives.{Receive};
+    ghost use Rattle.iox2_store.specs.machine.State.{State, Messages};
+    ghost use Rattle.iox2_pubsub.specs.Live.{IsFromOrigin, IsLiveSample, IsLiveSubscriber, IsUpToDate, IsNewIn, OthersWait, Stays, UpToDateStay, received_sample, waiting};
+    ghost use Rattle.iox2_pubsub.specs.LoansLeft.{LoansLeftStay};
+    ghost use Rattle.iox2_pubsub.specs.ReceivedSamples.{received_slice};
+    ghost use Rattle.iox2_domain.specs.Shows.{Shows};
+
+    /// Receives a message as `receive` does, whatever the variant of the domain. Its sample has each
+    /// byte of each of its elements.
+    ///
+    /// iceoryx2's `Subscriber::receive_custom_payload` (`src/port/subscriber.rs`).
+    pub fn receive_custom_payload<U: Default + Drop, F: BackpressureFn, G: DegradationFn>(
+        &self,
+        domain: &mut Domain<CustomPayloadMarker, U, F, G>,
+    ) -> Result<Option<Sample>, ReceiveError>
+        requires { IsLiveSubscriber domain.old self.now.subscriber }
+        ensures receives { (m : Messages CustomPayloadMarker U) (s : State CustomPayloadMarker U) → Shows domain.old m s
+            → (s' : State CustomPayloadMarker U) × Shows domain.new m s' × Receive fixed_handlers s self.now.subscriber.id s' (received_slice result) }
+        ensures live { IfOk result (λ sample. IfSome sample (λ it. IsLiveSample domain.new it.sample)) }
+        ensures new { IfOk result (λ sample. IfSome sample (λ it. IsNewIn domain.old (received_sample it.sample))) }
+        ensures origin { IfOk result (λ sample. IfSome sample (λ it. IsFromOrigin domain.new it.sample)) }
+        ensures subscriber { IfOk result (λ sample. IfSome sample (λ it. it.sample.sample.subscriber ≡ self.now.subscriber.id)) }
+        ensures fewer { IfOk result (λ sample. OnSome sample (waiting domain.new self.now.subscriber < waiting domain.old self.now.subscriber)) }
+        ensures one_fewer { IsUpToDate domain.old self.now.subscriber → IfOk result (λ sample. OnSome sample (suc (waiting domain.new self.now.subscriber) ≡ waiting domain.old self.now.subscriber)) }
+        ensures none { IfOk result (λ sample. IfNone sample (waiting domain.new self.now.subscriber ≡ 0)) }
+        ensures no_more { waiting domain.new self.now.subscriber ≤ waiting domain.old self.now.subscriber }
+        ensures others { OthersWait self.now.subscriber domain.old domain.new }
+        ensures updated { OnOk result (IsUpToDate domain.new self.now.subscriber) }
+        ensures up_to_date { UpToDateStay domain.old domain.new }
+        ensures loans_left { LoansLeftStay domain.old domain.new }
+        ensures stays { Stays domain.old domain.new }
+    {
+        self.receive(domain)
+    }
+}

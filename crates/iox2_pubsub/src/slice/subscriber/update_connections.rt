@@ -1,0 +1,30 @@
+//! A subscriber of slices updates its connections.
+
+use crate::domain::Domain;
+use crate::slice::Subscriber;
+use crate::update_connections::UpdateConnections;
+use iox2_store::{BackpressureFn, ConnectionFailure, DegradationFn};
+
+/// A subscriber gets its connections with new publishers, which a receive does too.
+///
+/// iceoryx2's `UpdateConnections` of `Subscriber` (`src/port/subscriber.rs`).
+impl<T: Drop, U: Default + Drop> UpdateConnections<T, U> for Subscriber {
+    ghost use Rattle.iox2_store.specs.machine.Environments.{fixed_handlers};
+    ghost use Rattle.iox2_store.specs.machine.SubscriberUpdate.{UpdateSubscriber};
+    ghost use Rattle.iox2_pubsub.specs.Live.{IsLiveSubscriber, subscriber_key};
+
+    ghost is_live = { λ domain subscriber. IsLiveSubscriber domain subscriber.subscriber };
+
+    ghost live_stays = { λ old new subscriber stays live. stays.subscribers (subscriber_key subscriber.subscriber) live tt };
+
+    ghost updates = { λ s subscriber s' failure. UpdateSubscriber fixed_handlers s subscriber.subscriber.id s' failure };
+
+    ghost adds = { λ domain. 0 };
+
+    fn update_connections<F: BackpressureFn, G: DegradationFn>(
+        &self,
+        domain: &mut Domain<T, U, F, G>,
+    ) -> Result<(), ConnectionFailure> {
+        self.subscriber.update_connections(domain)
+    }
+}

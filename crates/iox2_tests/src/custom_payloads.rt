@@ -1,0 +1,57 @@
+//! Messages of a caller's own bytes.
+
+use crate::fixtures::{receiver_count, settings};
+use iox2_pubsub::{CustomHeaderMarker, CustomPayloadMarker, Domain};
+use iox2_store::{LoanError, ServiceConfig, TypeVariant};
+
+// The settings of a domain of elements of 40 bytes each.
+fn bytes() -> ServiceConfig {
+    ServiceConfig {
+        variant: TypeVariant::Dynamic,
+        units_per_element: 40,
+        ..settings()
+    }
+}
+
+#[test]
+fn an_element_has_many_bytes(rt: HostRuntime) {
+    let mut domain: Domain<CustomPayloadMarker, CustomHeaderMarker> = Domain::new(
+        rt.alloc(),
+        bytes(),
+    ).expect(&rt, "a domain");
+    let factory = domain.slice_subscriber_builder();
+    let subscriber = factory.create(&mut domain).expect(&rt, "a subscriber");
+    let factory = domain.slice_publisher_builder().initial_max_slice_len(3);
+    let publisher = factory.create(&mut domain).expect(&rt, "a publisher");
+    let longer = publisher.loan_custom_payload(&mut domain, 4);
+    let longer = longer.map(|loan| loan.disown());
+    let loan = publisher.loan_custom_payload(&mut domain, 3);
+    let loan = loan.expect(&rt, "a loan");
+    publisher.disown();
+    let cells = loan.payload(&domain).len();
+    let elements = loan.header(&domain).number_of_elements();
+    let message = loan.write_from_fn(&mut domain, |index| CustomPayloadMarker(low_byte(index)));
+    let takers = message.send(&mut domain).ok().map(receiver_count);
+    let received = subscriber.receive_custom_payload(&mut domain);
+    let sample = received.expect(&rt, "an answer").expect(&rt, "a sample");
+    subscriber.disown();
+    let read = sample.payload(&domain);
+    let ends = [
+        read.first().map(|byte| byte.0),
+        read.last().map(|byte| byte.0),
+    ];
+    let bytes = read.len();
+    sample.disown();
+    drop(domain);
+    assert!(rt; longer == Err(LoanError::ExceedsMaxLoanSize));
+    assert!(rt; cells == 120);
+    assert!(rt; elements == 3);
+    assert!(rt; takers == Some(1));
+    assert!(rt; ends == [Some(0), Some(119)]);
+    assert!(rt; bytes == 120);
+}
+
+// The lowest byte of the number.
+fn low_byte(number: usize) -> u8 {
+    (number % 256) as u8
+}

@@ -1,0 +1,256 @@
+//! Slices are lent, written, sent and received.
+ghost use Rattle.std.specs.Prelude.{◌≡◌};
+ghost use Rattle.iox2_store.specs.Defaults.{default_config};
+ghost use Rattle.iox2_store.specs.declared.service_config.TypeVariant.TheVariants.{Dynamic};
+ghost use Rattle.iox2_pubsub.specs.Live.{IsLivePublisher, IsUnwrittenLoan, IsWrittenLoan, Stays, StaysBut, unwritten_loan};
+
+use crate::fixtures::{receiver_count, settings};
+use iox2_pubsub::slice::{Publisher, SampleMut, SampleMutUninit, Subscriber};
+use iox2_pubsub::{Domain, UpdateConnections};
+use iox2_store::{LoanError, ServiceConfig, TypeVariant};
+use std::process::Abort;
+
+/// A payload that is neither `Copy` nor `Clone`.
+#[derive(Default, Drop)]
+struct Tag(u64);
+
+// The settings of a domain of slices, with one publisher and one subscriber.
+fn slices() -> ServiceConfig
+    ensures { result ≡ record (default_config 7) { variant = Dynamic; node_id = 3; max_publishers = 1; max_subscribers = 1; enable_safe_overflow = false } }
+{
+    ServiceConfig {
+        variant: TypeVariant::Dynamic,
+        ..settings()
+    }
+}
+
+// Sets one of the values.
+fn set(values: &mut [u64], index: usize, value: u64) {
+    if let Some(place) = values.get_mut(index) {
+        *place = value;
+    }
+}
+
+#[test]
+fn a_slice_is_sent_as_it_was_written(rt: HostRuntime) {
+    let mut domain: Domain<u64, u64> = Domain::new(rt.alloc(), slices()).expect(&rt, "a domain");
+    let factory = domain.slice_subscriber_builder().buffer_size(2);
+    let subscriber = factory.create(&mut domain).expect(&rt, "a subscriber");
+    let factory = domain.slice_publisher_builder().initial_max_slice_len(16);
+    let publisher = factory.create(&mut domain).expect(&rt, "a publisher");
+    let loan = publisher.loan_slice_uninit(&mut domain, 12);
+    let loan = loan.expect(&rt, "a loan");
+    let mut message = loan.write_from_fn(&mut domain, |index| (index as u64).wrapping_mul(1234));
+    set(SampleMut::payload_mut(&mut domain, &mut message), 0, 42);
+    let takers = message.send(&mut domain).ok().map(receiver_count);
+    let received = subscriber.receive(&mut domain).expect(&rt, "an answer");
+    let sample = received.expect(&rt, "a sample");
+    let written = [
+        42, 1234, 2468, 3702, 4936, 6170, 7404, 8638, 9872, 11106, 12340, 13574,
+    ];
+    let is_read = sample.payload(&domain) == written.as_slice();
+    let elements = sample.header(&domain).number_of_elements();
+    sample.release(&mut domain);
+    publisher.close(&mut domain);
+    subscriber.close(&mut domain);
+    drop(domain);
+    assert!(rt; takers == Some(1));
+    assert!(rt; is_read);
+    assert!(rt; elements == 12);
+}
+
+#[test]
+fn a_slice_is_copied_into_its_loan(rt: HostRuntime) {
+    let mut domain: Domain<u64, u64> = Domain::new(rt.alloc(), slices()).expect(&rt, "a domain");
+    let factory = domain.slice_subscriber_builder();
+    let subscriber = factory.create(&mut domain).expect(&rt, "a subscriber");
+    let factory = domain.slice_publisher_builder().initial_max_slice_len(16);
+    let publisher = factory.create(&mut domain).expect(&rt, "a publisher");
+    let loan = publisher.loan_slice_uninit(&mut domain, 4);
+    let loan = loan.expect(&rt, "a loan");
+    publisher.disown();
+    let message = loan.write_from_slice(&mut domain, &[1, 2, 3, 4]);
+    let takers = message.send(&mut domain).ok().map(receiver_count);
+    let received = subscriber.receive(&mut domain).expect(&rt, "an answer");
+    let sample = received.expect(&rt, "a sample");
+    subscriber.disown();
+    let is_read = sample.payload(&domain) == [1, 2, 3, 4].as_slice();
+    let elements = sample.header(&domain).number_of_elements();
+    sample.disown();
+    drop(domain);
+    assert!(rt; takers == Some(1));
+    assert!(rt; is_read);
+    assert!(rt; elements == 4);
+}
+
+#[test]
+fn a_slice_has_default_values(rt: HostRuntime) {
+    let mut domain: Domain<u64, u64> = Domain::new(rt.alloc(), slices()).expect(&rt, "a domain");
+    let factory = domain.slice_publisher_builder().initial_max_slice_len(16);
+    let publisher = factory.create(&mut domain).expect(&rt, "a publisher");
+    let message = publisher.loan_slice(&mut domain, 5);
+    let mut message = message.expect(&rt, "a loan");
+    publisher.disown();
+    set(SampleMut::payload_mut(&mut domain, &mut message), 2, 42);
+    let is_read = message.payload(&domain) == [0, 0, 42, 0, 0].as_slice();
+    message.discard(&mut domain);
+    drop(domain);
+    assert!(rt; is_read);
+}
+
+// How many elements the loan of this length has, which is given back, or why there is none.
+fn lent_length(
+    domain: &mut Domain<Tag, Tag>,
+    publisher: &Publisher,
+    slice_len: usize,
+) -> Result<u64, LoanError>
+    requires dynamic { (domain.old.config).variant ≡ Dynamic }
+    requires one_unit { (domain.old.config).units_per_element ≡ 1 }
+    requires publisher { IsLivePublisher domain.old publisher.now.publisher }
+    ensures { Stays domain.old domain.new }
+{
+    let loan = publisher.loan_slice_uninit(domain, slice_len)?;
+    let elements = loan.header(domain).number_of_elements();
+    loan.discard(domain);
+    Ok(elements)
+}
+
+#[test]
+fn a_loan_may_be_as_long_as_its_publisher_lends(rt: HostRuntime) {
+    let mut domain: Domain<Tag, Tag> = Domain::new(rt.alloc(), slices()).expect(&rt, "a domain");
+    let factory = domain.slice_publisher_builder().max_loaned_samples(1);
+    let publisher = factory
+        .initial_max_slice_len(16)
+        .create(&mut domain)
+        .expect(&rt, "a publisher");
+    let lengths = [
+        lent_length(&mut domain, &publisher, 0),
+        lent_length(&mut domain, &publisher, 1),
+        lent_length(&mut domain, &publisher, 16),
+        lent_length(&mut domain, &publisher, 17),
+        lent_length(&mut domain, &publisher, usize::MAX),
+    ];
+    let longest = publisher.initial_max_slice_len();
+    publisher.disown();
+    drop(domain);
+    let too_long = Err(LoanError::ExceedsMaxLoanSize);
+    assert!(rt; lengths == [Ok(0), Ok(1), Ok(16), too_long, too_long]);
+    assert!(rt; longest == 16);
+}
+
+#[test]
+fn the_length_is_looked_at_first(rt: HostRuntime) {
+    let mut domain: Domain<Tag, Tag> = Domain::new(rt.alloc(), slices()).expect(&rt, "a domain");
+    let factory = domain.slice_publisher_builder().max_loaned_samples(1);
+    let publisher = factory
+        .initial_max_slice_len(16)
+        .create(&mut domain)
+        .expect(&rt, "a publisher");
+    let only = publisher.loan_slice_uninit(&mut domain, 16);
+    let only = only.expect(&rt, "a loan");
+    let longer = lent_length(&mut domain, &publisher, 17);
+    let permitted = lent_length(&mut domain, &publisher, 16);
+    only.discard(&mut domain);
+    let empty = lent_length(&mut domain, &publisher, 0);
+    publisher.disown();
+    drop(domain);
+    assert!(rt; longer == Err(LoanError::ExceedsMaxLoanSize));
+    assert!(rt; permitted == Err(LoanError::ExceedsMaxLoans));
+    assert!(rt; empty == Ok(0));
+}
+
+#[test]
+fn a_loan_is_taken_as_written_once_each_cell_is(rt: HostRuntime) {
+    let mut domain: Domain<Tag, Tag> = Domain::new(rt.alloc(), slices()).expect(&rt, "a domain");
+    let factory = domain.slice_publisher_builder().initial_max_slice_len(2);
+    let publisher = factory.create(&mut domain).expect(&rt, "a publisher");
+    let loan = publisher.loan_slice_uninit(&mut domain, 2);
+    let mut loan = loan.expect(&rt, "a loan");
+    publisher.disown();
+    fill(SampleMutUninit::payload_mut(&mut domain, &mut loan), 0, 5);
+    let mut loan = handed_back(&rt, &mut domain, loan);
+    fill(SampleMutUninit::payload_mut(&mut domain, &mut loan), 1, 6);
+    let message = taken(&rt, &mut domain, loan);
+    let read = total(message.payload(&domain));
+    message.disown();
+    drop(domain);
+    assert!(rt; read == 11);
+}
+
+// The loan that isn't taken as written.
+fn handed_back(
+    rt: &impl Abort,
+    domain: &mut Domain<Tag, Tag>,
+    loan: SampleMutUninit,
+) -> SampleMutUninit
+    requires { IsUnwrittenLoan domain.old loan.sample }
+    ensures same { result.sample ≡ loan.sample }
+    ensures unchanged { domain.new ≡ domain.old }
+{
+    match loan.assume_init(domain) {
+        Ok(message) => {
+            message.disown();
+            panic!(rt; "each cell is written")
+        }
+        Err(loan) => loan,
+    }
+}
+
+// The loan that is taken as written.
+fn taken(rt: &impl Abort, domain: &mut Domain<Tag, Tag>, loan: SampleMutUninit) -> SampleMut
+    requires { IsUnwrittenLoan domain.old loan.sample }
+    ensures live { IsWrittenLoan domain.new result.sample }
+    ensures stays { StaysBut (unwritten_loan loan.sample) domain.old domain.new }
+{
+    match loan.assume_init(domain) {
+        Ok(message) => message,
+        Err(loan) => {
+            loan.disown();
+            panic!(rt; "a cell isn't written")
+        }
+    }
+}
+
+// Writes one of the cells.
+fn fill(cells: &mut [Option<Tag>], index: usize, number: u64) {
+    if let Some(cell) = cells.get_mut(index) {
+        *cell = Some(Tag(number));
+    }
+}
+
+// The sum of the tags, where it fits.
+fn total(tags: &[Tag]) -> u64 {
+    tags.iter().fold(0, |sum: u64, tag| sum.wrapping_add(tag.0))
+}
+
+#[test]
+fn ports_of_slices_have_the_calls_of_ports(rt: HostRuntime) {
+    let mut domain: Domain<Tag, Tag> = Domain::new(rt.alloc(), slices()).expect(&rt, "a domain");
+    let factory = domain.slice_subscriber_builder();
+    let subscriber = factory.create(&mut domain).expect(&rt, "a subscriber");
+    let factory = domain.slice_publisher_builder();
+    let publisher = factory.create(&mut domain).expect(&rt, "a publisher");
+    let ids = [publisher.id().value(), subscriber.id().value()];
+    let keys = [publisher.key().port, subscriber.key().port];
+    let is_updated = [
+        publisher.update_connections(&mut domain).is_ok(),
+        subscriber.update_connections(&mut domain).is_ok(),
+    ];
+    let before = subscriber.has_samples(&mut domain);
+    let loan = publisher.loan_slice(&mut domain, 1).expect(&rt, "a loan");
+    let takers = loan.send(&mut domain).ok().map(receiver_count);
+    let after = subscriber.has_samples(&mut domain);
+    let buffer_size = subscriber.buffer_size();
+    let publisher = Publisher::new(publisher.into_inner());
+    let subscriber = Subscriber::new(subscriber.into_inner());
+    publisher.close(&mut domain);
+    subscriber.close(&mut domain);
+    drop(domain);
+    assert!(rt; ids == [2, 1]);
+    assert!(rt; keys == [2, 1]);
+    assert!(rt; is_updated == [true, true]);
+    assert!(rt; before == Ok(false));
+    assert!(rt; takers == Some(1));
+    assert!(rt; after == Ok(true));
+    assert!(rt; buffer_size == 2);
+}

@@ -1,0 +1,114 @@
+//! Temperatures go in series, as slices.
+ghost use Rattle.std.specs.Prelude.{◌≡◌, ◌≤◌};
+ghost use Rattle.iox2_store.specs.declared.service_config.TypeVariant.TheVariants.{Dynamic};
+ghost use Rattle.iox2_pubsub.specs.Live.{IsLivePublisher, IsLiveSubscriber, Stays};
+ghost use Rattle.iox2_pubsub.specs.LoansLeft.{HasLoansLeft, HasNumbersLeft};
+ghost use Rattle.iox2_pubsub.specs.Slices.{IsSliced};
+
+use crate::failure::Failure;
+use iox2_pubsub::slice::{Publisher, SampleMut, Subscriber};
+use iox2_pubsub::{Domain, SendOutcome, ServiceConfig, TypeVariant};
+use std::alloc::Global;
+
+/// Makes a domain of slices, sends two series of three temperatures through it, and receives them.
+/// Returns how many temperatures came.
+pub fn exchange(alloc: Global) -> Result<usize, Failure> {
+    let config = ServiceConfig {
+        variant: TypeVariant::Dynamic,
+        ..ServiceConfig::new(2)
+    };
+    let mut domain = Domain::<u64, ()>::new(alloc, config)?;
+    let subscriber = domain.slice_subscriber_builder().create(&mut domain)?;
+    let outcome = publish(&mut domain, &subscriber);
+    subscriber.close(&mut domain);
+    outcome
+}
+
+// Makes a publisher of series of three, with one loan out at a time, and sends two series with it.
+fn publish(domain: &mut Domain<u64, ()>, subscriber: &Subscriber) -> Result<usize, Failure>
+    requires dynamic { (domain.old.config).variant ≡ Dynamic }
+    requires one_unit { (domain.old.config).units_per_element ≡ 1 }
+    requires sliced { IsSliced domain.old }
+    requires subscriber { IsLiveSubscriber domain.old subscriber.now.subscriber }
+    requires numbers { HasNumbersLeft domain.old 2 }
+    ensures { Stays domain.old domain.new }
+{
+    let publisher = domain
+        .slice_publisher_builder()
+        .max_loaned_samples(1)
+        .initial_max_slice_len(3)
+        .create(domain)?;
+    let outcome = send_both(domain, &publisher, subscriber);
+    publisher.close(domain);
+    outcome
+}
+
+// Sends a series that is made in place, and one that is copied, and receives each.
+fn send_both(
+    domain: &mut Domain<u64, ()>,
+    publisher: &Publisher,
+    subscriber: &Subscriber,
+) -> Result<usize, Failure>
+    requires dynamic { (domain.old.config).variant ≡ Dynamic }
+    requires one_unit { (domain.old.config).units_per_element ≡ 1 }
+    requires sliced { IsSliced domain.old }
+    requires publisher { IsLivePublisher domain.old publisher.now.publisher }
+    requires subscriber { IsLiveSubscriber domain.old subscriber.now.subscriber }
+    ensures { Stays domain.old domain.new }
+{
+    send_made(domain, publisher)?;
+    let made = receive_length(domain, subscriber)?;
+    send_copied(domain, publisher)?;
+    let copied = receive_length(domain, subscriber)?;
+    Ok(made.saturating_add(copied))
+}
+
+// Sends a series of the hours 0, 1 and 2, the first of which is set to 12 where it lies.
+fn send_made(domain: &mut Domain<u64, ()>, publisher: &Publisher) -> Result<(), Failure>
+    requires dynamic { (domain.old.config).variant ≡ Dynamic }
+    requires one_unit { (domain.old.config).units_per_element ≡ 1 }
+    requires sliced { IsSliced domain.old }
+    requires publisher { IsLivePublisher domain.old publisher.now.publisher }
+    ensures { Stays domain.old domain.new }
+{
+    let loan = publisher.loan_slice_uninit(domain, 3)?;
+    let mut message = loan.write_from_fn(domain, |hour| hour as u64);
+    set_first(SampleMut::payload_mut(domain, &mut message), 12);
+    let SendOutcome::Delivered(_) = message.send(domain)?;
+    Ok(())
+}
+
+// Sets the first of the temperatures, if there is one.
+fn set_first(temperatures: &mut [u64], value: u64) {
+    if let Some(first) = temperatures.first_mut() {
+        *first = value;
+    }
+}
+
+// Sends a series that is copied into its loan.
+fn send_copied(domain: &mut Domain<u64, ()>, publisher: &Publisher) -> Result<(), Failure>
+    requires dynamic { (domain.old.config).variant ≡ Dynamic }
+    requires one_unit { (domain.old.config).units_per_element ≡ 1 }
+    requires sliced { IsSliced domain.old }
+    requires publisher { IsLivePublisher domain.old publisher.now.publisher }
+    ensures { Stays domain.old domain.new }
+{
+    let loan = publisher.loan_slice_uninit(domain, 3)?;
+    let message = loan.write_from_slice(domain, &[18, 19, 20]);
+    let SendOutcome::Delivered(_) = message.send(domain)?;
+    Ok(())
+}
+
+// Receives a series, if one waits, and gives it back. Returns how many temperatures it had.
+fn receive_length(domain: &mut Domain<u64, ()>, subscriber: &Subscriber) -> Result<usize, Failure>
+    requires sliced { IsSliced domain.old }
+    requires subscriber { IsLiveSubscriber domain.old subscriber.now.subscriber }
+    ensures { Stays domain.old domain.new }
+{
+    let Some(sample) = subscriber.receive(domain)? else {
+        return Ok(0);
+    };
+    let length = sample.payload(domain).len();
+    sample.release(domain);
+    Ok(length)
+}
