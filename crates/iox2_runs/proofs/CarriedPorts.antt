@@ -9,9 +9,12 @@ use Rattle.iox2_store.specs.declared.backpressure.BackpressureStrategy.TheVarian
 use Rattle.iox2_store.specs.declared.degradation.DegradationAction.TheVariants.{Warn}
 use Rattle.iox2_store.specs.declared.errors.PublisherCreateError.{PublisherCreateError}
 use Rattle.iox2_store.specs.declared.errors.SubscriberCreateError.{SubscriberCreateError}
+use Rattle.iox2_store.specs.declared.service_config.TypeVariant.{TypeVariant}
+use Rattle.iox2_store.specs.declared.service_config.TypeVariant.TheVariants.{FixedSize, Dynamic}
 use Rattle.iox2_laws.proofs.PortLaws.{create_publisher_advances, create_subscriber_advances}
 use Rattle.iox2_domain.specs.Kept.{Kept as Domain}
 use Rattle.iox2_domain.specs.Shows.{Shows}
+use Rattle.iox2_domain.specs.NewPublisher.{plain_publisher}
 use Rattle.iox2_pubsub.specs.declared.publisher.Publisher.{Publisher as PublisherHandle}
 use Rattle.iox2_pubsub.specs.declared.subscriber.Subscriber.{Subscriber as SubscriberHandle}
 use Rattle.iox2_commands.specs.Runs.{Defaults}
@@ -29,11 +32,24 @@ use Rattle.iox2_runs.proofs.TableMakes.{publisher_comes, publisher_refused_comes
 abbrev pub given_for : (limit : ℕ) → Option ℕ → SubscriberSettings
 given_for limit buffer = record { buffer_size = elim buffer [ None ↦ limit | Some asked ↦ asked ]; degradation_handler = Fixed Warn }
 
-module _ {T U : Type 0} (environment : Environment) (defaults : Defaults T U) (old new : Domain T U) (table : List Made) where
-  -- what the command says of a publisher
-  abbrev settings_of : (loans len : ℕ) → State T U → PublisherSettings
-  settings_of loans len s = publisher_settings (s.config).variant loans DiscardData Static len None Warn None
+-- what the command says of a publisher
+abbrev pub settings_of : {T U : Type 0} → (loans len : ℕ) → State T U → PublisherSettings
+settings_of loans len s = publisher_settings (s.config).variant loans DiscardData Static len None Warn None
 
+module _ {T U : Type 0} (old : Domain T U) where
+  -- what a factory was told is what the command says, where messages are single values
+  pub fixed-settings : (loans len : ℕ) (told : PublisherSettings) → told ≡ plain_publisher loans 1 → (old.config).variant ≡ FixedSize
+      → (m : Messages T U) (s : State T U) → Shows old m s → told ≡ settings_of loans len s
+  fixed-settings loans len told is variant = λ m s shown.
+      is ∙ ap (λ (v : TypeVariant). publisher_settings v loans DiscardData Static len None Warn None) (sym (ap (λ (t : State T U). (t.config).variant) shown.state ∙ variant))
+
+  -- and so where they are slices
+  pub slice-settings : (loans len : ℕ) (told : PublisherSettings) → told ≡ plain_publisher loans len → (old.config).variant ≡ Dynamic
+      → (m : Messages T U) (s : State T U) → Shows old m s → told ≡ settings_of loans len s
+  slice-settings loans len told is variant = λ m s shown.
+      is ∙ ap (λ (v : TypeVariant). publisher_settings v loans DiscardData Static len None Warn None) (sym (ap (λ (t : State T U). (t.config).variant) shown.state ∙ variant))
+
+module _ {T U : Type 0} (environment : Environment) (defaults : Defaults T U) (old new : Domain T U) (table : List Made) where
   pub publisher_carried : (loans len : ℕ) (h : PublisherHandle) (id : ℕ)
       → ((m : Messages T U) (s : State T U) → Shows old m s → (s' : State T U) × Shows new m s' × ((h.id ≡ s.next_port) × CreatePublisher environment s (settings_of loans len s) s' None))
       → h.service_id ≡ (new.config).service_id → id ≡ h.id
