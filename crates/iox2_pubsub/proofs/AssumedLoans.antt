@@ -1,5 +1,5 @@
 -- A loan whose cells are taken as written, and one that is handed back.
-use Rattle.std.proofs.Common.{◌≡◌, ℕ, [], ◌∷◌, Bool, true, false, is_some, refl, ap, sym, subst, ◌∙◌}
+use Rattle.std.proofs.Common.{◌≡◌, ℕ, List, [], ◌∷◌, map, Bool, true, false, is_some, refl, ap, sym, subst, ◌∙◌}
 use Rattle.std.specs.Bool.{MatchBool}
 use Rattle.std.specs.List.{list_all}
 use Rattle.std.specs.declared.option.Option.{Option}
@@ -14,15 +14,25 @@ use Rattle.iox2_domain.specs.Invariant.{IsDomain}
 use Rattle.iox2_domain.specs.LoanCalls.{HasCell, AssumesLoan}
 use Rattle.iox2_domain.specs.Reaches.{Reaches}
 use Rattle.iox2_domain.specs.Shows.{Shows}
-use Rattle.iox2_pubsub.specs.Live.{IsUnwrittenLoan, IsWrittenLoan, LoanReads, UnwrittenReads, A_loan, StaysBut}
+use Rattle.iox2_store.specs.declared.header.Header.{Header}
+use Rattle.iox2_store.specs.declared.key.Key.{Key}
+use Rattle.iox2_pubsub.specs.Live.{IsUnwrittenLoan, IsWrittenLoan, LoanReads, LoanHasHeader, LoanHasUserHeader, UnwrittenReads, A_loan, StaysBut, UpToDateStay, payloads}
+use Rattle.iox2_pubsub.specs.Slices.{HasUnwrittenCells, HasValues}
 use Rattle.iox2_pubsub.specs.declared.sample_mut.SampleMut.{SampleMut}
 use Rattle.iox2_pubsub.specs.declared.sample_mut_uninit.SampleMutUninit.{SampleMutUninit}
 use Rattle.iox2_pubsub.proofs.CallsStay.{always-shown, change-stays}
 use Rattle.iox2_pubsub.proofs.LiveParts.{unwritten-parts, unwritten-cell}
-use Rattle.iox2_pubsub.proofs.LoanHandles.{change-shown, change-written, change-cells}
+use Rattle.iox2_pubsub.proofs.LoanHandles.{change-header, change-shown, change-user-header, changed-out, change-written, change-cells}
+use Rattle.iox2_pubsub.proofs.SliceParts.{cells-parts, has-values}
+use Rattle.iox2_pubsub.proofs.UpToDateShown.{set-leaves}
+use Rattle.iox2_pubsub.proofs.WaitingShown.{set-waits}
 use Rattle.iox2_pubsub.proofs.StaysBut.{unchanged-stays}
 use Rattle.iox2_pubsub.specs.LoansLeft.{LoansLeftStay}
 use Rattle.iox2_pubsub.proofs.LoansLeftShown.{set-left}
+
+all-some : {T : Type 0} (values : List T) → list_all is_some (map Some values) ≡ true
+all-some [] = refl
+all-some (value ∷ values) = all-some values
 
 module _ {T U : Type 0} (f g : Fields T U) (sound : IsDomain f) (kept : Kept T U) (view : kept_of f ≡ kept) (n : ℕ) (b : Bool) (assumes : AssumesLoan f g n b) where
   abbrev assumed : Loan T U
@@ -36,7 +46,21 @@ module _ {T U : Type 0} (f g : Fields T U) (sound : IsDomain f) (kept : Kept T U
       let same : assumes.0 ≡ had.0 = cc in
       ap (λ (l : Loan T U). l.cells) same ∙ had.2
 
-  -- where the cell is written the loan is taken, and else it isn't
+  had-cells : (cells : List (Option T)) → HasUnwrittenCells kept n cells → (assumes.0).cells ≡ cells
+  had-cells cells has =
+      let had = cells-parts kept n cells has in
+      let both : Some assumes.0 ≡ Some had.0 = sym assumes.1 ∙ ap (λ (k : Kept T U). (state_of k).loans n) view ∙ had.1 in
+      let same : assumes.0 ≡ had.0 = cc in
+      ap (λ (l : Loan T U). l.cells) same ∙ had.2
+
+  -- where each cell is written the loan is taken, and else it isn't
+  pub all-taken : (values : List T) → HasUnwrittenCells kept n (map Some values) → b ≡ true
+  all-taken values has = assumes.2 ∙ ap (list_all is_some) (had-cells (map Some values) has) ∙ all-some values
+
+  pub some-left : (cells : List (Option T)) → list_all is_some cells ≡ false → HasUnwrittenCells kept n cells → b ≡ false
+  some-left cells some has = assumes.2 ∙ ap (list_all is_some) (had-cells cells has) ∙ some
+
+  -- and so with a single cell
   pub written-taken : (loan : SampleMutUninit) (value : T) → loan.loan.number ≡ n → UnwrittenReads kept loan (Some value) → b ≡ true
   written-taken loan value its reads = assumes.2 ∙ ap (list_all is_some) (had-cell loan (Some value) its reads)
 
@@ -65,6 +89,18 @@ module _ {T U : Type 0} (f g : Fields T U) (sound : IsDomain f) (kept : Kept T U
     taken-reads loan value its reads =
         change-cells f g kept view n assumes.0 assumed assumes.1 reaches refl (record { service_id = loan.service_id; loan = loan.loan }) value its (had-cell loan (Some value) its reads)
 
+    pub taken-values : (m : ℕ) (values : List T) → m ≡ n → HasUnwrittenCells kept n (map Some values) → HasValues (kept_of g) m values
+    taken-values m values its has = has-values (kept_of g) m values
+        (assumed, ap (state_of (kept_of g)).loans its ∙ changed-out f g kept view n assumes.0 assumed assumes.1 reaches, had-cells (map Some values) has)
+
+    -- its headers stay
+    module _ (key key' : Key) (here : key.message ≡ n) (there : key'.message ≡ n) where
+      pub taken-header : (header : Header) → LoanHasHeader kept key header → LoanHasHeader (kept_of g) key' header
+      taken-header = change-header f g kept view n assumes.0 assumed assumes.1 reaches key key' here there refl
+
+      pub taken-user-header : (header : U) → LoanHasUserHeader kept key header → LoanHasUserHeader (kept_of g) key' header
+      taken-user-header = change-user-header f g kept view n assumes.0 assumed assumes.1 reaches key key' here there refl
+
     pub taken-stays : StaysBut (A_loan n) kept (kept_of g)
     taken-stays =
         let it = always-shown f kept sound view in
@@ -76,6 +112,19 @@ module _ {T U : Type 0} (f g : Fields T U) (sound : IsDomain f) (kept : Kept T U
         let it = always-shown f kept sound view in
         let step = taken-shown it.0 it.1 it.2 in
         set-left kept (kept_of g) it.0 it.0 it.1 (initialized it.1 n step.0) it.2 step.3 n (Some (record (step.0) { is_written = true })) refl
+
+    -- the same messages wait, and who was up to date is
+    pub taken-waits : payloads (kept_of g) ≡ payloads kept
+    taken-waits =
+        let it = always-shown f kept sound view in
+        let step = taken-shown it.0 it.1 it.2 in
+        set-waits kept (kept_of g) it.0 it.1 it.2 n (Some (record (step.0) { is_written = true })) step.3
+
+    pub taken-leaves : UpToDateStay kept (kept_of g)
+    taken-leaves =
+        let it = always-shown f kept sound view in
+        let step = taken-shown it.0 it.1 it.2 in
+        set-leaves kept (kept_of g) it.0 it.1 it.2 n (Some (record (step.0) { is_written = true })) step.3
 
   -- ---- it is handed back
 
@@ -99,3 +148,6 @@ module _ {T U : Type 0} (f g : Fields T U) (sound : IsDomain f) (kept : Kept T U
 
     pub left-loans : LoansLeftStay kept (kept_of g)
     left-loans = subst (LoansLeftStay kept) (sym left-same) (record { loans = λ publisher more left. left; numbers = λ more left. left })
+
+    pub left-leaves : UpToDateStay kept (kept_of g)
+    left-leaves = subst (UpToDateStay kept) (sym left-same) (λ subscriber is. is)

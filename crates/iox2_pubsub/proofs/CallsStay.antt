@@ -34,10 +34,11 @@ use Rattle.iox2_domain.specs.Invariant.{IsDomain}
 use Rattle.iox2_domain.specs.Kept.{Kept, state_of, entries_of}
 use Rattle.iox2_domain.specs.Lending.{LoanCall}
 use Rattle.iox2_domain.specs.Shows.{Shows}
-use Rattle.iox2_pubsub.specs.Live.{IsPublisherKey, IsSubscriberKey, IsLoanKey, IsSampleKey, LoanReads, No_item, A_publisher, A_subscriber, A_loan, A_sample, IsOtherSample, StaysBut, Stays, IsNewIn, unwritten_key, written_key, sample_key}
-use Rattle.iox2_pubsub.specs.declared.sample_mut.SampleMut.{SampleMut}
+use Rattle.iox2_pubsub.specs.Live.{IsPublisherKey, IsSubscriberKey, IsLoanKey, IsSampleKey, No_item, A_publisher, A_subscriber, A_loan, A_sample, IsOtherSample, StaysBut, Stays, IsNewIn, unwritten_key, written_key, sample_key}
+use Rattle.iox2_pubsub.specs.Slices.{HasUnwrittenCells, HasValues}
 use Rattle.iox2_pubsub.proofs.AlwaysShows.{shows_itself}
-use Rattle.iox2_pubsub.proofs.LiveParts.{publisher-parts, subscriber-parts, loan-parts, loan-cell, sample-parts, origin-parts}
+use Rattle.iox2_pubsub.proofs.LiveParts.{publisher-parts, subscriber-parts, loan-parts, sample-parts, origin-parts}
+use Rattle.iox2_pubsub.proofs.SliceParts.{cells-parts, values-parts}
 use Rattle.iox2_pubsub.proofs.StaysBut.{ports-remain, stays-between}
 
 -- a domain shows some state
@@ -86,7 +87,8 @@ module _ {T U : Type 0} (old new : Kept T U) (m : Messages T U) (s : State T U) 
     written_loans = λ it live. tt;
     samples = λ key live. tt;
     origins = λ it from. tt;
-    payloads = λ it value reads. tt;
+    cells = λ n cells has. tt;
+    payloads = λ n values has. tt;
   } where
     apart : (key : Key) → IsPublisherKey old key → key.port ≢ id
     apart key live same =
@@ -104,7 +106,8 @@ module _ {T U : Type 0} (old new : Kept T U) (m : Messages T U) (s : State T U) 
     written_loans = λ it live. tt;
     samples = λ key live. tt;
     origins = λ it from. tt;
-    payloads = λ it value reads. tt;
+    cells = λ n cells has. tt;
+    payloads = λ n values has. tt;
   } where
     apart : (key : Key) → IsSubscriberKey old key → key.port ≢ id
     apart key live same =
@@ -132,24 +135,25 @@ module _ {T U : Type 0} (old new : Kept T U) (m : Messages T U) (s : State T U) 
     written_loans = λ it live. apart (written_key it) live.live;
     samples = λ key live. tt;
     origins = λ it from. tt;
-    payloads = read;
+    cells = cells-apart;
+    payloads = values-apart;
   }
     where
-      apart : (key : Key) → IsLoanKey old key → key.message ≢ number
-      apart key live same =
-          let has = (loan-parts old key live).1 in
-          let at : s.loans key.message ≡ Some has.0 = ap (λ (t : State T U). t.loans key.message) shown.state ∙ has.1 in
-          let low : key.message < s.next_message = (shown.well_formed.loans key.message has.0 at).below in
+      out-apart : (n : ℕ) (l : Loan T U) → (state_of old).loans n ≡ Some l → n ≢ number
+      out-apart n l out same =
+          let at : s.loans n ≡ Some l = ap (λ (t : State T U). t.loans n) shown.state ∙ out in
+          let low : n < s.next_message = (shown.well_formed.loans n l at).below in
           let next : s.next_message ≡ old.next_message = ap (λ (t : State T U). t.next_message) shown.state in
           omega arith
 
-      read : (it : SampleMut) (value : T) → LoanReads old it value → it.loan.number ≢ number
-      read it value reads same =
-          let has = loan-cell old it value reads in
-          let at : s.loans it.loan.number ≡ Some has.0 = ap (λ (t : State T U). t.loans it.loan.number) shown.state ∙ has.1 in
-          let low : it.loan.number < s.next_message = (shown.well_formed.loans it.loan.number has.0 at).below in
-          let next : s.next_message ≡ old.next_message = ap (λ (t : State T U). t.next_message) shown.state in
-          omega arith
+      apart : (key : Key) → IsLoanKey old key → key.message ≢ number
+      apart key live = let has = (loan-parts old key live).1 in out-apart key.message has.0 has.1
+
+      cells-apart : (n : ℕ) (cells : List (Option T)) → HasUnwrittenCells old n cells → n ≢ number
+      cells-apart n cells has = let it = cells-parts old n cells has in out-apart n it.0 it.1
+
+      values-apart : (n : ℕ) (values : List T) → HasValues old n values → n ≢ number
+      values-apart n values has = let it = values-parts old n values has in out-apart n it.0 it.1
 
   -- a loan is changed
   pub change-stays : (n : ℕ) (l : Loan T U) → Shows new m (with_loan s n (Some l)) → StaysBut (A_loan n) old new
@@ -239,7 +243,7 @@ module _ {T U : Type 0} (old new : Kept T U) (m : Messages T U) (s : State T U) 
       (λ e _ k. let clash : Got_sample p n ≡ Receive_error _ = k.1 in absurd cc)
 
   pub received-is-new : (environment : Environment) (p q n : ℕ) (s' : State T U) → Shows new m s' → Receive environment s q s' (Got_sample p n) → IsNewIn old (A_sample q n)
-  received-is-new environment p q n s' shown' h = record { publishers = λ key live. tt; subscribers = λ key live. tt; loans = λ key live. tt; unwritten_loans = λ it live. tt; written_loans = λ it live. tt; samples = apart; origins = λ it from. away it.origin it.sample.subscriber it.sample.number (origin-parts old it from); payloads = λ it value reads. tt } where
+  received-is-new environment p q n s' shown' h = record { publishers = λ key live. tt; subscribers = λ key live. tt; loans = λ key live. tt; unwritten_loans = λ it live. tt; written_loans = λ it live. tt; samples = apart; origins = λ it from. away it.origin it.sample.subscriber it.sample.number (origin-parts old it from); cells = λ n cells has. tt; payloads = λ n values has. tt } where
     got : IsReceived environment s q p n s'
     got = received_one environment s q p n s' h
 

@@ -1,7 +1,10 @@
 -- What a domain shows once a reference into a loan was handed out, whatever was left behind it.
 use Rattle.std.proofs.Common.{◌≡◌, ℕ, ◌<◌, List, [], ◌∷◌, map, length, true, false, slice_set, refl, ap, sym, subst, ◌∙◌, arith}
+use Rattle.std.proofs.lemmas.List.{length-map}
+use Rattle.std.specs.List.{refill}
 use Rattle.std.specs.declared.option.Option.{Option}
 use Rattle.std.specs.declared.option.Option.TheVariants.{None, Some}
+use Rattle.iox2_store.specs.declared.header.Header.{Header}
 use Rattle.iox2_store.specs.declared.key.Key.{Key}
 use Rattle.iox2_store.specs.SingleValues.{is_single_valued}
 use Rattle.iox2_store.specs.SlotContents.{ContentState, with_first_cell, with_first_value, with_user_header as with_header_in, with_cells as with_cells_in, with_values as with_values_in, first_cell_at, first_value_at, cells_at, values_at, user_header_at}
@@ -17,12 +20,16 @@ use Rattle.iox2_domain.specs.Shows.{Shows}
 use Rattle.iox2_domain.proofs.lemmas.loans.LentLoans.{IsLent, header-lent, cell-lent, cells-lent, value-lent, values-lent}
 use Rattle.iox2_domain.proofs.lemmas.loans.LoanCalls.{contents-there, some-at, is-unwritten, is-written, user_header-read, in-lists, cell-some, cell-read, cells-read, value-some, value-read, values-read}
 use Rattle.iox2_pubsub.specs.ChangedLoans.{with_cell, with_cells, with_payload, with_payloads, with_user_header}
-use Rattle.iox2_pubsub.specs.Live.{IsUnwrittenLoan, IsWrittenLoan, LoanReads, LoanHasUserHeader, UnwrittenReads, A_loan, StaysBut}
+use Rattle.iox2_pubsub.specs.Live.{IsUnwrittenLoan, IsWrittenLoan, LoanHasHeader, LoanHasUserHeader, A_loan, StaysBut, UpToDateStay, payloads}
+use Rattle.iox2_pubsub.specs.Slices.{HasUnwrittenCells, HasValues}
 use Rattle.iox2_pubsub.specs.declared.sample_mut.SampleMut.{SampleMut}
 use Rattle.iox2_pubsub.specs.declared.sample_mut_uninit.SampleMutUninit.{SampleMutUninit}
 use Rattle.iox2_pubsub.proofs.CallsStay.{always-shown, change-stays}
-use Rattle.iox2_pubsub.proofs.LiveParts.{written-parts, unwritten-parts, loan-reads, loan-cell, unwritten-reads, unwritten-cell, loan-user-header}
-use Rattle.iox2_pubsub.proofs.LoanHandles.{change-shown, changed-out, change-unwritten, change-written}
+use Rattle.iox2_pubsub.proofs.LiveParts.{written-parts, unwritten-parts, loan-user-header}
+use Rattle.iox2_pubsub.proofs.LoanHandles.{change-header, change-shown, change-user-header, changed-out, change-unwritten, change-written}
+use Rattle.iox2_pubsub.proofs.SliceParts.{cells-parts, has-cells, has-values, values-parts}
+use Rattle.iox2_pubsub.proofs.UpToDateShown.{set-leaves}
+use Rattle.iox2_pubsub.proofs.WaitingShown.{set-waits}
 use Rattle.iox2_pubsub.specs.LoansLeft.{LoansLeftStay}
 use Rattle.iox2_pubsub.proofs.LoansLeftShown.{set-left}
 
@@ -55,6 +62,13 @@ one-changed [] x one = absurd (omega arith)
 one-changed (y ∷ []) x one = refl
 one-changed (y ∷ z ∷ ys) x one = absurd (omega arith)
 
+-- a list that was refilled with as many elements
+pub refilled : {A : Type 0} (xs ws : List A) → length ws ≡ length xs → refill (length xs) xs ws ≡ ws
+refilled [] [] same = refl
+refilled [] (w ∷ ws) same = absurd (omega arith)
+refilled (x ∷ xs) [] same = absurd (omega arith)
+refilled (x ∷ xs) (w ∷ ws) same = ap (λ ys. w ∷ ys) (refilled xs ws (omega arith))
+
 -- ---- a loan that was lent
 
 module _ {T U : Type 0} (f g : Fields T U) (sound : IsDomain f) (kept : Kept T U) (view : kept_of f ≡ kept) (n : ℕ) (l : Loan T U) (found : (state_of (kept_of f)).loans n ≡ Some l)
@@ -80,6 +94,19 @@ module _ {T U : Type 0} (f g : Fields T U) (sound : IsDomain f) (kept : Kept T U
       let step = lent-shown it.0 it.1 it.2 in
       set-left kept after it.0 it.0 it.1 (with_loan it.1 n (Some (h step.0))) it.2 step.2 n (Some (h step.0)) refl
 
+  -- the same messages wait, and who was up to date is
+  pub lent-waits : payloads after ≡ payloads kept
+  lent-waits =
+      let it = always-shown f kept sound view in
+      let step = lent-shown it.0 it.1 it.2 in
+      set-waits kept after it.0 it.1 it.2 n (Some (h step.0)) step.2
+
+  pub lent-leaves : UpToDateStay kept after
+  lent-leaves =
+      let it = always-shown f kept sound view in
+      let step = lent-shown it.0 it.1 it.2 in
+      set-leaves kept after it.0 it.1 it.2 n (Some (h step.0)) step.2
+
   -- the changed loan is the one that is kept
   lent-there : (state_of after).loans n ≡ Some (h l)
   lent-there = ap (λ (k : Kept T U). (state_of k).loans n) (sym lent-is) ∙ changed-out f g kept view n l (h l) found lent.reaches
@@ -89,25 +116,35 @@ module _ {T U : Type 0} (f g : Fields T U) (sound : IsDomain f) (kept : Kept T U
       let both : Some k ≡ Some l = sym at ∙ sym (ap (λ (s : Kept T U). (state_of s).loans n) view) ∙ found in cc
 
   -- what it reads as
-  pub lent-cell : (loan : SampleMutUninit) (cell : Option T) → loan.loan.number ≡ n → (h l).cells ≡ cell ∷ [] → UnwrittenReads after loan cell
-  lent-cell loan cell its cells = unwritten-reads after loan cell (h l, ap (state_of after).loans its ∙ lent-there, cells)
+  pub lent-cells : (m : ℕ) (cells : List (Option T)) → m ≡ n → (h l).cells ≡ cells → HasUnwrittenCells after m cells
+  lent-cells m cells its is-it = has-cells after m cells (h l, ap (state_of after).loans its ∙ lent-there, is-it)
 
-  pub lent-value : (loan : SampleMut) (value : T) → loan.loan.number ≡ n → (h l).cells ≡ Some value ∷ [] → LoanReads after loan value
-  lent-value loan value its cells = loan-reads after loan value (h l, ap (state_of after).loans its ∙ lent-there, cells)
+  pub lent-values : (m : ℕ) (values : List T) → m ≡ n → (h l).cells ≡ map Some values → HasValues after m values
+  lent-values m values its is-it = has-values after m values (h l, ap (state_of after).loans its ∙ lent-there, is-it)
 
   pub lent-header : (key : Key) (user_header : U) → key.message ≡ n → (h l).user_header ≡ user_header → LoanHasUserHeader after key user_header
   lent-header key user_header its is-it = loan-user-header after key user_header (h l, ap (state_of after).loans its ∙ lent-there, is-it)
 
-  -- where only its user header changed, it reads as it did
-  pub lent-payload : (h l).cells ≡ l.cells → (loan : SampleMut) (value : T) → loan.loan.number ≡ n → LoanReads kept loan value → LoanReads after loan value
-  lent-payload cells loan value its reads =
-      let had = loan-cell kept loan value reads in
-      lent-value loan value its (cells ∙ ap (λ (k : Loan T U). k.cells) (sym (loan-there had.0 (ap (state_of kept).loans (sym its) ∙ had.1))) ∙ had.2)
+  -- a header that didn't change
+  pub lent-same-header : (h l).header ≡ l.header → (key : Key) → key.message ≡ n → (header : Header) → LoanHasHeader kept key header → LoanHasHeader after key header
+  lent-same-header same key its header has =
+      subst (λ (k : Kept T U). LoanHasHeader k key header) lent-is (change-header f g kept view n l (h l) found lent.reaches key key its its same header has)
 
-  pub lent-uninit : (h l).cells ≡ l.cells → (loan : SampleMutUninit) (cell : Option T) → loan.loan.number ≡ n → UnwrittenReads kept loan cell → UnwrittenReads after loan cell
-  lent-uninit cells loan cell its reads =
-      let had = unwritten-cell kept loan cell reads in
-      lent-cell loan cell its (cells ∙ ap (λ (k : Loan T U). k.cells) (sym (loan-there had.0 (ap (state_of kept).loans (sym its) ∙ had.1))) ∙ had.2)
+  pub lent-same-user-header : (h l).user_header ≡ l.user_header → (key : Key) → key.message ≡ n → (header : U) → LoanHasUserHeader kept key header → LoanHasUserHeader after key header
+  lent-same-user-header same key its header has =
+      subst (λ (k : Kept T U). LoanHasUserHeader k key header) lent-is (change-user-header f g kept view n l (h l) found lent.reaches key key its its same header has)
+
+  -- where only its user header changed, it reads as it did
+  module _ (same : (h l).cells ≡ l.cells) (m : ℕ) (its : m ≡ n) where
+    pub lent-same-cells : (cells : List (Option T)) → HasUnwrittenCells kept m cells → HasUnwrittenCells after m cells
+    lent-same-cells cells has =
+        let had = cells-parts kept m cells has in
+        lent-cells m cells its (same ∙ ap (λ (k : Loan T U). k.cells) (sym (loan-there had.0 (ap (state_of kept).loans (sym its) ∙ had.1))) ∙ had.2)
+
+    pub lent-same-values : (values : List T) → HasValues kept m values → HasValues after m values
+    lent-same-values values has =
+        let had = values-parts kept m values has in
+        lent-values m values its (same ∙ ap (λ (k : Loan T U). k.cells) (sym (loan-there had.0 (ap (state_of kept).loans (sym its) ∙ had.1))) ∙ had.2)
 
   module _ (same : (h l).publisher ≡ l.publisher) (mark : (h l).is_written ≡ l.is_written) where
     pub lent-written : (loan : SampleMut) → loan.loan.number ≡ n → IsWrittenLoan kept loan → IsWrittenLoan after loan
@@ -128,6 +165,19 @@ module _ {T U : Type 0} (f g : Fields T U) (sound : IsDomain f) (kept : Kept T U
         let one : l ≡ (parts.1).0 = cc in
         let unwritten : (h l).is_written ≡ false = mark ∙ ap (λ (k : Loan T U). k.is_written) one ∙ (parts.1).3 in
         subst (λ (k : Kept T U). IsUnwrittenLoan k loan) lent-is (change-unwritten f g kept view n l (h l) found lent.reaches same loan its live unwritten)
+
+-- a loan whose cells were changed, to as many
+pub cells-left : {T U : Type 0} (s : State T U) (n : ℕ) (l : Loan T U) → s.loans n ≡ Some l → (read cells : List (Option T)) → HasCells s n read → length cells ≡ length read
+    → (cells_changed cells l).cells ≡ cells
+cells-left {T} {U} s n l out read cells has same =
+    let both : Some l ≡ Some has.0 = sym out ∙ has.1 in
+    let one : l ≡ has.0 = cc in
+    let had : l.cells ≡ read = ap (λ (k : Loan T U). k.cells) one ∙ has.2 in
+    refilled l.cells cells (same ∙ ap length (sym had))
+
+pub values-left : {T U : Type 0} (s : State T U) (n : ℕ) (l : Loan T U) → s.loans n ≡ Some l → (read values : List T) → HasCells s n (map Some read) → length values ≡ length read
+    → (cells_changed (map Some values) l).cells ≡ map Some values
+values-left s n l out read values has same = cells-left s n l out (map Some read) (map Some values) has (length-map values Some ∙ same ∙ sym (length-map read Some))
 
 -- ---- what lies in a loan's slot may be lent
 

@@ -9,6 +9,8 @@ pub mod AssumedLoans
 pub mod WrittenLoanCalls
 pub mod DefaultSlices
 pub mod SliceParts
+pub mod FilledLengths
+pub mod FilledLoans
 pub mod SendShown
 pub mod AlwaysShows
 pub mod PublishersShown

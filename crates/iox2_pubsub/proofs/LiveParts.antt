@@ -9,6 +9,7 @@ use Rattle.iox2_store.specs.declared.service_config.TypeVariant.TheVariants.{Fix
 use Rattle.iox2_domain.specs.Kept.{Kept, state_of, entries_of}
 use Rattle.iox2_domain.specs.LoanCalls.{HasCell, HasLoanHeader, HasLoanUserHeader, HoldsUnwritten, HoldsWritten}
 use Rattle.iox2_pubsub.specs.Live.{IsSingleValued, IsPublisherKey, IsSubscriberKey, IsLoanKey, IsSampleKey, HasMark, IsFromOrigin, UnwrittenReads, LoanReads, SampleReads, LoanHasHeader, LoanHasUserHeader, SampleHasHeader, SampleHasUserHeader, IsUnwrittenLoan, IsWrittenLoan}
+use Rattle.iox2_pubsub.specs.Slices.{HasUnwrittenCells, HasValues, SampleHasValues}
 use Rattle.iox2_pubsub.specs.declared.sample.Sample.{Sample}
 use Rattle.iox2_pubsub.specs.declared.sample_mut.SampleMut.{SampleMut}
 use Rattle.iox2_pubsub.specs.declared.sample_mut_uninit.SampleMutUninit.{SampleMutUninit}
@@ -95,16 +96,16 @@ module _ {T U : Type 0} (kept : Kept T U) where
   -- ---- what is read
 
   pub unwritten-reads : (loan : SampleMutUninit) (cell : Option T) → HasCell (state_of kept) loan.loan.number cell → UnwrittenReads kept loan cell
-  unfolding UnwrittenReads
+  unfolding HasUnwrittenCells
   unwritten-reads loan cell has = has
 
   pub unwritten-cell : (loan : SampleMutUninit) (cell : Option T) → UnwrittenReads kept loan cell → HasCell (state_of kept) loan.loan.number cell
-  unfolding UnwrittenReads
+  unfolding HasUnwrittenCells
   unwritten-cell loan cell reads = reads
 
   -- an unwritten loan has one cell
   pub unwritten-reads-one : (loan : SampleMutUninit) (cell cell' : Option T) → UnwrittenReads kept loan cell → UnwrittenReads kept loan cell' → cell ≡ cell'
-  unfolding UnwrittenReads
+  unfolding HasUnwrittenCells
   unwritten-reads-one loan cell cell' a b =
       let both : Some a.0 ≡ Some b.0 = sym a.1 ∙ b.1 in
       let same : a.0 ≡ b.0 = cc in
@@ -112,16 +113,16 @@ module _ {T U : Type 0} (kept : Kept T U) where
       cc
 
   pub loan-reads : (loan : SampleMut) (value : T) → HasCell (state_of kept) loan.loan.number (Some value) → LoanReads kept loan value
-  unfolding LoanReads
+  unfolding HasValues
   loan-reads loan value has = has
 
   pub loan-cell : (loan : SampleMut) (value : T) → LoanReads kept loan value → HasCell (state_of kept) loan.loan.number (Some value)
-  unfolding LoanReads
+  unfolding HasValues
   loan-cell loan value reads = reads
 
   -- a loan reads as one value
   pub loan-reads-one : (loan : SampleMut) (value value' : T) → LoanReads kept loan value → LoanReads kept loan value' → value ≡ value'
-  unfolding LoanReads
+  unfolding HasValues
   loan-reads-one loan value value' a b =
       let both : Some a.0 ≡ Some b.0 = sym a.1 ∙ b.1 in
       let same : a.0 ≡ b.0 = cc in
@@ -130,12 +131,12 @@ module _ {T U : Type 0} (kept : Kept T U) where
 
   pub sample-reads : (sample : Sample) (value : T) (entry : Entry T U) → entries_of kept sample.sample.number ≡ Some entry → entry.values ≡ value ∷ []
       → SampleReads kept sample value
-  unfolding SampleReads
+  unfolding SampleHasValues
   sample-reads sample value entry at values = (entry, at, values)
 
   -- a sample reads as one value
   pub sample-reads-one : (sample : Sample) (value value' : T) → SampleReads kept sample value → SampleReads kept sample value' → value ≡ value'
-  unfolding SampleReads
+  unfolding SampleHasValues
   sample-reads-one sample value value' a b =
       let both : Some a.0 ≡ Some b.0 = sym a.1 ∙ b.1 in
       let same : a.0 ≡ b.0 = cc in

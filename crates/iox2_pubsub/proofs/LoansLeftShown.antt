@@ -4,9 +4,9 @@ use Rattle.std.specs.Prelude.{◌≢◌, OnErr}
 use Rattle.std.proofs.lemmas.Bool.{cases_eq}
 use Rattle.iox2_store.specs.machine.Environments.{ample_memory}
 use Rattle.iox2_store.specs.machine.Limits.{last_number, worst_case}
-use Rattle.iox2_store.specs.machine.Loans.{is_static, loan_discarded}
+use Rattle.iox2_store.specs.machine.Loans.{loan_discarded}
 use Rattle.iox2_store.specs.machine.LoansLeft.{CanLend}
-use Rattle.iox2_store.specs.machine.Ports.{CreatePublisher, CreateSubscriber, publisher_closed, subscriber_closed, slots_for}
+use Rattle.iox2_store.specs.machine.Ports.{CreatePublisher, CreateSubscriber, publisher_closed, subscriber_closed}
 use Rattle.iox2_store.specs.machine.PublisherUpdate.{UpdatePublisher}
 use Rattle.iox2_store.specs.machine.Receives.{ReceiveResult, Receive}
 use Rattle.iox2_store.specs.machine.Records.{Environment, Loan, Publisher as MachinePublisher, Subscriber as MachineSubscriber, PublisherSettings, SubscriberSettings}

@@ -1,5 +1,6 @@
 -- What of a domain stays from one state to the next.
-use Rattle.std.proofs.Common.{◌≡◌, refl, ℕ, Bool, true, sym, ap, subst, ◌∙◌, Option, None, Some}
+use Rattle.std.proofs.Common.{◌≡◌, refl, ℕ, Bool, true, List, sym, ap, subst, ◌∙◌, Option, None, Some}
+use Rattle.iox2_store.specs.SingleValues.{is_single_valued}
 use Rattle.iox2_store.specs.machine.Mailbox.{is_borrowed}
 use Rattle.iox2_store.specs.machine.Records.{Entry, Loan, Publisher, Subscriber}
 use Rattle.iox2_store.specs.machine.State.{State, Messages}
@@ -11,10 +12,9 @@ use Rattle.iox2_store.specs.Stored.{In_mailbox}
 use Rattle.iox2_laws.proofs.NumberLemmas.{contains_right}
 use Rattle.iox2_domain.specs.Kept.{Kept, state_of, entries_of}
 use Rattle.iox2_domain.specs.Shows.{Shows}
-use Rattle.iox2_pubsub.specs.Live.{IsSingleValued, IsPublisherKey, IsSubscriberKey, IsLoanKey, IsSampleKey, IsLiveSample, IsUnwrittenLoan, HasMark, IsFromOrigin, UnwrittenReads, LoanReads, SampleReads, LoanHasHeader, LoanHasUserHeader, SampleHasHeader, SampleHasUserHeader, Item, No_item, IsOtherPublisher, IsOtherSubscriber, IsOtherLoan, IsOtherSample, StaysBut, Stays, IsNewIn, unwritten_key, written_key, sample_key}
+use Rattle.iox2_pubsub.specs.Live.{IsSingleValued, IsPublisherKey, IsSubscriberKey, IsLoanKey, IsSampleKey, HasMark, IsFromOrigin, LoanHasHeader, LoanHasUserHeader, SampleHasHeader, SampleHasUserHeader, Item, No_item, IsOtherPublisher, IsOtherSubscriber, IsOtherLoan, IsOtherSample, StaysBut, Stays, IsNewIn, unwritten_key, written_key}
+use Rattle.iox2_pubsub.specs.Slices.{IsSliced, HasUnwrittenCells, HasValues, SampleHasValues}
 use Rattle.iox2_pubsub.specs.declared.sample.Sample.{Sample}
-use Rattle.iox2_pubsub.specs.declared.sample_mut.SampleMut.{SampleMut}
-use Rattle.iox2_pubsub.specs.declared.sample_mut_uninit.SampleMutUninit.{SampleMutUninit}
 
 module _ {T U : Type 0} where
   -- the settings stay, and the ports, but for the item
@@ -50,6 +50,10 @@ module _ {T U : Type 0} (spent : Item) (old new : Kept T U) (remain : PortsRemai
   unfolding IsSingleValued
   single was = (ap (λ (c : ServiceConfig). c.variant) remain.config ∙ was.0, ap (λ (c : ServiceConfig). c.units_per_element) remain.config ∙ was.1)
 
+  slices : IsSliced old → IsSliced new
+  unfolding IsSliced
+  slices was = ap is_single_valued remain.config ∙ was
+
   publisher : (key : Key) → IsPublisherKey old key → IsOtherPublisher spent key.port → IsPublisherKey new key
   unfolding IsPublisherKey
   publisher key live other = (live.0, service key.service_id live.1, remain.publishers key.port (live.2).0 (live.2).1 other)
@@ -74,13 +78,13 @@ module _ {T U : Type 0} (spent : Item) (old new : Kept T U) (remain : PortsRemai
   unfolding IsFromOrigin
   origin it from other = samples it.origin it.sample.subscriber it.sample.number from other
 
-  loan-payload : (it : SampleMut) (value : T) → LoanReads old it value → IsOtherLoan spent it.loan.number → LoanReads new it value
-  unfolding LoanReads
-  loan-payload it value reads other = (reads.0, loans it.loan.number reads.0 reads.1 other, reads.2)
+  loan-values : (n : ℕ) (values : List T) → HasValues old n values → IsOtherLoan spent n → HasValues new n values
+  unfolding HasValues
+  loan-values n values has other = (has.0, loans n has.0 has.1 other, has.2)
 
-  loan-cell : (it : SampleMutUninit) (cell : Option T) → UnwrittenReads old it cell → IsOtherLoan spent it.loan.number → UnwrittenReads new it cell
-  unfolding UnwrittenReads
-  loan-cell it cell reads other = (reads.0, loans it.loan.number reads.0 reads.1 other, reads.2)
+  loan-cells : (n : ℕ) (cells : List (Option T)) → HasUnwrittenCells old n cells → IsOtherLoan spent n → HasUnwrittenCells new n cells
+  unfolding HasUnwrittenCells
+  loan-cells n cells has other = (has.0, loans n has.0 has.1 other, has.2)
 
   loan-header : (key : Key) (header : Header) → LoanHasHeader old key header → IsOtherLoan spent key.message → LoanHasHeader new key header
   unfolding LoanHasHeader
@@ -105,15 +109,15 @@ module _ {T U : Type 0} (spent : Item) (old new : Kept T U) (remain : PortsRemai
   unfolding SampleHasUserHeader
   sample-user-header key header live has other = (has.0, sample-entry key live other has.0 has.1, has.2)
 
-  sample-payload : (it : Sample) (value : T) → IsLiveSample old it → SampleReads old it value → IsOtherSample spent it.sample.subscriber it.sample.number
-      → SampleReads new it value
-  unfolding SampleReads
-  sample-payload it value live reads other = (reads.0, sample-entry (sample_key it) live other reads.0 reads.1, reads.2)
+  sample-values : (key : Key) (values : List T) → IsSampleKey old key → SampleHasValues old key values → IsOtherSample spent key.port key.message → SampleHasValues new key values
+  unfolding SampleHasValues
+  sample-values key values live has other = (has.0, sample-entry key live other has.0 has.1, has.2)
 
   stays-but : StaysBut spent old new
   stays-but = record {
     settings = remain.config;
     single_valued = single;
+    sliced = slices;
     publishers = publisher;
     subscribers = subscriber;
     loans = loan;
@@ -121,11 +125,11 @@ module _ {T U : Type 0} (spent : Item) (old new : Kept T U) (remain : PortsRemai
     written_loans = λ it live other. record { live = loan (written_key it) live.live other; written = mark it.loan.number _ live.written other };
     samples = sample;
     origins = origin;
-    loan_cells = λ it cell live. loan-cell it cell;
-    loan_payloads = loan-payload;
+    loan_cells = loan-cells;
+    loan_payloads = loan-values;
     loan_headers = λ key header live. loan-header key header;
     loan_user_headers = λ key header live. loan-user-header key header;
-    sample_payloads = sample-payload;
+    sample_payloads = sample-values;
     sample_headers = sample-header;
     sample_user_headers = sample-user-header;
   }
@@ -158,7 +162,8 @@ module _ {T U : Type 0} (start old : Kept T U) (before : Stays start old) (item 
     written_loans = λ it live. new.written_loans it (before.written_loans it live tt);
     samples = λ key live. new.samples key (before.samples key live tt);
     origins = λ it from. new.origins it (before.origins it from tt);
-    payloads = λ it value reads. new.payloads it value (before.loan_payloads it value reads tt);
+    cells = λ n cells has. new.cells n cells (before.loan_cells n cells has tt);
+    payloads = λ n values has. new.payloads n values (before.loan_payloads n values has tt);
   }
 
   -- where an item that was new is spent, all that was there before stays
@@ -166,6 +171,7 @@ module _ {T U : Type 0} (start old : Kept T U) (before : Stays start old) (item 
   stays-on new apart next = record {
     settings = next.settings ∙ before.settings;
     single_valued = λ was. next.single_valued (before.single_valued was);
+    sliced = λ was. next.sliced (before.sliced was);
     publishers = λ key live other. next.publishers key (before.publishers key live other) (apart.publishers key live);
     subscribers = λ key live other. next.subscribers key (before.subscribers key live other) (apart.subscribers key live);
     loans = λ key live other. next.loans key (before.loans key live other) (apart.loans key live);
@@ -173,14 +179,13 @@ module _ {T U : Type 0} (start old : Kept T U) (before : Stays start old) (item 
     written_loans = λ it live other. next.written_loans it (before.written_loans it live other) (apart.written_loans it live);
     samples = λ key live other. next.samples key (before.samples key live other) (apart.samples key live);
     origins = λ it from other. next.origins it (before.origins it from other) (apart.origins it from);
-    loan_cells = λ it cell live reads other.
-        next.loan_cells it cell (before.unwritten_loans it live other) (before.loan_cells it cell live reads other) (apart.unwritten_loans it live);
-    loan_payloads = λ it value reads other. next.loan_payloads it value (before.loan_payloads it value reads other) (apart.payloads it value reads);
+    loan_cells = λ n cells has other. next.loan_cells n cells (before.loan_cells n cells has other) (apart.cells n cells has);
+    loan_payloads = λ n values has other. next.loan_payloads n values (before.loan_payloads n values has other) (apart.payloads n values has);
     loan_headers = λ key header live has other. next.loan_headers key header (before.loans key live other) (before.loan_headers key header live has other) (apart.loans key live);
     loan_user_headers = λ key header live has other.
         next.loan_user_headers key header (before.loans key live other) (before.loan_user_headers key header live has other) (apart.loans key live);
-    sample_payloads = λ it value live reads other.
-        next.sample_payloads it value (before.samples (sample_key it) live other) (before.sample_payloads it value live reads other) (apart.samples (sample_key it) live);
+    sample_payloads = λ key values live has other.
+        next.sample_payloads key values (before.samples key live other) (before.sample_payloads key values live has other) (apart.samples key live);
     sample_headers = λ key header live has other.
         next.sample_headers key header (before.samples key live other) (before.sample_headers key header live has other) (apart.samples key live);
     sample_user_headers = λ key header live has other.
@@ -197,7 +202,8 @@ nothing-is-new start = record {
   written_loans = λ it live. tt;
   samples = λ key live. tt;
   origins = λ it from. tt;
-  payloads = λ it value reads. tt;
+  cells = λ n cells has. tt;
+  payloads = λ n values has. tt;
 }
 
 -- nothing changed
@@ -205,6 +211,7 @@ pub unchanged-stays : {T U : Type 0} (spent : Item) (kept : Kept T U) → StaysB
 unchanged-stays spent kept = record {
   settings = refl;
   single_valued = λ was. was;
+  sliced = λ was. was;
   publishers = λ key live other. live;
   subscribers = λ key live other. live;
   loans = λ key live other. live;
@@ -212,11 +219,11 @@ unchanged-stays spent kept = record {
   written_loans = λ it live other. live;
   samples = λ key live other. live;
   origins = λ it from other. from;
-  loan_cells = λ it cell live reads other. reads;
-  loan_payloads = λ it value reads other. reads;
+  loan_cells = λ n cells has other. has;
+  loan_payloads = λ n values has other. has;
   loan_headers = λ key header live has other. has;
   loan_user_headers = λ key header live has other. has;
-  sample_payloads = λ it value live reads other. reads;
+  sample_payloads = λ key values live has other. has;
   sample_headers = λ key header live has other. has;
   sample_user_headers = λ key header live has other. has;
 }

@@ -160,7 +160,7 @@ module _ {T U : Type 0} (is_default : U → Type 0) (checks : Bool) (len : ℕ) 
       let granted : LoanReaches {A = LoanAt} is_default checks len f stands.0 (Ok loan) new = subst (λ (r : Result LoanAt LoanError). LoanReaches is_default checks len f stands.0 r new) is its in
       let there = cells-parts (kept_of new) loan.number cells has in
       let same : there.0 ≡ lent_loan f stands.0 granted.0 len = same_Some there.0 (lent_loan f stands.0 granted.0 len) (sym there.1 ∙ granted-out f is_default checks len new stands.0 loan names granted) in
-      ap (λ (cs : List (Option T)). length cs) (sym there.2 ∙ ap (λ (l : Loan T U). l.cells) same) ∙ length-replicate (len * (f.config).units_per_element) (None {T = T})
+      ap (λ (cs : List (Option T)). length cs) (sym there.2 ∙ ap (λ (l : Loan T U). l.cells) same) ∙ length-replicate {A = Option T} (len * (f.config).units_per_element) None
 
   -- and its header says whose it is, and how long
   pub ok-header : (loan : LoanAt) → answer ≡ Ok loan → IsSomeAnd (get_or f.publishers i None) (λ z. IsNamed f z loan) → (key : Key) → key.message ≡ loan.number

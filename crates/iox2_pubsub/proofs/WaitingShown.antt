@@ -37,12 +37,14 @@ use Rattle.iox2_laws.proofs.WaitingReceives.{UpdateWaits, update_subscriber_wait
 use Rattle.iox2_laws.proofs.WaitingPorts.{NewWaits, create_subscriber_waits}
 use Rattle.iox2_laws.proofs.WaitingPublishers.{create_publisher_waits}
 use Rattle.iox2_laws.proofs.WaitingSends.{update_publisher_waits, send_waits, send_among}
-use Rattle.iox2_pubsub.specs.Live.{IsLiveSubscriber, AddAtMost, AreAll, LoanReads, OthersWait, SampleReads, payloads, waiting, subscriber_key}
+use Rattle.iox2_pubsub.specs.Live.{IsLiveSubscriber, AddAtMost, AreAllSlices, OthersWait, payloads, waiting, sample_key, subscriber_key}
+use Rattle.iox2_pubsub.specs.Slices.{HasValues, SampleHasValues}
 use Rattle.iox2_pubsub.specs.Payloads.{all_below, payload_of, payloads_for}
 use Rattle.iox2_pubsub.specs.declared.sample.Sample.{Sample}
 use Rattle.iox2_pubsub.specs.declared.sample_mut.SampleMut.{SampleMut}
 use Rattle.iox2_pubsub.specs.declared.subscriber.Subscriber.{Subscriber}
-use Rattle.iox2_pubsub.proofs.LiveParts.{loan-cell, sample-reads, subscriber-parts}
+use Rattle.iox2_pubsub.proofs.LiveParts.{subscriber-parts}
+use Rattle.iox2_pubsub.proofs.SliceParts.{sample-values, values-parts}
 use Rattle.iox2_pubsub.proofs.PayloadLists.{all_same, parts_same, payloads_same, length-payloads, each_payload, payload_at}
 
 -- the payloads are what the domain keeps
@@ -68,13 +70,18 @@ entry-of {T} {U} kept m s shown p q n at =
     (has.0, has.1, shown.entries n has.0 has.1)
 
 -- the words of a clause, part by part
-all-parts : {T : Type 0} (payloads : List (List T)) (value : T) → AreAll payloads value → AllByRecursion (λ payload. payload ≡ value ∷ []) payloads
-unfolding AreAll
-all-parts payloads value all = all
+all-parts : {T : Type 0} (payloads : List (List T)) (values : List T) → AreAllSlices payloads values → AllByRecursion (λ payload. payload ≡ values) payloads
+unfolding AreAllSlices
+all-parts payloads values all = all
 
-parts-all : {T : Type 0} (payloads : List (List T)) (value : T) → AllByRecursion (λ payload. payload ≡ value ∷ []) payloads → AreAll payloads value
-unfolding AreAll
-parts-all payloads value all = all
+parts-all : {T : Type 0} (payloads : List (List T)) (values : List T) → AllByRecursion (λ payload. payload ≡ values) payloads → AreAllSlices payloads values
+unfolding AreAllSlices
+parts-all payloads values all = all
+
+-- cells that are all written hold their values
+written-cells : {T : Type 0} (values : List T) → filter_map (λ (cell : Option T). cell) (map Some values) ≡ values
+written-cells [] = refl
+written-cells (value ∷ values) = ap (λ vs. value ∷ vs) (written-cells values)
 
 some_there : (ns : List ℕ) (k : ℕ) → contains ns k ≡ true → 0 < length ns
 some_there [] k at = let clash : false ≡ true = at in absurd cc
@@ -192,12 +199,12 @@ module _ {T U : Type 0} (old new : Kept T U) (m m' : Messages T U) (s s' : State
       (adds ((s.config).history_size + 1) (send_waits environment s n l s' result shown.well_formed shown'.well_formed h))
 
   -- and brings its payload, where nothing waited and no history is kept
-  pub send-brings : (environment : Environment) (n : ℕ) (l : Loan T U) (result : SendResult) → ((e : Entry T U) → m' n ≡ Some e → e ≡ entry_of l) → s.loans n ≡ Some l → Send environment s n l s' result → (loan : SampleMut) → loan.loan.number ≡ n
-      → (subscriber : Subscriber) (value : T) → (old.config).history_size ≡ 0 → waiting old subscriber ≡ 0 → LoanReads old loan value → AreAll (payloads new subscriber) value
-  send-brings environment n l result is_sent out h loan its subscriber value no_history none reads =
-      parts-all (payloads new subscriber) value (subst (AllByRecursion (λ payload. payload ≡ value ∷ [])) (sym (payloads-are new subscriber))
-      (subst (λ (t : State T U). AllByRecursion (λ payload. payload ≡ value ∷ []) (payloads_for t (entries_of new) q)) shown'.state
-      (each_payload (λ payload. payload ≡ value ∷ []) s' (entries_of new) q each)))
+  pub send-brings : (environment : Environment) (n : ℕ) (l : Loan T U) (result : SendResult) → ((e : Entry T U) → m' n ≡ Some e → e ≡ entry_of l) → s.loans n ≡ Some l → Send environment s n l s' result
+      → (subscriber : Subscriber) (values : List T) → (old.config).history_size ≡ 0 → waiting old subscriber ≡ 0 → HasValues old n values → AreAllSlices (payloads new subscriber) values
+  send-brings environment n l result is_sent out h subscriber values no_history none reads =
+      parts-all (payloads new subscriber) values (subst (AllByRecursion (λ payload. payload ≡ values)) (sym (payloads-are new subscriber))
+      (subst (λ (t : State T U). AllByRecursion (λ payload. payload ≡ values) (payloads_for t (entries_of new) q)) shown'.state
+      (each_payload (λ payload. payload ≡ values) s' (entries_of new) q each)))
     where
       q : ℕ
       q = subscriber.id
@@ -205,16 +212,16 @@ module _ {T U : Type 0} (old new : Kept T U) (m m' : Messages T U) (s s' : State
       nothing : waiting_for s q ≡ 0
       nothing = sym (waiting-is old m s shown subscriber) ∙ none
 
-      cell : l.cells ≡ Some value ∷ []
-      cell =
-          let has = loan-cell old loan value reads in
-          let at : s.loans n ≡ Some has.0 = ap s.loans (sym its) ∙ ap (λ (t : State T U). t.loans loan.loan.number) shown.state ∙ has.1 in
+      cells : l.cells ≡ map Some values
+      cells =
+          let has = values-parts old n values reads in
+          let at : s.loans n ≡ Some has.0 = ap (λ (t : State T U). t.loans n) shown.state ∙ has.1 in
           let both : Some l ≡ Some has.0 = sym out ∙ at in
           let same : l ≡ has.0 = cc in
           ap (λ (k : Loan T U). k.cells) same ∙ has.2
 
-      values : (entry_of l).values ≡ value ∷ []
-      values = ap (filter_map (λ cell. cell)) cell
+      sent_values : (entry_of l).values ≡ values
+      sent_values = ap (filter_map (λ (cell : Option T). cell)) cells ∙ written-cells values
 
       waited : (p k : ℕ) → contains (waiting_from s p q) k ≡ true → ⊥
       waited p k at =
@@ -224,12 +231,12 @@ module _ {T U : Type 0} (old new : Kept T U) (m m' : Messages T U) (s s' : State
           let none_waits : waiting_for s q ≡ 0 = nothing in
           omega arith
 
-      each : (p k : ℕ) → contains (waiting_from s' p q) k ≡ true → payload_of (entries_of new) k ≡ value ∷ []
+      each : (p k : ℕ) → contains (waiting_from s' p q) k ≡ true → payload_of (entries_of new) k ≡ values
       each p k at = elim (send_among environment s n l s' result shown.well_formed (ap (λ (t : State T U). (t.config).history_size) shown.state ∙ no_history) h p q k at) [
         | inl here ↦
             let has = entry-of new m' s' shown' p q k (waits-in-mailbox s' p q k at) in
             let same : has.0 ≡ entry_of l = is_sent has.0 (sym (ap m' here) ∙ has.2) in
-            ap (λ (o : Option (Entry T U)). option_map_or (λ (e : Entry T U). e.values) o []) has.1 ∙ ap (λ (e : Entry T U). e.values) same ∙ values
+            ap (λ (o : Option (Entry T U)). option_map_or (λ (e : Entry T U). e.values) o []) has.1 ∙ ap (λ (e : Entry T U). e.values) same ∙ sent_values
         | inr old ↦ absurd (waited p k old)
       ]
 
@@ -297,23 +304,23 @@ module _ {T U : Type 0} (old new : Kept T U) (m m' : Messages T U) (s s' : State
         others-wait sent subscriber others.ports others.from
 
     -- what is received is what waited
-    pub received-reads : AreKept → IsLiveSubscriber old subscriber → (p : ℕ) (sample : Sample) → Receive environment s subscriber.id s' (Got_sample p sample.sample.number) → (value : T)
-        → AreAll (payloads old subscriber) value → SampleReads new sample value
-    received-reads sent live p sample h value only =
+    pub received-reads : AreKept → IsLiveSubscriber old subscriber → (p : ℕ) (sample : Sample) → Receive environment s subscriber.id s' (Got_sample p sample.sample.number) → (values : List T)
+        → AreAllSlices (payloads old subscriber) values → SampleHasValues new (sample_key sample) values
+    received-reads sent live p sample h values only =
         let has = live-open subscriber live in
         let n = sample.sample.number in
         let waited : contains (waiting_from s p subscriber.id) n ≡ true = receive_waited environment s subscriber.id p n s' has.0 has.1 has.2 h in
         let boxed : contains (numbers_in (s.mailboxes p subscriber.id)) n ≡ true = waits-in-mailbox s p subscriber.id n waited in
         let known : p < s.next_port = ((shown.well_formed.mailboxes p subscriber.id).known (has_numbers-contains (s.mailboxes p subscriber.id) n boxed)).0 in
-        let all : AllByRecursion (λ payload. payload ≡ value ∷ []) (payloads_for s (entries_of old) subscriber.id) =
-        subst (λ (t : State T U). AllByRecursion (λ payload. payload ≡ value ∷ []) (payloads_for t (entries_of old) subscriber.id)) (sym shown.state)
-        (subst (AllByRecursion (λ payload. payload ≡ value ∷ [])) (payloads-are old subscriber) (all-parts (payloads old subscriber) value only)) in
+        let all : AllByRecursion (λ payload. payload ≡ values) (payloads_for s (entries_of old) subscriber.id) =
+        subst (λ (t : State T U). AllByRecursion (λ payload. payload ≡ values) (payloads_for t (entries_of old) subscriber.id)) (sym shown.state)
+        (subst (AllByRecursion (λ payload. payload ≡ values)) (payloads-are old subscriber) (all-parts (payloads old subscriber) values only)) in
         let before = entry-of old m s shown p subscriber.id n boxed in
-        let values : payload_of (entries_of old) n ≡ value ∷ [] = payload_at (λ payload. payload ≡ value ∷ []) s (entries_of old) subscriber.id all p n known waited in
+        let waiting_values : payload_of (entries_of old) n ≡ values = payload_at (λ payload. payload ≡ values) s (entries_of old) subscriber.id all p n known waited in
         let borrowed : contains (numbers_in (s'.mailboxes p subscriber.id)) n ≡ true =
         contains_right (s'.mailboxes p subscriber.id).waiting (s'.mailboxes p subscriber.id).borrowed n ((received_one environment s subscriber.id p n s' h).now) in
         let entry : entries_of new n ≡ Some before.0 = same-entry sent p subscriber.id p subscriber.id n boxed borrowed ∙ before.1 in
-        sample-reads new sample value before.0 entry (ap (λ (o : Option (Entry T U)). option_map_or (λ (e : Entry T U). e.values) o []) (sym before.1) ∙ values)
+        sample-values new (sample_key sample) values (before.0, entry, ap (λ (o : Option (Entry T U)). option_map_or (λ (e : Entry T U). e.values) o []) (sym before.1) ∙ waiting_values)
 
 module _ {T U : Type 0} (old new : Kept T U) (m : Messages T U) (s : State T U) (shown : Shows old m s) (n : ℕ) where
   -- a loan is set

@@ -10,8 +10,9 @@ use Rattle.iox2_store.specs.declared.header.Header.{Header}
 use Rattle.iox2_store.specs.declared.key.Key.{Key}
 use Rattle.iox2_store.specs.declared.service_config.TypeVariant.TheVariants.{FixedSize}
 use Rattle.iox2_domain.specs.Kept.{Kept, state_of, entries_of}
-use Rattle.iox2_domain.specs.LoanCalls.{HasCell, HasLoanHeader, HasLoanUserHeader}
+use Rattle.iox2_domain.specs.LoanCalls.{HasLoanHeader, HasLoanUserHeader}
 use Rattle.iox2_pubsub.specs.Payloads.{payloads_for}
+use Rattle.iox2_pubsub.specs.Slices.{IsSliced, HasUnwrittenCells, HasValues, SampleHasValues}
 use Rattle.iox2_pubsub.specs.declared.publisher.Publisher.{Publisher}
 use Rattle.iox2_pubsub.specs.declared.subscriber.Subscriber.{Subscriber}
 use Rattle.iox2_pubsub.specs.declared.sample_mut_uninit.SampleMutUninit.{SampleMutUninit}
@@ -102,19 +103,19 @@ module _ {T U : Type 0} (domain : Kept T U) where
   unfoldable pub IsFromOrigin : Sample → Type 0
   IsFromOrigin sample = IsTrue (is_borrowed sample.sample.number ((state_of domain).mailboxes sample.origin sample.sample.subscriber))
 
-  -- ---- what is read
+  -- ---- what is read: a single value is a slice of one
 
   -- The unwritten loan has this in its cell.
-  unfoldable pub UnwrittenReads : SampleMutUninit → Option T → Type 0
-  UnwrittenReads loan cell = HasCell (state_of domain) loan.loan.number cell
+  abbrev pub UnwrittenReads : SampleMutUninit → Option T → Type 0
+  UnwrittenReads loan cell = HasUnwrittenCells domain loan.loan.number (cell ∷ [])
 
   -- The written loan's payload is this value.
-  unfoldable pub LoanReads : SampleMut → T → Type 0
-  LoanReads loan value = HasCell (state_of domain) loan.loan.number (Some value)
+  abbrev pub LoanReads : SampleMut → T → Type 0
+  LoanReads loan value = HasValues domain loan.loan.number (value ∷ [])
 
   -- The sample's payload is this value.
-  unfoldable pub SampleReads : Sample → T → Type 0
-  SampleReads sample value = (entry : Entry T U) × (entries_of domain sample.sample.number ≡ Some entry) × (entry.values ≡ value ∷ [])
+  abbrev pub SampleReads : Sample → T → Type 0
+  SampleReads sample value = SampleHasValues domain (sample_key sample) (value ∷ [])
 
   module _ (key : Key) where
     -- The loan with this key has this header.
@@ -164,9 +165,13 @@ OthersWait subscriber old new = (other : Subscriber) → other.id ≢ subscriber
 abbrev pub AddAtMost : {T U : Type 0} → (more : ℕ) → (old new : Kept T U) → Type 0
 AddAtMost more old new = (subscriber : Subscriber) → waiting new subscriber ≤ waiting old subscriber + more
 
+-- Each of the payloads has these values.
+unfoldable pub AreAllSlices : {T : Type 0} → List (List T) → List T → Type 0
+AreAllSlices payloads values = AllByRecursion (λ payload. payload ≡ values) payloads
+
 -- Each of the payloads is this one value.
-unfoldable pub AreAll : {T : Type 0} → List (List T) → T → Type 0
-AreAll payloads value = AllByRecursion (λ payload. payload ≡ value ∷ []) payloads
+abbrev pub AreAll : {T : Type 0} → List (List T) → T → Type 0
+AreAll payloads value = AreAllSlices payloads (value ∷ [])
 
 -- ---- what a call spends, and what stays
 
@@ -238,6 +243,7 @@ module _ {T U : Type 0} where
   pub record StaysBut (spent : Item) (old new : Kept T U) : Type 0 where
     pub settings : new.config ≡ old.config
     pub single_valued : IsSingleValued old → IsSingleValued new
+    pub sliced : IsSliced old → IsSliced new
     pub publishers : (key : Key) → IsPublisherKey old key → IsOtherPublisher spent key.port → IsPublisherKey new key
     pub subscribers : (key : Key) → IsSubscriberKey old key → IsOtherSubscriber spent key.port → IsSubscriberKey new key
     pub loans : (key : Key) → IsLoanKey old key → IsOtherLoan spent key.message → IsLoanKey new key
@@ -245,13 +251,12 @@ module _ {T U : Type 0} where
     pub written_loans : (loan : SampleMut) → IsWrittenLoan old loan → IsOtherLoan spent loan.loan.number → IsWrittenLoan new loan
     pub samples : (key : Key) → IsSampleKey old key → IsOtherSample spent key.port key.message → IsSampleKey new key
     pub origins : (sample : Sample) → IsFromOrigin old sample → IsOtherSample spent sample.sample.subscriber sample.sample.number → IsFromOrigin new sample
-    pub loan_cells : (loan : SampleMutUninit) (cell : Option T) → IsUnwrittenLoan old loan → UnwrittenReads old loan cell
-        → IsOtherLoan spent loan.loan.number → UnwrittenReads new loan cell
-    pub loan_payloads : (loan : SampleMut) (value : T) → LoanReads old loan value → IsOtherLoan spent loan.loan.number → LoanReads new loan value
+    pub loan_cells : (number : ℕ) (cells : List (Option T)) → HasUnwrittenCells old number cells → IsOtherLoan spent number → HasUnwrittenCells new number cells
+    pub loan_payloads : (number : ℕ) (values : List T) → HasValues old number values → IsOtherLoan spent number → HasValues new number values
     pub loan_headers : (key : Key) (header : Header) → IsLoanKey old key → LoanHasHeader old key header → IsOtherLoan spent key.message → LoanHasHeader new key header
     pub loan_user_headers : (key : Key) (header : U) → IsLoanKey old key → LoanHasUserHeader old key header → IsOtherLoan spent key.message → LoanHasUserHeader new key header
-    pub sample_payloads : (sample : Sample) (value : T) → IsLiveSample old sample → SampleReads old sample value
-        → IsOtherSample spent sample.sample.subscriber sample.sample.number → SampleReads new sample value
+    pub sample_payloads : (key : Key) (values : List T) → IsSampleKey old key → SampleHasValues old key values
+        → IsOtherSample spent key.port key.message → SampleHasValues new key values
     pub sample_headers : (key : Key) (header : Header) → IsSampleKey old key → SampleHasHeader old key header
         → IsOtherSample spent key.port key.message → SampleHasHeader new key header
     pub sample_user_headers : (key : Key) (header : U) → IsSampleKey old key → SampleHasUserHeader old key header
@@ -270,4 +275,5 @@ module _ {T U : Type 0} where
     pub written_loans : (loan : SampleMut) → IsWrittenLoan old loan → IsOtherLoan made loan.loan.number
     pub samples : (key : Key) → IsSampleKey old key → IsOtherSample made key.port key.message
     pub origins : (sample : Sample) → IsFromOrigin old sample → IsOtherSample made sample.sample.subscriber sample.sample.number
-    pub payloads : (loan : SampleMut) (value : T) → LoanReads old loan value → IsOtherLoan made loan.loan.number
+    pub cells : (number : ℕ) (cells : List (Option T)) → HasUnwrittenCells old number cells → IsOtherLoan made number
+    pub payloads : (number : ℕ) (values : List T) → HasValues old number values → IsOtherLoan made number

@@ -3,7 +3,9 @@ use Rattle.std.specs.Prelude.{ℕ, List, map, false, ◌≡◌}
 use Rattle.std.specs.declared.option.Option.{Option}
 use Rattle.std.specs.declared.option.Option.TheVariants.{Some}
 use Rattle.iox2_store.specs.SingleValues.{is_single_valued}
-use Rattle.iox2_domain.specs.Kept.{Kept, state_of}
+use Rattle.iox2_store.specs.machine.Records.{Entry}
+use Rattle.iox2_store.specs.declared.key.Key.{Key}
+use Rattle.iox2_domain.specs.Kept.{Kept, state_of, entries_of}
 use Rattle.iox2_domain.specs.LoanCalls.{HasCells}
 
 module _ {T U : Type 0} (domain : Kept T U) where
@@ -18,3 +20,7 @@ module _ {T U : Type 0} (domain : Kept T U) where
   -- The written loan with this number has these values.
   unfoldable pub HasValues : (number : ℕ) → List T → Type 0
   HasValues number values = HasCells (state_of domain) number (map Some values)
+
+  -- The sample with this key has these values.
+  unfoldable pub SampleHasValues : Key → List T → Type 0
+  SampleHasValues key values = (entry : Entry T U) × (entries_of domain key.message ≡ Some entry) × (entry.values ≡ values)

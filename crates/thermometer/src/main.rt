@@ -8,11 +8,13 @@
 ghost use Rattle.iox2_pubsub.specs.Live.{IsLiveSubscriber, IsSingleValued, Stays};
 ghost use Rattle.iox2_pubsub.specs.LoansLeft.{HasNumbersLeft};
 
+mod batch;
 mod correction;
 mod failure;
 mod reading;
 mod report;
 mod series;
+mod waiting;
 
 use failure::Failure;
 use iox2_pubsub::{Domain, ServiceConfig, Subscriber};
@@ -26,8 +28,9 @@ fn main(rt: HostRuntime) -> Result<(), Failure> {
     let outcome = run(&rt, &mut domain, &subscriber);
     subscriber.close(&mut domain);
     outcome?;
-    let temperatures = exchange(rt.alloc())?;
-    println!(rt; "{temperatures} temperatures in series")?;
+    if let Some(temperatures) = exchange(rt.alloc())? {
+        println!(rt; "{temperatures} temperatures in a series")?;
+    }
     Ok(())
 }
 

@@ -1,18 +1,19 @@
-//! Temperatures go in series, as slices.
-ghost use Rattle.std.specs.Prelude.{◌≡◌, ◌≤◌};
+//! Temperatures go in series, as slices, from a domain's start to its end.
+ghost use Rattle.std.specs.Prelude.{◌≡◌, ℕ, [], ◌∷◌, List, length, IfOk, IfSome};
 ghost use Rattle.iox2_store.specs.declared.service_config.TypeVariant.TheVariants.{Dynamic};
-ghost use Rattle.iox2_pubsub.specs.Live.{IsLivePublisher, IsLiveSubscriber, Stays};
+ghost use Rattle.iox2_pubsub.specs.Live.{AreAllSlices, IsLivePublisher, IsLiveSubscriber, Stays, payloads, waiting};
 ghost use Rattle.iox2_pubsub.specs.LoansLeft.{HasLoansLeft, HasNumbersLeft};
 ghost use Rattle.iox2_pubsub.specs.Slices.{IsSliced};
+ghost use Rattle.iox2_pubsub.specs.declared.subscriber.Subscriber.{Subscriber as SubscriberHandle};
 
 use crate::failure::Failure;
 use iox2_pubsub::slice::{Publisher, SampleMut, Subscriber};
 use iox2_pubsub::{Domain, SendOutcome, ServiceConfig, TypeVariant};
 use std::alloc::Global;
 
-/// Makes a domain of slices, sends two series of three temperatures through it, and receives them.
-/// Returns how many temperatures came.
-pub fn exchange(alloc: Global) -> Result<usize, Failure> {
+/// Makes a domain of slices, and sends two series of three temperatures through it. Returns how many
+/// temperatures the second had when it came.
+pub fn exchange(alloc: Global) -> Result<Option<usize>, Failure> {
     let config = ServiceConfig {
         variant: TypeVariant::Dynamic,
         ..ServiceConfig::new(2)
@@ -25,12 +26,12 @@ pub fn exchange(alloc: Global) -> Result<usize, Failure> {
 }
 
 // Makes a publisher of series of three, with one loan out at a time, and sends two series with it.
-fn publish(domain: &mut Domain<u64, ()>, subscriber: &Subscriber) -> Result<usize, Failure>
+fn publish(domain: &mut Domain<u64, ()>, subscriber: &Subscriber) -> Result<Option<usize>, Failure>
     requires dynamic { (domain.old.config).variant ≡ Dynamic }
     requires one_unit { (domain.old.config).units_per_element ≡ 1 }
     requires sliced { IsSliced domain.old }
     requires subscriber { IsLiveSubscriber domain.old subscriber.now.subscriber }
-    requires numbers { HasNumbersLeft domain.old 2 }
+    requires numbers { HasNumbersLeft domain.old 1 }
     ensures { Stays domain.old domain.new }
 {
     let publisher = domain
@@ -43,35 +44,41 @@ fn publish(domain: &mut Domain<u64, ()>, subscriber: &Subscriber) -> Result<usiz
     outcome
 }
 
-// Sends a series that is made in place, and one that is copied, and receives each.
+// Sends a series that is made in place, and then one that is copied. Returns how many temperatures
+// the second had when it came.
 fn send_both(
     domain: &mut Domain<u64, ()>,
     publisher: &Publisher,
     subscriber: &Subscriber,
-) -> Result<usize, Failure>
+) -> Result<Option<usize>, Failure>
     requires dynamic { (domain.old.config).variant ≡ Dynamic }
     requires one_unit { (domain.old.config).units_per_element ≡ 1 }
     requires sliced { IsSliced domain.old }
     requires publisher { IsLivePublisher domain.old publisher.now.publisher }
     requires subscriber { IsLiveSubscriber domain.old subscriber.now.subscriber }
+    requires longest { publisher.now.publisher.initial_max_slice_len ≡ 3 }
+    requires loans { HasLoansLeft domain.old publisher.now.publisher 1 }
+    requires numbers { HasNumbersLeft domain.old 1 }
     ensures { Stays domain.old domain.new }
 {
     send_made(domain, publisher)?;
-    let made = receive_length(domain, subscriber)?;
-    send_copied(domain, publisher)?;
-    let copied = receive_length(domain, subscriber)?;
-    Ok(made.saturating_add(copied))
+    receive_length(domain, subscriber)?;
+    pass_copied(domain, publisher, subscriber)
 }
 
-// Sends a series of the hours 0, 1 and 2, the first of which is set to 12 where it lies.
+// Sends a series of the hours 0, 1 and 2, the first of which is set to 12 where it lies. Its loan
+// can't be refused, so there is no case for that.
 fn send_made(domain: &mut Domain<u64, ()>, publisher: &Publisher) -> Result<(), Failure>
     requires dynamic { (domain.old.config).variant ≡ Dynamic }
     requires one_unit { (domain.old.config).units_per_element ≡ 1 }
     requires sliced { IsSliced domain.old }
     requires publisher { IsLivePublisher domain.old publisher.now.publisher }
+    requires longest { publisher.now.publisher.initial_max_slice_len ≡ 3 }
+    requires loans { HasLoansLeft domain.old publisher.now.publisher 1 }
+    requires numbers { HasNumbersLeft domain.old 1 }
     ensures { Stays domain.old domain.new }
 {
-    let loan = publisher.loan_slice_uninit(domain, 3)?;
+    let loan = publisher.loan_slice_uninit(domain, 3).unwrap();
     let mut message = loan.write_from_fn(domain, |hour| hour as u64);
     set_first(SampleMut::payload_mut(domain, &mut message), 12);
     let SendOutcome::Delivered(_) = message.send(domain)?;
@@ -85,13 +92,34 @@ fn set_first(temperatures: &mut [u64], value: u64) {
     }
 }
 
+// Sends a series of three and receives what waits: a series of three, where nothing waited and no
+// history is kept.
+fn pass_copied(
+    domain: &mut Domain<u64, ()>,
+    publisher: &Publisher,
+    subscriber: &Subscriber,
+) -> Result<Option<usize>, Failure>
+    requires dynamic { (domain.old.config).variant ≡ Dynamic }
+    requires one_unit { (domain.old.config).units_per_element ≡ 1 }
+    requires sliced { IsSliced domain.old }
+    requires publisher { IsLivePublisher domain.old publisher.now.publisher }
+    requires subscriber { IsLiveSubscriber domain.old subscriber.now.subscriber }
+    ensures same { (domain.old.config).history_size ≡ 0 → waiting domain.old subscriber.now.subscriber ≡ 0 → IfOk result (λ length. IfSome length (λ it. it ≡ 3)) }
+    ensures stays { Stays domain.old domain.new }
+{
+    send_copied(domain, publisher)?;
+    receive_length(domain, subscriber)
+}
+
 // Sends a series that is copied into its loan.
 fn send_copied(domain: &mut Domain<u64, ()>, publisher: &Publisher) -> Result<(), Failure>
     requires dynamic { (domain.old.config).variant ≡ Dynamic }
     requires one_unit { (domain.old.config).units_per_element ≡ 1 }
     requires sliced { IsSliced domain.old }
     requires publisher { IsLivePublisher domain.old publisher.now.publisher }
-    ensures { Stays domain.old domain.new }
+    ensures brings { (subscriber : SubscriberHandle) → (domain.old.config).history_size ≡ 0 → waiting domain.old subscriber ≡ 0
+        → IfOk result (λ _. AreAllSlices (payloads domain.new subscriber) (18 ∷ 19 ∷ 20 ∷ [])) }
+    ensures stays { Stays domain.old domain.new }
 {
     let loan = publisher.loan_slice_uninit(domain, 3)?;
     let message = loan.write_from_slice(domain, &[18, 19, 20]);
@@ -100,15 +128,19 @@ fn send_copied(domain: &mut Domain<u64, ()>, publisher: &Publisher) -> Result<()
 }
 
 // Receives a series, if one waits, and gives it back. Returns how many temperatures it had.
-fn receive_length(domain: &mut Domain<u64, ()>, subscriber: &Subscriber) -> Result<usize, Failure>
+fn receive_length(
+    domain: &mut Domain<u64, ()>,
+    subscriber: &Subscriber,
+) -> Result<Option<usize>, Failure>
     requires sliced { IsSliced domain.old }
     requires subscriber { IsLiveSubscriber domain.old subscriber.now.subscriber }
-    ensures { Stays domain.old domain.new }
+    ensures waited { (values : List ℕ) → AreAllSlices (payloads domain.old subscriber.now.subscriber) values → IfOk result (λ shown. IfSome shown (λ it. it ≡ length values)) }
+    ensures stays { Stays domain.old domain.new }
 {
     let Some(sample) = subscriber.receive(domain)? else {
-        return Ok(0);
+        return Ok(None);
     };
     let length = sample.payload(domain).len();
     sample.release(domain);
-    Ok(length)
+    Ok(Some(length))
 }

@@ -9,12 +9,13 @@ use iox2_store::{BackpressureFn, DegradationFn};
 impl SampleMut {
     ghost use Rattle.std.specs.Prelude.{Some};
     ghost use Rattle.std.specs.Borrow.{sem};
+    ghost use Rattle.iox2_store.specs.declared.header.Header.{Header};
     ghost use Rattle.iox2_store.specs.machine.Records.{Loan};
     ghost use Rattle.iox2_store.specs.machine.State.{State, Messages, with_loan};
     ghost use Rattle.iox2_domain.specs.Shows.{Shows};
     ghost use Rattle.iox2_domain.specs.LoanCalls.{first_cell_changed};
     ghost use Rattle.iox2_pubsub.specs.ChangedLoans.{with_payload};
-    ghost use Rattle.iox2_pubsub.specs.Live.{IsSingleValued, IsWrittenLoan, LoanReads, StaysBut, written_loan};
+    ghost use Rattle.iox2_pubsub.specs.Live.{IsSingleValued, IsWrittenLoan, LoanHasHeader, LoanHasUserHeader, LoanReads, StaysBut, UpToDateStay, payloads, written_key, written_loan};
     ghost use Rattle.iox2_pubsub.specs.LoanLends.{LendsPayload};
     ghost use Rattle.iox2_pubsub.specs.LoansLeft.{LoansLeftStay};
 
@@ -37,6 +38,12 @@ impl SampleMut {
             × Shows (with_payload domain.old sample.old.loan.number value) m (with_loan s sample.old.loan.number (Some (first_cell_changed (Some value) l))) }
         ensures live { (value : T) → IsWrittenLoan (with_payload domain.old sample.old.loan.number value) sample.old }
         ensures reads { (value : T) → LoanReads (with_payload domain.old sample.old.loan.number value) sample.old value }
+        ensures header { (value : T) (header : Header) → LoanHasHeader domain.old (written_key sample.old) header
+            → LoanHasHeader (with_payload domain.old sample.old.loan.number value) (written_key sample.new) header }
+        ensures user_header { (value : T) (header : U) → LoanHasUserHeader domain.old (written_key sample.old) header
+            → LoanHasUserHeader (with_payload domain.old sample.old.loan.number value) (written_key sample.new) header }
+        ensures waits { (value : T) → payloads (with_payload domain.old sample.old.loan.number value) ≡ payloads domain.old }
+        ensures up_to_date { (value : T) → UpToDateStay domain.old (with_payload domain.old sample.old.loan.number value) }
         ensures loans_left { (value : T) → LoansLeftStay domain.old (with_payload domain.old sample.old.loan.number value) }
         ensures stays { (value : T) → StaysBut (written_loan sample.old) domain.old (with_payload domain.old sample.old.loan.number value) }
     {

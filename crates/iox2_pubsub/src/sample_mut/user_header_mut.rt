@@ -7,16 +7,18 @@ use iox2_messages::user_header_at_mut;
 use iox2_store::{BackpressureFn, DegradationFn};
 
 impl SampleMut {
-    ghost use Rattle.std.specs.Prelude.{Some, Option};
+    ghost use Rattle.std.specs.Prelude.{Some, List};
     ghost use Rattle.std.specs.Borrow.{sem};
+    ghost use Rattle.iox2_store.specs.declared.header.Header.{Header};
     ghost use Rattle.iox2_store.specs.machine.Records.{Loan};
     ghost use Rattle.iox2_store.specs.machine.State.{State, Messages, with_loan};
     ghost use Rattle.iox2_domain.specs.LoanCalls.{user_header_changed};
     ghost use Rattle.iox2_domain.specs.Shows.{Shows};
     ghost use Rattle.iox2_pubsub.specs.ChangedLoans.{with_user_header};
-    ghost use Rattle.iox2_pubsub.specs.Live.{IsWrittenLoan, LoanHasUserHeader, LoanReads, StaysBut, written_key, written_loan};
+    ghost use Rattle.iox2_pubsub.specs.Live.{IsWrittenLoan, LoanHasHeader, LoanHasUserHeader, StaysBut, UpToDateStay, written_key, written_loan, payloads};
     ghost use Rattle.iox2_pubsub.specs.LoanLends.{LendsUserHeader};
     ghost use Rattle.iox2_pubsub.specs.LoansLeft.{LoansLeftStay};
+    ghost use Rattle.iox2_pubsub.specs.Slices.{HasValues};
 
     /// The user header, to be changed where it lies. What is left behind the reference is the loan's
     /// user header from then on, and nothing else of the domain changes.
@@ -30,15 +32,20 @@ impl SampleMut {
         requires { IsWrittenLoan domain.old sample.old }
         ensures* writes_back { sem 𝓛 (LendsUserHeader T.row U.row F.row G.row domain.entry sample.old.loan.number result) }
         ensures same { sample.new ≡ sample.old }
-        ensures header { LoanHasUserHeader domain.old (written_key sample.old) result.now }
+        ensures user_header { LoanHasUserHeader domain.old (written_key sample.old) result.now }
         ensures changes { (m : Messages T U) (s : State T U) (user_header : U) → Shows domain.old m s
             → (l : Loan T U) × (s.loans sample.old.loan.number ≡ Some l)
             × Shows (with_user_header domain.old sample.old.loan.number user_header) m (with_loan s sample.old.loan.number (Some (user_header_changed user_header l))) }
         ensures live { (user_header : U) → IsWrittenLoan (with_user_header domain.old sample.old.loan.number user_header) sample.old }
         ensures is { (user_header : U) → LoanHasUserHeader (with_user_header domain.old sample.old.loan.number user_header) (written_key sample.old) user_header }
+        ensures reads { (user_header : U) (values : List T) → HasValues domain.old sample.old.loan.number values
+            → HasValues (with_user_header domain.old sample.old.loan.number user_header) sample.old.loan.number values }
+        ensures header { (user_header : U) (header : Header) → LoanHasHeader domain.old (written_key sample.old) header
+            → LoanHasHeader (with_user_header domain.old sample.old.loan.number user_header) (written_key sample.new) header }
+        ensures waits { (user_header : U) → payloads (with_user_header domain.old sample.old.loan.number user_header) ≡ payloads domain.old }
+        ensures up_to_date { (user_header : U) → UpToDateStay domain.old (with_user_header domain.old sample.old.loan.number user_header) }
         ensures loans_left { (user_header : U) → LoansLeftStay domain.old (with_user_header domain.old sample.old.loan.number user_header) }
         ensures stays { (user_header : U) → StaysBut (written_loan sample.old) domain.old (with_user_header domain.old sample.old.loan.number user_header) }
-        ensures payloads { (user_header : U) (value : T) → LoanReads domain.old sample.old value → LoanReads (with_user_header domain.old sample.old.loan.number user_header) sample.old value }
     {
         let at = domain.state.find_live_loan(&sample.loan);
         user_header_at_mut(&mut domain.state, at)

@@ -8,13 +8,16 @@ use iox2_messages::assume_loan;
 use iox2_store::{BackpressureFn, DegradationFn};
 
 impl SampleMutUninit {
-    ghost use Rattle.std.specs.Prelude.{Some, None, IfOk, IsOkAnd, IsErr, MatchResult, true, false};
+    ghost use Rattle.std.specs.Prelude.{Some, None, Option, List, map, is_some, IfOk, IsOkAnd, IsErr, MatchResult, true, false};
+    ghost use Rattle.std.specs.List.{list_all};
+    ghost use Rattle.iox2_store.specs.declared.header.Header.{Header};
     ghost use Rattle.iox2_store.specs.machine.Loans.{initialized, is_initialized};
     ghost use Rattle.iox2_store.specs.machine.Records.{Loan};
     ghost use Rattle.iox2_store.specs.machine.State.{State, Messages};
     ghost use Rattle.iox2_domain.specs.Shows.{Shows};
-    ghost use Rattle.iox2_pubsub.specs.Live.{IsUnwrittenLoan, IsWrittenLoan, LoanReads, StaysBut, UnwrittenReads, unwritten_key, unwritten_loan, written_key};
+    ghost use Rattle.iox2_pubsub.specs.Live.{HasLender, IsUnwrittenLoan, IsWrittenLoan, LoanHasHeader, LoanHasUserHeader, LoanReads, StaysBut, UnwrittenReads, UpToDateStay, payloads, unwritten_key, unwritten_loan, written_key};
     ghost use Rattle.iox2_pubsub.specs.LoansLeft.{LoansLeftStay};
+    ghost use Rattle.iox2_pubsub.specs.Slices.{HasUnwrittenCells, HasValues};
 
     /// Makes the loan one that may be sent, where each of its cells is written. Else the loan is
     /// handed back as it was, and nothing changes. No value is copied.
@@ -32,9 +35,16 @@ impl SampleMutUninit {
             (λ _. (is_initialized l ≡ false) × Shows domain.new m s) }
         ensures live { IfOk result (IsWrittenLoan domain.new) }
         ensures key { IfOk result (λ sample. written_key sample ≡ unwritten_key self) }
+        ensures lent { IfOk result (λ sample. HasLender domain.old (unwritten_key self) → HasLender domain.new (written_key sample)) }
         ensures reads { (value : T) → UnwrittenReads domain.old self (Some value) → IsOkAnd result (λ sample. LoanReads domain.new sample value) }
         ensures refused { UnwrittenReads domain.old self None → IsErr result }
+        ensures all_read { (values : List T) → HasUnwrittenCells domain.old self.loan.number (map Some values) → IsOkAnd result (λ sample. HasValues domain.new sample.loan.number values) }
+        ensures some_unwritten { (cells : List (Option T)) → HasUnwrittenCells domain.old self.loan.number cells → list_all is_some cells ≡ false → IsErr result }
+        ensures header { (header : Header) → LoanHasHeader domain.old (unwritten_key self) header → IfOk result (λ sample. LoanHasHeader domain.new (written_key sample) header) }
+        ensures user_header { (header : U) → LoanHasUserHeader domain.old (unwritten_key self) header → IfOk result (λ sample. LoanHasUserHeader domain.new (written_key sample) header) }
         ensures handed_back { MatchResult result (λ _. self ≡ self) (λ loan. (loan ≡ self) × (domain.new ≡ domain.old)) }
+        ensures waits { payloads domain.new ≡ payloads domain.old }
+        ensures up_to_date { UpToDateStay domain.old domain.new }
         ensures loans_left { LoansLeftStay domain.old domain.new }
         ensures stays { StaysBut (unwritten_loan self) domain.old domain.new }
     {

@@ -9,12 +9,13 @@ use iox2_store::{BackpressureFn, DegradationFn};
 impl SampleMutUninit {
     ghost use Rattle.std.specs.Prelude.{Some, Option};
     ghost use Rattle.std.specs.Borrow.{sem};
+    ghost use Rattle.iox2_store.specs.declared.header.Header.{Header};
     ghost use Rattle.iox2_store.specs.machine.Records.{Loan};
     ghost use Rattle.iox2_store.specs.machine.State.{State, Messages, with_loan};
     ghost use Rattle.iox2_domain.specs.LoanCalls.{first_cell_changed};
     ghost use Rattle.iox2_domain.specs.Shows.{Shows};
     ghost use Rattle.iox2_pubsub.specs.ChangedLoans.{with_cell};
-    ghost use Rattle.iox2_pubsub.specs.Live.{IsSingleValued, IsUnwrittenLoan, UnwrittenReads, StaysBut, unwritten_loan};
+    ghost use Rattle.iox2_pubsub.specs.Live.{IsSingleValued, IsUnwrittenLoan, LoanHasHeader, LoanHasUserHeader, UnwrittenReads, StaysBut, UpToDateStay, payloads, unwritten_key, unwritten_loan};
     ghost use Rattle.iox2_pubsub.specs.LoanLends.{LendsCell};
     ghost use Rattle.iox2_pubsub.specs.LoansLeft.{LoansLeftStay};
 
@@ -38,6 +39,12 @@ impl SampleMutUninit {
             × Shows (with_cell domain.old sample.old.loan.number cell) m (with_loan s sample.old.loan.number (Some (first_cell_changed cell l))) }
         ensures live { (cell : Option T) → IsUnwrittenLoan (with_cell domain.old sample.old.loan.number cell) sample.old }
         ensures reads { (cell : Option T) → UnwrittenReads (with_cell domain.old sample.old.loan.number cell) sample.old cell }
+        ensures header { (cell : Option T) (header : Header) → LoanHasHeader domain.old (unwritten_key sample.old) header
+            → LoanHasHeader (with_cell domain.old sample.old.loan.number cell) (unwritten_key sample.new) header }
+        ensures user_header { (cell : Option T) (header : U) → LoanHasUserHeader domain.old (unwritten_key sample.old) header
+            → LoanHasUserHeader (with_cell domain.old sample.old.loan.number cell) (unwritten_key sample.new) header }
+        ensures waits { (cell : Option T) → payloads (with_cell domain.old sample.old.loan.number cell) ≡ payloads domain.old }
+        ensures up_to_date { (cell : Option T) → UpToDateStay domain.old (with_cell domain.old sample.old.loan.number cell) }
         ensures loans_left { (cell : Option T) → LoansLeftStay domain.old (with_cell domain.old sample.old.loan.number cell) }
         ensures stays { (cell : Option T) → StaysBut (unwritten_loan sample.old) domain.old (with_cell domain.old sample.old.loan.number cell) }
     {

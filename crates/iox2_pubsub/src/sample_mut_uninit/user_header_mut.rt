@@ -7,16 +7,18 @@ use iox2_messages::user_header_at_mut;
 use iox2_store::{BackpressureFn, DegradationFn};
 
 impl SampleMutUninit {
-    ghost use Rattle.std.specs.Prelude.{Some, Option};
+    ghost use Rattle.std.specs.Prelude.{Some, Option, List};
     ghost use Rattle.std.specs.Borrow.{sem};
+    ghost use Rattle.iox2_store.specs.declared.header.Header.{Header};
     ghost use Rattle.iox2_store.specs.machine.Records.{Loan};
     ghost use Rattle.iox2_store.specs.machine.State.{State, Messages, with_loan};
     ghost use Rattle.iox2_domain.specs.LoanCalls.{user_header_changed};
     ghost use Rattle.iox2_domain.specs.Shows.{Shows};
     ghost use Rattle.iox2_pubsub.specs.ChangedLoans.{with_user_header};
-    ghost use Rattle.iox2_pubsub.specs.Live.{IsUnwrittenLoan, LoanHasUserHeader, UnwrittenReads, StaysBut, unwritten_key, unwritten_loan};
+    ghost use Rattle.iox2_pubsub.specs.Live.{IsUnwrittenLoan, LoanHasHeader, LoanHasUserHeader, StaysBut, UpToDateStay, unwritten_key, unwritten_loan, payloads};
     ghost use Rattle.iox2_pubsub.specs.LoanLends.{LendsUserHeader};
     ghost use Rattle.iox2_pubsub.specs.LoansLeft.{LoansLeftStay};
+    ghost use Rattle.iox2_pubsub.specs.Slices.{HasUnwrittenCells};
 
     /// The user header, to be changed where it lies. What is left behind the reference is the loan's
     /// user header from then on, and nothing else of the domain changes.
@@ -30,15 +32,20 @@ impl SampleMutUninit {
         requires { IsUnwrittenLoan domain.old sample.old }
         ensures* writes_back { sem 𝓛 (LendsUserHeader T.row U.row F.row G.row domain.entry sample.old.loan.number result) }
         ensures same { sample.new ≡ sample.old }
-        ensures header { LoanHasUserHeader domain.old (unwritten_key sample.old) result.now }
+        ensures user_header { LoanHasUserHeader domain.old (unwritten_key sample.old) result.now }
         ensures changes { (m : Messages T U) (s : State T U) (user_header : U) → Shows domain.old m s
             → (l : Loan T U) × (s.loans sample.old.loan.number ≡ Some l)
             × Shows (with_user_header domain.old sample.old.loan.number user_header) m (with_loan s sample.old.loan.number (Some (user_header_changed user_header l))) }
         ensures live { (user_header : U) → IsUnwrittenLoan (with_user_header domain.old sample.old.loan.number user_header) sample.old }
         ensures is { (user_header : U) → LoanHasUserHeader (with_user_header domain.old sample.old.loan.number user_header) (unwritten_key sample.old) user_header }
+        ensures reads { (user_header : U) (cells : List (Option T)) → HasUnwrittenCells domain.old sample.old.loan.number cells
+            → HasUnwrittenCells (with_user_header domain.old sample.old.loan.number user_header) sample.old.loan.number cells }
+        ensures header { (user_header : U) (header : Header) → LoanHasHeader domain.old (unwritten_key sample.old) header
+            → LoanHasHeader (with_user_header domain.old sample.old.loan.number user_header) (unwritten_key sample.new) header }
+        ensures waits { (user_header : U) → payloads (with_user_header domain.old sample.old.loan.number user_header) ≡ payloads domain.old }
+        ensures up_to_date { (user_header : U) → UpToDateStay domain.old (with_user_header domain.old sample.old.loan.number user_header) }
         ensures loans_left { (user_header : U) → LoansLeftStay domain.old (with_user_header domain.old sample.old.loan.number user_header) }
         ensures stays { (user_header : U) → StaysBut (unwritten_loan sample.old) domain.old (with_user_header domain.old sample.old.loan.number user_header) }
-        ensures payloads { (user_header : U) (cell : Option T) → UnwrittenReads domain.old sample.old cell → UnwrittenReads (with_user_header domain.old sample.old.loan.number user_header) sample.old cell }
     {
         let at = domain.state.find_live_loan(&sample.loan);
         user_header_at_mut(&mut domain.state, at)

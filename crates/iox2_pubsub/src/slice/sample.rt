@@ -14,16 +14,14 @@ pub struct Sample {
 }
 
 impl Sample {
-    ghost use Rattle.std.specs.Prelude.{ℕ, IsTrue, Some};
+    ghost use Rattle.std.specs.Prelude.{ℕ, IsTrue, List};
     ghost use Rattle.iox2_store.specs.machine.Mailbox.{is_borrowed};
-    ghost use Rattle.iox2_store.specs.machine.Records.{Entry};
     ghost use Rattle.iox2_store.specs.machine.Releases.{released};
     ghost use Rattle.iox2_store.specs.machine.State.{State, Messages};
     ghost use Rattle.iox2_domain.specs.Shows.{Shows};
-    ghost use Rattle.iox2_domain.specs.Kept.{entries_of};
     ghost use Rattle.iox2_pubsub.specs.Live.{IsFromOrigin, IsLiveSample, SampleHasHeader, SampleHasUserHeader, StaysBut, UpToDateStay, payloads, received_sample, sample_key};
     ghost use Rattle.iox2_pubsub.specs.LoansLeft.{LoansLeftStay};
-    ghost use Rattle.iox2_pubsub.specs.Slices.{IsSliced};
+    ghost use Rattle.iox2_pubsub.specs.Slices.{IsSliced, SampleHasValues};
 
     /// The message's values as they lie in their slot.
     ///
@@ -34,7 +32,8 @@ impl Sample {
     ) -> &'a [T]
         requires live { IsLiveSample domain.now self.now.sample }
         requires sliced { IsSliced domain.now }
-        ensures { (entry : Entry T U) × (entries_of domain.now self.now.sample.sample.number ≡ Some entry) × (entry.values ≡ result.now) }
+        ensures reads { SampleHasValues domain.now (sample_key self.now.sample) result.now }
+        ensures same { (values : List T) → SampleHasValues domain.now (sample_key self.now.sample) values → result.now ≡ values }
     {
         sample_payloads(&domain.state, &self.sample.sample)
     }

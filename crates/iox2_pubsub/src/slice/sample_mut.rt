@@ -2,6 +2,7 @@
 ghost use Rattle.std.specs.Prelude.{◌≡◌};
 
 mod payload_mut;
+mod user_header_mut;
 
 use crate::domain::Domain;
 use crate::send_outcome::SendOutcome;
@@ -17,12 +18,13 @@ pub struct SampleMut {
 }
 
 impl SampleMut {
-    ghost use Rattle.std.specs.Prelude.{IfErr, IsOk, Some, ◌+◌};
+    ghost use Rattle.std.specs.Prelude.{IfErr, IsOk, List, Some, ◌+◌};
     ghost use Rattle.iox2_store.specs.machine.Loans.{loan_discarded};
     ghost use Rattle.iox2_store.specs.machine.Records.{Loan};
     ghost use Rattle.iox2_store.specs.machine.State.{State, Messages};
     ghost use Rattle.iox2_domain.specs.Shows.{Shows};
-    ghost use Rattle.iox2_pubsub.specs.Live.{AddAtMost, HasLender, IsLoanKey, IsWrittenLoan, LoanHasHeader, LoanHasUserHeader, StaysBut, UpToDateStay, payloads, written_key, written_loan};
+    ghost use Rattle.iox2_pubsub.specs.Live.{AddAtMost, AreAllSlices, HasLender, IsLoanKey, IsWrittenLoan, LoanHasHeader, LoanHasUserHeader, StaysBut, UpToDateStay, payloads, waiting, written_key, written_loan};
+    ghost use Rattle.iox2_pubsub.specs.declared.subscriber.Subscriber.{Subscriber};
     ghost use Rattle.iox2_pubsub.specs.LoansLeft.{HasOneMoreLeft, LoansLeftStay};
     ghost use Rattle.iox2_pubsub.specs.SendCalls.{Sends, messages_after};
     ghost use Rattle.iox2_pubsub.specs.Slices.{HasValues, IsSliced};
@@ -36,7 +38,8 @@ impl SampleMut {
     ) -> &'a [T]
         requires live { IsWrittenLoan domain.now self.now.sample }
         requires sliced { IsSliced domain.now }
-        ensures { HasValues domain.now self.now.sample.loan.number result.now }
+        ensures reads { HasValues domain.now self.now.sample.loan.number result.now }
+        ensures same { (values : List T) → HasValues domain.now self.now.sample.loan.number values → result.now ≡ values }
     {
         loan_values(&domain.state, &self.sample.loan)
     }
@@ -53,6 +56,8 @@ impl SampleMut {
             → (s' : State T U) × Shows domain.new (messages_after m self.sample.loan.number l result) s' × Sends s self.sample.loan.number l result s' }
         ensures spent { IsLoanKey domain.new (written_key self.sample) → ⊥ }
         ensures adds { AddAtMost ((domain.old.config).history_size + 1) domain.old domain.new }
+        ensures brings { (subscriber : Subscriber) (values : List T) → (domain.old.config).history_size ≡ 0 → waiting domain.old subscriber ≡ 0
+            → HasValues domain.old self.sample.loan.number values → AreAllSlices (payloads domain.new subscriber) values }
         ensures up_to_date { UpToDateStay domain.old domain.new }
         ensures loans_left { LoansLeftStay domain.old domain.new }
         ensures given_back { HasOneMoreLeft self.sample.loan.publisher domain.old domain.new }

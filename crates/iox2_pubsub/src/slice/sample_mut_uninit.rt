@@ -2,6 +2,7 @@
 ghost use Rattle.std.specs.Prelude.{◌≡◌};
 
 mod payload_mut;
+mod user_header_mut;
 
 use crate::domain::Domain;
 use crate::slice::SampleMut;
@@ -17,14 +18,16 @@ pub struct SampleMutUninit {
 }
 
 impl SampleMutUninit {
-    ghost use Rattle.std.specs.Prelude.{Some, Option, List, length, IfOk, MatchResult, true, false};
+    ghost use Rattle.std.specs.Prelude.{Some, Option, List, length, map, is_some, IfOk, IsOkAnd, IsErr, MatchResult, true, false};
+    ghost use Rattle.std.specs.List.{list_all};
     ghost use Rattle.iox2_store.specs.SlotCalls.{AnswersInOrder};
+    ghost use Rattle.iox2_store.specs.declared.header.Header.{Header};
     ghost use Rattle.iox2_store.specs.machine.Loans.{initialized, is_initialized, loan_discarded};
     ghost use Rattle.iox2_store.specs.machine.Records.{Loan};
     ghost use Rattle.iox2_store.specs.machine.State.{State, Messages};
     ghost use Rattle.iox2_store.specs.machine.SingleCalls.{WriteAllFrom};
     ghost use Rattle.iox2_domain.specs.Shows.{Shows};
-    ghost use Rattle.iox2_pubsub.specs.Live.{IsLoanKey, IsUnwrittenLoan, IsWrittenLoan, LoanHasHeader, LoanHasUserHeader, StaysBut, UpToDateStay, payloads, unwritten_key, unwritten_loan, written_key};
+    ghost use Rattle.iox2_pubsub.specs.Live.{HasLender, IsLoanKey, IsUnwrittenLoan, IsWrittenLoan, LoanHasHeader, LoanHasUserHeader, StaysBut, UpToDateStay, payloads, unwritten_key, unwritten_loan, written_key};
     ghost use Rattle.iox2_pubsub.specs.LoansLeft.{HasOneMoreLeft, LoansLeftStay};
     ghost use Rattle.iox2_pubsub.specs.Slices.{HasUnwrittenCells, HasValues, IsSliced};
 
@@ -37,7 +40,8 @@ impl SampleMutUninit {
     ) -> &'a [Option<T>]
         requires live { IsUnwrittenLoan domain.now self.now.sample }
         requires sliced { IsSliced domain.now }
-        ensures { HasUnwrittenCells domain.now self.now.sample.loan.number result.now }
+        ensures reads { HasUnwrittenCells domain.now self.now.sample.loan.number result.now }
+        ensures same { (cells : List (Option T)) → HasUnwrittenCells domain.now self.now.sample.loan.number cells → result.now ≡ cells }
     {
         loan_cells(&domain.state, &self.sample.loan)
     }
@@ -60,8 +64,15 @@ impl SampleMutUninit {
         ensures written { (answers : List T) × AnswersInOrder W.step initializer answers × HasValues domain.new result.sample.loan.number answers
             × ((m : Messages T U) (s : State T U) → Shows domain.old m s → (l : Loan T U) × (s.loans self.sample.loan.number ≡ Some l)
             × (s' : State T U) × WriteAllFrom s self.sample.loan.number l answers s' × Shows domain.new m s') }
+        ensures lengths { (cells : List (Option T)) (values : List T) → HasUnwrittenCells domain.old self.sample.loan.number cells
+            → HasValues domain.new result.sample.loan.number values → length values ≡ length cells }
         ensures live { IsWrittenLoan domain.new result.sample }
         ensures key { written_key result.sample ≡ unwritten_key self.sample }
+        ensures lent { HasLender domain.old (unwritten_key self.sample) → HasLender domain.new (written_key result.sample) }
+        ensures header { (header : Header) → LoanHasHeader domain.old (unwritten_key self.sample) header → LoanHasHeader domain.new (written_key result.sample) header }
+        ensures user_header { (header : U) → LoanHasUserHeader domain.old (unwritten_key self.sample) header → LoanHasUserHeader domain.new (written_key result.sample) header }
+        ensures waits { payloads domain.new ≡ payloads domain.old }
+        ensures up_to_date { UpToDateStay domain.old domain.new }
         ensures loans_left { LoansLeftStay domain.old domain.new }
         ensures stays { StaysBut (unwritten_loan self.sample) domain.old domain.new }
     {
@@ -90,6 +101,11 @@ impl SampleMutUninit {
         ensures written { HasValues domain.new result.sample.loan.number values.now }
         ensures live { IsWrittenLoan domain.new result.sample }
         ensures key { written_key result.sample ≡ unwritten_key self.sample }
+        ensures lent { HasLender domain.old (unwritten_key self.sample) → HasLender domain.new (written_key result.sample) }
+        ensures header { (header : Header) → LoanHasHeader domain.old (unwritten_key self.sample) header → LoanHasHeader domain.new (written_key result.sample) header }
+        ensures user_header { (header : U) → LoanHasUserHeader domain.old (unwritten_key self.sample) header → LoanHasUserHeader domain.new (written_key result.sample) header }
+        ensures waits { payloads domain.new ≡ payloads domain.old }
+        ensures up_to_date { UpToDateStay domain.old domain.new }
         ensures loans_left { LoansLeftStay domain.old domain.new }
         ensures stays { StaysBut (unwritten_loan self.sample) domain.old domain.new }
     {
@@ -117,7 +133,14 @@ impl SampleMutUninit {
             (λ _. (is_initialized l ≡ false) × Shows domain.new m s) }
         ensures live { IfOk result (λ it. IsWrittenLoan domain.new it.sample) }
         ensures key { IfOk result (λ it. written_key it.sample ≡ unwritten_key self.sample) }
+        ensures lent { IfOk result (λ it. HasLender domain.old (unwritten_key self.sample) → HasLender domain.new (written_key it.sample)) }
+        ensures reads { (values : List T) → HasUnwrittenCells domain.old self.sample.loan.number (map Some values) → IsOkAnd result (λ it. HasValues domain.new it.sample.loan.number values) }
+        ensures refused { (cells : List (Option T)) → HasUnwrittenCells domain.old self.sample.loan.number cells → list_all is_some cells ≡ false → IsErr result }
+        ensures header { (header : Header) → LoanHasHeader domain.old (unwritten_key self.sample) header → IfOk result (λ it. LoanHasHeader domain.new (written_key it.sample) header) }
+        ensures user_header { (header : U) → LoanHasUserHeader domain.old (unwritten_key self.sample) header → IfOk result (λ it. LoanHasUserHeader domain.new (written_key it.sample) header) }
         ensures handed_back { MatchResult result (λ _. self ≡ self) (λ it. (it.sample ≡ self.sample) × (domain.new ≡ domain.old)) }
+        ensures waits { payloads domain.new ≡ payloads domain.old }
+        ensures up_to_date { UpToDateStay domain.old domain.new }
         ensures loans_left { LoansLeftStay domain.old domain.new }
         ensures stays { StaysBut (unwritten_loan self.sample) domain.old domain.new }
     {

@@ -1,5 +1,5 @@
 //! A subscriber receives.
-ghost use Rattle.std.specs.Prelude.{◌≡◌, ◌<◌, ◌≤◌, IfOk, suc, IfSome, IfNone, OnOk, OnSome};
+ghost use Rattle.std.specs.Prelude.{◌≡◌, ◌<◌, ◌≤◌, List, IfOk, suc, IfSome, IfNone, OnOk, OnSome};
 
 use crate::domain::Domain;
 use crate::sample::Sample;
@@ -12,9 +12,10 @@ impl Subscriber {
     ghost use Rattle.iox2_store.specs.machine.Environments.{fixed_handlers};
     ghost use Rattle.iox2_store.specs.machine.Receives.{Receive};
     ghost use Rattle.iox2_store.specs.machine.State.{State, Messages};
-    ghost use Rattle.iox2_pubsub.specs.Live.{AreAll, IsFromOrigin, IsLiveSample, IsLiveSubscriber, IsUpToDate, IsNewIn, OthersWait, SampleReads, Stays, UpToDateStay, payloads, received_sample, waiting};
+    ghost use Rattle.iox2_pubsub.specs.Live.{AreAllSlices, IsFromOrigin, IsLiveSample, IsLiveSubscriber, IsUpToDate, IsNewIn, OthersWait, Stays, UpToDateStay, payloads, received_sample, sample_key, waiting};
     ghost use Rattle.iox2_pubsub.specs.LoansLeft.{LoansLeftStay};
     ghost use Rattle.iox2_pubsub.specs.ReceivedSamples.{received_result};
+    ghost use Rattle.iox2_pubsub.specs.Slices.{SampleHasValues};
     ghost use Rattle.iox2_domain.specs.Shows.{Shows};
 
     /// Updates the subscriber's connections and receives a message: from a publisher of which it
@@ -42,7 +43,7 @@ impl Subscriber {
         ensures fewer { IfOk result (λ sample. OnSome sample (waiting domain.new self.now < waiting domain.old self.now)) }
         ensures one_fewer { IsUpToDate domain.old self.now → IfOk result (λ sample. OnSome sample (suc (waiting domain.new self.now) ≡ waiting domain.old self.now)) }
         ensures none { IfOk result (λ sample. IfNone sample (waiting domain.new self.now ≡ 0)) }
-        ensures reads { IfOk result (λ sample. IfSome sample (λ it. (value : T) → AreAll (payloads domain.old self.now) value → SampleReads domain.new it value)) }
+        ensures reads { IfOk result (λ sample. IfSome sample (λ it. (values : List T) → AreAllSlices (payloads domain.old self.now) values → SampleHasValues domain.new (sample_key it) values)) }
         ensures no_more { waiting domain.new self.now ≤ waiting domain.old self.now }
         ensures others { OthersWait self.now domain.old domain.new }
         ensures updated { OnOk result (IsUpToDate domain.new self.now) }

@@ -1,5 +1,5 @@
 //! A publisher lends custom bytes.
-ghost use Rattle.std.specs.Prelude.{◌≡◌, ◌≤◌, ◌+◌, ◌*◌, ℕ, List, Option, length, IfOk, IsOk, OnErr, None, replicate, true};
+ghost use Rattle.std.specs.Prelude.{◌≡◌, ◌≤◌, ◌+◌, ◌*◌, ℕ, List, Option, length, IfOk, IsOk, OnErr, None, replicate, true, ⊤};
 
 use crate::custom_markers::{CustomHeaderMarker, CustomPayloadMarker};
 use crate::domain::Domain;
@@ -29,7 +29,7 @@ impl Publisher {
         requires single { (domain.old.config).variant ≡ FixedSize → slice_len ≡ 1 }
         ensures lends { (m : Messages CustomPayloadMarker CustomHeaderMarker) (s : State CustomPayloadMarker CustomHeaderMarker) → Shows domain.old m s
             → (s' : State CustomPayloadMarker CustomHeaderMarker) × Shows domain.new m s'
-            × LoanCall CustomHeaderMarker.is_default true slice_len s self.now.publisher.id result s' }
+            × LoanCall (λ _. ⊤) true slice_len s self.now.publisher.id result s' }
         ensures granted { (loans numbers : ℕ) → HasLoansLeft domain.old self.now.publisher (loans + 1) → HasNumbersLeft domain.old (numbers + 1)
             → slice_len ≤ self.now.publisher.initial_max_slice_len → IsOk result }
         ensures live { IfOk result (λ loan. IsUnwrittenLoan domain.new loan.sample) }

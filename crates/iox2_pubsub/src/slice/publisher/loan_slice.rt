@@ -10,7 +10,7 @@ impl Publisher {
     ghost use Rattle.iox2_store.specs.machine.State.{State, Messages};
     ghost use Rattle.iox2_store.specs.declared.service_config.TypeVariant.TheVariants.{Dynamic};
     ghost use Rattle.iox2_domain.specs.Shows.{Shows};
-    ghost use Rattle.iox2_pubsub.specs.Live.{HasLender, IsLivePublisher, IsNewIn, IsWrittenLoan, Stays, lender_key, publisher_key, written_key, written_loan};
+    ghost use Rattle.iox2_pubsub.specs.Live.{HasLender, IsLivePublisher, IsNewIn, IsWrittenLoan, Stays, UpToDateStay, lender_key, payloads, publisher_key, written_key, written_loan};
     ghost use Rattle.iox2_pubsub.specs.LoansLeft.{HasLoansLeft, HasNumbersLeft, LoansLeftStay, TakesOneLeft};
     ghost use Rattle.iox2_pubsub.specs.Slices.{HasValues};
     ghost use Rattle.iox2_pubsub.specs.WrittenLoans.{DefaultSliceCall};
@@ -39,6 +39,8 @@ impl Publisher {
         ensures publisher { IfOk result (λ loan. loan.sample.loan.publisher ≡ self.now.publisher.id) }
         ensures lender { IfOk result (λ loan. lender_key (written_key loan.sample) ≡ publisher_key self.now.publisher) }
         ensures lent { IfOk result (λ loan. HasLender domain.new (written_key loan.sample)) }
+        ensures waits { payloads domain.new ≡ payloads domain.old }
+        ensures up_to_date { UpToDateStay domain.old domain.new }
         ensures loans_left { TakesOneLeft self.now.publisher domain.old domain.new }
         ensures refused { OnErr result (LoansLeftStay domain.old domain.new) }
         ensures stays { Stays domain.old domain.new }

@@ -7,14 +7,15 @@ use iox2_messages::values_at_mut;
 use iox2_store::{BackpressureFn, DegradationFn};
 
 impl SampleMut {
-    ghost use Rattle.std.specs.Prelude.{Some, Option, List, length, map};
+    ghost use Rattle.std.specs.Prelude.{Some, List, length, map};
     ghost use Rattle.std.specs.Borrow.{sem};
+    ghost use Rattle.iox2_store.specs.declared.header.Header.{Header};
     ghost use Rattle.iox2_store.specs.machine.Records.{Loan};
     ghost use Rattle.iox2_store.specs.machine.State.{State, Messages, with_loan};
     ghost use Rattle.iox2_domain.specs.LoanCalls.{cells_changed};
     ghost use Rattle.iox2_domain.specs.Shows.{Shows};
     ghost use Rattle.iox2_pubsub.specs.ChangedLoans.{with_payloads};
-    ghost use Rattle.iox2_pubsub.specs.Live.{IsWrittenLoan, StaysBut, written_loan};
+    ghost use Rattle.iox2_pubsub.specs.Live.{IsWrittenLoan, LoanHasHeader, LoanHasUserHeader, StaysBut, UpToDateStay, payloads, written_key, written_loan};
     ghost use Rattle.iox2_pubsub.specs.LoanLends.{LendsPayloads};
     ghost use Rattle.iox2_pubsub.specs.LoansLeft.{LoansLeftStay};
     ghost use Rattle.iox2_pubsub.specs.Slices.{HasValues, IsSliced};
@@ -36,6 +37,13 @@ impl SampleMut {
             → (l : Loan T U) × (s.loans sample.old.sample.loan.number ≡ Some l)
             × Shows (with_payloads domain.old sample.old.sample.loan.number left) m (with_loan s sample.old.sample.loan.number (Some (cells_changed (map Some left) l))) }
         ensures live { (left : List T) → IsWrittenLoan (with_payloads domain.old sample.old.sample.loan.number left) sample.old.sample }
+        ensures reads { (left : List T) → length left ≡ length result.now → HasValues (with_payloads domain.old sample.old.sample.loan.number left) sample.old.sample.loan.number left }
+        ensures header { (left : List T) (header : Header) → LoanHasHeader domain.old (written_key sample.old.sample) header
+            → LoanHasHeader (with_payloads domain.old sample.old.sample.loan.number left) (written_key sample.new.sample) header }
+        ensures user_header { (left : List T) (header : U) → LoanHasUserHeader domain.old (written_key sample.old.sample) header
+            → LoanHasUserHeader (with_payloads domain.old sample.old.sample.loan.number left) (written_key sample.new.sample) header }
+        ensures waits { (left : List T) → payloads (with_payloads domain.old sample.old.sample.loan.number left) ≡ payloads domain.old }
+        ensures up_to_date { (left : List T) → UpToDateStay domain.old (with_payloads domain.old sample.old.sample.loan.number left) }
         ensures loans_left { (left : List T) → LoansLeftStay domain.old (with_payloads domain.old sample.old.sample.loan.number left) }
         ensures stays { (left : List T) → StaysBut (written_loan sample.old.sample) domain.old (with_payloads domain.old sample.old.sample.loan.number left) }
     {

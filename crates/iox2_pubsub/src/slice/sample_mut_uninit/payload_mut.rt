@@ -7,14 +7,15 @@ use iox2_messages::cells_at_mut;
 use iox2_store::{BackpressureFn, DegradationFn};
 
 impl SampleMutUninit {
-    ghost use Rattle.std.specs.Prelude.{Some, Option, List, length, map};
+    ghost use Rattle.std.specs.Prelude.{Some, Option, List, length};
     ghost use Rattle.std.specs.Borrow.{sem};
+    ghost use Rattle.iox2_store.specs.declared.header.Header.{Header};
     ghost use Rattle.iox2_store.specs.machine.Records.{Loan};
     ghost use Rattle.iox2_store.specs.machine.State.{State, Messages, with_loan};
     ghost use Rattle.iox2_domain.specs.LoanCalls.{cells_changed};
     ghost use Rattle.iox2_domain.specs.Shows.{Shows};
     ghost use Rattle.iox2_pubsub.specs.ChangedLoans.{with_cells};
-    ghost use Rattle.iox2_pubsub.specs.Live.{IsUnwrittenLoan, StaysBut, unwritten_loan};
+    ghost use Rattle.iox2_pubsub.specs.Live.{IsUnwrittenLoan, LoanHasHeader, LoanHasUserHeader, StaysBut, UpToDateStay, payloads, unwritten_key, unwritten_loan};
     ghost use Rattle.iox2_pubsub.specs.LoanLends.{LendsCells};
     ghost use Rattle.iox2_pubsub.specs.LoansLeft.{LoansLeftStay};
     ghost use Rattle.iox2_pubsub.specs.Slices.{HasUnwrittenCells, IsSliced};
@@ -36,6 +37,13 @@ impl SampleMutUninit {
             → (l : Loan T U) × (s.loans sample.old.sample.loan.number ≡ Some l)
             × Shows (with_cells domain.old sample.old.sample.loan.number left) m (with_loan s sample.old.sample.loan.number (Some (cells_changed left l))) }
         ensures live { (left : List (Option T)) → IsUnwrittenLoan (with_cells domain.old sample.old.sample.loan.number left) sample.old.sample }
+        ensures reads { (left : List (Option T)) → length left ≡ length result.now → HasUnwrittenCells (with_cells domain.old sample.old.sample.loan.number left) sample.old.sample.loan.number left }
+        ensures header { (left : List (Option T)) (header : Header) → LoanHasHeader domain.old (unwritten_key sample.old.sample) header
+            → LoanHasHeader (with_cells domain.old sample.old.sample.loan.number left) (unwritten_key sample.new.sample) header }
+        ensures user_header { (left : List (Option T)) (header : U) → LoanHasUserHeader domain.old (unwritten_key sample.old.sample) header
+            → LoanHasUserHeader (with_cells domain.old sample.old.sample.loan.number left) (unwritten_key sample.new.sample) header }
+        ensures waits { (left : List (Option T)) → payloads (with_cells domain.old sample.old.sample.loan.number left) ≡ payloads domain.old }
+        ensures up_to_date { (left : List (Option T)) → UpToDateStay domain.old (with_cells domain.old sample.old.sample.loan.number left) }
         ensures loans_left { (left : List (Option T)) → LoansLeftStay domain.old (with_cells domain.old sample.old.sample.loan.number left) }
         ensures stays { (left : List (Option T)) → StaysBut (unwritten_loan sample.old.sample) domain.old (with_cells domain.old sample.old.sample.loan.number left) }
     {

@@ -1,5 +1,5 @@
 //! A subscriber receives custom bytes.
-ghost use Rattle.std.specs.Prelude.{◌≡◌, ◌<◌, ◌≤◌, IfOk, suc, IfSome, IfNone, OnOk, OnSome};
+ghost use Rattle.std.specs.Prelude.{◌≡◌, ◌<◌, ◌≤◌, List, IfOk, suc, IfSome, IfNone, OnOk, OnSome};
 
 use crate::custom_markers::CustomPayloadMarker;
 use crate::domain::Domain;
@@ -10,9 +10,10 @@ impl Subscriber {
     ghost use Rattle.iox2_store.specs.machine.Environments.{fixed_handlers};
     ghost use Rattle.iox2_store.specs.machine.Receives.{Receive};
     ghost use Rattle.iox2_store.specs.machine.State.{State, Messages};
-    ghost use Rattle.iox2_pubsub.specs.Live.{IsFromOrigin, IsLiveSample, IsLiveSubscriber, IsUpToDate, IsNewIn, OthersWait, Stays, UpToDateStay, received_sample, waiting};
+    ghost use Rattle.iox2_pubsub.specs.Live.{AreAllSlices, IsFromOrigin, IsLiveSample, IsLiveSubscriber, IsUpToDate, IsNewIn, OthersWait, Stays, UpToDateStay, payloads, received_sample, sample_key, waiting};
     ghost use Rattle.iox2_pubsub.specs.LoansLeft.{LoansLeftStay};
     ghost use Rattle.iox2_pubsub.specs.ReceivedSamples.{received_slice};
+    ghost use Rattle.iox2_pubsub.specs.Slices.{SampleHasValues};
     ghost use Rattle.iox2_domain.specs.Shows.{Shows};
 
     /// Receives a message as `receive` does, whatever the variant of the domain. Its sample has each
@@ -33,6 +34,7 @@ impl Subscriber {
         ensures fewer { IfOk result (λ sample. OnSome sample (waiting domain.new self.now.subscriber < waiting domain.old self.now.subscriber)) }
         ensures one_fewer { IsUpToDate domain.old self.now.subscriber → IfOk result (λ sample. OnSome sample (suc (waiting domain.new self.now.subscriber) ≡ waiting domain.old self.now.subscriber)) }
         ensures none { IfOk result (λ sample. IfNone sample (waiting domain.new self.now.subscriber ≡ 0)) }
+        ensures reads { IfOk result (λ sample. IfSome sample (λ it. (values : List CustomPayloadMarker) → AreAllSlices (payloads domain.old self.now.subscriber) values → SampleHasValues domain.new (sample_key it.sample) values)) }
         ensures no_more { waiting domain.new self.now.subscriber ≤ waiting domain.old self.now.subscriber }
         ensures others { OthersWait self.now.subscriber domain.old domain.new }
         ensures updated { OnOk result (IsUpToDate domain.new self.now.subscriber) }

@@ -1,4 +1,4 @@
-use Rattle.std.proofs.Common.{false, sym}
+use Rattle.std.proofs.Common.{sym}
 use Rattle.std.proofs.lemmas.Bool.{true≢false}
 use Rattle.iox2_pubsub.proofs.LiveParts.{single-parts}
 use Rattle.iox2_pubsub.proofs.publisher.Publisher.loan_uninit.Goals as goal

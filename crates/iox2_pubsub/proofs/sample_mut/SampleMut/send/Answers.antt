@@ -73,13 +73,13 @@ returns-clause-adds g c =
     send-adds {T = g.row.T.Denot} {U = g.row.U.Denot} c.args.domain.now _ it.0 _ it.1 step.0 it.2 step.1 fixed_handlers c.args.self.loan.number has.0 (result_of_send c.outcome_of.result) step.2
 
 pub returns-clause-brings : goal.returns-clause-brings
-returns-clause-brings g c = λ subscriber value no_history none reads.
+returns-clause-brings g c = λ subscriber values no_history none reads.
     let it = always-shown {T = g.row.T.Denot} {U = g.row.U.Denot} c.domain.inside.state c.args.domain.now c.domain.invariant c.domain.view_is in
     let has = (written-parts c.args.domain.now c.args.self c.requires).1 in
     let out = ap (λ (t : State g.row.T.Denot g.row.U.Denot). t.loans c.args.self.loan.number) (it.2).state ∙ has.1 in
     let step = returns-clause-sent g c it.0 it.1 has.0 it.2 out in
     send-brings {T = g.row.T.Denot} {U = g.row.U.Denot} c.args.domain.now _ it.0 _ it.1 step.0 it.2 step.1 fixed_handlers c.args.self.loan.number has.0 (result_of_send c.outcome_of.result)
-    (λ entry. sent-entry it.0 c.args.self.loan.number has.0 c.outcome_of.result ((it.2).unsent c.args.self.loan.number has.0 out) entry) out step.2 c.args.self refl subscriber value no_history none reads
+    (λ entry. sent-entry it.0 c.args.self.loan.number has.0 c.outcome_of.result ((it.2).unsent c.args.self.loan.number has.0 out) entry) out step.2 subscriber values no_history none reads
 
 pub returns-clause-up_to_date : goal.returns-clause-up_to_date
 returns-clause-up_to_date g c =

@@ -1,4 +1,4 @@
-use Rattle.std.proofs.Common.{ap, sym, subst}
+use Rattle.std.proofs.Common.{◌≡◌, subst}
 use Rattle.std.specs.Prelude.{IfOk, MatchResult}
 use Rattle.std.specs.declared.option.Option.TheVariants.{None, Some}
 use Rattle.iox2_store.specs.machine.Environments.{fixed_handlers}
@@ -11,10 +11,10 @@ use Rattle.iox2_pubsub.proofs.port_factory.publisher.PortFactoryPublisher.create
 
 pub returns-clause-creates : goal.returns-clause-creates
 returns-clause-creates g c m s shown =
-    subst (λ (given : PublisherSettings). (s' : State g.row.T.Denot g.row.U.Denot) × Shows c.create_plain.new m s'
+    subst (λ (given : PublisherSettings). (s' : State g.row.T.Denot g.row.U.Denot) × Shows c.create_plain.new.domain m s'
     × MatchResult c.create_plain.result (λ publisher. (publisher.id ≡ s.next_port) × CreatePublisher fixed_handlers s given s' None) (λ e. CreatePublisher fixed_handlers s given s' (Some e))) c.self.view_is
     (c.create_plain.ensures.creates m s shown)
 
 pub returns-clause-left : goal.returns-clause-left
 returns-clause-left g c =
-    subst (λ (given : PublisherSettings). IfOk c.create_plain.result (λ publisher. HasLoansLeft c.create_plain.new publisher given.max_loaned_samples)) c.self.view_is c.create_plain.ensures.left
+    subst (λ (given : PublisherSettings). IfOk c.create_plain.result (λ publisher. HasLoansLeft c.create_plain.new.domain publisher given.max_loaned_samples)) c.self.view_is c.create_plain.ensures.left

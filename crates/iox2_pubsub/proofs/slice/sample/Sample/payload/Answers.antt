@@ -2,8 +2,9 @@ use Rattle.std.proofs.Common.{◌≡◌, false, ap, sym, subst, ◌∙◌}
 use Rattle.iox2_store.specs.SingleValues.{is_single_valued}
 use Rattle.iox2_store.specs.machine.SingleCalls.{HoldsSample}
 use Rattle.iox2_domain.specs.Kept.{Kept, entries_of, state_of}
+use Rattle.iox2_pubsub.specs.Live.{sample_key}
 use Rattle.iox2_pubsub.proofs.LiveParts.{sample-parts}
-use Rattle.iox2_pubsub.proofs.SliceParts.{sliced-parts}
+use Rattle.iox2_pubsub.proofs.SliceParts.{sliced-parts, sample-values, sample-values-one}
 use Rattle.iox2_pubsub.proofs.slice.sample.Sample.payload.Goals as goal
 
 pub sample_payloads-requires-clause-live : goal.sample_payloads-requires-clause-live
@@ -14,7 +15,11 @@ pub sample_payloads-requires-clause-several : goal.sample_payloads-requires-clau
 sample_payloads-requires-clause-several g c =
     subst (λ (k : Kept g.row.T.Denot g.row.U.Denot). is_single_valued k.config ≡ false) (sym c.domain.view_is) (sliced-parts c.args.domain.now c.requires.sliced)
 
-pub returns : goal.returns
-returns g c =
+pub returns-clause-reads : goal.returns-clause-reads
+returns-clause-reads g c =
     let read = c.sample_payloads.ensures in
+    sample-values c.args.domain.now (sample_key c.args.self.now.sample) c.sample_payloads.result.now
     (read.0, ap (λ (k : Kept g.row.T.Denot g.row.U.Denot). entries_of k c.args.self.now.sample.sample.number) (sym c.domain.view_is) ∙ read.1, read.2)
+
+pub returns-clause-same : goal.returns-clause-same
+returns-clause-same g c = λ values has. sample-values-one c.args.domain.now (sample_key c.args.self.now.sample) c.sample_payloads.result.now values (returns-clause-reads g c) has

@@ -1,10 +1,9 @@
-use Rattle.std.proofs.Common.{◌≡◌, false, refl, ap, subst, sym, map, Some}
+use Rattle.std.proofs.Common.{◌≡◌, false, subst, sym}
 use Rattle.iox2_store.specs.SingleValues.{is_single_valued}
 use Rattle.iox2_domain.specs.Kept.{Kept, state_of}
-use Rattle.iox2_domain.specs.LoanCalls.{HasCells, cells_changed}
-use Rattle.iox2_domain.specs.declared.loan_slots.LoanAt.{LoanAt}
-use Rattle.iox2_pubsub.proofs.LoanHandles.{written-out, unwritten-out, loan-out}
-use Rattle.iox2_pubsub.proofs.SliceParts.{sliced-parts, cells-parts, has-cells, has-values, filled-values, filled-live, filled-stays}
+use Rattle.iox2_domain.specs.LoanCalls.{HasCells}
+use Rattle.iox2_pubsub.proofs.LoanHandles.{unwritten-out}
+use Rattle.iox2_pubsub.proofs.SliceParts.{sliced-parts, has-cells, cells-one}
 use Rattle.iox2_pubsub.proofs.slice.sample_mut_uninit.SampleMutUninit.payload.Goals as goal
 
 pub loan_cells-requires-clause-live : goal.loan_cells-requires-clause-live
@@ -13,5 +12,8 @@ loan_cells-requires-clause-live g c = unwritten-out {T = g.row.T.Denot} {U = g.r
 pub loan_cells-requires-clause-several : goal.loan_cells-requires-clause-several
 loan_cells-requires-clause-several g c = (subst (λ (k : Kept g.row.T.Denot g.row.U.Denot). is_single_valued k.config ≡ false) (sym c.domain.view_is) (sliced-parts c.args.domain.now c.requires.sliced))
 
-pub returns : goal.returns
-returns g c = has-cells c.args.domain.now c.args.self.now.sample.loan.number c.loan_cells.result.now (subst (λ (k : Kept g.row.T.Denot g.row.U.Denot). HasCells (state_of k) c.args.self.now.sample.loan.number c.loan_cells.result.now) c.domain.view_is c.loan_cells.ensures)
+pub returns-clause-reads : goal.returns-clause-reads
+returns-clause-reads g c = has-cells c.args.domain.now c.args.self.now.sample.loan.number c.loan_cells.result.now (subst (λ (k : Kept g.row.T.Denot g.row.U.Denot). HasCells (state_of k) c.args.self.now.sample.loan.number c.loan_cells.result.now) c.domain.view_is c.loan_cells.ensures)
+
+pub returns-clause-same : goal.returns-clause-same
+returns-clause-same g c = λ cells has. cells-one c.args.domain.now c.args.self.now.sample.loan.number c.loan_cells.result.now cells (returns-clause-reads g c) has

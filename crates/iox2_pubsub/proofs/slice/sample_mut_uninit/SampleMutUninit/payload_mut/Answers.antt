@@ -1,12 +1,14 @@
 use Rattle.std.proofs.Common.{◌≡◌, false, refl, ap, subst, sym, map, Some}
 use Rattle.iox2_store.specs.SingleValues.{is_single_valued}
+use Rattle.iox2_domain.specs.Fields.{kept_of}
 use Rattle.iox2_domain.specs.Kept.{Kept, state_of}
 use Rattle.iox2_domain.specs.LoanCalls.{HasCells, cells_changed}
 use Rattle.iox2_domain.specs.declared.loan_slots.LoanAt.{LoanAt}
+use Rattle.iox2_pubsub.specs.Live.{unwritten_key}
 use Rattle.iox2_pubsub.proofs.LoanHandles.{written-out, unwritten-out, loan-out}
-use Rattle.iox2_pubsub.proofs.SliceParts.{sliced-parts, cells-parts, has-cells, has-values, filled-values, filled-live, filled-stays}
+use Rattle.iox2_pubsub.proofs.SliceParts.{sliced-parts, has-cells}
 use Rattle.iox2_pubsub.specs.ChangedLoans.{with_cells}
-use Rattle.iox2_pubsub.proofs.LentHandles.{cells-word, cells-there, cells-known, cells-lends, lent-is, lent-shown, lent-stays, lent-unwritten, lent-left}
+use Rattle.iox2_pubsub.proofs.LentHandles.{cells-word, cells-there, cells-known, cells-lends, lent-is, lent-shown, lent-stays, lent-unwritten, lent-left, lent-cells, cells-left, lent-same-header, lent-same-user-header, lent-waits, lent-leaves}
 use Rattle.iox2_pubsub.proofs.slice.sample_mut_uninit.SampleMutUninit.payload_mut.Goals as goal
 
 pub find_live_loan-at-requires-clause-live : goal.find_live_loan-at-requires-clause-live
@@ -28,6 +30,11 @@ returns g c =
         payload = has-cells c.args.domain.now c.args.sample.now.sample.loan.number c.cells_at_mut.result.now (subst (λ (k : Kept g.row.T.Denot g.row.U.Denot). HasCells (state_of k) c.args.sample.now.sample.loan.number c.cells_at_mut.result.now) c.domain.view_is known);
         changes = λ m s w shown. lent-shown {T = g.row.T.Denot} {U = g.row.U.Denot} c.domain.inside.state _ c.domain.invariant c.args.domain.now c.domain.view_is c.args.sample.now.sample.loan.number (c.find_live_loan-at.ensures).loan (c.find_live_loan-at.ensures).is_out (cells_changed w) (cells-lends {T = g.row.T.Denot} {U = g.row.U.Denot} c.domain.inside.state c.domain.invariant c.args.sample.now.sample.loan.publisher c.args.sample.now.sample.loan.number c.find_live_loan-at.result.book c.find_live_loan-at.result.slot c.find_live_loan-at.ensures (unwritten-out {T = g.row.T.Denot} {U = g.row.U.Denot} _ c.args.domain.now c.domain.view_is c.args.sample.now.sample c.requires.live) w) (with_cells c.args.domain.now c.args.sample.now.sample.loan.number w) (cells-word c.args.domain.now c.args.sample.now.sample.loan.number w) m s shown;
         live = λ w. lent-unwritten {T = g.row.T.Denot} {U = g.row.U.Denot} c.domain.inside.state _ c.domain.invariant c.args.domain.now c.domain.view_is c.args.sample.now.sample.loan.number (c.find_live_loan-at.ensures).loan (c.find_live_loan-at.ensures).is_out (cells_changed w) (cells-lends {T = g.row.T.Denot} {U = g.row.U.Denot} c.domain.inside.state c.domain.invariant c.args.sample.now.sample.loan.publisher c.args.sample.now.sample.loan.number c.find_live_loan-at.result.book c.find_live_loan-at.result.slot c.find_live_loan-at.ensures (unwritten-out {T = g.row.T.Denot} {U = g.row.U.Denot} _ c.args.domain.now c.domain.view_is c.args.sample.now.sample c.requires.live) w) (with_cells c.args.domain.now c.args.sample.now.sample.loan.number w) (cells-word c.args.domain.now c.args.sample.now.sample.loan.number w) refl refl c.args.sample.now.sample refl c.requires.live;
+        reads = λ w same. lent-cells {T = g.row.T.Denot} {U = g.row.U.Denot} c.domain.inside.state _ c.domain.invariant c.args.domain.now c.domain.view_is c.args.sample.now.sample.loan.number (c.find_live_loan-at.ensures).loan (c.find_live_loan-at.ensures).is_out (cells_changed w) (cells-lends {T = g.row.T.Denot} {U = g.row.U.Denot} c.domain.inside.state c.domain.invariant c.args.sample.now.sample.loan.publisher c.args.sample.now.sample.loan.number c.find_live_loan-at.result.book c.find_live_loan-at.result.slot c.find_live_loan-at.ensures (unwritten-out {T = g.row.T.Denot} {U = g.row.U.Denot} _ c.args.domain.now c.domain.view_is c.args.sample.now.sample c.requires.live) w) (with_cells c.args.domain.now c.args.sample.now.sample.loan.number w) (cells-word c.args.domain.now c.args.sample.now.sample.loan.number w) c.args.sample.now.sample.loan.number w refl (cells-left (state_of (kept_of c.domain.inside.state)) c.args.sample.now.sample.loan.number (c.find_live_loan-at.ensures).loan (c.find_live_loan-at.ensures).is_out c.cells_at_mut.result.now w known same);
+        header = λ w header. lent-same-header {T = g.row.T.Denot} {U = g.row.U.Denot} c.domain.inside.state _ c.domain.invariant c.args.domain.now c.domain.view_is c.args.sample.now.sample.loan.number (c.find_live_loan-at.ensures).loan (c.find_live_loan-at.ensures).is_out (cells_changed w) (cells-lends {T = g.row.T.Denot} {U = g.row.U.Denot} c.domain.inside.state c.domain.invariant c.args.sample.now.sample.loan.publisher c.args.sample.now.sample.loan.number c.find_live_loan-at.result.book c.find_live_loan-at.result.slot c.find_live_loan-at.ensures (unwritten-out {T = g.row.T.Denot} {U = g.row.U.Denot} _ c.args.domain.now c.domain.view_is c.args.sample.now.sample c.requires.live) w) (with_cells c.args.domain.now c.args.sample.now.sample.loan.number w) (cells-word c.args.domain.now c.args.sample.now.sample.loan.number w) refl (unwritten_key c.args.sample.now.sample) refl header;
+        user_header = λ w header. lent-same-user-header {T = g.row.T.Denot} {U = g.row.U.Denot} c.domain.inside.state _ c.domain.invariant c.args.domain.now c.domain.view_is c.args.sample.now.sample.loan.number (c.find_live_loan-at.ensures).loan (c.find_live_loan-at.ensures).is_out (cells_changed w) (cells-lends {T = g.row.T.Denot} {U = g.row.U.Denot} c.domain.inside.state c.domain.invariant c.args.sample.now.sample.loan.publisher c.args.sample.now.sample.loan.number c.find_live_loan-at.result.book c.find_live_loan-at.result.slot c.find_live_loan-at.ensures (unwritten-out {T = g.row.T.Denot} {U = g.row.U.Denot} _ c.args.domain.now c.domain.view_is c.args.sample.now.sample c.requires.live) w) (with_cells c.args.domain.now c.args.sample.now.sample.loan.number w) (cells-word c.args.domain.now c.args.sample.now.sample.loan.number w) refl (unwritten_key c.args.sample.now.sample) refl header;
+        waits = λ w. lent-waits {T = g.row.T.Denot} {U = g.row.U.Denot} c.domain.inside.state _ c.domain.invariant c.args.domain.now c.domain.view_is c.args.sample.now.sample.loan.number (c.find_live_loan-at.ensures).loan (c.find_live_loan-at.ensures).is_out (cells_changed w) (cells-lends {T = g.row.T.Denot} {U = g.row.U.Denot} c.domain.inside.state c.domain.invariant c.args.sample.now.sample.loan.publisher c.args.sample.now.sample.loan.number c.find_live_loan-at.result.book c.find_live_loan-at.result.slot c.find_live_loan-at.ensures (unwritten-out {T = g.row.T.Denot} {U = g.row.U.Denot} _ c.args.domain.now c.domain.view_is c.args.sample.now.sample c.requires.live) w) (with_cells c.args.domain.now c.args.sample.now.sample.loan.number w) (cells-word c.args.domain.now c.args.sample.now.sample.loan.number w);
+        up_to_date = λ w. lent-leaves {T = g.row.T.Denot} {U = g.row.U.Denot} c.domain.inside.state _ c.domain.invariant c.args.domain.now c.domain.view_is c.args.sample.now.sample.loan.number (c.find_live_loan-at.ensures).loan (c.find_live_loan-at.ensures).is_out (cells_changed w) (cells-lends {T = g.row.T.Denot} {U = g.row.U.Denot} c.domain.inside.state c.domain.invariant c.args.sample.now.sample.loan.publisher c.args.sample.now.sample.loan.number c.find_live_loan-at.result.book c.find_live_loan-at.result.slot c.find_live_loan-at.ensures (unwritten-out {T = g.row.T.Denot} {U = g.row.U.Denot} _ c.args.domain.now c.domain.view_is c.args.sample.now.sample c.requires.live) w) (with_cells c.args.domain.now c.args.sample.now.sample.loan.number w) (cells-word c.args.domain.now c.args.sample.now.sample.loan.number w);
         loans_left = λ w. lent-left {T = g.row.T.Denot} {U = g.row.U.Denot} c.domain.inside.state _ c.domain.invariant c.args.domain.now c.domain.view_is c.args.sample.now.sample.loan.number (c.find_live_loan-at.ensures).loan (c.find_live_loan-at.ensures).is_out (cells_changed w) (cells-lends {T = g.row.T.Denot} {U = g.row.U.Denot} c.domain.inside.state c.domain.invariant c.args.sample.now.sample.loan.publisher c.args.sample.now.sample.loan.number c.find_live_loan-at.result.book c.find_live_loan-at.result.slot c.find_live_loan-at.ensures (unwritten-out {T = g.row.T.Denot} {U = g.row.U.Denot} _ c.args.domain.now c.domain.view_is c.args.sample.now.sample c.requires.live) w) (with_cells c.args.domain.now c.args.sample.now.sample.loan.number w) (cells-word c.args.domain.now c.args.sample.now.sample.loan.number w);
         stays = λ w. lent-stays {T = g.row.T.Denot} {U = g.row.U.Denot} c.domain.inside.state _ c.domain.invariant c.args.domain.now c.domain.view_is c.args.sample.now.sample.loan.number (c.find_live_loan-at.ensures).loan (c.find_live_loan-at.ensures).is_out (cells_changed w) (cells-lends {T = g.row.T.Denot} {U = g.row.U.Denot} c.domain.inside.state c.domain.invariant c.args.sample.now.sample.loan.publisher c.args.sample.now.sample.loan.number c.find_live_loan-at.result.book c.find_live_loan-at.result.slot c.find_live_loan-at.ensures (unwritten-out {T = g.row.T.Denot} {U = g.row.U.Denot} _ c.args.domain.now c.domain.view_is c.args.sample.now.sample c.requires.live) w) (with_cells c.args.domain.now c.args.sample.now.sample.loan.number w) (cells-word c.args.domain.now c.args.sample.now.sample.loan.number w);
       },

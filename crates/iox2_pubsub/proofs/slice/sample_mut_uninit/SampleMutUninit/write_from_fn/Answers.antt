@@ -1,10 +1,13 @@
-use Rattle.std.proofs.Common.{◌≡◌, false, refl, ap, subst, sym, map, Some}
+use Rattle.std.proofs.Common.{◌≡◌, ℕ, false, refl, ap, subst, sym, map, Some}
 use Rattle.iox2_store.specs.SingleValues.{is_single_valued}
+use Rattle.iox2_domain.specs.Fields.{kept_of}
 use Rattle.iox2_domain.specs.Kept.{Kept, state_of}
-use Rattle.iox2_domain.specs.LoanCalls.{HasCells, cells_changed}
 use Rattle.iox2_domain.specs.declared.loan_slots.LoanAt.{LoanAt}
-use Rattle.iox2_pubsub.proofs.LoanHandles.{written-out, unwritten-out, loan-out}
-use Rattle.iox2_pubsub.proofs.SliceParts.{sliced-parts, cells-parts, has-cells, has-values, filled-shown, filled-values, filled-live, filled-stays, filled-left}
+use Rattle.iox2_pubsub.specs.Live.{IsPublisherKey, lender_key, unwritten_key, written_key}
+use Rattle.iox2_pubsub.proofs.LoanHandles.{unwritten-out}
+use Rattle.iox2_pubsub.proofs.FilledLoans.{filled-header, filled-user-header, filled-waits, filled-leaves, filled-shown, filled-values, filled-live, filled-stays, filled-left}
+use Rattle.iox2_pubsub.proofs.SliceParts.{sliced-parts}
+use Rattle.iox2_pubsub.proofs.FilledLengths.{filled-lengths}
 use Rattle.iox2_pubsub.proofs.slice.sample_mut_uninit.SampleMutUninit.write_from_fn.Goals as goal
 
 pub write_loan_from_fn-loan-requires-clause-live : goal.write_loan_from_fn-loan-requires-clause-live
@@ -24,3 +27,25 @@ returns-clause-stays g c = filled-stays {T = g.row.T.Denot} {U = g.row.U.Denot} 
 
 pub returns-clause-loans_left : goal.returns-clause-loans_left
 returns-clause-loans_left g c = filled-left {T = g.row.T.Denot} {U = g.row.U.Denot} c.domain.inside.state c.write_loan_from_fn-loan.new.state c.domain.invariant c.args.domain.now c.domain.view_is c.args.self.sample.loan.number c.write_loan_from_fn-loan.ensures.writes.0 c.write_loan_from_fn-loan.ensures.writes.2
+
+pub returns-clause-lengths : goal.returns-clause-lengths
+returns-clause-lengths g c = λ cells values has reads.
+    filled-lengths {T = g.row.T.Denot} {U = g.row.U.Denot} c.domain.inside.state c.write_loan_from_fn-loan.new.state c.args.domain.now c.domain.view_is c.args.self.sample.loan.number
+    c.write_loan_from_fn-loan.ensures.writes.0 c.write_loan_from_fn-loan.ensures.writes.2 cells has c.write_loan_from_fn-loan.result.number (ap (λ (at : LoanAt). at.number) c.write_loan_from_fn-loan.ensures.same) values reads
+
+pub returns-clause-lent : goal.returns-clause-lent
+returns-clause-lent g c = λ lent.
+    subst (λ (p : ℕ). IsPublisherKey (kept_of c.write_loan_from_fn-loan.new.state) (record { service_id = c.args.self.sample.service_id; port = p; message = 0 })) (sym (ap (λ (at : LoanAt). at.publisher) c.write_loan_from_fn-loan.ensures.same))
+    ((returns-clause-stays g c).publishers (lender_key (unwritten_key c.args.self.sample)) lent tt)
+
+pub returns-clause-header : goal.returns-clause-header
+returns-clause-header g c = filled-header {T = g.row.T.Denot} {U = g.row.U.Denot} c.domain.inside.state c.write_loan_from_fn-loan.new.state c.domain.invariant c.args.domain.now c.domain.view_is c.args.self.sample.loan.number c.write_loan_from_fn-loan.ensures.writes.0 c.write_loan_from_fn-loan.ensures.writes.2 (unwritten_key c.args.self.sample) (written_key (record { service_id = c.args.self.sample.service_id; loan = c.write_loan_from_fn-loan.result })) refl (ap (λ (at : LoanAt). at.number) c.write_loan_from_fn-loan.ensures.same)
+
+pub returns-clause-user_header : goal.returns-clause-user_header
+returns-clause-user_header g c = filled-user-header {T = g.row.T.Denot} {U = g.row.U.Denot} c.domain.inside.state c.write_loan_from_fn-loan.new.state c.domain.invariant c.args.domain.now c.domain.view_is c.args.self.sample.loan.number c.write_loan_from_fn-loan.ensures.writes.0 c.write_loan_from_fn-loan.ensures.writes.2 (unwritten_key c.args.self.sample) (written_key (record { service_id = c.args.self.sample.service_id; loan = c.write_loan_from_fn-loan.result })) refl (ap (λ (at : LoanAt). at.number) c.write_loan_from_fn-loan.ensures.same)
+
+pub returns-clause-waits : goal.returns-clause-waits
+returns-clause-waits g c = filled-waits {T = g.row.T.Denot} {U = g.row.U.Denot} c.domain.inside.state c.write_loan_from_fn-loan.new.state c.domain.invariant c.args.domain.now c.domain.view_is c.args.self.sample.loan.number c.write_loan_from_fn-loan.ensures.writes.0 c.write_loan_from_fn-loan.ensures.writes.2
+
+pub returns-clause-up_to_date : goal.returns-clause-up_to_date
+returns-clause-up_to_date g c = filled-leaves {T = g.row.T.Denot} {U = g.row.U.Denot} c.domain.inside.state c.write_loan_from_fn-loan.new.state c.domain.invariant c.args.domain.now c.domain.view_is c.args.self.sample.loan.number c.write_loan_from_fn-loan.ensures.writes.0 c.write_loan_from_fn-loan.ensures.writes.2

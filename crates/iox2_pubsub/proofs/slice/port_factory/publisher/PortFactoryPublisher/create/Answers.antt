@@ -1,0 +1,16 @@
+use Rattle.std.proofs.Common.{subst}
+use Rattle.std.specs.declared.option.Option.TheVariants.{None, Some}
+use Rattle.iox2_store.specs.machine.Environments.{fixed_handlers}
+use Rattle.iox2_store.specs.machine.Ports.{CreatePublisher}
+use Rattle.iox2_store.specs.machine.Records.{PublisherSettings}
+use Rattle.iox2_pubsub.proofs.slice.port_factory.publisher.PortFactoryPublisher.create.Goals as goal
+
+pub returns-in-Ok-clause-creates : goal.returns-in-Ok-clause-creates
+returns-in-Ok-clause-creates g c m s shown =
+    let made = c.in-Ok.ensures.creates m s shown in
+    (made.0, made.1, ((made.2).0, subst (λ (given : PublisherSettings). CreatePublisher fixed_handlers s given made.0 None) c.self.view_is (made.2).1))
+
+pub returns-in-Err-clause-creates : goal.returns-in-Err-clause-creates
+returns-in-Err-clause-creates g c m s shown =
+    let made = c.in-Err.ensures.creates m s shown in
+    (made.0, made.1, subst (λ (given : PublisherSettings). CreatePublisher fixed_handlers s given made.0 (Some c.in-Err.error)) c.self.view_is made.2)

@@ -1,0 +1,50 @@
+//! The user header of a loan of a slice is changed in place.
+ghost use Rattle.std.specs.Prelude.{◌≡◌};
+
+use crate::domain::Domain;
+use crate::slice::SampleMut;
+use iox2_store::{BackpressureFn, DegradationFn};
+
+impl SampleMut {
+    ghost use Rattle.std.specs.Prelude.{Some, List};
+    ghost use Rattle.std.specs.Borrow.{sem};
+    ghost use Rattle.iox2_store.specs.declared.header.Header.{Header};
+    ghost use Rattle.iox2_store.specs.machine.Records.{Loan};
+    ghost use Rattle.iox2_store.specs.machine.State.{State, Messages, with_loan};
+    ghost use Rattle.iox2_domain.specs.LoanCalls.{user_header_changed};
+    ghost use Rattle.iox2_domain.specs.Shows.{Shows};
+    ghost use Rattle.iox2_pubsub.specs.ChangedLoans.{with_user_header};
+    ghost use Rattle.iox2_pubsub.specs.Live.{IsWrittenLoan, LoanHasHeader, LoanHasUserHeader, StaysBut, UpToDateStay, written_key, written_loan, payloads};
+    ghost use Rattle.iox2_pubsub.specs.LoanLends.{LendsUserHeader};
+    ghost use Rattle.iox2_pubsub.specs.LoansLeft.{LoansLeftStay};
+    ghost use Rattle.iox2_pubsub.specs.Slices.{HasValues};
+
+    /// The user header, to be changed where it lies. What is left behind the reference is the loan's
+    /// user header from then on, and nothing else of the domain changes.
+    ///
+    /// iceoryx2's `SampleMut::user_header_mut` (`src/sample_mut.rs`).
+    pub fn user_header_mut<'a, T: Drop, U: Default + Drop, F: BackpressureFn, G: DegradationFn>(
+        domain: &'a mut Domain<T, U, F, G>,
+        sample: &mut SampleMut,
+    ) -> &'a mut U
+        requires { IsWrittenLoan domain.old sample.old.sample }
+        ensures* writes_back { sem 𝓛 (LendsUserHeader T.row U.row F.row G.row domain.entry sample.old.sample.loan.number result) }
+        ensures same { sample.new ≡ sample.old }
+        ensures user_header { LoanHasUserHeader domain.old (written_key sample.old.sample) result.now }
+        ensures changes { (m : Messages T U) (s : State T U) (user_header : U) → Shows domain.old m s
+            → (l : Loan T U) × (s.loans sample.old.sample.loan.number ≡ Some l)
+            × Shows (with_user_header domain.old sample.old.sample.loan.number user_header) m (with_loan s sample.old.sample.loan.number (Some (user_header_changed user_header l))) }
+        ensures live { (user_header : U) → IsWrittenLoan (with_user_header domain.old sample.old.sample.loan.number user_header) sample.old.sample }
+        ensures is { (user_header : U) → LoanHasUserHeader (with_user_header domain.old sample.old.sample.loan.number user_header) (written_key sample.old.sample) user_header }
+        ensures reads { (user_header : U) (values : List T) → HasValues domain.old sample.old.sample.loan.number values
+            → HasValues (with_user_header domain.old sample.old.sample.loan.number user_header) sample.old.sample.loan.number values }
+        ensures header { (user_header : U) (header : Header) → LoanHasHeader domain.old (written_key sample.old.sample) header
+            → LoanHasHeader (with_user_header domain.old sample.old.sample.loan.number user_header) (written_key sample.new.sample) header }
+        ensures waits { (user_header : U) → payloads (with_user_header domain.old sample.old.sample.loan.number user_header) ≡ payloads domain.old }
+        ensures up_to_date { (user_header : U) → UpToDateStay domain.old (with_user_header domain.old sample.old.sample.loan.number user_header) }
+        ensures loans_left { (user_header : U) → LoansLeftStay domain.old (with_user_header domain.old sample.old.sample.loan.number user_header) }
+        ensures stays { (user_header : U) → StaysBut (written_loan sample.old.sample) domain.old (with_user_header domain.old sample.old.sample.loan.number user_header) }
+    {
+        crate::SampleMut::user_header_mut(domain, &mut sample.sample)
+    }
+}
