@@ -1,6 +1,6 @@
 -- Commands that change a loan that is out, with what a run holds.
-use Rattle.std.proofs.Common.{◌≡◌, ◌≢◌, ℕ, zero, suc, Bool, true, false, List, [], ◌∷◌, ◌++◌, map, length, cond, nat_lt, refl, sym, ap, subst, ◌∙◌, Option, None, Some, arith}
-use Rattle.std.specs.Prelude.{slice_set, slice_index_or}
+use Rattle.std.proofs.Common.{◌≡◌, ℕ, Bool, true, false, List, [], ◌∷◌, ◌++◌, map, length, cond, refl, sym, ap, subst, ◌∙◌, Option, None, Some, arith}
+use Rattle.std.specs.Prelude.{slice_get, slice_set, slice_index_or, nat_lt}
 use Rattle.std.specs.Option.{option_and_then}
 use Rattle.std.proofs.lemmas.Option.{same_Some}
 use Rattle.iox2_store.specs.machine.Environments.{fixed_handlers}
@@ -10,80 +10,72 @@ use Rattle.iox2_store.specs.machine.State.{State, Messages, with_loan}
 use Rattle.iox2_laws.proofs.PortsCome.{ports_come_themselves}
 use Rattle.iox2_laws.proofs.PortsStay.{ports_stay_themselves}
 use Rattle.iox2_domain.specs.Kept.{Kept as Domain}
-use Rattle.iox2_domain.specs.LoanCalls.{HasCell, first_cell_changed, user_header_changed}
+use Rattle.iox2_domain.specs.LoanCalls.{user_header_changed}
 use Rattle.iox2_domain.specs.Shows.{Shows}
 use Rattle.iox2_pubsub.specs.declared.sample_mut.SampleMut.{SampleMut}
 use Rattle.iox2_pubsub.specs.declared.sample_mut_uninit.SampleMutUninit.{SampleMutUninit}
-use Rattle.iox2_commands.specs.Outcomes.{Handle, done, replied, skipped}
+use Rattle.iox2_commands.specs.Outcomes.{Handle, done, replied}
 use Rattle.iox2_commands.specs.Runs.{Defaults}
-use Rattle.iox2_commands.specs.Step.{Step, with_cell_at, unwritten_at, written_at}
+use Rattle.iox2_commands.specs.Step.{with_cell_at, loan_at, written_at}
 use Rattle.iox2_commands.specs.declared.command.Command.TheVariants.{WriteCell, SetPayload, WriteHeader, AssumeInit}
+use Rattle.iox2_commands.specs.declared.reply.Reply.{Reply}
 use Rattle.iox2_commands.specs.declared.reply.Reply.TheVariants.{Done, Skipped, Unwritten as NotWritten}
 use Rattle.iox2_runs.specs.Carries.{entry_for, Carries}
+use Rattle.iox2_runs.specs.Cells.{WritesAt}
 use Rattle.iox2_runs.specs.RunSteps.{Comes}
 use Rattle.iox2_runs.specs.Tables.{TableEntry, No_entry, Unwritten_entry, Written_entry}
 use Rattle.iox2_runs.specs.declared.runs.made.Made.{Made}
 use Rattle.iox2_runs.specs.declared.runs.made.Made.TheVariants.{Nothing, Unwritten, Written}
 use Rattle.iox2_runs.proofs.TableCalls.{at_none, at_some, quiet_comes, skip_comes}
 use Rattle.iox2_runs.proofs.TableChanges.{unwritten_changes, unwritten_taken, written_changes}
-use Rattle.iox2_runs.proofs.TableEntries.{entries-set, entry-stands, lacks}
+use Rattle.iox2_runs.proofs.TableEntries.{entries-set, entry-stands, lacks, set_same}
 use Rattle.iox2_runs.proofs.TableLooks.{handle_of, is_loan_entry, is_unwritten_entry, is_written_entry, has_unwritten, has_written, lacks_loan, lacks_unwritten, lacks_written}
 
--- no further element is below one
-past_one : (i : ℕ) → nat_lt (suc i) 1 ≡ false
-past_one i = grind arith
-
 module _ {T U : Type 0} (defaults : Defaults T U) (old new : Domain T U) (table table' : List Made) (of : ℕ) where
+  -- the loan, where it has a cell at the index
+  abbrev if_there : ℕ × Loan T U → Bool → Option (ℕ × Loan T U)
+  if_there it is_there = cond is_there (Some it) None
+
+  -- what stood there was put back as it was
+  same_table : (made made' : Made) → slice_index_or table of Nothing ≡ made → made' ≡ made → table' ≡ slice_set table of made' → table' ≡ table
+  same_table made made' stood same is = is ∙ ap (λ (h : Made). slice_set table of h) (same ∙ sym stood) ∙ set_same table of
+
   -- ---- a cell is written
 
-  cell_at : (m : Messages T U) (s : State T U) (handles : List Handle) (default_value : T) (default_header : U) (at n : ℕ) (l : Loan T U) (cell : Option T) (value : T)
-      → unwritten_at s handles of ≡ Some (n, l) → l.cells ≡ cell ∷ [] → at ≡ 0 → Step fixed_handlers default_value default_header m s handles (WriteCell of at value) (done (with_loan s n (Some (with_cell l at value))))
-  cell_at m s handles default_value default_header zero n l cell value there cells first =
-      at_some _ _ _ (n, l) (ap (with_cell_at 0) there ∙ ap (λ (cs : List (Option T)). cond {A = Option (ℕ × Loan T U)} (nat_lt 0 (length cs)) (Some (n, l)) None) cells) refl
-  cell_at m s handles default_value default_header (suc i) n l cell value there cells first = absurd (omega (arith, first))
+  pub cell_carried : (h h' : SampleMutUninit) (at : ℕ) (value : T) (is_there : Bool) (reply : Reply T U) → slice_index_or table of Nothing ≡ Unwritten h → h' ≡ h
+      → WritesAt old new h.loan.number at value is_there → reply ≡ cond is_there Done Skipped → table' ≡ slice_set table of (Unwritten h')
+      → Carries fixed_handlers defaults old new table (WriteCell of at value) reply table' Nothing
+  cell_carried h h' at value is_there reply stood same writes so is =
+      subst (λ (r : Reply T U). Carries fixed_handlers defaults old new table (WriteCell of at value) r table' Nothing) (sym so) (by is_there writes)
+    where
+      stand : slice_get (map entry_for table) of ≡ Some (Unwritten_entry h.service_id h.loan.publisher h.loan.number)
+      stand = entry-stands table of (Unwritten h) stood (λ e. let clash : Unwritten h ≡ Nothing = e in cc)
 
-  cell_past : (m : Messages T U) (s : State T U) (handles : List Handle) (default_value : T) (default_header : U) (at n : ℕ) (l : Loan T U) (cell : Option T) (value : T)
-      → unwritten_at s handles of ≡ Some (n, l) → l.cells ≡ cell ∷ [] → at ≢ 0 → Step fixed_handlers default_value default_header m s handles (WriteCell of at value) (skipped s)
-  cell_past m s handles default_value default_header zero n l cell value there cells other = absurd (other refl)
-  cell_past m s handles default_value default_header (suc i) n l cell value there cells other =
-      at_none _ _ _ (ap (with_cell_at (suc i)) there ∙ ap (λ (cs : List (Option T)). cond {A = Option (ℕ × Loan T U)} (nat_lt (suc i) (length cs)) (Some (n, l)) None) cells
-      ∙ ap (λ (b : Bool). cond {A = Option (ℕ × Loan T U)} b (Some (n, l)) None) (past_one i)) refl
-
-  pub cell_carried : (h h' : SampleMutUninit) (at : ℕ) (cell : Option T) (value : T) → slice_index_or table of Nothing ≡ Unwritten h → h' ≡ h → at ≡ 0
-      → ((m : Messages T U) (s : State T U) → Shows old m s → HasCell s h.loan.number cell)
-      → ((m : Messages T U) (s : State T U) → Shows old m s → (l : Loan T U) × (s.loans h.loan.number ≡ Some l) × Shows new m (with_loan s h.loan.number (Some (first_cell_changed (Some value) l))))
-      → table' ≡ slice_set table of (Unwritten h')
-      → Carries fixed_handlers defaults old new table (WriteCell of at value) Done table' Nothing
-  cell_carried h h' at cell value stood same first has changes is = λ m s handles events shown w default_value default_header is_value is_header.
-      let stand = entry-stands table of (Unwritten h) stood (λ e. let clash : Unwritten h ≡ Nothing = e in cc) in
-      let named = has_unwritten s handles events (map entry_for table) w of h.service_id h.loan.publisher h.loan.number stand in
-      let out = (((handle_of s handles events (map entry_for table) w of (Unwritten_entry h.service_id h.loan.publisher h.loan.number) stand).2).2).0 in
-      let mark : (named.0).is_written ≡ false = ap (λ (l : Loan T U). l.is_written) (same_Some named.0 out.0 (sym named.3 ∙ out.1)) ∙ out.3 in
-      let read = has m s shown in
-      let changed = changes m s shown in
-      let one : (named.0).cells ≡ cell ∷ [] = ap (λ (l : Loan T U). l.cells) (same_Some named.0 read.0 (sym named.3 ∙ read.1)) ∙ read.2 in
-      let l' : Loan T U = with_cell named.0 at value in
-      let there : Shows new m (with_loan s h.loan.number (Some l')) =
-      subst (λ (l : Loan T U). Shows new m (with_loan s h.loan.number (Some l)))
-      (ap (λ (l : Loan T U). first_cell_changed (Some value) l) (same_Some changed.0 named.0 (sym changed.1 ∙ named.3)) ∙ ap (λ (i : ℕ). with_cell named.0 i value) (sym first)) changed.2 in
-      subst (λ (ks : List TableEntry). Comes fixed_handlers defaults (Shows new) m s handles events (WriteCell of at value) Done (ks ++ No_entry ∷ []))
-      (sym (ap (λ (t : List Made). map entry_for t) is ∙ entries-set table of (Unwritten h') ∙ ap (λ (i : SampleMutUninit). slice_set (map entry_for table) of (entry_for (Unwritten i))) same))
-      (unwritten_changes fixed_handlers defaults (Shows new) m s handles events (map entry_for table) w default_value default_header is_value is_header (WriteCell of at value) of h.service_id h.loan.publisher h.loan.number l'
-      (cell_at m s handles default_value default_header at h.loan.number named.0 cell value named.1 one first) there named.4 stand mark)
-
-  pub cell_beyond : (h : SampleMutUninit) (at : ℕ) (cell : Option T) (value : T) → slice_index_or table of Nothing ≡ Unwritten h → at ≢ 0
-      → ((m : Messages T U) (s : State T U) → Shows old m s → HasCell s h.loan.number cell) → table' ≡ table
-      → Carries fixed_handlers defaults old old table (WriteCell of at value) Skipped table' Nothing
-  cell_beyond h at cell value stood other has is = λ m s handles events shown w default_value default_header is_value is_header.
-      let stand = entry-stands table of (Unwritten h) stood (λ e. let clash : Unwritten h ≡ Nothing = e in cc) in
-      let named = has_unwritten s handles events (map entry_for table) w of h.service_id h.loan.publisher h.loan.number stand in
-      let out = (((handle_of s handles events (map entry_for table) w of (Unwritten_entry h.service_id h.loan.publisher h.loan.number) stand).2).2).0 in
-      let mark : (named.0).is_written ≡ false = ap (λ (l : Loan T U). l.is_written) (same_Some named.0 out.0 (sym named.3 ∙ out.1)) ∙ out.3 in
-      let read = has m s shown in
-      let one : (named.0).cells ≡ cell ∷ [] = ap (λ (l : Loan T U). l.cells) (same_Some named.0 read.0 (sym named.3 ∙ read.1)) ∙ read.2 in
-      subst (λ (t : List Made). Comes fixed_handlers defaults (Shows old) m s handles events (WriteCell of at value) Skipped (map entry_for t ++ No_entry ∷ [])) (sym is)
-      (skip_comes fixed_handlers defaults (Shows old) m s handles events (map entry_for table) w default_value default_header is_value is_header (WriteCell of at value)
-      (cell_past m s handles default_value default_header at h.loan.number named.0 cell value named.1 one other) shown)
+      by : (is_there : Bool) → WritesAt old new h.loan.number at value is_there
+          → Carries fixed_handlers defaults old new table (WriteCell of at value) (cond is_there Done Skipped) table' Nothing
+      by true writes = λ m s handles events shown w default_value default_header is_value is_header.
+          let named = has_unwritten s handles events (map entry_for table) w of h.service_id h.loan.publisher h.loan.number stand in
+          let out = (((handle_of s handles events (map entry_for table) w of (Unwritten_entry h.service_id h.loan.publisher h.loan.number) stand).2).2).0 in
+          let mark : (named.0).is_written ≡ false = ap (λ (l : Loan T U). l.is_written) (same_Some named.0 out.0 (sym named.3 ∙ out.1)) ∙ out.3 in
+          let wrote = writes m s shown in
+          let one : wrote.0 ≡ named.0 = same_Some wrote.0 named.0 (sym wrote.1 ∙ named.3) in
+          let there : Shows new m (with_loan s h.loan.number (Some (with_cell named.0 at value))) =
+          subst (λ (l : Loan T U). Shows new m (with_loan s h.loan.number (Some (with_cell l at value)))) one wrote.3 in
+          subst (λ (ks : List TableEntry). Comes fixed_handlers defaults (Shows new) m s handles events (WriteCell of at value) Done (ks ++ No_entry ∷ []))
+          (sym (ap (λ (t : List Made). map entry_for t) is ∙ entries-set table of (Unwritten h') ∙ ap (λ (i : SampleMutUninit). slice_set (map entry_for table) of (entry_for (Unwritten i))) same))
+          (unwritten_changes fixed_handlers defaults (Shows new) m s handles events (map entry_for table) w default_value default_header is_value is_header (WriteCell of at value) of h.service_id h.loan.publisher h.loan.number
+          (with_cell named.0 at value)
+          (at_some _ _ _ (h.loan.number, named.0)
+          (ap (with_cell_at at) named.1 ∙ ap (if_there (h.loan.number, named.0)) (ap (λ (l : Loan T U). nat_lt at (length l.cells)) (sym one) ∙ wrote.2)) refl) there named.4 stand mark)
+      by false writes = λ m s handles events shown w default_value default_header is_value is_header.
+          let named = has_unwritten s handles events (map entry_for table) w of h.service_id h.loan.publisher h.loan.number stand in
+          let wrote = writes m s shown in
+          let one : wrote.0 ≡ named.0 = same_Some wrote.0 named.0 (sym wrote.1 ∙ named.3) in
+          subst (λ (t : List Made). Comes fixed_handlers defaults (Shows new) m s handles events (WriteCell of at value) Skipped (map entry_for t ++ No_entry ∷ []))
+          (sym (same_table (Unwritten h) (Unwritten h') stood (ap (λ (i : SampleMutUninit). Unwritten i) same) is))
+          (skip_comes fixed_handlers defaults (Shows new) m s handles events (map entry_for table) w default_value default_header is_value is_header (WriteCell of at value)
+          (at_none _ _ _
+          (ap (with_cell_at at) named.1 ∙ ap (if_there (h.loan.number, named.0)) (ap (λ (l : Loan T U). nat_lt at (length l.cells)) (sym one) ∙ wrote.2)) refl) wrote.3)
 
   pub cell_passed : (at : ℕ) (value : T) → is_unwritten_entry (entry_for (slice_index_or table of Nothing)) ≡ false → table' ≡ table
       → Carries fixed_handlers defaults old old table (WriteCell of at value) Skipped table' Nothing
@@ -94,54 +86,49 @@ module _ {T U : Type 0} (defaults : Defaults T U) (old new : Domain T U) (table 
 
   -- ---- a value is changed
 
-  payload_at : (m : Messages T U) (s : State T U) (handles : List Handle) (default_value : T) (default_header : U) (at n : ℕ) (l : Loan T U) (cell : Option T) (value : T)
-      → written_at s handles of ≡ Some (n, l) → l.cells ≡ cell ∷ [] → at ≡ 0 → Step fixed_handlers default_value default_header m s handles (SetPayload of at value) (done (with_loan s n (Some (with_cell l at value))))
-  payload_at m s handles default_value default_header zero n l cell value there cells first =
-      at_some _ _ _ (n, l) (ap (with_cell_at 0) there ∙ ap (λ (cs : List (Option T)). cond {A = Option (ℕ × Loan T U)} (nat_lt 0 (length cs)) (Some (n, l)) None) cells) refl
-  payload_at m s handles default_value default_header (suc i) n l cell value there cells first = absurd (omega (arith, first))
+  pub payload_carried : (h h' : SampleMut) (at : ℕ) (value : T) (is_there : Bool) (reply : Reply T U) → slice_index_or table of Nothing ≡ Written h → h' ≡ h
+      → WritesAt old new h.loan.number at value is_there → reply ≡ cond is_there Done Skipped → table' ≡ slice_set table of (Written h')
+      → Carries fixed_handlers defaults old new table (SetPayload of at value) reply table' Nothing
+  payload_carried h h' at value is_there reply stood same writes so is =
+      subst (λ (r : Reply T U). Carries fixed_handlers defaults old new table (SetPayload of at value) r table' Nothing) (sym so) (by is_there writes)
+    where
+      stand : slice_get (map entry_for table) of ≡ Some (Written_entry h.service_id h.loan.publisher h.loan.number)
+      stand = entry-stands table of (Written h) stood (λ e. let clash : Written h ≡ Nothing = e in cc)
 
-  payload_past : (m : Messages T U) (s : State T U) (handles : List Handle) (default_value : T) (default_header : U) (at n : ℕ) (l : Loan T U) (cell : Option T) (value : T)
-      → written_at s handles of ≡ Some (n, l) → l.cells ≡ cell ∷ [] → at ≢ 0 → Step fixed_handlers default_value default_header m s handles (SetPayload of at value) (skipped s)
-  payload_past m s handles default_value default_header zero n l cell value there cells other = absurd (other refl)
-  payload_past m s handles default_value default_header (suc i) n l cell value there cells other =
-      at_none _ _ _ (ap (with_cell_at (suc i)) there ∙ ap (λ (cs : List (Option T)). cond {A = Option (ℕ × Loan T U)} (nat_lt (suc i) (length cs)) (Some (n, l)) None) cells
-      ∙ ap (λ (b : Bool). cond {A = Option (ℕ × Loan T U)} b (Some (n, l)) None) (past_one i)) refl
+      -- the position names a written loan
+      named_so : (s : State T U) (handles : List Handle) (n : ℕ) (l : Loan T U) → loan_at s handles of ≡ Some (n, l) → l.is_written ≡ true → written_at s handles of ≡ Some (n, l)
+      named_so s handles n l there mark =
+          ap (λ (o : Option (ℕ × Loan T U)). option_and_then (λ it. cond it.1.is_written (Some it) None) o) there ∙ ap (if_there (n, l)) mark
 
-  pub payload_carried : (h h' : SampleMut) (at : ℕ) (cell : Option T) (value : T) → slice_index_or table of Nothing ≡ Written h → h' ≡ h → at ≡ 0
-      → ((m : Messages T U) (s : State T U) → Shows old m s → HasCell s h.loan.number cell)
-      → ((m : Messages T U) (s : State T U) → Shows old m s → (l : Loan T U) × (s.loans h.loan.number ≡ Some l) × Shows new m (with_loan s h.loan.number (Some (first_cell_changed (Some value) l))))
-      → table' ≡ slice_set table of (Written h')
-      → Carries fixed_handlers defaults old new table (SetPayload of at value) Done table' Nothing
-  payload_carried h h' at cell value stood same first has changes is = λ m s handles events shown w default_value default_header is_value is_header.
-      let stand = entry-stands table of (Written h) stood (λ e. let clash : Written h ≡ Nothing = e in cc) in
-      let named = has_written s handles events (map entry_for table) w of h.service_id h.loan.publisher h.loan.number stand in
-      let out = (((handle_of s handles events (map entry_for table) w of (Written_entry h.service_id h.loan.publisher h.loan.number) stand).2).2).0 in
-      let mark : (named.0).is_written ≡ true = ap (λ (l : Loan T U). l.is_written) (same_Some named.0 out.0 (sym named.3 ∙ out.1)) ∙ out.3 in
-      let read = has m s shown in
-      let changed = changes m s shown in
-      let one : (named.0).cells ≡ cell ∷ [] = ap (λ (l : Loan T U). l.cells) (same_Some named.0 read.0 (sym named.3 ∙ read.1)) ∙ read.2 in
-      let l' : Loan T U = with_cell named.0 at value in
-      let there : Shows new m (with_loan s h.loan.number (Some l')) =
-      subst (λ (l : Loan T U). Shows new m (with_loan s h.loan.number (Some l)))
-      (ap (λ (l : Loan T U). first_cell_changed (Some value) l) (same_Some changed.0 named.0 (sym changed.1 ∙ named.3)) ∙ ap (λ (i : ℕ). with_cell named.0 i value) (sym first)) changed.2 in
-      subst (λ (ks : List TableEntry). Comes fixed_handlers defaults (Shows new) m s handles events (SetPayload of at value) Done (ks ++ No_entry ∷ []))
-      (sym (ap (λ (t : List Made). map entry_for t) is ∙ entries-set table of (Written h') ∙ ap (λ (i : SampleMut). slice_set (map entry_for table) of (entry_for (Written i))) same))
-      (written_changes fixed_handlers defaults (Shows new) m s handles events (map entry_for table) w default_value default_header is_value is_header (SetPayload of at value) of h.service_id h.loan.publisher h.loan.number l'
-      (payload_at m s handles default_value default_header at h.loan.number named.0 cell value (ap (λ (o : Option (ℕ × Loan T U)). option_and_then (λ it. cond it.1.is_written (Some it) None) o) named.2 ∙ ap (λ (b : Bool). cond {A = Option (ℕ × Loan T U)} b (Some (h.loan.number, named.0)) None) mark) one first) there named.4 stand mark)
-
-  pub payload_beyond : (h : SampleMut) (at : ℕ) (cell : Option T) (value : T) → slice_index_or table of Nothing ≡ Written h → at ≢ 0
-      → ((m : Messages T U) (s : State T U) → Shows old m s → HasCell s h.loan.number cell) → table' ≡ table
-      → Carries fixed_handlers defaults old old table (SetPayload of at value) Skipped table' Nothing
-  payload_beyond h at cell value stood other has is = λ m s handles events shown w default_value default_header is_value is_header.
-      let stand = entry-stands table of (Written h) stood (λ e. let clash : Written h ≡ Nothing = e in cc) in
-      let named = has_written s handles events (map entry_for table) w of h.service_id h.loan.publisher h.loan.number stand in
-      let out = (((handle_of s handles events (map entry_for table) w of (Written_entry h.service_id h.loan.publisher h.loan.number) stand).2).2).0 in
-      let mark : (named.0).is_written ≡ true = ap (λ (l : Loan T U). l.is_written) (same_Some named.0 out.0 (sym named.3 ∙ out.1)) ∙ out.3 in
-      let read = has m s shown in
-      let one : (named.0).cells ≡ cell ∷ [] = ap (λ (l : Loan T U). l.cells) (same_Some named.0 read.0 (sym named.3 ∙ read.1)) ∙ read.2 in
-      subst (λ (t : List Made). Comes fixed_handlers defaults (Shows old) m s handles events (SetPayload of at value) Skipped (map entry_for t ++ No_entry ∷ [])) (sym is)
-      (skip_comes fixed_handlers defaults (Shows old) m s handles events (map entry_for table) w default_value default_header is_value is_header (SetPayload of at value)
-      (payload_past m s handles default_value default_header at h.loan.number named.0 cell value (ap (λ (o : Option (ℕ × Loan T U)). option_and_then (λ it. cond it.1.is_written (Some it) None) o) named.2 ∙ ap (λ (b : Bool). cond {A = Option (ℕ × Loan T U)} b (Some (h.loan.number, named.0)) None) mark) one other) shown)
+      by : (is_there : Bool) → WritesAt old new h.loan.number at value is_there
+          → Carries fixed_handlers defaults old new table (SetPayload of at value) (cond is_there Done Skipped) table' Nothing
+      by true writes = λ m s handles events shown w default_value default_header is_value is_header.
+          let named = has_written s handles events (map entry_for table) w of h.service_id h.loan.publisher h.loan.number stand in
+          let out = (((handle_of s handles events (map entry_for table) w of (Written_entry h.service_id h.loan.publisher h.loan.number) stand).2).2).0 in
+          let mark : (named.0).is_written ≡ true = ap (λ (l : Loan T U). l.is_written) (same_Some named.0 out.0 (sym named.3 ∙ out.1)) ∙ out.3 in
+          let wrote = writes m s shown in
+          let one : wrote.0 ≡ named.0 = same_Some wrote.0 named.0 (sym wrote.1 ∙ named.3) in
+          let there : Shows new m (with_loan s h.loan.number (Some (with_cell named.0 at value))) =
+          subst (λ (l : Loan T U). Shows new m (with_loan s h.loan.number (Some (with_cell l at value)))) one wrote.3 in
+          subst (λ (ks : List TableEntry). Comes fixed_handlers defaults (Shows new) m s handles events (SetPayload of at value) Done (ks ++ No_entry ∷ []))
+          (sym (ap (λ (t : List Made). map entry_for t) is ∙ entries-set table of (Written h') ∙ ap (λ (i : SampleMut). slice_set (map entry_for table) of (entry_for (Written i))) same))
+          (written_changes fixed_handlers defaults (Shows new) m s handles events (map entry_for table) w default_value default_header is_value is_header (SetPayload of at value) of h.service_id h.loan.publisher h.loan.number
+          (with_cell named.0 at value)
+          (at_some _ _ _ (h.loan.number, named.0)
+          (ap (with_cell_at at) (named_so s handles h.loan.number named.0 named.2 mark)
+          ∙ ap (if_there (h.loan.number, named.0)) (ap (λ (l : Loan T U). nat_lt at (length l.cells)) (sym one) ∙ wrote.2)) refl) there named.4 stand mark)
+      by false writes = λ m s handles events shown w default_value default_header is_value is_header.
+          let named = has_written s handles events (map entry_for table) w of h.service_id h.loan.publisher h.loan.number stand in
+          let out = (((handle_of s handles events (map entry_for table) w of (Written_entry h.service_id h.loan.publisher h.loan.number) stand).2).2).0 in
+          let mark : (named.0).is_written ≡ true = ap (λ (l : Loan T U). l.is_written) (same_Some named.0 out.0 (sym named.3 ∙ out.1)) ∙ out.3 in
+          let wrote = writes m s shown in
+          let one : wrote.0 ≡ named.0 = same_Some wrote.0 named.0 (sym wrote.1 ∙ named.3) in
+          subst (λ (t : List Made). Comes fixed_handlers defaults (Shows new) m s handles events (SetPayload of at value) Skipped (map entry_for t ++ No_entry ∷ []))
+          (sym (same_table (Written h) (Written h') stood (ap (λ (i : SampleMut). Written i) same) is))
+          (skip_comes fixed_handlers defaults (Shows new) m s handles events (map entry_for table) w default_value default_header is_value is_header (SetPayload of at value)
+          (at_none _ _ _
+          (ap (with_cell_at at) (named_so s handles h.loan.number named.0 named.2 mark)
+          ∙ ap (if_there (h.loan.number, named.0)) (ap (λ (l : Loan T U). nat_lt at (length l.cells)) (sym one) ∙ wrote.2)) refl) wrote.3)
 
   pub payload_passed : (at : ℕ) (value : T) → is_written_entry (entry_for (slice_index_or table of Nothing)) ≡ false → table' ≡ table
       → Carries fixed_handlers defaults old old table (SetPayload of at value) Skipped table' Nothing

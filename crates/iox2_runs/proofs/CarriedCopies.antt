@@ -32,7 +32,6 @@ use Rattle.iox2_runs.specs.declared.runs.made.Made.TheVariants.{Nothing, Publish
 use Rattle.iox2_runs.proofs.TableCopies.{written_any, default_skipped, default_elsewhere, default_comes, default_refused_comes, copy_skipped, copy_elsewhere, copy_comes, copy_refused_comes}
 use Rattle.iox2_runs.proofs.TableEntries.{entry-stands, lacks}
 use Rattle.iox2_runs.proofs.TableLooks.{is_publisher_entry}
-use Rattle.iox2_runs.proofs.SingleStates.{single_state, other_state}
 
 module _ {T U : Type 0} (defaults : Defaults T U) (old new : Domain T U) (table : List Made) (of : ℕ) where
   -- ---- a default value
@@ -45,7 +44,7 @@ module _ {T U : Type 0} (defaults : Defaults T U) (old new : Domain T U) (table 
   pub default_of_other : is_single_valued old.config ≡ false → old ≡ new → Carries fixed_handlers defaults old new table (LoanDefault of) Skipped table Nothing
   default_of_other other same = λ m s handles events shown w default_value default_header is_value is_header.
       default_elsewhere fixed_handlers defaults (Shows new) m s handles events (map entry_for table) w default_value default_header is_value is_header of
-      (other_state old m s shown other) (subst (λ (d : Domain T U). Shows d m s) same shown)
+      (ap (λ (t : State T U). is_single_valued t.config) shown.state ∙ other) (subst (λ (d : Domain T U). Shows d m s) same shown)
 
   pub default_carried : (h : PublisherHandle) (h' : SampleMut) → slice_index_or table of Nothing ≡ MadePublisher h
       → is_single_valued old.config ≡ true
@@ -60,7 +59,7 @@ module _ {T U : Type 0} (defaults : Defaults T U) (old new : Domain T U) (table 
       λ i. Written_entry h'.service_id (sym publisher i) ((ap (λ (t : State T U). t.next_message) shown.state ∙ sym number) i) in
       subst (λ (k : TableEntry). Comes fixed_handlers defaults (Shows new) m s handles events (LoanDefault of) Loaned (map entry_for table ++ k ∷ [])) made
       (default_comes fixed_handlers defaults (Shows new) m s handles events (map entry_for table) w default_value default_header is_value is_header of h.service_id h.id
-      (entry-stands table of (MadePublisher h) at (λ e. let clash : MadePublisher h ≡ Nothing = e in cc)) (single_state old m s shown single)
+      (entry-stands table of (MadePublisher h) at (λ e. let clash : MadePublisher h ≡ Nothing = e in cc)) (ap (λ (t : State T U). is_single_valued t.config) shown.state ∙ single)
       loan.0 loan.1 loan.2 loan.3 lent.0 (written_any fixed_handlers loan.0 loan.2 s h.id lent.0 None loan.4) lent.1
       h'.service_id (service ∙ sym (ap (λ (t : State T U). (t.config).service_id) (lent.1).state)))
 
@@ -72,7 +71,7 @@ module _ {T U : Type 0} (defaults : Defaults T U) (old new : Domain T U) (table 
   default_denied h e at single refuses = λ m s handles events shown w default_value default_header is_value is_header.
       let refused = refuses m s shown in
       default_refused_comes fixed_handlers defaults (Shows new) m s handles events (map entry_for table) w default_value default_header is_value is_header of h.service_id h.id
-      (entry-stands table of (MadePublisher h) at (λ e. let clash : MadePublisher h ≡ Nothing = e in cc)) (single_state old m s shown single)
+      (entry-stands table of (MadePublisher h) at (λ e. let clash : MadePublisher h ≡ Nothing = e in cc)) (ap (λ (t : State T U). is_single_valued t.config) shown.state ∙ single)
       refused.0 e (written_any fixed_handlers default_value default_header s h.id refused.0 (Some e) ((refused.2).1 default_value default_header)) refused.1
 
   -- ---- a copy
@@ -85,7 +84,7 @@ module _ {T U : Type 0} (defaults : Defaults T U) (old new : Domain T U) (table 
   pub copy_of_other : (value : T) → is_single_valued old.config ≡ false → old ≡ new → Carries fixed_handlers defaults old new table (SendCopy of value) Skipped table Nothing
   copy_of_other value other same = λ m s handles events shown w default_value default_header is_value is_header.
       copy_elsewhere fixed_handlers defaults (Shows new) m s handles events (map entry_for table) w default_value default_header is_value is_header of value
-      (other_state old m s shown other) (subst (λ (d : Domain T U). Shows d m s) same shown)
+      (ap (λ (t : State T U). is_single_valued t.config) shown.state ∙ other) (subst (λ (d : Domain T U). Shows d m s) same shown)
 
   pub copy_carried : (h : PublisherHandle) (value : T) (outcome : SendOutcome) (count : ℕ) → sent_result outcome ≡ Delivered_to count → slice_index_or table of Nothing ≡ MadePublisher h
       → is_single_valued old.config ≡ true
@@ -99,7 +98,7 @@ module _ {T U : Type 0} (defaults : Defaults T U) (old new : Domain T U) (table 
       let grants = written_any fixed_handlers value it.user_header s h.id it.granted None it.grants in
       let sends_so : Send fixed_handlers it.granted s.next_message it.loan sent.1 (Delivered_to count) = subst (λ (k : ℕ). Send fixed_handlers it.granted s.next_message it.loan sent.1 (Delivered_to k)) same it.sends in
       copy_comes fixed_handlers defaults (Shows new) m s handles events (map entry_for table) w default_value default_header is_value is_header of h.service_id h.id count value
-      (entry-stands table of (MadePublisher h) at (λ e. let clash : MadePublisher h ≡ Nothing = e in cc)) (single_state old m s shown single)
+      (entry-stands table of (MadePublisher h) at (λ e. let clash : MadePublisher h ≡ Nothing = e in cc)) (ap (λ (t : State T U). is_single_valued t.config) shown.state ∙ single)
       it.user_header it.default it.granted grants it.loan it.out sent.1 sends_so
       (send_advances fixed_handlers it.granted s.next_message it.loan sent.1 (Delivered_to count) sends_so).next_message
       (subst (λ (k : Messages T U). Shows new k sent.1) it.messages sent.2)
@@ -113,6 +112,6 @@ module _ {T U : Type 0} (defaults : Defaults T U) (old new : Domain T U) (table 
       let it = refused.3 in
       subst (λ (e : SendError). Comes fixed_handlers defaults (Shows new) m s handles events (SendCopy of value) (SendRefused e) (map entry_for table ++ No_entry ∷ [])) (sym it.is)
       (copy_refused_comes fixed_handlers defaults (Shows new) m s handles events (map entry_for table) w default_value default_header is_value is_header of h.service_id h.id value
-      (entry-stands table of (MadePublisher h) at (λ e. let clash : MadePublisher h ≡ Nothing = e in cc)) (single_state old m s shown single)
+      (entry-stands table of (MadePublisher h) at (λ e. let clash : MadePublisher h ≡ Nothing = e in cc)) (ap (λ (t : State T U). is_single_valued t.config) shown.state ∙ single)
       refused.1 it.reason (written_any fixed_handlers value default_header s h.id refused.1 (Some it.reason) (it.refused value default_header))
       (subst (λ (k : Messages T U). Shows new k refused.1) it.messages refused.2))

@@ -29,7 +29,6 @@ use Rattle.iox2_runs.proofs.TableLooks.{is_publisher_entry, is_unwritten_entry, 
 use Rattle.iox2_runs.proofs.TableCalls.{write_comes, write_skipped, send_comes, send_lost_comes, send_skipped}
 use Rattle.iox2_runs.proofs.TableMakes.{loan_skipped, loan_elsewhere, loan_comes, loan_refused_comes, loan_any}
 use Rattle.iox2_runs.proofs.TableEntries.{entries-set, entry-stands, lacks}
-use Rattle.iox2_runs.proofs.SingleStates.{single_state, other_state}
 
 module _ {T U : Type 0} (environment : Environment) (defaults : Defaults T U) (old new : Domain T U) (table table' : List Made) (of : ℕ) where
   -- a written loan
@@ -70,7 +69,7 @@ module _ {T U : Type 0} (environment : Environment) (defaults : Defaults T U) (o
   pub loan_of_other : is_single_valued old.config ≡ false → old ≡ new → Carries environment defaults old new table (LoanUninit of) Skipped table Nothing
   loan_of_other other same = λ m s handles events shown w default_value default_header is_value is_header.
       loan_elsewhere environment defaults (Shows new) m s handles events (map entry_for table) w default_value default_header is_value is_header of
-      (other_state old m s shown other) (subst (λ (d : Domain T U). Shows d m s) same shown)
+      (ap (λ (t : State T U). is_single_valued t.config) shown.state ∙ other) (subst (λ (d : Domain T U). Shows d m s) same shown)
 
   pub loan_carried : table' ≡ table → (h : PublisherHandle) (h' : SampleMutUninit) → slice_index_or table of Nothing ≡ MadePublisher h
       → is_single_valued old.config ≡ true
@@ -87,7 +86,7 @@ module _ {T U : Type 0} (environment : Environment) (defaults : Defaults T U) (o
       (subst (λ (k : TableEntry). Comes environment defaults (Shows new) m s handles events (LoanUninit of) Loaned (map entry_for table ++ k ∷ [])) made
       (loan_comes environment defaults (Shows new) m s handles events (map entry_for table) w default_value default_header is_value is_header of h.service_id h.id
       (entry-stands table of (MadePublisher h) at (λ e. let clash : MadePublisher h ≡ Nothing = e in cc))
-      (single_state old m s shown single)
+      (ap (λ (t : State T U). is_single_valued t.config) shown.state ∙ single)
       loan.0 loan.1 lent.0 (loan_any environment loan.0 false 1 s h.id lent.0 None loan.2) lent.1
       h'.service_id (service ∙ sym (ap (λ (t : State T U). (t.config).service_id) (lent.1).state))))
 
@@ -100,7 +99,7 @@ module _ {T U : Type 0} (environment : Environment) (defaults : Defaults T U) (o
       subst (λ (t : List Made). Comes environment defaults (Shows new) m s handles events (LoanUninit of) (LoanRefused e) (map entry_for t ++ No_entry ∷ [])) (sym is)
       (loan_refused_comes environment defaults (Shows new) m s handles events (map entry_for table) w default_value default_header is_value is_header of h.service_id h.id
       (entry-stands table of (MadePublisher h) at (λ e. let clash : MadePublisher h ≡ Nothing = e in cc))
-      (single_state old m s shown single)
+      (ap (λ (t : State T U). is_single_valued t.config) shown.state ∙ single)
       default_header is_header refused.0 e (loan_any environment default_header false 1 s h.id refused.0 (Some e) ((refused.2).1 default_header)) refused.1)
 
   -- ---- a send

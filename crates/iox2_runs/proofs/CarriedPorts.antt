@@ -10,7 +10,7 @@ use Rattle.iox2_store.specs.declared.degradation.DegradationAction.TheVariants.{
 use Rattle.iox2_store.specs.declared.errors.PublisherCreateError.{PublisherCreateError}
 use Rattle.iox2_store.specs.declared.errors.SubscriberCreateError.{SubscriberCreateError}
 use Rattle.iox2_store.specs.declared.service_config.TypeVariant.{TypeVariant}
-use Rattle.iox2_store.specs.declared.service_config.TypeVariant.TheVariants.{FixedSize}
+use Rattle.iox2_store.specs.declared.service_config.TypeVariant.TheVariants.{FixedSize, Dynamic}
 use Rattle.iox2_laws.proofs.PortLaws.{create_publisher_advances, create_subscriber_advances}
 use Rattle.iox2_domain.specs.Kept.{Kept as Domain}
 use Rattle.iox2_domain.specs.Shows.{Shows}
@@ -32,35 +32,46 @@ use Rattle.iox2_runs.proofs.TableMakes.{publisher_comes, publisher_refused_comes
 abbrev pub given_for : (limit : ℕ) → Option ℕ → SubscriberSettings
 given_for limit buffer = record { buffer_size = elim buffer [ None ↦ limit | Some asked ↦ asked ]; degradation_handler = Fixed Warn }
 
-module _ {T U : Type 0} (environment : Environment) (defaults : Defaults T U) (old new : Domain T U) (table : List Made) where
-  -- what the command says in a service for single values is what the factory was told
-  settings_are : (loans len : ℕ) (s : State T U) → (s.config).variant ≡ FixedSize → plain_publisher loans 1 ≡ publisher_settings (s.config).variant loans DiscardData Static len None Warn None
-  settings_are loans len s e = ap (λ (v : TypeVariant). publisher_settings v loans DiscardData Static len None Warn None) (sym e)
+-- what the command says of a publisher
+abbrev pub settings_of : {T U : Type 0} → (loans len : ℕ) → State T U → PublisherSettings
+settings_of loans len s = publisher_settings (s.config).variant loans DiscardData Static len None Warn None
 
-  pub publisher_carried : (loans len : ℕ) (h : PublisherHandle) (id : ℕ) → (old.config).variant ≡ FixedSize
-      → ((m : Messages T U) (s : State T U) → Shows old m s → (s' : State T U) × Shows new m s' × ((h.id ≡ s.next_port) × CreatePublisher environment s (plain_publisher loans 1) s' None))
+module _ {T U : Type 0} (old : Domain T U) where
+  -- what a factory was told is what the command says, where messages are single values
+  pub fixed-settings : (loans len : ℕ) (told : PublisherSettings) → told ≡ plain_publisher loans 1 → (old.config).variant ≡ FixedSize
+      → (m : Messages T U) (s : State T U) → Shows old m s → told ≡ settings_of loans len s
+  fixed-settings loans len told is variant = λ m s shown.
+      is ∙ ap (λ (v : TypeVariant). publisher_settings v loans DiscardData Static len None Warn None) (sym (ap (λ (t : State T U). (t.config).variant) shown.state ∙ variant))
+
+  -- and so where they are slices
+  pub slice-settings : (loans len : ℕ) (told : PublisherSettings) → told ≡ plain_publisher loans len → (old.config).variant ≡ Dynamic
+      → (m : Messages T U) (s : State T U) → Shows old m s → told ≡ settings_of loans len s
+  slice-settings loans len told is variant = λ m s shown.
+      is ∙ ap (λ (v : TypeVariant). publisher_settings v loans DiscardData Static len None Warn None) (sym (ap (λ (t : State T U). (t.config).variant) shown.state ∙ variant))
+
+module _ {T U : Type 0} (environment : Environment) (defaults : Defaults T U) (old new : Domain T U) (table : List Made) where
+  pub publisher_carried : (loans len : ℕ) (h : PublisherHandle) (id : ℕ)
+      → ((m : Messages T U) (s : State T U) → Shows old m s → (s' : State T U) × Shows new m s' × ((h.id ≡ s.next_port) × CreatePublisher environment s (settings_of loans len s) s' None))
       → h.service_id ≡ (new.config).service_id → id ≡ h.id
       → Carries environment defaults old new table (PublisherCommand loans DiscardData Static len None Warn None) (PublisherMade id) table (MadePublisher h)
-  publisher_carried loans len h id variant creates service same = λ m s handles events shown w default_value default_header is_value is_header.
+  publisher_carried loans len h id creates service same = λ m s handles events shown w default_value default_header is_value is_header.
       let made = creates m s shown in
-      let single : (s.config).variant ≡ FixedSize = ap (λ (t : State T U). (t.config).variant) shown.state ∙ variant in
-      let create = subst (λ (given : PublisherSettings). CreatePublisher environment s given made.0 None) (settings_are loans len s single) (made.2).1 in
+      let create = (made.2).1 in
       let Arrives : (a b : ℕ) → Type 0 = λ a b. Comes environment defaults (Shows new) m s handles events (PublisherCommand loans DiscardData Static len None Warn None) (PublisherMade a)
       (map entry_for table ++ Publisher_entry h.service_id b ∷ []) in
       subst (λ (a : ℕ). Arrives a h.id) (sym (made.2).0 ∙ sym same) (subst (Arrives s.next_port) (sym (made.2).0)
       (publisher_comes environment defaults (Shows new) m s handles events (map entry_for table) w default_value default_header is_value is_header loans DiscardData Static len None Warn None
-      made.0 create (create_publisher_advances environment s (publisher_settings (s.config).variant loans DiscardData Static len None Warn None) made.0 None create).next_message made.1 h.service_id
+      made.0 create (create_publisher_advances environment s (settings_of loans len s) made.0 None create).next_message made.1 h.service_id
       (service ∙ sym (ap (λ (t : State T U). (t.config).service_id) (made.1).state))))
 
-  pub publisher_denied : (loans len : ℕ) (e : PublisherCreateError) → (old.config).variant ≡ FixedSize
-      → ((m : Messages T U) (s : State T U) → Shows old m s → (s' : State T U) × Shows new m s' × CreatePublisher environment s (plain_publisher loans 1) s' (Some e))
+  pub publisher_denied : (loans len : ℕ) (e : PublisherCreateError)
+      → ((m : Messages T U) (s : State T U) → Shows old m s → (s' : State T U) × Shows new m s' × CreatePublisher environment s (settings_of loans len s) s' (Some e))
       → Carries environment defaults old new table (PublisherCommand loans DiscardData Static len None Warn None) (PublisherRefused e) table Nothing
-  publisher_denied loans len e variant refuses = λ m s handles events shown w default_value default_header is_value is_header.
+  publisher_denied loans len e refuses = λ m s handles events shown w default_value default_header is_value is_header.
       let refused = refuses m s shown in
-      let single : (s.config).variant ≡ FixedSize = ap (λ (t : State T U). (t.config).variant) shown.state ∙ variant in
-      let create = subst (λ (given : PublisherSettings). CreatePublisher environment s given refused.0 (Some e)) (settings_are loans len s single) refused.2 in
+      let create = refused.2 in
       publisher_refused_comes environment defaults (Shows new) m s handles events (map entry_for table) w default_value default_header is_value is_header loans DiscardData Static len None Warn None
-      refused.0 e create (create_publisher_advances environment s (publisher_settings (s.config).variant loans DiscardData Static len None Warn None) refused.0 (Some e) create).next_message refused.1
+      refused.0 e create (create_publisher_advances environment s (settings_of loans len s) refused.0 (Some e) create).next_message refused.1
 
   pub subscriber_carried : (buffer : Option ℕ) (given : SubscriberSettings) → given ≡ given_for (buffer_limit old.config) buffer
       → (h : SubscriberHandle) (id : ℕ)

@@ -1,7 +1,7 @@
 -- Commands on samples, and reads, with what a run holds.
-use Rattle.std.proofs.Common.{◌≡◌, ℕ, zero, suc, Bool, true, false, cond, List, [], ◌∷◌, ◌++◌, map, length, refl, sym, ap, subst, ◌∙◌, eqb, nat_lt, Option, None, Some, arith}
+use Rattle.std.proofs.Common.{◌≡◌, ℕ, Bool, true, false, cond, List, [], ◌∷◌, ◌++◌, map, refl, sym, ap, subst, ◌∙◌, Option, None, Some}
 use Rattle.std.specs.Prelude.{slice_get, slice_set, slice_index_or}
-use Rattle.std.proofs.lemmas.Bool.{ne_eqb}
+use Rattle.std.specs.Option.{option_map, option_map_or}
 use Rattle.std.proofs.lemmas.Option.{same_Some}
 use Rattle.iox2_store.specs.machine.Records.{Entry, Loan, Environment}
 use Rattle.iox2_store.specs.machine.State.{State, Messages}
@@ -9,17 +9,15 @@ use Rattle.iox2_store.specs.machine.Receives.{Receive, Got_sample, No_sample, Re
 use Rattle.iox2_store.specs.machine.Mailbox.{is_borrowed}
 use Rattle.iox2_store.specs.machine.Releases.{released}
 use Rattle.iox2_store.specs.declared.errors.ReceiveError.{ReceiveError}
-use Rattle.iox2_store.specs.declared.service_config.TypeVariant.TheVariants.{FixedSize}
 use Rattle.iox2_laws.proofs.ReceiveLaws.{receive_advances}
 use Rattle.iox2_laws.proofs.ReleaseLaws.{released_advances}
 use Rattle.iox2_domain.specs.Kept.{Kept as Domain, state_of}
 use Rattle.iox2_domain.specs.Shows.{Shows}
-use Rattle.iox2_domain.specs.LoanCalls.{HasCell}
 use Rattle.iox2_pubsub.specs.declared.sample_mut_uninit.SampleMutUninit.{SampleMutUninit}
 use Rattle.iox2_pubsub.specs.declared.sample_mut.SampleMut.{SampleMut}
 use Rattle.iox2_pubsub.specs.declared.subscriber.Subscriber.{Subscriber as SubscriberHandle}
 use Rattle.iox2_pubsub.specs.declared.sample.Sample.{Sample as SampleHandle}
-use Rattle.iox2_commands.specs.Outcomes.{Handle, Event, replied, skipped}
+use Rattle.iox2_commands.specs.Outcomes.{Handle, Event, replied}
 use Rattle.iox2_commands.specs.Runs.{Defaults}
 use Rattle.iox2_commands.specs.Step.{Step, sample_at, loan_at, with_cell_at}
 use Rattle.iox2_runs.specs.Tables.{TableEntry, No_entry, Sample_entry, IsTable}
@@ -31,12 +29,11 @@ use Rattle.iox2_commands.specs.declared.reply.Reply.TheVariants.{Done, Skipped, 
 use Rattle.iox2_runs.specs.declared.runs.made.Made.{Made}
 use Rattle.iox2_runs.specs.declared.runs.made.Made.TheVariants.{Nothing, Subscriber as MadeSubscriber, Unwritten, Written, Sample as MadeSample}
 use Rattle.iox2_runs.proofs.TableLooks.{is_subscriber_entry, is_sample_entry, is_loan_entry, lacks_sample, lacks_loan, has_unwritten, has_written, has_sample}
+use Rattle.iox2_runs.specs.Cells.{LoanHasAt, MessageHasAt}
+use Rattle.iox2_runs.proofs.CellLists.{index_within, index_past}
 use Rattle.iox2_runs.proofs.TableCalls.{at_none, at_some}
 use Rattle.iox2_runs.proofs.TableSamples.{receive_skipped, receive_elsewhere, receive_quiet_comes, receive_comes, release_skipped, release_comes, read_comes}
 use Rattle.iox2_runs.proofs.TableEntries.{entries-set, entry-stands, lacks}
-
-past_one : (k : ℕ) → nat_lt (suc k) 1 ≡ false
-past_one k = grind arith
 
 module _ {T U : Type 0} (environment : Environment) (defaults : Defaults T U) (old new : Domain T U) (table table' : List Made) (of : ℕ) where
   -- ---- release
@@ -77,11 +74,11 @@ module _ {T U : Type 0} (environment : Environment) (defaults : Defaults T U) (o
       (λ units. other (sym (ap (λ (t : State T U). (t.config).units_per_element) shown.state) ∙ units)) (subst (λ (d : Domain T U). Shows d m s) same shown)
 
   pub receive_carried : table' ≡ table → (h : SubscriberHandle) (h' : SampleHandle) (origin : ℕ) → slice_index_or table of Nothing ≡ MadeSubscriber h
-      → (old.config).variant ≡ FixedSize → (old.config).units_per_element ≡ 1
+      → (old.config).units_per_element ≡ 1
       → ((m : Messages T U) (s : State T U) → Shows old m s → (s' : State T U) × Shows new m s' × Receive environment s h.id s' (Got_sample h'.origin h'.sample.number))
       → h'.service_id ≡ (new.config).service_id → h'.sample.subscriber ≡ h.id → origin ≡ h'.origin
       → Carries environment defaults old new table (ReceiveCommand of) (SampleReply origin) table' (MadeSample h')
-  receive_carried is h h' origin at variant units receives service subscriber same = λ m s handles events shown w default_value default_header is_value is_header.
+  receive_carried is h h' origin at units receives service subscriber same = λ m s handles events shown w default_value default_header is_value is_header.
       let got = receives m s shown in
       let made : Sample_entry h'.service_id h'.origin h.id h'.sample.number ≡ entry_for (MadeSample h') = λ i. Sample_entry h'.service_id h'.origin (sym subscriber i) h'.sample.number in
       subst (λ (t : List Made). Comes environment defaults (Shows new) m s handles events (ReceiveCommand of) (SampleReply origin) (map entry_for t ++ entry_for (MadeSample h') ∷ [])) (sym is)
@@ -89,7 +86,7 @@ module _ {T U : Type 0} (environment : Environment) (defaults : Defaults T U) (o
       (subst (λ (k : TableEntry). Comes environment defaults (Shows new) m s handles events (ReceiveCommand of) (SampleReply h'.origin) (map entry_for table ++ k ∷ [])) made
       (receive_comes environment defaults (Shows new) m s handles events (map entry_for table) w default_value default_header is_value is_header of h.service_id h.id
       (entry-stands table of (MadeSubscriber h) at (λ e. let clash : MadeSubscriber h ≡ Nothing = e in cc))
-      (ap (λ (t : State T U). (t.config).variant) shown.state ∙ variant, ap (λ (t : State T U). (t.config).units_per_element) shown.state ∙ units)
+      (ap (λ (t : State T U). (t.config).units_per_element) shown.state ∙ units)
       got.0 h'.origin h'.sample.number got.2 (receive_advances environment s h.id got.0 (Got_sample h'.origin h'.sample.number) got.2).next_message got.1
       h'.service_id (service ∙ sym (ap (λ (t : State T U). (t.config).service_id) (got.1).state)))))
 
@@ -119,34 +116,21 @@ module _ {T U : Type 0} (environment : Environment) (defaults : Defaults T U) (o
 
   module _ (m : Messages T U) (s : State T U) (handles : List Handle) (default_value : T) (default_header : U) (at : ℕ) where
     -- the reply is this one
-    abbrev Reads : Option T → Type 0
-    Reads cell = Step environment default_value default_header m s handles (ReadCommand of at) (replied (cond (eqb at 0) (Cell cell) Skipped) s)
+    abbrev Reads : Reply T U → Type 0
+    Reads reply = Step environment default_value default_header m s handles (ReadCommand of at) (replied reply s)
 
-  -- past the first cell the read is skipped
-  past : (m : Messages T U) (s : State T U) (handles : List Handle) (default_value : T) (default_header : U) (k : ℕ) (cell : Option T)
-      → Step environment default_value default_header m s handles (ReadCommand of (suc k)) (skipped s) → Reads m s handles default_value default_header (suc k) cell
-  past m s handles default_value default_header k cell step =
-      subst (λ (b : Bool). Step environment default_value default_header m s handles (ReadCommand of (suc k)) (replied (cond b (Cell cell) Skipped) s))
-      (sym (ne_eqb (suc k) 0 (λ e. omega (arith, e)))) step
+    -- a loan is read, by what it has at the index
+    read_loan : (n : ℕ) (l : Loan T U) (cell : Option (Option T)) → sample_at s handles of ≡ None → loan_at s handles of ≡ Some (n, l) → slice_get l.cells at ≡ cell
+        → Reads (option_map_or (λ it. Cell it) cell Skipped)
+    read_loan n l None none there is = at_none _ _ _ none (at_none _ _ _ (ap (with_cell_at at) there ∙ ap (λ (b : Bool). cond {A = Option (ℕ × Loan T U)} b (Some (n, l)) None) (index_past l.cells at is)) refl)
+    read_loan n l (Some cell) none there is =
+        at_none _ _ _ none (at_some _ _ _ (n, l) (ap (with_cell_at at) there ∙ ap (λ (b : Bool). cond {A = Option (ℕ × Loan T U)} b (Some (n, l)) None) (index_within l.cells at cell is)) (at_some _ _ _ cell is refl))
 
-  read_loan : (m : Messages T U) (s : State T U) (handles : List Handle) (default_value : T) (default_header : U) (at n : ℕ) (l : Loan T U) (cell : Option T)
-      → sample_at s handles of ≡ None → loan_at s handles of ≡ Some (n, l) → l.cells ≡ cell ∷ [] → Reads m s handles default_value default_header at cell
-  read_loan m s handles default_value default_header zero n l cell none there cells =
-      at_none _ _ _ none (at_some _ _ _ (n, l)
-      (ap (with_cell_at 0) there ∙ ap (λ (cs : List (Option T)). cond {A = Option (ℕ × Loan T U)} (nat_lt 0 (length cs)) (Some (n, l)) None) cells)
-      (at_some _ _ _ cell (ap (λ (cs : List (Option T)). slice_get cs 0) cells) refl))
-  read_loan m s handles default_value default_header (suc k) n l cell none there cells =
-      past m s handles default_value default_header k cell (at_none _ _ _ none (at_none _ _ _
-      (ap (with_cell_at (suc k)) there ∙ ap (λ (cs : List (Option T)). cond {A = Option (ℕ × Loan T U)} (nat_lt (suc k) (length cs)) (Some (n, l)) None) cells
-      ∙ ap (λ (b : Bool). cond {A = Option (ℕ × Loan T U)} b (Some (n, l)) None) (past_one k)) refl))
-
-  read_sample : (m : Messages T U) (s : State T U) (handles : List Handle) (default_value : T) (default_header : U) (at p q n : ℕ) (entry : Entry T U) (value : T)
-      → sample_at s handles of ≡ Some (p, q, n) → m n ≡ Some entry → entry.values ≡ value ∷ [] → Reads m s handles default_value default_header at (Some value)
-  read_sample m s handles default_value default_header zero p q n entry value there sent values =
-      at_some _ _ _ (p, q, n) there (at_some _ _ _ entry sent (at_some _ _ _ value (ap (λ (vs : List T). slice_get vs 0) values) refl))
-  read_sample m s handles default_value default_header (suc k) p q n entry value there sent values =
-      past m s handles default_value default_header k (Some value)
-      (at_some _ _ _ (p, q, n) there (at_some _ _ _ entry sent (at_none _ _ _ (ap (λ (vs : List T). slice_get vs (suc k)) values) refl)))
+    -- so is a sample
+    read_sample : (p q n : ℕ) (entry : Entry T U) (value : Option T) → sample_at s handles of ≡ Some (p, q, n) → m n ≡ Some entry → slice_get entry.values at ≡ value
+        → Reads (option_map_or (λ it. Cell (Some it)) value Skipped)
+    read_sample p q n entry None there sent is = at_some _ _ _ (p, q, n) there (at_some _ _ _ entry sent (at_none _ _ _ is refl))
+    read_sample p q n entry (Some value) there sent is = at_some _ _ _ (p, q, n) there (at_some _ _ _ entry sent (at_some _ _ _ value is refl))
 
   -- a read at which this step replies so, with the table as it was
   reads : table' ≡ table → (at : ℕ) (reply : Reply T U)
@@ -158,35 +142,40 @@ module _ {T U : Type 0} (environment : Environment) (defaults : Defaults T U) (o
       (read_comes environment defaults (Shows old) m s handles events (map entry_for table) w default_value default_header is_value is_header of at reply
       (step m s handles events shown w default_value default_header) shown)
 
-  pub read_unwritten : table' ≡ table → (at : ℕ) (h : SampleMutUninit) (cell : Option T) (reply : Reply T U) → slice_index_or table of Nothing ≡ Unwritten h
-      → ((m : Messages T U) (s : State T U) → Shows old m s → HasCell s h.loan.number cell) → reply ≡ cond (eqb at 0) (Cell cell) Skipped
+  pub read_unwritten : table' ≡ table → (at : ℕ) (h : SampleMutUninit) (cell : Option (Option T)) (reply : Reply T U) → slice_index_or table of Nothing ≡ Unwritten h
+      → LoanHasAt old h.loan.number at cell → reply ≡ option_map_or (λ it. Cell it) cell Skipped
       → Carries environment defaults old old table (ReadCommand of at) reply table' Nothing
   read_unwritten is at h cell reply stood has so = subst (λ (r : Reply T U). Carries environment defaults old old table (ReadCommand of at) r table' Nothing) (sym so)
-      (reads is at (cond (eqb at 0) (Cell cell) Skipped) (λ m s handles events shown w default_value default_header.
+      (reads is at (option_map_or (λ it. Cell it) cell Skipped) (λ m s handles events shown w default_value default_header.
       let stand = entry-stands table of (Unwritten h) stood (λ e. let clash : Unwritten h ≡ Nothing = e in cc) in
       let named = has_unwritten s handles events (map entry_for table) w of h.service_id h.loan.publisher h.loan.number stand in
       let read = has m s shown in
       read_loan m s handles default_value default_header at h.loan.number named.0 cell
       (lacks_sample s handles events (map entry_for table) w of (lacks is_sample_entry refl table of (ap (λ (v : Made). is_sample_entry (entry_for v)) stood))) named.2
-      (ap (λ (l : Loan T U). l.cells) (same_Some named.0 read.0 (sym named.3 ∙ read.1)) ∙ read.2)))
+      (ap (λ (l : Loan T U). slice_get l.cells at) (same_Some named.0 read.0 (sym named.3 ∙ read.1)) ∙ read.2)))
 
-  pub read_written : table' ≡ table → (at : ℕ) (h : SampleMut) (value : T) (reply : Reply T U) → slice_index_or table of Nothing ≡ Written h
-      → ((m : Messages T U) (s : State T U) → Shows old m s → HasCell s h.loan.number (Some value)) → reply ≡ cond (eqb at 0) (Cell (Some value)) Skipped
+  -- the cell of a written loan holds the value
+  value_cell : (value : Option T) → option_map_or {U = Reply T U} (λ it. Cell (Some it)) value Skipped ≡ option_map_or (λ it. Cell it) (option_map Some value) Skipped
+  value_cell None = refl
+  value_cell (Some value) = refl
+
+  pub read_written : table' ≡ table → (at : ℕ) (h : SampleMut) (value : Option T) (reply : Reply T U) → slice_index_or table of Nothing ≡ Written h
+      → LoanHasAt old h.loan.number at (option_map Some value) → reply ≡ option_map_or (λ it. Cell (Some it)) value Skipped
       → Carries environment defaults old old table (ReadCommand of at) reply table' Nothing
-  read_written is at h value reply stood has so = subst (λ (r : Reply T U). Carries environment defaults old old table (ReadCommand of at) r table' Nothing) (sym so)
-      (reads is at (cond (eqb at 0) (Cell (Some value)) Skipped) (λ m s handles events shown w default_value default_header.
+  read_written is at h value reply stood has so = subst (λ (r : Reply T U). Carries environment defaults old old table (ReadCommand of at) r table' Nothing) (sym (so ∙ value_cell value))
+      (reads is at (option_map_or (λ it. Cell it) (option_map Some value) Skipped) (λ m s handles events shown w default_value default_header.
       let stand = entry-stands table of (Written h) stood (λ e. let clash : Written h ≡ Nothing = e in cc) in
       let named = has_written s handles events (map entry_for table) w of h.service_id h.loan.publisher h.loan.number stand in
       let read = has m s shown in
-      read_loan m s handles default_value default_header at h.loan.number named.0 (Some value)
+      read_loan m s handles default_value default_header at h.loan.number named.0 (option_map Some value)
       (lacks_sample s handles events (map entry_for table) w of (lacks is_sample_entry refl table of (ap (λ (v : Made). is_sample_entry (entry_for v)) stood))) named.2
-      (ap (λ (l : Loan T U). l.cells) (same_Some named.0 read.0 (sym named.3 ∙ read.1)) ∙ read.2)))
+      (ap (λ (l : Loan T U). slice_get l.cells at) (same_Some named.0 read.0 (sym named.3 ∙ read.1)) ∙ read.2)))
 
-  pub read_sampled : table' ≡ table → (at : ℕ) (h : SampleHandle) (value : T) (reply : Reply T U) → slice_index_or table of Nothing ≡ MadeSample h
-      → ((m : Messages T U) (s : State T U) → Shows old m s → (entry : Entry T U) × (m h.sample.number ≡ Some entry) × (entry.values ≡ value ∷ [])) → reply ≡ cond (eqb at 0) (Cell (Some value)) Skipped
+  pub read_sampled : table' ≡ table → (at : ℕ) (h : SampleHandle) (value : Option T) (reply : Reply T U) → slice_index_or table of Nothing ≡ MadeSample h
+      → MessageHasAt old h.sample.number at value → reply ≡ option_map_or (λ it. Cell (Some it)) value Skipped
       → Carries environment defaults old old table (ReadCommand of at) reply table' Nothing
   read_sampled is at h value reply stood has so = subst (λ (r : Reply T U). Carries environment defaults old old table (ReadCommand of at) r table' Nothing) (sym so)
-      (reads is at (cond (eqb at 0) (Cell (Some value)) Skipped) (λ m s handles events shown w default_value default_header.
+      (reads is at (option_map_or (λ it. Cell (Some it)) value Skipped) (λ m s handles events shown w default_value default_header.
       let stand = entry-stands table of (MadeSample h) stood (λ e. let clash : MadeSample h ≡ Nothing = e in cc) in
       let read = has m s shown in
       read_sample m s handles default_value default_header at h.origin h.sample.subscriber h.sample.number read.0 value

@@ -1,24 +1,27 @@
 -- The list that fills every slot of its publisher is one that `run` carries out.
-use Rattle.std.proofs.Common.{◌≡◌, ℕ, zero, suc, ◌+◌, ◌*◌, List, [], ◌∷◌, ◌++◌, replicate, refl, sym, subst, None}
+use Rattle.std.proofs.Common.{◌≡◌, ℕ, zero, suc, ◌+◌, ◌*◌, List, [], ◌∷◌, ◌++◌, replicate, refl, None}
 use Rattle.std.specs.List.{All, AllByRecursion}
 use Rattle.std.proofs.lemmas.List.Elements.{All-nil, All-cons, All-append, All-replicate, All-from_recursion}
 use Rattle.iox2_store.specs.machine.Limits.{buffer_limit}
 use Rattle.iox2_store.specs.declared.degradation.DegradationAction.TheVariants.{Warn}
 use Rattle.iox2_store.specs.declared.service_config.ServiceConfig.{ServiceConfig}
 use Rattle.iox2_store.specs.declared.service_config.TypeVariant.{TypeVariant}
-use Rattle.iox2_store.specs.declared.service_config.TypeVariant.TheVariants.{FixedSize}
+use Rattle.iox2_store.specs.declared.service_config.TypeVariant.TheVariants.{FixedSize, Dynamic}
 use Rattle.iox2_commands.specs.FillingCommands.{publisher_command, loan_command, sends, rounds, subscriber_filled, subscribers_filled, filling_length, filling_commands}
 use Rattle.iox2_commands.specs.declared.command.Command.{Command}
 use Rattle.iox2_commands.specs.declared.command.Command.TheVariants.{CreateSubscriber, Update}
 use Rattle.iox2_runs.specs.Supported.{IsSupportedCommand, FillingIsSupported}
 
-module _ {T : Type 0} (U : Type 0) (c : ServiceConfig) (value : T) (single : c.variant ≡ FixedSize) where
+module _ {T : Type 0} (U : Type 0) (c : ServiceConfig) (value : T) where
   -- a list of commands that `run` carries out
   abbrev Supported : List (Command T U) → Type 0
   Supported = All IsSupportedCommand
 
   loan_supported : IsSupportedCommand (loan_command {T = T} {U = U} c.variant)
-  loan_supported = subst (λ (variant : TypeVariant). IsSupportedCommand (loan_command {T = T} {U = U} variant)) (sym single) tt
+  loan_supported = by c.variant where
+    by : (variant : TypeVariant) → IsSupportedCommand (loan_command {T = T} {U = U} variant)
+    by FixedSize = tt
+    by Dynamic = tt
 
   -- what each of the first commands is, and then the others
   sends_by : (position count : ℕ) → AllByRecursion (IsSupportedCommand {T = T} {U = U}) (sends c.variant value position count)
@@ -51,8 +54,8 @@ module _ {T : Type 0} (U : Type 0) (c : ServiceConfig) (value : T) (single : c.v
 
 -- `run` carries out the whole list.
 pub filling_is_supported : {T U : Type 0} → FillingIsSupported T U
-filling_is_supported {T} {U} c loans value single =
+filling_is_supported {T} {U} c loans value =
     let filled : List (Command T U) = subscribers_filled c value 1 c.max_subscribers in
     All-append IsSupportedCommand (publisher_command loans None ∷ filled) (replicate loans (loan_command c.variant))
-    (All-cons IsSupportedCommand (publisher_command loans None) filled (refl, refl, refl, refl, refl) (subscribers_supported U c value single 1 c.max_subscribers))
-    (All-replicate IsSupportedCommand loans (loan_command c.variant) (loan_supported U c value single))
+    (All-cons IsSupportedCommand (publisher_command loans None) filled (refl, refl, refl, refl, refl) (subscribers_supported U c value 1 c.max_subscribers))
+    (All-replicate IsSupportedCommand loans (loan_command c.variant) (loan_supported U c value))

@@ -46,6 +46,10 @@ module _ {T U : Type 0} (old new : Domain T U) (table : List Made) where
   leaves-making stays made is = λ start before are.
       (stays-on start old before No_item new (nothing-is-new start) stays, are, new-since start old before (item_of made) is)
 
+  -- so where what it used is back in its place
+  pub leaves-making-here : (table' : List Made) → table' ≡ table → Stays old new → (made : Made) → IsNewIn old (item_of made) → Leaves old new table table' made
+  leaves-making-here table' same stays made is = subst (λ (t : List Made). Leaves old new table t made) (sym same) (leaves-making stays made is)
+
   -- one that spends what stands at a position, and may leave the same there as another handle
   pub leaves-spending : (table' : List Made) (of : ℕ) (made made' : Made) → slice_index_or table of Nothing ≡ made → StaysBut (item_of made) old new
       → ((start : Domain T U) → IsNewIn start (item_of made) → IsNewIn start (item_of made')) → table' ≡ slice_set table of made' → Leaves old new table table' Nothing

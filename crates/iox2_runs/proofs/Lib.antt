@@ -6,7 +6,6 @@ pub mod TableSamples
 pub mod RunsOn
 pub mod TableEntries
 pub mod LiveEntries
-pub mod SingleStates
 pub mod RunLoop
 pub mod CarriedLoans
 pub mod CarriedDiscards
@@ -23,3 +22,7 @@ pub mod TableChanges
 pub mod CarriedCopies
 pub mod CarriedChanges
 pub mod CarriedHeaders
+pub mod CarriedSlices
+pub mod CellLists
+pub mod CellViews
+pub mod Services

@@ -4,8 +4,8 @@ use Rattle.std.specs.Prelude.{slice_index_or}
 use Rattle.iox2_store.specs.machine.State.{State}
 use Rattle.iox2_domain.specs.Kept.{Kept as Domain, state_of}
 use Rattle.iox2_store.specs.machine.Mailbox.{is_borrowed}
-use Rattle.iox2_pubsub.specs.Live.{IsSingleValued, IsLivePublisher, IsLiveSubscriber, IsUnwrittenLoan, IsWrittenLoan, IsLiveSample}
-use Rattle.iox2_pubsub.proofs.LiveParts.{single-valued, publisher-live, subscriber-live, unwritten-live, written-live, sample-live}
+use Rattle.iox2_pubsub.specs.Live.{IsLivePublisher, IsLiveSubscriber, IsUnwrittenLoan, IsWrittenLoan, IsLiveSample}
+use Rattle.iox2_pubsub.proofs.LiveParts.{publisher-live, subscriber-live, unwritten-live, written-live, sample-live}
 use Rattle.iox2_pubsub.specs.declared.publisher.Publisher.{Publisher as PublisherHandle}
 use Rattle.iox2_pubsub.specs.declared.subscriber.Subscriber.{Subscriber as SubscriberHandle}
 use Rattle.iox2_pubsub.specs.declared.sample_mut_uninit.SampleMutUninit.{SampleMutUninit}
@@ -36,20 +36,20 @@ module _ {T U : Type 0} (domain : Domain T U) (table : List Made) (keeps : IsLiv
       let v = (has_entry (MadeSubscriber h) at (λ e. let clash : MadeSubscriber h ≡ Nothing = e in cc)).1 in
       subscriber-live domain _ (refl, v.0, (v.2, v.3, v.4))
 
-  pub live_unwritten : (h : SampleMutUninit) → slice_index_or table of Nothing ≡ Unwritten h → IsUnwrittenLoan domain h × IsSingleValued domain
+  pub live_unwritten : (h : SampleMutUninit) → slice_index_or table of Nothing ≡ Unwritten h → IsUnwrittenLoan domain h
   live_unwritten h at =
       let v = (has_entry (Unwritten h) at (λ e. let clash : Unwritten h ≡ Nothing = e in cc)).1 in
-      (unwritten-live domain h v.0 (v.2).0, single-valued domain (v.3).0 (v.3).1)
+      unwritten-live domain h v.0 (v.2).0
 
-  pub live_written : (h : SampleMut) → slice_index_or table of Nothing ≡ Written h → IsWrittenLoan domain h × IsSingleValued domain
+  pub live_written : (h : SampleMut) → slice_index_or table of Nothing ≡ Written h → IsWrittenLoan domain h
   live_written h at =
       let v = (has_entry (Written h) at (λ e. let clash : Written h ≡ Nothing = e in cc)).1 in
-      (written-live domain h v.0 (v.2).0, single-valued domain (v.3).0 (v.3).1)
+      written-live domain h v.0 (v.2).0
 
-  pub live_sample : (h : SampleHandle) → slice_index_or table of Nothing ≡ MadeSample h → IsLiveSample domain h × IsSingleValued domain
+  pub live_sample : (h : SampleHandle) → slice_index_or table of Nothing ≡ MadeSample h → IsLiveSample domain h
   live_sample h at =
       let v = (has_entry (MadeSample h) at (λ e. let clash : MadeSample h ≡ Nothing = e in cc)).1 in
-      (sample-live domain _ (v.0, (h.origin, v.2)), single-valued domain (v.3).0 (v.3).1)
+      sample-live domain _ (v.0, (h.origin, v.2))
 
   -- its message is borrowed from its publisher
   pub borrowed_there : (h : SampleHandle) → slice_index_or table of Nothing ≡ MadeSample h → is_borrowed h.sample.number ((state_of domain).mailboxes h.origin h.sample.subscriber) ≡ true

@@ -97,7 +97,7 @@ module _ {T U : Type 0} (environment : Environment) (defaults : Defaults T U) (S
         shown = shown l found.3;
         follows = λ once. table_next s s' handles events table w No_handle No_event No_entry (slice_set table of (Written_entry service p n)) (omega arith) (set_length table of (Written_entry service p n))
             (others_still s s' handles events table w of named.0 (Written_entry service p n) (ports-keep named.0 s s' stay.remain (loan_set_comes s n (Some (written l value)))) named.1
-            ((named.2).0, (named.2).1, ((written l value, put_at-same s.loans n (Some (written l value)), found.4, refl), ((named.2).2).1, ((named.2).2).2), (named.2).3)
+            ((named.2).0, (named.2).1, ((written l value, put_at-same s.loans n (Some (written l value)), found.4, refl), ((named.2).2).1, ((named.2).2).2))
             (λ k low other. put_at-other s.loans n (Some (written l value)) k (ne_eqb k n (λ e. other ((named.2).1 ∙ ap Loan_handle (sym e)))))
             (λ i p q n _ _. refl))
             tt (no_port s s' (loan_set_comes s n (Some (written l value)))) (λ n e. let clash : No_handle ≡ Loan_handle n = e in absurd (cc)) (λ p q n e. let clash : No_handle ≡ Sample_handle p q n = e in absurd (cc)) once;

@@ -12,7 +12,7 @@ use Rattle.iox2_store.specs.machine.SingleCalls.{GrantWrittenLoan}
 use Rattle.iox2_store.specs.machine.State.{State, Messages, with_loan}
 use Rattle.iox2_store.specs.declared.errors.LoanError.{LoanError}
 use Rattle.iox2_store.specs.declared.errors.SendError.TheVariants.{LoanError as NotLoaned}
-use Rattle.iox2_store.specs.declared.service_config.ServiceConfig.{ServiceConfig}
+use Rattle.iox2_store.specs.SingleValues.{is_single_valued}
 use Rattle.iox2_laws.proofs.LoanKeeping.{send_loans}
 use Rattle.iox2_laws.proofs.NextLoan.{IsNextLoan, loan_next, loan_refused}
 use Rattle.iox2_laws.proofs.PortsCome.{PortsCome, ports_come_themselves, ports_come_trans, grant_loan_comes, loan_set_comes, send_comes as machine_send_comes}
@@ -24,11 +24,12 @@ use Rattle.iox2_commands.specs.Runs.{Defaults}
 use Rattle.iox2_commands.specs.Step.{if_single_units, if_fixed_size, unblocked_at}
 use Rattle.iox2_commands.specs.declared.command.Command.TheVariants.{Loan as LoanDefault, SendCopy}
 use Rattle.iox2_commands.specs.declared.reply.Reply.TheVariants.{Skipped, Loaned, LoanRefused, Delivered, SendRefused}
-use Rattle.iox2_runs.specs.Tables.{port_of, TableEntry, No_entry, Publisher_entry, Written_entry, IsSingle, IsTable}
+use Rattle.iox2_runs.specs.Tables.{port_of, TableEntry, No_entry, Publisher_entry, Written_entry, IsTable}
 use Rattle.iox2_runs.specs.RunSteps.{Comes}
 use Rattle.iox2_runs.proofs.TableCalls.{quiet_comes, skip_comes, at_none, at_some, no_port}
 use Rattle.iox2_runs.proofs.TableLooks.{Lacks, is_publisher_entry, lacks_publisher, has_publisher, handle_of}
-use Rattle.iox2_runs.proofs.TableMakes.{loan_any, none_named, other_service, this_service}
+use Rattle.iox2_runs.proofs.Services.{single_named, single_elsewhere, single_nothing}
+use Rattle.iox2_runs.proofs.TableMakes.{loan_any}
 use Rattle.iox2_runs.proofs.TableSteps.{table_next, all_still}
 
 -- ---- a loan that is granted and written
@@ -82,11 +83,10 @@ module _ {T U : Type 0} (environment : Environment) (defaults : Defaults T U) (S
     (events : List (Event T U)) (table : List TableEntry) (w : IsTable s handles events table) (default_value : T) (default_header : U)
     (is_default_value : defaults.IsDefaultValue default_value) (is_default_header : defaults.IsDefaultHeader default_header) where
   nothing_named : (of : ℕ) → Lacks is_publisher_entry table of → if_single_units s (if_fixed_size s (unblocked_at s handles of)) ≡ None
-  nothing_named of absent =
-      none_named environment defaults Shown m s handles events table w default_value default_header is_default_value is_default_header (unblocked_at s handles of) (lacks_publisher s handles events table w of absent)
+  nothing_named of absent = single_nothing s (unblocked_at s handles of) (lacks_publisher s handles events table w of absent)
 
-  elsewhere : (of : ℕ) → (IsSingle s → ⊥) → if_single_units s (if_fixed_size s (unblocked_at s handles of)) ≡ None
-  elsewhere of other = other_service environment defaults Shown m s handles events table w default_value default_header is_default_value is_default_header (unblocked_at s handles of) other
+  elsewhere : (of : ℕ) → is_single_valued s.config ≡ false → if_single_units s (if_fixed_size s (unblocked_at s handles of)) ≡ None
+  elsewhere of other = single_elsewhere s (unblocked_at s handles of) other
 
   -- what is named is free
   unblocked : (of service p : ℕ) → slice_get table of ≡ Some (Publisher_entry service p) → (x : Publisher) → s.publishers p ≡ Some x → x.blocked ≡ None
@@ -104,10 +104,10 @@ module _ {T U : Type 0} (environment : Environment) (defaults : Defaults T U) (S
   pub default_skipped : (of : ℕ) → Lacks is_publisher_entry table of → Shown m s → Comes environment defaults Shown m s handles events (LoanDefault of) Skipped (table ++ No_entry ∷ [])
   default_skipped of absent shown = skip_comes environment defaults Shown m s handles events table w default_value default_header is_default_value is_default_header (LoanDefault of) (at_none _ _ _ (nothing_named of absent) refl) shown
 
-  pub default_elsewhere : (of : ℕ) → (IsSingle s → ⊥) → Shown m s → Comes environment defaults Shown m s handles events (LoanDefault of) Skipped (table ++ No_entry ∷ [])
+  pub default_elsewhere : (of : ℕ) → is_single_valued s.config ≡ false → Shown m s → Comes environment defaults Shown m s handles events (LoanDefault of) Skipped (table ++ No_entry ∷ [])
   default_elsewhere of other shown = skip_comes environment defaults Shown m s handles events table w default_value default_header is_default_value is_default_header (LoanDefault of) (at_none _ _ _ (elsewhere of other) refl) shown
 
-  pub default_comes : (of service p : ℕ) → slice_get table of ≡ Some (Publisher_entry service p) → IsSingle s
+  pub default_comes : (of service p : ℕ) → slice_get table of ≡ Some (Publisher_entry service p) → is_single_valued s.config ≡ true
       → (value : T) → defaults.IsDefaultValue value → (header : U) → defaults.IsDefaultHeader header
       → (s' : State T U) → GrantWrittenLoan environment value header false 1 s p s' None → Shown m s'
       → (new_service : ℕ) → new_service ≡ (s'.config).service_id
@@ -124,7 +124,7 @@ module _ {T U : Type 0} (environment : Environment) (defaults : Defaults T U) (S
         is_default_header = is_header;
         outcome = outcome Loaned (Loan_handle s.next_message) s';
         step = at_some _ _ _ (p, found.0)
-            (this_service environment defaults Shown m s handles events table w default_value default_header is_default_value is_default_header (unblocked_at s handles of) single ∙ found.1)
+            (single_named s (unblocked_at s handles of) single ∙ found.1)
             (s', None, h, refl);
         replied = refl;
         shown = shown;
@@ -137,21 +137,20 @@ module _ {T U : Type 0} (environment : Environment) (defaults : Defaults T U) (S
                 (let up = come.next_port in omega (arith, below, up)),
                 λ x there. let before = come.publishers p x below there in before.2 (unblocked of service p at before.0 before.1),
               ),
-              (ap (λ (c : ServiceConfig). c.variant) (stay.remain).config ∙ single.0, ap (λ (c : ServiceConfig). c.units_per_element) (stay.remain).config ∙ single.1),
             )
             (come.next_port, λ i e. absurd (none-some i e))
             (λ n e. let same : s.next_message ≡ n = cc in (omega arith, omega (arith, rises)))
             (λ p q n e. let clash : Loan_handle s.next_message ≡ Sample_handle p q n = e in absurd (cc)) once;
       }
 
-  pub default_refused_comes : (of service p : ℕ) → slice_get table of ≡ Some (Publisher_entry service p) → IsSingle s
+  pub default_refused_comes : (of service p : ℕ) → slice_get table of ≡ Some (Publisher_entry service p) → is_single_valued s.config ≡ true
       → (s' : State T U) (e : LoanError) → GrantWrittenLoan environment default_value default_header false 1 s p s' (Some e) → Shown m s'
       → Comes environment defaults Shown m s handles events (LoanDefault of) (LoanRefused e) (table ++ No_entry ∷ [])
   default_refused_comes of service p at single s' e h shown =
       let found = has_publisher s handles events table w of service p at in
       let same : s' ≡ s = copied-refused environment s p default_value default_header s' e h in
       quiet_comes environment defaults Shown m s handles events table w default_value default_header is_default_value is_default_header (LoanDefault of) (LoanRefused e) s'
-      (at_some _ _ _ (p, found.0) (this_service environment defaults Shown m s handles events table w default_value default_header is_default_value is_default_header (unblocked_at s handles of) single ∙ found.1) (s', Some e, h, refl)) shown
+      (at_some _ _ _ (p, found.0) (single_named s (unblocked_at s handles of) single ∙ found.1) (s', Some e, h, refl)) shown
       (subst (PortsStay s) (sym same) (ports_stay_themselves s)) (subst (PortsCome s) (sym same) (ports_come_themselves s))
       (λ n _. ap (λ (t : State T U). t.loans n) same) (subst (λ (t : State T U). s.next_message ≤ t.next_message) (sym same) (omega arith))
 
@@ -160,10 +159,10 @@ module _ {T U : Type 0} (environment : Environment) (defaults : Defaults T U) (S
   pub copy_skipped : (of : ℕ) (value : T) → Lacks is_publisher_entry table of → Shown m s → Comes environment defaults Shown m s handles events (SendCopy of value) Skipped (table ++ No_entry ∷ [])
   copy_skipped of value absent shown = skip_comes environment defaults Shown m s handles events table w default_value default_header is_default_value is_default_header (SendCopy of value) (at_none _ _ _ (nothing_named of absent) refl) shown
 
-  pub copy_elsewhere : (of : ℕ) (value : T) → (IsSingle s → ⊥) → Shown m s → Comes environment defaults Shown m s handles events (SendCopy of value) Skipped (table ++ No_entry ∷ [])
+  pub copy_elsewhere : (of : ℕ) (value : T) → is_single_valued s.config ≡ false → Shown m s → Comes environment defaults Shown m s handles events (SendCopy of value) Skipped (table ++ No_entry ∷ [])
   copy_elsewhere of value other shown = skip_comes environment defaults Shown m s handles events table w default_value default_header is_default_value is_default_header (SendCopy of value) (at_none _ _ _ (elsewhere of other) refl) shown
 
-  pub copy_comes : (of service p count : ℕ) (value : T) → slice_get table of ≡ Some (Publisher_entry service p) → IsSingle s
+  pub copy_comes : (of service p count : ℕ) (value : T) → slice_get table of ≡ Some (Publisher_entry service p) → is_single_valued s.config ≡ true
       → (header : U) → defaults.IsDefaultHeader header → (mid : State T U) → GrantWrittenLoan environment value header false 1 s p mid None
       → (l : Loan T U) → mid.loans s.next_message ≡ Some l → (s' : State T U) → Send environment mid s.next_message l s' (Delivered_to count) → mid.next_message ≤ s'.next_message
       → Shown (put_at m s.next_message (Some (entry_of l))) s'
@@ -181,7 +180,7 @@ module _ {T U : Type 0} (environment : Environment) (defaults : Defaults T U) (S
         is_default_value = is_default_value;
         is_default_header = is_header;
         outcome = record { reply = Delivered count; handle = No_handle; event = Message_sent l.publisher s.next_message (entry_of l); state = s' };
-        step = at_some _ _ _ (p, found.0) (this_service environment defaults Shown m s handles events table w default_value default_header is_default_value is_default_header (unblocked_at s handles of) single ∙ found.1)
+        step = at_some _ _ _ (p, found.0) (single_named s (unblocked_at s handles of) single ∙ found.1)
             (mid, None, h, at_some _ _ _ l there (s', Delivered_to count, sends, refl));
         replied = refl;
         shown = shown;
@@ -193,13 +192,13 @@ module _ {T U : Type 0} (environment : Environment) (defaults : Defaults T U) (S
             tt (no_port s s' come) (λ n e. let clash : No_handle ≡ Loan_handle n = e in absurd (cc)) (λ p q n e. let clash : No_handle ≡ Sample_handle p q n = e in absurd (cc)) once;
       }
 
-  pub copy_refused_comes : (of service p : ℕ) (value : T) → slice_get table of ≡ Some (Publisher_entry service p) → IsSingle s
+  pub copy_refused_comes : (of service p : ℕ) (value : T) → slice_get table of ≡ Some (Publisher_entry service p) → is_single_valued s.config ≡ true
       → (s' : State T U) (e : LoanError) → GrantWrittenLoan environment value default_header false 1 s p s' (Some e) → Shown m s'
       → Comes environment defaults Shown m s handles events (SendCopy of value) (SendRefused (NotLoaned e)) (table ++ No_entry ∷ [])
   copy_refused_comes of service p value at single s' e h shown =
       let found = has_publisher s handles events table w of service p at in
       let same : s' ≡ s = copied-refused environment s p value default_header s' e h in
       quiet_comes environment defaults Shown m s handles events table w default_value default_header is_default_value is_default_header (SendCopy of value) (SendRefused (NotLoaned e)) s'
-      (at_some _ _ _ (p, found.0) (this_service environment defaults Shown m s handles events table w default_value default_header is_default_value is_default_header (unblocked_at s handles of) single ∙ found.1) (s', Some e, h, refl)) shown
+      (at_some _ _ _ (p, found.0) (single_named s (unblocked_at s handles of) single ∙ found.1) (s', Some e, h, refl)) shown
       (subst (PortsStay s) (sym same) (ports_stay_themselves s)) (subst (PortsCome s) (sym same) (ports_come_themselves s))
       (λ n _. ap (λ (t : State T U). t.loans n) same) (subst (λ (t : State T U). s.next_message ≤ t.next_message) (sym same) (omega arith))

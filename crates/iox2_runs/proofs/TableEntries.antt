@@ -33,6 +33,12 @@ set_again [] of first second = refl
 set_again (h ∷ table) zero first second = refl
 set_again (h ∷ table) (suc of) first second = ap (λ hs. h ∷ hs) (set_again table of first second)
 
+-- nor is anything changed where what stands there is set
+pub set_same : (table : List Made) (of : ℕ) → slice_set table of (slice_index_or table of Nothing) ≡ table
+set_same [] of = refl
+set_same (h ∷ table) zero = refl
+set_same (h ∷ table) (suc of) = ap (λ hs. h ∷ hs) (set_same table of)
+
 -- what stands at a position, where something does
 pub entry-stands : (table : List Made) (of : ℕ) (made : Made) → slice_index_or table of Nothing ≡ made → (made ≡ Nothing → ⊥) → slice_get (map entry_for table) of ≡ Some (entry_for made)
 entry-stands [] of made at some = absurd (some (sym at))

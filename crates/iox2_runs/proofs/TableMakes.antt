@@ -4,6 +4,7 @@ use Rattle.std.specs.Bool.{MatchBool}
 use Rattle.std.specs.Prelude.{MatchOption, ◌==◌, nat_lt, slice_get}
 use Rattle.std.proofs.lemmas.Option.{none-some, same_Some}
 use Rattle.std.proofs.lemmas.Bool.{eqb-true, eq-eqb}
+use Rattle.iox2_store.specs.SingleValues.{is_single_valued}
 use Rattle.iox2_store.specs.machine.Limits.{last_number, buffer_limit}
 use Rattle.iox2_store.specs.machine.Places.{free_place}
 use Rattle.iox2_store.specs.machine.Records.{Loan, Publisher, Subscriber, Environment, PublisherSettings, SubscriberSettings, Fixed}
@@ -26,13 +27,14 @@ use Rattle.iox2_store.specs.declared.warning.Warning.TheVariants.{PublisherPartl
 use Rattle.iox2_laws.proofs.Cases.{by_option, by_bool}
 use Rattle.iox2_laws.proofs.Puts.{put_at-same}
 use Rattle.iox2_laws.proofs.LoanKeeping.{create_publisher_loans, create_subscriber_loans}
-use Rattle.iox2_commands.specs.Outcomes.{Handle, Publisher_handle, Subscriber_handle, Loan_handle, Sample_handle, Event, No_event, outcome}
+use Rattle.iox2_commands.specs.Outcomes.{Handle, Publisher_handle, Subscriber_handle, Loan_handle, Sample_handle, Event, No_event, outcome, replied}
 use Rattle.iox2_commands.specs.Runs.{Defaults}
-use Rattle.iox2_commands.specs.Step.{Step, publisher_settings, if_single_units, if_fixed_size, unblocked_at}
-use Rattle.iox2_runs.specs.Tables.{port_of, TableEntry, No_entry, Publisher_entry, Subscriber_entry, Unwritten_entry, IsFree, IsSingle, IsEntryOf, IsTable}
+use Rattle.iox2_commands.specs.Step.{Step, publisher_settings, unblocked_at}
+use Rattle.iox2_runs.specs.Tables.{port_of, TableEntry, No_entry, Publisher_entry, Subscriber_entry, Unwritten_entry, IsFree, IsEntryOf, IsTable}
 use Rattle.iox2_runs.specs.RunSteps.{Comes}
+use Rattle.iox2_runs.specs.Services.{has_slices}
 use Rattle.iox2_commands.specs.declared.command.Command.{Command}
-use Rattle.iox2_commands.specs.declared.command.Command.TheVariants.{CreatePublisher as PublisherCommand, CreateSubscriber as SubscriberCommand, LoanUninit}
+use Rattle.iox2_commands.specs.declared.command.Command.TheVariants.{CreatePublisher as PublisherCommand, CreateSubscriber as SubscriberCommand, LoanUninit, LoanSlice}
 use Rattle.iox2_commands.specs.declared.reply.Reply.{Reply}
 use Rattle.iox2_commands.specs.declared.reply.Reply.TheVariants.{Skipped, PublisherMade, PublisherRefused, SubscriberMade, SubscriberRefused, Loaned, LoanRefused}
 use Rattle.iox2_laws.proofs.PortsCome.{PortsCome, ports_come_trans, update_publisher_comes, update_subscriber_comes, warning_comes, create_publisher_comes, create_subscriber_comes, grant_loan_comes}
@@ -41,6 +43,7 @@ use Rattle.iox2_runs.proofs.TableSteps.{table_next, all_still}
 use Rattle.iox2_runs.proofs.TableLooks.{Lacks, is_publisher_entry, lacks_publisher, has_publisher, handle_of}
 use Rattle.iox2_laws.proofs.SamplesStay.{same_borrowed}
 use Rattle.iox2_laws.proofs.NextLoan.{IsNextLoan, loan_next, loan_refused}
+use Rattle.iox2_runs.proofs.Services.{single_named, single_elsewhere, single_nothing, slice_named, slice_elsewhere, slice_nothing}
 use Rattle.iox2_runs.proofs.TableCalls.{quiet_comes, skip_comes, at_none, at_some}
 
 module _ {T U : Type 0} (environment : Environment) (s : State T U) where
@@ -163,56 +166,17 @@ module _ {T U : Type 0} (environment : Environment) (defaults : Defaults T U) (S
 
   -- ---- a loan
 
-  -- in another service nothing is named
-  pub other_service : {A : Type 0} (o : Option A) → (IsSingle s → ⊥) → if_single_units s (if_fixed_size s o) ≡ None
-  other_service {A} o other = by (eqb (s.config).units_per_element 1) refl where
-    nothing : Option A
-    nothing = None
-
-    by : (b : Bool) → eqb (s.config).units_per_element 1 ≡ b → cond b (if_fixed_size s o) nothing ≡ nothing
-    by false e = refl
-    by true e = kind (s.config).variant refl where
-      kind : (v : TypeVariant) → (s.config).variant ≡ v → elim v [ FixedSize ↦ o | Dynamic ↦ nothing ] ≡ nothing
-      kind FixedSize f = absurd (other (f, eqb-true (s.config).units_per_element 1 e))
-      kind Dynamic f = refl
-
-  -- in this service what is named is named
-  pub this_service : {A : Type 0} (o : Option A) → IsSingle s → if_single_units s (if_fixed_size s o) ≡ o
-  this_service {A} o single =
-      ap (λ b. cond b (if_fixed_size s o) None) (eq-eqb (s.config).units_per_element 1 single.1)
-      ∙ ap (λ (v : TypeVariant). elim v [ FixedSize ↦ o | Dynamic ↦ None ]) single.0
-
-  -- nothing is named in any service
-  pub none_named : {A : Type 0} (o : Option A) → o ≡ None → if_single_units s (if_fixed_size s o) ≡ None
-  none_named {A} o e = by (eqb (s.config).units_per_element 1) (s.config).variant where
-    nothing : Option A
-    nothing = None
-
-    by : (b : Bool) (v : TypeVariant) → cond b (elim v [ FixedSize ↦ o | Dynamic ↦ nothing ]) nothing ≡ nothing
-    by false v = refl
-    by true FixedSize = e
-    by true Dynamic = refl
-
-  pub loan_skipped : (of : ℕ) → Lacks is_publisher_entry table of → Shown m s → Comes environment defaults Shown m s handles events (LoanUninit of) Skipped (table ++ No_entry ∷ [])
-  loan_skipped of absent shown =
-      skip_comes environment defaults Shown m s handles events table w default_value default_header is_default_value is_default_header (LoanUninit of)
-      (at_none _ _ _ (none_named (unblocked_at s handles of) (lacks_publisher s handles events table w of absent)) refl) shown
-
-  pub loan_elsewhere : (of : ℕ) → (IsSingle s → ⊥) → Shown m s → Comes environment defaults Shown m s handles events (LoanUninit of) Skipped (table ++ No_entry ∷ [])
-  loan_elsewhere of other shown =
-      skip_comes environment defaults Shown m s handles events table w default_value default_header is_default_value is_default_header (LoanUninit of)
-      (at_none _ _ _ (other_service (unblocked_at s handles of) other) refl) shown
-
-  pub loan_comes : (of service p : ℕ) → slice_get table of ≡ Some (Publisher_entry service p) → IsSingle s
-      → (header : U) → defaults.IsDefaultHeader header → (s' : State T U) → GrantLoan environment header false 1 s p s' None → Shown m s'
+  -- what a command that asks a publisher for an uninitialised loan comes to, where it is granted
+  granted_comes : (command : Command T U) (of service p : ℕ) → slice_get table of ≡ Some (Publisher_entry service p)
+      → (header : U) → defaults.IsDefaultHeader header → (checks_length : Bool) (len : ℕ) (s' : State T U) → GrantLoan environment header checks_length len s p s' None
+      → Step environment default_value header m s handles command (outcome Loaned (Loan_handle s.next_message) s') → Shown m s'
       → (new_service : ℕ) → new_service ≡ (s'.config).service_id
-      → Comes environment defaults Shown m s handles events (LoanUninit of) Loaned (table ++ Unwritten_entry new_service p s.next_message ∷ [])
-  loan_comes of service p at single header is_default s' h shown new_service ours =
-      let found = has_publisher s handles events table w of service p at in
+      → Comes environment defaults Shown m s handles events command Loaned (table ++ Unwritten_entry new_service p s.next_message ∷ [])
+  granted_comes command of service p at header is_default checks_length len s' h step shown new_service ours =
       let named = handle_of s handles events table w of (Publisher_entry service p) at in
-      let stay : PortsStay s s' = grant_loan_stays environment header false 1 s p s' None h in
-      let next : IsNextLoan environment s p s' = loan_next environment s header false 1 p s' h in
-      let come : PortsCome s s' = grant_loan_comes environment header false 1 s p s' None h in
+      let stay : PortsStay s s' = grant_loan_stays environment header checks_length len s p s' None h in
+      let next : IsNextLoan environment s p s' = loan_next environment s header checks_length len p s' h in
+      let come : PortsCome s s' = grant_loan_comes environment header checks_length len s p s' None h in
       let known : p < s.next_port = w.ports_below of p named.0 named.1 (ap port_of (named.2).1) in
       let unblocked : (x : Publisher) → s.publishers p ≡ Some x → x.blocked ≡ None =
       λ x there. ap (λ (v : Publisher). v.blocked) (same_Some x ((named.2).2).0 (sym there ∙ ((named.2).2).1)) ∙ ((named.2).2).2 in record {
@@ -221,7 +185,7 @@ module _ {T U : Type 0} (environment : Environment) (defaults : Defaults T U) (S
         is_default_value = is_default_value;
         is_default_header = is_default;
         outcome = outcome Loaned (Loan_handle s.next_message) s';
-        step = at_some _ _ _ (p, found.0) (this_service (unblocked_at s handles of) single ∙ found.1) (s', None, h, refl);
+        step = step;
         replied = refl;
         shown = shown;
         follows = λ once. table_next s s' handles events table w (Loan_handle s.next_message) No_event (Unwritten_entry new_service p s.next_message) table (omega (arith, next.next)) refl
@@ -233,22 +197,80 @@ module _ {T U : Type 0} (environment : Environment) (defaults : Defaults T U) (S
                 (let up = come.next_port in omega (arith, known, up)),
                 λ x there. let before = come.publishers p x known there in before.2 (unblocked before.0 before.1),
               ),
-              (ap (λ (c : ServiceConfig). c.variant) (stay.remain).config ∙ single.0, ap (λ (c : ServiceConfig). c.units_per_element) (stay.remain).config ∙ single.1),
             )
             (come.next_port, λ i e. absurd (none-some i e))
             (λ n e. let same : s.next_message ≡ n = cc in (omega arith, omega (arith, next.next)))
             (λ p q n e. let clash : Loan_handle s.next_message ≡ Sample_handle p q n = e in absurd (cc)) once;
       }
 
-  pub loan_refused_comes : (of service p : ℕ) → slice_get table of ≡ Some (Publisher_entry service p) → IsSingle s
+  -- and where it is refused
+  denied_comes : (command : Command T U) (p : ℕ) (header : U) → defaults.IsDefaultHeader header → (checks_length : Bool) (len : ℕ) (s' : State T U) (e : LoanError)
+      → GrantLoan environment header checks_length len s p s' (Some e)
+      → Step environment default_value header m s handles command (replied (LoanRefused e) s') → Shown m s'
+      → Comes environment defaults Shown m s handles events command (LoanRefused e) (table ++ No_entry ∷ [])
+  denied_comes command p header is_default checks_length len s' e h step shown =
+      let same : s' ≡ s = loan_refused environment s header checks_length len p s' e h in
+      quiet_comes environment defaults Shown m s handles events table w default_value header is_default_value is_default command (LoanRefused e) s' step shown
+      (grant_loan_stays environment header checks_length len s p s' (Some e) h) (grant_loan_comes environment header checks_length len s p s' (Some e) h)
+      (λ n _. ap (λ (t : State T U). t.loans n) same) (subst (λ (t : State T U). s.next_message ≤ t.next_message) (sym same) (omega arith))
+
+  -- ---- a loan of a single value
+
+  pub loan_skipped : (of : ℕ) → Lacks is_publisher_entry table of → Shown m s → Comes environment defaults Shown m s handles events (LoanUninit of) Skipped (table ++ No_entry ∷ [])
+  loan_skipped of absent shown =
+      skip_comes environment defaults Shown m s handles events table w default_value default_header is_default_value is_default_header (LoanUninit of)
+      (at_none _ _ _ (single_nothing s (unblocked_at s handles of) (lacks_publisher s handles events table w of absent)) refl) shown
+
+  pub loan_elsewhere : (of : ℕ) → is_single_valued s.config ≡ false → Shown m s → Comes environment defaults Shown m s handles events (LoanUninit of) Skipped (table ++ No_entry ∷ [])
+  loan_elsewhere of other shown =
+      skip_comes environment defaults Shown m s handles events table w default_value default_header is_default_value is_default_header (LoanUninit of)
+      (at_none _ _ _ (single_elsewhere s (unblocked_at s handles of) other) refl) shown
+
+  pub loan_comes : (of service p : ℕ) → slice_get table of ≡ Some (Publisher_entry service p) → is_single_valued s.config ≡ true
+      → (header : U) → defaults.IsDefaultHeader header → (s' : State T U) → GrantLoan environment header false 1 s p s' None → Shown m s'
+      → (new_service : ℕ) → new_service ≡ (s'.config).service_id
+      → Comes environment defaults Shown m s handles events (LoanUninit of) Loaned (table ++ Unwritten_entry new_service p s.next_message ∷ [])
+  loan_comes of service p at single header is_default s' h shown new_service ours =
+      let found = has_publisher s handles events table w of service p at in
+      granted_comes (LoanUninit of) of service p at header is_default false 1 s' h
+      (at_some _ _ _ (p, found.0) (single_named s (unblocked_at s handles of) single ∙ found.1) (s', None, h, refl)) shown new_service ours
+
+  pub loan_refused_comes : (of service p : ℕ) → slice_get table of ≡ Some (Publisher_entry service p) → is_single_valued s.config ≡ true
       → (header : U) → defaults.IsDefaultHeader header → (s' : State T U) (e : LoanError) → GrantLoan environment header false 1 s p s' (Some e) → Shown m s'
       → Comes environment defaults Shown m s handles events (LoanUninit of) (LoanRefused e) (table ++ No_entry ∷ [])
   loan_refused_comes of service p at single header is_default s' e h shown =
       let found = has_publisher s handles events table w of service p at in
-      let same : s' ≡ s = loan_refused environment s header false 1 p s' e h in
-      quiet_comes environment defaults Shown m s handles events table w default_value header is_default_value is_default (LoanUninit of) (LoanRefused e) s'
-      (at_some _ _ _ (p, found.0) (this_service (unblocked_at s handles of) single ∙ found.1) (s', Some e, h, refl)) shown
-      (grant_loan_stays environment header false 1 s p s' (Some e) h) (grant_loan_comes environment header false 1 s p s' (Some e) h) (λ n _. ap (λ (t : State T U). t.loans n) same) (subst (λ (t : State T U). s.next_message ≤ t.next_message) (sym same) (omega arith))
+      denied_comes (LoanUninit of) p header is_default false 1 s' e h
+      (at_some _ _ _ (p, found.0) (single_named s (unblocked_at s handles of) single ∙ found.1) (s', Some e, h, refl)) shown
+
+  -- ---- a loan of a slice
+
+  pub slice_skipped : (of len : ℕ) → Lacks is_publisher_entry table of → Shown m s → Comes environment defaults Shown m s handles events (LoanSlice of len) Skipped (table ++ No_entry ∷ [])
+  slice_skipped of len absent shown =
+      skip_comes environment defaults Shown m s handles events table w default_value default_header is_default_value is_default_header (LoanSlice of len)
+      (at_none _ _ _ (slice_nothing s (unblocked_at s handles of) (lacks_publisher s handles events table w of absent)) refl) shown
+
+  pub slice_elsewhere_skipped : (of len : ℕ) → has_slices s.config ≡ false → Shown m s → Comes environment defaults Shown m s handles events (LoanSlice of len) Skipped (table ++ No_entry ∷ [])
+  slice_elsewhere_skipped of len other shown =
+      skip_comes environment defaults Shown m s handles events table w default_value default_header is_default_value is_default_header (LoanSlice of len)
+      (at_none _ _ _ (slice_elsewhere s (unblocked_at s handles of) other) refl) shown
+
+  pub slice_comes : (of len service p : ℕ) → slice_get table of ≡ Some (Publisher_entry service p) → has_slices s.config ≡ true
+      → (header : U) → defaults.IsDefaultHeader header → (s' : State T U) → GrantLoan environment header true len s p s' None → Shown m s'
+      → (new_service : ℕ) → new_service ≡ (s'.config).service_id
+      → Comes environment defaults Shown m s handles events (LoanSlice of len) Loaned (table ++ Unwritten_entry new_service p s.next_message ∷ [])
+  slice_comes of len service p at slices header is_default s' h shown new_service ours =
+      let found = has_publisher s handles events table w of service p at in
+      granted_comes (LoanSlice of len) of service p at header is_default true len s' h
+      (at_some _ _ _ (p, found.0) (slice_named s (unblocked_at s handles of) slices ∙ found.1) (s', None, h, refl)) shown new_service ours
+
+  pub slice_refused_comes : (of len service p : ℕ) → slice_get table of ≡ Some (Publisher_entry service p) → has_slices s.config ≡ true
+      → (header : U) → defaults.IsDefaultHeader header → (s' : State T U) (e : LoanError) → GrantLoan environment header true len s p s' (Some e) → Shown m s'
+      → Comes environment defaults Shown m s handles events (LoanSlice of len) (LoanRefused e) (table ++ No_entry ∷ [])
+  slice_refused_comes of len service p at slices header is_default s' e h shown =
+      let found = has_publisher s handles events table w of service p at in
+      denied_comes (LoanSlice of len) p header is_default true len s' e h
+      (at_some _ _ _ (p, found.0) (slice_named s (unblocked_at s handles of) slices ∙ found.1) (s', Some e, h, refl)) shown
 
 -- a loan that is granted or refused where memory is ample is so anywhere
 pub loan_any : {T U : Type 0} (environment : Environment) (header : U) (checks_length : Bool) (len : ℕ) (s : State T U) (p : ℕ) (s' : State T U) (refusal : Option LoanError)

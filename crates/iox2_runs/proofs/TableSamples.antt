@@ -7,12 +7,11 @@ use Rattle.iox2_store.specs.machine.Records.{Loan, Environment}
 use Rattle.iox2_store.specs.machine.State.{State, Messages}
 use Rattle.iox2_store.specs.machine.Receives.{Receive, ReceiveResult, Got_sample}
 use Rattle.iox2_store.specs.machine.Releases.{released}
-use Rattle.iox2_store.specs.declared.service_config.ServiceConfig.{ServiceConfig}
 use Rattle.iox2_laws.proofs.LoanKeeping.{receive_loans, released_loans}
 use Rattle.iox2_commands.specs.Outcomes.{Handle, No_handle, Loan_handle, Sample_handle, Event, No_event, Message_received, replied, done, skipped}
 use Rattle.iox2_commands.specs.Runs.{Defaults}
 use Rattle.iox2_commands.specs.Step.{Step, after_receive, if_single_units, subscriber_at}
-use Rattle.iox2_runs.specs.Tables.{TableEntry, No_entry, Subscriber_entry, Sample_entry, IsSingle, IsSpent, IsTable}
+use Rattle.iox2_runs.specs.Tables.{TableEntry, No_entry, Subscriber_entry, Sample_entry, IsSpent, IsTable}
 use Rattle.iox2_runs.specs.RunSteps.{Comes}
 use Rattle.iox2_commands.specs.declared.command.Command.{Command}
 use Rattle.iox2_commands.specs.declared.command.Command.TheVariants.{Receive as ReceiveCommand, Release as ReleaseCommand, Read as ReadCommand}
@@ -70,21 +69,20 @@ module _ {T U : Type 0} (environment : Environment) (defaults : Defaults T U) (S
       quiet (ReceiveCommand of) reply s' (at_some _ _ _ (q, found.0) (single_units (subscriber_at s handles of) units ∙ found.1) (s', result, h, sym e)) shown
       (nothing_received environment s q s' result none h) (machine_receive_comes environment s q s' result h) (λ n _. ap (λ (f : ℕ → Option (Loan T U)). f n) (receive_loans environment s q s' result h)) rises
 
-  pub receive_comes : (of service q : ℕ) → slice_get table of ≡ Some (Subscriber_entry service q) → IsSingle s → (s' : State T U) (p n : ℕ)
+  pub receive_comes : (of service q : ℕ) → slice_get table of ≡ Some (Subscriber_entry service q) → (s.config).units_per_element ≡ 1 → (s' : State T U) (p n : ℕ)
       → Receive environment s q s' (Got_sample p n) → s.next_message ≤ s'.next_message → Shown m s' → (new_service : ℕ) → new_service ≡ (s'.config).service_id
       → Arrives (ReceiveCommand of) (SampleReply p) (table ++ Sample_entry new_service p q n ∷ [])
-  receive_comes of service q at single s' p n h rises shown new_service ours =
+  receive_comes of service q at units s' p n h rises shown new_service ours =
       let found = has_subscriber s handles events table w of service q at in
       let named = handle_of s handles events table w of (Subscriber_entry service q) at in
       let got : IsReceived environment s q p n s' = received_one environment s q p n s' h in
-      let come : PortsCome s s' = machine_receive_comes environment s q s' (Got_sample p n) h in
-      let same : s'.config ≡ s.config = (got.remain).config in record {
+      let come : PortsCome s s' = machine_receive_comes environment s q s' (Got_sample p n) h in record {
         default_value = default_value;
         default_header = default_header;
         is_default_value = is_default_value;
         is_default_header = is_default_header;
         outcome = record { reply = SampleReply p; handle = Sample_handle p q n; event = Message_received p q n; state = s' };
-        step = at_some _ _ _ (q, found.0) (single_units (subscriber_at s handles of) single.1 ∙ found.1) (s', Got_sample p n, h, refl);
+        step = at_some _ _ _ (q, found.0) (single_units (subscriber_at s handles of) units ∙ found.1) (s', Got_sample p n, h, refl);
         replied = refl;
         shown = shown;
         follows = λ once. table_next s s' handles events table w (Sample_handle p q n) (Message_received p q n) (Sample_entry new_service p q n) table rises refl
@@ -95,7 +93,6 @@ module _ {T U : Type 0} (environment : Environment) (defaults : Defaults T U) (S
               ours,
               refl,
               got.now,
-              (ap (λ (c : ServiceConfig). c.variant) same ∙ single.0, ap (λ (c : ServiceConfig). c.units_per_element) same ∙ single.1),
             )
             (come.next_port, λ i e. absurd (none-some i e))
             (λ k e. let clash : Sample_handle p q n ≡ Loan_handle k = e in absurd (cc))

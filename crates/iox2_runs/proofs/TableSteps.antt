@@ -10,7 +10,7 @@ use Rattle.iox2_store.specs.machine.State.{State}
 use Rattle.iox2_store.specs.declared.service_config.ServiceConfig.{ServiceConfig}
 use Rattle.iox2_commands.specs.Outcomes.{Handle, No_handle, Publisher_handle, Subscriber_handle, Loan_handle, Blocked_handle, Sample_handle, Event, Message_received}
 use Rattle.iox2_commands.specs.Runs.{received}
-use Rattle.iox2_runs.specs.Tables.{port_of, TableEntry, No_entry, Publisher_entry, Subscriber_entry, Unwritten_entry, Written_entry, Sample_entry, HasLoan, IsSingle, IsEntryOf, IsTable}
+use Rattle.iox2_runs.specs.Tables.{port_of, TableEntry, No_entry, Publisher_entry, Subscriber_entry, Unwritten_entry, Written_entry, Sample_entry, HasLoan, IsEntryOf, IsTable}
 use Rattle.iox2_laws.proofs.NumberLemmas.{IsOnce-apart, contains_left, contains_right, contains_first}
 use Rattle.iox2_commands.proofs.GrowingLists.{old_or_last, longer}
 use Rattle.iox2_laws.proofs.PortsCome.{PortsCome}
@@ -38,9 +38,6 @@ ports-keep spent s s' remain come = record {
 module _ {T U : Type 0} (spent : Handle) (s s' : State T U) (keep : PortsKeep spent s s') where
   same : {service : ℕ} → service ≡ (s.config).service_id → service ≡ (s'.config).service_id
   same e = e ∙ sym (ap (λ (c : ServiceConfig). c.service_id) keep.config)
-
-  single : IsSingle s → IsSingle s'
-  single h = (ap (λ (c : ServiceConfig). c.variant) keep.config ∙ h.0, ap (λ (c : ServiceConfig). c.units_per_element) keep.config ∙ h.1)
 
   -- a publisher that isn't there doesn't come back
   gone : (p : ℕ) → p < s.next_port → s.publishers p ≡ None → s'.publishers p ≡ None
@@ -81,9 +78,9 @@ module _ {T U : Type 0} (spent : Handle) (s s' : State T U) (keep : PortsKeep sp
   still_entry named (Subscriber_entry service q) loans samples ports h =
       let other = (ports q (ap port_of h.1)).1 in
       let v = keep.subscribers q h.2 (λ e. other (h.1 ∙ e)) h.3 h.4 in (same h.0, h.1, v.0, v.1, v.2)
-  still_entry named (Unwritten_entry service p n) loans samples ports h = (same h.0, h.1, loan_kept (loans n h.1) h.2, single h.3)
-  still_entry named (Written_entry service p n) loans samples ports h = (same h.0, h.1, loan_kept (loans n h.1) h.2, single h.3)
-  still_entry named (Sample_entry service p q n) loans samples ports h = (same h.0, h.1, samples p q n h.1 ∙ h.2, single h.3)
+  still_entry named (Unwritten_entry service p n) loans samples ports h = (same h.0, h.1, loan_kept (loans n h.1) h.2)
+  still_entry named (Written_entry service p n) loans samples ports h = (same h.0, h.1, loan_kept (loans n h.1) h.2)
+  still_entry named (Sample_entry service p q n) loans samples ports h = (same h.0, h.1, samples p q n h.1 ∙ h.2)
 
 set_here : {A : Type 0} (xs : List A) (i : ℕ) (x : A) → i < length xs → slice_get (slice_set xs i x) i ≡ Some x
 set_here [] i x low = absurd (omega arith)

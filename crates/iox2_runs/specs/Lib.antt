@@ -6,3 +6,5 @@ pub mod Carries
 pub mod DomainRuns
 pub mod Leaves
 pub mod Compared
+pub mod Services
+pub mod Cells

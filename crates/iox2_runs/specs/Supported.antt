@@ -6,14 +6,13 @@ use Rattle.iox2_store.specs.declared.allocation.AllocationStrategy.TheVariants.{
 use Rattle.iox2_store.specs.declared.backpressure.BackpressureStrategy.TheVariants.{DiscardData}
 use Rattle.iox2_store.specs.declared.degradation.DegradationAction.TheVariants.{Warn}
 use Rattle.iox2_store.specs.declared.service_config.ServiceConfig.{ServiceConfig}
-use Rattle.iox2_store.specs.declared.service_config.TypeVariant.TheVariants.{FixedSize}
 use Rattle.iox2_commands.specs.FillingCommands.{filling_commands}
 use Rattle.iox2_commands.specs.declared.command.Command.{Command}
-use Rattle.iox2_commands.specs.declared.command.Command.TheVariants.{Nothing, CreatePublisher, CreateSubscriber, LoanUninit, Loan, WriteCell, WriteAll, AssumeInit, WriteHeader, SetPayload, Send, SendCopy, Discard, Update, Receive, HasSamples, Read, ReadHeader, ReadUserHeader, Release, Close}
+use Rattle.iox2_commands.specs.declared.command.Command.TheVariants.{Nothing, CreatePublisher, CreateSubscriber, LoanUninit, Loan, LoanSlice, WriteCell, WriteAll, AssumeInit, WriteHeader, SetPayload, Send, SendCopy, Discard, Update, Receive, HasSamples, Read, ReadHeader, ReadUserHeader, Release, Close}
 
 -- The command makes a port, with nothing set that a factory can't be told yet, updates one or closes one; or it takes a message
--- of a single value from its loan to its release, sends a value at once, changes a loan where it lies, reads a header, gives a
--- loan back unsent, or asks whether messages wait.
+-- from its loan to its release, sends a value at once, changes a loan where it lies, reads a header, gives a loan back unsent, or
+-- asks whether messages wait.
 abbrev pub IsSupportedCommand : {T U : Type 0} → Command T U → Type 0
 IsSupportedCommand Nothing = Unit {0}
 IsSupportedCommand (CreatePublisher loans strategy allocation len override_slots degradation backpressure) =
@@ -21,6 +20,7 @@ IsSupportedCommand (CreatePublisher loans strategy allocation len override_slots
 IsSupportedCommand (CreateSubscriber buffer degradation) = degradation ≡ Warn
 IsSupportedCommand (LoanUninit of) = Unit {0}
 IsSupportedCommand (Loan of) = Unit {0}
+IsSupportedCommand (LoanSlice of len) = Unit {0}
 IsSupportedCommand (WriteCell of at value) = Unit {0}
 IsSupportedCommand (WriteAll of value) = Unit {0}
 IsSupportedCommand (AssumeInit of) = Unit {0}
@@ -39,7 +39,6 @@ IsSupportedCommand (Release of) = Unit {0}
 IsSupportedCommand (Close of) = Unit {0}
 IsSupportedCommand _ = ⊥
 
--- In a service of single values, each command of the list that fills every slot is one of these, where the slots aren't
--- overridden.
+-- Each command of the list that fills every slot is one of these, where the slots aren't overridden.
 abbrev pub FillingIsSupported : Type 0 → Type 0 → Type 0
-FillingIsSupported T U = (c : ServiceConfig) (loans : ℕ) (value : T) → c.variant ≡ FixedSize → All IsSupportedCommand (filling_commands {T = T} {U = U} c loans value None)
+FillingIsSupported T U = (c : ServiceConfig) (loans : ℕ) (value : T) → All IsSupportedCommand (filling_commands {T = T} {U = U} c loans value None)

@@ -6,7 +6,6 @@ use Rattle.iox2_store.specs.machine.Numbers.{contains}
 use Rattle.iox2_store.specs.machine.Mailbox.{is_borrowed}
 use Rattle.iox2_store.specs.machine.Records.{Loan, Publisher, Subscriber}
 use Rattle.iox2_store.specs.machine.State.{State}
-use Rattle.iox2_store.specs.declared.service_config.TypeVariant.TheVariants.{FixedSize}
 use Rattle.iox2_commands.specs.Outcomes.{Handle, No_handle, Publisher_handle, Subscriber_handle, Loan_handle, Blocked_handle, Sample_handle, Event}
 use Rattle.iox2_commands.specs.Runs.{received}
 
@@ -49,10 +48,6 @@ module _ {T U : Type 0} (s : State T U) where
   HasLoan p n is_written =
       ((l : Loan T U) × (s.loans n ≡ Some l) × (l.publisher ≡ p) × (l.is_written ≡ is_written)) × (p < s.next_port) × IsUnblocked p
 
-  -- Messages are single values of one unit.
-  abbrev pub IsSingle : Type 0
-  IsSingle = ((s.config).variant ≡ FixedSize) × ((s.config).units_per_element ≡ 1)
-
   -- The entry names what the handle names in this service, and that is live.
   abbrev pub IsEntryOf : Handle → TableEntry → Type 0
   IsEntryOf handle No_entry = IsSpent handle
@@ -60,10 +55,10 @@ module _ {T U : Type 0} (s : State T U) where
       (service ≡ (s.config).service_id) × (handle ≡ Publisher_handle p) × IsFree p
   IsEntryOf handle (Subscriber_entry service q) =
       (service ≡ (s.config).service_id) × (handle ≡ Subscriber_handle q) × (y : Subscriber) × (s.subscribers q ≡ Some y) × (y.is_open ≡ true)
-  IsEntryOf handle (Unwritten_entry service p n) = (service ≡ (s.config).service_id) × (handle ≡ Loan_handle n) × HasLoan p n false × IsSingle
-  IsEntryOf handle (Written_entry service p n) = (service ≡ (s.config).service_id) × (handle ≡ Loan_handle n) × HasLoan p n true × IsSingle
+  IsEntryOf handle (Unwritten_entry service p n) = (service ≡ (s.config).service_id) × (handle ≡ Loan_handle n) × HasLoan p n false
+  IsEntryOf handle (Written_entry service p n) = (service ≡ (s.config).service_id) × (handle ≡ Loan_handle n) × HasLoan p n true
   IsEntryOf handle (Sample_entry service p q n) =
-      (service ≡ (s.config).service_id) × (handle ≡ Sample_handle p q n) × (is_borrowed n (s.mailboxes p q) ≡ true) × IsSingle
+      (service ≡ (s.config).service_id) × (handle ≡ Sample_handle p q n) × (is_borrowed n (s.mailboxes p q) ≡ true)
 
 -- A run's table has the entry of each command's handle, while what this names is live. No port, no loan and no sample has two
 -- handles.

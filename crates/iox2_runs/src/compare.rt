@@ -1,7 +1,6 @@
 //! Two runs, each on a domain of its own.
-ghost use Rattle.std.specs.Prelude.{◌≡◌, IfSome};
+ghost use Rattle.std.specs.Prelude.{IfSome};
 ghost use Rattle.std.specs.List.{All};
-ghost use Rattle.iox2_store.specs.declared.service_config.TypeVariant.TheVariants.{FixedSize};
 ghost use Rattle.iox2_commands.specs.OneDefault.{HasOneDefault};
 ghost use Rattle.iox2_runs.specs.Carries.{defaults_of};
 ghost use Rattle.iox2_runs.specs.Compared.{RanAfresh, AreCompared};
@@ -42,7 +41,6 @@ pub fn compare_runs<
         (Domain<T, U, F, G>, Vec<Reply<T, U>>),
     ),
 >
-    requires fixed_size { config.now.variant ≡ FixedSize }
     requires supported { All IsSupportedCommand commands.items }
     requires supported_reduced { All IsSupportedCommand reduced.items }
     ensures { IfSome result (λ ends. HasOneDefault (defaults_of T.is_default U.is_default)
@@ -65,7 +63,6 @@ fn run_afresh<
     config: &ServiceConfig,
     commands: Vec<Command<T, U>>,
 ) -> Option<(Domain<T, U, F, G>, Vec<Reply<T, U>>)>
-    requires fixed_size { config.now.variant ≡ FixedSize }
     requires supported { All IsSupportedCommand commands.items }
     ensures { IfSome result (λ end. RanAfresh (defaults_of T.is_default U.is_default) config.now commands.items end.0 end.1.items) }
 {

@@ -1,8 +1,8 @@
 //! What `run` can carry out.
 ghost use Rattle.iox2_runs.specs.Supported.{FillingIsSupported};
 
-/// In a service of single values, `run` carries out the list of `worst_case_commands`, where that has
-/// no override of the slots. Neither it nor its replies are looked at here: this is for proofs.
+/// `run` carries out the list of `worst_case_commands`, where that has no override of the slots.
+/// Neither it nor its replies are looked at here: this is for proofs.
 pub fn filling_is_supported<T, U>()
     ensures { FillingIsSupported T U }
 {}

@@ -3,7 +3,6 @@ ghost use Rattle.std.specs.Prelude.{◌≡◌, List, IfOk, IfErr};
 ghost use Rattle.std.specs.List.{All};
 ghost use Rattle.iox2_store.specs.machine.Environments.{fixed_handlers};
 ghost use Rattle.iox2_store.specs.machine.State.{State, Messages};
-ghost use Rattle.iox2_store.specs.declared.service_config.TypeVariant.TheVariants.{FixedSize};
 ghost use Rattle.iox2_domain.specs.Shows.{Shows};
 ghost use Rattle.iox2_pubsub.specs.Live.{Stays};
 ghost use Rattle.iox2_runs.specs.Leaves.{Leaves};
@@ -18,6 +17,7 @@ ghost use Rattle.iox2_runs.specs.DomainRuns.{RunsOnDomain};
 ghost use Rattle.iox2_runs.specs.Supported.{IsSupportedCommand};
 ghost use Rattle.iox2_runs.specs.declared.runs.made.Made.TheVariants.{Nothing};
 
+mod cells;
 mod changes;
 mod closes;
 mod copies;
@@ -26,8 +26,11 @@ mod headers;
 mod loans;
 mod made;
 mod ports;
+mod publishers;
 mod questions;
 mod samples;
+mod services;
+mod slices;
 mod updates;
 
 use iox2_commands::{Command, Reply};
@@ -63,7 +66,6 @@ fn carry_out<
     table: &mut Vec<Made>,
     command: Command<T, U>,
 ) -> (Reply<T, U>, Made)
-    requires fixed_size { (domain.old.config).variant ≡ FixedSize }
     requires supported { IsSupportedCommand command }
     requires keeps { IsLiveTable domain.old table.old.items }
     ensures carries { Carries fixed_handlers (defaults_of T.is_default U.is_default) domain.old domain.new table.old.items command result.0 table.new.items result.1 }
@@ -71,12 +73,17 @@ fn carry_out<
     ensures room { SameRoom table.old table.new }
 {
     match command {
-        Command::CreatePublisher { loans, .. } => ports::create_publisher(domain, table, loans),
+        Command::CreatePublisher {
+            loans,
+            initial_max_slice_len,
+            ..
+        } => ports::create_publisher(domain, table, loans, initial_max_slice_len),
         Command::CreateSubscriber { buffer, .. } => {
             ports::create_subscriber(domain, table, buffer)
         }
         Command::LoanUninit { of } => loans::loan_uninit(domain, table, of),
         Command::Loan { of } => copies::loan(domain, table, of),
+        Command::LoanSlice { of, len } => slices::loan_slice(domain, table, of, len),
         Command::WriteCell { of, at, value } => (
             changes::write_cell(domain, table, of, at, value),
             Made::Nothing,
@@ -130,17 +137,17 @@ fn carry_out<
 /// messages stay borrowed. The memory for the replies and for what the commands make is taken
 /// first. Where it is refused the commands are handed back, and none was carried out.
 ///
-/// So far the domain is of the variant `FixedSize`, a publisher discards what a full receiver doesn't
-/// take, has one segment and no handlers, and a command is one of those that make, update or close
-/// ports, take a message of a single value from its loan to its release, send a value at once, change
-/// a loan where it lies, read headers, give a loan back unsent, or ask whether messages wait.
+/// So far a publisher discards what a full receiver doesn't take, has one segment and no handlers,
+/// and a command is one of those that make, update or close ports, take a message from its loan to
+/// its release, send a value at once, change a loan where it lies, read headers, give a loan back
+/// unsent, or ask whether messages wait. The domain may have messages of either variant: those of
+/// `FixedSize` are single values, those of `Dynamic` slices.
 pub fn run<T: Copy + Default + Drop, U: Copy + Default + Drop, F: BackpressureFn, G: DegradationFn>(
     alloc: Global,
     domain: &mut Domain<T, U, F, G>,
     commands: Vec<Command<T, U>>,
 ) -> Result<Vec<Reply<T, U>>, Vec<Command<T, U>>>
-    requires fixed_size { (domain.old.config).variant ≡ FixedSize }
-    requires supported { All IsSupportedCommand commands.items }
+    requires { All IsSupportedCommand commands.items }
     ensures ran { IfOk result (λ replies. (m : Messages T U) (s : State T U) → Shows domain.old m s
         → (events : List (Event T U)) × (m' : Messages T U) × (s' : State T U) × Shows domain.new m' s'
         × Run fixed_handlers (defaults_of T.is_default U.is_default) m s commands.items replies.items events m' s'

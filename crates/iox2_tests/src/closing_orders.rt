@@ -1,8 +1,7 @@
 //! Two ports, a sample and a loan end in every order, and nothing is left of them.
-ghost use Rattle.std.specs.Prelude.{◌≡◌, IfOk};
+ghost use Rattle.std.specs.Prelude.{IfOk};
 ghost use Rattle.std.specs.List.{All};
 ghost use Rattle.iox2_runs.specs.Supported.{IsSupportedCommand};
-ghost use Rattle.iox2_store.specs.declared.service_config.TypeVariant.TheVariants.{FixedSize};
 
 use crate::fixtures::settings;
 use crate::runs::{CREATE_SUBSCRIBER, create_publisher, replies_to_numbers};
@@ -154,9 +153,7 @@ struct Ended {
     kept: [usize; 2],
 }
 
-fn end_in(rt: &impl Abort, alloc: Global, order: Order) -> Ended
-    ensures { (result.domain.config).variant ≡ FixedSize }
-{
+fn end_in(rt: &impl Abort, alloc: Global, order: Order) -> Ended {
     let config = ServiceConfig {
         subscriber_max_buffer_size: 1,
         subscriber_max_borrowed_samples: 1,

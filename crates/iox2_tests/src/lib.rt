@@ -46,6 +46,8 @@ mod samples;
 #[cfg(test)]
 mod sends;
 #[cfg(test)]
+mod slice_commands;
+#[cfg(test)]
 mod slices;
 #[cfg(test)]
 mod stays;

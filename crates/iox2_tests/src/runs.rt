@@ -1,12 +1,10 @@
-ghost use Rattle.std.specs.Prelude.{◌≡◌, IfOk, ℕ};
+ghost use Rattle.std.specs.Prelude.{IfOk, ℕ};
 ghost use Rattle.std.specs.List.{All};
 ghost use Rattle.iox2_commands.specs.Runs.{only_defaults};
 ghost use Rattle.iox2_domain.specs.Shows.{Shows};
 ghost use Rattle.iox2_runs.specs.DomainRuns.{RunsOnDomain};
 ghost use Rattle.iox2_runs.specs.Supported.{IsSupportedCommand};
 ghost use Rattle.iox2_store.specs.machine.State.{State, Messages};
-ghost use Rattle.iox2_store.specs.declared.service_config.TypeVariant.TheVariants.{FixedSize};
-ghost use Rattle.iox2_pubsub.specs.Live.{Stays};
 
 use crate::fixtures::settings;
 use iox2_pubsub::Domain;
@@ -43,10 +41,8 @@ pub(crate) fn replies_to_numbers(
     domain: &mut Domain<u64, u8>,
     commands: Vec<Command<u64, u8>>,
 ) -> Result<Vec<Reply<u64, u8>>, Vec<Command<u64, u8>>>
-    requires fixed_size { (domain.old.config).variant ≡ FixedSize }
-    requires supported { All IsSupportedCommand commands.items }
-    ensures stays { Stays domain.old domain.new }
-    ensures runs { IfOk result (λ replies. (m : Messages ℕ ℕ) (s : State ℕ ℕ) → Shows domain.old m s → RunsOnDomain (only_defaults 0 0) domain.new m s commands.items replies.items) }
+    requires { All IsSupportedCommand commands.items }
+    ensures { IfOk result (λ replies. (m : Messages ℕ ℕ) (s : State ℕ ℕ) → Shows domain.old m s → RunsOnDomain (only_defaults 0 0) domain.new m s commands.items replies.items) }
 {
     let replies = run(alloc, domain, commands)?;
     Ok(replies)
@@ -58,8 +54,7 @@ fn replies_without_headers(
     domain: &mut Domain<u64, ()>,
     commands: Vec<Command<u64, ()>>,
 ) -> Result<Vec<Reply<u64, ()>>, Vec<Command<u64, ()>>>
-    requires fixed_size { (domain.old.config).variant ≡ FixedSize }
-    requires supported { All IsSupportedCommand commands.items }
+    requires { All IsSupportedCommand commands.items }
     ensures { IfOk result (λ replies. (m : Messages ℕ (Unit {0})) (s : State ℕ (Unit {0})) → Shows domain.old m s → RunsOnDomain (only_defaults 0 tt) domain.new m s commands.items replies.items) }
 {
     let replies = run(alloc, domain, commands)?;

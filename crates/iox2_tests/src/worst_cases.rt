@@ -1,6 +1,3 @@
-ghost use Rattle.std.specs.Prelude.{◌≡◌};
-ghost use Rattle.iox2_store.specs.declared.service_config.TypeVariant.TheVariants.{FixedSize};
-
 use crate::fixtures::settings;
 use iox2_pubsub::Domain;
 use iox2_runs::{Command, Reply, filling_is_supported, run, worst_case_commands};
@@ -133,7 +130,6 @@ fn replies_to_list(
     config: &ServiceConfig,
     loans: usize,
 ) -> Option<Vec<Reply<u64, u8>>>
-    requires { config.now.variant ≡ FixedSize }
 {
     let commands = worst_case_commands(alloc, config, loans, 5, None)?;
     let Ok(mut domain) = Domain::<u64, u8>::new(alloc, *config) else {
@@ -180,7 +176,6 @@ fn counts(replies: &[Reply<u64, u8>]) -> [usize; 3] {
 // alone, and that no command of it is skipped or refused. Each subscriber borrows messages, others
 // wait for it, and others are for the history.
 fn assert_list_is_granted(rt: &impl Abort, alloc: Global, config: &ServiceConfig, loans: usize)
-    requires { config.now.variant ≡ FixedSize }
 {
     let subscribers = config.max_subscribers;
     let borrowed = config.subscriber_max_borrowed_samples;
@@ -216,7 +211,6 @@ fn assert_list_is_granted(rt: &impl Abort, alloc: Global, config: &ServiceConfig
 
 // Asserts it for every history and number of loans up to three.
 fn assert_lists_are_granted(rt: &impl Abort, alloc: Global, config: ServiceConfig)
-    requires { config.variant ≡ FixedSize }
 {
     for history_size in 0..4 {
         let config = ServiceConfig {
@@ -247,4 +241,14 @@ fn every_small_list_is_granted_with_its_slots(rt: HostRuntime) {
             }
         }
     }
+}
+
+#[test]
+fn lists_of_slices_are_granted_with_their_slots(rt: HostRuntime) {
+    let config = ServiceConfig {
+        variant: TypeVariant::Dynamic,
+        max_subscribers: 2,
+        ..settings()
+    };
+    assert_lists_are_granted(&rt, rt.alloc(), config);
 }

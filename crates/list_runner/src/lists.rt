@@ -1,7 +1,6 @@
 //! Runs of the list that fills every slot.
-ghost use Rattle.std.specs.Prelude.{◌≡◌, IfOk};
+ghost use Rattle.std.specs.Prelude.{IfOk};
 ghost use Rattle.std.specs.List.{All};
-ghost use Rattle.iox2_store.specs.declared.service_config.TypeVariant.TheVariants.{FixedSize};
 ghost use Rattle.iox2_runs.specs.Supported.{IsSupportedCommand};
 
 use crate::failure::Failure;
@@ -15,7 +14,6 @@ type End = (Domain<u64, ()>, Vec<Reply<u64, ()>>);
 
 // The list, in which each message is 0.
 fn filling(alloc: Global, sizes: &Sizes) -> Result<Vec<Command<u64, ()>>, Failure>
-    requires { (sizes.now).config.variant ≡ FixedSize }
     ensures { IfOk result (λ commands. All IsSupportedCommand commands.items) }
 {
     filling_is_supported::<u64, ()>();
@@ -42,7 +40,6 @@ fn is_granted(reply: &Reply<u64, ()>) -> bool {
 
 /// Prints how many slots a publisher needs and how long the list is, and runs it on a new domain.
 pub(crate) fn fill(rt: &HostRuntime, sizes: &Sizes) -> Result<(), Failure>
-    requires { (sizes.now).config.variant ≡ FixedSize }
 {
     let slots = worst_case_slots(&sizes.config, sizes.loans).ok_or(Failure::TooManySlots)?;
     println!(rt; "{slots} slots")?;
@@ -63,8 +60,7 @@ fn replies_of(
     sizes: &Sizes,
     commands: Vec<Command<u64, ()>>,
 ) -> Result<Vec<Reply<u64, ()>>, Failure>
-    requires single { (sizes.now).config.variant ≡ FixedSize }
-    requires supported { All IsSupportedCommand commands.items }
+    requires { All IsSupportedCommand commands.items }
 {
     let Ok(mut domain) = Domain::<u64, ()>::new(alloc, sizes.config) else {
         return Err(Failure::OutOfMemory);
@@ -79,7 +75,6 @@ fn replies_of(
 /// were skipped or refused in each run and how many of its connections were refused memory, or that
 /// there is no comparison.
 pub(crate) fn compare(rt: &HostRuntime, sizes: &Sizes, allocations: usize) -> Result<(), Failure>
-    requires { (sizes.now).config.variant ≡ FixedSize }
 {
     let commands = filling(rt.alloc(), sizes)?;
     let same = filling(rt.alloc(), sizes)?;

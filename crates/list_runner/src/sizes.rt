@@ -1,7 +1,4 @@
 //! The sizes of a service.
-ghost use Rattle.std.specs.Prelude.{◌≡◌, IfOk};
-ghost use Rattle.iox2_store.specs.declared.service_config.TypeVariant.TheVariants.{FixedSize};
-
 use crate::failure::Failure;
 use iox2_pubsub::ServiceConfig;
 
@@ -15,9 +12,7 @@ pub(crate) struct Sizes {
 impl Sizes {
     /// The sizes that six numbers say, in this order: publishers, subscribers, buffer, borrowed
     /// messages, history, loans.
-    pub(crate) fn parse(words: &[String]) -> Result<Sizes, Failure>
-        ensures { IfOk result (λ sizes. (sizes.config).variant ≡ FixedSize) }
-    {
+    pub(crate) fn parse(words: &[String]) -> Result<Sizes, Failure> {
         let [publishers, subscribers, buffer, borrowed, history, loans] = words else {
             return Err(Failure::Usage);
         };

@@ -1,11 +1,14 @@
 //! Commands that change a loan that is out.
+ghost use Rattle.std.specs.Prelude.{◌≡◌, cond};
 ghost use Rattle.iox2_store.specs.machine.Environments.{fixed_handlers};
 ghost use Rattle.iox2_runs.specs.Rooms.{SameRoom};
 ghost use Rattle.iox2_runs.specs.Leaves.{Leaves};
 ghost use Rattle.iox2_runs.specs.Carries.{IsLiveTable, Carries, defaults_of};
 ghost use Rattle.iox2_commands.specs.declared.command.Command.TheVariants.{AssumeInit, SetPayload, WriteCell, WriteHeader};
+ghost use Rattle.iox2_commands.specs.declared.reply.Reply.TheVariants.{Done, Skipped};
 ghost use Rattle.iox2_runs.specs.declared.runs.made.Made.TheVariants.{Nothing};
 
+use super::cells::{set_value_at, write_cell_at};
 use super::made::{Made, put, take};
 use iox2_commands::Reply;
 use iox2_pubsub::{Domain, SampleMut, SampleMutUninit};
@@ -25,16 +28,10 @@ pub(crate) fn write_cell<T: Default + Drop, U: Default + Drop, F: BackpressureFn
     ensures room { SameRoom table.old table.new }
 {
     match take(table, of) {
-        Made::Unwritten(mut sample) => {
-            // For the proof alone: the loan has one cell.
-            sample.payload(domain);
-            if at != 0 {
-                put(table, of, Made::Unwritten(sample));
-                return Reply::Skipped;
-            }
-            *SampleMutUninit::payload_mut(domain, &mut sample) = Some(value);
+        Made::Unwritten(sample) => {
+            let (is_there, sample) = write_cell_at(domain, sample, at, value);
             put(table, of, Made::Unwritten(sample));
-            Reply::Done
+            done_if(is_there)
         }
         other => {
             put(table, of, other);
@@ -62,21 +59,26 @@ pub(crate) fn set_payload<
     ensures room { SameRoom table.old table.new }
 {
     match take(table, of) {
-        Made::Written(mut sample) => {
-            // For the proof alone: the loan has one value.
-            sample.payload(domain);
-            if at != 0 {
-                put(table, of, Made::Written(sample));
-                return Reply::Skipped;
-            }
-            *SampleMut::payload_mut(domain, &mut sample) = value;
+        Made::Written(sample) => {
+            let (is_there, sample) = set_value_at(domain, sample, at, value);
             put(table, of, Made::Written(sample));
-            Reply::Done
+            done_if(is_there)
         }
         other => {
             put(table, of, other);
             Reply::Skipped
         }
+    }
+}
+
+// What a write of a cell replies.
+fn done_if<T, U>(is_there: bool) -> Reply<T, U>
+    ensures { result ≡ cond is_there Done Skipped }
+{
+    if is_there {
+        Reply::Done
+    } else {
+        Reply::Skipped
     }
 }
 
@@ -110,7 +112,7 @@ pub(crate) fn write_header<
     }
 }
 
-/// Takes the loan that the command at the position made as written, where its cell is.
+/// Takes the loan that the command at the position made as written, where each of its cells is.
 pub(crate) fn assume_init<
     T: Default + Drop,
     U: Default + Drop,

@@ -8,6 +8,7 @@ ghost use Rattle.iox2_runs.specs.declared.runs.made.Made.TheVariants.{Nothing};
 
 use super::loans::delivered_count;
 use super::made::Made;
+use super::services::is_single_valued;
 use iox2_commands::Reply;
 use iox2_pubsub::Domain;
 use iox2_store::{BackpressureFn, DegradationFn};
@@ -23,7 +24,7 @@ pub(crate) fn loan<T: Default + Drop, U: Default + Drop, F: BackpressureFn, G: D
     ensures carries { Carries fixed_handlers (defaults_of T.is_default U.is_default) domain.old domain.new table.now (Loan of) result.0 table.now result.1 }
     ensures leaves { Leaves domain.old domain.new table.now table.now result.1 }
 {
-    if !domain.config().is_single_valued() {
+    if !is_single_valued(domain) {
         return (Reply::Skipped, Made::Nothing);
     }
     let Some(made) = table.get(of) else {
@@ -49,7 +50,7 @@ pub(crate) fn send_copy<T: Default + Drop, U: Default + Drop, F: BackpressureFn,
     ensures carries { Carries fixed_handlers (defaults_of T.is_default U.is_default) domain.old domain.new table.now (SendCopy of value) result table.now Nothing }
     ensures leaves { Leaves domain.old domain.new table.now table.now Nothing }
 {
-    if !domain.config().is_single_valued() {
+    if !is_single_valued(domain) {
         return Reply::Skipped;
     }
     let Some(made) = table.get(of) else {

@@ -9,12 +9,15 @@ ghost use Rattle.iox2_runs.specs.Carries.{IsLiveTable, Carries, defaults_of};
 ghost use Rattle.iox2_commands.specs.declared.command.Command.TheVariants.{LoanUninit, WriteAll, Send};
 ghost use Rattle.iox2_runs.specs.declared.runs.made.Made.TheVariants.{Nothing};
 
+use super::cells::write_cells;
 use super::made::{Made, put, take};
+use super::services::is_single_valued;
 use iox2_commands::Reply;
 use iox2_pubsub::{Domain, SendOutcome};
 use iox2_store::{BackpressureFn, DegradationFn};
 
-/// Asks the publisher that the command at the position made for a loan, and returns the loan too.
+/// Asks the publisher that the command at the position made for a loan of a single value, and
+/// returns the loan too.
 pub(crate) fn loan_uninit<
     T: Default + Drop,
     U: Default + Drop,
@@ -25,7 +28,7 @@ pub(crate) fn loan_uninit<
     ensures carries { Carries fixed_handlers (defaults_of T.is_default U.is_default) domain.old domain.new table.now (LoanUninit of) result.0 table.now result.1 }
     ensures leaves { Leaves domain.old domain.new table.now table.now result.1 }
 {
-    if !domain.config().is_single_valued() {
+    if !is_single_valued(domain) {
         return (Reply::Skipped, Made::Nothing);
     }
     let Some(made) = table.get(of) else {
@@ -40,13 +43,13 @@ pub(crate) fn loan_uninit<
     }
 }
 
-/// Writes the loan that the command at the position made.
-pub(crate) fn write_all<T: Default + Drop, U: Default + Drop, F: BackpressureFn, G: DegradationFn>(
-    domain: &mut Domain<T, U, F, G>,
-    table: &mut Vec<Made>,
-    of: usize,
-    value: T,
-) -> Reply<T, U>
+/// Writes each cell of the loan that the command at the position made.
+pub(crate) fn write_all<
+    T: Copy + Default + Drop,
+    U: Default + Drop,
+    F: BackpressureFn,
+    G: DegradationFn,
+>(domain: &mut Domain<T, U, F, G>, table: &mut Vec<Made>, of: usize, value: T) -> Reply<T, U>
     requires { IsLiveTable domain.old table.old.items }
     ensures carries { Carries fixed_handlers (defaults_of T.is_default U.is_default) domain.old domain.new table.old.items (WriteAll of value) result table.new.items Nothing }
     ensures leaves { Leaves domain.old domain.new table.old.items table.new.items Nothing }
@@ -54,7 +57,7 @@ pub(crate) fn write_all<T: Default + Drop, U: Default + Drop, F: BackpressureFn,
 {
     match take(table, of) {
         Made::Unwritten(sample) => {
-            let sample = sample.write_payload(domain, value);
+            let sample = write_cells(domain, sample, value);
             put(table, of, Made::Written(sample));
             Reply::Done
         }

@@ -1,14 +1,15 @@
 //! Commands on samples, and reads.
-ghost use Rattle.std.specs.Prelude.{◌≡◌, ◌==◌, cond};
+ghost use Rattle.std.specs.Prelude.{◌≡◌, Some};
+ghost use Rattle.std.specs.Option.{option_map_or};
 ghost use Rattle.iox2_commands.specs.declared.reply.Reply.TheVariants.{Cell, Skipped};
 ghost use Rattle.iox2_store.specs.machine.Environments.{fixed_handlers};
-ghost use Rattle.iox2_store.specs.declared.service_config.TypeVariant.TheVariants.{FixedSize};
 ghost use Rattle.iox2_runs.specs.Rooms.{SameRoom};
 ghost use Rattle.iox2_runs.specs.Leaves.{Leaves};
 ghost use Rattle.iox2_runs.specs.Carries.{IsLiveTable, Carries, defaults_of};
 ghost use Rattle.iox2_commands.specs.declared.command.Command.TheVariants.{Read, Receive, Release};
 ghost use Rattle.iox2_runs.specs.declared.runs.made.Made.TheVariants.{Nothing};
 
+use super::cells::{received_value, unwritten_cell, written_value};
 use super::made::{Made, put, take};
 use iox2_commands::Reply;
 use iox2_pubsub::Domain;
@@ -37,35 +38,58 @@ pub(crate) fn release<T: Default + Drop, U: Default + Drop, F: BackpressureFn, G
     }
 }
 
-/// Reads the value of the sample or the cell of the loan that the command at the position made.
+/// Reads a value of the sample, or a cell of the loan, that the command at the position made.
 pub(crate) fn read<
     T: Copy + Default + Drop,
     U: Default + Drop,
     F: BackpressureFn,
     G: DegradationFn,
->(domain: &Domain<T, U, F, G>, table: &[Made], of: usize, at: usize) -> Reply<T, U>
-    requires { IsLiveTable domain.now table.now }
-    ensures { Carries fixed_handlers (defaults_of T.is_default U.is_default) domain.now domain.now table.now (Read of at) result table.now Nothing }
+>(domain: &Domain<T, U, F, G>, table: &mut Vec<Made>, of: usize, at: usize) -> Reply<T, U>
+    requires { IsLiveTable domain.now table.old.items }
+    ensures carries { Carries fixed_handlers (defaults_of T.is_default U.is_default) domain.now domain.now table.old.items (Read of at) result table.new.items Nothing }
+    ensures leaves { Leaves domain.now domain.now table.old.items table.new.items Nothing }
+    ensures room { SameRoom table.old table.new }
 {
-    let Some(made) = table.get(of) else {
-        return Reply::Skipped;
-    };
-    match made {
-        Made::Unwritten(sample) => cell_at(at, *sample.payload(domain)),
-        Made::Written(sample) => cell_at(at, Some(*sample.payload(domain))),
-        Made::Sample(sample) => cell_at(at, Some(*sample.payload(domain))),
-        _ => Reply::Skipped,
+    match take(table, of) {
+        Made::Unwritten(sample) => {
+            let (cell, sample) = unwritten_cell(domain, sample, at);
+            put(table, of, Made::Unwritten(sample));
+            cell_reply(cell)
+        }
+        Made::Written(sample) => {
+            let (value, sample) = written_value(domain, sample, at);
+            put(table, of, Made::Written(sample));
+            value_reply(value)
+        }
+        Made::Sample(sample) => {
+            let (value, sample) = received_value(domain, sample, at);
+            put(table, of, Made::Sample(sample));
+            value_reply(value)
+        }
+        other => {
+            put(table, of, other);
+            Reply::Skipped
+        }
     }
 }
 
-// What a read of a single cell replies.
-fn cell_at<T: Drop, U>(at: usize, cell: Option<T>) -> Reply<T, U>
-    ensures { result ≡ cond (at == 0) (Cell cell) Skipped }
+// What a read of a cell replies.
+fn cell_reply<T: Drop, U>(cell: Option<Option<T>>) -> Reply<T, U>
+    ensures { result ≡ option_map_or (λ it. Cell it) cell Skipped }
 {
-    if at == 0 {
-        Reply::Cell(cell)
-    } else {
-        Reply::Skipped
+    match cell {
+        Some(cell) => Reply::Cell(cell),
+        None => Reply::Skipped,
+    }
+}
+
+// What a read of a value replies.
+fn value_reply<T: Drop, U>(value: Option<T>) -> Reply<T, U>
+    ensures { result ≡ option_map_or (λ it. Cell (Some it)) value Skipped }
+{
+    match value {
+        Some(value) => Reply::Cell(Some(value)),
+        None => Reply::Skipped,
     }
 }
 
@@ -75,8 +99,7 @@ pub(crate) fn receive<T: Default + Drop, U: Default + Drop, F: BackpressureFn, G
     table: &[Made],
     of: usize,
 ) -> (Reply<T, U>, Made)
-    requires keeps { IsLiveTable domain.old table.now }
-    requires fixed_size { (domain.old.config).variant ≡ FixedSize }
+    requires { IsLiveTable domain.old table.now }
     ensures carries { Carries fixed_handlers (defaults_of T.is_default U.is_default) domain.old domain.new table.now (Receive of) result.0 table.now result.1 }
     ensures leaves { Leaves domain.old domain.new table.now table.now result.1 }
 {

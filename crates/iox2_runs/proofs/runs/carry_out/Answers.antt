@@ -25,7 +25,7 @@ pub returns-in-HasSamples-clause-carries : goal.returns-in-HasSamples-clause-car
 returns-in-HasSamples-clause-carries g c = rw (c.in-HasSamples.is, sym c.deref-in-HasSamples.ensures.value) c.has_samples.ensures.carries
 
 pub returns-in-Read-clause-carries : goal.returns-in-Read-clause-carries
-returns-in-Read-clause-carries g c = rw (c.in-Read.is, sym c.deref-in-Read.ensures.value) c.read.ensures
+returns-in-Read-clause-carries g c = rw c.in-Read.is c.read.ensures.carries
 
 pub returns-in-Release-clause-carries : goal.returns-in-Release-clause-carries
 returns-in-Release-clause-carries g c = rw c.in-Release.is c.release.ensures.carries
@@ -37,8 +37,8 @@ returns-in-Nothing-clause-carries g c = rw c.in-Nothing.is (λ m s handles event
 pub returns-in-LoanUninit-clause-carries : goal.returns-in-LoanUninit-clause-carries
 returns-in-LoanUninit-clause-carries g c = rw (c.in-LoanUninit.is, sym c.deref-in-LoanUninit.ensures.value) c.loan_uninit.ensures.carries
 
-pub create_publisher-requires-clause-keeps : goal.create_publisher-requires-clause-keeps
-create_publisher-requires-clause-keeps g c = rw c.deref.ensures.value c.requires.keeps
+pub create_publisher-requires : goal.create_publisher-requires
+create_publisher-requires g c = rw c.deref.ensures.value c.requires.keeps
 
 pub create_subscriber-requires : goal.create_subscriber-requires
 create_subscriber-requires g c = rw c.deref-in-CreateSubscriber.ensures.value c.requires.keeps
@@ -58,14 +58,14 @@ discard-requires g c = c.requires.keeps
 pub update-requires : goal.update-requires
 update-requires g c = rw c.deref-in-Update.ensures.value c.requires.keeps
 
-pub receive-requires-clause-keeps : goal.receive-requires-clause-keeps
-receive-requires-clause-keeps g c = rw c.deref-in-Receive.ensures.value c.requires.keeps
+pub receive-requires : goal.receive-requires
+receive-requires g c = rw c.deref-in-Receive.ensures.value c.requires.keeps
 
 pub has_samples-requires : goal.has_samples-requires
 has_samples-requires g c = rw c.deref-in-HasSamples.ensures.value c.requires.keeps
 
 pub read-requires : goal.read-requires
-read-requires g c = rw c.deref-in-Read.ensures.value c.requires.keeps
+read-requires g c = c.requires.keeps
 
 pub release-requires : goal.release-requires
 release-requires g c = c.requires.keeps
@@ -98,7 +98,7 @@ pub returns-in-HasSamples-clause-room : goal.returns-in-HasSamples-clause-room
 returns-in-HasSamples-clause-room g c = record { len = refl; capacity = refl }
 
 pub returns-in-Read-clause-room : goal.returns-in-Read-clause-room
-returns-in-Read-clause-room g c = record { len = refl; capacity = refl }
+returns-in-Read-clause-room g c = c.read.ensures.room
 
 pub returns-in-Release-clause-room : goal.returns-in-Release-clause-room
 returns-in-Release-clause-room g c = c.release.ensures.room
@@ -109,7 +109,7 @@ returns-in-Nothing-clause-room g c = record { len = refl; capacity = refl }
 pub returns-in-CreatePublisher-clause-carries : goal.returns-in-CreatePublisher-clause-carries
 returns-in-CreatePublisher-clause-carries g c =
     let told = rw c.in-CreatePublisher.is at c.requires.supported in
-    rw (c.in-CreatePublisher.is, told.0, told.1, told.2, told.3, told.4, sym c.deref.ensures.value) (c.create_publisher.ensures.carries c.in-CreatePublisher.initial_max_slice_len)
+    rw (c.in-CreatePublisher.is, told.0, told.1, told.2, told.3, told.4, sym c.deref.ensures.value) c.create_publisher.ensures.carries
 
 pub returns-in-CreateSubscriber-clause-carries : goal.returns-in-CreateSubscriber-clause-carries
 returns-in-CreateSubscriber-clause-carries g c =
@@ -157,8 +157,7 @@ returns-in-Release-clause-leaves g c =
     c.release.ensures.leaves
 
 pub returns-in-Read-clause-leaves : goal.returns-in-Read-clause-leaves
-returns-in-Read-clause-leaves g c =
-    leaves-all {T = g.row.T.Denot} {U = g.row.U.Denot} c.args.domain.now c.args.domain.now c.args.table.now.items c.args.table.now.items refl refl
+returns-in-Read-clause-leaves g c = c.read.ensures.leaves
 
 pub returns-in-Nothing-clause-leaves : goal.returns-in-Nothing-clause-leaves
 returns-in-Nothing-clause-leaves g c =
@@ -237,6 +236,18 @@ returns-in-Loan-clause-room g c = record { len = refl; capacity = refl }
 pub returns-in-Loan-clause-leaves : goal.returns-in-Loan-clause-leaves
 returns-in-Loan-clause-leaves g c =
     rw (sym c.deref-in-Loan.ensures.value) c.loan.ensures.leaves
+
+pub returns-in-LoanSlice-clause-carries : goal.returns-in-LoanSlice-clause-carries
+returns-in-LoanSlice-clause-carries g c = rw c.in-LoanSlice.is c.loan_slice.ensures.carries
+
+pub loan_slice-requires : goal.loan_slice-requires
+loan_slice-requires g c = c.requires.keeps
+
+pub returns-in-LoanSlice-clause-room : goal.returns-in-LoanSlice-clause-room
+returns-in-LoanSlice-clause-room g c = c.loan_slice.ensures.room
+
+pub returns-in-LoanSlice-clause-leaves : goal.returns-in-LoanSlice-clause-leaves
+returns-in-LoanSlice-clause-leaves g c = c.loan_slice.ensures.leaves
 
 pub returns-in-SendCopy-clause-carries : goal.returns-in-SendCopy-clause-carries
 returns-in-SendCopy-clause-carries g c = rw (c.in-SendCopy.is, sym c.deref-in-SendCopy.ensures.value) c.send_copy.ensures.carries

@@ -2,7 +2,6 @@ use Rattle.std.proofs.Common.{◌≡◌, ◌<◌, ◌+◌, arith, length, List, 
 use Rattle.std.proofs.lemmas.List.{take_more, take_all}
 use Rattle.std.proofs.lemmas.List.Elements.{All-get_or}
 use Rattle.iox2_store.specs.machine.Environments.{fixed_handlers}
-use Rattle.iox2_store.specs.declared.service_config.ServiceConfig.{ServiceConfig}
 use Rattle.iox2_runs.specs.Carries.{defaults_of}
 use Rattle.iox2_runs.specs.Supported.{IsSupportedCommand}
 use Rattle.iox2_commands.specs.declared.command.Command.{Command}
@@ -28,10 +27,7 @@ carry_out-reply-requires-clause-supported g c =
     let x = c.command-item.result in
     let inside : i < length c.args.commands.items = omega (arith, ap length c.deref-command-items.ensures.value, c.loop-command-test.true) in
     let here : x ≡ get_or c.args.commands.items i x = c.command-item.is ∙ ap (λ (ys : List (Command g.row.T.Denot g.row.U.Denot)). get_or ys i x) c.deref-command-items.ensures.value in
-    subst IsSupportedCommand (sym here) (All-get_or IsSupportedCommand c.args.commands.items i x inside c.requires.supported)
-
-pub carry_out-reply-requires-clause-fixed_size : goal.carry_out-reply-requires-clause-fixed_size
-carry_out-reply-requires-clause-fixed_size g c = ap (λ (k : ServiceConfig). k.variant) c.loop-command.invariant.stays.settings ∙ c.requires.fixed_size
+    subst IsSupportedCommand (sym here) (All-get_or IsSupportedCommand c.args.commands.items i x inside c.requires)
 
 pub carry_out-reply-requires-clause-keeps : goal.carry_out-reply-requires-clause-keeps
 carry_out-reply-requires-clause-keeps g c =

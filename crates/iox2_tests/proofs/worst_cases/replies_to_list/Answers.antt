@@ -4,6 +4,6 @@ use Rattle.iox2_commands.specs.declared.command.Command.{Command}
 use Rattle.iox2_runs.specs.Supported.{IsSupportedCommand}
 use Rattle.iox2_tests.proofs.worst_cases.replies_to_list.Goals as goal
 
-pub run-requires-clause-supported : goal.run-requires-clause-supported
-run-requires-clause-supported c =
-    subst (λ (list : List (Command ℕ ℕ)). All IsSupportedCommand list) (sym c.in_ok-commands.ensures.commands) (c.filling_is_supported.ensures c.args.config.now c.args.loans 5 c.requires)
+pub run-requires : goal.run-requires
+run-requires c =
+    subst (λ (list : List (Command ℕ ℕ)). All IsSupportedCommand list) (sym c.in_ok-commands.ensures.commands) (c.filling_is_supported.ensures c.args.config.now c.args.loans 5)

@@ -2,8 +2,8 @@ use Rattle.iox2_store.specs.machine.State.{fresh, no_messages}
 use Rattle.script_runner.proofs.SupportedCommands.{All-supported}
 use Rattle.script_runner.proofs.replies.replies_of.Goals as goal
 
-pub run-requires-clause-supported : goal.run-requires-clause-supported
-run-requires-clause-supported g c = All-supported _ _ c.in_ok-script.ensures.ok.names
+pub run-requires : goal.run-requires
+run-requires g c = All-supported _ _ c.in_ok-script.ensures.ok.names
 
 pub returns-clause-ok : goal.returns-clause-ok
 returns-clause-ok g c =

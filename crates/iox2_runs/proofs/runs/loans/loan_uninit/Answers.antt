@@ -1,12 +1,11 @@
 use Rattle.std.proofs.Common.{refl, sym, ap, ◌∙◌}
 use Rattle.iox2_store.specs.machine.Environments.{fixed_handlers}
-use Rattle.iox2_store.specs.SingleValues.{is_single_valued}
-use Rattle.iox2_domain.proofs.lemmas.fields.SingleSettings.{single-settings}
 use Rattle.iox2_runs.specs.Carries.{entry_for}
 use Rattle.iox2_runs.specs.declared.runs.made.Made.{Made}
 use Rattle.iox2_runs.proofs.TableLooks.{is_publisher_entry}
 use Rattle.iox2_runs.proofs.TableEntries.{looked, looked_past, not_publisher}
 use Rattle.iox2_pubsub.proofs.LiveParts.{unwritten-parts}
+use Rattle.iox2_runs.proofs.Services.{single-here}
 use Rattle.iox2_runs.proofs.LiveEntries.{live_publisher}
 use Rattle.iox2_runs.proofs.CarriedLoans.{loan_passed, loan_of_other, loan_carried, loan_denied}
 use Rattle.iox2_runs.proofs.LeavingSteps.{leaves-all, leaves-making}
@@ -17,7 +16,7 @@ use Rattle.iox2_runs.proofs.runs.loans.loan_uninit.Goals as goal
 pub returns-then-not-is_single_valued-clause-carries : goal.returns-then-not-is_single_valued-clause-carries
 returns-then-not-is_single_valued-clause-carries g c =
     loan_of_other {T = g.row.T.Denot} {U = g.row.U.Denot} fixed_handlers _ c.args.domain.now c.args.domain.now c.args.table.now c.args.table.now c.args.of
-    (ap is_single_valued (sym c.config.ensures.value) ∙ sym c.is_single_valued.ensures ∙ c.if-not-is_single_valued.true) refl
+    (sym c.is_single_valued.ensures ∙ c.if-not-is_single_valued.true) refl
 
 pub loan_uninit-requires-clause-live : goal.loan_uninit-requires-clause-live
 loan_uninit-requires-clause-live g c =
@@ -25,16 +24,14 @@ loan_uninit-requires-clause-live g c =
     (looked c.args.table.now c.args.of c.get.result c.in-Some.made _ c.get.ensures.lookup c.in-Some.is c.in-Publisher.is)
 
 pub loan_uninit-requires-clause-single_valued : goal.loan_uninit-requires-clause-single_valued
-loan_uninit-requires-clause-single_valued g c =
-    let single = single-settings c.config.result.now (sym c.is_single_valued.ensures ∙ c.if-not-is_single_valued.false) in
-    c.config.ensures.single_valued single.0 single.1
+loan_uninit-requires-clause-single_valued g c = single-here {T = g.row.T.Denot} {U = g.row.U.Denot} c.args.domain.now (sym c.is_single_valued.ensures ∙ c.if-not-is_single_valued.false)
 
 pub returns-in-Ok-clause-carries : goal.returns-in-Ok-clause-carries
 returns-in-Ok-clause-carries g c =
     loan_carried {T = g.row.T.Denot} {U = g.row.U.Denot} fixed_handlers _ c.args.domain.now c.loan_uninit.new.domain c.args.table.now c.args.table.now c.args.of
     refl c.in-Publisher.publisher c.in-Ok.sample
     (looked c.args.table.now c.args.of c.get.result c.in-Some.made _ c.get.ensures.lookup c.in-Some.is c.in-Publisher.is)
-    (ap is_single_valued (sym c.config.ensures.value) ∙ sym c.is_single_valued.ensures ∙ c.if-not-is_single_valued.false)
+    (sym c.is_single_valued.ensures ∙ c.if-not-is_single_valued.false)
     c.in-Ok.ensures.lends (unwritten-parts {T = g.row.T.Denot} {U = g.row.U.Denot} c.loan_uninit.new.domain c.in-Ok.sample c.in-Ok.ensures.live).0 c.in-Ok.ensures.publisher c.in-Ok.ensures.number
 
 pub returns-in-Err-clause-carries : goal.returns-in-Err-clause-carries
@@ -42,7 +39,7 @@ returns-in-Err-clause-carries g c =
     loan_denied {T = g.row.T.Denot} {U = g.row.U.Denot} fixed_handlers _ c.args.domain.now c.loan_uninit.new.domain c.args.table.now c.args.table.now c.args.of
     refl c.in-Publisher.publisher c.in-Err.error
     (looked c.args.table.now c.args.of c.get.result c.in-Some.made _ c.get.ensures.lookup c.in-Some.is c.in-Publisher.is)
-    (ap is_single_valued (sym c.config.ensures.value) ∙ sym c.is_single_valued.ensures ∙ c.if-not-is_single_valued.false)
+    (sym c.is_single_valued.ensures ∙ c.if-not-is_single_valued.false)
     c.in-Err.ensures.lends
 
 pub returns-in_default-made-clause-carries : goal.returns-in_default-made-clause-carries

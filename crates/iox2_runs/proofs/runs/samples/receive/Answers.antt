@@ -28,7 +28,7 @@ returns-then-config-ne1-clause-carries g c =
 
 pub receive-requires : goal.receive-requires
 receive-requires g c =
-    live_subscriber {T = g.row.T.Denot} {U = g.row.U.Denot} c.args.domain.now c.args.table.now c.requires.keeps c.args.of c.in-Subscriber.subscriber (looked c.args.table.now c.args.of c.get.result c.in-Some.made _ c.get.ensures.lookup c.in-Some.is c.in-Subscriber.is)
+    live_subscriber {T = g.row.T.Denot} {U = g.row.U.Denot} c.args.domain.now c.args.table.now c.requires c.args.of c.in-Subscriber.subscriber (looked c.args.table.now c.args.of c.get.result c.in-Some.made _ c.get.ensures.lookup c.in-Some.is c.in-Subscriber.is)
 
 pub returns-in-Ok-Some-clause-carries : goal.returns-in-Ok-Some-clause-carries
 returns-in-Ok-Some-clause-carries g c =
@@ -39,7 +39,7 @@ returns-in-Ok-Some-clause-carries g c =
     subst (λ (r : Result (Option Sample) ReceiveError). IfOk r (λ o. IfSome o (λ (it : Sample). it.sample.subscriber ≡ c.in-Subscriber.subscriber.id))) result c.receive.ensures.subscriber in
     receive_carried {T = g.row.T.Denot} {U = g.row.U.Denot} fixed_handlers _ c.args.domain.now c.receive.new.domain c.args.table.now c.args.table.now c.args.of
     refl
-    c.in-Subscriber.subscriber c.in-Ok-Some.sample c.origin.result (looked c.args.table.now c.args.of c.get.result c.in-Some.made _ c.get.ensures.lookup c.in-Some.is c.in-Subscriber.is) c.requires.fixed_size
+    c.in-Subscriber.subscriber c.in-Ok-Some.sample c.origin.result (looked c.args.table.now c.args.of c.get.result c.in-Some.made _ c.get.ensures.lookup c.in-Some.is c.in-Subscriber.is)
     (ap (λ (k : ServiceConfig). k.units_per_element) (sym c.config.ensures.value) ∙ c.if-config-ne1.false)
     (λ m s shown. let got = c.receive.ensures.receives m s shown in (got.0, got.1, subst (λ r. Receive fixed_handlers s c.in-Subscriber.subscriber.id got.0 (received_result r)) result got.2))
     (sample-parts {T = g.row.T.Denot} {U = g.row.U.Denot} c.receive.new.domain _ live).0 whose c.origin.ensures

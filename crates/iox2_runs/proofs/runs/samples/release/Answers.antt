@@ -13,7 +13,7 @@ use Rattle.iox2_runs.proofs.runs.samples.release.Goals as goal
 
 pub release-requires : goal.release-requires
 release-requires g c =
-    (live_sample {T = g.row.T.Denot} {U = g.row.U.Denot} c.args.domain.now c.args.table.now.items c.requires c.args.of c.in-Sample.sample (sym c.take.ensures.made ∙ c.in-Sample.is)).0
+    live_sample {T = g.row.T.Denot} {U = g.row.U.Denot} c.args.domain.now c.args.table.now.items c.requires c.args.of c.in-Sample.sample (sym c.take.ensures.made ∙ c.in-Sample.is)
 
 pub returns-in-Sample-clause-carries : goal.returns-in-Sample-clause-carries
 returns-in-Sample-clause-carries g c =

@@ -1,0 +1,24 @@
+use Rattle.std.proofs.Common.{◌≡◌, sym, subst, ◌∙◌, Some}
+use Rattle.iox2_store.specs.machine.Records.{Entry}
+use Rattle.iox2_domain.specs.Kept.{entries_of}
+use Rattle.iox2_pubsub.specs.declared.sample.Sample.{Sample}
+use Rattle.iox2_runs.proofs.CellLists.{item-read}
+use Rattle.iox2_runs.proofs.CellViews.{message-read, messages-read}
+use Rattle.iox2_runs.proofs.Services.{single-here, sliced-here}
+use Rattle.iox2_runs.proofs.runs.cells.received_value.Goals as goal
+
+pub payload-requires-clause-single_valued : goal.payload-requires-clause-single_valued
+payload-requires-clause-single_valued g c = single-here {T = g.row.T.Denot} {U = g.row.U.Denot} c.args.domain.now (sym c.is_single_valued.ensures ∙ c.if-is_single_valued.true)
+
+pub returns-then-is_single_valued-clause-reads : goal.returns-then-is_single_valued-clause-reads
+returns-then-is_single_valued-clause-reads g c =
+    message-read {T = g.row.T.Denot} {U = g.row.U.Denot} c.args.domain.now c.args.sample.sample.number c.args.at c.payload.result.now c.only_at.result c.payload.ensures.entry c.only_at.ensures
+
+pub payload-requires-2-clause-sliced : goal.payload-requires-2-clause-sliced
+payload-requires-2-clause-sliced g c = sliced-here {T = g.row.T.Denot} {U = g.row.U.Denot} c.args.domain.now (sym c.is_single_valued.ensures ∙ c.if-is_single_valued.false)
+
+pub returns-clause-reads : goal.returns-clause-reads
+returns-clause-reads g c =
+    messages-read {T = g.row.T.Denot} {U = g.row.U.Denot} c.args.domain.now c.args.sample.sample.number c.args.at c.payload-2.result.now c.copied-value.result
+    (subst (λ (it : Sample). (entry : Entry g.row.T.Denot g.row.U.Denot) × (entries_of c.args.domain.now it.sample.number ≡ Some entry) × (entry.values ≡ c.payload-2.result.now)) c.new-sample.ensures c.payload-2.ensures)
+    (c.copied-value.ensures ∙ item-read c.payload-2.result.now c.args.at c.get.result c.get.ensures.lookup)

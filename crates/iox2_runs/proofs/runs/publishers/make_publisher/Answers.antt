@@ -1,0 +1,17 @@
+use Rattle.std.proofs.Common.{◌≡◌, refl, sym, ap, subst, ◌∙◌, None, Some}
+use Rattle.std.specs.Prelude.{MatchResult}
+use Rattle.iox2_store.specs.machine.Environments.{fixed_handlers}
+use Rattle.iox2_store.specs.machine.Ports.{CreatePublisher}
+use Rattle.iox2_store.specs.machine.Records.{PublisherSettings}
+use Rattle.iox2_domain.specs.NewPublisher.{plain_publisher}
+use Rattle.iox2_runs.proofs.CarriedPorts.{fixed-settings, slice-settings}
+use Rattle.iox2_runs.proofs.runs.publishers.make_publisher.Goals as goal
+
+pub returns-in-FixedSize-clause-creates : goal.returns-in-FixedSize-clause-creates
+returns-in-FixedSize-clause-creates g c = λ m s shown.
+    let told : c.max_loaned_samples.result ≡ plain_publisher c.args.loans 1 =
+    c.max_loaned_samples.ensures ∙ ap (λ (given : PublisherSettings). record given { max_loaned_samples = c.args.loans }) c.publisher_builder.ensures in
+    let made = c.create.ensures.creates m s shown in
+    (made.0, made.1, subst (λ (given : PublisherSettings). MatchResult c.create.result
+    (λ publisher. (publisher.id ≡ s.next_port) × CreatePublisher fixed_handlers s given made.0 None) (λ e. CreatePublisher fixed_handlers s given made.0 (Some e)))
+    (fixed-settings {T = g.row.T.Denot} {U = g.row.U.Denot} c.args.domain.now c.args.loans c.args.len _ told (sym c.variant.ensures ∙ c.in-FixedSize.is) m s shown) made.2)

@@ -1,0 +1,164 @@
+//! One cell of a loan, or one value of a message, of however many it has.
+//!
+//! A run's table has the handles of single values alone. Where messages are slices, a handle is made
+//! one of a slice for the call, and then taken back.
+ghost use Rattle.std.specs.Prelude.{◌≡◌, ◌∷◌, [], slice_get, Some};
+ghost use Rattle.std.specs.Option.{option_map};
+ghost use Rattle.iox2_store.specs.machine.Loans.{written};
+ghost use Rattle.iox2_store.specs.machine.Records.{Loan};
+ghost use Rattle.iox2_store.specs.machine.State.{State, Messages, with_loan};
+ghost use Rattle.iox2_domain.specs.Shows.{Shows};
+ghost use Rattle.iox2_pubsub.specs.Live.{IsLiveSample, IsUnwrittenLoan, IsWrittenLoan, StaysBut, unwritten_key, unwritten_loan, written_key, written_loan};
+ghost use Rattle.iox2_runs.specs.Cells.{LoanHasAt, MessageHasAt, WritesAt};
+
+use super::services::is_single_valued;
+use iox2_pubsub::{Domain, Sample, SampleMut, SampleMutUninit, slice};
+use iox2_store::{BackpressureFn, DegradationFn};
+
+/// Reads the unwritten loan's cell at the index, if it has one there.
+pub(crate) fn unwritten_cell<
+    T: Copy + Drop,
+    U: Default + Drop,
+    F: BackpressureFn,
+    G: DegradationFn,
+>(
+    domain: &Domain<T, U, F, G>,
+    sample: SampleMutUninit,
+    at: usize,
+) -> (Option<Option<T>>, SampleMutUninit)
+    requires { IsUnwrittenLoan domain.now sample }
+    ensures reads { LoanHasAt domain.now sample.loan.number at result.0 }
+    ensures same { result.1 ≡ sample }
+{
+    if is_single_valued(domain) {
+        return (only_at(at, *sample.payload(domain)), sample);
+    }
+    let sample = slice::SampleMutUninit::new(sample);
+    let cell = sample.payload(domain).get(at).copied();
+    (cell, sample.into_inner())
+}
+
+/// Reads the written loan's value at the index, if it has one there.
+pub(crate) fn written_value<
+    T: Copy + Drop,
+    U: Default + Drop,
+    F: BackpressureFn,
+    G: DegradationFn,
+>(domain: &Domain<T, U, F, G>, sample: SampleMut, at: usize) -> (Option<T>, SampleMut)
+    requires { IsWrittenLoan domain.now sample }
+    ensures reads { LoanHasAt domain.now sample.loan.number at (option_map Some result.0) }
+    ensures same { result.1 ≡ sample }
+{
+    if is_single_valued(domain) {
+        return (only_at(at, *sample.payload(domain)), sample);
+    }
+    let sample = slice::SampleMut::new(sample);
+    let value = sample.payload(domain).get(at).copied();
+    (value, sample.into_inner())
+}
+
+/// Reads the message's value at the index, if it has one there.
+pub(crate) fn received_value<
+    T: Copy + Drop,
+    U: Default + Drop,
+    F: BackpressureFn,
+    G: DegradationFn,
+>(domain: &Domain<T, U, F, G>, sample: Sample, at: usize) -> (Option<T>, Sample)
+    requires { IsLiveSample domain.now sample }
+    ensures reads { MessageHasAt domain.now sample.sample.number at result.0 }
+    ensures same { result.1 ≡ sample }
+{
+    if is_single_valued(domain) {
+        return (only_at(at, *sample.payload(domain)), sample);
+    }
+    let sample = slice::Sample::new(sample);
+    let value = sample.payload(domain).get(at).copied();
+    (value, sample.into_inner())
+}
+
+// What stands at the index, where this alone stands anywhere.
+fn only_at<V: Drop>(at: usize, only: V) -> Option<V>
+    ensures { result ≡ slice_get (only ∷ []) at }
+{
+    if at == 0 { Some(only) } else { None }
+}
+
+/// Writes the unwritten loan's cell at the index, and says whether it has one there.
+pub(crate) fn write_cell_at<T: Drop, U: Default + Drop, F: BackpressureFn, G: DegradationFn>(
+    domain: &mut Domain<T, U, F, G>,
+    mut sample: SampleMutUninit,
+    at: usize,
+    value: T,
+) -> (bool, SampleMutUninit)
+    requires { IsUnwrittenLoan domain.old sample }
+    ensures writes { WritesAt domain.old domain.new sample.loan.number at value result.0 }
+    ensures same { result.1 ≡ sample }
+    ensures stays { StaysBut (unwritten_loan sample) domain.old domain.new }
+{
+    if is_single_valued(domain) {
+        // For the proof alone: the loan has one cell.
+        sample.payload(domain);
+        if at != 0 {
+            return (false, sample);
+        }
+        *SampleMutUninit::payload_mut(domain, &mut sample) = Some(value);
+        return (true, sample);
+    }
+    let mut sample = slice::SampleMutUninit::new(sample);
+    if at >= sample.payload(domain).len() {
+        return (false, sample.into_inner());
+    }
+    let cells = slice::SampleMutUninit::payload_mut(domain, &mut sample);
+    cells[at] = Some(value);
+    (true, sample.into_inner())
+}
+
+/// Changes the written loan's value at the index, and says whether it has one there.
+pub(crate) fn set_value_at<T: Drop, U: Default + Drop, F: BackpressureFn, G: DegradationFn>(
+    domain: &mut Domain<T, U, F, G>,
+    mut sample: SampleMut,
+    at: usize,
+    value: T,
+) -> (bool, SampleMut)
+    requires { IsWrittenLoan domain.old sample }
+    ensures writes { WritesAt domain.old domain.new sample.loan.number at value result.0 }
+    ensures same { result.1 ≡ sample }
+    ensures stays { StaysBut (written_loan sample) domain.old domain.new }
+{
+    if is_single_valued(domain) {
+        // For the proof alone: the loan has one value.
+        sample.payload(domain);
+        if at != 0 {
+            return (false, sample);
+        }
+        *SampleMut::payload_mut(domain, &mut sample) = value;
+        return (true, sample);
+    }
+    let mut sample = slice::SampleMut::new(sample);
+    if at >= sample.payload(domain).len() {
+        return (false, sample.into_inner());
+    }
+    let values = slice::SampleMut::payload_mut(domain, &mut sample);
+    values[at] = value;
+    (true, sample.into_inner())
+}
+
+/// Writes the value into each cell of the loan.
+pub(crate) fn write_cells<T: Copy + Drop, U: Default + Drop, F: BackpressureFn, G: DegradationFn>(
+    domain: &mut Domain<T, U, F, G>,
+    sample: SampleMutUninit,
+    value: T,
+) -> SampleMut
+    requires { IsUnwrittenLoan domain.old sample }
+    ensures written { (m : Messages T U) (s : State T U) → Shows domain.old m s
+        → (l : Loan T U) × (s.loans sample.loan.number ≡ Some l) × Shows domain.new m (with_loan s sample.loan.number (Some (written l value))) }
+    ensures key { written_key result ≡ unwritten_key sample }
+    ensures stays { StaysBut (unwritten_loan sample) domain.old domain.new }
+{
+    if is_single_valued(domain) {
+        return sample.write_payload(domain, value);
+    }
+    slice::SampleMutUninit::new(sample)
+        .write_from_fn(domain, |_| value)
+        .into_inner()
+}

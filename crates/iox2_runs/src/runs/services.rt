@@ -1,0 +1,26 @@
+//! What the messages of a service are.
+ghost use Rattle.std.specs.Prelude.{◌≡◌};
+ghost use Rattle.iox2_store.specs.SingleValues.{is_single_valued};
+ghost use Rattle.iox2_runs.specs.Services.{has_slices};
+
+use iox2_pubsub::Domain;
+use iox2_store::{BackpressureFn, DegradationFn, TypeVariant};
+
+/// Whether the payload of each message is a single value of one unit.
+pub(crate) fn is_single_valued<T: Drop, U: Default + Drop, F: BackpressureFn, G: DegradationFn>(
+    domain: &Domain<T, U, F, G>,
+) -> bool
+    ensures { result ≡ is_single_valued domain.now.config }
+{
+    domain.config().is_single_valued()
+}
+
+/// Whether the payload of each message is a slice of elements of one unit.
+pub(crate) fn has_slices<T: Drop, U: Default + Drop, F: BackpressureFn, G: DegradationFn>(
+    domain: &Domain<T, U, F, G>,
+) -> bool
+    ensures { result ≡ has_slices domain.now.config }
+{
+    let config = domain.config();
+    config.variant != TypeVariant::FixedSize && config.units_per_element == 1
+}

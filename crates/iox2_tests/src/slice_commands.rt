@@ -1,0 +1,177 @@
+//! Runs in which messages are slices.
+use crate::fixtures::settings;
+use crate::runs::{CREATE_SUBSCRIBER, create_publisher, replies_to_numbers};
+use iox2_pubsub::Domain;
+use iox2_runs::{Command, Reply};
+use iox2_store::{
+    AllocationStrategy, BackpressureStrategy, DegradationAction, Header, LoanError, ServiceConfig,
+    TypeVariant, UniqueNodeId, UniquePublisherId, UniqueSubscriberId,
+};
+
+// The command that makes a publisher with one loan, of three elements at most.
+const PUBLISHER_OF_THREE: Command<u64, u8> = Command::CreatePublisher {
+    loans: 1,
+    strategy: BackpressureStrategy::DiscardData,
+    allocation: AllocationStrategy::Static,
+    initial_max_slice_len: 3,
+    override_slots: None,
+    degradation: DegradationAction::Warn,
+    backpressure: None,
+};
+
+// The settings of a service for slices.
+fn slice_settings() -> ServiceConfig {
+    ServiceConfig {
+        variant: TypeVariant::Dynamic,
+        ..settings()
+    }
+}
+
+#[test]
+fn a_slice_is_written_cell_by_cell(rt: HostRuntime) {
+    let config = ServiceConfig {
+        node_id: 9,
+        ..slice_settings()
+    };
+    let mut domain: Domain<u64, u8> = Domain::new(rt.alloc(), config).expect(&rt, "a domain");
+    let commands = [
+        PUBLISHER_OF_THREE,
+        Command::LoanSlice { of: 0, len: 2 },
+        Command::WriteCell {
+            of: 1,
+            at: 1,
+            value: 8,
+        },
+        Command::AssumeInit { of: 1 },
+        Command::WriteCell {
+            of: 1,
+            at: 0,
+            value: 7,
+        },
+        Command::WriteCell {
+            of: 1,
+            at: 2,
+            value: 6,
+        },
+        Command::AssumeInit { of: 1 },
+        Command::Read { of: 1, at: 1 },
+        Command::ReadHeader { of: 1 },
+        Command::LoanSlice { of: 0, len: 4 },
+        Command::Send { of: 1 },
+        Command::Send { of: 1 },
+    ];
+    let commands = Vec::from_array(rt.alloc(), commands).expect(&rt, "commands");
+    let outcome = replies_to_numbers(rt.alloc(), &mut domain, commands);
+    drop(domain);
+    let replies = outcome.ok().expect(&rt, "replies");
+    let header = Header {
+        node_id: UniqueNodeId::new(9),
+        publisher_id: UniquePublisherId::new(1),
+        number_of_elements: 2,
+    };
+    let expected: [Reply<u64, u8>; 12] = [
+        Reply::PublisherMade(UniquePublisherId::new(1)),
+        Reply::Loaned,
+        Reply::Done,
+        Reply::Unwritten,
+        Reply::Done,
+        Reply::Skipped,
+        Reply::Done,
+        Reply::Cell(Some(8)),
+        Reply::Header(header),
+        Reply::LoanRefused(LoanError::ExceedsMaxLoanSize),
+        Reply::Delivered(0),
+        Reply::Skipped,
+    ];
+    assert!(rt; replies.as_slice() == expected.as_slice());
+}
+
+#[test]
+fn a_slice_is_received_as_it_was_sent(rt: HostRuntime) {
+    let config = slice_settings();
+    let mut domain: Domain<u64, u8> = Domain::new(rt.alloc(), config).expect(&rt, "a domain");
+    let commands = [
+        CREATE_SUBSCRIBER,
+        PUBLISHER_OF_THREE,
+        Command::LoanSlice { of: 1, len: 3 },
+        Command::WriteAll { of: 2, value: 6 },
+        Command::SetPayload {
+            of: 2,
+            at: 2,
+            value: 9,
+        },
+        Command::SetPayload {
+            of: 2,
+            at: 3,
+            value: 9,
+        },
+        Command::Send { of: 2 },
+        Command::Receive { of: 0 },
+        Command::Read { of: 7, at: 0 },
+        Command::Read { of: 7, at: 2 },
+        Command::Read { of: 7, at: 3 },
+        Command::Release { of: 7 },
+        Command::LoanSlice { of: 1, len: 0 },
+        Command::Read { of: 12, at: 0 },
+        Command::AssumeInit { of: 12 },
+        Command::Send { of: 12 },
+    ];
+    let commands = Vec::from_array(rt.alloc(), commands).expect(&rt, "commands");
+    let outcome = replies_to_numbers(rt.alloc(), &mut domain, commands);
+    drop(domain);
+    let replies = outcome.ok().expect(&rt, "replies");
+    let expected: [Reply<u64, u8>; 16] = [
+        Reply::SubscriberMade(UniqueSubscriberId::new(1)),
+        Reply::PublisherMade(UniquePublisherId::new(2)),
+        Reply::Loaned,
+        Reply::Done,
+        Reply::Done,
+        Reply::Skipped,
+        Reply::Delivered(1),
+        Reply::Sample(UniquePublisherId::new(2)),
+        Reply::Cell(Some(6)),
+        Reply::Cell(Some(9)),
+        Reply::Skipped,
+        Reply::Done,
+        Reply::Loaned,
+        Reply::Skipped,
+        Reply::Done,
+        Reply::Delivered(1),
+    ];
+    assert!(rt; replies.as_slice() == expected.as_slice());
+}
+
+#[test]
+fn a_service_lends_messages_of_its_kind_alone(rt: HostRuntime) {
+    let mut sliced: Domain<u64, u8> = Domain::new(rt.alloc(), slice_settings()).expect(
+        &rt, "a domain",
+    );
+    let commands = [
+        create_publisher(1),
+        Command::LoanUninit { of: 0 },
+        Command::Loan { of: 0 },
+        Command::SendCopy { of: 0, value: 5 },
+    ];
+    let commands = Vec::from_array(rt.alloc(), commands).expect(&rt, "commands");
+    let in_slices = replies_to_numbers(rt.alloc(), &mut sliced, commands);
+    drop(sliced);
+    let mut single: Domain<u64, u8> = Domain::new(rt.alloc(), settings()).expect(&rt, "a domain");
+    let commands = [
+        PUBLISHER_OF_THREE,
+        Command::LoanSlice { of: 0, len: 1 },
+        Command::LoanUninit { of: 0 },
+        Command::Read { of: 2, at: 1 },
+    ];
+    let commands = Vec::from_array(rt.alloc(), commands).expect(&rt, "commands");
+    let in_values = replies_to_numbers(rt.alloc(), &mut single, commands);
+    drop(single);
+    let in_slices = in_slices.ok().expect(&rt, "replies");
+    let in_values = in_values.ok().expect(&rt, "replies");
+    let made = Reply::PublisherMade(UniquePublisherId::new(1));
+    let expected_of_slices: [Reply<u64, u8>; 4] =
+        [made, Reply::Skipped, Reply::Skipped, Reply::Skipped];
+    let expected_of_values: [Reply<u64, u8>; 4] =
+        [made, Reply::Skipped, Reply::Loaned, Reply::Skipped];
+    assert!(rt; in_slices.as_slice() == expected_of_slices.as_slice());
+    assert!(rt; in_values.as_slice() == expected_of_values.as_slice());
+}
