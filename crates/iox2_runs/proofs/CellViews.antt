@@ -98,9 +98,12 @@ module _ {T U : Type 0} (old : Domain T U) (n : ℕ) where
       cell-written cell first has changes = λ m s shown.
           let read = has m s shown in
           let changed = changes m s shown in
-          let one : (changed.0).cells ≡ cell ∷ [] = ap (λ (l : Loan T U). l.cells) (same_Some changed.0 read.0 (sym changed.1 ∙ read.1)) ∙ read.2 in
-          (changed.0, changed.1, ap (λ (i : ℕ). nat_lt i (length (changed.0).cells)) first ∙ ap (λ (cells : List (Option T)). nat_lt 0 (length cells)) one,
-          subst (λ (i : ℕ). Shows new m (with_loan s n (Some (with_cell changed.0 i value)))) (sym first) changed.2)
+          let one : (changed.0).cells ≡ cell ∷ [] = ap (λ (l : Loan T U). l.cells) (same_Some changed.0 read.0 (sym changed.1 ∙ read.1)) ∙ read.2 in (
+            changed.0,
+            changed.1,
+            ap (λ (i : ℕ). nat_lt i (length (changed.0).cells)) first ∙ ap (λ (cells : List (Option T)). nat_lt 0 (length cells)) one,
+            subst (λ (i : ℕ). Shows new m (with_loan s n (Some (with_cell changed.0 i value)))) (sym first) changed.2,
+          )
 
       -- one of its cells is
       one-written : (cells left : List (Option T)) → at < length cells → HasCells (state_of old) n cells → left ≡ slice_set cells at (Some value)
@@ -112,9 +115,12 @@ module _ {T U : Type 0} (old : Domain T U) (n : ℕ) where
           let l : Loan T U = changed.0 in
           let same : l.cells ≡ cells = ap (λ (k : Loan T U). k.cells) (same_Some l read.0 (sym changed.1 ∙ read.1)) ∙ read.2 in
           let after : refill (length l.cells) l.cells left ≡ slice_set l.cells at (Some value) =
-          ap (refill (length l.cells) l.cells) (is ∙ ap (λ (cs : List (Option T)). slice_set cs at (Some value)) (sym same)) ∙ refill_set l.cells at (Some value) in
-          (l, changed.1, ap (λ (cs : List (Option T)). nat_lt at (length cs)) same ∙ lt-ltb at (length cells) low,
-          subst (λ (cs : List (Option T)). Shows new m (with_loan s n (Some (record l { cells = cs })))) after changed.2)
+          ap (refill (length l.cells) l.cells) (is ∙ ap (λ (cs : List (Option T)). slice_set cs at (Some value)) (sym same)) ∙ refill_set l.cells at (Some value) in (
+            l,
+            changed.1,
+            ap (λ (cs : List (Option T)). nat_lt at (length cs)) same ∙ lt-ltb at (length cells) low,
+            subst (λ (cs : List (Option T)). Shows new m (with_loan s n (Some (record l { cells = cs })))) after changed.2,
+          )
 
       pub cells-written : (cells left : List (Option T)) → at < length cells → HasUnwrittenCells old n cells → left ≡ slice_set cells at (Some value)
           → ((m : Messages T U) (s : State T U) → Shows old m s → (l : Loan T U) × (s.loans n ≡ Some l) × Shows new m (with_loan s n (Some (cells_changed left l))))

@@ -168,10 +168,18 @@ fn a_service_lends_messages_of_its_kind_alone(rt: HostRuntime) {
     let in_slices = in_slices.ok().expect(&rt, "replies");
     let in_values = in_values.ok().expect(&rt, "replies");
     let made = Reply::PublisherMade(UniquePublisherId::new(1));
-    let expected_of_slices: [Reply<u64, u8>; 4] =
-        [made, Reply::Skipped, Reply::Skipped, Reply::Skipped];
-    let expected_of_values: [Reply<u64, u8>; 4] =
-        [made, Reply::Skipped, Reply::Loaned, Reply::Skipped];
+    let expected_of_slices: [Reply<u64, u8>; 4] = [
+        made,
+        Reply::Skipped,
+        Reply::Skipped,
+        Reply::Skipped,
+    ];
+    let expected_of_values: [Reply<u64, u8>; 4] = [
+        made,
+        Reply::Skipped,
+        Reply::Loaned,
+        Reply::Skipped,
+    ];
     assert!(rt; in_slices.as_slice() == expected_of_slices.as_slice());
     assert!(rt; in_values.as_slice() == expected_of_values.as_slice());
 }

@@ -129,8 +129,7 @@ fn replies_to_list(
     alloc: Global,
     config: &ServiceConfig,
     loans: usize,
-) -> Option<Vec<Reply<u64, u8>>>
-{
+) -> Option<Vec<Reply<u64, u8>>> {
     let commands = worst_case_commands(alloc, config, loans, 5, None)?;
     let Ok(mut domain) = Domain::<u64, u8>::new(alloc, *config) else {
         return None;
@@ -175,8 +174,7 @@ fn counts(replies: &[Reply<u64, u8>]) -> [usize; 3] {
 // Asserts that there is a list where its service has a publisher, a subscriber and a loan, and there
 // alone, and that no command of it is skipped or refused. Each subscriber borrows messages, others
 // wait for it, and others are for the history.
-fn assert_list_is_granted(rt: &impl Abort, alloc: Global, config: &ServiceConfig, loans: usize)
-{
+fn assert_list_is_granted(rt: &impl Abort, alloc: Global, config: &ServiceConfig, loans: usize) {
     let subscribers = config.max_subscribers;
     let borrowed = config.subscriber_max_borrowed_samples;
     let history = config.history_size;
@@ -210,8 +208,7 @@ fn assert_list_is_granted(rt: &impl Abort, alloc: Global, config: &ServiceConfig
 }
 
 // Asserts it for every history and number of loans up to three.
-fn assert_lists_are_granted(rt: &impl Abort, alloc: Global, config: ServiceConfig)
-{
+fn assert_lists_are_granted(rt: &impl Abort, alloc: Global, config: ServiceConfig) {
     for history_size in 0..4 {
         let config = ServiceConfig {
             history_size,

@@ -39,8 +39,7 @@ fn is_granted(reply: &Reply<u64, ()>) -> bool {
 }
 
 /// Prints how many slots a publisher needs and how long the list is, and runs it on a new domain.
-pub(crate) fn fill(rt: &HostRuntime, sizes: &Sizes) -> Result<(), Failure>
-{
+pub(crate) fn fill(rt: &HostRuntime, sizes: &Sizes) -> Result<(), Failure> {
     let slots = worst_case_slots(&sizes.config, sizes.loans).ok_or(Failure::TooManySlots)?;
     println!(rt; "{slots} slots")?;
     let commands = filling(rt.alloc(), sizes)?;
@@ -74,8 +73,7 @@ fn replies_of(
 /// Makes so many allocations, and then has two runs of the list compared. Prints how many commands
 /// were skipped or refused in each run and how many of its connections were refused memory, or that
 /// there is no comparison.
-pub(crate) fn compare(rt: &HostRuntime, sizes: &Sizes, allocations: usize) -> Result<(), Failure>
-{
+pub(crate) fn compare(rt: &HostRuntime, sizes: &Sizes, allocations: usize) -> Result<(), Failure> {
     let commands = filling(rt.alloc(), sizes)?;
     let same = filling(rt.alloc(), sizes)?;
     allocate(rt.alloc(), allocations)?;

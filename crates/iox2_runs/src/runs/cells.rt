@@ -39,12 +39,11 @@ pub(crate) fn unwritten_cell<
 }
 
 /// Reads the written loan's value at the index, if it has one there.
-pub(crate) fn written_value<
-    T: Copy + Drop,
-    U: Default + Drop,
-    F: BackpressureFn,
-    G: DegradationFn,
->(domain: &Domain<T, U, F, G>, sample: SampleMut, at: usize) -> (Option<T>, SampleMut)
+pub(crate) fn written_value<T: Copy + Drop, U: Default + Drop, F: BackpressureFn, G: DegradationFn>(
+    domain: &Domain<T, U, F, G>,
+    sample: SampleMut,
+    at: usize,
+) -> (Option<T>, SampleMut)
     requires { IsWrittenLoan domain.now sample }
     ensures reads { LoanHasAt domain.now sample.loan.number at (option_map Some result.0) }
     ensures same { result.1 ≡ sample }

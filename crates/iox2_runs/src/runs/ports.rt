@@ -20,12 +20,7 @@ pub(crate) fn create_publisher<
     U: Default + Drop,
     F: BackpressureFn,
     G: DegradationFn,
->(
-    domain: &mut Domain<T, U, F, G>,
-    table: &[Made],
-    loans: usize,
-    len: usize,
-) -> (Reply<T, U>, Made)
+>(domain: &mut Domain<T, U, F, G>, table: &[Made], loans: usize, len: usize) -> (Reply<T, U>, Made)
     requires { IsLiveTable domain.old table.now }
     ensures carries { Carries fixed_handlers (defaults_of T.is_default U.is_default) domain.old domain.new table.now
         (CreatePublisher loans DiscardData Static len None Warn None) result.0 table.now result.1 }

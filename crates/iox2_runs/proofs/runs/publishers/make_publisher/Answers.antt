@@ -11,7 +11,10 @@ pub returns-in-FixedSize-clause-creates : goal.returns-in-FixedSize-clause-creat
 returns-in-FixedSize-clause-creates g c = λ m s shown.
     let told : c.max_loaned_samples.result ≡ plain_publisher c.args.loans 1 =
     c.max_loaned_samples.ensures ∙ ap (λ (given : PublisherSettings). record given { max_loaned_samples = c.args.loans }) c.publisher_builder.ensures in
-    let made = c.create.ensures.creates m s shown in
-    (made.0, made.1, subst (λ (given : PublisherSettings). MatchResult c.create.result
-    (λ publisher. (publisher.id ≡ s.next_port) × CreatePublisher fixed_handlers s given made.0 None) (λ e. CreatePublisher fixed_handlers s given made.0 (Some e)))
-    (fixed-settings {T = g.row.T.Denot} {U = g.row.U.Denot} c.args.domain.now c.args.loans c.args.len _ told (sym c.variant.ensures ∙ c.in-FixedSize.is) m s shown) made.2)
+    let made = c.create.ensures.creates m s shown in (
+      made.0,
+      made.1,
+      subst (λ (given : PublisherSettings). MatchResult c.create.result
+          (λ publisher. (publisher.id ≡ s.next_port) × CreatePublisher fixed_handlers s given made.0 None) (λ e. CreatePublisher fixed_handlers s given made.0 (Some e)))
+          (fixed-settings {T = g.row.T.Denot} {U = g.row.U.Denot} c.args.domain.now c.args.loans c.args.len _ told (sym c.variant.ensures ∙ c.in-FixedSize.is) m s shown) made.2,
+    )
