@@ -22,12 +22,12 @@ use Rattle.iox2_laws.specs.Laws.{Advances}
 use Rattle.iox2_laws.proofs.Cases.{by_option}
 use Rattle.iox2_laws.proofs.Enough.{fresh_is_well_formed}
 use Rattle.iox2_commands.specs.Outcomes.{Handle, Event, Outcome, messages_after, done, replied, skipped}
-use Rattle.iox2_commands.specs.Step.{Step, after_publisher, after_subscriber, publisher_settings, unblocked_at, subscriber_at, loan_at, unwritten_at, written_at, with_cell_at, sendable_at, sample_at, if_single_units, if_fixed_size}
+use Rattle.iox2_commands.specs.Step.{Step, after_publisher, after_subscriber, publisher_settings, unblocked_at, subscriber_at, loan_at, unwritten_at, written_at, with_cell_at, sendable_at, sample_at, if_single_units, if_fixed_size, if_dynamic}
 use Rattle.iox2_commands.specs.Points.{PointOf}
 use Rattle.iox2_commands.specs.Runs.{Defaults, RunFrom, RunTo, only_defaults}
 use Rattle.iox2_commands.specs.Refusals.{TellNoRefusal, TellsOfRefusals, RefusesPort, RefuseNoPort, MetNoRefusal, RunsWithoutRefusalsAreAmple, SubscribersAreIsolatedWithoutRefusals, ViewsStayAlikeWithoutRefusals}
 use Rattle.iox2_commands.specs.declared.command.Command.{Command}
-use Rattle.iox2_commands.specs.declared.command.Command.TheVariants.{Nothing, CreatePublisher, CreateSubscriber, LoanUninit, Loan as LoanDefault, WriteCell, WriteAll, AssumeInit, WriteHeader, SetPayload, Send, SendCopy, Discard, Update, Receive, HasSamples, Read, ReadHeader, ReadUserHeader, Release, Close}
+use Rattle.iox2_commands.specs.declared.command.Command.TheVariants.{Nothing, CreatePublisher, CreateSubscriber, LoanUninit, Loan as LoanDefault, LoanSlice, WriteCell, WriteAll, AssumeInit, WriteHeader, SetPayload, Send, SendCopy, Discard, Update, Receive, HasSamples, Read, ReadHeader, ReadUserHeader, Release, Close}
 use Rattle.iox2_commands.specs.declared.reply.Reply.{Reply}
 use Rattle.iox2_commands.specs.declared.reply.Reply.TheVariants.{Unwritten}
 use Rattle.iox2_commands.proofs.EnoughRuns.{run_sound}
@@ -72,6 +72,9 @@ module _ {T U : Type 0} (default_value : T) (default_header : U) (m : Messages T
   step_static (LoanDefault of) o plain h =
       live_static o (if_single_units s (if_fixed_size s (unblocked_at s handles of))) _ h (λ publisher j.
       by AllStatic o _ j.0 j.3 (state_loan j.0 s.next_message j.1) (grant_written_loan_static fixed_handlers default_value default_header false 1 s j.0 publisher.0 j.1 j.2 k))
+  step_static (LoanSlice of len) o plain h =
+      live_static o (if_single_units s (if_dynamic s (unblocked_at s handles of))) _ h (λ publisher j.
+      by AllStatic o _ j.0 j.3 (state_loan j.0 s.next_message j.1) (grant_loan_static fixed_handlers default_header true len s j.0 publisher.0 j.1 j.2 k))
   step_static (WriteCell of at value) o plain h = live_static o (with_cell_at at (unwritten_at s handles of)) _ h (λ loan j. by AllStatic o _ _ j refl (with_loan_static s loan.0 _ k))
   step_static (WriteAll of value) o plain h = live_static o (unwritten_at s handles of) _ h (λ loan j. by AllStatic o _ _ j refl (with_loan_static s loan.0 _ k))
   step_static (AssumeInit of) o plain h =
@@ -155,6 +158,12 @@ module _ {T U : Type 0} (default_value : T) (default_header : U) (m : Messages T
         (λ publisher _ j. (j.0, j.1, (grant_written_loan_ample default_value default_header false 1 s j.0 publisher.0 j.1 k j.2).0, j.3)),
     live_told o (if_single_units s (if_fixed_size s (unblocked_at s handles of))) _ h told (λ publisher j.
         subst TellNoRefusal (grant_written_loan_ample default_value default_header false 1 s j.0 publisher.0 j.1 k j.2).1 (back Told o _ j.0 j.3 (state_loan j.0 s.next_message j.1) told)),
+  )
+  step_ample (LoanSlice of len) o plain port told h = (
+    option_maps (if_single_units s (if_dynamic s (unblocked_at s handles of))) _ _ _ _ h (λ e. e)
+        (λ publisher _ j. (j.0, j.1, (grant_loan_ample default_header true len s j.0 publisher.0 j.1 k j.2).0, j.3)),
+    live_told o (if_single_units s (if_dynamic s (unblocked_at s handles of))) _ h told (λ publisher j.
+        subst TellNoRefusal (grant_loan_ample default_header true len s j.0 publisher.0 j.1 k j.2).1 (back Told o _ j.0 j.3 (state_loan j.0 s.next_message j.1) told)),
   )
   step_ample (WriteCell of at value) o plain port told h = (h, live_told o (with_cell_at at (unwritten_at s handles of)) _ h told (λ loan j. back Told o _ _ j refl told))
   step_ample (WriteAll of value) o plain port told h = (h, live_told o (unwritten_at s handles of) _ h told (λ loan j. back Told o _ _ j refl told))

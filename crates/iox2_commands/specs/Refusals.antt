@@ -16,7 +16,7 @@ use Rattle.iox2_commands.specs.Step.{publisher_settings}
 use Rattle.iox2_commands.specs.Isolation.{AreIndependent, reads_at}
 use Rattle.iox2_commands.specs.Views.{SameView, OmitsOthersFrom}
 use Rattle.iox2_commands.specs.declared.command.Command.{Command}
-use Rattle.iox2_commands.specs.declared.command.Command.TheVariants.{Nothing, CreatePublisher, CreateSubscriber, LoanUninit, Loan, WriteCell, WriteAll, AssumeInit, WriteHeader, SetPayload, Send, SendCopy, Discard, Update, Receive, HasSamples, Read, ReadHeader, ReadUserHeader, Release, Close}
+use Rattle.iox2_commands.specs.declared.command.Command.TheVariants.{Nothing, CreatePublisher, CreateSubscriber, LoanUninit, Loan, LoanSlice, WriteCell, WriteAll, AssumeInit, WriteHeader, SetPayload, Send, SendCopy, Discard, Update, Receive, HasSamples, Read, ReadHeader, ReadUserHeader, Release, Close}
 use Rattle.iox2_commands.specs.declared.reply.Reply.{Reply}
 use Rattle.iox2_commands.specs.declared.reply.Reply.TheVariants.{SubscriberMade, PublisherRefused, SubscriberRefused}
 
@@ -33,6 +33,7 @@ module _ {T U : Type 0} where
   TellsOfRefusals (CreateSubscriber buffer degradation) = Unit {0}
   TellsOfRefusals (LoanUninit of) = Unit {0}
   TellsOfRefusals (Loan of) = Unit {0}
+  TellsOfRefusals (LoanSlice of len) = Unit {0}
   TellsOfRefusals (WriteCell of at value) = Unit {0}
   TellsOfRefusals (WriteAll of value) = Unit {0}
   TellsOfRefusals (AssumeInit of) = Unit {0}

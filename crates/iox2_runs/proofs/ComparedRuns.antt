@@ -9,7 +9,7 @@ use Rattle.iox2_commands.specs.Refusals.{TellsOfRefusals, MetNoRefusal}
 use Rattle.iox2_commands.specs.Runs.{only_defaults}
 use Rattle.iox2_commands.specs.Views.{OmitsOthersFrom}
 use Rattle.iox2_commands.specs.declared.command.Command.{Command}
-use Rattle.iox2_commands.specs.declared.command.Command.TheVariants.{Nothing, CreatePublisher, CreateSubscriber, LoanUninit, Loan, WriteCell, WriteAll, AssumeInit, WriteHeader, SetPayload, Send, SendCopy, Discard, Update, Receive, HasSamples, Read, ReadHeader, ReadUserHeader, Release, Close}
+use Rattle.iox2_commands.specs.declared.command.Command.TheVariants.{Nothing, CreatePublisher, CreateSubscriber, LoanUninit, Loan, LoanSlice, WriteCell, WriteAll, AssumeInit, WriteHeader, SetPayload, Send, SendCopy, Discard, Update, Receive, HasSamples, Read, ReadHeader, ReadUserHeader, Release, Close}
 use Rattle.iox2_commands.specs.declared.reply.Reply.{Reply}
 use Rattle.iox2_commands.proofs.RefusalRuns.{isolated_without_refusals, views_without_refusals}
 use Rattle.iox2_runs.specs.Compared.{AreCompared}
@@ -24,6 +24,7 @@ module _ {T U : Type 0} where
   supported_tells (CreateSubscriber buffer degradation) h = tt
   supported_tells (LoanUninit of) h = tt
   supported_tells (Loan of) h = tt
+  supported_tells (LoanSlice of len) h = tt
   supported_tells (WriteCell of at value) h = tt
   supported_tells (WriteAll of value) h = tt
   supported_tells (AssumeInit of) h = tt
