@@ -28,11 +28,11 @@ pub(crate) enum Difference {
 }
 
 impl Difference {
-    /// How many commands have the model's replies; of those that all have, one more.
-    pub(crate) fn rank(self, commands: usize) -> usize {
+    /// How many of so many replies are the model's, up to the difference.
+    pub(crate) fn rank(self, replies: usize) -> usize {
         match self {
             Difference::Reply { position, .. } | Difference::NoRule { position } => position,
-            Difference::Count { .. } | Difference::Refusals { .. } => commands,
+            Difference::Count { .. } | Difference::Refusals { .. } => replies,
         }
     }
 

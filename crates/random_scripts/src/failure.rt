@@ -10,7 +10,7 @@ pub(crate) enum Failure {
     Usage,
     /// A reply isn't the model's.
     Refuted,
-    /// Some kind of reply that the words can give was never met.
+    /// A kind of reply that the words can give was never met, or a word never carried out or skipped.
     NeverMet,
     /// A reply is of a kind that isn't counted.
     NoKind,
@@ -32,7 +32,7 @@ impl Failure {
                 "usage: random_scripts COUNT SEED, or one SCRIPT SEED, or draw 0 SCRIPT SEED, or run 0 SCRIPT SEED, or refused COUNT SCRIPT SEED",
             Failure::Refuted => "a reply isn't one that the model has",
             Failure::NeverMet =>
-                "a kind of reply has the count 0: more scripts have to be run, or crates/random_commands draws too seldom what gives it",
+                "a count is 0: more scripts have to be run, or crates/random_commands draws too seldom what gives it",
             Failure::NoKind =>
                 "a reply is of a kind that crates/random_scripts/src/tally.rt doesn't count: it has to be added there",
             Failure::NoRule => "the model has no rule for a command",

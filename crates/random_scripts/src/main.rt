@@ -9,6 +9,7 @@ mod refusals;
 mod rounds;
 mod shortest;
 mod tally;
+mod word_tally;
 
 use failure::Failure;
 use refusals::{only_draw, only_run, run_refused};

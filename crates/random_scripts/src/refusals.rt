@@ -1,5 +1,5 @@
 //! A script while one allocation is refused.
-use crate::comparison::{Comparison, Ran, carry_out_all, compare};
+use crate::comparison::{Ran, carry_out_all, compare};
 use crate::failure::Failure;
 use crate::rounds::{MOST_COMMANDS, print_lines};
 use iox2_model::Memory;
@@ -49,29 +49,65 @@ pub(crate) fn run_refused(
 // that a port or a connection needs memory, up to the first reply that it hasn't with ample memory:
 // what was refused was refused before. Most likely it was shortly before.
 fn explain(rt: &HostRuntime, script: &Script, ran: &Ran) -> Result<(), Failure> {
-    let commands = script.commands.as_slice();
-    let Comparison {
-        difference,
-        questions,
-    } = compare(rt.alloc(), script.config, commands, ran, Memory::ample())?;
-    let Some(mut closest) = difference else {
+    let (different, questions) = agreeing(rt.alloc(), script, ran, Memory::ample())?;
+    if different.is_none() {
         println!(rt; "nothing seen")?;
         return Ok(());
-    };
+    }
+    let mut closest = 0;
+    let mut most = 0;
     for later in 0..questions {
-        let memory = Memory::refused_after(questions - 1 - later);
-        match compare(rt.alloc(), script.config, commands, ran, memory)?.difference {
+        let count = questions - 1 - later;
+        let (different, _) = agreeing(rt.alloc(), script, ran, Memory::refused_after(count))?;
+        match different {
             None => return print_refusal(rt, ran),
-            Some(other) => {
-                if other.rank(commands.len()) > closest.rank(commands.len()) {
-                    closest = other;
+            Some(found) => {
+                if found > most {
+                    most = found;
+                    closest = count;
                 }
             }
         }
     }
+    print_closest(rt, script, ran, closest)
+}
+
+// How many replies are the model's with such a memory, up to one that isn't; nothing where all that
+// became of the script is the model's. And how often the model was asked for memory.
+fn agreeing(
+    alloc: Global,
+    script: &Script,
+    ran: &Ran,
+    memory: Memory,
+) -> Result<(Option<usize>, usize), Failure> {
+    let replies = ran.replies.len();
+    let commands = script.commands.as_slice();
+    let comparison = compare(alloc, script.config, commands, ran, memory)?;
+    let questions = comparison.questions;
+    match comparison.difference {
+        None => Ok((None, questions)),
+        Some(difference) => Ok((Some(difference.rank(replies)), questions)),
+    }
+}
+
+// Prints the script, and what differs where memory is refused after so many times.
+fn print_closest(
+    rt: &HostRuntime,
+    script: &Script,
+    ran: &Ran,
+    count: usize,
+) -> Result<(), Failure> {
+    let replies = ran.replies.len();
+    let commands = script.commands.as_slice();
+    let memory = Memory::refused_after(count);
+    let comparison = compare(rt.alloc(), script.config, commands, ran, memory)?;
     print_lines(rt, script)?;
-    println!(rt; "no refusal to a port or a connection explains the replies; after the best one:")?;
-    closest.print(rt)?;
+    println!(rt;
+        "no refusal to a port or a connection explains the {replies} replies; after the best one:"
+    )?;
+    if let Some(difference) = comparison.difference {
+        difference.print(rt)?;
+    }
     Err(Failure::Refuted)
 }
 

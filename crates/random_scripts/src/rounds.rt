@@ -59,7 +59,7 @@ fn check(
 ) -> Result<(), Failure> {
     let commands = script.commands.as_slice();
     let ran = carry_out_all(rt.alloc(), script.config, commands)?;
-    tally.add(ran.replies.as_slice());
+    tally.add(commands, ran.replies.as_slice());
     let comparison = compare(rt.alloc(), script.config, commands, &ran, Memory::ample())?;
     let Some(difference) = comparison.difference else {
         return Ok(());

@@ -1,9 +1,10 @@
 //! How often each kind of reply was met.
 use crate::failure::Failure;
+use crate::word_tally::WordTally;
 use iox2_pubsub::{
     LoanError, PublisherCreateError, ReceiveError, SendError, SubscriberCreateError,
 };
-use iox2_runs::Reply;
+use iox2_runs::{Command, Reply};
 
 // The kinds of replies that the words can give with ample memory.
 const KINDS: [&str; 28] = [
@@ -44,22 +45,31 @@ const OTHER: usize = 28;
 #[derive(Drop)]
 pub(crate) struct Tally {
     counts: [u64; 29],
+    words: WordTally,
 }
 
 impl Tally {
     pub(crate) fn new() -> Tally {
-        Tally { counts: [0; 29] }
+        Tally {
+            counts: [0; 29],
+            words: WordTally::new(),
+        }
     }
 
-    pub(crate) fn add(&mut self, replies: &[Reply<u64, u64>]) {
-        for reply in replies {
-            if let Some(count) = self.counts.get_mut(kind_of(reply)) {
-                *count = count.saturating_add(1);
+    /// Counts the replies of these commands.
+    pub(crate) fn add(&mut self, commands: &[Command<u64, u64>], replies: &[Reply<u64, u64>]) {
+        for position in 0..commands.len() {
+            if let (Some(command), Some(reply)) = (commands.get(position), replies.get(position)) {
+                self.words.add(command, reply);
+                if let Some(count) = self.counts.get_mut(kind_of(reply)) {
+                    *count = count.saturating_add(1);
+                }
             }
         }
     }
 
-    /// Prints a line for each kind. Fails where one was never met, or where a reply is of none.
+    /// Prints a line for each kind and each word. Fails where a kind was never met, where a reply is of
+    /// none, or where a word was never carried out or never skipped.
     pub(crate) fn print(&self, rt: &impl Print) -> Result<(), Failure> {
         let mut all_met = true;
         for kind in 0..OTHER {
@@ -70,10 +80,11 @@ impl Tally {
                 }
             }
         }
+        let words = self.words.print(rt);
         if self.counts.get(OTHER).is_some_and(|count| *count > 0) {
             Err(Failure::NoKind)
         } else if all_met {
-            Ok(())
+            words
         } else {
             Err(Failure::NeverMet)
         }

@@ -1,0 +1,127 @@
+//! How often each word was carried out, and how often it was skipped.
+use crate::failure::Failure;
+use iox2_runs::{Command, Reply};
+
+// The words that exist. Those of the first three are never skipped.
+const WORDS: [&str; 21] = [
+    "Nothing",
+    "CreatePublisher",
+    "CreateSubscriber",
+    "LoanUninit",
+    "Loan",
+    "WriteCell",
+    "WriteAll",
+    "AssumeInit",
+    "WriteHeader",
+    "SetPayload",
+    "Send",
+    "SendCopy",
+    "Discard",
+    "Update",
+    "Receive",
+    "HasSamples",
+    "Read",
+    "ReadHeader",
+    "ReadUserHeader",
+    "Release",
+    "Close",
+];
+
+// How many words are never skipped.
+const NEVER_SKIPPED: usize = 3;
+
+/// How often each word was carried out, and how often it was skipped.
+#[derive(Drop)]
+pub(crate) struct WordTally {
+    done: [u64; 21],
+    skipped: [u64; 21],
+}
+
+impl WordTally {
+    pub(crate) fn new() -> WordTally {
+        WordTally {
+            done: [0; 21],
+            skipped: [0; 21],
+        }
+    }
+
+    pub(crate) fn add(&mut self, command: &Command<u64, u64>, reply: &Reply<u64, u64>) {
+        let word = position_of(command);
+        if *reply == Reply::Skipped {
+            count_up(&mut self.skipped, word);
+        } else if !is_refusal(reply) {
+            count_up(&mut self.done, word);
+        }
+    }
+
+    /// Prints a line for each word. Fails where one was never carried out, or never skipped.
+    pub(crate) fn print(&self, rt: &impl Print) -> Result<(), Failure> {
+        let mut all_met = true;
+        for word in 0..WORDS.len() {
+            if let (Some(name), Some(done), Some(skipped)) = (
+                WORDS.get(word),
+                self.done.get(word),
+                self.skipped.get(word),
+            ) {
+                println!(rt; "{done} {name} carried out, {skipped} skipped")?;
+                if *done == 0 || (*skipped == 0 && word >= NEVER_SKIPPED) {
+                    all_met = false;
+                }
+            }
+        }
+        if all_met {
+            Ok(())
+        } else {
+            Err(Failure::NeverMet)
+        }
+    }
+}
+
+fn count_up(counts: &mut [u64; 21], word: usize) {
+    if let Some(count) = counts.get_mut(word) {
+        *count = count.saturating_add(1);
+    }
+}
+
+// Whether the word didn't do what it is for.
+fn is_refusal(reply: &Reply<u64, u64>) -> bool {
+    match *reply {
+        Reply::PublisherRefused(_)
+        | Reply::SubscriberRefused(_)
+        | Reply::LoanRefused(_)
+        | Reply::Unwritten
+        | Reply::SendRefused(_)
+        | Reply::UpdateRefused(_)
+        | Reply::NoSample
+        | Reply::ReceiveRefused(_) => true,
+        _ => false,
+    }
+}
+
+// The position of the command's word; past the end for one that isn't among them.
+fn position_of(command: &Command<u64, u64>) -> usize {
+    match *command {
+        Command::Nothing => 0,
+        Command::CreatePublisher { .. } => 1,
+        Command::CreateSubscriber { .. } => 2,
+        Command::LoanUninit { .. } => 3,
+        Command::Loan { .. } => 4,
+        Command::WriteCell { .. } => 5,
+        Command::WriteAll { .. } => 6,
+        Command::AssumeInit { .. } => 7,
+        Command::WriteHeader { .. } => 8,
+        Command::SetPayload { .. } => 9,
+        Command::Send { .. } => 10,
+        Command::SendCopy { .. } => 11,
+        Command::Discard { .. } => 12,
+        Command::Update { .. } => 13,
+        Command::Receive { .. } => 14,
+        Command::HasSamples { .. } => 15,
+        Command::Read { .. } => 16,
+        Command::ReadHeader { .. } => 17,
+        Command::ReadUserHeader { .. } => 18,
+        Command::Release { .. } => 19,
+        Command::Close { .. } => 20,
+        _ => WORDS.len(),
+    }
+}
