@@ -1,7 +1,6 @@
 //! Slices pass from a publisher to a subscriber.
 ghost use Rattle.std.specs.Prelude.{◌≡◌, ◌≤◌, IfSome};
 ghost use Rattle.iox2_pubsub.specs.Live.{IsLivePublisher, IsLiveSubscriber, IsUnwrittenLoan, IsWrittenLoan, Stays, StaysBut, unwritten_loan, written_loan};
-ghost use Rattle.iox2_store.specs.declared.service_config.TypeVariant.TheVariants.{Dynamic};
 
 use iox2_pubsub::slice::{Publisher, SampleMut, SampleMutUninit, Subscriber};
 use iox2_pubsub::{Domain, SendOutcome, ServiceConfig, TypeVariant};
@@ -30,7 +29,7 @@ fn pass_to(
     elements: usize,
     messages: u64,
 ) -> Option<u64>
-    requires dynamic { (domain.old.config).variant ≡ Dynamic }
+    requires dynamic { (domain.old.config).variant ≡ TypeVariant.Dynamic }
     requires one_unit { (domain.old.config).units_per_element ≡ 1 }
     requires subscriber { IsLiveSubscriber domain.old (subscriber.now).subscriber }
     ensures { IfSome result (λ arrived. arrived ≤ messages) }
@@ -59,7 +58,7 @@ fn pass(
     elements: usize,
     value: u64,
 ) -> Option<()>
-    requires dynamic { (domain.old.config).variant ≡ Dynamic }
+    requires dynamic { (domain.old.config).variant ≡ TypeVariant.Dynamic }
     requires one_unit { (domain.old.config).units_per_element ≡ 1 }
     requires publisher { IsLivePublisher domain.old (publisher.now).publisher }
     requires subscriber { IsLiveSubscriber domain.old (subscriber.now).subscriber }
@@ -83,7 +82,7 @@ fn lend(
     publisher: &Publisher,
     elements: usize,
 ) -> Option<SampleMutUninit>
-    requires dynamic { (domain.old.config).variant ≡ Dynamic }
+    requires dynamic { (domain.old.config).variant ≡ TypeVariant.Dynamic }
     requires one_unit { (domain.old.config).units_per_element ≡ 1 }
     requires publisher { IsLivePublisher domain.old (publisher.now).publisher }
     ensures live { IfSome result (λ loan. IsUnwrittenLoan domain.new loan.sample) }
@@ -94,7 +93,7 @@ fn lend(
 
 #[inline(never)]
 fn write(domain: &mut Domain<u64, ()>, loan: SampleMutUninit, value: u64) -> SampleMut
-    requires dynamic { (domain.old.config).variant ≡ Dynamic }
+    requires dynamic { (domain.old.config).variant ≡ TypeVariant.Dynamic }
     requires loan { IsUnwrittenLoan domain.old loan.sample }
     ensures live { IsWrittenLoan domain.new result.sample }
     ensures same { written_loan result.sample ≡ unwritten_loan loan.sample }
@@ -115,7 +114,7 @@ fn send(domain: &mut Domain<u64, ()>, message: SampleMut) -> Option<()>
 // Receives a slice, and gives it back. Returns how many elements it had.
 #[inline(never)]
 fn receive(domain: &mut Domain<u64, ()>, subscriber: &Subscriber) -> Option<usize>
-    requires dynamic { (domain.old.config).variant ≡ Dynamic }
+    requires dynamic { (domain.old.config).variant ≡ TypeVariant.Dynamic }
     requires subscriber { IsLiveSubscriber domain.old (subscriber.now).subscriber }
     ensures { Stays domain.old domain.new }
 {
