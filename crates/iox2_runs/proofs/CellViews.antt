@@ -13,8 +13,9 @@ use Rattle.iox2_store.specs.machine.State.{State, Messages, with_loan}
 use Rattle.iox2_domain.specs.Kept.{Kept as Domain, state_of, entries_of}
 use Rattle.iox2_domain.specs.LoanCalls.{HasCell, HasCells, first_cell_changed, cells_changed}
 use Rattle.iox2_domain.specs.Shows.{Shows}
-use Rattle.iox2_pubsub.specs.Slices.{HasUnwrittenCells, HasValues}
-use Rattle.iox2_pubsub.proofs.SliceParts.{cells-parts}
+use Rattle.iox2_store.specs.declared.key.Key.{Key}
+use Rattle.iox2_pubsub.specs.Slices.{HasUnwrittenCells, HasValues, SampleHasValues}
+use Rattle.iox2_pubsub.proofs.SliceParts.{cells-parts, values-parts}
 use Rattle.iox2_runs.specs.Cells.{LoanHasAt, MessageHasAt, WritesAt}
 use Rattle.iox2_runs.proofs.CellLists.{index_past, refill_set, cells_set}
 
@@ -23,12 +24,13 @@ past_first : {A : Type 0} (x : A) (at : ℕ) → at ≢ 0 → slice_get (x ∷ [
 past_first x zero other = absurd (other refl)
 past_first x (suc i) other = refl
 
-module _ {T U : Type 0} (old : Domain T U) (n : ℕ) where
-  -- a written loan's values fill its cells
-  values-parts : (values : List T) → HasValues old n values → HasCells (state_of old) n (map Some values)
-  unfolding HasValues
-  values-parts values has = has
+-- a sample's values are those of its message
+pub message-of : {T U : Type 0} (old : Domain T U) (key : Key) (values : List T) → SampleHasValues old key values
+    → (entry : Entry T U) × (entries_of old key.message ≡ Some entry) × (entry.values ≡ values)
+unfolding SampleHasValues
+message-of old key values has = has
 
+module _ {T U : Type 0} (old : Domain T U) (n : ℕ) where
   alike : (cells cells' : List (Option T)) → HasCells (state_of old) n cells → HasCells (state_of old) n cells' → length cells ≡ length cells'
   alike cells cells' has has' =
       ap length (sym has.2 ∙ ap (λ (l : Loan T U). l.cells) (same_Some has.0 has'.0 (sym has.1 ∙ has'.1)) ∙ has'.2)
@@ -43,7 +45,7 @@ module _ {T U : Type 0} (old : Domain T U) (n : ℕ) where
 
   pub values-alike : (values values' : List T) → HasValues old n values → HasValues old n values' → length values ≡ length values'
   values-alike values values' has has' =
-      sym (length-map values Some) ∙ alike (map Some values) (map Some values') (values-parts values has) (values-parts values' has') ∙ length-map values' Some
+      sym (length-map values Some) ∙ alike (map Some values) (map Some values') (values-parts old n values has) (values-parts old n values' has') ∙ length-map values' Some
 
   module _ (at : ℕ) where
     -- ---- reads
@@ -62,7 +64,7 @@ module _ {T U : Type 0} (old : Domain T U) (n : ℕ) where
 
     pub values-read : (values : List T) (read : Option T) → HasValues old n values → read ≡ slice_get values at → LoanHasAt old n at (option_map Some read)
     values-read values read has is = λ m s shown.
-        let it = seen m s shown (map Some values) (values-parts values has) in
+        let it = seen m s shown (map Some values) (values-parts old n values has) in
         (it.0, it.1, ap (λ (cs : List (Option T)). slice_get cs at) it.2 ∙ slice_get-map Some values at ∙ ap (option_map Some) (sym is))
 
     pub message-read : (value : T) (read : Option T) → ((m : Messages T U) (s : State T U) → Shows old m s → (entry : Entry T U) × (m n ≡ Some entry) × (entry.values ≡ value ∷ []))
@@ -131,7 +133,7 @@ module _ {T U : Type 0} (old : Domain T U) (n : ℕ) where
           → ((m : Messages T U) (s : State T U) → Shows old m s → (l : Loan T U) × (s.loans n ≡ Some l) × Shows new m (with_loan s n (Some (cells_changed (map Some left) l))))
           → WritesAt old new n at value true
       values-written values left low has is changes =
-          one-written (map Some values) (map Some left) (subst (λ (k : ℕ). at < k) (sym (length-map values Some)) low) (values-parts values has)
+          one-written (map Some values) (map Some left) (subst (λ (k : ℕ). at < k) (sym (length-map values Some)) low) (values-parts old n values has)
           (ap (map Some) is ∙ cells_set values at value) changes
 
 -- ---- each cell is written

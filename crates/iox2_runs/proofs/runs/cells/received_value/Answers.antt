@@ -1,9 +1,9 @@
-use Rattle.std.proofs.Common.{◌≡◌, sym, subst, ◌∙◌, Some}
-use Rattle.iox2_store.specs.machine.Records.{Entry}
-use Rattle.iox2_domain.specs.Kept.{entries_of}
+use Rattle.std.proofs.Common.{◌≡◌, sym, subst, ◌∙◌}
+use Rattle.iox2_pubsub.specs.Live.{sample_key}
+use Rattle.iox2_pubsub.specs.Slices.{SampleHasValues}
 use Rattle.iox2_pubsub.specs.declared.sample.Sample.{Sample}
 use Rattle.iox2_runs.proofs.CellLists.{item-read}
-use Rattle.iox2_runs.proofs.CellViews.{message-read, messages-read}
+use Rattle.iox2_runs.proofs.CellViews.{message-of, message-read, messages-read}
 use Rattle.iox2_runs.proofs.Services.{single-here, sliced-here}
 use Rattle.iox2_runs.proofs.runs.cells.received_value.Goals as goal
 
@@ -20,5 +20,6 @@ payload-requires-2-clause-sliced g c = sliced-here {T = g.row.T.Denot} {U = g.ro
 pub returns-clause-reads : goal.returns-clause-reads
 returns-clause-reads g c =
     messages-read {T = g.row.T.Denot} {U = g.row.U.Denot} c.args.domain.now c.args.sample.sample.number c.args.at c.payload-2.result.now c.copied-value.result
-    (subst (λ (it : Sample). (entry : Entry g.row.T.Denot g.row.U.Denot) × (entries_of c.args.domain.now it.sample.number ≡ Some entry) × (entry.values ≡ c.payload-2.result.now)) c.new-sample.ensures c.payload-2.ensures)
+    (message-of {T = g.row.T.Denot} {U = g.row.U.Denot} c.args.domain.now (sample_key c.args.sample) c.payload-2.result.now
+    (subst (λ (it : Sample). SampleHasValues {T = g.row.T.Denot} {U = g.row.U.Denot} c.args.domain.now (sample_key it) c.payload-2.result.now) c.new-sample.ensures c.payload-2.ensures.reads))
     (c.copied-value.ensures ∙ item-read c.payload-2.result.now c.args.at c.get.result c.get.ensures.lookup)

@@ -28,20 +28,20 @@ payload-requires-2-clause-sliced g c = sliced-here {T = g.row.T.Denot} {U = g.ro
 pub returns-then-at-payload-clause-writes : goal.returns-then-at-payload-clause-writes
 returns-then-at-payload-clause-writes g c =
     subst (λ (it : SampleMut). WritesAt c.args.domain.now c.args.domain.now it.loan.number c.args.at c.args.value false) c.new-sample.ensures
-    (values-past {T = g.row.T.Denot} {U = g.row.U.Denot} c.args.domain.now c.new-sample.result.sample.loan.number c.args.at c.payload-2.result.now c.args.value c.if-at-payload.true c.payload-2.ensures)
+    (values-past {T = g.row.T.Denot} {U = g.row.U.Denot} c.args.domain.now c.new-sample.result.sample.loan.number c.args.at c.payload-2.result.now c.args.value c.if-at-payload.true c.payload-2.ensures.reads)
 
 pub payload_mut-values-requires-clause-sliced : goal.payload_mut-values-requires-clause-sliced
 payload_mut-values-requires-clause-sliced g c = sliced-here {T = g.row.T.Denot} {U = g.row.U.Denot} c.args.domain.now (sym c.is_single_valued.ensures ∙ c.if-is_single_valued.false)
 
 pub bounds-values-at : goal.bounds-values-at
 bounds-values-at g c =
-    subst (λ (k : ℕ). c.args.at < k) (values-alike {T = g.row.T.Denot} {U = g.row.U.Denot} c.args.domain.now c.new-sample.result.sample.loan.number c.payload-2.result.now c.payload_mut-values.result.now c.payload-2.ensures c.payload_mut-values.ensures.payload) c.if-at-payload.false
+    subst (λ (k : ℕ). c.args.at < k) (values-alike {T = g.row.T.Denot} {U = g.row.U.Denot} c.args.domain.now c.new-sample.result.sample.loan.number c.payload-2.result.now c.payload_mut-values.result.now c.payload-2.ensures.reads c.payload_mut-values.ensures.payload) c.if-at-payload.false
 
 pub returns-clause-writes : goal.returns-clause-writes
 returns-clause-writes g c =
     subst (λ (it : SampleMut). WritesAt c.args.domain.now (with_payloads c.args.domain.now c.new-sample.result.sample.loan.number (slice_set c.payload_mut-values.result.now c.args.at c.args.value)) it.loan.number c.args.at c.args.value true) c.new-sample.ensures
     (values-written {T = g.row.T.Denot} {U = g.row.U.Denot} c.args.domain.now c.new-sample.result.sample.loan.number c.args.at (with_payloads c.args.domain.now c.new-sample.result.sample.loan.number (slice_set c.payload_mut-values.result.now c.args.at c.args.value)) c.args.value
     c.payload_mut-values.result.now (slice_set c.payload_mut-values.result.now c.args.at c.args.value)
-    (subst (λ (k : ℕ). c.args.at < k) (values-alike {T = g.row.T.Denot} {U = g.row.U.Denot} c.args.domain.now c.new-sample.result.sample.loan.number c.payload-2.result.now c.payload_mut-values.result.now c.payload-2.ensures c.payload_mut-values.ensures.payload) c.if-at-payload.false)
+    (subst (λ (k : ℕ). c.args.at < k) (values-alike {T = g.row.T.Denot} {U = g.row.U.Denot} c.args.domain.now c.new-sample.result.sample.loan.number c.payload-2.result.now c.payload_mut-values.result.now c.payload-2.ensures.reads c.payload_mut-values.ensures.payload) c.if-at-payload.false)
     c.payload_mut-values.ensures.payload refl
     (λ m s shown. c.payload_mut-values.ensures.changes m s (slice_set c.payload_mut-values.result.now c.args.at c.args.value) shown))

@@ -19,5 +19,5 @@ payload-requires-2-clause-sliced g c = sliced-here {T = g.row.T.Denot} {U = g.ro
 pub returns-clause-reads : goal.returns-clause-reads
 returns-clause-reads g c =
     values-read {T = g.row.T.Denot} {U = g.row.U.Denot} c.args.domain.now c.args.sample.loan.number c.args.at c.payload-2.result.now c.copied-value.result
-    (subst (λ (it : SampleMut). HasValues c.args.domain.now it.loan.number c.payload-2.result.now) c.new-sample.ensures c.payload-2.ensures)
+    (subst (λ (it : SampleMut). HasValues c.args.domain.now it.loan.number c.payload-2.result.now) c.new-sample.ensures c.payload-2.ensures.reads)
     (c.copied-value.ensures ∙ item-read c.payload-2.result.now c.args.at c.get.result c.get.ensures.lookup)
