@@ -1,6 +1,7 @@
 //! Slices pass from a publisher to a subscriber.
 ghost use Rattle.std.specs.Prelude.{◌≡◌, ◌≤◌, IfSome};
-ghost use Rattle.iox2_pubsub.specs.Live.{IsLivePublisher, IsLiveSubscriber, IsUnwrittenLoan, IsWrittenLoan, Stays, StaysBut, unwritten_loan, written_loan};
+ghost use Rattle.iox2_pubsub.specs.Live.{IsLivePublisher, IsLiveSubscriber, IsNewIn, IsUnwrittenLoan, IsWrittenLoan, Stays, StaysBut, unwritten_key, unwritten_loan, written_key, written_loan};
+ghost use Rattle.iox2_pubsub.specs.Slices.{IsSliced};
 
 use iox2_pubsub::slice::{Publisher, SampleMut, SampleMutUninit, Subscriber};
 use iox2_pubsub::{Domain, SendOutcome, ServiceConfig, TypeVariant};
@@ -31,7 +32,8 @@ fn pass_to(
 ) -> Option<u64>
     requires dynamic { (domain.old.config).variant ≡ TypeVariant.Dynamic }
     requires one_unit { (domain.old.config).units_per_element ≡ 1 }
-    requires subscriber { IsLiveSubscriber domain.old (subscriber.now).subscriber }
+    requires sliced { IsSliced domain.old }
+    requires subscriber { IsLiveSubscriber domain.old subscriber.now.subscriber }
     ensures { IfSome result (λ arrived. arrived ≤ messages) }
 {
     let publisher = domain
@@ -39,42 +41,55 @@ fn pass_to(
         .initial_max_slice_len(elements)
         .create(domain)
         .ok()?;
-    let mut arrived = 0;
-    for value in 0..messages {
-        if pass(domain, &publisher, subscriber, elements, value).is_some() {
-            arrived += 1;
-        }
-    }
+    let arrived = pass_all(domain, &publisher, subscriber, elements, messages);
     publisher.disown();
     Some(arrived)
 }
 
-// Passes one slice, each of whose elements is the value. `None` where it isn't lent or doesn't arrive
-// with its length.
-fn pass(
+// Passes the slices, one after the other. Returns how many arrived with their length.
+fn pass_all(
     domain: &mut Domain<u64, ()>,
     publisher: &Publisher,
     subscriber: &Subscriber,
+    elements: usize,
+    messages: u64,
+) -> u64
+    requires dynamic { (domain.old.config).variant ≡ TypeVariant.Dynamic }
+    requires one_unit { (domain.old.config).units_per_element ≡ 1 }
+    requires sliced { IsSliced domain.old }
+    requires publisher { IsLivePublisher domain.old publisher.now.publisher }
+    requires subscriber { IsLiveSubscriber domain.old subscriber.now.subscriber }
+    ensures { result ≤ messages }
+{
+    let mut arrived = 0;
+    for value in 0..messages {
+        let is_sent = pass(domain, publisher, elements, value).is_some();
+        if is_sent && receive(domain, subscriber) == Some(elements) {
+            arrived += 1;
+        }
+    }
+    arrived
+}
+
+// Sends one slice, each of whose elements is the value. `None` where it isn't lent.
+fn pass(
+    domain: &mut Domain<u64, ()>,
+    publisher: &Publisher,
     elements: usize,
     value: u64,
 ) -> Option<()>
     requires dynamic { (domain.old.config).variant ≡ TypeVariant.Dynamic }
     requires one_unit { (domain.old.config).units_per_element ≡ 1 }
-    requires publisher { IsLivePublisher domain.old (publisher.now).publisher }
-    requires subscriber { IsLiveSubscriber domain.old (subscriber.now).subscriber }
+    requires sliced { IsSliced domain.old }
+    requires publisher { IsLivePublisher domain.old publisher.now.publisher }
     ensures { Stays domain.old domain.new }
 {
     let loan = lend(domain, publisher, elements)?;
     let message = write(domain, loan, value);
-    send(domain, message)?;
-    if receive(domain, subscriber)? == elements {
-        Some(())
-    } else {
-        None
-    }
+    send(domain, message)
 }
 
-// Each of the steps stays a function of its own in the program, so that its instructions can be
+// Each of these steps stays a function of its own in the program, so that its instructions can be
 // counted.
 #[inline(never)]
 fn lend(
@@ -84,8 +99,10 @@ fn lend(
 ) -> Option<SampleMutUninit>
     requires dynamic { (domain.old.config).variant ≡ TypeVariant.Dynamic }
     requires one_unit { (domain.old.config).units_per_element ≡ 1 }
-    requires publisher { IsLivePublisher domain.old (publisher.now).publisher }
+    requires sliced { IsSliced domain.old }
+    requires publisher { IsLivePublisher domain.old publisher.now.publisher }
     ensures live { IfSome result (λ loan. IsUnwrittenLoan domain.new loan.sample) }
+    ensures new { IfSome result (λ loan. IsNewIn domain.old (unwritten_loan loan.sample)) }
     ensures stays { Stays domain.old domain.new }
 {
     publisher.loan_slice_uninit(domain, elements).ok()
@@ -93,10 +110,10 @@ fn lend(
 
 #[inline(never)]
 fn write(domain: &mut Domain<u64, ()>, loan: SampleMutUninit, value: u64) -> SampleMut
-    requires dynamic { (domain.old.config).variant ≡ TypeVariant.Dynamic }
+    requires sliced { IsSliced domain.old }
     requires loan { IsUnwrittenLoan domain.old loan.sample }
     ensures live { IsWrittenLoan domain.new result.sample }
-    ensures same { written_loan result.sample ≡ unwritten_loan loan.sample }
+    ensures key { written_key result.sample ≡ unwritten_key loan.sample }
     ensures stays { StaysBut (unwritten_loan loan.sample) domain.old domain.new }
 {
     loan.write_from_fn(domain, |_| value)
@@ -114,8 +131,8 @@ fn send(domain: &mut Domain<u64, ()>, message: SampleMut) -> Option<()>
 // Receives a slice, and gives it back. Returns how many elements it had.
 #[inline(never)]
 fn receive(domain: &mut Domain<u64, ()>, subscriber: &Subscriber) -> Option<usize>
-    requires dynamic { (domain.old.config).variant ≡ TypeVariant.Dynamic }
-    requires subscriber { IsLiveSubscriber domain.old (subscriber.now).subscriber }
+    requires sliced { IsSliced domain.old }
+    requires subscriber { IsLiveSubscriber domain.old subscriber.now.subscriber }
     ensures { Stays domain.old domain.new }
 {
     let sample = subscriber.receive(domain).ok()??;
