@@ -1,4 +1,4 @@
-// Passes slices through a domain, by the library `message_cost`: fails unless all of them arrive.
+// Passes slices through a domain, by the library `slice_cost`: fails unless all of them arrive.
 #include <inttypes.h>
 #include <stddef.h>
 #include <stdint.h>

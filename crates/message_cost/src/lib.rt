@@ -11,7 +11,6 @@ mod passing;
 mod ports;
 mod receiver;
 mod sender;
-mod slices;
 
 use closing::{Closing, close_all};
 use iox2_pubsub::{Domain, Publisher};
@@ -19,7 +18,6 @@ use load::Load;
 use passing::pass_all;
 use ports::{create_receivers, keep_loans, keep_publishers, keep_samples};
 use receiver::Receiver;
-use slices::pass_slices;
 use std::alloc::Global;
 
 /// Makes a domain with this load, and passes so many messages through it. Returns how many of them
@@ -36,15 +34,6 @@ pub extern "C" fn pass_messages(alloc: Global, load: &Load, messages: u64) -> u6
 #[unsafe(no_mangle)]
 pub extern "C" fn close_ports(alloc: Global, closing: &Closing) -> usize {
     close_all(alloc, closing).unwrap_or(0)
-}
-
-/// Makes a domain of slices, and passes so many of them, each of so many elements. Returns how many
-/// arrived with their length: fewer than all where a call is refused.
-#[unsafe(no_mangle)]
-pub extern "C" fn pass_long_messages(alloc: Global, elements: usize, messages: u64) -> u64
-    ensures { result ≤ messages }
-{
-    pass_slices(alloc, elements, messages).unwrap_or(0)
 }
 
 // Makes the domain, and passes the messages. `None` where something is refused.
