@@ -1,11 +1,15 @@
 //! Messages of a caller's own bytes.
+ghost use Rattle.std.specs.Prelude.{◌≡◌};
+ghost use Rattle.iox2_store.specs.declared.service_config.TypeVariant.TheVariants.{Dynamic};
 
 use crate::fixtures::{receiver_count, settings};
 use iox2_pubsub::{CustomHeaderMarker, CustomPayloadMarker, Domain};
 use iox2_store::{LoanError, ServiceConfig, TypeVariant};
 
 // The settings of a domain of elements of 40 bytes each.
-fn bytes() -> ServiceConfig {
+fn bytes() -> ServiceConfig
+    ensures { result.variant ≡ Dynamic }
+{
     ServiceConfig {
         variant: TypeVariant::Dynamic,
         units_per_element: 40,

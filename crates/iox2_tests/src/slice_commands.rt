@@ -167,15 +167,14 @@ fn a_service_lends_messages_of_its_kind_alone(rt: HostRuntime) {
     drop(single);
     let in_slices = in_slices.ok().expect(&rt, "replies");
     let in_values = in_values.ok().expect(&rt, "replies");
-    let made = Reply::PublisherMade(UniquePublisherId::new(1));
     let expected_of_slices: [Reply<u64, u8>; 4] = [
-        made,
+        Reply::PublisherMade(UniquePublisherId::new(1)),
         Reply::Skipped,
         Reply::Skipped,
         Reply::Skipped,
     ];
     let expected_of_values: [Reply<u64, u8>; 4] = [
-        made,
+        Reply::PublisherMade(UniquePublisherId::new(1)),
         Reply::Skipped,
         Reply::Loaned,
         Reply::Skipped,

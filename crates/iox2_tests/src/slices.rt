@@ -1,5 +1,5 @@
 //! Slices are lent, written, sent and received.
-ghost use Rattle.std.specs.Prelude.{◌≡◌};
+ghost use Rattle.std.specs.Prelude.{◌≡◌, false};
 ghost use Rattle.iox2_store.specs.Defaults.{default_config};
 ghost use Rattle.iox2_store.specs.declared.service_config.TypeVariant.TheVariants.{Dynamic};
 ghost use Rattle.iox2_pubsub.specs.Live.{IsLivePublisher, IsUnwrittenLoan, IsWrittenLoan, Stays, StaysBut, unwritten_loan};
