@@ -28,17 +28,21 @@ impl Model {
         given: Option<Reply<u64, u64>>,
     ) -> Result<Outcome, ModelError> {
         match command {
-            Command::CreatePublisher { loans, .. } => self.create_publisher(loans, given),
+            Command::CreatePublisher {
+                loans,
+                initial_max_slice_len,
+                ..
+            } => self.create_publisher(loans, initial_max_slice_len, given),
             Command::CreateSubscriber { buffer, .. } => self.create_subscriber(buffer),
-            Command::LoanUninit { of } => self.loan(of, None),
-            Command::Loan { of } => self.loan(of, Some(0)),
+            Command::LoanUninit { of } => self.loan_value(of, None),
+            Command::Loan { of } => self.loan_value(of, Some(0)),
+            Command::LoanSlice { of, len } => self.loan_slice(of, len),
             Command::Receive { of } => self.receive(of, given),
             _ => Ok((self.reply_of(command)?, Made::Nothing)),
         }
     }
 
-    // The reply of a command that makes nothing. In a service for single values whose publishers
-    // discard, slices and blocked sends are skipped.
+    // The reply of a command that makes nothing. Where publishers discard, blocked sends are skipped.
     fn reply_of(&mut self, command: Command<u64, u64>) -> Result<Reply<u64, u64>, ModelError> {
         Ok(match command {
             Command::Nothing => Reply::Done,
@@ -48,7 +52,7 @@ impl Model {
             Command::AssumeInit { of } => self.assume_init(of),
             Command::WriteHeader { of, value } => self.write_header(of, value),
             Command::Send { of } => match self.loan_at(of, true) {
-                Some((message, loan)) => self.send(message, loan)?,
+                Some(message) => self.send(message)?,
                 None => Reply::Skipped,
             },
             Command::SendCopy { of, value } => self.send_copy(of, value)?,

@@ -6,17 +6,16 @@ use crate::records::{Entry, Loan};
 use crate::sender::last;
 use iox2_commands::Reply;
 use iox2_store::SendError;
+use std::alloc::Global;
 
 impl Model {
     // The written loan is sent. Of a closed publisher it is lost. Else connections are updated first.
-    pub(crate) fn send(
-        &mut self,
-        message: usize,
-        loan: Loan,
-    ) -> Result<Reply<u64, u64>, ModelError> {
+    pub(crate) fn send(&mut self, message: usize) -> Result<Reply<u64, u64>, ModelError> {
+        let Some(loan) = self.take_loan(message) else {
+            return Err(ModelError::NoRule);
+        };
         let p = loan.publisher;
         if !self.is_present(p) {
-            self.take_loan(message);
             return Ok(Reply::SendRefused(SendError::ConnectionBrokenSinceSenderNoLongerExists));
         }
         self.update_publisher(p)?;
@@ -26,17 +25,14 @@ impl Model {
         Ok(Reply::Delivered(count))
     }
 
-    // The loan is a message from now on: it leaves its user's hands, and enters the history.
+    // What was a loan is a message from now on, and enters the history.
     fn publish(&mut self, message: usize, loan: Loan) -> Result<(), ModelError> {
-        let Some(value) = loan.cell else {
-            return Err(ModelError::NoRule);
-        };
-        self.take_loan(message);
+        let values = values_of(self.alloc, loan.cells.as_slice())?;
         if let Some(entry) = self.entries.get_mut(message) {
             *entry = Some(Entry {
                 publisher: loan.publisher,
                 user_header: loan.user_header,
-                value,
+                values,
             });
         }
         self.enter_history(loan.publisher, message)
@@ -93,4 +89,16 @@ impl Model {
         }
         Ok(takes)
     }
+}
+
+// The values of cells that are all written.
+fn values_of(alloc: Global, cells: &[Option<u64>]) -> Result<Vec<u64>, ModelError> {
+    let mut values = Vec::new(alloc);
+    for cell in cells {
+        let Some(value) = *cell else {
+            return Err(ModelError::NoRule);
+        };
+        values.push(value)?;
+    }
+    Ok(values)
 }

@@ -6,48 +6,82 @@ use iox2_commands::Reply;
 use iox2_store::{LoanError, SendError, TypeVariant};
 
 impl Model {
-    // The publisher of whom a single value may be loaned.
-    pub(crate) fn lender_at(&self, of: usize) -> Option<usize> {
-        if self.config.units_per_element != 1 || self.config.variant != TypeVariant::FixedSize {
+    // The publisher of whom a loan may be asked, where messages are of this variant.
+    fn lender_at(&self, of: usize, variant: TypeVariant) -> Option<usize> {
+        if self.config.units_per_element != 1 || self.config.variant != variant {
             return None;
         }
         self.publisher_at(of)
     }
 
-    // A loan with this in its cell, or the refusal. A publisher has a slot for each loan of its
-    // limit.
+    /// The greatest length of a loan of the publisher that the command at this position made; 0 where
+    /// it made none that is live.
+    pub fn max_slice_len_at(&self, of: usize) -> usize {
+        match self.publisher_at(of).and_then(|p| self.publisher(p)) {
+            Some(publisher) => publisher.max_slice_len,
+            None => 0,
+        }
+    }
+
+    // A loan with this in each of its cells, or the refusal. A publisher has a slot for each loan of
+    // its limit.
     fn grant_loan(
         &mut self,
         p: usize,
+        len: usize,
         cell: Option<u64>,
-    ) -> Result<Result<(usize, Loan), LoanError>, ModelError> {
+    ) -> Result<Result<usize, LoanError>, ModelError> {
         let message = self.loans.len();
         let Some(publisher) = self.publisher_mut(p) else {
             return Err(ModelError::NoRule);
         };
+        if len > publisher.max_slice_len {
+            return Ok(Err(LoanError::ExceedsMaxLoanSize));
+        }
         if publisher.loans.len() >= publisher.max_loaned_samples {
             return Ok(Err(LoanError::ExceedsMaxLoans));
         }
         publisher.loans.push(message)?;
-        let loan = Loan {
+        let mut cells = Vec::new(self.alloc);
+        for _ in 0..len {
+            cells.push(cell)?;
+        }
+        self.loans.push(Some(Loan {
             publisher: p,
             user_header: 0,
-            cell,
+            cells,
             is_written: cell.is_some(),
-        };
-        self.loans.push(Some(loan))?;
+        }))?;
         self.entries.push(None)?;
-        Ok(Ok((message, loan)))
+        Ok(Ok(message))
     }
 
-    // A loan with this in its cell is asked for.
-    pub(crate) fn loan(&mut self, of: usize, cell: Option<u64>) -> Result<Outcome, ModelError> {
-        let Some(p) = self.lender_at(of) else {
+    // A loan of a single value with this in its cell is asked for.
+    pub(crate) fn loan_value(
+        &mut self,
+        of: usize,
+        cell: Option<u64>,
+    ) -> Result<Outcome, ModelError> {
+        self.loan_of(self.lender_at(of, TypeVariant::FixedSize), 1, cell)
+    }
+
+    // A loan of a slice of that length is asked for.
+    pub(crate) fn loan_slice(&mut self, of: usize, len: usize) -> Result<Outcome, ModelError> {
+        self.loan_of(self.lender_at(of, TypeVariant::Dynamic), len, None)
+    }
+
+    fn loan_of(
+        &mut self,
+        lender: Option<usize>,
+        len: usize,
+        cell: Option<u64>,
+    ) -> Result<Outcome, ModelError> {
+        let Some(p) = lender else {
             return Ok((Reply::Skipped, Made::Nothing));
         };
-        match self.grant_loan(p, cell)? {
+        match self.grant_loan(p, len, cell)? {
             Err(refusal) => Ok((Reply::LoanRefused(refusal), Made::Nothing)),
-            Ok((message, _)) => Ok((Reply::Loaned, Made::Loan(message))),
+            Ok(message) => Ok((Reply::Loaned, Made::Loan(message))),
         }
     }
 
@@ -57,24 +91,18 @@ impl Model {
         of: usize,
         value: u64,
     ) -> Result<Reply<u64, u64>, ModelError> {
-        let Some(p) = self.lender_at(of) else {
+        let Some(p) = self.lender_at(of, TypeVariant::FixedSize) else {
             return Ok(Reply::Skipped);
         };
-        match self.grant_loan(p, Some(value))? {
+        match self.grant_loan(p, 1, Some(value))? {
             Err(refusal) => Ok(Reply::SendRefused(SendError::LoanError(refusal))),
-            Ok((message, loan)) => self.send(message, loan),
+            Ok(message) => self.send(message),
         }
     }
 
     // The loan leaves its user's hands.
-    pub(crate) fn take_loan(&mut self, message: usize) {
-        self.set_loan(message, None);
-    }
-
-    fn set_loan(&mut self, message: usize, loan: Option<Loan>) {
-        if let Some(found) = self.loans.get_mut(message) {
-            *found = loan;
-        }
+    pub(crate) fn take_loan(&mut self, message: usize) -> Option<Loan> {
+        self.loans.get_mut(message)?.take()
     }
 
     // The loan is out no more.
@@ -85,43 +113,38 @@ impl Model {
     }
 
     pub(crate) fn discard(&mut self, of: usize) -> Reply<u64, u64> {
-        let Some((message, loan)) = self.any_loan_at(of) else {
+        let Some(message) = self.any_loan_at(of) else {
             return Reply::Skipped;
         };
-        self.take_loan(message);
-        self.return_loan(loan.publisher, message);
+        if let Some(loan) = self.take_loan(message) {
+            self.return_loan(loan.publisher, message);
+        }
         Reply::Done
     }
 
-    // The loan at this position is replaced.
-    fn change(&mut self, found: Option<(usize, Loan)>, change: LoanChange) -> Reply<u64, u64> {
-        let Some((message, loan)) = found else {
-            return Reply::Skipped;
-        };
-        let changed = match change {
-            LoanChange::Cell(value) => Loan {
-                cell: Some(value),
-                ..loan
-            },
-            LoanChange::Whole(value) => Loan {
-                cell: Some(value),
-                is_written: true,
-                ..loan
-            },
-            LoanChange::UserHeader(user_header) => Loan {
-                user_header,
-                ..loan
-            },
-        };
-        self.set_loan(message, Some(changed));
-        Reply::Done
+    // ---- a loan is changed
+
+    // The loan that is a written one, or that isn't.
+    fn loan_at_mut(&mut self, of: usize, is_written: bool) -> Option<&mut Loan> {
+        let message = self.loan_at(of, is_written)?;
+        self.loan_mut(message)
     }
 
+    // Each cell of a loan is written, and it is a written one from now on.
     pub(crate) fn write_all(&mut self, of: usize, value: u64) -> Reply<u64, u64> {
-        self.change(self.loan_at(of, false), LoanChange::Whole(value))
+        let Some(loan) = self.loan_at_mut(of, false) else {
+            return Reply::Skipped;
+        };
+        for at in 0..loan.cells.len() {
+            if let Some(cell) = loan.cells.get_mut(at) {
+                *cell = Some(value);
+            }
+        }
+        loan.is_written = true;
+        Reply::Done
     }
 
-    // One cell of a loan is written, which is a written one or not.
+    // One cell of a loan is written, where it has one there. It is a written one or not, and stays so.
     pub(crate) fn write_cell(
         &mut self,
         of: usize,
@@ -129,40 +152,37 @@ impl Model {
         value: u64,
         is_written: bool,
     ) -> Reply<u64, u64> {
-        if at > 0 {
+        let Some(loan) = self.loan_at_mut(of, is_written) else {
             return Reply::Skipped;
+        };
+        match loan.cells.get_mut(at) {
+            None => Reply::Skipped,
+            Some(cell) => {
+                *cell = Some(value);
+                Reply::Done
+            }
         }
-        self.change(self.loan_at(of, is_written), LoanChange::Cell(value))
     }
 
     pub(crate) fn write_header(&mut self, of: usize, value: u64) -> Reply<u64, u64> {
-        self.change(self.any_loan_at(of), LoanChange::UserHeader(value))
-    }
-
-    pub(crate) fn assume_init(&mut self, of: usize) -> Reply<u64, u64> {
-        let found = self.loan_at(of, false);
-        match found {
-            None => Reply::Skipped,
-            Some((_, Loan { cell: None, .. })) => Reply::Unwritten,
-            Some(
-                (
-                    _,
-                    Loan {
-                        cell: Some(value),
-                        ..
-                    },
-                ),
-            ) => self.change(found, LoanChange::Whole(value)),
+        let Some(message) = self.any_loan_at(of) else {
+            return Reply::Skipped;
+        };
+        if let Some(loan) = self.loan_mut(message) {
+            loan.user_header = value;
         }
+        Reply::Done
     }
-}
 
-// What is written of a loan.
-#[derive(Clone, Copy)]
-enum LoanChange {
-    // The cell, and the loan stays as written as it was.
-    Cell(u64),
-    // The cell, and the loan is written from now on.
-    Whole(u64),
-    UserHeader(u64),
+    // A loan whose cells are all written is a written one from now on.
+    pub(crate) fn assume_init(&mut self, of: usize) -> Reply<u64, u64> {
+        let Some(loan) = self.loan_at_mut(of, false) else {
+            return Reply::Skipped;
+        };
+        if loan.cells.as_slice().contains(&None) {
+            return Reply::Unwritten;
+        }
+        loan.is_written = true;
+        Reply::Done
+    }
 }

@@ -7,8 +7,8 @@ use iox2_commands::Reply;
 use iox2_store::ServiceConfig;
 use std::alloc::Global;
 
-/// The state of a domain of single numbers, with numbers as user headers, in which publishers
-/// discard what a full receiver doesn't take and have as many slots as they may need.
+/// The state of a domain of numbers or slices of numbers, with numbers as user headers, in which
+/// publishers discard what a full receiver doesn't take and have as many slots as they may need.
 #[derive(Drop)]
 pub struct Model {
     pub(crate) alloc: Global,
@@ -120,17 +120,18 @@ impl Model {
         }
     }
 
-    pub(crate) fn any_loan_at(&self, of: usize) -> Option<(usize, Loan)> {
+    // The number of the loan.
+    pub(crate) fn any_loan_at(&self, of: usize) -> Option<usize> {
         match self.made_at(of) {
-            Made::Loan(message) => Some((message, (*self.loans.get(message)?)?)),
+            Made::Loan(message) if self.loan(message).is_some() => Some(message),
             _ => None,
         }
     }
 
-    pub(crate) fn loan_at(&self, of: usize, is_written: bool) -> Option<(usize, Loan)> {
-        let (message, loan) = self.any_loan_at(of)?;
-        if loan.is_written == is_written {
-            Some((message, loan))
+    pub(crate) fn loan_at(&self, of: usize, is_written: bool) -> Option<usize> {
+        let message = self.any_loan_at(of)?;
+        if self.loan(message)?.is_written == is_written {
+            Some(message)
         } else {
             None
         }
@@ -148,6 +149,20 @@ impl Model {
             }
             _ => None,
         }
+    }
+
+    // ---- loans and messages
+
+    pub(crate) fn loan(&self, message: usize) -> Option<&Loan> {
+        self.loans.get(message)?.as_ref()
+    }
+
+    pub(crate) fn loan_mut(&mut self, message: usize) -> Option<&mut Loan> {
+        self.loans.get_mut(message)?.as_mut()
+    }
+
+    pub(crate) fn entry(&self, message: usize) -> Option<&Entry> {
+        self.entries.get(message)?.as_ref()
     }
 
     // ---- ports

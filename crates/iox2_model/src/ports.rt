@@ -5,7 +5,7 @@ use crate::places::{free_place, set_place};
 use crate::records::{Made, Publisher, Subscriber};
 use iox2_commands::Reply;
 use iox2_store::{
-    PublisherCreateError, SubscriberCreateError, UniquePublisherId, UniqueSubscriberId,
+    PublisherCreateError, SubscriberCreateError, TypeVariant, UniquePublisherId, UniqueSubscriberId,
 };
 
 impl Model {
@@ -30,24 +30,46 @@ impl Model {
         self.config.max_subscribers.checked_mul(each)
     }
 
+    // A publisher has a slot for each message of the worst case, and room there for its longest loan.
+    // Whether that fits.
+    fn segment_fits(&self, loans: usize, len: usize) -> bool {
+        match self.worst_case(loans) {
+            None => false,
+            Some(slots) => slots
+                .checked_mul(len)
+                .and_then(|elements| elements.checked_mul(self.config.units_per_element))
+                .is_some(),
+        }
+    }
+
+    // The greatest length of a loan, where it is set to that. A single value has the length 1.
+    fn max_slice_len(&self, len: usize) -> usize {
+        match self.config.variant {
+            TypeVariant::FixedSize => 1,
+            TypeVariant::Dynamic => len,
+        }
+    }
+
     // A publisher is made at the lowest free place. Where memory is refused, `given` is the reply.
     pub(crate) fn create_publisher(
         &mut self,
         loans: usize,
+        initial_max_slice_len: usize,
         given: Option<Reply<u64, u64>>,
     ) -> Result<Outcome, ModelError> {
         let limit = self.config.max_publishers;
         let Some(place) = free_place(limit, self.publisher_places.as_slice()) else {
             return Ok(publisher_refused(PublisherCreateError::ExceedsMaxSupportedPublishers));
         };
-        if self.worst_case(loans).is_none() {
+        let len = self.max_slice_len(initial_max_slice_len);
+        if !self.segment_fits(loans, len) {
             return Ok(publisher_refused(PublisherCreateError::UnableToCreateDataSegment));
         }
         if self.memory.refuses() {
             return Ok(publisher_refused(refusal_of(given)));
         }
         let id = self.publishers.len();
-        let publisher = Publisher::new(self.alloc, place, loans);
+        let publisher = Publisher::new(self.alloc, place, loans, len);
         self.publishers.push(Some(publisher))?;
         self.subscribers.push(None)?;
         set_place(&mut self.publisher_places, place, Some(id))?;

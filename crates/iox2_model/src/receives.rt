@@ -1,7 +1,7 @@
 //! A subscriber receives, and messages are read.
 use crate::error::ModelError;
 use crate::model::{Model, Outcome};
-use crate::records::{Loan, Made};
+use crate::records::Made;
 use iox2_commands::Reply;
 use iox2_store::{
     ConnectionFailure, Header, ReceiveError, UniqueNodeId, UniquePublisherId, ZeroCopyCreationError,
@@ -113,47 +113,75 @@ impl Model {
     // ---- a sample or a loan is read
 
     pub(crate) fn read(&self, of: usize, at: usize) -> Reply<u64, u64> {
-        if at > 0 {
-            return Reply::Skipped;
-        }
-        match self.read_at(of) {
-            Some(loan) => Reply::Cell(loan.cell),
+        match self.cell_at(of, at) {
+            Some(cell) => Reply::Cell(cell),
             None => Reply::Skipped,
         }
     }
 
     pub(crate) fn read_header(&self, of: usize) -> Reply<u64, u64> {
-        match self.read_at(of) {
-            Some(loan) => Reply::Header(Header {
+        match self.headers_at(of) {
+            Some(headers) => Reply::Header(Header {
                 node_id: UniqueNodeId::new(self.config.node_id),
-                publisher_id: UniquePublisherId::new(loan.publisher as u128),
-                number_of_elements: 1,
+                publisher_id: UniquePublisherId::new(headers.publisher as u128),
+                number_of_elements: headers.len as u64,
             }),
             None => Reply::Skipped,
         }
     }
 
     pub(crate) fn read_user_header(&self, of: usize) -> Reply<u64, u64> {
-        match self.read_at(of) {
-            Some(loan) => Reply::UserHeader(loan.user_header),
+        match self.headers_at(of) {
+            Some(headers) => Reply::UserHeader(headers.user_header),
             None => Reply::Skipped,
         }
     }
 
-    // What a position shows: a loan, or a sample as the written loan that it was.
-    fn read_at(&self, of: usize) -> Option<Loan> {
-        if let Some((_, loan)) = self.any_loan_at(of) {
-            return Some(loan);
+    // A cell of a loan, or a value of a sample's message, where it has one there.
+    fn cell_at(&self, of: usize, at: usize) -> Option<Option<u64>> {
+        if let Some(message) = self.any_loan_at(of) {
+            return self.loan(message)?.cells.get(at).copied();
         }
         let (_, _, message) = self.sample_at(of)?;
-        let entry = (*self.entries.get(message)?)?;
-        Some(Loan {
+        let value = *self.entry(message)?.values.get(at)?;
+        Some(Some(value))
+    }
+
+    // What the headers of a loan or of a sample's message say.
+    fn headers_at(&self, of: usize) -> Option<Headers> {
+        if let Some(message) = self.any_loan_at(of) {
+            let loan = self.loan(message)?;
+            return Some(Headers {
+                publisher: loan.publisher,
+                user_header: loan.user_header,
+                len: loan.cells.len(),
+            });
+        }
+        let (_, _, message) = self.sample_at(of)?;
+        let entry = self.entry(message)?;
+        Some(Headers {
             publisher: entry.publisher,
             user_header: entry.user_header,
-            cell: Some(entry.value),
-            is_written: true,
+            len: entry.values.len(),
         })
     }
+
+    /// How many cells the loan has, or values the sample's message, that the command at this position
+    /// made; 0 where it made none that is live.
+    pub fn length_at(&self, of: usize) -> usize {
+        match self.headers_at(of) {
+            Some(headers) => headers.len,
+            None => 0,
+        }
+    }
+}
+
+// What the headers of a message say.
+#[derive(Clone, Copy)]
+struct Headers {
+    publisher: usize,
+    user_header: u64,
+    len: usize,
 }
 
 // The reply that a sample of this publisher was received.

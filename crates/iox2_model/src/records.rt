@@ -5,6 +5,8 @@ use std::alloc::Global;
 pub(crate) struct Publisher {
     pub(crate) place: usize,
     pub(crate) max_loaned_samples: usize,
+    // The greatest length of a loan.
+    pub(crate) max_slice_len: usize,
     pub(crate) loans: Vec<usize>,
     // The last messages sent, oldest first.
     pub(crate) history: Vec<usize>,
@@ -14,10 +16,16 @@ pub(crate) struct Publisher {
 }
 
 impl Publisher {
-    pub(crate) fn new(alloc: Global, place: usize, max_loaned_samples: usize) -> Publisher {
+    pub(crate) fn new(
+        alloc: Global,
+        place: usize,
+        max_loaned_samples: usize,
+        max_slice_len: usize,
+    ) -> Publisher {
         Publisher {
             place,
             max_loaned_samples,
+            max_slice_len,
             loans: Vec::new(alloc),
             history: Vec::new(alloc),
             ends: Vec::new(alloc),
@@ -52,21 +60,21 @@ impl Subscriber {
     }
 }
 
-// A message that isn't sent yet.
-#[derive(Clone, Copy)]
+// A message that isn't sent yet. Each of its cells is written or not.
+#[derive(Drop)]
 pub(crate) struct Loan {
     pub(crate) publisher: usize,
     pub(crate) user_header: u64,
-    pub(crate) cell: Option<u64>,
+    pub(crate) cells: Vec<Option<u64>>,
     pub(crate) is_written: bool,
 }
 
 // A message that was sent.
-#[derive(Clone, Copy)]
+#[derive(Drop)]
 pub(crate) struct Entry {
     pub(crate) publisher: usize,
     pub(crate) user_header: u64,
-    pub(crate) value: u64,
+    pub(crate) values: Vec<u64>,
 }
 
 // What a command made, which later commands name by its position in the list.

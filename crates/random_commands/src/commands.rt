@@ -5,7 +5,9 @@ use crate::positions::{any, live, live_or_any};
 use crate::words::is_word;
 use iox2_commands::Command;
 use iox2_model::{Kind, Model};
-use iox2_store::{AllocationStrategy, BackpressureStrategy, DegradationAction, ServiceConfig};
+use iox2_store::{
+    AllocationStrategy, BackpressureStrategy, DegradationAction, ServiceConfig, TypeVariant,
+};
 use std::time::Duration;
 
 // A command that does what is wished, where it is a word that exists.
@@ -33,8 +35,8 @@ fn draw_command(
     match wish {
         Wish::MakePublisher => make_publisher(chance),
         Wish::MakeSubscriber => make_subscriber(chance, config),
-        Wish::Message => message_step(chance, model),
-        Wish::Loan => loan(chance, model),
+        Wish::Message => message_step(chance, model, config),
+        Wish::Loan => loan(chance, model, config),
         Wish::Change => change(chance, model),
         Wish::Discard => Command::Discard {
             of: any_loan(chance, model),
@@ -60,7 +62,7 @@ fn draw_command(
         },
         Wish::Anything => {
             let of = any(chance, model);
-            anything(chance, of)
+            anything(chance, model, of)
         }
     }
 }
@@ -76,7 +78,7 @@ fn make_publisher(chance: &mut Chance) -> Command<u64, u64> {
         loans,
         strategy: BackpressureStrategy::DiscardData,
         allocation: AllocationStrategy::Static,
-        initial_max_slice_len: chance.below(3),
+        initial_max_slice_len: chance.below(9),
         override_slots: None,
         degradation: DegradationAction::Warn,
         backpressure: None,
@@ -98,7 +100,7 @@ fn make_subscriber(chance: &mut Chance, config: &ServiceConfig) -> Command<u64, 
 }
 
 // A written loan is sent, an unwritten one is written, and where there is none a loan is taken.
-fn message_step(chance: &mut Chance, model: &Model) -> Command<u64, u64> {
+fn message_step(chance: &mut Chance, model: &Model, config: &ServiceConfig) -> Command<u64, u64> {
     if let Some(of) = live(chance, model, Kind::WrittenLoan) {
         return Command::Send { of };
     }
@@ -110,6 +112,7 @@ fn message_step(chance: &mut Chance, model: &Model) -> Command<u64, u64> {
     }
     match live(chance, model, Kind::Publisher) {
         None => make_publisher(chance),
+        Some(of) if has_slices(config) => loan_slice(chance, model, of),
         Some(of) if chance.one_in(2) => Command::SendCopy {
             of,
             value: chance.value(),
@@ -118,13 +121,31 @@ fn message_step(chance: &mut Chance, model: &Model) -> Command<u64, u64> {
     }
 }
 
-fn loan(chance: &mut Chance, model: &Model) -> Command<u64, u64> {
+fn has_slices(config: &ServiceConfig) -> bool {
+    config.variant == TypeVariant::Dynamic
+}
+
+// A loan fits the service mostly.
+fn loan(chance: &mut Chance, model: &Model, config: &ServiceConfig) -> Command<u64, u64> {
     let of = live_or_any(chance, model, Kind::Publisher);
-    if chance.one_in(2) {
+    if has_slices(config) && !chance.one_in(8) {
+        loan_slice(chance, model, of)
+    } else if chance.one_in(2) {
         Command::LoanUninit { of }
     } else {
         Command::Loan { of }
     }
+}
+
+// The length is one that the publisher lends, or one more.
+fn loan_slice(chance: &mut Chance, model: &Model, of: usize) -> Command<u64, u64> {
+    let greatest = model.max_slice_len_at(of);
+    let len = if chance.one_in(12) {
+        greatest.saturating_add(1)
+    } else {
+        chance.up_to(greatest)
+    };
+    Command::LoanSlice { of, len }
 }
 
 fn any_loan(chance: &mut Chance, model: &Model) -> usize {
@@ -143,15 +164,20 @@ fn any_port(chance: &mut Chance, model: &Model) -> usize {
     }
 }
 
-// The cell of a message, which has one, or past its end.
-fn cell(chance: &mut Chance) -> usize {
-    if chance.one_in(16) { 1 } else { 0 }
+// A cell of the message, or past its end.
+fn cell(chance: &mut Chance, model: &Model, of: usize) -> usize {
+    let length = model.length_at(of);
+    if chance.one_in(16) {
+        length
+    } else {
+        chance.below(length)
+    }
 }
 
 fn change(chance: &mut Chance, model: &Model) -> Command<u64, u64> {
     let value = chance.value();
-    let at = cell(chance);
     let of = any_loan(chance, model);
+    let at = cell(chance, model, of);
     match chance.below(5) {
         0 => Command::WriteCell { of, at, value },
         1 => Command::WriteAll { of, value },
@@ -172,20 +198,20 @@ fn read(chance: &mut Chance, model: &Model) -> Command<u64, u64> {
         1 => Command::ReadUserHeader { of },
         _ => Command::Read {
             of,
-            at: cell(chance),
+            at: cell(chance, model, of),
         },
     }
 }
 
 // Any command on this position, but for those that make ports.
-fn anything(chance: &mut Chance, of: usize) -> Command<u64, u64> {
+fn anything(chance: &mut Chance, model: &Model, of: usize) -> Command<u64, u64> {
     let value = chance.value();
-    let at = cell(chance);
+    let at = cell(chance, model, of);
     match chance.below(21) {
         0 => Command::Nothing,
         1 => Command::LoanUninit { of },
         2 => Command::Loan { of },
-        3 => Command::LoanSlice { of, len: at },
+        3 => loan_slice(chance, model, of),
         4 => Command::WriteCell { of, at, value },
         5 => Command::WriteAll { of, value },
         6 => Command::AssumeInit { of },

@@ -1,10 +1,11 @@
 //! Scripts as text.
 use iox2_commands::Command;
-use iox2_store::ServiceConfig;
+use iox2_store::{ServiceConfig, TypeVariant};
 use std::alloc::{AllocError, Global};
 use std::fmt::Write;
 
-/// The script as a text for `pubsub_script`. A command that has no word there is printed as it is.
+/// The script as a text for `pubsub_script`. A command that has no word there is printed as it is, and
+/// so is the variant of a service for slices, and what makes a publisher there.
 pub fn script_text(
     alloc: Global,
     config: &ServiceConfig,
@@ -33,8 +34,16 @@ fn push_domain(text: &mut String, config: &ServiceConfig) -> Result<(), AllocErr
     };
     write!(
         text,
-        "domain {publishers} {subscribers} {buffer} {borrowed} {history} {expired} {mode}\n"
-    )
+        "domain {publishers} {subscribers} {buffer} {borrowed} {history} {expired} {mode}"
+    )?;
+    if has_slices(config) {
+        write!(text, " {:?}", config.variant)?;
+    }
+    text.push('\n')
+}
+
+fn has_slices(config: &ServiceConfig) -> bool {
+    config.variant == TypeVariant::Dynamic
 }
 
 // The number of the command at a position: 0 names none.
@@ -49,7 +58,9 @@ fn push_line(
 ) -> Result<(), AllocError> {
     let buffer_limit = config.subscriber_max_buffer_size;
     match *command {
-        Command::CreatePublisher { loans, .. } => write!(text, "pub {loans} discard"),
+        Command::CreatePublisher { loans, .. } if !has_slices(config) => {
+            write!(text, "pub {loans} discard")
+        }
         Command::CreateSubscriber { buffer, .. } => {
             let size = buffer.unwrap_or(buffer_limit);
             write!(text, "sub {size}")

@@ -1,6 +1,6 @@
 //! The settings of a script's service.
 use crate::chance::Chance;
-use iox2_store::{BackpressureStrategy, ServiceConfig};
+use iox2_store::{BackpressureStrategy, ServiceConfig, TypeVariant};
 
 // The greatest sizes of a service.
 #[derive(Clone, Copy)]
@@ -82,12 +82,22 @@ fn size(chance: &mut Chance, greatest: usize) -> usize {
     }
 }
 
+// Messages are slices in every fourth script or so.
+fn variant(chance: &mut Chance) -> TypeVariant {
+    if chance.one_in(4) {
+        TypeVariant::Dynamic
+    } else {
+        TypeVariant::FixedSize
+    }
+}
+
 // The settings of a service. It may have no publisher or no subscriber, but seldom has.
 pub(crate) fn draw_config(chance: &mut Chance) -> ServiceConfig {
     let sizes = greatest_sizes(chance);
     let least = if chance.one_in(40) { 0 } else { 1 };
     ServiceConfig {
         node_id: 1,
+        variant: variant(chance),
         max_publishers: chance.up_to(sizes.publishers).max(least),
         max_subscribers: chance.up_to(sizes.subscribers).max(least),
         subscriber_max_buffer_size: size(chance, sizes.buffer),

@@ -26,6 +26,7 @@ pub fn is_word(command: &Command<u64, u64>) -> bool
         Command::Nothing
         | Command::LoanUninit { .. }
         | Command::Loan { .. }
+        | Command::LoanSlice { .. }
         | Command::WriteCell { .. }
         | Command::WriteAll { .. }
         | Command::AssumeInit { .. }

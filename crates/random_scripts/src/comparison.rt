@@ -6,7 +6,7 @@ ghost use Rattle.iox2_runs.specs.Supported.{IsSupportedCommand};
 use crate::difference::Difference;
 use crate::failure::Failure;
 use iox2_model::{Memory, Model, ModelError};
-use iox2_pubsub::{Domain, ServiceConfig, TypeVariant};
+use iox2_pubsub::{Domain, ServiceConfig};
 use iox2_runs::{Command, Reply, run};
 use random_commands::is_word;
 use std::alloc::Global;
@@ -40,21 +40,16 @@ pub(crate) fn carry_out_all(
     commands: &[Command<u64, u64>],
 ) -> Result<Ran, Failure> {
     let words = words(alloc, commands)?;
-    match config.variant {
-        TypeVariant::Dynamic => Err(Failure::NoWord),
-        TypeVariant::FixedSize => {
-            let Ok(mut domain) = Domain::<u64, u64>::new(alloc, config) else {
-                return Err(Failure::OutOfMemory);
-            };
-            let Ok(replies) = run(alloc, &mut domain, words) else {
-                return Err(Failure::OutOfMemory);
-            };
-            Ok(Ran {
-                replies,
-                refused_connections: domain.refused_connections(),
-            })
-        }
-    }
+    let Ok(mut domain) = Domain::<u64, u64>::new(alloc, config) else {
+        return Err(Failure::OutOfMemory);
+    };
+    let Ok(replies) = run(alloc, &mut domain, words) else {
+        return Err(Failure::OutOfMemory);
+    };
+    Ok(Ran {
+        replies,
+        refused_connections: domain.refused_connections(),
+    })
 }
 
 /// What the model says of a run.

@@ -7,7 +7,7 @@ use iox2_pubsub::{
 use iox2_runs::{Command, Reply};
 
 // The kinds of replies that the words can give with ample memory.
-const KINDS: [&str; 28] = [
+const KINDS: [&str; 29] = [
     "Done",
     "Skipped",
     "PublisherMade",
@@ -18,6 +18,7 @@ const KINDS: [&str; 28] = [
     "SubscriberRefused(BufferSizeExceedsMaxSupportedBufferSizeOfService)",
     "Loaned",
     "LoanRefused(ExceedsMaxLoans)",
+    "LoanRefused(ExceedsMaxLoanSize)",
     "Delivered to none",
     "Delivered to one",
     "Delivered to 2 to 64",
@@ -39,19 +40,19 @@ const KINDS: [&str; 28] = [
 ];
 
 // The position of the count of all other replies, which no command should have.
-const OTHER: usize = 28;
+const OTHER: usize = 29;
 
 /// How often each kind of reply was met.
 #[derive(Drop)]
 pub(crate) struct Tally {
-    counts: [u64; 29],
+    counts: [u64; 30],
     words: WordTally,
 }
 
 impl Tally {
     pub(crate) fn new() -> Tally {
         Tally {
-            counts: [0; 29],
+            counts: [0; 30],
             words: WordTally::new(),
         }
     }
@@ -106,12 +107,13 @@ fn kind_of(reply: &Reply<u64, u64>) -> usize {
         ) => 7,
         Reply::Loaned => 8,
         Reply::LoanRefused(LoanError::ExceedsMaxLoans) => 9,
-        Reply::Delivered(0) => 10,
-        Reply::Delivered(1) => 11,
-        Reply::Delivered(2..=64) => 12,
-        Reply::Delivered(_) => 13,
-        Reply::SendRefused(SendError::ConnectionBrokenSinceSenderNoLongerExists) => 14,
-        Reply::SendRefused(SendError::LoanError(LoanError::ExceedsMaxLoans)) => 15,
+        Reply::LoanRefused(LoanError::ExceedsMaxLoanSize) => 10,
+        Reply::Delivered(0) => 11,
+        Reply::Delivered(1) => 12,
+        Reply::Delivered(2..=64) => 13,
+        Reply::Delivered(_) => 14,
+        Reply::SendRefused(SendError::ConnectionBrokenSinceSenderNoLongerExists) => 15,
+        Reply::SendRefused(SendError::LoanError(LoanError::ExceedsMaxLoans)) => 16,
         _ => kind_of_use(reply),
     }
 }
@@ -119,18 +121,18 @@ fn kind_of(reply: &Reply<u64, u64>) -> usize {
 // The same for what is received and read.
 fn kind_of_use(reply: &Reply<u64, u64>) -> usize {
     match *reply {
-        Reply::UpdateRefused(_) => 16,
-        Reply::Sample(_) => 17,
-        Reply::NoSample => 18,
-        Reply::ReceiveRefused(ReceiveError::ExceedsMaxBorrows) => 19,
-        Reply::ReceiveRefused(ReceiveError::ConnectionFailure(_)) => 20,
-        Reply::Has(false) => 21,
-        Reply::Has(true) => 22,
-        Reply::Cell(None) => 23,
-        Reply::Cell(Some(_)) => 24,
-        Reply::Unwritten => 25,
-        Reply::Header(_) => 26,
-        Reply::UserHeader(_) => 27,
+        Reply::UpdateRefused(_) => 17,
+        Reply::Sample(_) => 18,
+        Reply::NoSample => 19,
+        Reply::ReceiveRefused(ReceiveError::ExceedsMaxBorrows) => 20,
+        Reply::ReceiveRefused(ReceiveError::ConnectionFailure(_)) => 21,
+        Reply::Has(false) => 22,
+        Reply::Has(true) => 23,
+        Reply::Cell(None) => 24,
+        Reply::Cell(Some(_)) => 25,
+        Reply::Unwritten => 26,
+        Reply::Header(_) => 27,
+        Reply::UserHeader(_) => 28,
         _ => OTHER,
     }
 }

@@ -3,12 +3,13 @@ use crate::failure::Failure;
 use iox2_runs::{Command, Reply};
 
 // The words that exist. Those of the first three are never skipped.
-const WORDS: [&str; 21] = [
+const WORDS: [&str; 22] = [
     "Nothing",
     "CreatePublisher",
     "CreateSubscriber",
     "LoanUninit",
     "Loan",
+    "LoanSlice",
     "WriteCell",
     "WriteAll",
     "AssumeInit",
@@ -33,15 +34,15 @@ const NEVER_SKIPPED: usize = 3;
 /// How often each word was carried out, and how often it was skipped.
 #[derive(Drop)]
 pub(crate) struct WordTally {
-    done: [u64; 21],
-    skipped: [u64; 21],
+    done: [u64; 22],
+    skipped: [u64; 22],
 }
 
 impl WordTally {
     pub(crate) fn new() -> WordTally {
         WordTally {
-            done: [0; 21],
-            skipped: [0; 21],
+            done: [0; 22],
+            skipped: [0; 22],
         }
     }
 
@@ -77,7 +78,7 @@ impl WordTally {
     }
 }
 
-fn count_up(counts: &mut [u64; 21], word: usize) {
+fn count_up(counts: &mut [u64; 22], word: usize) {
     if let Some(count) = counts.get_mut(word) {
         *count = count.saturating_add(1);
     }
@@ -106,22 +107,23 @@ fn position_of(command: &Command<u64, u64>) -> usize {
         Command::CreateSubscriber { .. } => 2,
         Command::LoanUninit { .. } => 3,
         Command::Loan { .. } => 4,
-        Command::WriteCell { .. } => 5,
-        Command::WriteAll { .. } => 6,
-        Command::AssumeInit { .. } => 7,
-        Command::WriteHeader { .. } => 8,
-        Command::SetPayload { .. } => 9,
-        Command::Send { .. } => 10,
-        Command::SendCopy { .. } => 11,
-        Command::Discard { .. } => 12,
-        Command::Update { .. } => 13,
-        Command::Receive { .. } => 14,
-        Command::HasSamples { .. } => 15,
-        Command::Read { .. } => 16,
-        Command::ReadHeader { .. } => 17,
-        Command::ReadUserHeader { .. } => 18,
-        Command::Release { .. } => 19,
-        Command::Close { .. } => 20,
+        Command::LoanSlice { .. } => 5,
+        Command::WriteCell { .. } => 6,
+        Command::WriteAll { .. } => 7,
+        Command::AssumeInit { .. } => 8,
+        Command::WriteHeader { .. } => 9,
+        Command::SetPayload { .. } => 10,
+        Command::Send { .. } => 11,
+        Command::SendCopy { .. } => 12,
+        Command::Discard { .. } => 13,
+        Command::Update { .. } => 14,
+        Command::Receive { .. } => 15,
+        Command::HasSamples { .. } => 16,
+        Command::Read { .. } => 17,
+        Command::ReadHeader { .. } => 18,
+        Command::ReadUserHeader { .. } => 19,
+        Command::Release { .. } => 20,
+        Command::Close { .. } => 21,
         _ => WORDS.len(),
     }
 }
