@@ -1,5 +1,5 @@
 -- What each call leaves of a domain.
-use Rattle.std.proofs.Common.{◌≡◌, Bool, ℕ, ◌<◌, List, true, false, sym, ap, subst, ◌∙◌, Option, None, Some, Result, Ok, Err, inl, inr, arith}
+use Rattle.std.proofs.Common.{◌≡◌, Bool, ℕ, ◌<◌, List, refl, true, false, sym, ap, subst, ◌∙◌, Option, None, Some, Result, Ok, Err, inl, inr, arith}
 use Rattle.std.specs.Prelude.{◌≢◌}
 use Rattle.std.proofs.lemmas.Bool.{cases_eq, ne_eqb, true≢false}
 use Rattle.iox2_store.specs.machine.Environments.{ample_memory, fixed_handlers}
@@ -8,7 +8,7 @@ use Rattle.iox2_store.specs.machine.Mailbox.{is_borrowed}
 use Rattle.iox2_store.specs.machine.Numbers.{put_at, contains}
 use Rattle.iox2_store.specs.machine.Ports.{CreatePublisher, CreateSubscriber}
 use Rattle.iox2_store.specs.machine.Receives.{ReceiveResult, Got_sample, No_sample, Receive_error, Receive}
-use Rattle.iox2_store.specs.machine.Records.{Entry, Loan, PublisherSettings, SubscriberSettings, Environment}
+use Rattle.iox2_store.specs.machine.Records.{Entry, Loan, Publisher, PublisherSettings, SubscriberSettings, Environment}
 use Rattle.iox2_store.specs.machine.Releases.{released}
 use Rattle.iox2_store.specs.machine.Sends.{SendResult, Delivered_to, Blocked_send, Send_error, Send}
 use Rattle.iox2_store.specs.declared.errors.SendError.{SendError}
@@ -29,6 +29,7 @@ use Rattle.iox2_laws.proofs.PortsStay.{PortsStay, Remain, ports_stay_themselves,
 use Rattle.iox2_laws.proofs.Puts.{put_at-other, put_at-same}
 use Rattle.iox2_laws.proofs.SamplesStay.{same_borrowed, IsReceived, received_one, nothing_received, released_remain, released_now, released_others}
 use Rattle.iox2_laws.proofs.SubscriberUpdates.{update_subscriber_keeps}
+use Rattle.iox2_laws.proofs.Waits.{Waits, waits_itself, create_publisher_waits, create_subscriber_waits, grant_loan_waits, loan_set_waits, send_waits as send_spared, receive_waits, released_waits}
 use Rattle.iox2_domain.specs.Fields.{Fields, kept_of}
 use Rattle.iox2_domain.specs.Invariant.{IsDomain}
 use Rattle.iox2_domain.specs.Kept.{Kept, state_of, entries_of}
@@ -39,7 +40,7 @@ use Rattle.iox2_pubsub.specs.Slices.{HasUnwrittenCells, HasValues}
 use Rattle.iox2_pubsub.proofs.AlwaysShows.{shows_itself}
 use Rattle.iox2_pubsub.proofs.LiveParts.{publisher-parts, subscriber-parts, loan-parts, sample-parts, origin-parts}
 use Rattle.iox2_pubsub.proofs.SliceParts.{cells-parts, values-parts}
-use Rattle.iox2_pubsub.proofs.StaysBut.{ports-remain, stays-between}
+use Rattle.iox2_pubsub.proofs.StaysBut.{IsSpared, ports-remain, stays-between}
 
 -- a domain shows some state
 pub always-shown : {T U : Type 0} (f : Fields T U) (kept : Kept T U) → IsDomain f → kept_of f ≡ kept → (m : Messages T U) × (s : State T U) × Shows kept m s
@@ -60,22 +61,22 @@ one-origin {T} {U} kept m s shown p p' q q' n here there =
 
 module _ {T U : Type 0} (old new : Kept T U) (m : Messages T U) (s : State T U) (shown : Shows old m s) where
   -- ports, loans and samples stay
-  quiet : (s' : State T U) → Shows new m s' → PortsStay s s' → s'.loans ≡ s.loans → Stays old new
-  quiet s' shown' stay loans =
+  quiet : (s' : State T U) → Shows new m s' → PortsStay s s' → s'.loans ≡ s.loans → Waits (IsSpared No_item) s s' → Stays old new
+  quiet s' shown' stay loans waits =
       stays-between No_item old new m m s s' shown shown' (λ n entry at. at) (ports-remain _ s s' stay.remain) (λ n l at _. ap (λ (f : ℕ → Option (Loan T U)). f n) loans ∙ at)
-      (λ p q n at _. same_borrowed s s' stay p q n ∙ at)
+      (λ p q n at _. same_borrowed s s' stay p q n ∙ at) waits
 
   -- a publisher is made, or refused
   pub publisher-creation-stays : (environment : Environment) (given : PublisherSettings) (refusal : Option PublisherCreateError) (s' : State T U) → Shows new m s'
       → CreatePublisher environment s given s' refusal → Stays old new
   publisher-creation-stays environment given refusal s' shown' h =
-      quiet s' shown' (create_publisher_stays environment s given s' refusal h) (create_publisher_loans environment s given s' refusal h)
+      quiet s' shown' (create_publisher_stays environment s given s' refusal h) (create_publisher_loans environment s given s' refusal h) (create_publisher_waits (IsSpared No_item) environment s given s' refusal h)
 
   -- a subscriber is made, or refused
   pub subscriber-creation-stays : (environment : Environment) (given : SubscriberSettings) (refusal : Option SubscriberCreateError) (s' : State T U) → Shows new m s'
       → CreateSubscriber environment s given s' refusal → Stays old new
   subscriber-creation-stays environment given refusal s' shown' h =
-      quiet s' shown' (create_subscriber_stays environment s given s' refusal h) (create_subscriber_loans environment s given s' refusal h)
+      quiet s' shown' (create_subscriber_stays environment s given s' refusal h) (create_subscriber_loans environment s given s' refusal h) (create_subscriber_waits (IsSpared No_item) environment s given s' refusal h)
 
   -- the new publisher is none that was there
   pub publisher-is-new : (id : ℕ) → id ≡ s.next_port → IsNewIn old (A_publisher id)
@@ -89,6 +90,7 @@ module _ {T U : Type 0} (old new : Kept T U) (m : Messages T U) (s : State T U) 
     origins = λ it from. tt;
     cells = λ n cells has. tt;
     payloads = λ n values has. tt;
+    unblocked = λ key free. tt;
   } where
     apart : (key : Key) → IsPublisherKey old key → key.port ≢ id
     apart key live same =
@@ -108,6 +110,7 @@ module _ {T U : Type 0} (old new : Kept T U) (m : Messages T U) (s : State T U) 
     origins = λ it from. tt;
     cells = λ n cells has. tt;
     payloads = λ n values has. tt;
+    unblocked = λ key free. tt;
   } where
     apart : (key : Key) → IsSubscriberKey old key → key.port ≢ id
     apart key live same =
@@ -121,9 +124,9 @@ module _ {T U : Type 0} (old new : Kept T U) (m : Messages T U) (s : State T U) 
       let stay : PortsStay s s' = grant_loan_stays ample_memory h.0 checks len s p s' None h.2 in
       let next = loan_next ample_memory s h.0 checks len p s' h.2 in
       stays-between No_item old new m m s s' shown shown' (λ n entry at. at) (ports-remain _ s s' stay.remain) (λ n l at _. next.others n (shown.well_formed.loans n l at).below ∙ at)
-      (λ i j n at _. same_borrowed s s' stay i j n ∙ at)
+      (λ i j n at _. same_borrowed s s' stay i j n ∙ at) (grant_loan_waits (IsSpared No_item) ample_memory h.0 checks len s p s' None h.2)
   loan-stays is_default checks len p (Err e) s' shown' h =
-      quiet s' shown' (subst (PortsStay s) (sym h.0) (ports_stay_themselves s)) (ap (λ (t : State T U). t.loans) h.0)
+      quiet s' shown' (subst (PortsStay s) (sym h.0) (ports_stay_themselves s)) (ap (λ (t : State T U). t.loans) h.0) (subst (Waits (IsSpared No_item) s) (sym h.0) (waits_itself (IsSpared No_item) s))
 
   -- the new loan is none that was there
   pub loan-is-new : (number : ℕ) → number ≡ old.next_message → IsNewIn old (A_loan number)
@@ -137,6 +140,7 @@ module _ {T U : Type 0} (old new : Kept T U) (m : Messages T U) (s : State T U) 
     origins = λ it from. tt;
     cells = cells-apart;
     payloads = values-apart;
+    unblocked = λ key free. tt;
   }
     where
       out-apart : (n : ℕ) (l : Loan T U) → (state_of old).loans n ≡ Some l → n ≢ number
@@ -162,39 +166,61 @@ module _ {T U : Type 0} (old new : Kept T U) (m : Messages T U) (s : State T U) 
       let stay : PortsStay s s' = loan_set_stays s n (Some l) in
       stays-between (A_loan n) old new m m s s' shown shown' (λ n entry at. at) (ports-remain _ s s' stay.remain)
       (λ k loan at other. put_at-other s.loans n (Some l) k (ne_eqb k n other) ∙ at)
-      (λ i j k at _. same_borrowed s s' stay i j k ∙ at)
+      (λ i j k at _. same_borrowed s s' stay i j k ∙ at) (loan_set_waits (IsSpared (A_loan n)) s n (Some l))
 
-  -- a loan is sent
-  pub send-stays : (environment : Environment) (n : ℕ) (l : Loan T U) → s.loans n ≡ Some l → (result : SendResult) (entry : Entry T U) (s' : State T U) → Shows new (put_at m n (Some entry)) s'
-      → Send environment s n l s' result → (result ≡ Blocked_send → ⊥) → StaysBut (A_loan n) old new
-  send-stays environment n l out result entry s' shown' h free =
-      let stay : PortsStay s s' = send_stays environment s n l s' result h free in
-      let loans : s'.loans ≡ put_at s.loans n None = send_loans environment s n l s' result h in
-      stays-between (A_loan n) old new m (put_at m n (Some entry)) s s' shown shown' sent (ports-remain _ s s' stay.remain)
-      (λ k loan at other. ap (λ (f : ℕ → Option (Loan T U)). f k) loans ∙ put_at-other s.loans n None k (ne_eqb k n other) ∙ at)
-      (λ i j k at _. same_borrowed s s' stay i j k ∙ at)
-    where
-      -- a message that was sent before has another number
-      sent : (k : ℕ) (other : Entry T U) → m k ≡ Some other → put_at m n (Some entry) k ≡ Some other
-      sent k other at = put_at-other m n (Some entry) k (ne_eqb k n (λ e.
-          let clash : None ≡ Some other = sym (shown.unsent n l out) ∙ ap m (sym e) ∙ at in absurd cc)) ∙ at
+  -- a send leaves what is borrowed and the ports, and each publisher but its own waits as it did
+  module _ (n : ℕ) (l : Loan T U) (out : s.loans n ≡ Some l) (result : SendResult) (s' : State T U) (h : Send fixed_handlers s n l s' result) (ends : result ≡ Blocked_send → ⊥)
+      (free : (x : Publisher) → s.publishers l.publisher ≡ Some x → x.blocked ≡ None) where
+    stay : PortsStay s s'
+    stay = send_stays fixed_handlers s n l s' result h ends
 
-  -- a loan is lost at a send
-  pub lost-stays : (environment : Environment) (n : ℕ) (l : Loan T U) (result : SendResult) (s' : State T U) → Shows new m s' → Send environment s n l s' result → (result ≡ Blocked_send → ⊥)
-      → StaysBut (A_loan n) old new
-  lost-stays environment n l result s' shown' h free =
-      let stay : PortsStay s s' = send_stays environment s n l s' result h free in
-      let loans : s'.loans ≡ put_at s.loans n None = send_loans environment s n l s' result h in
-      stays-between (A_loan n) old new m m s s' shown shown' (λ k entry at. at) (ports-remain _ s s' stay.remain)
-      (λ k loan at other. ap (λ (f : ℕ → Option (Loan T U)). f k) loans ∙ put_at-other s.loans n None k (ne_eqb k n other) ∙ at)
-      (λ i j k at _. same_borrowed s s' stay i j k ∙ at)
+    -- and so does its own, where the send isn't blocked
+    send-waits : Waits (IsSpared (A_loan n)) s s'
+    send-waits =
+        let mine = send_spared (λ (q : ℕ). q ≡ l.publisher) fixed_handlers s n l refl s' result h in
+        record {
+          next_port = mine.next_port;
+          publishers = λ p x' low at.
+              let was = mine.publishers p x' low at in (
+                was.0,
+                was.1,
+                record {
+                  strategy = was.2.strategy;
+                  handler = was.2.handler;
+                  blocked = λ _. elim (cases_eq p l.publisher) [
+                    | inr away ↦ was.2.blocked away
+                    | inl same ↦
+                        let none : (was.0).blocked ≡ None = free was.0 (ap s.publishers (sym same) ∙ was.1) in
+                        let there = (stay.remain).publishers p was.0 was.1 in
+                        let both : Some x' ≡ Some there.0 = sym at ∙ there.1 in
+                        let is : x' ≡ there.0 = cc in
+                        ap (λ (x : Publisher). x.blocked) is ∙ there.2 none ∙ sym none
+                  ];
+                },
+              );
+        }
+
+    -- all but the loan stays
+    send-keeps : (m' : Messages T U) → Shows new m' s' → ((k : ℕ) (entry : Entry T U) → m k ≡ Some entry → m' k ≡ Some entry) → StaysBut (A_loan n) old new
+    send-keeps m' shown' sent =
+        let loans : s'.loans ≡ put_at s.loans n None = send_loans fixed_handlers s n l s' result h in
+        stays-between (A_loan n) old new m m' s s' shown shown' sent (ports-remain _ s s' stay.remain)
+        (λ k loan at other. ap (λ (f : ℕ → Option (Loan T U)). f k) loans ∙ put_at-other s.loans n None k (ne_eqb k n other) ∙ at)
+        (λ i j k at _. same_borrowed s s' stay i j k ∙ at) send-waits
+
+    -- a message that was sent before has another number
+    sent-before : (k : ℕ) (entry other : Entry T U) → m k ≡ Some other → put_at m n (Some entry) k ≡ Some other
+    sent-before k entry other at = put_at-other m n (Some entry) k (ne_eqb k n (λ e.
+        let clash : None ≡ Some other = sym (shown.unsent n l out) ∙ ap m (sym e) ∙ at in absurd cc)) ∙ at
 
   -- a send that may fail
-  pub sent-stays : (n : ℕ) (l : Loan T U) → s.loans n ≡ Some l → (result : Result SendOutcome SendError) (s' : State T U) → Shows new (messages_after m n l result) s'
-      → Sends s n l result s' → StaysBut (A_loan n) old new
-  sent-stays n l out (Ok (Delivered count)) s' shown' h =
-      send-stays fixed_handlers n l out (Delivered_to count) (entry_of l) s' shown' h (λ e. let clash : Delivered_to count ≡ Blocked_send = e in cc)
-  sent-stays n l out (Err error) s' shown' h = lost-stays fixed_handlers n l (Send_error error) s' shown' h (λ e. let clash : Send_error error ≡ Blocked_send = e in cc)
+  pub sent-stays : (n : ℕ) (l : Loan T U) → s.loans n ≡ Some l → ((x : Publisher) → s.publishers l.publisher ≡ Some x → x.blocked ≡ None)
+      → (result : Result SendOutcome SendError) (s' : State T U) → Shows new (messages_after m n l result) s' → Sends s n l result s' → StaysBut (A_loan n) old new
+  sent-stays n l out free (Ok (Delivered count)) s' shown' h =
+      send-keeps n l out (Delivered_to count) s' h (λ e. let clash : Delivered_to count ≡ Blocked_send = e in cc) free _ shown'
+      (λ k other at. sent-before n l out (Delivered_to count) s' h (λ e. let clash : Delivered_to count ≡ Blocked_send = e in cc) free k (entry_of l) other at)
+  sent-stays n l out free (Err error) s' shown' h =
+      send-keeps n l out (Send_error error) s' h (λ e. let clash : Send_error error ≡ Blocked_send = e in cc) free _ shown' (λ k entry at. at)
 
   -- it is out no more
   pub send-spends : (environment : Environment) (key : Key) (l : Loan T U) (result : SendResult) (m' : Messages T U) (s' : State T U) → Shows new m' s'
@@ -223,12 +249,12 @@ module _ {T U : Type 0} (old new : Kept T U) (m : Messages T U) (s : State T U) 
                 ∙ ap (λ (v : ℕ). is_borrowed v (s'.mailboxes p q)) e_n ∙ got.now
           ]
         ]
-      ])
+      ]) (receive_waits (IsSpared No_item) environment s q s' (Got_sample p n) h)
   receive-stays environment q No_sample s' shown' h =
-      quiet s' shown' (nothing_received environment s q s' No_sample (λ p n e. let clash : No_sample ≡ Got_sample p n = e in absurd cc) h) (receive_loans environment s q s' No_sample h)
+      quiet s' shown' (nothing_received environment s q s' No_sample (λ p n e. let clash : No_sample ≡ Got_sample p n = e in absurd cc) h) (receive_loans environment s q s' No_sample h) (receive_waits (IsSpared No_item) environment s q s' No_sample h)
   receive-stays environment q (Receive_error e) s' shown' h =
       quiet s' shown' (nothing_received environment s q s' (Receive_error e) (λ p n f. let clash : Receive_error e ≡ Got_sample p n = f in absurd cc) h)
-      (receive_loans environment s q s' (Receive_error e) h)
+      (receive_loans environment s q s' (Receive_error e) h) (receive_waits (IsSpared No_item) environment s q s' (Receive_error e) h)
 
   -- what is received wasn't borrowed
   not-borrowed : (environment : Environment) (p q n : ℕ) (s' : State T U) → Receive environment s q s' (Got_sample p n) → is_borrowed n (s.mailboxes p q) ≡ true → ⊥
@@ -243,7 +269,7 @@ module _ {T U : Type 0} (old new : Kept T U) (m : Messages T U) (s : State T U) 
       (λ e _ k. let clash : Got_sample p n ≡ Receive_error _ = k.1 in absurd cc)
 
   pub received-is-new : (environment : Environment) (p q n : ℕ) (s' : State T U) → Shows new m s' → Receive environment s q s' (Got_sample p n) → IsNewIn old (A_sample q n)
-  received-is-new environment p q n s' shown' h = record { publishers = λ key live. tt; subscribers = λ key live. tt; loans = λ key live. tt; unwritten_loans = λ it live. tt; written_loans = λ it live. tt; samples = apart; origins = λ it from. away it.origin it.sample.subscriber it.sample.number (origin-parts old it from); cells = λ n cells has. tt; payloads = λ n values has. tt } where
+  received-is-new environment p q n s' shown' h = record { publishers = λ key live. tt; subscribers = λ key live. tt; loans = λ key live. tt; unwritten_loans = λ it live. tt; written_loans = λ it live. tt; samples = apart; origins = λ it from. away it.origin it.sample.subscriber it.sample.number (origin-parts old it from); cells = λ n cells has. tt; payloads = λ n values has. tt; unblocked = λ key free. tt } where
     got : IsReceived environment s q p n s'
     got = received_one environment s q p n s' h
 
@@ -273,6 +299,7 @@ module _ {T U : Type 0} (old new : Kept T U) (m : Messages T U) (s : State T U) 
       stays-between (A_sample q n) old new m m s s' shown shown' (λ n entry at. at) (ports-remain _ s s' (subst (Remain s) (sym is) (released_remain s p q n)))
       (λ k l at _. ap (λ (t : State T U). t.loans k) is ∙ ap (λ (f : ℕ → Option (Loan T U)). f k) (released_loans s p q n) ∙ at)
       (λ i j k at other. ap (λ (t : State T U). is_borrowed k (t.mailboxes i j)) is ∙ released_others s p q n i j k (λ _ e_q e_n. apart other e_q e_n) ∙ at)
+      (subst (Waits (IsSpared (A_sample q n)) s) (sym is) (released_waits (IsSpared (A_sample q n)) s p q n))
     where
       apart : {j k : ℕ} → IsOtherSample (A_sample q n) j k → j ≡ q → k ≡ n → ⊥
       apart (inl away) e_q e_n = away e_q

@@ -1,14 +1,15 @@
 -- What it takes for a handle to be live, part by part.
-use Rattle.std.proofs.Common.{List, [], ◌∷◌, Option, ◌≡◌, ℕ, Bool, true, ap, sym, ◌∙◌, Some}
+use Rattle.std.proofs.Common.{List, [], ◌∷◌, Option, ◌≡◌, ℕ, ◌<◌, Bool, true, ap, sym, subst, ◌∙◌, None, Some}
 use Rattle.iox2_store.specs.machine.Mailbox.{is_borrowed}
-use Rattle.iox2_store.specs.machine.Records.{Entry, Loan}
+use Rattle.iox2_store.specs.machine.Records.{Entry, Loan, Publisher}
 use Rattle.iox2_store.specs.machine.SingleCalls.{HoldsPublisher, HoldsSubscriber, HoldsLoan, HoldsSample}
+use Rattle.iox2_store.specs.declared.backpressure.BackpressureStrategy.TheVariants.{DiscardData}
 use Rattle.iox2_store.specs.declared.header.Header.{Header}
 use Rattle.iox2_store.specs.declared.key.Key.{Key}
 use Rattle.iox2_store.specs.declared.service_config.TypeVariant.TheVariants.{FixedSize}
 use Rattle.iox2_domain.specs.Kept.{Kept, state_of, entries_of}
 use Rattle.iox2_domain.specs.LoanCalls.{HasCell, HasLoanHeader, HasLoanUserHeader, HoldsUnwritten, HoldsWritten}
-use Rattle.iox2_pubsub.specs.Live.{IsSingleValued, IsPublisherKey, IsSubscriberKey, IsLoanKey, IsSampleKey, HasMark, IsFromOrigin, UnwrittenReads, LoanReads, SampleReads, LoanHasHeader, LoanHasUserHeader, SampleHasHeader, SampleHasUserHeader, IsUnwrittenLoan, IsWrittenLoan}
+use Rattle.iox2_pubsub.specs.Live.{IsSingleValued, IsPublisherKey, IsSubscriberKey, IsLoanKey, IsSampleKey, IsUnblocked, Discards, HasMark, IsFromOrigin, UnwrittenReads, LoanReads, SampleReads, LoanHasHeader, LoanHasUserHeader, SampleHasHeader, SampleHasUserHeader, IsUnwrittenLoan, IsWrittenLoan}
 use Rattle.iox2_pubsub.specs.Slices.{HasUnwrittenCells, HasValues, SampleHasValues}
 use Rattle.iox2_pubsub.specs.declared.sample.Sample.{Sample}
 use Rattle.iox2_pubsub.specs.declared.sample_mut.SampleMut.{SampleMut}
@@ -51,6 +52,24 @@ module _ {T U : Type 0} (kept : Kept T U) where
     pub loan-live : IsOfService key × HoldsLoan (state_of kept) key.port key.message → IsLoanKey kept key
     unfolding IsLoanKey
     loan-live parts = parts
+
+    pub unblocked-parts : IsUnblocked kept key → (key.port < (state_of kept).next_port) × ((x : Publisher) → (state_of kept).publishers key.port ≡ Some x → x.blocked ≡ None)
+    unfolding IsUnblocked
+    unblocked-parts free = free
+
+    pub unblocked-free : (key.port < (state_of kept).next_port) × ((x : Publisher) → (state_of kept).publishers key.port ≡ Some x → x.blocked ≡ None) → IsUnblocked kept key
+    unfolding IsUnblocked
+    unblocked-free parts = parts
+
+    pub discards-parts : Discards kept key
+        → (key.port < (state_of kept).next_port) × ((x : Publisher) → (state_of kept).publishers key.port ≡ Some x → (x.backpressure_strategy ≡ DiscardData) × (x.backpressure_handler ≡ None))
+    unfolding Discards
+    discards-parts has = has
+
+    pub discards-from : (key.port < (state_of kept).next_port) × ((x : Publisher) → (state_of kept).publishers key.port ≡ Some x → (x.backpressure_strategy ≡ DiscardData) × (x.backpressure_handler ≡ None))
+        → Discards kept key
+    unfolding Discards
+    discards-from parts = parts
 
     pub sample-parts : IsSampleKey kept key → IsOfService key × HoldsSample (state_of kept) key.port key.message
     unfolding IsSampleKey

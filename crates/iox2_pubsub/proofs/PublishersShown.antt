@@ -1,19 +1,21 @@
 -- The creation of a publisher, seen from outside.
-use Rattle.std.proofs.Common.{◌≡◌, ℕ, refl, ap, sym, subst, ◌∙◌}
+use Rattle.std.proofs.Common.{◌≡◌, ◌<◌, ℕ, refl, ap, sym, subst, ◌∙◌}
+use Rattle.std.proofs.lemmas.Option.{same_Some}
 use Rattle.std.specs.declared.option.Option.{Option}
-use Rattle.std.specs.declared.option.Option.TheVariants.{None}
+use Rattle.std.specs.declared.option.Option.TheVariants.{None, Some}
 use Rattle.iox2_store.specs.machine.Ports.{CreatePublisher}
-use Rattle.iox2_store.specs.machine.Records.{Environment}
+use Rattle.iox2_store.specs.machine.Records.{Environment, Publisher as Record}
 use Rattle.iox2_store.specs.machine.SingleCalls.{HoldsPublisher}
 use Rattle.iox2_store.specs.machine.State.{State, Messages}
 use Rattle.iox2_store.specs.declared.errors.PublisherCreateError.{PublisherCreateError}
 use Rattle.iox2_store.specs.declared.service_config.ServiceConfig.{ServiceConfig}
+use Rattle.iox2_laws.proofs.SendsRemain.{created_as}
 use Rattle.iox2_domain.specs.Kept.{state_of}
 use Rattle.iox2_domain.specs.Fields.{Fields, kept_of}
 use Rattle.iox2_domain.specs.NewPublisher.{plain_publisher}
-use Rattle.iox2_pubsub.specs.Live.{IsLivePublisher}
+use Rattle.iox2_pubsub.specs.Live.{IsLivePublisher, NeverWaits, publisher_key}
 use Rattle.iox2_pubsub.specs.declared.publisher.Publisher.{Publisher}
-use Rattle.iox2_pubsub.proofs.LiveParts.{publisher-live}
+use Rattle.iox2_pubsub.proofs.LiveParts.{publisher-live, unblocked-free, discards-from}
 use Rattle.iox2_domain.specs.Reaches.{Reaches}
 use Rattle.iox2_domain.specs.Shows.{Shows}
 use Rattle.iox2_domain.proofs.lemmas.fields.ReachesShows.{reaches-shows-same}
@@ -42,3 +44,18 @@ module _ {T U : Type 0} (f g : Fields T U) (loans len : ℕ) (environment : Envi
         subst (HoldsPublisher (state_of (kept_of g))) (sym id)
             (subst (λ (u : State T U). HoldsPublisher u f.next_port) (sym reached.state) (create-holds environment (state_of (kept_of f)) (plain_publisher loans len) t made)),
       )
+
+  -- which waits for nobody, ever
+  pub created-never-waits : (t : State T U) → CreatePublisher environment (state_of (kept_of f)) (plain_publisher loans len) t None → Reaches f g t
+      → (publisher : Publisher) → publisher.id ≡ f.next_port → NeverWaits (kept_of g) (publisher_key publisher)
+  created-never-waits t made reached publisher id =
+      let new = created_as environment (state_of (kept_of f)) (plain_publisher loans len) t made in
+      let at : (state_of (kept_of g)).publishers publisher.id ≡ Some new.0 =
+      ap (state_of (kept_of g)).publishers id ∙ ap (λ (u : State T U). u.publishers f.next_port) reached.state ∙ new.1 in
+      let low : publisher.id < (state_of (kept_of g)).next_port = (reached.agrees.well_formed.publishers publisher.id new.0 at).is_known in
+      let one : (x : Record) → (state_of (kept_of g)).publishers publisher.id ≡ Some x → x ≡ new.0 = λ x here. same_Some x new.0 (sym here ∙ at) in
+      record {
+        discards = discards-from (kept_of g) _
+            (low, λ x here. (ap (λ (y : Record). y.backpressure_strategy) (one x here) ∙ new.2, ap (λ (y : Record). y.backpressure_handler) (one x here) ∙ new.3));
+        unblocked = unblocked-free (kept_of g) _ (low, λ x here. ap (λ (y : Record). y.blocked) (one x here) ∙ new.4);
+      }

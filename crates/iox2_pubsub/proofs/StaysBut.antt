@@ -1,5 +1,5 @@
 -- What of a domain stays from one state to the next.
-use Rattle.std.proofs.Common.{◌≡◌, refl, ℕ, Bool, true, List, sym, ap, subst, ◌∙◌, Option, None, Some}
+use Rattle.std.proofs.Common.{◌≡◌, refl, ℕ, ◌<◌, arith, Bool, true, List, sym, ap, subst, ◌∙◌, Option, None, Some}
 use Rattle.iox2_store.specs.SingleValues.{is_single_valued}
 use Rattle.iox2_store.specs.machine.Mailbox.{is_borrowed}
 use Rattle.iox2_store.specs.machine.Records.{Entry, Loan, Publisher, Subscriber}
@@ -8,11 +8,12 @@ use Rattle.iox2_store.specs.declared.header.Header.{Header}
 use Rattle.iox2_store.specs.declared.key.Key.{Key}
 use Rattle.iox2_store.specs.declared.service_config.ServiceConfig.{ServiceConfig}
 use Rattle.iox2_laws.proofs.PortsStay.{Remain}
+use Rattle.iox2_laws.proofs.Waits.{Waits}
 use Rattle.iox2_store.specs.Stored.{In_mailbox}
 use Rattle.iox2_laws.proofs.NumberLemmas.{contains_right}
 use Rattle.iox2_domain.specs.Kept.{Kept, state_of, entries_of}
 use Rattle.iox2_domain.specs.Shows.{Shows}
-use Rattle.iox2_pubsub.specs.Live.{IsSingleValued, IsPublisherKey, IsSubscriberKey, IsLoanKey, IsSampleKey, HasMark, IsFromOrigin, LoanHasHeader, LoanHasUserHeader, SampleHasHeader, SampleHasUserHeader, Item, No_item, IsOtherPublisher, IsOtherSubscriber, IsOtherLoan, IsOtherSample, StaysBut, Stays, IsNewIn, unwritten_key, written_key}
+use Rattle.iox2_pubsub.specs.Live.{IsSingleValued, IsPublisherKey, IsSubscriberKey, IsLoanKey, IsSampleKey, HasMark, IsFromOrigin, LoanHasHeader, LoanHasUserHeader, SampleHasHeader, SampleHasUserHeader, Item, No_item, IsOtherPublisher, IsOtherSubscriber, IsOtherLoan, IsOtherSample, IsUnblocked, Discards, NeverWaits, IsOtherBlocked, StaysBut, Stays, IsNewIn, unwritten_key, written_key}
 use Rattle.iox2_pubsub.specs.Slices.{IsSliced, HasUnwrittenCells, HasValues, SampleHasValues}
 use Rattle.iox2_pubsub.specs.declared.sample.Sample.{Sample}
 
@@ -40,8 +41,12 @@ module _ {T U : Type 0} where
   abbrev pub SamplesStayBut : Item → (s s' : State T U) → Type 0
   SamplesStayBut spent s s' = (p q n : ℕ) → is_borrowed n (s.mailboxes p q) ≡ true → IsOtherSample spent q n → is_borrowed n (s'.mailboxes p q) ≡ true
 
+-- the publisher's blocked send is the item
+abbrev pub IsSpared : Item → (publisher : ℕ) → Type 0
+IsSpared spent publisher = IsOtherBlocked spent publisher → ⊥
+
 module _ {T U : Type 0} (spent : Item) (old new : Kept T U) (remain : PortsRemainBut spent (state_of old) (state_of new)) (loans : LoansStayBut spent (state_of old) (state_of new))
-    (samples : SamplesStayBut spent (state_of old) (state_of new))
+    (samples : SamplesStayBut spent (state_of old) (state_of new)) (waits : Waits (IsSpared spent) (state_of old) (state_of new))
     (entries : (n p q : ℕ) (entry : Entry T U) → entries_of old n ≡ Some entry → is_borrowed n ((state_of new).mailboxes p q) ≡ true → entries_of new n ≡ Some entry) where
   service : (id : ℕ) → id ≡ (old.config).service_id → id ≡ (new.config).service_id
   service id ours = ours ∙ sym (ap (λ (c : ServiceConfig). c.service_id) remain.config)
@@ -113,6 +118,30 @@ module _ {T U : Type 0} (spent : Item) (old new : Kept T U) (remain : PortsRemai
   unfolding SampleHasValues
   sample-values key values live has other = (has.0, sample-entry key live other has.0 has.1, has.2)
 
+  -- ---- who waits
+
+  more : (p : ℕ) → p < (state_of old).next_port → p < (state_of new).next_port
+  more p low = let rises = waits.next_port in omega (arith, low, rises)
+
+  free : (key : Key) → IsUnblocked old key → IsOtherBlocked spent key.port → IsUnblocked new key
+  unfolding IsUnblocked
+  free key was other = (
+    more key.port was.0,
+    λ x' at.
+        let before = waits.publishers key.port x' was.0 at in
+        before.2.blocked (λ spared. spared other) ∙ was.1 before.0 before.1,
+  )
+
+  discards : (key : Key) → Discards old key → Discards new key
+  unfolding Discards
+  discards key was = (
+    more key.port was.0,
+    λ x' at.
+        let before = waits.publishers key.port x' was.0 at in
+        let has = was.1 before.0 before.1 in
+        (before.2.strategy ∙ has.0, before.2.handler ∙ has.1),
+  )
+
   stays-but : StaysBut spent old new
   stays-but = record {
     settings = remain.config;
@@ -125,6 +154,8 @@ module _ {T U : Type 0} (spent : Item) (old new : Kept T U) (remain : PortsRemai
     written_loans = λ it live other. record { live = loan (written_key it) live.live other; written = mark it.loan.number _ live.written other };
     samples = sample;
     origins = origin;
+    unblocked = free;
+    never_wait = λ key was other. record { discards = discards key was.discards; unblocked = free key was.unblocked other };
     loan_cells = loan-cells;
     loan_payloads = loan-values;
     loan_headers = λ key header live. loan-header key header;
@@ -136,9 +167,10 @@ module _ {T U : Type 0} (spent : Item) (old new : Kept T U) (remain : PortsRemai
 
 -- seen from a state that is shown
 pub stays-between : {T U : Type 0} (spent : Item) (old new : Kept T U) (m m' : Messages T U) (s s' : State T U) → Shows old m s → Shows new m' s'
-    → ((n : ℕ) (entry : Entry T U) → m n ≡ Some entry → m' n ≡ Some entry) → PortsRemainBut spent s s' → LoansStayBut spent s s' → SamplesStayBut spent s s' → StaysBut spent old new
-stays-between {T} {U} spent old new m m' s s' shown shown' sent remain loans samples =
-    stays-but spent old new (between (PortsRemainBut spent) remain) (between (LoansStayBut spent) loans) (between (SamplesStayBut spent) samples) entries
+    → ((n : ℕ) (entry : Entry T U) → m n ≡ Some entry → m' n ≡ Some entry) → PortsRemainBut spent s s' → LoansStayBut spent s s' → SamplesStayBut spent s s' → Waits (IsSpared spent) s s' → StaysBut spent old new
+stays-between {T} {U} spent old new m m' s s' shown shown' sent remain loans samples waits =
+    stays-but spent old new (between (PortsRemainBut spent) remain) (between (LoansStayBut spent) loans) (between (SamplesStayBut spent) samples)
+    (between (Waits (IsSpared spent)) waits) entries
   where
     entries : (n p q : ℕ) (entry : Entry T U) → entries_of old n ≡ Some entry → is_borrowed n ((state_of new).mailboxes p q) ≡ true → entries_of new n ≡ Some entry
     entries n p q entry at borrowed =
@@ -164,6 +196,7 @@ module _ {T U : Type 0} (start old : Kept T U) (before : Stays start old) (item 
     origins = λ it from. new.origins it (before.origins it from tt);
     cells = λ n cells has. new.cells n cells (before.loan_cells n cells has tt);
     payloads = λ n values has. new.payloads n values (before.loan_payloads n values has tt);
+    unblocked = λ key free. new.unblocked key (before.unblocked key free tt);
   }
 
   -- where an item that was new is spent, all that was there before stays
@@ -179,6 +212,8 @@ module _ {T U : Type 0} (start old : Kept T U) (before : Stays start old) (item 
     written_loans = λ it live other. next.written_loans it (before.written_loans it live other) (apart.written_loans it live);
     samples = λ key live other. next.samples key (before.samples key live other) (apart.samples key live);
     origins = λ it from other. next.origins it (before.origins it from other) (apart.origins it from);
+    unblocked = λ key free other. next.unblocked key (before.unblocked key free other) (apart.unblocked key free);
+    never_wait = λ key was other. next.never_wait key (before.never_wait key was other) (apart.unblocked key was.unblocked);
     loan_cells = λ n cells has other. next.loan_cells n cells (before.loan_cells n cells has other) (apart.cells n cells has);
     loan_payloads = λ n values has other. next.loan_payloads n values (before.loan_payloads n values has other) (apart.payloads n values has);
     loan_headers = λ key header live has other. next.loan_headers key header (before.loans key live other) (before.loan_headers key header live has other) (apart.loans key live);
@@ -204,6 +239,7 @@ nothing-is-new start = record {
   origins = λ it from. tt;
   cells = λ n cells has. tt;
   payloads = λ n values has. tt;
+  unblocked = λ key free. tt;
 }
 
 -- nothing changed
@@ -219,6 +255,8 @@ unchanged-stays spent kept = record {
   written_loans = λ it live other. live;
   samples = λ key live other. live;
   origins = λ it from other. from;
+  unblocked = λ key free other. free;
+  never_wait = λ key was other. was;
   loan_cells = λ n cells has other. has;
   loan_payloads = λ n values has other. has;
   loan_headers = λ key header live has other. has;

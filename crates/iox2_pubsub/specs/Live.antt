@@ -1,11 +1,12 @@
 -- What handles name in a domain, and what of it a call leaves.
-use Rattle.std.specs.Prelude.{ℕ, Bool, [], ◌∷◌, ◌≡◌, ◌≢◌, ◌⊎◌, true, false, IsTrue, List, length, ◌≤◌, ◌+◌}
+use Rattle.std.specs.Prelude.{ℕ, Bool, [], ◌∷◌, ◌≡◌, ◌≢◌, ◌⊎◌, true, false, IsTrue, List, length, ◌≤◌, ◌<◌, ◌+◌}
 use Rattle.std.specs.declared.option.Option.{Option}
 use Rattle.std.specs.List.{AllByRecursion}
-use Rattle.std.specs.declared.option.Option.TheVariants.{Some}
+use Rattle.std.specs.declared.option.Option.TheVariants.{None, Some}
 use Rattle.iox2_store.specs.machine.Mailbox.{is_borrowed}
-use Rattle.iox2_store.specs.machine.Records.{Entry, Loan, Subscriber as MachineSubscriber}
+use Rattle.iox2_store.specs.machine.Records.{Entry, Loan, Publisher as MachinePublisher, Subscriber as MachineSubscriber}
 use Rattle.iox2_store.specs.machine.SingleCalls.{HoldsPublisher, HoldsSubscriber, HoldsLoan, HoldsSample}
+use Rattle.iox2_store.specs.declared.backpressure.BackpressureStrategy.TheVariants.{DiscardData}
 use Rattle.iox2_store.specs.declared.header.Header.{Header}
 use Rattle.iox2_store.specs.declared.key.Key.{Key}
 use Rattle.iox2_store.specs.declared.service_config.TypeVariant.TheVariants.{FixedSize}
@@ -64,6 +65,21 @@ module _ {T U : Type 0} (domain : Kept T U) where
     -- The key names a loan of the domain that is out.
     unfoldable pub IsLoanKey : Type 0
     IsLoanKey = (key.service_id ≡ (domain.config).service_id) × HoldsLoan (state_of domain) key.port key.message
+
+    -- No send of the publisher with the key's port is blocked. One that was closed has none.
+    unfoldable pub IsUnblocked : Type 0
+    IsUnblocked = (key.port < (state_of domain).next_port) × ((x : MachinePublisher) → (state_of domain).publishers key.port ≡ Some x → x.blocked ≡ None)
+
+    -- The publisher with the key's port, if it's there, discards what a full receiver doesn't take, and has no handler.
+    unfoldable pub Discards : Type 0
+    Discards =
+        (key.port < (state_of domain).next_port)
+        × ((x : MachinePublisher) → (state_of domain).publishers key.port ≡ Some x → (x.backpressure_strategy ≡ DiscardData) × (x.backpressure_handler ≡ None))
+
+    -- No send of the publisher with the key's port is ever blocked.
+    pub record NeverWaits : Type 0 where
+      pub discards : Discards
+      pub unblocked : IsUnblocked
 
     -- The key names a message that a subscriber of the domain has borrowed.
     unfoldable pub IsSampleKey : Type 0
@@ -175,13 +191,14 @@ AreAll payloads value = AreAllSlices payloads (value ∷ [])
 
 -- ---- what a call spends, and what stays
 
--- What a call spends or makes: nothing, a port, a loan or a sample, or two of these.
+-- What a call spends or makes: nothing, a port, a loan, a sample or the blocked send of a publisher, or two of these.
 pub data Item : Type 0 where
   No_item : Item
   A_publisher : (id : ℕ) → Item
   A_subscriber : (id : ℕ) → Item
   A_loan : (number : ℕ) → Item
   A_sample : (subscriber number : ℕ) → Item
+  A_blocked_send : (publisher : ℕ) → Item
   Both : (first second : Item) → Item
 
 -- The publisher of this handle.
@@ -228,6 +245,12 @@ IsOtherSample (A_sample whose spent) subscriber number = (subscriber ≢ whose) 
 IsOtherSample (Both first second) subscriber number = IsOtherSample first subscriber number × IsOtherSample second subscriber number
 IsOtherSample _ subscriber number = Unit {0}
 
+-- The publisher with this id is none whose blocked send is the item.
+abbrev pub IsOtherBlocked : Item → (publisher : ℕ) → Type 0
+IsOtherBlocked (A_blocked_send spent) publisher = publisher ≢ spent
+IsOtherBlocked (Both first second) publisher = IsOtherBlocked first publisher × IsOtherBlocked second publisher
+IsOtherBlocked _ publisher = Unit {0}
+
 -- The second item is another than the first, and has no part of it.
 abbrev pub AreApart : (first second : Item) → Type 0
 AreApart first No_item = Unit {0}
@@ -235,11 +258,12 @@ AreApart first (A_publisher id) = IsOtherPublisher first id
 AreApart first (A_subscriber id) = IsOtherSubscriber first id
 AreApart first (A_loan number) = IsOtherLoan first number
 AreApart first (A_sample subscriber number) = IsOtherSample first subscriber number
+AreApart first (A_blocked_send publisher) = IsOtherBlocked first publisher
 AreApart first (Both second third) = AreApart first second × AreApart first third
 
 module _ {T U : Type 0} where
   -- The settings stay, and each port, loan and sample that was live is live and reads as it did, but for the item that was
-  -- spent.
+  -- spent. A publisher none of whose sends is blocked, or ever is, stays so.
   pub record StaysBut (spent : Item) (old new : Kept T U) : Type 0 where
     pub settings : new.config ≡ old.config
     pub single_valued : IsSingleValued old → IsSingleValued new
@@ -251,6 +275,8 @@ module _ {T U : Type 0} where
     pub written_loans : (loan : SampleMut) → IsWrittenLoan old loan → IsOtherLoan spent loan.loan.number → IsWrittenLoan new loan
     pub samples : (key : Key) → IsSampleKey old key → IsOtherSample spent key.port key.message → IsSampleKey new key
     pub origins : (sample : Sample) → IsFromOrigin old sample → IsOtherSample spent sample.sample.subscriber sample.sample.number → IsFromOrigin new sample
+    pub unblocked : (key : Key) → IsUnblocked old key → IsOtherBlocked spent key.port → IsUnblocked new key
+    pub never_wait : (key : Key) → NeverWaits old key → IsOtherBlocked spent key.port → NeverWaits new key
     pub loan_cells : (number : ℕ) (cells : List (Option T)) → HasUnwrittenCells old number cells → IsOtherLoan spent number → HasUnwrittenCells new number cells
     pub loan_payloads : (number : ℕ) (values : List T) → HasValues old number values → IsOtherLoan spent number → HasValues new number values
     pub loan_headers : (key : Key) (header : Header) → IsLoanKey old key → LoanHasHeader old key header → IsOtherLoan spent key.message → LoanHasHeader new key header
@@ -266,7 +292,7 @@ module _ {T U : Type 0} where
   abbrev pub Stays : (old new : Kept T U) → Type 0
   Stays old new = StaysBut No_item old new
 
-  -- The item is none of the ports, loans and samples that were live.
+  -- The item is none of the ports, loans and samples that were live, and no send of a publisher that had none blocked.
   pub record IsNewIn (old : Kept T U) (made : Item) : Type 0 where
     pub publishers : (key : Key) → IsPublisherKey old key → IsOtherPublisher made key.port
     pub subscribers : (key : Key) → IsSubscriberKey old key → IsOtherSubscriber made key.port
@@ -277,3 +303,4 @@ module _ {T U : Type 0} where
     pub origins : (sample : Sample) → IsFromOrigin old sample → IsOtherSample made sample.sample.subscriber sample.sample.number
     pub cells : (number : ℕ) (cells : List (Option T)) → HasUnwrittenCells old number cells → IsOtherLoan made number
     pub payloads : (number : ℕ) (values : List T) → HasValues old number values → IsOtherLoan made number
+    pub unblocked : (key : Key) → IsUnblocked old key → IsOtherBlocked made key.port

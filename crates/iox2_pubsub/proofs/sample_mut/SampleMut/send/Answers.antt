@@ -15,6 +15,7 @@ use Rattle.iox2_pubsub.specs.Live.{lender_key, written_key}
 use Rattle.iox2_pubsub.specs.SendCalls.{result_of_send}
 use Rattle.iox2_pubsub.proofs.CallsStay.{always-shown, sent-stays, send-spends}
 use Rattle.iox2_pubsub.proofs.LiveParts.{publisher-parts, written-parts}
+use Rattle.iox2_pubsub.proofs.NobodyWaits.{nobody-waits}
 use Rattle.iox2_pubsub.proofs.WaitingShown.{send-adds, send-brings}
 use Rattle.iox2_pubsub.proofs.UpToDateShown.{send-leaves}
 use Rattle.iox2_pubsub.proofs.LoansLeftShown.{send-left, send-gives, sent-free}
@@ -47,7 +48,9 @@ returns-clause-stays g c =
     let has = (written-parts c.args.domain.now c.args.self c.requires).1 in
     let out = ap (λ (t : State g.row.T.Denot g.row.U.Denot). t.loans c.args.self.loan.number) (it.2).state ∙ has.1 in
     let step = returns-clause-sent g c it.0 it.1 has.0 it.2 out in
-    sent-stays {T = g.row.T.Denot} {U = g.row.U.Denot} c.args.domain.now _ it.0 it.1 it.2 c.args.self.loan.number has.0 out c.outcome_of.result step.0 step.1 step.2
+    sent-stays {T = g.row.T.Denot} {U = g.row.U.Denot} c.args.domain.now _ it.0 it.1 it.2 c.args.self.loan.number has.0 out
+    (nobody-waits {T = g.row.T.Denot} {U = g.row.U.Denot} c.domain.inside.state c.domain.invariant c.args.domain.now c.domain.view_is it.0 it.1 it.2 (has.0).publisher)
+    c.outcome_of.result step.0 step.1 step.2
 
 pub returns-clause-ok : goal.returns-clause-ok
 returns-clause-ok g c = λ lent.

@@ -2,9 +2,12 @@ use Rattle.iox2_store.specs.machine.Environments.{fixed_handlers}
 use Rattle.iox2_domain.specs.Fields.{kept_of}
 use Rattle.iox2_laws.proofs.LoanKeeping.{has_samples_loans}
 use Rattle.iox2_laws.proofs.PortsStay.{update_subscriber_stays}
+use Rattle.iox2_laws.proofs.Waits.{update_subscriber_waits}
+use Rattle.iox2_pubsub.specs.Live.{No_item}
 use Rattle.iox2_pubsub.proofs.CallsStay.{always-shown}
 use Rattle.iox2_pubsub.proofs.QuestionShown.{answer-at, answer-shows, answered}
 use Rattle.iox2_pubsub.proofs.ReceptionShown.{subscriber-missing}
+use Rattle.iox2_pubsub.proofs.StaysBut.{IsSpared}
 use Rattle.iox2_pubsub.proofs.UpdatesStay.{updates-stay}
 use Rattle.iox2_pubsub.proofs.WaitingShown.{answers-say, update-no-more, update-others}
 use Rattle.iox2_pubsub.proofs.UpToDateShown.{subscriber-update-leaves, answers-updated}
@@ -30,6 +33,7 @@ returns-clause-stays g c =
     updates-stay {T = g.row.T.Denot} {U = g.row.U.Denot} c.args.domain.now (kept_of c.has_samples_at.new.state) it.0 it.1 step.0 it.2 step.1
     (update_subscriber_stays fixed_handlers it.1 c.args.self.now.id step.0 has.0 (has.2).0)
     (has_samples_loans fixed_handlers it.1 c.args.self.now.id step.0 has.0 has.1 has.2)
+    (update_subscriber_waits (IsSpared No_item) fixed_handlers it.1 c.args.self.now.id step.0 has.0 (has.2).0)
 
 pub returns-clause-waits : goal.returns-clause-waits
 returns-clause-waits g c =

@@ -2,9 +2,11 @@ use Rattle.std.proofs.Common.{None}
 use Rattle.iox2_store.specs.machine.Environments.{fixed_handlers}
 use Rattle.iox2_laws.proofs.LoanKeeping.{update_publisher_loans}
 use Rattle.iox2_laws.proofs.PortsStay.{update_publisher_stays}
+use Rattle.iox2_laws.proofs.Waits.{update_publisher_waits}
 use Rattle.iox2_domain.specs.Fields.{kept_of}
-use Rattle.iox2_pubsub.specs.Live.{publisher_key}
+use Rattle.iox2_pubsub.specs.Live.{No_item, publisher_key}
 use Rattle.iox2_pubsub.proofs.CallsStay.{always-shown}
+use Rattle.iox2_pubsub.proofs.StaysBut.{IsSpared}
 use Rattle.iox2_pubsub.proofs.UninitLoans.{publisher-missing}
 use Rattle.iox2_pubsub.proofs.UpdateShown.{publisher-update-shows}
 use Rattle.iox2_pubsub.proofs.UpdatesStay.{updates-stay}
@@ -32,6 +34,7 @@ returns-clause-stays g c =
     let step = returns-clause-updates g c it.0 it.1 it.2 in
     updates-stay {T = g.row.T.Denot} {U = g.row.U.Denot} c.args.domain.now (kept_of c.update_publisher.new.state) it.0 it.1 step.0 it.2 step.1
     (update_publisher_stays fixed_handlers it.1 c.args.self.now.id step.0 None step.2) (update_publisher_loans fixed_handlers it.1 c.args.self.now.id step.0 None step.2)
+    (update_publisher_waits (IsSpared No_item) fixed_handlers it.1 c.args.self.now.id step.0 None step.2)
 
 pub update_publisher-requires-clause-stands : goal.update_publisher-requires-clause-stands
 update_publisher-requires-clause-stands g c = (c.in-Some.ensures.0, c.in-Some.ensures.1)

@@ -4,10 +4,12 @@ use Rattle.iox2_pubsub.specs.UpdateCalls.{failure_of}
 use Rattle.iox2_store.specs.machine.Environments.{fixed_handlers}
 use Rattle.iox2_laws.proofs.LoanKeeping.{update_subscriber_loans}
 use Rattle.iox2_laws.proofs.PortsStay.{update_subscriber_stays}
+use Rattle.iox2_laws.proofs.Waits.{update_subscriber_waits}
 use Rattle.iox2_domain.specs.Fields.{kept_of}
-use Rattle.iox2_pubsub.specs.Live.{subscriber_key}
+use Rattle.iox2_pubsub.specs.Live.{No_item, subscriber_key}
 use Rattle.iox2_pubsub.proofs.CallsStay.{always-shown}
 use Rattle.iox2_pubsub.proofs.ReceptionShown.{subscriber-missing}
+use Rattle.iox2_pubsub.proofs.StaysBut.{IsSpared}
 use Rattle.iox2_pubsub.proofs.UpdateShown.{subscriber-update-shows}
 use Rattle.iox2_pubsub.proofs.UpdatesStay.{updates-stay}
 use Rattle.iox2_pubsub.proofs.WaitingShown.{subscriber-update-adds}
@@ -36,6 +38,7 @@ returns-clause-stays g c =
     updates-stay {T = g.row.T.Denot} {U = g.row.U.Denot} c.args.domain.now (kept_of c.update_subscriber.new.state) it.0 it.1 step.0 it.2 step.1
     (update_subscriber_stays fixed_handlers it.1 c.args.self.now.id step.0 (failure_of c.outcome_of.result) step.2)
     (update_subscriber_loans fixed_handlers it.1 c.args.self.now.id step.0 (failure_of c.outcome_of.result) step.2)
+    (update_subscriber_waits (IsSpared No_item) fixed_handlers it.1 c.args.self.now.id step.0 (failure_of c.outcome_of.result) step.2)
 
 pub returns-clause-live : goal.returns-clause-live
 returns-clause-live g c = (returns-clause-stays g c).subscribers (subscriber_key c.args.self.now) c.requires tt
