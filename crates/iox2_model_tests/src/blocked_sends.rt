@@ -1,5 +1,5 @@
-//! Sends that find a full receiver. The first four runs are among the worked runs of the machine
-//! (`iox2_commands/proofs/WorkedRunsOf..`), where their replies are computed.
+//! Sends that find a full receiver. All runs but the last are worked runs of the machine, whose
+//! replies are computed (`iox2_commands/proofs/WorkedRunsOf..`).
 use iox2_commands::{Command, Reply};
 use iox2_model::{Memory, Model};
 use iox2_store::{
