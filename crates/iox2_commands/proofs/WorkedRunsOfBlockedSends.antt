@@ -1,7 +1,7 @@
 -- Worked runs: sends that are blocked.
 use Rattle.std.proofs.Common.{◌≡◌, ℕ, false, List, [], ◌∷◌, refl, inl, None, Some}
 use Rattle.iox2_store.specs.machine.State.{State, Messages, fresh, no_messages}
-use Rattle.iox2_store.specs.machine.Delivery.{Accepted, Would_block, Complete, Suspended, no_time}
+use Rattle.iox2_store.specs.machine.Delivery.{Accepted, Skipped as Skipped_receiver, Would_block, Complete, Suspended, no_time}
 use Rattle.iox2_store.specs.machine.Sends.{Delivered_to, Blocked_send}
 use Rattle.iox2_store.specs.machine.Receives.{Got_sample, No_sample, Receive_error}
 use Rattle.iox2_store.specs.declared.allocation.AllocationStrategy.TheVariants.{Static}
@@ -13,7 +13,7 @@ use Rattle.iox2_commands.specs.Outcomes.{Event}
 use Rattle.iox2_store.specs.machine.Environments.{ample_memory}
 use Rattle.iox2_commands.specs.Runs.{Run, only_defaults}
 use Rattle.iox2_commands.specs.declared.command.Command.TheVariants.{CreatePublisher, CreateSubscriber, SendCopy, Retry, GiveUp, Update}
-use Rattle.iox2_commands.specs.declared.command.Command.TheVariants.{Receive, Read, Release}
+use Rattle.iox2_commands.specs.declared.command.Command.TheVariants.{Receive, Read, Release, Close}
 use Rattle.iox2_commands.specs.declared.reply.Reply.TheVariants.{Done, Skipped, PublisherMade, SubscriberMade, Delivered}
 use Rattle.iox2_commands.specs.declared.reply.Reply.TheVariants.{Blocked, Sample, NoSample, ReceiveRefused, Cell}
 use Rattle.iox2_commands.proofs.WorkedRunDomains.{domain}
@@ -479,6 +479,239 @@ given_up_send_passes_one_subscriber = (
                                 ),
                               ),
                             ),
+                          ),
+                        ),
+                      ),
+                    ),
+                  ),
+                ),
+              ),
+            ),
+          ),
+        ),
+      ),
+    ),
+  ),
+  refl,
+)
+
+-- A retry skips the receiver that was closed meanwhile, and the history has what was blocked: the next subscriber gets it.
+pub closed_receiver_blocks_no_retry : (events : List (Event ℕ ℕ)) × (m : Messages ℕ ℕ) × (s : State ℕ ℕ)
+    × Run ample_memory (only_defaults 0 0) no_messages (fresh (domain 1 1 1 1 1 0 false))
+    (CreateSubscriber (Some 1) Warn ∷ CreatePublisher 1 RetryUntilDelivered Static 1 None Warn None ∷ SendCopy 1 1 ∷ SendCopy 1 2 ∷ Close 0 ∷
+    CreateSubscriber (Some 1) Warn ∷ Receive 5 ∷ Retry 3 no_time ∷ Retry 3 no_time ∷ Receive 5 ∷ Update 1 ∷ Receive 5 ∷ Read 11 0 ∷ [])
+    (SubscriberMade 1 ∷ PublisherMade 2 ∷ Delivered 1 ∷ Blocked ∷ Done ∷ SubscriberMade 3 ∷ NoSample ∷ Delivered 0 ∷ Skipped ∷ NoSample ∷ Done ∷
+    Sample 2 ∷ Cell (Some 2) ∷ [])
+    events m s
+    × ((s.warnings).latest ≡ ExpiredBufferRaised 1 ∷ ExpiredBufferRaised 3 ∷ [])
+closed_receiver_blocks_no_retry = (
+  _ ∷ _ ∷ _ ∷ _ ∷ _ ∷ _ ∷ _ ∷ _ ∷ _ ∷ _ ∷ _ ∷ _ ∷ _ ∷ [],
+  _,
+  _,
+  (
+    0,
+    0,
+    refl,
+    refl,
+    _,
+    (_, None, (_, None, (_, (_, None, None, (refl, refl), (refl, refl), refl), refl), refl), refl),
+    refl,
+    refl,
+    (
+      0,
+      0,
+      refl,
+      refl,
+      _,
+      (
+        _,
+        None,
+        (_, None, (_, (_, None, None, inl (refl, refl), (refl, refl), refl), refl), refl),
+        refl,
+      ),
+      refl,
+      refl,
+      (
+        0,
+        0,
+        refl,
+        refl,
+        _,
+        (
+          _,
+          None,
+          (_, (refl, refl), refl),
+          (
+            _,
+            Delivered_to 1,
+            (
+              _,
+              None,
+              (refl, refl),
+              (
+                Complete 1 false,
+                _,
+                (Accepted, _, (_, (refl, refl), refl), (refl, refl)),
+                (refl, refl),
+              ),
+            ),
+            refl,
+          ),
+        ),
+        refl,
+        refl,
+        (
+          0,
+          0,
+          refl,
+          refl,
+          _,
+          (
+            _,
+            None,
+            (_, (refl, refl), refl),
+            (
+              _,
+              Blocked_send,
+              (
+                _,
+                None,
+                (refl, refl),
+                (
+                  Suspended _,
+                  _,
+                  (Would_block, _, (_, (refl, refl), refl), (refl, refl)),
+                  (refl, refl),
+                ),
+              ),
+              refl,
+            ),
+          ),
+          refl,
+          refl,
+          (
+            0,
+            0,
+            refl,
+            refl,
+            _,
+            refl,
+            refl,
+            refl,
+            (
+              0,
+              0,
+              refl,
+              refl,
+              _,
+              (
+                _,
+                None,
+                (
+                  _,
+                  None,
+                  (
+                    _,
+                    (
+                      _,
+                      None,
+                      None,
+                      (_, None, None, inl (refl, refl), (refl, refl), refl),
+                      (_, None, None, (refl, refl), (refl, refl), refl),
+                      refl,
+                    ),
+                    refl,
+                  ),
+                  refl,
+                ),
+                refl,
+              ),
+              refl,
+              refl,
+              (
+                0,
+                0,
+                refl,
+                refl,
+                _,
+                (_, No_sample, (_, None, (refl, refl), (refl, refl)), refl),
+                refl,
+                refl,
+                (
+                  0,
+                  0,
+                  refl,
+                  refl,
+                  _,
+                  (
+                    _,
+                    Delivered_to 0,
+                    (
+                      Complete 0 false,
+                      _,
+                      (Skipped_receiver, _, (_, (refl, refl), refl), (refl, refl)),
+                      (refl, refl),
+                    ),
+                    refl,
+                  ),
+                  refl,
+                  refl,
+                  (
+                    0,
+                    0,
+                    refl,
+                    refl,
+                    _,
+                    refl,
+                    refl,
+                    refl,
+                    (
+                      0,
+                      0,
+                      refl,
+                      refl,
+                      _,
+                      (_, No_sample, (_, None, (refl, refl), (refl, refl)), refl),
+                      refl,
+                      refl,
+                      (
+                        0,
+                        0,
+                        refl,
+                        refl,
+                        _,
+                        (
+                          _,
+                          None,
+                          (_, (_, None, None, inl (refl, refl), (refl, refl), refl), refl),
+                          refl,
+                        ),
+                        refl,
+                        refl,
+                        (
+                          0,
+                          0,
+                          refl,
+                          refl,
+                          _,
+                          (
+                            _,
+                            Got_sample 2 2,
+                            (_, None, (refl, refl), ((refl, refl), _, ([], refl, refl), refl)),
+                            refl,
+                          ),
+                          refl,
+                          refl,
+                          (
+                            0,
+                            0,
+                            refl,
+                            refl,
+                            _,
+                            refl,
+                            refl,
+                            refl,
+                            (refl, refl),
                           ),
                         ),
                       ),

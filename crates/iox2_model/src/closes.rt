@@ -6,7 +6,7 @@ use iox2_commands::Reply;
 
 impl Model {
     pub(crate) fn close(&mut self, of: usize) -> Result<Reply<u64, u64>, ModelError> {
-        if let Some(p) = self.publisher_at(of) {
+        if let Some(p) = self.unblocked_at(of) {
             self.close_publisher(p)?;
             return Ok(Reply::Done);
         }

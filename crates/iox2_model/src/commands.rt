@@ -1,6 +1,7 @@
 //! A command is carried out.
 use crate::error::ModelError;
 use crate::model::{Model, Outcome};
+use crate::ports::when_full;
 use crate::records::Made;
 use iox2_commands::{Command, Reply};
 
@@ -30,19 +31,26 @@ impl Model {
         match command {
             Command::CreatePublisher {
                 loans,
+                strategy,
                 initial_max_slice_len,
+                backpressure,
                 ..
-            } => self.create_publisher(loans, initial_max_slice_len, given),
+            } => {
+                let full = when_full(strategy, backpressure);
+                self.create_publisher(loans, initial_max_slice_len, full, given)
+            }
             Command::CreateSubscriber { buffer, .. } => self.create_subscriber(buffer),
             Command::LoanUninit { of } => self.loan_value(of, None),
             Command::Loan { of } => self.loan_value(of, Some(0)),
             Command::LoanSlice { of, len } => self.loan_slice(of, len),
+            Command::Send { of } => self.send_loan(of),
+            Command::SendCopy { of, value } => self.send_copy(of, value),
             Command::Receive { of } => self.receive(of, given),
             _ => Ok((self.reply_of(command)?, Made::Nothing)),
         }
     }
 
-    // The reply of a command that makes nothing. Where publishers discard, blocked sends are skipped.
+    // The reply of a command that makes nothing.
     fn reply_of(&mut self, command: Command<u64, u64>) -> Result<Reply<u64, u64>, ModelError> {
         Ok(match command {
             Command::Nothing => Reply::Done,
@@ -51,12 +59,9 @@ impl Model {
             Command::WriteAll { of, value } => self.write_all(of, value),
             Command::AssumeInit { of } => self.assume_init(of),
             Command::WriteHeader { of, value } => self.write_header(of, value),
-            Command::Send { of } => match self.loan_at(of, true) {
-                Some(message) => self.send(message)?,
-                None => Reply::Skipped,
-            },
-            Command::SendCopy { of, value } => self.send_copy(of, value)?,
             Command::Discard { of } => self.discard(of),
+            Command::Retry { of, .. } => self.retry(of)?,
+            Command::GiveUp { of } => self.give_up(of)?,
             Command::Update { of } => self.update(of)?,
             Command::HasSamples { of } => self.has_samples(of)?,
             Command::Read { of, at } => self.read(of, at),
@@ -64,12 +69,12 @@ impl Model {
             Command::ReadUserHeader { of } => self.read_user_header(of),
             Command::Release { of } => self.release(of)?,
             Command::Close { of } => self.close(of)?,
-            _ => Reply::Skipped,
+            _ => return Err(ModelError::NoRule),
         })
     }
 
     fn update(&mut self, of: usize) -> Result<Reply<u64, u64>, ModelError> {
-        if let Some(p) = self.publisher_at(of) {
+        if let Some(p) = self.unblocked_at(of) {
             self.update_publisher(p)?;
             return Ok(Reply::Done);
         }

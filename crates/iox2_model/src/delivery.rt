@@ -1,28 +1,72 @@
-//! A loan is sent.
+//! A loan is sent; a send that is blocked is tried again or given up.
 use crate::error::ModelError;
-use crate::model::Model;
+use crate::model::{Model, Outcome};
 use crate::places::occupant;
-use crate::records::{Entry, Loan};
+use crate::records::{Delivery, Entry, Loan, Made, Put};
 use crate::sender::last;
 use iox2_commands::Reply;
 use iox2_store::SendError;
 use std::alloc::Global;
 
 impl Model {
+    // The written loan at the position, whose publisher waits for no receiver.
+    fn sendable_at(&self, of: usize) -> Option<usize> {
+        let message = self.loan_at(of, true)?;
+        if self.is_blocked(self.loan(message)?.publisher) {
+            None
+        } else {
+            Some(message)
+        }
+    }
+
+    pub(crate) fn send_loan(&mut self, of: usize) -> Result<Outcome, ModelError> {
+        match self.sendable_at(of) {
+            Some(message) => self.send(message),
+            None => Ok((Reply::Skipped, Made::Nothing)),
+        }
+    }
+
     // The written loan is sent. Of a closed publisher it is lost. Else connections are updated first.
-    pub(crate) fn send(&mut self, message: usize) -> Result<Reply<u64, u64>, ModelError> {
+    pub(crate) fn send(&mut self, message: usize) -> Result<Outcome, ModelError> {
         let Some(loan) = self.take_loan(message) else {
             return Err(ModelError::NoRule);
         };
-        let p = loan.publisher;
-        if !self.is_present(p) {
-            return Ok(Reply::SendRefused(SendError::ConnectionBrokenSinceSenderNoLongerExists));
+        let publisher = loan.publisher;
+        if !self.is_present(publisher) {
+            let error = SendError::ConnectionBrokenSinceSenderNoLongerExists;
+            return Ok((Reply::SendRefused(error), Made::Nothing));
         }
-        self.update_publisher(p)?;
+        self.update_publisher(publisher)?;
         self.publish(message, loan)?;
-        let count = self.deliver(p, message)?;
-        self.return_loan(p, message);
-        Ok(Reply::Delivered(count))
+        let delivery = Delivery {
+            message,
+            place: 0,
+            count: 0,
+            has_failed: false,
+        };
+        let reply = self.deliver(publisher, delivery)?;
+        let made = match reply {
+            Reply::Blocked => Made::BlockedSend { publisher, message },
+            _ => Made::Nothing,
+        };
+        Ok((reply, made))
+    }
+
+    // The blocked send goes on at the receiver that it waits for. Connections aren't updated.
+    pub(crate) fn retry(&mut self, of: usize) -> Result<Reply<u64, u64>, ModelError> {
+        match self.blocked_at(of) {
+            Some((p, delivery)) => self.deliver(p, delivery),
+            None => Ok(Reply::Skipped),
+        }
+    }
+
+    // The blocked send goes on behind the receiver that it waits for, which is skipped.
+    pub(crate) fn give_up(&mut self, of: usize) -> Result<Reply<u64, u64>, ModelError> {
+        let Some((p, delivery)) = self.blocked_at(of) else {
+            return Ok(Reply::Skipped);
+        };
+        let place = delivery.place.saturating_add(1);
+        self.deliver(p, Delivery { place, ..delivery })
     }
 
     // What was a loan is a message from now on, and enters the history.
@@ -50,18 +94,35 @@ impl Model {
         Ok(())
     }
 
-    // The message is put into the mailboxes to which the ends lead, by rising place. How many
-    // receivers took it.
-    fn deliver(&mut self, p: usize, message: usize) -> Result<usize, ModelError> {
-        let mut count = 0usize;
-        for place in 0..self.end_count(p) {
-            if let Some(q) = self.receiver_of(p, place) {
-                if self.put(p, q, message)? {
-                    count = count.saturating_add(1);
+    // The message is put into the mailboxes to which the ends lead, by rising place, until a receiver
+    // blocks it. Where none does the send ends, with an error where it failed at one.
+    fn deliver(&mut self, p: usize, from: Delivery) -> Result<Reply<u64, u64>, ModelError> {
+        let mut delivery = from;
+        for place in from.place..self.end_count(p) {
+            delivery.place = place;
+            match self.put_at_end(p, delivery)? {
+                Put::Taken => delivery.count = delivery.count.saturating_add(1),
+                Put::Skipped => {}
+                Put::Failed => delivery.has_failed = true,
+                Put::Blocked => {
+                    self.set_blocked(p, Some(delivery));
+                    return Ok(Reply::Blocked);
                 }
             }
         }
-        Ok(count)
+        self.set_blocked(p, None);
+        self.return_loan(p, delivery.message);
+        if delivery.has_failed {
+            Ok(Reply::SendRefused(SendError::UnableToDeliver))
+        } else {
+            Ok(Reply::Delivered(delivery.count))
+        }
+    }
+
+    fn set_blocked(&mut self, p: usize, blocked: Option<Delivery>) {
+        if let Some(publisher) = self.publisher_mut(p) {
+            publisher.blocked = blocked;
+        }
     }
 
     fn end_count(&self, p: usize) -> usize {
@@ -71,23 +132,39 @@ impl Model {
         }
     }
 
-    fn receiver_of(&self, p: usize, place: usize) -> Option<usize> {
-        occupant(self.publisher(p)?.ends.as_slice(), place)
+    // The message is put into the mailbox to which the end at its place leads. Where there is none
+    // nothing happens.
+    fn put_at_end(&mut self, p: usize, delivery: Delivery) -> Result<Put, ModelError> {
+        let Some(publisher) = self.publisher(p) else {
+            return Err(ModelError::NoRule);
+        };
+        let when_full = publisher.when_full;
+        match occupant(publisher.ends.as_slice(), delivery.place) {
+            None => Ok(Put::Skipped),
+            Some(q) => self.put(p, q, delivery.message, when_full),
+        }
     }
 
     // A closed receiver is skipped. An open one takes the message where it has room, or where safe
-    // overflow is on. Whether it took it.
-    fn put(&mut self, p: usize, q: usize, message: usize) -> Result<bool, ModelError> {
+    // overflow is on. What becomes of it where the receiver is full is the publisher's.
+    fn put(
+        &mut self,
+        p: usize,
+        q: usize,
+        message: usize,
+        when_full: Put,
+    ) -> Result<Put, ModelError> {
         let Some(buffer) = self.receiving_buffer(q) else {
-            return Ok(false);
+            return Ok(Put::Skipped);
         };
         let overflows = self.config.enable_safe_overflow;
         let mailbox = self.mailboxes.made(p, q)?;
         let takes = overflows || mailbox.has_room(buffer);
-        if takes {
-            mailbox.append(buffer, message)?;
+        if !takes {
+            return Ok(when_full);
         }
-        Ok(takes)
+        mailbox.append(buffer, message)?;
+        Ok(Put::Taken)
     }
 }
 

@@ -6,12 +6,13 @@ use iox2_commands::Reply;
 use iox2_store::{LoanError, SendError, TypeVariant};
 
 impl Model {
-    // The publisher of whom a loan may be asked, where messages are of this variant.
+    // The publisher of whom a loan may be asked, where messages are of this variant. It waits for no
+    // receiver.
     fn lender_at(&self, of: usize, variant: TypeVariant) -> Option<usize> {
         if self.config.units_per_element != 1 || self.config.variant != variant {
             return None;
         }
-        self.publisher_at(of)
+        self.unblocked_at(of)
     }
 
     /// The greatest length of a loan of the publisher that the command at this position made; 0 where
@@ -86,16 +87,15 @@ impl Model {
     }
 
     // A loan with this value is asked for and sent.
-    pub(crate) fn send_copy(
-        &mut self,
-        of: usize,
-        value: u64,
-    ) -> Result<Reply<u64, u64>, ModelError> {
+    pub(crate) fn send_copy(&mut self, of: usize, value: u64) -> Result<Outcome, ModelError> {
         let Some(p) = self.lender_at(of, TypeVariant::FixedSize) else {
-            return Ok(Reply::Skipped);
+            return Ok((Reply::Skipped, Made::Nothing));
         };
         match self.grant_loan(p, 1, Some(value))? {
-            Err(refusal) => Ok(Reply::SendRefused(SendError::LoanError(refusal))),
+            Err(refusal) => {
+                let reply = Reply::SendRefused(SendError::LoanError(refusal));
+                Ok((reply, Made::Nothing))
+            }
             Ok(message) => self.send(message),
         }
     }

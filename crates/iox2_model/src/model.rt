@@ -2,13 +2,13 @@ use crate::error::ModelError;
 use crate::mailboxes::Mailboxes;
 use crate::memory::Memory;
 use crate::places::occupant;
-use crate::records::{Entry, Loan, Made, Publisher, Subscriber};
+use crate::records::{Delivery, Entry, Loan, Made, Publisher, Subscriber};
 use iox2_commands::Reply;
 use iox2_store::ServiceConfig;
 use std::alloc::Global;
 
 /// The state of a domain of numbers or slices of numbers, with numbers as user headers, in which
-/// publishers discard what a full receiver doesn't take and have as many slots as they may need.
+/// publishers have as many slots as they may need.
 #[derive(Drop)]
 pub struct Model {
     pub(crate) alloc: Global,
@@ -35,6 +35,7 @@ pub enum Kind {
     Subscriber,
     UnwrittenLoan,
     WrittenLoan,
+    BlockedSend,
     Sample,
 }
 
@@ -96,6 +97,7 @@ impl Model {
             Kind::Subscriber => self.subscriber_at(of).is_some(),
             Kind::UnwrittenLoan => self.loan_at(of, false).is_some(),
             Kind::WrittenLoan => self.loan_at(of, true).is_some(),
+            Kind::BlockedSend => self.blocked_at(of).is_some(),
             Kind::Sample => self.sample_at(of).is_some(),
         }
     }
@@ -111,6 +113,11 @@ impl Model {
             Made::Publisher(id) if self.is_present(id) => Some(id),
             _ => None,
         }
+    }
+
+    // A publisher that waits for no receiver.
+    pub(crate) fn unblocked_at(&self, of: usize) -> Option<usize> {
+        self.publisher_at(of).filter(|p| !self.is_blocked(*p))
     }
 
     pub(crate) fn subscriber_at(&self, of: usize) -> Option<usize> {
@@ -135,6 +142,18 @@ impl Model {
         } else {
             None
         }
+    }
+
+    // The publisher, and how far its send has come.
+    pub(crate) fn blocked_at(&self, of: usize) -> Option<(usize, Delivery)> {
+        let Made::BlockedSend { publisher, message } = self.made_at(of) else {
+            return None;
+        };
+        let delivery = self.publisher(publisher)?.blocked?;
+        if delivery.message != message {
+            return None;
+        }
+        Some((publisher, delivery))
     }
 
     // The publisher, the subscriber and the message.
@@ -185,6 +204,14 @@ impl Model {
 
     pub(crate) fn is_present(&self, publisher: usize) -> bool {
         self.publisher(publisher).is_some()
+    }
+
+    // The publisher waits for a receiver. One that was closed doesn't.
+    pub(crate) fn is_blocked(&self, publisher: usize) -> bool {
+        match self.publisher(publisher) {
+            None => false,
+            Some(publisher) => publisher.blocked.is_some(),
+        }
     }
 
     // The buffer of a subscriber that takes messages.

@@ -2,10 +2,11 @@
 use crate::error::ModelError;
 use crate::model::{Model, Outcome};
 use crate::places::{free_place, set_place};
-use crate::records::{Made, Publisher, Subscriber};
+use crate::records::{Made, Publisher, Put, Subscriber};
 use iox2_commands::Reply;
 use iox2_store::{
-    PublisherCreateError, SubscriberCreateError, TypeVariant, UniquePublisherId, UniqueSubscriberId,
+    BackpressureAction, BackpressureStrategy, PublisherCreateError, SubscriberCreateError,
+    TypeVariant, UniquePublisherId, UniqueSubscriberId,
 };
 
 impl Model {
@@ -55,6 +56,7 @@ impl Model {
         &mut self,
         loans: usize,
         initial_max_slice_len: usize,
+        when_full: Put,
         given: Option<Reply<u64, u64>>,
     ) -> Result<Outcome, ModelError> {
         let limit = self.config.max_publishers;
@@ -69,7 +71,7 @@ impl Model {
             return Ok(publisher_refused(refusal_of(given)));
         }
         let id = self.publishers.len();
-        let publisher = Publisher::new(self.alloc, place, loans, len);
+        let publisher = Publisher::new(self.alloc, place, loans, len, when_full);
         self.publishers.push(Some(publisher))?;
         self.subscribers.push(None)?;
         set_place(&mut self.publisher_places, place, Some(id))?;
@@ -107,6 +109,23 @@ impl Model {
         self.update_subscriber(id)?;
         let reply = Reply::SubscriberMade(UniqueSubscriberId::new(id as u128));
         Ok((reply, Made::Subscriber(id)))
+    }
+}
+
+// What becomes of a message at a full receiver: the handler's answer decides, or the strategy where
+// there is no handler.
+pub(crate) fn when_full(
+    strategy: BackpressureStrategy,
+    handler: Option<BackpressureAction>,
+) -> Put {
+    match handler {
+        Some(BackpressureAction::Retry) => Put::Blocked,
+        Some(BackpressureAction::DiscardData) => Put::Skipped,
+        Some(BackpressureAction::DiscardDataAndFail) => Put::Failed,
+        Some(BackpressureAction::FollowBackpressureyStrategy) | None => match strategy {
+            BackpressureStrategy::RetryUntilDelivered => Put::Blocked,
+            BackpressureStrategy::DiscardData => Put::Skipped,
+        },
     }
 }
 

@@ -13,6 +13,10 @@ pub(crate) struct Publisher {
     // At a subscriber's place, the subscriber to whose mailbox its end leads.
     pub(crate) ends: Vec<Option<usize>>,
     pub(crate) is_due: bool,
+    // What becomes of a message at a full receiver.
+    pub(crate) when_full: Put,
+    // The send that waits for a receiver.
+    pub(crate) blocked: Option<Delivery>,
 }
 
 impl Publisher {
@@ -21,6 +25,7 @@ impl Publisher {
         place: usize,
         max_loaned_samples: usize,
         max_slice_len: usize,
+        when_full: Put,
     ) -> Publisher {
         Publisher {
             place,
@@ -30,8 +35,33 @@ impl Publisher {
             history: Vec::new(alloc),
             ends: Vec::new(alloc),
             is_due: true,
+            when_full,
+            blocked: None,
         }
     }
+}
+
+// What becomes of a message at a receiver.
+#[derive(Clone, Copy)]
+pub(crate) enum Put {
+    Taken,
+    Skipped,
+    // Skipped, and the send fails in the end.
+    Failed,
+    // The send waits for the receiver.
+    Blocked,
+}
+
+// A message on its way to the receivers of its publisher.
+#[derive(Clone, Copy)]
+pub(crate) struct Delivery {
+    pub(crate) message: usize,
+    // Of the next receiver, in the publisher's ends. These stay as they are while the send is blocked.
+    pub(crate) place: usize,
+    // How many receivers have taken the message so far.
+    pub(crate) count: usize,
+    // Whether the handler has failed the send at an earlier receiver.
+    pub(crate) has_failed: bool,
 }
 
 // A subscriber that wasn't closed, or that was closed and has borrowed messages.
@@ -84,6 +114,10 @@ pub(crate) enum Made {
     Publisher(usize),
     Subscriber(usize),
     Loan(usize),
+    BlockedSend {
+        publisher: usize,
+        message: usize,
+    },
     Sample {
         publisher: usize,
         subscriber: usize,
