@@ -1,16 +1,9 @@
-//! Tests of the ends, the laws, the domain's calls, the commands and the runs, which call their
-//! public items as a user does. It holds nothing else: a crate with tests is proved twice, so the
-//! libraries have none.
+//! Tests of the ends and of the calls of `iox2_pubsub`, which call their public items as a user does.
+//! It holds nothing else: a crate with tests is proved twice, so the libraries have none.
 #![tactic(auto)]
 
 #[cfg(test)]
 mod closes;
-#[cfg(test)]
-mod closing_orders;
-#[cfg(test)]
-mod commands;
-#[cfg(test)]
-mod comparisons;
 #[cfg(test)]
 mod copies;
 #[cfg(test)]
@@ -28,10 +21,6 @@ mod histories;
 #[cfg(test)]
 mod in_place;
 #[cfg(test)]
-mod laws;
-#[cfg(test)]
-mod loan_commands;
-#[cfg(test)]
 mod loans;
 #[cfg(test)]
 mod payloads;
@@ -40,13 +29,9 @@ mod publishers;
 #[cfg(test)]
 mod questions;
 #[cfg(test)]
-mod runs;
-#[cfg(test)]
 mod samples;
 #[cfg(test)]
 mod sends;
-#[cfg(test)]
-mod slice_commands;
 #[cfg(test)]
 mod slices;
 #[cfg(test)]
@@ -55,5 +40,3 @@ mod stays;
 mod subscribers;
 #[cfg(test)]
 mod updates;
-#[cfg(test)]
-mod worst_cases;

@@ -6,7 +6,7 @@ use Rattle.iox2_store.specs.declared.degradation.DegradationAction.TheVariants.{
 use Rattle.iox2_commands.specs.declared.command.Command.{Command}
 use Rattle.iox2_commands.specs.declared.command.Command.TheVariants.{CreateSubscriber}
 use Rattle.iox2_runs.specs.Supported.{IsSupportedCommand}
-use Rattle.iox2_tests.proofs.comparisons.after_many_subscribers.Goals as goal
+use Rattle.iox2_run_tests.proofs.comparisons.after_many_subscribers.Goals as goal
 
 pub returns : goal.returns
 returns g c =

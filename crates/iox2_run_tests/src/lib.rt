@@ -1,0 +1,22 @@
+//! Tests of the laws, the commands and the runs, which call their public items as a user does. It
+//! holds nothing else: a crate with tests is proved twice, so the libraries have none.
+#![tactic(auto)]
+
+#[cfg(test)]
+mod closing_orders;
+#[cfg(test)]
+mod commands;
+#[cfg(test)]
+mod comparisons;
+#[cfg(test)]
+mod fixtures;
+#[cfg(test)]
+mod laws;
+#[cfg(test)]
+mod loan_commands;
+#[cfg(test)]
+mod runs;
+#[cfg(test)]
+mod slice_commands;
+#[cfg(test)]
+mod worst_cases;
