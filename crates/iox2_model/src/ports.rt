@@ -113,7 +113,7 @@ impl Model {
 }
 
 // What becomes of a message at a full receiver: the handler's answer decides, or the strategy where
-// there is no handler.
+// there is no handler. It is the same each time, however often and whenever a send is tried again.
 pub(crate) fn when_full(
     strategy: BackpressureStrategy,
     handler: Option<BackpressureAction>,

@@ -2,11 +2,12 @@
 use crate::chance::Chance;
 use crate::moods::Wish;
 use crate::positions::{any, live, live_or_any};
-use crate::words::is_word;
+use crate::words::{HAS_BLOCKED_SENDS, is_word};
 use iox2_commands::Command;
 use iox2_model::{Kind, Model};
 use iox2_store::{
-    AllocationStrategy, BackpressureStrategy, DegradationAction, ServiceConfig, TypeVariant,
+    AllocationStrategy, BackpressureAction, BackpressureStrategy, DegradationAction, ServiceConfig,
+    TypeVariant,
 };
 use std::time::Duration;
 
@@ -76,12 +77,34 @@ fn make_publisher(chance: &mut Chance) -> Command<u64, u64> {
     };
     Command::CreatePublisher {
         loans,
-        strategy: BackpressureStrategy::DiscardData,
+        strategy: strategy(chance),
         allocation: AllocationStrategy::Static,
         initial_max_slice_len: chance.below(9),
         override_slots: None,
         degradation: DegradationAction::Warn,
-        backpressure: None,
+        backpressure: handler(chance),
+    }
+}
+
+fn strategy(chance: &mut Chance) -> BackpressureStrategy {
+    if HAS_BLOCKED_SENDS && chance.one_in(2) {
+        BackpressureStrategy::RetryUntilDelivered
+    } else {
+        BackpressureStrategy::DiscardData
+    }
+}
+
+// Mostly there is none, so that the strategy decides.
+fn handler(chance: &mut Chance) -> Option<BackpressureAction> {
+    if !HAS_BLOCKED_SENDS {
+        return None;
+    }
+    match chance.below(8) {
+        0 => Some(BackpressureAction::FollowBackpressureyStrategy),
+        1 => Some(BackpressureAction::Retry),
+        2 => Some(BackpressureAction::DiscardData),
+        3 => Some(BackpressureAction::DiscardDataAndFail),
+        _ => None,
     }
 }
 
@@ -99,8 +122,14 @@ fn make_subscriber(chance: &mut Chance, config: &ServiceConfig) -> Command<u64, 
     }
 }
 
-// A written loan is sent, an unwritten one is written, and where there is none a loan is taken.
+// Where a send waits it goes on, each second time. Else a written loan is sent, an unwritten one is
+// written, and where there is none a loan is taken.
 fn message_step(chance: &mut Chance, model: &Model, config: &ServiceConfig) -> Command<u64, u64> {
+    if HAS_BLOCKED_SENDS && chance.one_in(2) {
+        if let Some(of) = live(chance, model, Kind::BlockedSend) {
+            return go_on(chance, model, of);
+        }
+    }
     if let Some(of) = live(chance, model, Kind::WrittenLoan) {
         return Command::Send { of };
     }
@@ -118,6 +147,26 @@ fn message_step(chance: &mut Chance, model: &Model, config: &ServiceConfig) -> C
             value: chance.value(),
         },
         Some(of) => Command::LoanUninit { of },
+    }
+}
+
+// A blocked send is given up, or tried again, at once or later. Some names of it are wrong.
+fn go_on(chance: &mut Chance, model: &Model, waiting: usize) -> Command<u64, u64> {
+    let of = if chance.one_in(8) {
+        any(chance, model)
+    } else {
+        waiting
+    };
+    match chance.below(6) {
+        0 | 1 => Command::GiveUp { of },
+        2 => Command::Retry {
+            of,
+            elapsed: Duration::from_millis(5),
+        },
+        _ => Command::Retry {
+            of,
+            elapsed: Duration::ZERO,
+        },
     }
 }
 

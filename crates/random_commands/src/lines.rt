@@ -1,6 +1,6 @@
 //! Scripts as text.
 use iox2_commands::Command;
-use iox2_store::{ServiceConfig, TypeVariant};
+use iox2_store::{BackpressureStrategy, ServiceConfig, TypeVariant};
 use std::alloc::{AllocError, Global};
 use std::fmt::Write;
 
@@ -58,9 +58,12 @@ fn push_line(
 ) -> Result<(), AllocError> {
     let buffer_limit = config.subscriber_max_buffer_size;
     match *command {
-        Command::CreatePublisher { loans, .. } if !has_slices(config) => {
-            write!(text, "pub {loans} discard")
-        }
+        Command::CreatePublisher {
+            loans,
+            strategy,
+            backpressure: None,
+            ..
+        } if !has_slices(config) => write!(text, "pub {loans} {}", strategy_word(strategy)),
         Command::CreateSubscriber { buffer, .. } => {
             let size = buffer.unwrap_or(buffer_limit);
             write!(text, "sub {size}")
@@ -70,6 +73,8 @@ fn push_line(
         Command::LoanUninit { of } => push_use(text, "loan", of),
         Command::Send { of } => push_use(text, "send", of),
         Command::Discard { of } => push_use(text, "discard", of),
+        Command::Retry { of, elapsed } if elapsed.is_zero() => push_use(text, "retry", of),
+        Command::GiveUp { of } => push_use(text, "giveup", of),
         Command::Update { of } => push_use(text, "update", of),
         Command::Receive { of } => push_use(text, "recv", of),
         Command::HasSamples { of } => push_use(text, "has", of),
@@ -77,6 +82,13 @@ fn push_line(
         Command::Release { of } => push_use(text, "release", of),
         Command::Close { of } => push_use(text, "close", of),
         other => write!(text, "{other:?}"),
+    }
+}
+
+fn strategy_word(strategy: BackpressureStrategy) -> &'static str {
+    match strategy {
+        BackpressureStrategy::RetryUntilDelivered => "retry",
+        BackpressureStrategy::DiscardData => "discard",
     }
 }
 

@@ -5,6 +5,10 @@ ghost use Rattle.iox2_runs.specs.Supported.{IsSupportedCommand};
 use iox2_commands::Command;
 use iox2_store::{AllocationStrategy, BackpressureStrategy, DegradationAction};
 
+/// Whether scripts have publishers that wait for a full receiver or fail a send there, as they are
+/// told when they are made, and the commands on sends that wait. `run` doesn't carry these out yet.
+pub(crate) const HAS_BLOCKED_SENDS: bool = false;
+
 /// Whether the command is one that `run` carries out so far. This is the list of all words that
 /// random scripts have.
 pub fn is_word(command: &Command<u64, u64>) -> bool
@@ -19,6 +23,14 @@ pub fn is_word(command: &Command<u64, u64>) -> bool
             backpressure: None,
             ..
         } => true,
+        Command::CreatePublisher {
+            allocation: AllocationStrategy::Static,
+            override_slots: None,
+            degradation: DegradationAction::Warn,
+            ..
+        }
+        | Command::Retry { .. }
+        | Command::GiveUp { .. } => HAS_BLOCKED_SENDS,
         Command::CreateSubscriber {
             degradation: DegradationAction::Warn,
             ..
