@@ -1,20 +1,25 @@
 -- A publisher's message is delivered, and its send ends.
-use Rattle.std.specs.Prelude.{◌≡◌, ◌⊎◌, ℕ, ◌≤◌, false, cond, List, [], ◌∷◌, ◌++◌, length, map, nat_lt, slice_get, slice_set}
+use Rattle.std.specs.Prelude.{◌≡◌, ◌⊎◌, ℕ, ◌≤◌, cond, drop, List, [], ◌∷◌, ◌++◌, length, map, nat_lt, slice_get, slice_set}
 use Rattle.std.specs.declared.option.Option.{Option}
 use Rattle.std.specs.declared.option.Option.TheVariants.{None, Some}
 use Rattle.std.specs.Option.{option_map}
 use Rattle.slab.specs.Slab.{Slab, get, with_value}
 use Rattle.circular_buffer.specs.Buffer.{Buffer, buffer, keep_last}
-use Rattle.iox2_store.specs.machine.Delivery.{Complete, Deliver, no_time}
+use Rattle.iox2_store.specs.machine.Delivery.{Deliver, no_time}
 use Rattle.iox2_store.specs.Link.{Link}
 use Rattle.iox2_store.specs.machine.Loans.{entry_of}
 use Rattle.iox2_store.specs.machine.Numbers.{put_at, without}
 use Rattle.iox2_store.specs.machine.Records.{Entry, Loan, Environment}
-use Rattle.iox2_store.specs.machine.Sends.{SendResult, Publish}
+use Rattle.iox2_store.specs.machine.Sends.{SendResult, Delivered_to, Blocked_send, Send_error, Publish}
+use Rattle.iox2_store.specs.declared.errors.SendError.TheVariants.{UnableToDeliver}
 use Rattle.iox2_store.specs.SlotBook.{Book, holders_at}
 use Rattle.iox2_store.specs.declared.slots.mark.SlotMark.TheVariants.{Sent}
-use Rattle.iox2_ends.specs.Counters.{HoldsItself, GrowsAlone, times, with_counters, one_holder_less}
+use Rattle.iox2_ends.specs.Counters.{HoldsItself, GrowsAlone, times, with_counters, one_holder_less, one_holder_more}
+use Rattle.iox2_ends.specs.Deliveries.{begun, end_of}
+use Rattle.iox2_ends.specs.declared.sender.Progress.{Progress}
+use Rattle.iox2_ends.specs.declared.sender.DeliveryOutcome.{DeliveryOutcome}
 use Rattle.iox2_ends.specs.Mailboxes.{mailboxes_of, sender_ends}
+use Rattle.std.specs.declared.time.Duration.{Duration}
 use Rattle.iox2_ends.specs.Receivers.{buffers_of}
 use Rattle.iox2_ends.specs.Recounts.{Recounts}
 use Rattle.iox2_domain.specs.Ports.{PublisherFields}
@@ -22,9 +27,9 @@ use Rattle.iox2_domain.specs.Kept.{state_of, entries_of}
 use Rattle.iox2_domain.specs.Fields.{Fields, kept_of}
 use Rattle.iox2_domain.specs.Invariant.{IsDomain, details_of}
 
--- The slot of the publisher x went to its receivers, of which so many took it. Connections and counters changed together, and
--- nothing else did.
-pub record DeliversTo {T U : Type 0} (environment : Environment) (old : Fields T U) (x : PublisherFields) (slot count : ℕ) (new : Fields T U) : Type 0 where
+-- The slot of the publisher x went to the receivers that remained, with this outcome. Connections and counters changed
+-- together, and nothing else did.
+pub record DeliversFrom {T U : Type 0} (environment : Environment) (old : Fields T U) (x : PublisherFields) (slot : ℕ) (start : Progress) (elapsed : Duration) (outcome : DeliveryOutcome) (new : Fields T U) : Type 0 where
   pub book : Book
   pub stands : get old.books x.book ≡ Some book
   pub holders : List ℕ
@@ -34,7 +39,8 @@ pub record DeliversTo {T U : Type 0} (environment : Environment) (old : Fields T
   pub alone : GrowsAlone slot book.holders holders
   pub delivers : (number : ℕ → ℕ → ℕ)
       → Deliver environment old.config x.id x.strategy x.backpressure_handler (buffers_of (map (option_map details_of) old.subscribers)) (number x.id slot)
-      0 no_time 0 (sender_ends old.connections x.keys) 0 false (mailboxes_of number old.connections x.id) (Complete count false) (mailboxes_of number connections x.id)
+      start.retries elapsed start.place (drop start.place (sender_ends old.connections x.keys)) start.count start.has_failed (mailboxes_of number old.connections x.id)
+      (end_of (number x.id slot) (sender_ends old.connections x.keys) outcome) (mailboxes_of number connections x.id)
 
 -- The publisher without the loan in the slot.
 abbrev pub with_loan_out : (slot : ℕ) → PublisherFields → PublisherFields
@@ -70,6 +76,44 @@ with_send_ended f place x slot book = record f {
   books = with_value f.books x.book (with_left (leaving x.history slot) (with_sent slot book));
 }
 
+-- The fields after the publisher x, which stands at that place, has sent the loan in the slot of its book, and waits for a
+-- receiver. The loan is out still, and the history is one holder more.
+abbrev pub with_send_blocked : {T U : Type 0} → Fields T U → (place : ℕ) → PublisherFields → (slot : ℕ) → Progress → Book → Fields T U
+with_send_blocked f place x slot progress book = record f {
+  publishers = slice_set f.publishers place (Some (record x { history = pushed x.history slot; blocked = Some (record { slot = slot; progress = progress }) }));
+  books = with_value f.books x.book (with_left (leaving x.history slot) (with_counters (with_sent slot book) (one_holder_more slot book.holders)));
+}
+
+-- The publisher whose slot was delivered with this outcome: it is out no more, or it waits for a receiver.
+abbrev pub with_delivered : DeliveryOutcome → (slot : ℕ) → PublisherFields → PublisherFields
+with_delivered (DeliveryOutcome.Complete count has_failed) slot x = with_loan_out slot x
+with_delivered (DeliveryOutcome.Suspended progress) slot x = record x { blocked = Some (record { slot = slot; progress = progress }) }
+
+-- Its book, in which a slot that is out still has one holder more for the history that is to have it.
+abbrev pub with_history_holder : DeliveryOutcome → (slot : ℕ) → Book → Book
+with_history_holder (DeliveryOutcome.Complete count has_failed) slot book = book
+with_history_holder (DeliveryOutcome.Suspended progress) slot book = with_counters book (one_holder_more slot book.holders)
+
+-- The publisher after a send of the slot with this outcome.
+abbrev pub sender_after : DeliveryOutcome → (slot : ℕ) → PublisherFields → PublisherFields
+sender_after outcome slot x = record (with_delivered outcome slot x) { history = pushed x.history slot }
+
+-- Its book then.
+abbrev pub book_after : DeliveryOutcome → (slot : ℕ) → PublisherFields → Book → Book
+book_after outcome slot x book = with_left (leaving x.history slot) (with_sent slot (with_history_holder outcome slot book))
+
+-- The fields then.
+abbrev pub with_send : {T U : Type 0} → DeliveryOutcome → Fields T U → (place : ℕ) → PublisherFields → (slot : ℕ) → Book → Fields T U
+with_send outcome f place x slot book = record f {
+  publishers = slice_set f.publishers place (Some (sender_after outcome slot x));
+  books = with_value f.books x.book (book_after outcome slot x book);
+}
+
+-- What the machine's send returns.
+abbrev pub result_of_send : DeliveryOutcome → SendResult
+result_of_send (DeliveryOutcome.Complete count has_failed) = cond has_failed (Send_error UnableToDeliver) (Delivered_to count)
+result_of_send (DeliveryOutcome.Suspended progress) = Blocked_send
+
 -- The slot is a loan of the publisher x: it stands once among its loans, and the publisher itself is its one holder.
 pub record CanSend {T U : Type 0} (f : Fields T U) (x : PublisherFields) (slot : ℕ) : Type 0 where
   pub book : Book
@@ -78,13 +122,14 @@ pub record CanSend {T U : Type 0} (f : Fields T U) (x : PublisherFields) (slot :
   pub alone : holders_at book slot ≡ 1
   pub once : times slot x.loans ≤ 1
 
--- The slot of the publisher x, which stands at that place, went to its receivers, of which so many took it, and the send ended.
-pub record SendsSlot {T U : Type 0} (environment : Environment) (old : Fields T U) (place : ℕ) (x : PublisherFields) (slot count : ℕ) (new : Fields T U) : Type 0 where
+-- The slot of the publisher x, which stands at that place, went to its receivers with this outcome, and the send ended or is
+-- blocked.
+pub record SendsSlot {T U : Type 0} (environment : Environment) (old : Fields T U) (place : ℕ) (x : PublisherFields) (slot : ℕ) (outcome : DeliveryOutcome) (new : Fields T U) : Type 0 where
   pub delivered : Fields T U
-  pub delivers : DeliversTo environment old x slot count delivered
+  pub delivers : DeliversFrom environment old x slot begun no_time outcome delivered
   pub book : Book
   pub stands : get delivered.books x.book ≡ Some book
-  pub ended : new ≡ with_send_ended delivered place x slot book
+  pub ended : new ≡ with_send outcome delivered place x slot book
 
 -- The loan n of the publisher p was published, with this result. Its entry may be newly kept, and no other is.
 pub record Publishes {T U : Type 0} (environment : Environment) (old new : Fields T U) (p n : ℕ) (l : Loan T U) (result : SendResult) : Type 0 where

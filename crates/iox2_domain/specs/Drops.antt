@@ -26,11 +26,13 @@ module _ {T U : Type 0} where
     mailboxes = with_box (state_of (kept_of f)).mailboxes x.id c.home.subscriber (waiting_dropped ((state_of (kept_of f)).mailboxes x.id c.home.subscriber));
   }
 
-  -- The publisher at the place i, which isn't due, has the connection at the key as its end at the subscriber's place j.
+  -- The publisher at the place i, which isn't due and has no blocked delivery, has the connection at the key as its end at the
+  -- subscriber's place j.
   pub record HasEnd (f : Fields T U) (i j key : ℕ) : Type 0 where
     pub publisher : PublisherFields
     pub stands : slice_index_or f.publishers i None ≡ Some publisher
     pub settled : publisher.is_due ≡ false
+    pub unblocked : publisher.blocked ≡ None
     pub has : slice_index_or publisher.keys j None ≡ Some key
     pub link : Link
     pub connected : get f.connections key ≡ Some link

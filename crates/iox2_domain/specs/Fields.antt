@@ -16,7 +16,8 @@ use Rattle.iox2_store.specs.declared.service_config.ServiceConfig.{ServiceConfig
 use Rattle.iox2_ends.specs.LookUp.{look_up}
 use Rattle.iox2_ends.specs.Mailboxes.{mailbox_of, sender_ends, receiver_ends}
 use Rattle.iox2_domain.specs.WarningRing.{WarningRing}
-use Rattle.iox2_domain.specs.Ports.{BlockedDelivery, PublisherFields, SubscriberFields}
+use Rattle.iox2_domain.specs.Ports.{PublisherFields, SubscriberFields}
+use Rattle.iox2_domain.specs.declared.publisher_state.BlockedDelivery.{BlockedDelivery}
 use Rattle.iox2_domain.specs.Kept.{Named, Between, KeptMessage, Lent_message, Sent_message, KeptBook, Kept}
 
 pub record Fields (T U : Type 0) : Type 0 where
@@ -86,11 +87,11 @@ module _ {T U : Type 0} where
 abbrev pub blocked_send : (number : ℕ → ℕ) → (ends : List (Option ℕ)) → BlockedDelivery → BlockedSend
 blocked_send number ends b = record {
   message = number b.slot;
-  place = b.place;
-  ends = drop b.place ends;
-  retries = b.retries;
-  count = b.count;
-  has_failed = b.has_failed;
+  place = (b.progress).place;
+  ends = drop (b.progress).place ends;
+  retries = (b.progress).retries;
+  count = (b.progress).count;
+  has_failed = (b.progress).has_failed;
 }
 
 module _ (books : Slab Book) (connections : Slab Link) where

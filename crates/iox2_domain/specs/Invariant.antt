@@ -14,7 +14,6 @@ use Rattle.iox2_store.specs.machine.Loans.{is_static}
 use Rattle.iox2_store.specs.machine.Records.{Fixed}
 use Rattle.iox2_store.specs.machine.WellFormed.{IsWellFormed}
 use Rattle.iox2_store.specs.declared.allocation.AllocationStrategy.TheVariants.{Static}
-use Rattle.iox2_store.specs.declared.backpressure.BackpressureStrategy.TheVariants.{DiscardData}
 use Rattle.iox2_store.specs.declared.degradation.DegradationAction.TheVariants.{Warn}
 use Rattle.iox2_store.specs.declared.service_config.ServiceConfig.{ServiceConfig}
 use Rattle.iox2_store.specs.declared.service_config.TypeVariant.TheVariants.{FixedSize}
@@ -27,6 +26,7 @@ use Rattle.iox2_ends.specs.Receivers.{KnowsReceivers}
 use Rattle.iox2_ends.specs.Counters.{times, stands}
 use Rattle.iox2_ends.specs.declared.sender.ReceiverDetails.{ReceiverDetails}
 use Rattle.iox2_domain.specs.Ports.{PublisherFields, SubscriberFields, slot_length}
+use Rattle.iox2_domain.specs.declared.publisher_state.BlockedDelivery.{BlockedDelivery}
 use Rattle.iox2_domain.specs.Kept.{KeptMessage, state_of, header_of, length_of}
 use Rattle.iox2_domain.specs.Fields.{Fields, kept_of, is_book_of, message_in, contents_at}
 use Rattle.iox2_domain.specs.Shows.{KeepsEntries}
@@ -250,12 +250,15 @@ pub record HasForms {T U : Type 0} (c : ServiceConfig) (contents : List (Option 
 
 -- ---- what isn't there yet
 
--- The publisher discards what a full receiver doesn't take, has one segment and no handlers, and no delivery of it is blocked.
+-- The slot of a publisher's blocked delivery is a loan of its that is out.
+abbrev pub LendsBlocked : PublisherFields → Type 0
+LendsBlocked x = (b : BlockedDelivery) → x.blocked ≡ Some b → 0 < times b.slot x.loans
+
+-- The publisher has one segment and no handlers, and the slot of its blocked delivery is a loan of its.
 pub record IsPlain (x : PublisherFields) : Type 0 where
-  pub strategy : x.strategy ≡ DiscardData
   pub backpressure : x.backpressure_handler ≡ None
   pub degradation : x.degradation_handler ≡ Fixed Warn
-  pub unblocked : x.blocked ≡ None
+  pub lent : LendsBlocked x
   pub allocation : x.allocation ≡ Static
 
 -- The subscriber has no handler.

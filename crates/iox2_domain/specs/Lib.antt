@@ -24,6 +24,7 @@ pub mod Histories
 pub mod LoanCalls
 pub mod LoanLends
 pub mod Deliveries
+pub mod BlockedSends
 pub mod SentLoans
 pub mod Discards
 pub mod Drops

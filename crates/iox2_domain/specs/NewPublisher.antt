@@ -12,7 +12,7 @@ use Rattle.iox2_store.specs.machine.Records.{PublisherSettings, Fixed}
 use Rattle.iox2_store.specs.SlotBook.{Book, IsAligned}
 use Rattle.iox2_store.specs.SlotContents.{ContentState}
 use Rattle.iox2_store.specs.declared.allocation.AllocationStrategy.TheVariants.{Static}
-use Rattle.iox2_store.specs.declared.backpressure.BackpressureStrategy.TheVariants.{DiscardData}
+use Rattle.iox2_store.specs.declared.backpressure.BackpressureStrategy.{BackpressureStrategy}
 use Rattle.iox2_store.specs.declared.degradation.DegradationAction.TheVariants.{Warn}
 use Rattle.iox2_store.specs.declared.errors.PublisherCreateError.{PublisherCreateError}
 use Rattle.iox2_store.specs.declared.errors.PublisherCreateError.TheVariants.{UnableToCreatePortTag, ExceedsMaxSupportedPublishers}
@@ -20,12 +20,11 @@ use Rattle.iox2_domain.specs.Ports.{PublisherFields, SubscriberFields}
 use Rattle.iox2_domain.specs.Fields.{Fields}
 use Rattle.iox2_domain.specs.Placed.{lowest_empty}
 
--- The settings of a publisher that discards what a full receiver doesn't take, has one segment for messages of so many elements,
--- and no handlers.
-abbrev pub plain_publisher : (max_loaned_samples initial_max_slice_len : ℕ) → PublisherSettings
-plain_publisher max_loaned_samples initial_max_slice_len = record {
+-- The settings of a publisher that follows this strategy, has one segment for messages of so many elements, and no handlers.
+abbrev pub plain_publisher : (max_loaned_samples : ℕ) → BackpressureStrategy → (initial_max_slice_len : ℕ) → PublisherSettings
+plain_publisher max_loaned_samples strategy initial_max_slice_len = record {
   max_loaned_samples = max_loaned_samples;
-  backpressure_strategy = DiscardData;
+  backpressure_strategy = strategy;
   allocation_strategy = Static;
   initial_max_slice_len = initial_max_slice_len;
   asked_slots = None;
@@ -35,14 +34,15 @@ plain_publisher max_loaned_samples initial_max_slice_len = record {
 
 -- A publisher that was just made, without handlers, with these slots for messages of so many elements, and with room for so many
 -- loans and connections.
-abbrev pub entering_publisher : (id place book max_loaned_samples slots initial_max_slice_len loan_room : ℕ) (history : Buffer ℕ) (key_room : ℕ) → PublisherFields
-entering_publisher id place book max_loaned_samples slots initial_max_slice_len loan_room history key_room = record {
+abbrev pub entering_publisher : (id place book max_loaned_samples slots : ℕ) → BackpressureStrategy → (initial_max_slice_len loan_room : ℕ) (history : Buffer ℕ) (key_room : ℕ)
+    → PublisherFields
+entering_publisher id place book max_loaned_samples slots strategy initial_max_slice_len loan_room history key_room = record {
   id = id;
   place = place;
   book = book;
   max_loaned_samples = max_loaned_samples;
   slots = slots;
-  strategy = DiscardData;
+  strategy = strategy;
   backpressure_handler = None;
   degradation_handler = Fixed Warn;
   allocation = Static;

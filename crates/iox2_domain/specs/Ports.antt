@@ -7,15 +7,8 @@ use Rattle.iox2_store.specs.declared.allocation.AllocationStrategy.{AllocationSt
 use Rattle.iox2_store.specs.declared.backpressure.BackpressureAction.{BackpressureAction}
 use Rattle.iox2_store.specs.declared.backpressure.BackpressureStrategy.{BackpressureStrategy}
 use Rattle.iox2_store.specs.declared.degradation.DegradationAction.{DegradationAction}
+use Rattle.iox2_domain.specs.declared.publisher_state.BlockedDelivery.{BlockedDelivery}
 use Rattle.iox2_store.specs.declared.degradation.DegradationAction.TheVariants.{Warn}
-
--- A delivery that waits for a receiver. The places from that receiver's on remain.
-pub record BlockedDelivery : Type 0 where
-  pub slot : ℕ
-  pub place : ℕ  -- of the receiver that it waits for
-  pub retries : ℕ  -- how often the receiver was asked again
-  pub count : ℕ  -- the receivers that have taken the message so far
-  pub has_failed : Bool  -- whether an earlier receiver's handler failed the send
 
 pub record PublisherFields : Type 0 where
   pub id : ℕ

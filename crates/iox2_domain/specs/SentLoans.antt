@@ -6,12 +6,15 @@ use Rattle.std.specs.declared.result.Result.TheVariants.{Ok, Err}
 use Rattle.iox2_store.specs.machine.Loans.{entry_of}
 use Rattle.iox2_store.specs.machine.Numbers.{put_at}
 use Rattle.iox2_store.specs.machine.Records.{Entry, Loan, Environment}
-use Rattle.iox2_store.specs.machine.Sends.{SendResult, Send, Delivered_to, Send_error}
+use Rattle.iox2_store.specs.machine.Sends.{SendResult, Send, Send_error}
 use Rattle.iox2_store.specs.declared.errors.SendError.{SendError}
+use Rattle.iox2_store.specs.declared.errors.SendError.TheVariants.{UnableToDeliver}
 use Rattle.iox2_ends.specs.LookUp.{look_up}
+use Rattle.iox2_ends.specs.declared.sender.DeliveryOutcome.{DeliveryOutcome}
 use Rattle.iox2_domain.specs.Kept.{state_of, entries_of}
 use Rattle.iox2_domain.specs.Fields.{Fields, kept_of}
 use Rattle.iox2_domain.specs.Connects.{UpdatesPublisher}
+use Rattle.iox2_domain.specs.Deliveries.{result_of_send}
 use Rattle.iox2_domain.specs.Invariant.{IsDomain, is_publisher}
 use Rattle.iox2_domain.specs.LoanSlots.{LiesInSlot}
 use Rattle.iox2_domain.specs.Ports.{PublisherFields}
@@ -30,12 +33,12 @@ pub record IsLeftLoan {T U : Type 0} (old new : Fields T U) (p : ℕ) : Type 0 w
   pub is_gone : look_up (is_publisher p) old.publishers ≡ None
   pub same : new ≡ old
 
--- The machine's result of a send: the number of those that took the message, or an error.
-abbrev pub send_result : Result ℕ SendError → SendResult
-send_result (Ok count) = Delivered_to count
+-- The machine's result of a send: how its delivery ended, or an error.
+abbrev pub send_result : Result DeliveryOutcome SendError → SendResult
+send_result (Ok outcome) = result_of_send outcome
 send_result (Err error) = Send_error error
 
--- The loan n was sent, with this result, and it is out no more. Its entry may be newly kept, and no other is.
+-- The loan n was sent, with this result, and it is in its user's hands no more. Its entry may be newly kept, and no other is.
 pub record SendsLoan {T U : Type 0} (environment : Environment) (old new : Fields T U) (n : ℕ) (result : SendResult) : Type 0 where
   pub loan : Loan T U
   pub out : (state_of (kept_of old)).loans n ≡ Some loan
@@ -46,3 +49,5 @@ pub record SendsLoan {T U : Type 0} (environment : Environment) (old new : Field
       → ((m ≡ n) × (entry ≡ entry_of loan)) ⊎ (entries_of (kept_of old) m ≡ Some entry)
   -- After an error no entry is newly kept.
   pub lost : (error : SendError) → result ≡ Send_error error → (m : ℕ) (entry : Entry T U) → entries_of (kept_of new) m ≡ Some entry → entries_of (kept_of old) m ≡ Some entry
+  -- Without a handler no receiver fails a send.
+  pub unfailed : result ≡ Send_error UnableToDeliver → ⊥

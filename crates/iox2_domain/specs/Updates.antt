@@ -112,6 +112,10 @@ pub record StandApart (publishers : List (Option PublisherFields)) (subscribers 
   pub home_is : home ≡ home_of i j publisher subscriber
   pub buffer_is : buffer ≡ subscriber.buffer
 
+-- No delivery of the publisher at the place is blocked.
+abbrev pub IsUnblockedAt : List (Option PublisherFields) → (place : ℕ) → Type 0
+IsUnblockedAt publishers place = (x : PublisherFields) → slice_index_or publishers place None ≡ Some x → x.blocked ≡ None
+
 -- The port at the place is due for an update, where a port is due so.
 abbrev pub is_due_at : {A : Type 0} → (A → Bool) → List (Option A) → (place : ℕ) → Bool
 is_due_at is_due ports place = option_map_or is_due (slice_index_or ports place None) false

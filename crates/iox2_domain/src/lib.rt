@@ -25,7 +25,7 @@ pub use ports::{
     Port, PortAt, clear_key_at, is_due_at, key_at, make_all_due, make_due, reserve_key_at,
     set_key_at, settle,
 };
-pub use publisher_state::PublisherState;
+pub use publisher_state::{BlockedDelivery, PublisherState};
 pub use sample_slots::{Receipt, SampleAt, SampleSlot};
 pub use state::DomainState;
 pub use subscriber_state::{

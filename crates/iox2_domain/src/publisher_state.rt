@@ -7,9 +7,19 @@ use crate::places::{clear_in, put_at_place, reserve_place};
 use crate::ports::Port;
 use circular_buffer::HeapCircularBuffer;
 use iox2_ends::receiver::key_in;
+use iox2_ends::sender::Progress;
 use iox2_store::{AllocationStrategy, BackpressureStrategy, ServiceConfig, UniquePublisherId};
 use std::alloc::{AllocError, Global};
 use std::marker::Model;
+
+/// A message whose delivery waits for a receiver.
+#[derive(Debug, Clone, Copy, PartialEq, Eq)]
+pub struct BlockedDelivery {
+    /// The slot of the message, which is a loan that is out until the delivery ends.
+    pub slot: usize,
+    /// How far the delivery has come. It waits for the receiver at the first place that remains.
+    pub progress: Progress,
+}
 
 /// A publisher that wasn't closed. It knows its slots by their numbers in its book, and its
 /// connections by their keys.
@@ -35,6 +45,8 @@ pub struct PublisherState {
     // At each subscriber's place the key of the connection with it.
     pub keys: Vec<Option<usize>>,
     pub is_due: bool,
+    // The delivery that waits for a receiver.
+    pub blocked: Option<BlockedDelivery>,
 }
 
 impl Model for PublisherState {
@@ -65,7 +77,7 @@ impl Model for PublisherState {
       keys = x.keys.items;
       key_room = vec_capacity x.keys;
       is_due = x.is_due;
-      blocked = None;
+      blocked = x.blocked;
     } };
 }
 
@@ -77,8 +89,8 @@ impl PublisherState {
     ghost use Rattle.iox2_domain.specs.NewPublisher.{entering_publisher};
 
     /// A publisher that enters at a place, with a book at a key of so many slots for messages of so
-    /// many elements, and with room for all the loans and the history that it may get. It discards what a full
-    /// receiver doesn't take, and makes no further segment.
+    /// many elements, and with room for all the loans and the history that it may get. It makes no
+    /// further segment.
     pub fn new(
         alloc: Global,
         config: &ServiceConfig,
@@ -87,10 +99,11 @@ impl PublisherState {
         book: usize,
         max_loaned_samples: usize,
         slots: usize,
+        strategy: BackpressureStrategy,
         initial_max_slice_len: usize,
     ) -> Result<Self, AllocError>
         requires { segment_fits config.now slots initial_max_slice_len ≡ true }
-        ensures enters { IfOk result (λ x. x ≡ entering_publisher id place book max_loaned_samples slots initial_max_slice_len x.loan_room (buffer [] (config.now).history_size) x.key_room) }
+        ensures enters { IfOk result (λ x. x ≡ entering_publisher id place book max_loaned_samples slots strategy initial_max_slice_len x.loan_room (buffer [] (config.now).history_size) x.key_room) }
         ensures room { IfOk result (HasPublisherRoom config.now) }
     {
         let loans = Vec::with_capacity(alloc, max_loaned_samples)?;
@@ -101,7 +114,7 @@ impl PublisherState {
             book,
             max_loaned_samples,
             slots,
-            strategy: BackpressureStrategy::DiscardData,
+            strategy,
             allocation: AllocationStrategy::Static,
             initial_max_slice_len,
             longest_granted: 0,
@@ -110,6 +123,7 @@ impl PublisherState {
             history,
             keys: Vec::new(alloc),
             is_due: true,
+            blocked: None,
         })
     }
 }

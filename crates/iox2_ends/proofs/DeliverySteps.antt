@@ -1,7 +1,7 @@
 -- One put of a delivery, seen from the machine.
-use Rattle.std.proofs.Common.{◌≡◌, ◌<◌, ◌+◌, length, drop, ℕ, List, [], ◌∷◌, Bool, true, false, ◌&&◌, eqb, nat_lt, Option, None, Some, get_or, refl, ap, sym, ◌∙◌, subst, arith}
-use Rattle.std.proofs.lemmas.Bool.{eqb-true}
-use Rattle.std.proofs.lemmas.List.{drop_more, map-append, length-map}
+use Rattle.std.proofs.Common.{◌≡◌, ◌<◌, ◌≤◌, ◌+◌, length, drop, ℕ, List, [], ◌∷◌, Bool, true, false, ◌&&◌, ◌||◌, eqb, nat_lt, Option, None, Some, get_or, refl, ap, sym, ◌∙◌, subst, arith}
+use Rattle.std.proofs.lemmas.Bool.{eqb-true, ne_eqb}
+use Rattle.std.proofs.lemmas.List.{drop_more, drop_all, map-append, length-map}
 use Rattle.std.proofs.Math.ListN.{get_or-map}
 use Rattle.std.specs.Option.{option_map, option_and_then}
 use Rattle.std.specs.Prelude.{IsSomeAnd}
@@ -9,12 +9,12 @@ use Rattle.slab.specs.Slab.{Slab, get, with_value, ContainsKey}
 use Rattle.iox2_store.specs.Link.{Link, IsPut}
 use Rattle.iox2_store.specs.machine.Mailbox.{Mailbox}
 use Rattle.iox2_store.specs.machine.Records.{Environment}
-use Rattle.iox2_store.specs.machine.Delivery.{Skipped, DeliveryEnd, Put, is_blocking, is_failed, accepted_count, no_time}
+use Rattle.iox2_store.specs.machine.Delivery.{PutResult, Skipped, DeliveryEnd, Put, is_blocking, is_failed, accepted_count}
 use Rattle.iox2_store.specs.declared.service_config.ServiceConfig.{ServiceConfig}
-use Rattle.iox2_store.specs.declared.backpressure.BackpressureStrategy.{BackpressureStrategy}
 use Rattle.iox2_store.specs.declared.connection.Home.{Home}
 use Rattle.iox2_store.specs.declared.connection.PutOutcome.{PutOutcome}
 use Rattle.iox2_store.specs.declared.connection.PutOutcome.TheVariants.{Taken, Overwrote, Full}
+use Rattle.iox2_store.specs.declared.backpressure_handler.BackpressureHandler.{BackpressureHandler}
 use Rattle.iox2_ends.specs.declared.sender.ReceiverDetails.{ReceiverDetails}
 use Rattle.iox2_ends.specs.declared.sender.Delivery.{Delivery}
 use Rattle.iox2_ends.specs.declared.sender.Reception.{Reception}
@@ -23,7 +23,8 @@ use Rattle.iox2_ends.specs.LookUp.{look_up, IsOnly}
 use Rattle.iox2_ends.specs.Mailboxes.{mailbox_of, mailboxes_of, subscriber_of_key, sender_ends}
 use Rattle.iox2_ends.specs.Homes.{SameHomes, KeepsOthers, IsSenders, IsSenderLinked, fixed_of}
 use Rattle.iox2_ends.specs.Receivers.{has_id, buffer_if_open, buffers_of, is_open_one, is_open_at, KnowsReceivers, IsReadyToDeliver}
-use Rattle.iox2_ends.specs.Deliveries.{result_of, result_of_put, end_of, PutsMessage, DeliversMessage}
+use Rattle.iox2_ends.specs.Handlers.{marks_of}
+use Rattle.iox2_ends.specs.Deliveries.{result_of, end_of, retries_at, elapsed_at, ComesTo, PutsMessage, DeliversMessage}
 use Rattle.iox2_ends.proofs.LookUps.{look_up-found, look_up-there}
 use Rattle.iox2_ends.proofs.MailboxChanges.{Updates-with_value, SameHomes-updated, KeepsOthers-updated, was, IsApart-same, both-true, mailbox-there, row-changed, put_at-own}
 use mathlib.Core.Path.{fun_ext}
@@ -83,14 +84,15 @@ lt-false : (a b : ℕ) → a ≡ b → nat_lt a b ≡ false
 lt-false a b e = grind arith
 
 -- one put, at numbers
-pub put-mailbox : (environment : Environment) (number : ℕ → ℕ) (config : ServiceConfig) (p q slot : ℕ) (strategy : BackpressureStrategy) (buffers : ℕ → Option ℕ) (c d : Link) (o : PutOutcome) → IsPut c slot config.enable_safe_overflow o d
-    → Put environment config p strategy None buffers (number slot) q 0 no_time (Some c.buffer) (mailbox_of number c) (result_of_put strategy o) (mailbox_of number d)
-put-mailbox environment number config p q slot strategy buffers c d Taken h =
-    rw (h.1, length-map c.waiting number, lt-true (length c.waiting) c.buffer h.0, map-append number c.waiting (slot ∷ [])) (refl, refl)
-put-mailbox environment number config p q slot strategy buffers c d (Overwrote oldest) h =
-    rw (h.2.2, length-map c.waiting number, lt-false (length c.waiting) c.buffer h.1, h.0, h.2.1, map-append number h.2.0 (slot ∷ [])) (refl, refl)
-put-mailbox environment number config p q slot strategy buffers c d Full h =
-    rw (h.2, length-map c.waiting number, lt-false (length c.waiting) c.buffer h.1, h.0) (refl, refl)
+pub put-mailbox : {F : Type 0} (environment : Environment) (number : ℕ → ℕ) (config : ServiceConfig) (v : Delivery) (handler : Option (BackpressureHandler F)) (place q : ℕ) (buffers : ℕ → Option ℕ) (c d : Link) (o : PutOutcome) (result : PutResult)
+    → IsPut c v.slot config.enable_safe_overflow o d → ComesTo environment config v handler place q o result
+    → Put environment config v.publisher v.strategy (marks_of handler) buffers (number v.slot) q (retries_at v place) (elapsed_at v place) (Some c.buffer) (mailbox_of number c) result (mailbox_of number d)
+put-mailbox environment number config v handler place q buffers c d Taken result h comes =
+    rw (h.1, length-map c.waiting number, lt-true (length c.waiting) c.buffer h.0, map-append number c.waiting (v.slot ∷ [])) (comes, refl)
+put-mailbox environment number config v handler place q buffers c d (Overwrote oldest) result h comes =
+    rw (h.2.2, length-map c.waiting number, lt-false (length c.waiting) c.buffer h.1, h.0, h.2.1, map-append number h.2.0 (v.slot ∷ [])) (comes, refl)
+put-mailbox environment number config v handler place q buffers c d Full result h comes =
+    rw (h.2, length-map c.waiting number, lt-false (length c.waiting) c.buffer h.1, h.0) (comes, refl)
 
 -- a put leaves what never changes
 pub put-fixed : (c : Link) (slot : ℕ) (overflow : Bool) (o : PutOutcome) (d : Link) → IsPut c slot overflow o d → fixed_of d ≡ fixed_of c
@@ -120,25 +122,25 @@ module _ {p : ℕ} {slab : Slab Link} {keys : List (Option ℕ)} {receivers : Li
       KeepsOthers-updated p slab (with_value slab key d) key c (Some d) was_c (home-of c was_c).publisher (Updates-with_value slab key c d was_c)
 
   -- a put is the machine's, at the end to which the place leads
-  pub put-puts : (environment : Environment) (config : ServiceConfig) (v : Delivery) (o : PutOutcome) (c d : Link) (result : Reception) → v.publisher ≡ p → get slab key ≡ Some c → is_open_at receivers i c.home.subscriber ≡ true
-      → IsPut c v.slot config.enable_safe_overflow o d → result_of result ≡ result_of_put v.strategy o → (number : ℕ → ℕ → ℕ)
-      → PutsMessage environment config v receivers (number p v.slot) (subscriber_of_key slab (get_or keys i None)) (mailboxes_of number slab p) (result_of result) (mailboxes_of number (with_value slab key d) p)
-  put-puts environment config v o c d result by_p was_c receiving put is number =
-      rw (at, was_c, is) (
+  pub put-puts : {F : Type 0} (environment : Environment) (config : ServiceConfig) (v : Delivery) (handler : Option (BackpressureHandler F)) (o : PutOutcome) (c d : Link) (result : Reception) → v.publisher ≡ p → get slab key ≡ Some c → is_open_at receivers i c.home.subscriber ≡ true
+      → IsPut c v.slot config.enable_safe_overflow o d → ComesTo environment config v handler i c.home.subscriber o (result_of result) → (number : ℕ → ℕ → ℕ)
+      → PutsMessage environment config v handler receivers (number p v.slot) i (subscriber_of_key slab (get_or keys i None)) (mailboxes_of number slab p) (result_of result) (mailboxes_of number (with_value slab key d) p)
+  put-puts environment config v handler o c d result by_p was_c receiving put comes number =
+      rw (at, was_c) (
         mailbox_of (number p) d,
         goes,
         fun_ext (λ q. row-changed number slab (with_value slab key d) key p c d ready.apart (IsApart-same slab (with_value slab key d) ready.apart (put-homes v.slot config.enable_safe_overflow o c d was_c put)) was_c
             (home-of c was_c).publisher (ap (λ (t : Home × ℕ × ℕ × Bool). t.0) (put-fixed c v.slot config.enable_safe_overflow o d put)) (Updates-with_value slab key c d was_c) q),
       )
     where
-      goes : Put environment config v.publisher v.strategy None (buffers_of receivers) (number p v.slot) c.home.subscriber 0 no_time (buffers_of receivers c.home.subscriber) (mailboxes_of number slab p c.home.subscriber) (result_of_put v.strategy o) (mailbox_of (number p) d)
+      goes : Put environment config v.publisher v.strategy (marks_of handler) (buffers_of receivers) (number p v.slot) c.home.subscriber (retries_at v i) (elapsed_at v i) (buffers_of receivers c.home.subscriber) (mailboxes_of number slab p c.home.subscriber) (result_of result) (mailbox_of (number p) d)
       goes = rw (mailbox-there number slab key p c.home.subscriber c ready.apart was_c (home-of c was_c).publisher refl, buffers-open slab receivers key i c ready.knows (ready.one_id c.home.subscriber) was_c receiving)
-          (put-mailbox environment (number p) config v.publisher c.home.subscriber v.slot v.strategy (buffers_of receivers) c d o put)
+          (put-mailbox environment (number p) config v handler i c.home.subscriber (buffers_of receivers) c d o (result_of result) put comes)
 
   -- a closed receiver is skipped
-  pub put-passes : (environment : Environment) (config : ServiceConfig) (v : Delivery) (c : Link) → get slab key ≡ Some c → is_open_at receivers i c.home.subscriber ≡ false → (number : ℕ → ℕ → ℕ)
-      → PutsMessage environment config v receivers (number p v.slot) (subscriber_of_key slab (get_or keys i None)) (mailboxes_of number slab p) Skipped (mailboxes_of number slab p)
-  put-passes environment config v c was_c shut number =
+  pub put-passes : {F : Type 0} (environment : Environment) (config : ServiceConfig) (v : Delivery) (handler : Option (BackpressureHandler F)) (c : Link) → get slab key ≡ Some c → is_open_at receivers i c.home.subscriber ≡ false → (number : ℕ → ℕ → ℕ)
+      → PutsMessage environment config v handler receivers (number p v.slot) i (subscriber_of_key slab (get_or keys i None)) (mailboxes_of number slab p) Skipped (mailboxes_of number slab p)
+  put-passes environment config v handler c was_c shut number =
       rw (at, was_c) (mailboxes_of number slab p c.home.subscriber, rw (buffers-closed slab receivers key c ready.knows was_c (rw (home-of c was_c).place shut)) (refl, refl), put_at-own (mailboxes_of number slab p) c.home.subscriber)
 
 -- ---- the loop
@@ -185,19 +187,27 @@ subscriber_of_key-same old new same (Some key) = by (get old key) (get new key) 
 pub ends-at : (old now : Slab Link) (keys : List (Option ℕ)) (i : ℕ) → SameHomes old now → subscriber_of_key now (get_or keys i None) ≡ get_or (sender_ends old keys) i None
 ends-at old now keys i same = subscriber_of_key-same old now same (get_or keys i None) ∙ sym (get_or-map (subscriber_of_key old) keys i None)
 
--- without a handler nothing fails
-never_failed : (result : Reception) → is_failed (result_of result) ≡ false
-never_failed Reception.Accepted = refl
-never_failed Reception.Skipped = refl
-never_failed Reception.WouldBlock = refl
+-- behind the first place each receiver is asked anew
+anew : (v : Delivery) (i : ℕ) → (v.start).place ≤ i → eqb (i + 1) (v.start).place ≡ false
+anew v i from = ne_eqb (i + 1) (v.start).place (λ e. absurd (omega arith))
 
-module _ (environment : Environment) (config : ServiceConfig) (v : Delivery) (receivers : List (Option ReceiverDetails)) (n : ℕ) (ends : List (Option ℕ)) where
+module _ {F : Type 0} (environment : Environment) (config : ServiceConfig) (v : Delivery) (handler : Option (BackpressureHandler F)) (receivers : List (Option ReceiverDetails)) (n : ℕ) (ends : List (Option ℕ)) where
   -- a put that doesn't block is one step of the delivery
-  pub deliver-more : (i count : ℕ) (boxes mid boxes' : ℕ → Mailbox) (d : Reception) (how : DeliveryEnd) → i < length ends → PutsMessage environment config v receivers n (get_or ends i None) boxes (result_of d) mid → is_blocking (result_of d) ≡ false
-      → DeliversMessage environment config v receivers n (i + 1) (drop (i + 1) ends) (count + accepted_count (result_of d)) mid how boxes' → DeliversMessage environment config v receivers n i (drop i ends) count boxes how boxes'
-  deliver-more i count boxes mid boxes' d how below at goes rest = rw (drop_more ends i None below) (result_of d, mid, at, rw (goes, never_failed d) rest)
+  pub deliver-more : (i count : ℕ) (has_failed : Bool) (boxes mid boxes' : ℕ → Mailbox) (d : Reception) (how : DeliveryEnd) → i < length ends → (v.start).place ≤ i
+      → PutsMessage environment config v handler receivers n i (get_or ends i None) boxes (result_of d) mid → is_blocking (result_of d) ≡ false
+      → DeliversMessage environment config v handler receivers n (i + 1) (drop (i + 1) ends) (count + accepted_count (result_of d)) (has_failed || is_failed (result_of d)) mid how boxes'
+      → DeliversMessage environment config v handler receivers n i (drop i ends) count has_failed boxes how boxes'
+  deliver-more i count has_failed boxes mid boxes' d how below from at goes rest =
+      rw (drop_more ends i None below) (result_of d, mid, at, rw goes (rw (anew v i from) at rest))
 
   -- a put that blocks ends the delivery
-  pub deliver-stops : (i count : ℕ) (boxes mid : ℕ → Mailbox) (d : Reception) → i < length ends → PutsMessage environment config v receivers n (get_or ends i None) boxes (result_of d) mid → is_blocking (result_of d) ≡ true
-      → DeliversMessage environment config v receivers n i (drop i ends) count boxes (end_of n ends (DeliveryOutcome.Suspended i count)) mid
-  deliver-stops i count boxes mid d below at stops = rw (drop_more ends i None below) (result_of d, mid, at, rw stops (refl, refl))
+  pub deliver-stops : (i count : ℕ) (has_failed : Bool) (boxes mid : ℕ → Mailbox) (d : Reception) → i < length ends
+      → PutsMessage environment config v handler receivers n i (get_or ends i None) boxes (result_of d) mid → is_blocking (result_of d) ≡ true
+      → DeliversMessage environment config v handler receivers n i (drop i ends) count has_failed boxes
+      (end_of n ends (DeliveryOutcome.Suspended (record { place = i; retries = retries_at v i; count = count; has_failed = has_failed }))) mid
+  deliver-stops i count has_failed boxes mid d below at stops = rw (drop_more ends i None below) (result_of d, mid, at, rw stops (refl, refl))
+
+  -- where no place remains the delivery is over
+  pub deliver-ends : (i count : ℕ) (has_failed : Bool) (boxes : ℕ → Mailbox) → length ends ≤ i
+      → DeliversMessage environment config v handler receivers n i (drop i ends) count has_failed boxes (end_of n ends (DeliveryOutcome.Complete count has_failed)) boxes
+  deliver-ends i count has_failed boxes over = rw (drop_all i ends over) (refl, refl)

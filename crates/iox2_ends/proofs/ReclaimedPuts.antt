@@ -9,6 +9,7 @@ use Rattle.iox2_store.specs.declared.service_config.ServiceConfig.{ServiceConfig
 use Rattle.iox2_store.specs.machine.Records.{Environment}
 use Rattle.iox2_store.specs.declared.connection.PutOutcome.{PutOutcome}
 use Rattle.iox2_store.specs.declared.connection.PutOutcome.TheVariants.{Taken, Overwrote, Full}
+use Rattle.iox2_store.specs.declared.backpressure_handler.BackpressureHandler.{BackpressureHandler}
 use Rattle.iox2_ends.specs.declared.sender.ReceiverDetails.{ReceiverDetails}
 use Rattle.iox2_ends.specs.declared.sender.Delivery.{Delivery}
 use Rattle.iox2_ends.specs.declared.sender.Reception.{Reception}
@@ -17,7 +18,7 @@ use Rattle.iox2_ends.specs.Counters.{IsCovered, HoldsItself, GrowsAlone, CanLeav
 use Rattle.iox2_ends.specs.Receivers.{is_open_at, IsReadyToDeliver}
 use Rattle.iox2_ends.specs.Recounts.{Recounts}
 use Rattle.iox2_ends.specs.Reclaims.{IsHeld, Reclaims, ReclaimsFrom}
-use Rattle.iox2_ends.specs.Deliveries.{result_of, result_of_put, PutsMessage}
+use Rattle.iox2_ends.specs.Deliveries.{result_of, ComesTo, PutsMessage}
 use Rattle.iox2_ends.proofs.MailboxChanges.{Updates-with_value, within_if_some}
 use Rattle.iox2_ends.proofs.Counts.{stands-own, in_range, put-can_leave, get_or-one_holder_more, get_or-one_holder_less, one_if_other, recounted-grows, IsCovered-follows}
 use Rattle.iox2_ends.proofs.Recounts.{Recounts-trans, put-recounts}
@@ -80,19 +81,19 @@ module _ {p : ℕ} {slab : Slab Link} {keys : List (Option ℕ)} {receivers : Li
     covered-emptied = IsCovered-follows p hs hs' slab.slots emptied.slots covered reclaims.recounts.counters
 
     -- what is put at the end of an emptied connection is put there
-    from-emptied : (environment : Environment) (config : ServiceConfig) (v : Delivery) (result : Reception) (boxes' : ℕ → Mailbox) (number : ℕ → ℕ → ℕ)
-        → PutsMessage environment config v receivers (number p v.slot) (subscriber_of_key emptied (get_or keys i None)) (mailboxes_of number emptied p) (result_of result) boxes'
-        → PutsMessage environment config v receivers (number p v.slot) (subscriber_of_key slab (get_or keys i None)) (mailboxes_of number slab p) (result_of result) boxes'
-    from-emptied environment config v result boxes' number puts =
-        subst (λ (end : Option ℕ). PutsMessage environment config v receivers (number p v.slot) end (mailboxes_of number slab p) (result_of result) boxes') (subscriber_of_key-same slab emptied reclaims.recounts.homes (get_or keys i None))
-        (subst (λ (boxes : ℕ → Mailbox). PutsMessage environment config v receivers (number p v.slot) (subscriber_of_key emptied (get_or keys i None)) boxes (result_of result) boxes')
+    from-emptied : {F : Type 0} (environment : Environment) (config : ServiceConfig) (v : Delivery) (handler : Option (BackpressureHandler F)) (result : Reception) (boxes' : ℕ → Mailbox) (number : ℕ → ℕ → ℕ)
+        → PutsMessage environment config v handler receivers (number p v.slot) i (subscriber_of_key emptied (get_or keys i None)) (mailboxes_of number emptied p) (result_of result) boxes'
+        → PutsMessage environment config v handler receivers (number p v.slot) i (subscriber_of_key slab (get_or keys i None)) (mailboxes_of number slab p) (result_of result) boxes'
+    from-emptied environment config v handler result boxes' number puts =
+        subst (λ (end : Option ℕ). PutsMessage environment config v handler receivers (number p v.slot) i end (mailboxes_of number slab p) (result_of result) boxes') (subscriber_of_key-same slab emptied reclaims.recounts.homes (get_or keys i None))
+        (subst (λ (boxes : ℕ → Mailbox). PutsMessage environment config v handler receivers (number p v.slot) i (subscriber_of_key emptied (get_or keys i None)) boxes (result_of result) boxes')
         (ap (λ (all : ℕ → ℕ → Mailbox). all p) (reclaims.mailboxes number)) puts)
 
     -- a closed receiver is skipped
-    pub reclaim-passes : (environment : Environment) (config : ServiceConfig) (v : Delivery) → is_open_at receivers i c.home.subscriber ≡ false → (number : ℕ → ℕ → ℕ)
-        → PutsMessage environment config v receivers (number p v.slot) (subscriber_of_key slab (get_or keys i None)) (mailboxes_of number slab p) Skipped (mailboxes_of number emptied p)
-    reclaim-passes environment config v shut number =
-        from-emptied environment config v Reception.Skipped (mailboxes_of number emptied p) number (put-passes i key ready-emptied at environment config v c stands_c shut number)
+    pub reclaim-passes : {F : Type 0} (environment : Environment) (config : ServiceConfig) (v : Delivery) (handler : Option (BackpressureHandler F)) → is_open_at receivers i c.home.subscriber ≡ false → (number : ℕ → ℕ → ℕ)
+        → PutsMessage environment config v handler receivers (number p v.slot) i (subscriber_of_key slab (get_or keys i None)) (mailboxes_of number slab p) Skipped (mailboxes_of number emptied p)
+    reclaim-passes environment config v handler shut number =
+        from-emptied environment config v handler Reception.Skipped (mailboxes_of number emptied p) number (put-passes i key ready-emptied at environment config v handler c stands_c shut number)
 
     -- its mark says what stands at its place
     pub reclaim-marked : c.is_open ≡ true → is_open_at receivers i c.home.subscriber ≡ true
@@ -131,11 +132,11 @@ module _ {p : ℕ} {slab : Slab Link} {keys : List (Option ℕ)} {receivers : Li
         pub put-alone : GrowsAlone slot hs (recounted o slot hs')
         put-alone = record { others = λ n differs. omega (arith, (recounted-alone o slot hs' (in_range hs' slot some) reclaim-can_leave).others n differs, r.shrinks n) }
 
-    pub reclaim-puts : (environment : Environment) (config : ServiceConfig) (v : Delivery) (o : PutOutcome) (d : Link) (result : Reception) → v.publisher ≡ p → is_open_at receivers i c.home.subscriber ≡ true
-        → IsPut c v.slot config.enable_safe_overflow o d → result_of result ≡ result_of_put v.strategy o → (number : ℕ → ℕ → ℕ)
-        → PutsMessage environment config v receivers (number p v.slot) (subscriber_of_key slab (get_or keys i None)) (mailboxes_of number slab p) (result_of result) (mailboxes_of number (with_value slab key d) p)
-    reclaim-puts environment config v o d result by_p receiving put is number =
-        from-emptied environment config v result (mailboxes_of number (with_value slab key d) p) number
-        (subst (λ (s : Slab Link). PutsMessage environment config v receivers (number p v.slot) (subscriber_of_key emptied (get_or keys i None)) (mailboxes_of number emptied p) (result_of result) (mailboxes_of number s p))
+    pub reclaim-puts : {F : Type 0} (environment : Environment) (config : ServiceConfig) (v : Delivery) (handler : Option (BackpressureHandler F)) (o : PutOutcome) (d : Link) (result : Reception) → v.publisher ≡ p → is_open_at receivers i c.home.subscriber ≡ true
+        → IsPut c v.slot config.enable_safe_overflow o d → ComesTo environment config v handler i c.home.subscriber o (result_of result) → (number : ℕ → ℕ → ℕ)
+        → PutsMessage environment config v handler receivers (number p v.slot) i (subscriber_of_key slab (get_or keys i None)) (mailboxes_of number slab p) (result_of result) (mailboxes_of number (with_value slab key d) p)
+    reclaim-puts environment config v handler o d result by_p receiving put comes number =
+        from-emptied environment config v handler result (mailboxes_of number (with_value slab key d) p) number
+        (subst (λ (s : Slab Link). PutsMessage environment config v handler receivers (number p v.slot) i (subscriber_of_key emptied (get_or keys i None)) (mailboxes_of number emptied p) (result_of result) (mailboxes_of number s p))
         (twice v.slot config.enable_safe_overflow o d put)
-        (put-puts i key ready-emptied at environment config v o c d result by_p stands_c receiving put is number))
+        (put-puts i key ready-emptied at environment config v handler o c d result by_p stands_c receiving put comes number))

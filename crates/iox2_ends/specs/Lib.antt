@@ -3,6 +3,7 @@ pub mod Mailboxes
 pub mod Homes
 pub mod Receivers
 pub mod Counters
+pub mod Handlers
 pub mod Deliveries
 pub mod Takes
 pub mod Finds

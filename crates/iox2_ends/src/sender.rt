@@ -1,11 +1,11 @@
 //! A publisher's end: its messages go to the connections at its places.
-ghost use Rattle.std.specs.Prelude.{◌≡◌, ℕ, ◌+◌, ◌≤◌, ◌<◌, ◌^◌, [], ◌∷◌, ◌++◌, true, None, length, slice_index, slice_index_or, IsSomeAnd, map};
+ghost use Rattle.std.specs.Prelude.{◌≡◌, ℕ, ◌+◌, ◌≤◌, ◌<◌, ◌^◌, [], ◌∷◌, ◌++◌, true, None, Some, length, slice_index, slice_index_or, IsSomeAnd, map};
 ghost use Rattle.std.specs.Option.{option_map};
 ghost use Rattle.iox2_store.specs.Link.{load, IsBounded};
+ghost use Rattle.iox2_store.specs.declared.backpressure.BackpressureAction.{BackpressureAction};
 ghost use Rattle.iox2_store.specs.SlotBook.{holders_at, IsInUse};
 ghost use Rattle.iox2_store.specs.machine.Numbers.{last_n};
-ghost use Rattle.iox2_store.specs.machine.Delivery.{is_blocking, accepted_count};
-ghost use Rattle.iox2_store.specs.machine.Environments.{fixed_handlers};
+ghost use Rattle.iox2_store.specs.machine.Delivery.{by_action, is_blocking, is_failed, accepted_count};
 ghost use Rattle.slab.specs.Slab.{get};
 ghost use Rattle.iox2_ends.specs.Homes.{IsApart, IsSenderLinked};
 ghost use Rattle.iox2_ends.specs.Receivers.{is_open_at, HasReclaimed, IsReadyToDeliver};
@@ -13,12 +13,17 @@ ghost use Rattle.iox2_ends.specs.Counters.{times, IsCovered, HoldsItself, GrowsA
 ghost use Rattle.iox2_ends.specs.Recounts.{Recounts, returned_count};
 ghost use Rattle.iox2_ends.specs.Reclaims.{IsHeld, Reclaims, ReclaimsFrom};
 ghost use Rattle.iox2_ends.specs.Drops.{DropsAll, RemovesConnection};
-ghost use Rattle.iox2_ends.specs.Deliveries.{result_of, result_of_put, PutsSlot, DeliversSlot};
+ghost use Rattle.iox2_ends.specs.Handlers.{asked};
+ghost use Rattle.iox2_ends.specs.Deliveries.{result_of, Answers, ComesTo, PutsSlot, DeliversSlot};
 
 use crate::drops;
 use circular_buffer::HeapCircularBuffer;
-use iox2_store::{BackpressureStrategy, Connection, PutOutcome, ServiceConfig, SlotBook};
+use iox2_store::{
+    BackpressureAction, BackpressureFn, BackpressureHandler, BackpressureInfo,
+    BackpressureStrategy, Connection, PutOutcome, ServiceConfig, SlotBook,
+};
 use slab::Slab;
+use std::time::Duration;
 
 /// A subscriber, as a publisher that delivers sees it.
 ///
@@ -54,15 +59,75 @@ impl Receiver for ReceiverDetails {
     }
 }
 
-/// A message that a publisher without a backpressure handler delivers.
+/// How far a delivery has come.
+#[derive(Debug, Clone, Copy, PartialEq, Eq)]
+pub struct Progress {
+    /// The first place that remains. Those at lower places are done with.
+    pub place: usize,
+    /// How often the receiver at that place was asked again.
+    pub retries: u64,
+    /// The receivers that have taken the message so far.
+    pub count: usize,
+    /// Whether the handler failed the delivery at a receiver so far.
+    pub has_failed: bool,
+}
+
+impl Progress {
+    ghost use Rattle.iox2_ends.specs.Deliveries.{begun};
+
+    /// Every place remains.
+    pub fn begun() -> Progress
+        ensures { result ≡ begun }
+    {
+        Progress {
+            place: 0,
+            retries: 0,
+            count: 0,
+            has_failed: false,
+        }
+    }
+}
+
+/// A message that a publisher delivers to the places that remain.
 #[derive(Debug, Clone, Copy, PartialEq, Eq)]
 pub struct Delivery {
     /// The publisher's id.
     pub publisher: u128,
     /// The publisher's slot in which the message lies.
     pub slot: usize,
-    /// What happens at a full receiver.
+    /// What happens at a full receiver, where no handler says otherwise.
     pub strategy: BackpressureStrategy,
+    /// Where the delivery is taken up.
+    pub start: Progress,
+    /// The time since the handler was first asked about the receiver at the first of these places.
+    pub elapsed: Duration,
+}
+
+impl Delivery {
+    ghost use Rattle.iox2_ends.specs.Deliveries.{retries_at, elapsed_at};
+
+    // How often the receiver at a place was asked again: the first was asked before, the others are
+    // asked anew.
+    fn retries_at(&self, place: usize) -> u64
+        ensures { result ≡ retries_at self.now place }
+    {
+        if place == self.start.place {
+            self.start.retries
+        } else {
+            0
+        }
+    }
+
+    // The time since the receiver at a place was first asked.
+    fn elapsed_at(&self, place: usize) -> Duration
+        ensures { result ≡ elapsed_at self.now place }
+    {
+        if place == self.start.place {
+            self.elapsed
+        } else {
+            Duration::ZERO
+        }
+    }
 }
 
 /// How a delivery ended.
@@ -72,14 +137,11 @@ pub enum DeliveryOutcome {
     Complete {
         /// The receivers that took the message.
         count: usize,
+        /// Whether the handler failed the delivery at some receiver.
+        has_failed: bool,
     },
-    /// It waits for a full receiver.
-    Suspended {
-        /// The place of that receiver. Those at lower places are done with.
-        place: usize,
-        /// The receivers that have taken the message so far.
-        count: usize,
-    },
+    /// It waits for the full receiver at the first place that remains.
+    Suspended(Progress),
 }
 
 /// What became of a message at one receiver.
@@ -87,6 +149,7 @@ pub enum DeliveryOutcome {
 enum Reception {
     Accepted,
     Skipped,
+    Failed,
     WouldBlock,
 }
 
@@ -97,26 +160,90 @@ impl Reception {
         matches!(self, Reception::WouldBlock)
     }
 
+    fn is_failed(self) -> bool
+        ensures { result ≡ is_failed (result_of self) }
+    {
+        matches!(self, Reception::Failed)
+    }
+
     fn accepted_count(self) -> usize
         ensures value { result ≡ accepted_count (result_of self) }
         ensures few { result ≤ 1 }
     {
         match self {
             Reception::Accepted => 1,
-            Reception::Skipped | Reception::WouldBlock => 0,
+            Reception::Skipped | Reception::Failed | Reception::WouldBlock => 0,
         }
     }
 }
 
-// What a put comes to, where the strategy decides at a full connection.
-fn reception_of(outcome: PutOutcome, strategy: BackpressureStrategy) -> Reception
-    ensures { result_of result ≡ result_of_put strategy outcome }
+// What a strategy does with a full receiver.
+fn by_strategy(strategy: BackpressureStrategy) -> Reception
+    ensures { result_of result ≡ by_action strategy BackpressureAction.FollowBackpressureyStrategy }
+{
+    match strategy {
+        BackpressureStrategy::RetryUntilDelivered => Reception::WouldBlock,
+        BackpressureStrategy::DiscardData => Reception::Skipped,
+    }
+}
+
+// What an action does with a full receiver.
+fn by_action(strategy: BackpressureStrategy, action: BackpressureAction) -> Reception
+    ensures { result_of result ≡ by_action strategy action }
+{
+    match action {
+        BackpressureAction::FollowBackpressureyStrategy => by_strategy(strategy),
+        BackpressureAction::Retry => Reception::WouldBlock,
+        BackpressureAction::DiscardData => Reception::Skipped,
+        BackpressureAction::DiscardDataAndFail => Reception::Failed,
+    }
+}
+
+// Asks the handler about a full receiver. The delivery is copied here: what is handed on by its
+// address would have to stand in memory at each send.
+#[cold]
+#[inline(never)]
+fn ask<F: BackpressureFn>(
+    config: &ServiceConfig,
+    delivery: Delivery,
+    handler: &BackpressureHandler<F>,
+    place: usize,
+    receiver: u128,
+) -> Reception
+    ensures { Answers (asked F.allows (Some handler.now)) config.now delivery (Some handler.now) place receiver (result_of result) }
+{
+    let info = BackpressureInfo {
+        service_id: config.service_id,
+        sender_port_id: delivery.publisher,
+        receiver_port_id: receiver,
+        retries: delivery.retries_at(place),
+        elapsed_time: delivery.elapsed_at(place),
+    };
+    by_action(delivery.strategy, handler.call(&info))
+}
+
+// What a put into this connection comes to.
+fn reception_of<F: BackpressureFn>(
+    config: &ServiceConfig,
+    delivery: &Delivery,
+    handler: &Option<BackpressureHandler<F>>,
+    place: usize,
+    connection: &Connection,
+    outcome: PutOutcome,
+) -> Reception
+    ensures { ComesTo (asked F.allows handler.now) config.now delivery.now handler.now place connection.now.home.subscriber outcome (result_of result) }
 {
     match outcome {
         PutOutcome::Taken | PutOutcome::Overwrote(_) => Reception::Accepted,
-        PutOutcome::Full => match strategy {
-            BackpressureStrategy::RetryUntilDelivered => Reception::WouldBlock,
-            BackpressureStrategy::DiscardData => Reception::Skipped,
+        PutOutcome::Full => match handler {
+            Some(handler) => ask(
+                config,
+                *delivery,
+                handler,
+                place,
+                connection.home().subscriber,
+            ),
+            None => by_strategy(delivery.strategy),
         },
     }
 }
@@ -166,9 +293,10 @@ fn recount(book: &mut SlotBook, outcome: PutOutcome, slot: usize)
 // Reclaims what was given back in the connection at one place, if there is one, and puts the slot
 // into it if its subscriber is open.
 #[inline(always)]
-fn deliver_at<R: Receiver>(
+fn deliver_at<R: Receiver, F: BackpressureFn>(
     config: &ServiceConfig,
     delivery: &Delivery,
+    handler: &Option<BackpressureHandler<F>>,
     connections: &mut Slab<Connection>,
     book: &mut SlotBook,
     keys: &[Option<usize>],
@@ -180,7 +308,7 @@ fn deliver_at<R: Receiver>(
     requires own { HoldsItself delivery.now.publisher delivery.now.slot book.old.holders connections.old.slots }
     requires fits { holders_at book.old delivery.now.slot + 1 < 2 ^ 64 }
     requires covered { IsCovered delivery.now.publisher book.old.holders connections.old.slots }
-    ensures puts { PutsSlot fixed_handlers config.now delivery.now (map (option_map R.details_of) receivers.now) (slice_index_or keys.now place None)
+    ensures puts { PutsSlot (asked F.allows handler.now) config.now delivery.now handler.now (map (option_map R.details_of) receivers.now) place (slice_index_or keys.now place None)
         connections.old result connections.new }
     ensures book { book.new ≡ with_counters book.old book.new.holders }
     ensures recounts { Recounts delivery.now.publisher book.old.holders connections.old book.new.holders connections.new }
@@ -197,12 +325,16 @@ fn deliver_at<R: Receiver>(
     }
     let outcome = connection.put(delivery.slot, config.enable_safe_overflow);
     recount(book, outcome, delivery.slot);
-    reception_of(outcome, delivery.strategy)
+    reception_of(config, delivery, handler, place, connection, outcome)
 }
 
-/// Delivers a message to the receivers at these places, one after the other, until one blocks it.
-/// What each gave back is reclaimed first. A receiver that is closed is skipped. One with room takes
-/// the message, and with safe overflow each does; at any other the strategy decides.
+/// Delivers a message to the receivers at the places that remain, one after the other, until one
+/// blocks it. What each gave back is reclaimed first. A receiver that is closed is skipped. One with
+/// room takes the message, and with safe overflow each does; at any other the handler decides, or
+/// the strategy where there is no handler.
+///
+/// A send starts at the first place. A send that was blocked is taken up where it blocked, or behind
+/// that receiver, with what it came to so far.
 ///
 /// `keys` has at each subscriber's place the key of the publisher's connection to it, and
 /// `receivers` the subscriber that stands there now. The count of holders of each slot in `book` follows:
@@ -211,9 +343,10 @@ fn deliver_at<R: Receiver>(
 ///
 /// iceoryx2's `Sender::deliver_offset` (`src/port/details/sender.rs`).
 #[inline(always)]
-pub fn deliver<R: Receiver>(
+pub fn deliver<R: Receiver, F: BackpressureFn>(
     config: &ServiceConfig,
     delivery: &Delivery,
+    handler: &Option<BackpressureHandler<F>>,
     connections: &mut Slab<Connection>,
     book: &mut SlotBook,
     keys: &[Option<usize>],
@@ -221,23 +354,43 @@ pub fn deliver<R: Receiver>(
 ) -> DeliveryOutcome
     requires ready { IsReadyToDeliver delivery.now.publisher connections.old keys.now (map (option_map R.details_of) receivers.now) }
     requires own { HoldsItself delivery.now.publisher delivery.now.slot book.old.holders connections.old.slots }
-    requires fits { holders_at book.old delivery.now.slot + length keys.now < 2 ^ 64 }
+    requires start { delivery.now.start.place ≤ length keys.now }
+    requires counted { delivery.now.start.count ≤ delivery.now.start.place }
+    requires fits { holders_at book.old delivery.now.slot + length keys.now < 2 ^ 64 + delivery.now.start.place }
     requires covered { IsCovered delivery.now.publisher book.old.holders connections.old.slots }
-    ensures delivers { DeliversSlot fixed_handlers config.now delivery.now (map (option_map R.details_of) receivers.now) keys.now
+    ensures delivers { DeliversSlot (asked F.allows handler.now) config.now delivery.now handler.now (map (option_map R.details_of) receivers.now) keys.now
         connections.old result connections.new }
     ensures book { book.new ≡ with_counters book.old book.new.holders }
     ensures recounts { Recounts delivery.now.publisher book.old.holders connections.old book.new.holders connections.new }
+    ensures grows { holders_at book.new delivery.now.slot + delivery.now.start.place ≤ holders_at book.old delivery.now.slot + length keys.now }
     ensures alone { GrowsAlone delivery.now.slot book.old.holders book.new.holders }
 {
-    let mut count = 0;
-    for place in 0..keys.len() {
-        let reception = deliver_at(config, delivery, connections, book, keys, receivers, place);
+    let start = delivery.start;
+    let mut count = start.count;
+    let mut has_failed = start.has_failed;
+    for place in start.place..keys.len() {
+        let reception = deliver_at(
+            config,
+            delivery,
+            handler,
+            connections,
+            book,
+            keys,
+            receivers,
+            place,
+        );
         if reception.is_blocking() {
-            return DeliveryOutcome::Suspended { place, count };
+            return DeliveryOutcome::Suspended(Progress {
+                place,
+                retries: delivery.retries_at(place),
+                count,
+                has_failed,
+            });
         }
         count += reception.accepted_count();
+        has_failed |= reception.is_failed();
     }
-    DeliveryOutcome::Complete { count }
+    DeliveryOutcome::Complete { count, has_failed }
 }
 
 // Reclaims all slots that were given back in a connection.

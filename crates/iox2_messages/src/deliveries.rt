@@ -1,22 +1,64 @@
 //! A publisher delivers a message.
-ghost use Rattle.std.specs.Prelude.{◌≡◌, None, Some, slice_index_or};
+ghost use Rattle.std.specs.Prelude.{◌≡◌, ℕ, ◌+◌, ◌<◌, ◌≤◌, ◌^◌, None, Some, length, slice_index_or};
+ghost use Rattle.iox2_store.specs.SlotBook.{IsInUse, holders_at};
 ghost use Rattle.iox2_store.specs.machine.Environments.{fixed_handlers};
+ghost use Rattle.iox2_ends.specs.Counters.{times};
 ghost use Rattle.iox2_domain.specs.Ports.{PublisherFields};
 ghost use Rattle.iox2_domain.specs.Invariant.{IsDomain};
-ghost use Rattle.iox2_domain.specs.Deliveries.{CanSend, SendsSlot};
+ghost use Rattle.iox2_domain.specs.Deliveries.{CanSend, SendsSlot, with_delivered, with_history_holder, pushed, leaving, with_left, with_sent};
 
-use iox2_domain::DomainState;
-use iox2_ends::sender::{Delivery, DeliveryOutcome, deliver};
-use iox2_store::SlotMark;
+use iox2_domain::{BlockedDelivery, DomainState, PublisherState};
+use iox2_ends::sender::{Delivery, DeliveryOutcome, Progress, deliver};
+use iox2_store::{BackpressureHandler, SlotBook, SlotMark};
+use std::time::Duration;
 
-/// Delivers the loan in a slot of the publisher at a place, which is out no more afterwards. Returns
-/// how many receivers took it.
+// The loan in a slot that was delivered is out no more, or its publisher waits for a receiver, and
+// there is one holder more for the history that is to have it.
+#[inline(always)]
+fn conclude(
+    publisher: &mut PublisherState,
+    book: &mut SlotBook,
+    slot: usize,
+    outcome: DeliveryOutcome,
+)
+    requires once { times slot publisher.old.loans ≤ 1 }
+    requires in_use { IsInUse book.old slot }
+    requires fits { holders_at book.old slot + 1 < 2 ^ 64 }
+    ensures publisher { publisher.new ≡ with_delivered outcome slot publisher.old }
+    ensures book { book.new ≡ with_history_holder outcome slot book.old }
+{
+    match outcome {
+        DeliveryOutcome::Complete { .. } => publisher.remove_loan(slot),
+        DeliveryOutcome::Suspended(progress) => {
+            book.hold(slot);
+            publisher.blocked = Some(BlockedDelivery { slot, progress });
+        }
+    }
+}
+
+// The message in a slot is sent, and stands last in the history. What leaves the history for it has
+// one holder less.
+#[inline(always)]
+fn remember(publisher: &mut PublisherState, book: &mut SlotBook, slot: usize)
+    requires below { slot < length book.old.holders }
+    requires leaves { (oldest : ℕ) → leaving publisher.old.history slot ≡ Some oldest → IsInUse book.old oldest }
+    ensures publisher { publisher.new ≡ record publisher.old { history = pushed publisher.old.history slot } }
+    ensures book { book.new ≡ with_left (leaving publisher.old.history slot) (with_sent slot book.old) }
+{
+    book.set_mark(slot, SlotMark::Sent);
+    if let Some(oldest) = publisher.history.push_back(slot) {
+        book.release(oldest);
+    }
+}
+
+/// Delivers the loan in a slot of the publisher at a place. Where it reached all receivers it is out
+/// no more afterwards, else its publisher waits for a receiver.
 #[inline(always)]
 pub(crate) fn send_slot<T: Drop, U: Default + Drop>(
     state: &mut DomainState<T, U>,
     place: usize,
     slot: usize,
-) -> usize
+) -> DeliveryOutcome
     requires agrees { IsDomain state.old }
     requires can { (x : PublisherFields) × (slice_index_or state.old.publishers place None ≡ Some x) × CanSend state.old x slot }
     ensures { (x : PublisherFields) → slice_index_or state.old.publishers place None ≡ Some x → SendsSlot fixed_handlers state.old place x slot result state.new }
@@ -29,22 +71,20 @@ pub(crate) fn send_slot<T: Drop, U: Default + Drop>(
         publisher: publisher.id.value(),
         slot,
         strategy: publisher.strategy,
+        start: Progress::begun(),
+        elapsed: Duration::ZERO,
     };
+    let handler: Option<BackpressureHandler> = None;
     let outcome = deliver(
         &state.config,
         &delivery,
+        &handler,
         &mut state.connections,
         book,
         &publisher.keys,
         &state.subscribers,
     );
-    let DeliveryOutcome::Complete { count } = outcome else {
-        unreachable!();
-    };
-    publisher.remove_loan(slot);
-    book.set_mark(slot, SlotMark::Sent);
-    if let Some(oldest) = publisher.history.push_back(slot) {
-        book.release(oldest);
-    }
-    count
+    conclude(publisher, book, slot, outcome);
+    remember(publisher, book, slot);
+    outcome
 }

@@ -4,6 +4,7 @@
 //! isn't part of that crate is for the prover's time alone: two crates are proved side by side.
 #![tactic(auto)]
 
+mod blocked_sends;
 mod contents;
 mod deliveries;
 mod discards;
@@ -15,6 +16,7 @@ mod reclaims;
 mod sample_reads;
 mod sends;
 
+pub use blocked_sends::{give_up_send, is_waiting, retry_send};
 pub use contents::{cell_at_mut, cells_at_mut, user_header_at_mut, value_at_mut, values_at_mut};
 pub use discards::discard_loan;
 pub use loan_calls::{

@@ -32,7 +32,7 @@ pub(crate) fn reclaim_if_full<T: Drop, U: Default + Drop>(
 }
 
 #[inline(never)]
-fn reclaim<T: Drop, U: Default + Drop>(state: &mut DomainState<T, U>, place: usize)
+pub(crate) fn reclaim<T: Drop, U: Default + Drop>(state: &mut DomainState<T, U>, place: usize)
     requires agrees { IsDomain state.old }
     requires stands { (x : PublisherFields) × (slice_index_or state.old.publishers place None ≡ Some x) }
     ensures reaches { Reaches state.old state.new (state_of (kept_of state.old)) }

@@ -1,5 +1,5 @@
 //! A loan is sent.
-ghost use Rattle.std.specs.Prelude.{◌≡◌, IsTrue, IsOk, MatchOption};
+ghost use Rattle.std.specs.Prelude.{◌≡◌, IsTrue, IsOk, MatchOption, false};
 ghost use Rattle.iox2_store.specs.machine.Environments.{fixed_handlers};
 ghost use Rattle.iox2_store.specs.machine.SingleCalls.{HoldsPublisher};
 ghost use Rattle.iox2_domain.specs.Kept.{state_of};
@@ -7,9 +7,11 @@ ghost use Rattle.iox2_domain.specs.Fields.{kept_of};
 ghost use Rattle.iox2_domain.specs.Invariant.{IsDomain};
 ghost use Rattle.iox2_domain.specs.LoanCalls.{HoldsWritten};
 ghost use Rattle.iox2_domain.specs.SentLoans.{IsLeftLoan, IsReadyToSend, SendsLoan, send_result};
+ghost use Rattle.iox2_store.specs.machine.State.{is_blocked};
 
 use crate::deliveries::send_slot;
 use iox2_domain::{DomainState, LoanAt};
+use iox2_ends::sender::DeliveryOutcome;
 use iox2_ports::update_publisher;
 use iox2_store::{SendError, UniquePublisherId};
 
@@ -43,6 +45,7 @@ fn update_and_find<T: Drop, U: Default + Drop>(
 ) -> Option<ReadyLoan>
     requires agrees { IsDomain state.old }
     requires live { HoldsWritten (state_of (kept_of state.old)) publisher number }
+    requires unblocked { is_blocked (state_of (kept_of state.old)) publisher ≡ false }
     ensures { MatchOption result (IsLeftLoan state.old state.new publisher) (λ ready. IsReadyToSend fixed_handlers state.old state.new publisher number ready.place ready.slot) }
 {
     let place = state.find_publisher(publisher, 0)?;
@@ -63,9 +66,10 @@ fn update_and_send<T: Drop, U: Default + Drop>(
     state: &mut DomainState<T, U>,
     publisher: UniquePublisherId,
     number: u128,
-) -> Result<usize, SendError>
+) -> Result<DeliveryOutcome, SendError>
     requires agrees { IsDomain state.old }
     requires live { HoldsWritten (state_of (kept_of state.old)) publisher number }
+    requires unblocked { is_blocked (state_of (kept_of state.old)) publisher ≡ false }
     ensures sends { SendsLoan fixed_handlers state.old state.new number (send_result result) }
     ensures ok { HoldsPublisher (state_of (kept_of state.old)) publisher → IsOk result }
 {
@@ -77,18 +81,19 @@ fn update_and_send<T: Drop, U: Default + Drop>(
     Ok(send_slot(state, ready.place, ready.slot))
 }
 
-/// Sends a publisher's written loan to its receivers, and returns how many took it. The
-/// publisher's connections are updated first. Where memory for a connection is refused, that is a
-/// warning. Of a publisher that is gone the loan is lost, which is an error. The loan is out no more
-/// afterwards.
+/// Sends a publisher's written loan to its receivers, and returns how that ended. The publisher's
+/// connections are updated first. Where memory for a connection is refused, that is a warning. Of a
+/// publisher that is gone the loan is lost, which is an error. The loan is out no more afterwards,
+/// unless the send is blocked.
 ///
 /// iceoryx2's `PublisherSharedState::send_sample` (`src/port/publisher.rs`).
 pub fn send_loan<T: Drop, U: Default + Drop>(
     state: &mut DomainState<T, U>,
     loan: LoanAt,
-) -> Result<usize, SendError>
+) -> Result<DeliveryOutcome, SendError>
     requires agrees { IsDomain state.old }
     requires live { HoldsWritten (state_of (kept_of state.old)) loan.publisher loan.number }
+    requires unblocked { is_blocked (state_of (kept_of state.old)) loan.publisher ≡ false }
     ensures sends { SendsLoan fixed_handlers state.old state.new loan.number (send_result result) }
     ensures ok { HoldsPublisher (state_of (kept_of state.old)) loan.publisher → IsOk result }
 {

@@ -6,20 +6,22 @@ ghost use Rattle.iox2_domain.specs.Invariant.{IsDomain};
 ghost use Rattle.iox2_domain.specs.Kept.{state_of};
 ghost use Rattle.iox2_domain.specs.Ports.{PublisherFields, SubscriberFields};
 ghost use Rattle.iox2_domain.specs.Reaches.{Reaches};
+ghost use Rattle.iox2_domain.specs.Updates.{IsUnblockedAt};
 
 use crate::marks::{unmark_publisher, unmark_subscriber};
 use crate::{publisher_closes, subscriber_closes};
 use iox2_domain::DomainState;
 
-/// The publisher at a place is closed. Its place is free, and its loans stay out. What waits for
-/// an open subscriber that has its end stays there, and what waits for anybody else is lost. A
-/// connection with nothing in it is gone, and so is its book where nobody holds a slot of it. Every
-/// subscriber is due for an update.
+/// The publisher at a place, of which no delivery is blocked, is closed. Its place is free, and its
+/// loans stay out. What waits for an open subscriber that has its end stays there, and what waits for
+/// anybody else is lost. A connection with nothing in it is gone, and so is its book where nobody
+/// holds a slot of it. Every subscriber is due for an update.
 ///
 /// iceoryx2's `Publisher` drops its state (`src/port/publisher.rs`).
 pub fn close_publisher<T: Drop, U: Default + Drop>(state: &mut DomainState<T, U>, place: usize)
     requires sound { IsDomain state.old }
     requires stands { (x : PublisherFields) × (slice_index_or state.old.publishers place None ≡ Some x) }
+    requires unblocked { IsUnblockedAt state.old.publishers place }
     ensures { (x : PublisherFields) → slice_index_or state.old.publishers place None ≡ Some x
         → Reaches state.old state.new
         (publisher_closed (state_of (kept_of state.old)) x.id (publisher_of (state.old).books (state.old).connections x).port) }

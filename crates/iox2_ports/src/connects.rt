@@ -8,7 +8,7 @@ ghost use Rattle.iox2_store.specs.machine.Limits.{warning_limit};
 ghost use Rattle.iox2_store.specs.declared.degradation.DegradationAction.TheVariants.{Warn};
 ghost use Rattle.iox2_domain.specs.WarningRing.{warning_ring};
 ghost use Rattle.iox2_domain.specs.Ports.{PublisherFields, SubscriberFields};
-ghost use Rattle.iox2_domain.specs.Updates.{MakesConnection, StandApart, home_of, is_open_subscriber, key_from, sender_key};
+ghost use Rattle.iox2_domain.specs.Updates.{MakesConnection, StandApart, home_of, is_open_subscriber, key_from, sender_key, IsUnblockedAt};
 ghost use Rattle.iox2_domain.specs.Invariant.{IsDomain, ReceiverHas, connection_count, one_if_receivers};
 ghost use Rattle.iox2_domain.specs.Connects.{MakesRoom, MakesSenderEnd, ConnectsSender};
 ghost use Rattle.iox2_domain.specs.Drops.{HasEnd, LosesSenderEnd, LosesWaiting};
@@ -173,7 +173,7 @@ fn make_sender_end<T: Drop, U: Default + Drop>(
     requires subscriber { subscriber_place < length state.old.subscribers }
     requires opened { is_open_subscriber state.old.subscribers subscriber_place ≡ true }
     requires none { sender_key state.old.publishers publisher_place subscriber_place ≡ None }
-    ensures { (x : PublisherFields) → slice_index_or state.old.publishers publisher_place None ≡ Some x → x.is_due ≡ false
+    ensures { (x : PublisherFields) → slice_index_or state.old.publishers publisher_place None ≡ Some x → x.is_due ≡ false → x.blocked ≡ None
         → MatchOption result (ConnectsSender fixed_handlers state.old publisher_place subscriber_place x state.new None)
         (λ key. MakesSenderEnd fixed_handlers state.old publisher_place subscriber_place x key state.new) }
 {
@@ -237,6 +237,7 @@ fn connect_sender<T: Drop, U: Default + Drop>(
     requires publisher { (x : PublisherFields) × (slice_index_or state.old.publishers publisher_place None ≡ Some x) }
     requires subscriber { subscriber_place < length state.old.subscribers }
     requires settled { (x : PublisherFields) → slice_index_or state.old.publishers publisher_place None ≡ Some x → x.is_due ≡ false }
+    requires unblocked { IsUnblockedAt state.old.publishers publisher_place }
     requires none { sender_key state.old.publishers publisher_place subscriber_place ≡ None }
     ensures { (x : PublisherFields) → slice_index_or state.old.publishers publisher_place None ≡ Some x
         → ConnectsSender fixed_handlers state.old publisher_place subscriber_place x state.new None }
@@ -305,6 +306,7 @@ pub(crate) fn update_sender_place<T: Drop, U: Default + Drop>(
     requires publisher { (x : PublisherFields) × (slice_index_or state.old.publishers publisher_place None ≡ Some x) }
     requires subscriber { subscriber_place < length state.old.subscribers }
     requires settled { (x : PublisherFields) → slice_index_or state.old.publishers publisher_place None ≡ Some x → x.is_due ≡ false }
+    requires unblocked { IsUnblockedAt state.old.publishers publisher_place }
     ensures { (x : PublisherFields) → slice_index_or state.old.publishers publisher_place None ≡ Some x
         → ConnectsSender fixed_handlers state.old publisher_place subscriber_place x state.new None }
 {

@@ -10,6 +10,7 @@ ghost use Rattle.iox2_domain.specs.Kept.{state_of};
 ghost use Rattle.iox2_domain.specs.Fields.{kept_of, publisher_of};
 ghost use Rattle.iox2_domain.specs.Invariant.{IsDomain};
 ghost use Rattle.iox2_domain.specs.OpenMarks.{IsUnmarkedSender};
+ghost use Rattle.iox2_domain.specs.Updates.{IsUnblockedAt};
 ghost use Rattle.iox2_domain.specs.Reaches.{ReachesBut, Reaches};
 ghost use Rattle.iox2_domain.specs.Departures.{HasKey};
 ghost use Rattle.iox2_domain.specs.Closes.{is_awaited, after_close, left_subscriber, FindsAll, LeavesAt, LeavesConnections, SomeHasKey};
@@ -202,6 +203,7 @@ fn leave_domain<T: Drop, U: Default + Drop>(state: &mut DomainState<T, U>, place
     requires sound { IsDomain state.old }
     requires stands { (x : PublisherFields) × (slice_index_or state.old.publishers place None ≡ Some x) }
     requires unmarked { IsUnmarkedSender state.old.connections place }
+    requires unblocked { IsUnblockedAt state.old.publishers place }
     ensures { (x : PublisherFields) → slice_index_or state.old.publishers place None ≡ Some x
         → (result ≡ x.book) × ReachesBut x.book state.old state.new
         (publisher_closed (state_of (kept_of state.old)) x.id (publisher_of (state.old).books (state.old).connections x).port) }
@@ -222,7 +224,8 @@ fn leave_domain<T: Drop, U: Default + Drop>(state: &mut DomainState<T, U>, place
     publisher.book
 }
 
-/// The publisher at a place is closed, of which no connection is marked as open.
+/// The publisher at a place is closed, of which no connection is marked as open and no delivery is
+/// blocked.
 pub(crate) fn close_publisher<T: Drop, U: Default + Drop>(
     state: &mut DomainState<T, U>,
     place: usize,
@@ -230,6 +233,7 @@ pub(crate) fn close_publisher<T: Drop, U: Default + Drop>(
     requires sound { IsDomain state.old }
     requires stands { (x : PublisherFields) × (slice_index_or state.old.publishers place None ≡ Some x) }
     requires unmarked { IsUnmarkedSender state.old.connections place }
+    requires unblocked { IsUnblockedAt state.old.publishers place }
     ensures { (x : PublisherFields) → slice_index_or state.old.publishers place None ≡ Some x
         → Reaches state.old state.new
         (publisher_closed (state_of (kept_of state.old)) x.id (publisher_of (state.old).books (state.old).connections x).port) }

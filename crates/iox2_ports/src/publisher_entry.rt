@@ -15,7 +15,7 @@ ghost use Rattle.iox2_domain.specs.Reaches.{Reaches};
 use crate::segments::{Segment, add_segment, first_segment, room_for};
 use crate::updates::update_publisher;
 use iox2_domain::{DomainState, PortAt, PublisherState, free_place, make_all_due, put_at_place};
-use iox2_store::{PublisherCreateError, UniquePublisherId};
+use iox2_store::{BackpressureStrategy, PublisherCreateError, UniquePublisherId};
 
 /// The place for a new publisher, or why it is refused.
 pub(crate) fn place_for_publisher<T: Drop, U: Default + Drop>(
@@ -41,16 +41,17 @@ pub(crate) fn admit_publisher<T: Drop, U: Default + Drop>(
     place: usize,
     max_loaned_samples: usize,
     slots: usize,
+    strategy: BackpressureStrategy,
     initial_max_slice_len: usize,
 ) -> Result<UniquePublisherId, PublisherCreateError>
     requires agrees { IsDomain state.old }
     requires has_place { place_for_publisher state.old ≡ Ok place }
     requires slots { slots ≡ worst_case (state.old).config max_loaned_samples }
     requires size { segment_fits (state.old).config slots initial_max_slice_len ≡ true }
-    ensures stands { OnOk result ((x : PublisherFields) × (slice_index_or state.new.publishers place None ≡ Some x) × (x.id ≡ state.old.next_port)) }
+    ensures stands { OnOk result ((x : PublisherFields) × (slice_index_or state.new.publishers place None ≡ Some x) × (x.id ≡ state.old.next_port) × (x.blocked ≡ None)) }
     ensures id { IfOk result (λ id. id ≡ state.old.next_port) }
     ensures step { MatchResult result
-        (λ _. Reaches state.old state.new (with_new_publisher (state_of (kept_of state.old)) (plain_publisher max_loaned_samples initial_max_slice_len) place))
+        (λ _. Reaches state.old state.new (with_new_publisher (state_of (kept_of state.old)) (plain_publisher max_loaned_samples strategy initial_max_slice_len) place))
         (λ e. Reaches state.old state.new (state_of (kept_of state.old)) × ((e ≡ UnableToCreateDataSegment) ⊎ (e ≡ FailedToDeployThreadsafetyPolicy))) }
 {
     let id = UniquePublisherId::new(state.next_port);
@@ -68,6 +69,7 @@ pub(crate) fn admit_publisher<T: Drop, U: Default + Drop>(
         key,
         max_loaned_samples,
         slots,
+        strategy,
         initial_max_slice_len,
     );
     let Ok(publisher) = entering else {
@@ -86,8 +88,8 @@ pub(crate) fn admit_publisher<T: Drop, U: Default + Drop>(
 }
 
 /// Makes a publisher that may have so many loans out, each of so many elements at most where the
-/// length of a loan counts, and connects it with the subscribers that there are. Returns its id,
-/// which was the next, and its place.
+/// length of a loan counts, and connects it with the subscribers that there are. Where a receiver is
+/// full, it follows the strategy. Returns its id, which was the next, and its place.
 ///
 /// `UnableToCreatePortTag` where no id is left, then `ExceedsMaxSupportedPublishers` where no
 /// place is free, then `UnableToCreateDataSegment` where the segment's size doesn't fit `usize`.
@@ -97,14 +99,15 @@ pub(crate) fn admit_publisher<T: Drop, U: Default + Drop>(
 pub fn create_publisher<T: Drop, U: Default + Drop>(
     state: &mut DomainState<T, U>,
     max_loaned_samples: usize,
+    strategy: BackpressureStrategy,
     initial_max_slice_len: usize,
 ) -> Result<PortAt<UniquePublisherId>, PublisherCreateError>
     requires { IsDomain state.old }
     ensures id { IfOk result (λ port. port.id ≡ state.old.next_port) }
     ensures stands { IfOk result (λ port. (x : PublisherFields) × (slice_index_or state.new.publishers port.place None ≡ Some x) × (x.id ≡ port.id)) }
     ensures step { MatchResult result
-        (λ _. (s' : State T U) × CreatePublisher fixed_handlers (state_of (kept_of state.old)) (plain_publisher max_loaned_samples initial_max_slice_len) s' None × Reaches state.old state.new s')
-        (λ e. CreatePublisher fixed_handlers (state_of (kept_of state.old)) (plain_publisher max_loaned_samples initial_max_slice_len) (state_of (kept_of state.old)) (Some e)
+        (λ _. (s' : State T U) × CreatePublisher fixed_handlers (state_of (kept_of state.old)) (plain_publisher max_loaned_samples strategy initial_max_slice_len) s' None × Reaches state.old state.new s')
+        (λ e. CreatePublisher fixed_handlers (state_of (kept_of state.old)) (plain_publisher max_loaned_samples strategy initial_max_slice_len) (state_of (kept_of state.old)) (Some e)
         × Reaches state.old state.new (state_of (kept_of state.old))) }
 {
     let place = place_for_publisher(state)?;
@@ -116,6 +119,7 @@ pub fn create_publisher<T: Drop, U: Default + Drop>(
         place,
         max_loaned_samples,
         slots,
+        strategy,
         initial_max_slice_len,
     )?;
     update_publisher(state, place);

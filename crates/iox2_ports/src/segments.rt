@@ -1,9 +1,8 @@
 //! The memory of a publisher: a book of its slots, and their contents at the book's key.
-ghost use Rattle.std.specs.Prelude.{◌≡◌, ◌*◌, ◌<◌, true, None, Some, IfOk, OnOk, OnErr, IsTrue, SomeIff};
+ghost use Rattle.std.specs.Prelude.{◌≡◌, ◌&&◌, ◌*◌, ◌<◌, true, None, Some, IfOk, OnOk, OnErr, IsTrue, SomeIff};
 ghost use Rattle.slab.specs.Slab.{Updates, get};
 ghost use Rattle.iox2_store.specs.machine.Limits.{worst_case, fits, segment_fits};
-ghost use Rattle.iox2_store.specs.machine.Ports.{first_segment_fits};
-ghost use Rattle.iox2_domain.specs.NewPublisher.{IsNewSegment, plain_publisher};
+ghost use Rattle.iox2_domain.specs.NewPublisher.{IsNewSegment};
 ghost use Rattle.iox2_domain.specs.Ports.{slot_length};
 ghost use Rattle.iox2_domain.specs.Placed.{placed};
 
@@ -15,7 +14,7 @@ use std::alloc::{AllocError, Global};
 /// How many slots the first segment of a publisher has, whose messages have at most so many
 /// elements. `None` where their number or their size doesn't fit `usize`.
 pub(crate) fn first_segment(config: &ServiceConfig, loans: usize, len: usize) -> Option<usize>
-    ensures { SomeIff result (IsTrue (first_segment_fits config.now (plain_publisher loans len))) (worst_case config.now loans) }
+    ensures { SomeIff result (IsTrue (fits (worst_case config.now loans) && segment_fits config.now (worst_case config.now loans) len)) (worst_case config.now loans) }
 {
     let slots = worst_case_slots(config, loans)?;
     segment_size(slots, len, config.units_per_element)?;

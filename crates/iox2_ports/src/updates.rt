@@ -3,7 +3,7 @@ ghost use Rattle.std.specs.Prelude.{◌≡◌, Some, None, true, slice_index_or}
 ghost use Rattle.iox2_store.specs.machine.Environments.{fixed_handlers};
 ghost use Rattle.iox2_domain.specs.Ports.{PublisherFields};
 ghost use Rattle.iox2_domain.specs.Invariant.{IsDomain};
-ghost use Rattle.iox2_domain.specs.Updates.{is_publisher_due};
+ghost use Rattle.iox2_domain.specs.Updates.{is_publisher_due, IsUnblockedAt};
 ghost use Rattle.iox2_domain.specs.Connects.{UpdatesPublisher};
 
 use crate::connects::update_sender_place;
@@ -18,6 +18,7 @@ use iox2_domain::{DomainState, is_due_at, settle};
 pub fn update_publisher<T: Drop, U: Default + Drop>(state: &mut DomainState<T, U>, place: usize)
     requires agrees { IsDomain state.old }
     requires stands { (x : PublisherFields) × (slice_index_or state.old.publishers place None ≡ Some x) }
+    requires unblocked { IsUnblockedAt state.old.publishers place }
     ensures { (x : PublisherFields) → slice_index_or state.old.publishers place None ≡ Some x
         → UpdatesPublisher fixed_handlers state.old place x state.new None }
 {
@@ -31,6 +32,7 @@ pub fn update_publisher<T: Drop, U: Default + Drop>(state: &mut DomainState<T, U
 fn connect_publisher<T: Drop, U: Default + Drop>(state: &mut DomainState<T, U>, place: usize)
     requires agrees { IsDomain state.old }
     requires stands { (x : PublisherFields) × (slice_index_or state.old.publishers place None ≡ Some x) }
+    requires unblocked { IsUnblockedAt state.old.publishers place }
     requires due { is_publisher_due state.old.publishers place ≡ true }
     ensures { (x : PublisherFields) → slice_index_or state.old.publishers place None ≡ Some x
         → UpdatesPublisher fixed_handlers state.old place x state.new None }

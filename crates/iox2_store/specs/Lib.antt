@@ -1,6 +1,7 @@
 pub mod Defaults
 pub mod machine
 pub mod Backpressure
+pub mod BackpressureHandlers
 pub mod ErrorTexts
 pub mod SingleValues
 pub mod SlotFree

@@ -4,6 +4,7 @@
 
 mod allocation;
 mod backpressure;
+mod backpressure_handler;
 mod connection;
 mod degradation;
 mod errors;
@@ -20,6 +21,7 @@ pub use backpressure::{
     BackpressureAction, BackpressureFn, BackpressureInfo, BackpressureStrategy,
     BackpressureToReceiverAction,
 };
+pub use backpressure_handler::BackpressureHandler;
 pub use connection::{Connection, Home, PutOutcome};
 pub use degradation::{DegradationAction, DegradationCause, DegradationFn, DegradationInfo};
 pub use errors::{

@@ -1,10 +1,11 @@
 -- A loan is sent, and its message is delivered.
 pub mod LoanAlone
-pub mod MarkedLoans
 pub mod DeliverySteps
 pub mod SentSlots
 pub mod SendEnded
 pub mod HistoryLeft
 pub mod Trimmed
 pub mod Published
+pub mod GoneOn
+pub mod BlockedSteps
 pub mod SendSteps

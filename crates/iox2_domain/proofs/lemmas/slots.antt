@@ -8,6 +8,7 @@ pub mod HolderGone
 pub mod LeftConnections
 pub mod SettledBooks
 pub mod LoneLoans
+pub mod Rebooked
 pub mod SlotChanges
 pub mod ConnectionSlots
 pub mod PublisherBooks

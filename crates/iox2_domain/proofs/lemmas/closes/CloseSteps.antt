@@ -84,13 +84,13 @@ module _ {T U : Type 0} (f : Fields T U) (sound : IsDomain f) (i : ℕ) (x : Pub
       leaver-history slot = omega (arith, its-counters f sound i x here b at slot, follow.at slot)
 
       -- it is closed, but that nobody may hold a slot of its book
-      pub leaver-closed : IsUnmarkedSender f.connections i → length c.holders ≡ length b.holders → LeavesConnections x.id f.subscribers f.connections new → (d : Book) → d ≡ with_counters c d.holders → Releases (x.history).items c.holders d.holders
+      pub leaver-closed : IsUnmarkedSender f.connections i → x.blocked ≡ None → length c.holders ≡ length b.holders → LeavesConnections x.id f.subscribers f.connections new → (d : Book) → d ≡ with_counters c d.holders → Releases (x.history).items c.holders d.holders
           → (subscribers : List (Option SubscriberFields)) → subscribers ≡ map (option_map (left_subscriber new i)) f.subscribers → (place : Option PublisherFields) → place ≡ None
           → ReachesBut x.book f (record f { publishers = slice_set f.publishers i place; subscribers = subscribers; connections = new; books = with_value f.books x.book d })
           (publisher_closed (state_of (kept_of f)) x.id (publisher_of f.books f.connections x).port)
-      leaver-closed unmarked long left d is_d given subscribers forgot place gone =
+      leaver-closed unmarked free long left d is_d given subscribers forgot place gone =
           subst (λ (g : Fields T U). ReachesBut x.book f g (publisher_closed (state_of (kept_of f)) x.id (publisher_of f.books f.connections x).port)) fields
-          (left-reaches f sound i x here b at new left d.holders slots unmarked)
+          (left-reaches f sound i x here b at new left d.holders slots free unmarked)
         where
           slots : LeavesSlots x b.holders f.connections.slots d.holders new.slots
           slots = record { slots = given.slots ∙ long; at = λ slot. omega (arith, follow.at slot, given.counters slot) }
@@ -127,14 +127,14 @@ module _ {T U : Type 0} (before f : Fields T U) (same : f ≡ before) (sound : I
       → (slot : ℕ) → times slot (x.history).items ≤ holders_at c slot
   closes-history b at c is_c new follow = leaver-history f sound_f i x here b at c is_c new follow
 
-  -- whoever stood at its place is closed
-  pub closes-done : IsUnmarkedSender f.connections i → (b : Book) → get f.books x.book ≡ Some b → (c : Book) → c ≡ with_counters b c.holders → (new : Slab Link) → CountersFollow x.id b.holders f.connections.slots c.holders new.slots
+  -- whoever stood at its place, with no delivery blocked, is closed
+  pub closes-done : IsUnmarkedSender f.connections i → x.blocked ≡ None → (b : Book) → get f.books x.book ≡ Some b → (c : Book) → c ≡ with_counters b c.holders → (new : Slab Link) → CountersFollow x.id b.holders f.connections.slots c.holders new.slots
       → length c.holders ≡ length b.holders → LeavesConnections x.id f.subscribers f.connections new → (d : Book) → d ≡ with_counters c d.holders → Releases (x.history).items c.holders d.holders
       → (subscribers : List (Option SubscriberFields)) → subscribers ≡ map (option_map (left_subscriber new i)) f.subscribers → (place : Option PublisherFields) → place ≡ None
       → (y : PublisherFields) → get_or before.publishers i None ≡ Some y
       → (x.book ≡ y.book) × ReachesBut y.book before (record f { publishers = slice_set f.publishers i place; subscribers = subscribers; connections = new; books = with_value f.books x.book d })
       (publisher_closed (state_of (kept_of before)) y.id (publisher_of before.books before.connections y).port)
-  closes-done unmarked b at c is_c new follow long left d is_d given subscribers forgot place gone =
+  closes-done unmarked free b at c is_c new follow long left d is_d given subscribers forgot place gone =
       subst (λ (h : Fields T U). (y : PublisherFields) → get_or h.publishers i None ≡ Some y
       → (x.book ≡ y.book) × ReachesBut y.book h (record f { publishers = slice_set f.publishers i place; subscribers = subscribers; connections = new; books = with_value f.books x.book d })
       (publisher_closed (state_of (kept_of h)) y.id (publisher_of h.books h.connections y).port)) same its
@@ -148,5 +148,5 @@ module _ {T U : Type 0} (before f : Fields T U) (same : f ≡ before) (sound : I
             ap (λ (z : PublisherFields). z.book) one,
             subst (λ (z : PublisherFields). ReachesBut z.book f (record f { publishers = slice_set f.publishers i place; subscribers = subscribers; connections = new; books = with_value f.books x.book d })
                 (publisher_closed (state_of (kept_of f)) z.id (publisher_of f.books f.connections z).port)) one
-                (leaver-closed f sound_f i x here b at c is_c new follow unmarked long left d is_d given subscribers forgot place gone),
+                (leaver-closed f sound_f i x here b at c is_c new follow unmarked free long left d is_d given subscribers forgot place gone),
           )

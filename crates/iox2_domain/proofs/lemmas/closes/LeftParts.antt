@@ -325,8 +325,8 @@ module _ {T U : Type 0} (f : Fields T U) (sound : IsDomain f) (i : ℕ) (x : Pub
       option_map_or (λ (y : PublisherFields). times slot y.loans + times slot (y.history).items) o
       (option_map_or (λ c. cond (is_loan_in c slot) 1 0) book 0)
 
-  pub counted : IsCounted after
-  counted = record { at = λ q slot. elim (cases_eq q x.id) [ inl same ↦ rw same (its slot) | inr away ↦ of_others q slot away ] } where
+  pub counted : x.blocked ≡ None → IsCounted after
+  counted free = record { at = λ q slot. elim (cases_eq q x.id) [ inl same ↦ rw same (its slot) | inr away ↦ of_others q slot away ] } where
     its : (slot : ℕ) → holders_of after.books x.id slot ≡ own_holders after x.id slot + sum_by (stands x.id slot) new.slots
     its slot =
         let now : holders_of after.books x.id slot ≡ holders_at counted_book slot =
@@ -336,7 +336,7 @@ module _ {T U : Type 0} (f : Fields T U) (sound : IsDomain f) (i : ℕ) (x : Pub
         (book-here between x.book b counted_book at keeps_slots) (eq-eqb b.publisher x.id (book-own f sound.parts i x here b at)) in
         let mine : own_holders after x.id slot ≡ cond (is_loan_in counted_book slot) 1 0 =
         ap (λ o. own slot o (look_up (is_book_of x.id) after.books.slots)) publisher-gone ∙ ap (own slot None) book in
-        omega (arith, now, mine, left-counters f sound i x here b at new left holders slots slot, left-loans f sound i x here b at new left holders slots slot)
+        omega (arith, now, mine, left-counters f sound i x here b at new left holders slots slot, left-loans f sound i x here b at new left holders slots free slot)
 
     look_up-others : (q : ℕ) → q ≢ x.id → look_up (is_publisher q) after.publishers ≡ look_up (is_publisher q) f.publishers
     look_up-others q away = look_up-removed (is_publisher q) f.publishers after.publishers i x (sound.parts.publisher_ids q) (publishers-apart q) here (set-none f.publishers i)
@@ -439,8 +439,8 @@ module _ {T U : Type 0} (f : Fields T U) (sound : IsDomain f) (i : ℕ) (x : Pub
   -- ---- the whole
 
   -- the fields agree, where what they keep does
-  pub left-sound : IsUnmarkedSender f.connections i → IsWellFormed (state_of (kept_of after)) → KeepsEntries (kept_of after) → IsDomainBut x.book after
-  left-sound unmarked well entries = record {
+  pub left-sound : IsUnmarkedSender f.connections i → x.blocked ≡ None → IsWellFormed (state_of (kept_of after)) → KeepsEntries (kept_of after) → IsDomainBut x.book after
+  left-sound unmarked free well entries = record {
     parts = record {
       publisher_ids = publishers-apart;
       subscriber_ids = subscribers-apart;
@@ -449,7 +449,7 @@ module _ {T U : Type 0} (f : Fields T U) (sound : IsDomain f) (i : ℕ) (x : Pub
       expired_room = room;
       books = left-books;
       names = names;
-      counted = counted;
+      counted = counted free;
       numbered = numbered;
       publisher_room = λ k y at_y. sound.parts.publisher_room k y (publisher-was k y at_y).1;
       warning_room = sound.parts.warning_room;

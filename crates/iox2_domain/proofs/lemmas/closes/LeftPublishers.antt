@@ -22,7 +22,6 @@ use Rattle.iox2_domain.specs.Invariant.{is_publisher, IsDomain}
 use Rattle.iox2_domain.proofs.lemmas.containers.ChangedRecords.{ends-agree}
 use Rattle.iox2_domain.proofs.lemmas.containers.LookUps.{look_up-map, look_up-removed, IsOnly-removed}
 use Rattle.iox2_domain.proofs.lemmas.fields.Standing.{some_is, one-publisher}
-use Rattle.iox2_domain.proofs.lemmas.fields.Views.{nothing-blocked}
 use Rattle.iox2_domain.specs.Closes.{LeavesConnections}
 use Rattle.iox2_domain.proofs.lemmas.closes.LeftConnections.{left-others}
 use Rattle.iox2_domain.proofs.lemmas.closes.LeftKeys.{set-none}
@@ -75,7 +74,7 @@ module _ {T U : Type 0} (f : Fields T U) (sound : IsDomain f) (i : ℕ) (x : Pub
         ap (option_map (λ (c : Link). c.home.subscriber)) (left-others x.id f.subscribers f.connections new left key own.0 own.1 (λ same. away (sym own.2.publisher ∙ same)) ∙ sym own.1))
 
     blocked : option_map (blocked_send (numbers_of f.books y.id) (sender_ends new y.keys)) y.blocked ≡ option_map (blocked_send (numbers_of f.books y.id) (sender_ends f.connections y.keys)) y.blocked
-    blocked = nothing-blocked (blocked_send (numbers_of f.books y.id) (sender_ends new y.keys)) (blocked_send (numbers_of f.books y.id) (sender_ends f.connections y.keys)) y.blocked (sound.parts.plain k y at_y).unblocked
+    blocked = ap (λ (os : List (Option ℕ)). option_map (blocked_send (numbers_of f.books y.id) os) y.blocked) ends
 
   abbrev port : Option (Named Publisher) → Option Publisher
   port o = option_map (λ (z : Named Publisher). z.port) o

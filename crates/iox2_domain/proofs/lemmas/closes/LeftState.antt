@@ -40,7 +40,7 @@ use mathlib.Core.Path.{fun_ext}
 
 module _ {T U : Type 0} (f : Fields T U) (sound : IsDomain f) (i : ℕ) (x : PublisherFields) (here : get_or f.publishers i None ≡ Some x)
     (b : Book) (at : get f.books x.book ≡ Some b) (new : Slab Link) (left : LeavesConnections x.id f.subscribers f.connections new) (holders : List ℕ)
-    (slots : LeavesSlots x b.holders f.connections.slots holders new.slots) where
+    (slots : LeavesSlots x b.holders f.connections.slots holders new.slots) (free : x.blocked ≡ None) where
   abbrev g : Fields T U
   g = after f sound i x here b at new left holders slots
 
@@ -143,7 +143,7 @@ module _ {T U : Type 0} (f : Fields T U) (sound : IsDomain f) (i : ℕ) (x : Pub
   left-keeps q n held =
       let was = sound.entries q n (held-closed q n (subst (λ (s : State T U). IsHeldMessage s q n) left-is held)) in
       let there = entry-there f n was.0 was.1 in
-      let has = held-message-slot g (counted f sound i x here b at new left holders slots) (publishers-apart f sound i x here b at new left holders slots)
+      let has = held-message-slot g (counted f sound i x here b at new left holders slots free) (publishers-apart f sound i x here b at new left holders slots)
       (plain f sound i x here b at new left holders slots) q n held in
       let same = sound.parts.numbered.one has.0 there.0 has.1 there.1 n (number-back f sound i x here b at new left holders slots has.0 has.1 n has.2)
       (has_number f.contents f.books there.0 there.1 n (Sent_message n was.0) there.2 (eq-eqb n n refl)) in
@@ -160,7 +160,7 @@ module _ {T U : Type 0} (f : Fields T U) (sound : IsDomain f) (i : ℕ) (x : Pub
   -- the publisher is closed, but that nobody may hold a slot of its book
   pub left-reaches : IsUnmarkedSender f.connections i → ReachesBut x.book f g (publisher_closed before x.id (leaver f sound i x here))
   left-reaches unmarked = record {
-    agrees = left-sound f sound i x here b at new left holders slots unmarked
+    agrees = left-sound f sound i x here b at new left holders slots unmarked free
         (subst IsWellFormed (sym left-is) (publisher_closed_keeps before sound.well_formed x.id (leaver f sound i x here) (publisher-stands f sound.parts i x here))) left-keeps;
     state = left-is;
     entries = left-entries;

@@ -30,8 +30,8 @@ use Rattle.iox2_domain.proofs.lemmas.sends.LoanAlone.{loan-once}
 module _ {T U : Type 0} (f : Fields T U) (sound : IsDomain f) (i : ℕ) (x : PublisherFields) (here : get_or f.publishers i None ≡ Some x)
     (b : Book) (at : get f.books x.book ≡ Some b) where
   -- a slot that stands among the loans is marked as one
-  pub loan-marked : (slot : ℕ) → 0 < times slot x.loans → option_map_or is_lent (slice_get b.marks slot) false ≡ true
-  loan-marked slot some = by ((sound.well_formed.publishers x.id _ standing).loans_held n out) where
+  pub loan-marked : x.blocked ≡ None → (slot : ℕ) → 0 < times slot x.loans → option_map_or is_lent (slice_get b.marks slot) false ≡ true
+  loan-marked free slot some = by ((sound.well_formed.publishers x.id _ standing).loans_held n out) where
     n : ℕ
     n = numbers_of f.books x.id slot
 
@@ -54,7 +54,7 @@ module _ {T U : Type 0} (f : Fields T U) (sound : IsDomain f) (i : ℕ) (x : Pub
         sym (ap (λ (k : ℕ). lies_at f k slot) same.0) ∙ sym (ap (lies_at f there.0) same.1) ∙ there.2 in
         (loan-lent b (contents_at f.contents x.book) slot n held.0
         (message_in-parts b (contents_at f.contents x.book) slot (Lent_message n held.0) (sym (message_at-slot f.contents f.books x.book slot b at) ∙ lies))).0.lent
-    by (inr is) = absurd (let no : None ≡ Some is.0 = sym (unblocked f.books f.connections x (sound.parts.plain i x here)) ∙ is.1 in cc)
+    by (inr is) = absurd (let no : None ≡ Some is.0 = sym (unblocked f.books f.connections x free) ∙ is.1 in cc)
 
   -- a slot in use that is marked as a loan stands among the loans, once
   pub marked-loan : (slot : ℕ) → 0 < holders_at b slot → option_map_or is_lent (slice_get b.marks slot) false ≡ true → times slot x.loans ≡ 1
@@ -78,14 +78,14 @@ module _ {T U : Type 0} (f : Fields T U) (sound : IsDomain f) (i : ℕ) (x : Pub
     left-fewer slot = omega (arith, slots.at slot, left-sum_own x.id f.subscribers f.connections new left slot)
 
     -- a slot is a loan where the book says so, and nowhere else
-    pub left-loans : (slot : ℕ) → times slot x.loans ≡ cond (is_loan_in (with_counters b holders) slot) 1 0
-    left-loans slot = by (is_loan_in (with_counters b holders) slot) refl where
+    pub left-loans : x.blocked ≡ None → (slot : ℕ) → times slot x.loans ≡ cond (is_loan_in (with_counters b holders) slot) 1 0
+    left-loans free slot = by (is_loan_in (with_counters b holders) slot) refl where
       none : (n : ℕ) → times slot x.loans ≡ n → is_loan_in (with_counters b holders) slot ≡ false → times slot x.loans ≡ 0
       none zero e fails = e
       none (suc n) e fails =
           let some : 0 < times slot x.loans = omega (arith, e) in
           let in_use : 0 < holders_at (with_counters b holders) slot = omega (arith, some, left-counters slot) in
-          let yes : is_loan_in (with_counters b holders) slot ≡ true = and_from _ _ (lt-ltb 0 (holders_at (with_counters b holders) slot) in_use) (loan-marked slot some) in
+          let yes : is_loan_in (with_counters b holders) slot ≡ true = and_from _ _ (lt-ltb 0 (holders_at (with_counters b holders) slot) in_use) (loan-marked free slot some) in
           absurd (let clash : true ≡ false = sym yes ∙ fails in cc)
 
       by : (t : Bool) → is_loan_in (with_counters b holders) slot ≡ t → times slot x.loans ≡ cond t 1 0

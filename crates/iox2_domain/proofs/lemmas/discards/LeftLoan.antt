@@ -238,6 +238,7 @@ module _ {T U : Type 0} (f : Fields T U) (sound : IsDomain f) (p n key slot : �
     loans = ap (λ (s : State T U). s.loans) ((left-reaches new l).state ∙ discarded-is);
     entries = λ m entry e. inr ((left-reaches new l).entries m entry e);
     lost = λ error is. (left-reaches new l).entries;
+    unfailed = λ is. absurd cc;
   } where
     match-none : {X : Type 0} (o : Option X) (P : Type 0) (Q : X → Type 0) → o ≡ None → P → MatchOption o P Q
     match-none None P Q e h = h

@@ -25,7 +25,7 @@ use Rattle.iox2_domain.specs.Ports.{PublisherFields}
 use Rattle.iox2_domain.specs.Kept.{Lent_message, state_of, entry_in}
 use Rattle.iox2_ends.specs.Mailboxes.{sender_ends}
 use Rattle.iox2_domain.specs.Fields.{Fields, kept_of, publisher_of, numbers_of, blocked_send, is_book_of}
-use Rattle.iox2_domain.specs.Invariant.{IsDomain, IsOwned, KeepsBooks, IsCounted, HasNumber, is_publisher, own_holders, holders_of, is_loan_in, HasParts}
+use Rattle.iox2_domain.specs.Invariant.{IsDomain, IsOwned, KeepsBooks, IsCounted, HasNumber, is_publisher, own_holders, holders_of, is_loan_in, HasParts, LendsBlocked}
 use Rattle.iox2_domain.specs.Reaches.{Reaches}
 use Rattle.iox2_domain.specs.Shows.{KeepsEntries}
 use Rattle.iox2_domain.proofs.lemmas.fields.ConnectionEnds.{publisher-stands}
@@ -34,7 +34,7 @@ use Rattle.iox2_domain.proofs.lemmas.fields.NamedBooks.{names-books}
 use Rattle.iox2_domain.proofs.lemmas.fields.Parts.{whole_of}
 use Rattle.iox2_domain.proofs.lemmas.fields.Views.{KeepsHeld, held-before}
 use Rattle.iox2_domain.proofs.lemmas.loans.PublisherChanges.{KeepsSettings, changed-ids_apart, changed-is, changed-linked_same, changed-books, changed-room, changed-plain, changed-kept_books, changed-own}
-use Rattle.iox2_domain.proofs.lemmas.sends.LoanAlone.{loan-number, loan-is, loan-of, loan-slot, loan-once}
+use Rattle.iox2_domain.proofs.lemmas.sends.LoanAlone.{loan-number, loan-is, loan-of, loan-slot, loan-once, blocked-other}
 use Rattle.iox2_domain.proofs.lemmas.sends.SentSlots.{times-without, map-without}
 use Rattle.iox2_domain.proofs.lemmas.slots.HolderGone.{keeps_slots, fewer-holders, given-aligned, left-numbered, unnumbered, others-same, left-entries, left-loans, left-shapes, left-lone}
 use Rattle.iox2_domain.proofs.lemmas.slots.BookChanges.{KeepsSlots, book-after, with_book, holders-here, other-book, numbers-same, book-state, books-changed, linked-book}
@@ -75,7 +75,6 @@ module _ {T U : Type 0} (f : Fields T U) (sound : IsDomain f) (i : ℕ) (x : Pub
     strategy = refl;
     backpressure_handler = refl;
     degradation_handler = refl;
-    blocked = refl;
     allocation = refl;
     initial_max_slice_len = refl;
     loan_room = omega arith;
@@ -186,9 +185,16 @@ module _ {T U : Type 0} (f : Fields T U) (sound : IsDomain f) (i : ℕ) (x : Pub
     warning_room = parts.warning_room;
     shapes = record { at = (left-shapes f parts x.book b at slot n l lies alone).at };
     forms = parts.forms;
-    plain = changed-plain f i x (with_loan_out slot x) here refl parts.plain keeps;
+    plain = changed-plain f i x (with_loan_out slot x) here refl parts.plain keeps lends;
     plain_subscribers = parts.plain_subscribers;
   }
+    where
+      -- the slot of a blocked delivery is another
+      lends : LendsBlocked x → LendsBlocked (with_loan_out slot x)
+      lends has d e =
+          let stays : times d.slot (without slot x.loans) + 0 ≡ times d.slot x.loans =
+          sym (ap (λ t. times d.slot (without slot x.loans) + cond t (times slot x.loans) 0) (ne_eqb d.slot slot (blocked-other f sound i x here slot n l lies d e))) ∙ times-without d.slot slot x.loans in
+          omega (arith, stays, has d e)
 
   -- ---- the whole
 

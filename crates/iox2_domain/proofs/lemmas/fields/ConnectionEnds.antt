@@ -1,9 +1,9 @@
 -- Ports that stand somewhere are in the state, and the ports at the ends of a domain's connections were made before.
-use Rattle.std.proofs.Common.{◌≡◌, ℕ, zero, suc, ◌<◌, List, [], ◌∷◌, get_or, refl, ap, subst, ◌∙◌, inl, inr, ◌⊎◌}
+use Rattle.std.proofs.Common.{◌≡◌, ℕ, zero, suc, ◌<◌, List, [], ◌∷◌, get_or, refl, ap, subst, ◌∙◌, inl, inr, ◌⊎◌, sym, false, is_some}
 use Rattle.std.proofs.lemmas.Bool.{eq-eqb}
 use Rattle.std.specs.declared.option.Option.{Option}
 use Rattle.std.specs.declared.option.Option.TheVariants.{None, Some}
-use Rattle.std.specs.Option.{option_map}
+use Rattle.std.specs.Option.{option_map, option_map_or}
 use Rattle.slab.specs.Slab.{Slab, get}
 use Rattle.iox2_store.specs.Link.{Link}
 use Rattle.iox2_store.specs.machine.Places.{occupant}
@@ -12,9 +12,11 @@ use Rattle.iox2_ends.specs.Mailboxes.{subscriber_of_key, sender_ends}
 use Rattle.iox2_ends.proofs.LookUps.{look_up-found}
 use Rattle.iox2_domain.specs.Ports.{PublisherFields, SubscriberFields}
 use Rattle.iox2_domain.specs.Kept.{Named, state_of, is_named}
-use Rattle.iox2_domain.specs.Fields.{Fields, kept_of, publisher_of, subscriber_of}
+use Rattle.iox2_domain.specs.Fields.{Fields, kept_of, publisher_of, subscriber_of, numbers_of, blocked_send}
 use Rattle.iox2_domain.specs.Invariant.{IsDomain, HasParts, SenderHas, ReceiverHas, is_publisher, is_subscriber}
 use Rattle.iox2_domain.proofs.lemmas.containers.LookUps.{look_up-map}
+use Rattle.iox2_store.specs.machine.State.{is_blocked}
+use Rattle.iox2_domain.specs.declared.publisher_state.BlockedDelivery.{BlockedDelivery}
 
 -- what a publisher's end leads to, by its key
 pub occupant-sender_ends : (connections : Slab Link) (keys : List (Option ℕ)) (i : ℕ) → occupant (sender_ends connections keys) i ≡ subscriber_of_key connections (get_or keys i None)
@@ -31,6 +33,15 @@ module _ {T U : Type 0} (f : Fields T U) (parts : HasParts f) where
       ap (option_map (λ (z : Named Publisher). z.port))
       (look_up-map (is_named x.id) (publisher_of f.books f.connections) f.publishers
       ∙ ap (option_map (publisher_of f.books f.connections)) (look_up-found (is_publisher x.id) f.publishers i x (parts.publisher_ids x.id) at (eq-eqb x.id x.id refl)))
+
+  -- no delivery of a publisher is blocked that isn't so in the state
+  pub free-of : (p i : ℕ) (x : PublisherFields) → get_or f.publishers i None ≡ Some x → x.id ≡ p → is_blocked (state_of (kept_of f)) p ≡ false → x.blocked ≡ None
+  free-of p i x at is nothing = by x.blocked
+      (sym (ap (λ o. option_map_or (λ (v : Publisher). is_some v.blocked) o false) (ap (state_of (kept_of f)).publishers (sym is) ∙ publisher-stands i x at)) ∙ nothing)
+    where
+      by : (o : Option BlockedDelivery) → is_some (option_map (blocked_send (numbers_of f.books x.id) (sender_ends f.connections x.keys)) o) ≡ false → o ≡ None
+      by None e = refl
+      by (Some b) e = absurd cc
 
   -- a subscriber that stands somewhere is in the state
   pub subscriber-stands : (i : ℕ) (y : SubscriberFields) → get_or f.subscribers i None ≡ Some y

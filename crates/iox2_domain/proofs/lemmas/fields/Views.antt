@@ -15,11 +15,11 @@ use Rattle.iox2_store.specs.machine.WellFormed.{IsWellFormed}
 use Rattle.iox2_ends.specs.LookUp.{look_up}
 use Rattle.iox2_ends.specs.Mailboxes.{is_between, mailboxes_of, mailbox_if_any, sender_ends}
 use Rattle.iox2_ends.proofs.LookUps.{look_up-there}
-use Rattle.iox2_domain.specs.Ports.{BlockedDelivery, PublisherFields}
+use Rattle.iox2_domain.specs.Ports.{PublisherFields}
+use Rattle.iox2_domain.specs.declared.publisher_state.BlockedDelivery.{BlockedDelivery}
 use Rattle.iox2_domain.specs.Kept.{Kept, state_of, entries_of, stands_between, box_if_any}
 use Rattle.iox2_domain.specs.Fields.{Fields, kept_of, numbers_of, between_of, blocked_send, publisher_of}
 use Rattle.iox2_store.specs.Stored.{IsHeldMessage, In_history, In_mailbox, In_blocked_send}
-use Rattle.iox2_domain.specs.Invariant.{IsPlain}
 use Rattle.iox2_domain.specs.Shows.{Shows, KeepsEntries}
 use Rattle.iox2_domain.proofs.lemmas.containers.LookUps.{look_up-map}
 
@@ -46,9 +46,9 @@ module _ {T U : Type 0} (f : Fields T U) where
 pub nothing-blocked : (g h : BlockedDelivery → BlockedSend) (o : Option BlockedDelivery) → o ≡ None → option_map g o ≡ option_map h o
 nothing-blocked g h o none = ap (option_map g) none ∙ sym (ap (option_map h) none)
 
--- the machine's publisher isn't blocked
-pub unblocked : (books : Slab Book) (connections : Slab Link) (x : PublisherFields) → IsPlain x → ((publisher_of books connections x).port).blocked ≡ None
-unblocked books connections x plain = ap (option_map (blocked_send (numbers_of books x.id) (sender_ends connections x.keys))) plain.unblocked
+-- the machine's publisher isn't blocked where no delivery is
+pub unblocked : (books : Slab Book) (connections : Slab Link) (x : PublisherFields) → x.blocked ≡ None → ((publisher_of books connections x).port).blocked ≡ None
+unblocked books connections x free = ap (option_map (blocked_send (numbers_of books x.id) (sender_ends connections x.keys))) free
 
 -- a publisher keeps its history and its blocked send
 pub record KeepsHeld (x y : Publisher) : Type 0 where

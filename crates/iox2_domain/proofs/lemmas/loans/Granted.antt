@@ -23,10 +23,9 @@ use Rattle.iox2_domain.specs.Ports.{PublisherFields}
 use Rattle.iox2_domain.specs.Kept.{state_of}
 use Rattle.iox2_domain.specs.Fields.{Fields, kept_of, publisher_of, numbers_of, is_book_of}
 use Rattle.iox2_domain.specs.Invariant.{IsDomain, holders_of}
-use Rattle.iox2_domain.proofs.lemmas.fields.Views.{nothing-blocked}
 use Rattle.iox2_domain.proofs.lemmas.slots.SlotsInUse.{loan-in_use, history-in_use, holders-are}
 use Rattle.iox2_domain.proofs.lemmas.loans.PublisherChanges.{with_publisher, changed-is}
-use Rattle.iox2_domain.proofs.lemmas.slots.Renumbered.{map-numbers, with_books-is}
+use Rattle.iox2_domain.proofs.lemmas.slots.Renumbered.{map-numbers, blocked-same, with_books-is}
 use Rattle.iox2_domain.proofs.lemmas.loans.Taken.{CanTakeSlot, with_taken, taken_books, taken_book, begun_contents, lent, taken-keeps, taken-found, taken-loans, taken-number_here}
 use mathlib.Core.Path.{fun_ext}
 
@@ -144,7 +143,7 @@ module _ {T U : Type 0} (f : Fields T U) (sound : IsDomain f) (i : ℕ) (x : Pub
     history = map-numbers f sound books_after keeps x.id (x.history).items (λ k e. rw (holders-are f sound i x at k) (history-in_use f sound i x at k e))
 
     blocked : ((publisher_of books_after f.connections lender).port).blocked ≡ machine.blocked
-    blocked = nothing-blocked _ _ x.blocked (sound.parts.plain i x at).unblocked
+    blocked = blocked-same f sound books_after keeps i x at
 
   -- the state before the publisher has the loan
   pub taken-is : state_of (kept_of (with_taken f sound x slot can user_header len)) ≡ record state {

@@ -74,7 +74,6 @@ module _ {T U : Type 0} (f : Fields T U) (sound : IsDomain f) (i : ℕ) (x : Pub
     strategy = refl;
     backpressure_handler = refl;
     degradation_handler = refl;
-    blocked = refl;
     allocation = refl;
     initial_max_slice_len = refl;
     loan_room = le_refl x.loan_room;
@@ -278,7 +277,7 @@ module _ {T U : Type 0} (f : Fields T U) (sound : IsDomain f) (i : ℕ) (x : Pub
         warning_room = sound.parts.warning_room;
         shapes = granted-shapes;
         forms = forms-changed f.config f.contents x.book slot can.contents can.has (unwritten_content user_header (len * (f.config).units_per_element)) (λ c. refl) sound.parts.forms;
-        plain = changed-plain mid i x new_lender at refl sound.parts.plain keeps;
+        plain = changed-plain mid i x new_lender at refl sound.parts.plain keeps (λ has b e. omega (arith, has b e, times_push b.slot x.loans slot));
         plain_subscribers = sound.parts.plain_subscribers;
       };
       kept_books = changed-kept_books mid i x new_lender at refl (taken_books f sound x slot can user_header len) refl

@@ -1,5 +1,5 @@
 -- What is kept where a loan is changed in its slot.
-use Rattle.std.proofs.Common.{◌≡◌, ◌≢◌, ℕ, zero, suc, ◌+◌, ◌*◌, List, [], ◌∷◌, map, Bool, false, get_or, slice_set, refl, ap, sym, subst, ◌∙◌, arith}
+use Rattle.std.proofs.Common.{◌≡◌, ℕ, zero, suc, ◌+◌, List, [], ◌∷◌, map, get_or, slice_set, refl, ap, sym, subst, ◌∙◌, arith}
 use Rattle.std.proofs.lemmas.List.{set-get_or}
 use Rattle.std.proofs.lemmas.Option.{get_or_from_slice_get}
 use Rattle.std.specs.Prelude.{slice_get}
@@ -8,13 +8,13 @@ use Rattle.std.specs.declared.option.Option.TheVariants.{None, Some}
 use Rattle.std.specs.Option.{option_map}
 use Rattle.slab.specs.Slab.{Slab, get, with_value}
 use Rattle.iox2_store.specs.machine.Records.{Loan}
-use Rattle.iox2_store.specs.machine.State.{State, with_loan}
+use Rattle.iox2_store.specs.machine.State.{with_loan}
 use Rattle.iox2_store.specs.SlotBook.{Book}
 use Rattle.iox2_store.specs.SlotContents.{ContentState, with_changed}
 use Rattle.iox2_store.specs.declared.slots.mark.SlotMark.{SlotMark}
 use Rattle.iox2_store.proofs.SlotReads.{set_same}
-use Rattle.iox2_domain.specs.Kept.{Kept, KeptBook, KeptMessage, Lent_message, state_of, loan_changed, with_loan_changed}
-use Rattle.iox2_domain.specs.Fields.{Fields, kept_of, map_from, message_in, messages_in, contents_at, kept_book}
+use Rattle.iox2_domain.specs.Kept.{KeptBook, KeptMessage, state_of, loan_changed, with_loan_changed}
+use Rattle.iox2_domain.specs.Fields.{Fields, kept_of, map_from, message_in, contents_at, kept_book}
 use Rattle.iox2_domain.specs.Invariant.{IsDomain}
 use Rattle.iox2_domain.specs.LoanCalls.{with_content}
 use Rattle.iox2_domain.specs.LoanSlots.{LiesInSlot}

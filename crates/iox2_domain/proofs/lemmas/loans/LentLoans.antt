@@ -1,5 +1,5 @@
 -- What a domain's fields come to where a reference into a loan is handed out, whatever is left behind it.
-use Rattle.std.proofs.Common.{◌≡◌, ℕ, ◌≤◌, ◌+◌, ◌-◌, zero, suc, List, [], ◌∷◌, ◌++◌, map, length, take, drop, true, false, get_or, slice_set, refl, ap, sym, subst, ◌∙◌, arith}
+use Rattle.std.proofs.Common.{◌≡◌, ℕ, zero, suc, List, [], ◌∷◌, ◌++◌, map, length, take, drop, true, false, get_or, slice_set, refl, ap, sym, ◌∙◌}
 use Rattle.std.proofs.lemmas.List.{length-set, length-map}
 use Rattle.std.specs.List.{refill, length_refill}
 use Rattle.std.specs.Prelude.{slice_get}

@@ -3,14 +3,14 @@ use Rattle.std.proofs.Common.{◌≡◌, ℕ, ◌<◌, Bool, is_some, List, [], 
 use Rattle.std.proofs.lemmas.List.{get_or_default, length-map, set-get_or}
 use Rattle.std.proofs.lemmas.Option.{slice_get_within, get_or_from_slice_get}
 use Rattle.std.specs.Prelude.{slice_get, IsSomeAnd}
-use Rattle.std.specs.List.{All, list_all}
+use Rattle.std.specs.List.{list_all}
 use Rattle.std.specs.Bool.{MatchBool}
 use Rattle.std.specs.declared.option.Option.{Option}
 use Rattle.std.specs.declared.option.Option.TheVariants.{None, Some}
 use Rattle.std.specs.Option.{option_map, option_and_then}
 use Rattle.slab.specs.Slab.{get, with_value}
 use Rattle.iox2_store.specs.machine.Records.{Loan}
-use Rattle.iox2_store.specs.machine.State.{State, with_loan}
+use Rattle.iox2_store.specs.machine.State.{with_loan}
 use Rattle.iox2_store.specs.SingleValues.{is_single_valued}
 use Rattle.iox2_store.specs.machine.Loans.{is_initialized}
 use Rattle.iox2_store.specs.SlotBook.{Book}

@@ -1,23 +1,22 @@
 -- The ways in which a loan that is out is changed: its cells are written, changed, or taken as written, and its user header
 -- is changed.
-use Rattle.std.proofs.Common.{◌≡◌, ℕ, List, [], ◌∷◌, map, length, Bool, true, false, is_some, refl, ap, sym, subst, ◌∙◌}
+use Rattle.std.proofs.Common.{◌≡◌, ℕ, List, [], ◌∷◌, map, length, true, false, is_some, refl, ap, sym, ◌∙◌}
 use Rattle.std.proofs.lemmas.Bool.{true≢false}
 use Rattle.std.proofs.lemmas.List.{length-map}
 use Rattle.std.specs.List.{list_all}
 use Rattle.std.specs.Prelude.{slice_index}
 use Rattle.std.specs.declared.option.Option.{Option}
-use Rattle.std.specs.declared.option.Option.TheVariants.{None, Some}
+use Rattle.std.specs.declared.option.Option.TheVariants.{Some}
 use Rattle.iox2_store.specs.machine.Loans.{is_initialized}
 use Rattle.iox2_store.specs.machine.Records.{Loan}
 use Rattle.iox2_store.specs.SlotBook.{Book}
 use Rattle.iox2_store.specs.SlotContents.{ContentState, written_content, with_user_header}
-use Rattle.iox2_store.specs.declared.header.Header.{Header}
 use Rattle.iox2_store.specs.declared.slots.mark.SlotMark.{SlotMark}
 use Rattle.iox2_store.specs.declared.slots.mark.SlotMark.TheVariants.{Unwritten, Written, Sent}
-use Rattle.iox2_domain.specs.Kept.{KeptMessage, Lent_message}
+use Rattle.iox2_domain.specs.Kept.{Lent_message}
 use Rattle.iox2_domain.specs.Fields.{message_of}
 use Rattle.iox2_domain.proofs.lemmas.slots.Messages.{LiesIn}
-use Rattle.iox2_domain.proofs.lemmas.loans.ChangedLoan.{IsChangeOf, ChangesTo, unwritten-parts, written-parts}
+use Rattle.iox2_domain.proofs.lemmas.loans.ChangedLoan.{ChangesTo, unwritten-parts, written-parts}
 
 -- cells that are all written
 all-written : {A : Type 0} (values : List A) → list_all is_some (map Some values) ≡ true

@@ -19,7 +19,7 @@ use Rattle.iox2_ends.proofs.LookUps.{look_up-changed, look_up-found}
 use Rattle.iox2_domain.specs.Ports.{PublisherFields}
 use Rattle.iox2_domain.specs.Kept.{Named, state_of, port_named, ids, is_named}
 use Rattle.iox2_domain.specs.Fields.{Fields, kept_of, publisher_of, is_book_of, numbers_of}
-use Rattle.iox2_domain.specs.Invariant.{IsLinked, HasBook, HasBooks, KeepsBooks, HasPublisherRoom, IsPlain, SenderHas, ReceiverHas, is_publisher, own_holders, is_loan_in}
+use Rattle.iox2_domain.specs.Invariant.{IsLinked, HasBook, HasBooks, KeepsBooks, HasPublisherRoom, IsPlain, SenderHas, ReceiverHas, is_publisher, own_holders, is_loan_in, LendsBlocked}
 use Rattle.iox2_domain.specs.Shows.{KeepsEntries}
 use Rattle.iox2_domain.proofs.lemmas.containers.LookUps.{look_up-map}
 use Rattle.iox2_domain.proofs.lemmas.fields.KeptBooks.{StayWithBooks, StoodOrEnters, kept-publishers}
@@ -30,7 +30,7 @@ use mathlib.Core.Path.{fun_ext}
 abbrev pub with_publisher : {T U : Type 0} → Fields T U → (i : ℕ) → PublisherFields → Fields T U
 with_publisher f i x = record f { publishers = slice_set f.publishers i (Some x) }
 
--- the publisher keeps what it was made with and its blocked delivery, and has no less room
+-- the publisher keeps what it was made with, and has no less room
 pub record KeepsSettings (x y : PublisherFields) : Type 0 where
   pub id : y.id ≡ x.id
   pub book : y.book ≡ x.book
@@ -39,7 +39,6 @@ pub record KeepsSettings (x y : PublisherFields) : Type 0 where
   pub strategy : y.strategy ≡ x.strategy
   pub backpressure_handler : y.backpressure_handler ≡ x.backpressure_handler
   pub degradation_handler : y.degradation_handler ≡ x.degradation_handler
-  pub blocked : y.blocked ≡ x.blocked
   pub allocation : y.allocation ≡ x.allocation
   pub initial_max_slice_len : y.initial_max_slice_len ≡ x.initial_max_slice_len
   pub loan_room : x.loan_room ≤ y.loan_room
@@ -258,16 +257,15 @@ module _ {T U : Type 0} (f : Fields T U) (i : ℕ) (x y : PublisherFields) (at :
     }
 
   -- it is still plain
-  pub changed-plain : ((k : ℕ) (z : PublisherFields) → get_or f.publishers k None ≡ Some z → IsPlain z) → KeepsSettings x y
+  pub changed-plain : ((k : ℕ) (z : PublisherFields) → get_or f.publishers k None ≡ Some z → IsPlain z) → KeepsSettings x y → (LendsBlocked x → LendsBlocked y)
       → (k : ℕ) (z : PublisherFields) → get_or (slice_set f.publishers i (Some y)) k None ≡ Some z → IsPlain z
-  changed-plain plain keeps k z here = elim (changed-was k z here) [
+  changed-plain plain keeps lends k z here = elim (changed-was k z here) [
     | inl is ↦
         let has = plain i x at in
         rw is.1 (record {
-          strategy = keeps.strategy ∙ has.strategy;
           backpressure = keeps.backpressure_handler ∙ has.backpressure;
           degradation = keeps.degradation_handler ∙ has.degradation;
-          unblocked = keeps.blocked ∙ has.unblocked;
+          lent = lends has.lent;
           allocation = keeps.allocation ∙ has.allocation;
         })
     | inr away ↦ plain k z away.1

@@ -1,18 +1,19 @@
 -- A publisher that discards what a full receiver doesn't take delivers a message.
-use Rattle.std.proofs.Common.{◌≡◌, ℕ, ◌+◌, ◌||◌, Bool, true, false, List, [], ◌∷◌, ◌++◌, cond, arith, map, get_or, refl, ap, sym, subst, ◌∙◌, ◌<◌, ◌≤◌, length, slice_set, set-set}
+use Rattle.std.proofs.Common.{◌≡◌, ℕ, ◌+◌, ◌||◌, Bool, true, false, List, [], ◌∷◌, ◌++◌, cond, arith, map, get_or, refl, ap, sym, subst, ◌∙◌, ◌<◌, ◌≤◌, length, slice_set, set-set, drop}
 use Rattle.std.specs.declared.option.Option.{Option}
 use Rattle.std.specs.declared.option.Option.TheVariants.{None, Some}
 use Rattle.std.specs.declared.time.Duration.{Duration}
 use Rattle.std.specs.Option.{option_map}
 use Rattle.std.specs.Prelude.{slice_get, nat_lt}
 use Rattle.slab.specs.Slab.{Slab, get, with_value}
-use Rattle.iox2_store.specs.machine.Delivery.{PutResult, DeliveryEnd, Complete, Suspended, Put, PutAtEnd, Deliver, is_blocking, is_failed, accepted_count, no_time}
+use Rattle.iox2_store.specs.machine.Delivery.{PutResult, DeliveryEnd, Complete, Suspended, Put, PutAtEnd, Deliver, by_strategy, is_blocking, is_failed, accepted_count, no_time}
 use Rattle.iox2_store.specs.Link.{Link}
 use Rattle.iox2_store.specs.machine.Mailbox.{Mailbox, has_room}
-use Rattle.iox2_store.specs.machine.Records.{Environment, BlockedSend}
-use Rattle.iox2_store.specs.SlotBook.{Book, holders_at}
+use Rattle.iox2_store.specs.machine.Records.{Environment, BlockedSend, Handler}
+use Rattle.iox2_store.specs.SlotBook.{Book, holders_at, IsInUse}
+use Rattle.iox2_store.specs.declared.backpressure.BackpressureAction.{BackpressureAction}
 use Rattle.iox2_store.specs.declared.backpressure.BackpressureStrategy.{BackpressureStrategy}
-use Rattle.iox2_store.specs.declared.backpressure.BackpressureStrategy.TheVariants.{DiscardData}
+use Rattle.iox2_store.specs.declared.backpressure.BackpressureStrategy.TheVariants.{DiscardData, RetryUntilDelivered}
 use Rattle.iox2_store.specs.declared.service_config.ServiceConfig.{ServiceConfig}
 use Rattle.iox2_ends.specs.Counters.{GrowsAlone, with_counters, HoldsItself, times}
 use Rattle.iox2_ends.specs.Mailboxes.{mailboxes_of, sender_ends}
@@ -22,17 +23,22 @@ use Rattle.iox2_laws.proofs.Cases.{by_bool}
 use Rattle.iox2_domain.specs.Ports.{PublisherFields}
 use Rattle.iox2_domain.specs.Fields.{Fields}
 use Rattle.iox2_domain.specs.Invariant.{IsDomain, IsCounted, details_of, is_subscriber, holders_of, HasParts}
-use Rattle.iox2_domain.specs.Deliveries.{DeliversTo, CanSend, SendsSlot, with_loan_out, with_sent, with_left, pushed, leaving}
+use Rattle.iox2_domain.specs.Deliveries.{CanSend, SendsSlot, leaving, DeliversFrom, sender_after, book_after, with_delivered, with_history_holder}
 use Rattle.iox2_domain.proofs.lemmas.containers.LookUps.{IsOnly-map}
 use Rattle.iox2_domain.proofs.lemmas.slots.PublisherBooks.{sender-linked, book-own}
 use Rattle.iox2_domain.proofs.lemmas.slots.BookChanges.{holders-here}
 use Rattle.iox2_domain.proofs.lemmas.slots.HeldMessages.{own-in_use as held-itself}
 use Rattle.iox2_domain.proofs.lemmas.slots.RecountedLoans.{recounted_fields, parts-recounted}
-use Rattle.std.proofs.lemmas.List.{get_or-set_same}
+use Rattle.std.proofs.lemmas.List.{get_or-set_same, length-set}
 use Rattle.iox2_ends.proofs.MailboxChanges.{within_if_some}
-use Rattle.iox2_ends.proofs.Counts.{in_range, times-cons, one_if_same}
+use Rattle.iox2_ends.proofs.Counts.{in_range, times-cons, one_if_same, get_or-one_holder_more}
 use Rattle.iox2_ends.proofs.ReclaimedPuts.{own-in_use, own-still}
 use Rattle.iox2_domain.proofs.lemmas.fields.OpenReceivers.{open-seen}
+use Rattle.iox2_ends.specs.Deliveries.{begun, end_of}
+use Rattle.iox2_ends.specs.declared.sender.Progress.{Progress}
+use Rattle.iox2_ends.specs.declared.sender.DeliveryOutcome.{DeliveryOutcome}
+use Rattle.iox2_domain.specs.declared.publisher_state.BlockedDelivery.{BlockedDelivery}
+use Rattle.iox2_domain.specs.BlockedSends.{with_outcome, counters_after, GoesOn}
 
 module _ (e : Environment) (c : ServiceConfig) (p : ℕ) (buffers : ℕ → Option ℕ) (n : ℕ) where
   put-goes : (q retries : ℕ) (elapsed : Duration) (buffer : Option ℕ) (box : Mailbox) (result : PutResult) (box' : Mailbox)
@@ -56,7 +62,54 @@ module _ (e : Environment) (c : ServiceConfig) (p : ℕ) (buffers : ℕ → Opti
       (λ blocks _. absurd (let no : true ≡ false = sym blocks ∙ goes in cc))
       (λ _ k. delivery-completes 0 no_time (place + 1) rest (count + accepted_count h.0) (has_failed || is_failed h.0) h.1 how boxes' k)
 
--- such a delivery waits for nobody
+module _ (e : Environment) (c : ServiceConfig) (p : ℕ) (strategy : BackpressureStrategy) (buffers : ℕ → Option ℕ) (n : ℕ) where
+  strategy-passes : (s : BackpressureStrategy) → is_failed (by_strategy s) ≡ false
+  strategy-passes RetryUntilDelivered = refl
+  strategy-passes DiscardData = refl
+
+  put-passes : (q retries : ℕ) (elapsed : Duration) (buffer : Option ℕ) (box : Mailbox) (result : PutResult) (box' : Mailbox)
+      → Put e c p strategy None buffers n q retries elapsed buffer box result box' → is_failed result ≡ false
+  put-passes q retries elapsed None box result box' h = ap is_failed h.0
+  put-passes q retries elapsed (Some buffer) box result box' h =
+      by_bool (is_failed result ≡ false) (has_room buffer box || c.enable_safe_overflow) _ _ h (λ _ k. ap is_failed k.0) (λ _ k. ap is_failed k.0 ∙ strategy-passes strategy)
+
+  put_at_end-passes : (retries : ℕ) (elapsed : Duration) (end : Option ℕ) (boxes : ℕ → Mailbox) (result : PutResult) (boxes' : ℕ → Mailbox)
+      → PutAtEnd e c p strategy None buffers n retries elapsed end boxes result boxes' → is_failed result ≡ false
+  put_at_end-passes retries elapsed None boxes result boxes' h = ap is_failed h.0
+  put_at_end-passes retries elapsed (Some q) boxes result boxes' h = put-passes q retries elapsed (buffers q) (boxes q) result h.0 h.1
+
+  -- without a handler no receiver fails the delivery
+  pub delivery-passes : (retries : ℕ) (elapsed : Duration) (place : ℕ) (ends : List (Option ℕ)) (count : ℕ) (has_failed : Bool) (boxes : ℕ → Mailbox) (boxes' : ℕ → Mailbox)
+      → has_failed ≡ false → (took : ℕ) (failed : Bool) → Deliver e c p strategy None buffers n retries elapsed place ends count has_failed boxes (Complete took failed) boxes' → failed ≡ false
+  delivery-passes retries elapsed place [] count has_failed boxes boxes' none took failed h =
+      let same : Complete took failed ≡ Complete count has_failed = h.0 in
+      let is : failed ≡ has_failed = cc in
+      is ∙ none
+  delivery-passes retries elapsed place (end ∷ rest) count has_failed boxes boxes' none took failed h =
+      let passes : is_failed h.0 ≡ false = put_at_end-passes retries elapsed end boxes h.0 h.1 h.2 in
+      by_bool (failed ≡ false) (is_blocking h.0) _ _ h.3
+      (λ _ k. absurd (let no : Complete took failed ≡ Suspended _ = k.0 in cc))
+      (λ _ k. delivery-passes 0 no_time (place + 1) rest (count + accepted_count h.0) (has_failed || is_failed h.0) h.1 boxes' (λ t. none t || passes t) took failed k)
+
+-- a delivery of a publisher without a handler, which hadn't failed so far, doesn't fail
+pub never-fails : {T U : Type 0} (environment : Environment) (f : Fields T U) (x : PublisherFields) (slot : ℕ) (start : Progress) (elapsed : Duration) (outcome : DeliveryOutcome) (new : Fields T U)
+    → DeliversFrom environment f x slot start elapsed outcome new → x.backpressure_handler ≡ None → start.has_failed ≡ false
+    → (count : ℕ) (has_failed : Bool) → outcome ≡ DeliveryOutcome.Complete count has_failed → has_failed ≡ false
+never-fails environment f x slot start elapsed outcome new d none so_far count has_failed is =
+    delivery-passes environment f.config x.id x.strategy (buffers_of (map (option_map details_of) f.subscribers)) 0
+    start.retries elapsed start.place (drop start.place (sender_ends f.connections x.keys)) start.count start.has_failed (mailboxes_of number f.connections x.id) (mailboxes_of number d.connections x.id)
+    so_far count has_failed
+    (subst (λ (h : Option (Handler BackpressureAction)). Deliver environment f.config x.id x.strategy h (buffers_of (map (option_map details_of) f.subscribers)) 0
+    start.retries elapsed start.place (drop start.place (sender_ends f.connections x.keys)) start.count start.has_failed (mailboxes_of number f.connections x.id)
+    (Complete count has_failed) (mailboxes_of number d.connections x.id)) none
+    (subst (λ (o : DeliveryOutcome). Deliver environment f.config x.id x.strategy x.backpressure_handler (buffers_of (map (option_map details_of) f.subscribers)) 0
+    start.retries elapsed start.place (drop start.place (sender_ends f.connections x.keys)) start.count start.has_failed (mailboxes_of number f.connections x.id)
+    (end_of 0 (sender_ends f.connections x.keys) o) (mailboxes_of number d.connections x.id)) is (d.delivers number)))
+  where
+    number : ℕ → ℕ → ℕ
+    number p slot = 0
+
+-- a delivery of one that discards waits for nobody
 pub never-waits : (e : Environment) (c : ServiceConfig) (p : ℕ) (strategy : BackpressureStrategy) (buffers : ℕ → Option ℕ) (n : ℕ) (ends : List (Option ℕ)) (boxes : ℕ → Mailbox) (b : BlockedSend) (boxes' : ℕ → Mailbox)
     → strategy ≡ DiscardData → Deliver e c p strategy None buffers n 0 no_time 0 ends 0 false boxes (Suspended b) boxes' → ⊥
 never-waits e c p strategy buffers n ends boxes b boxes' discards h =
@@ -66,6 +119,24 @@ never-waits e c p strategy buffers n ends boxes b boxes' discards h =
   where
     differ : (took : ℕ) (failed : Bool) → Suspended b ≡ Complete took failed → ⊥
     differ took failed same = absurd cc
+
+-- a delivery leaves its publisher's history
+pub delivered-history : (o : DeliveryOutcome) (slot : ℕ) (x : PublisherFields) → (with_delivered o slot x).history ≡ x.history
+delivered-history (DeliveryOutcome.Complete count has_failed) slot x = refl
+delivered-history (DeliveryOutcome.Suspended progress) slot x = refl
+
+-- as many slots as before
+pub history-holder-long : (o : DeliveryOutcome) (slot : ℕ) (b : Book) → length (with_history_holder o slot b).holders ≡ length b.holders
+history-holder-long (DeliveryOutcome.Complete count has_failed) slot b = refl
+history-holder-long (DeliveryOutcome.Suspended progress) slot b = length-set b.holders slot _
+
+-- a slot in use is so with a holder more
+pub history-holder-used : (o : DeliveryOutcome) (slot : ℕ) (b : Book) → slot < length b.holders → (r : ℕ) → r < length b.holders → 0 < holders_at b r → IsInUse (with_history_holder o slot b) r
+history-holder-used (DeliveryOutcome.Complete count has_failed) slot b below r low some = record { in_bounds = low; in_use = some }
+history-holder-used (DeliveryOutcome.Suspended progress) slot b below r low some = record {
+  in_bounds = omega (arith, low, length-set b.holders slot (holders_at b slot + 1));
+  in_use = omega (arith, some, get_or-one_holder_more b.holders slot r below);
+}
 
 module _ {T U : Type 0} (f : Fields T U) (parts : HasParts f) (i : ℕ) (x : PublisherFields) (stands : get_or f.publishers i None ≡ Some x) where
   -- a publisher may deliver
@@ -80,56 +151,80 @@ module _ {T U : Type 0} (f : Fields T U) (parts : HasParts f) (i : ℕ) (x : Pub
 
 module _ {T U : Type 0} (environment : Environment) (before f : Fields T U) (same : f ≡ before) (i : ℕ) (y : PublisherFields) (stands : get_or f.publishers i None ≡ Some y) where
   -- the delivery of the publisher that stands at the place
-  pub delivers-to : (b book : Book) → get f.books y.book ≡ Some b → (new : Slab Link) → book ≡ with_counters b book.holders → Recounts y.id b.holders f.connections book.holders new
-      → (slot count : ℕ) → GrowsAlone slot b.holders book.holders
-      → ((number : ℕ → ℕ → ℕ)
+  module _ (b book : Book) (at : get f.books y.book ≡ Some b) (new : Slab Link) (is : book ≡ with_counters b book.holders) (r : Recounts y.id b.holders f.connections book.holders new)
+      (slot : ℕ) (start : Progress) (elapsed : Duration) (outcome : DeliveryOutcome) (alone : GrowsAlone slot b.holders book.holders)
+      (delivers : (number : ℕ → ℕ → ℕ)
       → Deliver environment f.config y.id y.strategy y.backpressure_handler (buffers_of (map (option_map details_of) f.subscribers)) (number y.id slot)
-      0 no_time 0 (sender_ends f.connections y.keys) 0 false (mailboxes_of number f.connections y.id) (Complete count false) (mailboxes_of number new y.id))
-      → (x : PublisherFields) → get_or before.publishers i None ≡ Some x
-      → DeliversTo environment before x slot count (record f { connections = new; books = with_value f.books y.book book })
-  delivers-to b book at new is r slot count alone delivers x there =
-      subst (λ (h : Fields T U). DeliversTo environment h x slot count (record f { connections = new; books = with_value f.books y.book book })) same
-      (subst (λ (z : PublisherFields). DeliversTo environment f z slot count (record f { connections = new; books = with_value f.books y.book book })) it (record {
-        book = b;
-        stands = at;
-        holders = book.holders;
-        connections = new;
-        delivered = ap (λ (c : Book). record f { connections = new; books = with_value f.books y.book c }) is;
-        recounts = r;
-        alone = alone;
-        delivers = delivers;
-      }))
-    where
-      it : y ≡ x
-      it = let both : Some y ≡ Some x = sym stands ∙ ap (λ (h : Fields T U). get_or h.publishers i None) same ∙ there in cc
+      start.retries elapsed start.place (drop start.place (sender_ends f.connections y.keys)) start.count start.has_failed (mailboxes_of number f.connections y.id)
+      (end_of (number y.id slot) (sender_ends f.connections y.keys) outcome) (mailboxes_of number new y.id)) where
+    abbrev delivered : Fields T U
+    delivered = record f { connections = new; books = with_value f.books y.book book }
 
-  -- and its end
-  pub sends-slot : (b book : Book) → get f.books y.book ≡ Some b → (new : Slab Link) → book ≡ with_counters b book.holders → Recounts y.id b.holders f.connections book.holders new
-      → (slot count : ℕ) → GrowsAlone slot b.holders book.holders
-      → ((number : ℕ → ℕ → ℕ)
+    delivers-to : DeliversFrom environment f y slot start elapsed outcome (record f { connections = new; books = with_value f.books y.book book })
+    delivers-to = record {
+      book = b;
+      stands = at;
+      holders = book.holders;
+      connections = new;
+      delivered = ap (λ (c : Book). record f { connections = new; books = with_value f.books y.book c }) is;
+      recounts = r;
+      alone = alone;
+      delivers = delivers;
+    }
+
+    book-there : get (delivered.books) y.book ≡ Some book
+    book-there = get_or-set_same f.books.slots y.book (Some book) None (within_if_some f.books.slots y.book b at)
+
+    twice : (c d : Book) → c ≡ d → with_value f.books y.book c ≡ with_value (with_value f.books y.book book) y.book d
+    twice c d e = ap (with_value f.books y.book) e
+        ∙ sym (ap (λ (books : List (Option Book)). let slab : Slab Book = record f.books { slots = books } in slab) (set-set f.books.slots y.book (Some book) (Some d)))
+
+    it : (x : PublisherFields) → get_or before.publishers i None ≡ Some x → y ≡ x
+    it x there = let both : Some y ≡ Some x = sym stands ∙ ap (λ (h : Fields T U). get_or h.publishers i None) same ∙ there in cc
+
+    -- a blocked one goes on, and its end
+    pub goes-slot : (w : BlockedDelivery) → w.slot ≡ slot → (out : PublisherFields) → out ≡ with_outcome outcome slot y → (left : Book) → left ≡ with_counters book (counters_after outcome slot book.holders)
+        → (x : PublisherFields) → get_or before.publishers i None ≡ Some x
+        → GoesOn environment before i x w start elapsed outcome (record f { publishers = slice_set f.publishers i (Some out); connections = new; books = with_value f.books y.book left })
+    goes-slot w slot-is out is_out left is_left x there =
+        subst (λ (h : Fields T U). GoesOn environment h i x w start elapsed outcome made) same
+        (subst (λ (z : PublisherFields). GoesOn environment f i z w start elapsed outcome made) (it x there) (record {
+          delivered = delivered;
+          delivers = subst (λ (k : ℕ). DeliversFrom environment f y k start elapsed outcome delivered) (sym slot-is) delivers-to;
+          book = book;
+          stands = book-there;
+          ended = (λ j. record f { publishers = slice_set f.publishers i (Some (is_out j)); connections = new; books = twice left (with_counters book (counters_after outcome slot book.holders)) is_left j })
+              ∙ ap (λ (k : ℕ). record delivered {
+                publishers = slice_set f.publishers i (Some (with_outcome outcome k y));
+                books = with_value delivered.books y.book (with_counters book (counters_after outcome k book.holders));
+              }) (sym slot-is);
+        }))
+      where
+        made : Fields T U
+        made = record f { publishers = slice_set f.publishers i (Some out); connections = new; books = with_value f.books y.book left }
+
+  -- a send and its end
+  module _ (b book : Book) (at : get f.books y.book ≡ Some b) (new : Slab Link) (is : book ≡ with_counters b book.holders) (r : Recounts y.id b.holders f.connections book.holders new)
+      (slot : ℕ) (outcome : DeliveryOutcome) (alone : GrowsAlone slot b.holders book.holders)
+      (delivers : (number : ℕ → ℕ → ℕ)
       → Deliver environment f.config y.id y.strategy y.backpressure_handler (buffers_of (map (option_map details_of) f.subscribers)) (number y.id slot)
-      0 no_time 0 (sender_ends f.connections y.keys) 0 false (mailboxes_of number f.connections y.id) (Complete count false) (mailboxes_of number new y.id))
-      → (out : PublisherFields) → out ≡ record (with_loan_out slot y) { history = pushed y.history slot } → (sent : Book) → sent ≡ with_left (leaving y.history slot) (with_sent slot book)
-      → (x : PublisherFields) → get_or before.publishers i None ≡ Some x
-      → SendsSlot environment before i x slot count (record f { publishers = slice_set f.publishers i (Some out); connections = new; books = with_value f.books y.book sent })
-  sends-slot b book at new is r slot count alone delivers out is_out sent is_sent x there =
-      subst (λ (z : PublisherFields). SendsSlot environment before i z slot count (record f { publishers = slice_set f.publishers i (Some out); connections = new; books = with_value f.books y.book sent })) it (record {
-        delivered = record f { connections = new; books = with_value f.books y.book book };
-        delivers = delivers-to b book at new is r slot count alone delivers y here;
-        book = book;
-        stands = get_or-set_same f.books.slots y.book (Some book) None (within_if_some f.books.slots y.book b at);
-        ended = λ j. record f { publishers = slice_set f.publishers i (Some (is_out j)); connections = new; books = twice j };
-      })
-    where
-      here : get_or before.publishers i None ≡ Some y
-      here = sym (ap (λ (h : Fields T U). get_or h.publishers i None) same) ∙ stands
-
-      it : y ≡ x
-      it = let both : Some y ≡ Some x = sym here ∙ there in cc
-
-      twice : with_value f.books y.book sent ≡ with_value (with_value f.books y.book book) y.book (with_left (leaving y.history slot) (with_sent slot book))
-      twice = ap (with_value f.books y.book) is_sent
-          ∙ sym (ap (λ (books : List (Option Book)). let slab : Slab Book = record f.books { slots = books } in slab) (set-set f.books.slots y.book (Some book) (Some (with_left (leaving y.history slot) (with_sent slot book)))))
+      0 no_time 0 (sender_ends f.connections y.keys) 0 false (mailboxes_of number f.connections y.id)
+      (end_of (number y.id slot) (sender_ends f.connections y.keys) outcome) (mailboxes_of number new y.id)) where
+    pub sends-slot : (out : PublisherFields) → out ≡ sender_after outcome slot y → (sent : Book) → sent ≡ book_after outcome slot y book
+        → (x : PublisherFields) → get_or before.publishers i None ≡ Some x
+        → SendsSlot environment before i x slot outcome (record f { publishers = slice_set f.publishers i (Some out); connections = new; books = with_value f.books y.book sent })
+    sends-slot out is_out sent is_sent x there =
+        subst (λ (h : Fields T U). SendsSlot environment h i x slot outcome made) same
+        (subst (λ (z : PublisherFields). SendsSlot environment f i z slot outcome made) (it b book at new is r slot begun no_time outcome alone delivers x there) (record {
+          delivered = record f { connections = new; books = with_value f.books y.book book };
+          delivers = delivers-to b book at new is r slot begun no_time outcome alone delivers;
+          book = book;
+          stands = book-there b book at new is r slot begun no_time outcome alone delivers;
+          ended = λ j. record f { publishers = slice_set f.publishers i (Some (is_out j)); connections = new; books = twice b book at new is r slot begun no_time outcome alone delivers sent (book_after outcome slot y book) is_sent j };
+        }))
+      where
+        made : Fields T U
+        made = record f { publishers = slice_set f.publishers i (Some out); connections = new; books = with_value f.books y.book sent }
 
 module _ {T U : Type 0} (before f : Fields T U) (same : f ≡ before) (i slot : ℕ) (can : (x : PublisherFields) × (get_or before.publishers i None ≡ Some x) × CanSend before x slot)
     (y : PublisherFields) (stands : get_or f.publishers i None ≡ Some y) where

@@ -57,7 +57,6 @@ module _ {T U : Type 0} (f : Fields T U) (parts : HasParts f) (i : ℕ) (x : Pub
     strategy = refl;
     backpressure_handler = refl;
     degradation_handler = refl;
-    blocked = refl;
     allocation = refl;
     initial_max_slice_len = refl;
     loan_room = omega arith;
@@ -249,7 +248,7 @@ module _ {T U : Type 0} (f : Fields T U) (parts : HasParts f) (i : ℕ) (x : Pub
     warning_room = parts.warning_room;
     shapes = shapes;
     forms = parts.forms;
-    plain = changed-plain f i x shorter here refl parts.plain settings;
+    plain = changed-plain f i x shorter here refl parts.plain settings (λ has b e. has b e);
     plain_subscribers = parts.plain_subscribers;
   }
     where

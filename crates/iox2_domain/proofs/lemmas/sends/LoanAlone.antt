@@ -1,8 +1,8 @@
 -- A loan's slot stands once among its publisher's loans, and has one holder.
-use Rattle.std.proofs.Common.{◌≡◌, ℕ, ◌+◌, ◌<◌, ◌≤◌, true, false, cond, eqb, List, [], ◌∷◌, map, get_or, refl, ap, sym, subst, ◌∙◌, inl, inr, arith}
+use Rattle.std.proofs.Common.{◌≡◌, ◌≢◌, ℕ, ◌+◌, ◌<◌, ◌≤◌, true, false, cond, eqb, List, [], ◌∷◌, map, get_or, refl, ap, sym, subst, ◌∙◌, inl, inr, arith}
 use Rattle.std.proofs.lemmas.Bool.{cases_eq, eq-eqb, or_parts}
 use Rattle.std.specs.declared.option.Option.TheVariants.{None, Some}
-use Rattle.std.specs.Option.{option_map_or}
+use Rattle.std.specs.Option.{option_map, option_map_or}
 use Rattle.slab.specs.Slab.{get}
 use Rattle.iox2_store.specs.SlotBook.{Book, holders_at}
 use Rattle.iox2_store.specs.machine.Numbers.{contains, IsOnce}
@@ -10,11 +10,13 @@ use Rattle.iox2_store.specs.machine.Records.{Loan}
 use Rattle.iox2_store.specs.machine.WellFormed.{LoanIsWellFormed}
 use Rattle.iox2_ends.specs.LookUp.{look_up}
 use Rattle.iox2_ends.specs.Counters.{times, HoldsItself}
+use Rattle.iox2_ends.specs.Mailboxes.{sender_ends}
 use Rattle.iox2_ends.proofs.LookUps.{look_up-found}
 use Rattle.iox2_ends.proofs.Counts.{one_if, times-cons, one_if_other}
 use Rattle.iox2_domain.specs.Ports.{PublisherFields}
+use Rattle.iox2_domain.specs.declared.publisher_state.BlockedDelivery.{BlockedDelivery}
 use Rattle.iox2_domain.specs.Kept.{Lent_message, state_of}
-use Rattle.iox2_domain.specs.Fields.{Fields, kept_of, publisher_of, numbers_of, is_book_of, contents_at}
+use Rattle.iox2_domain.specs.Fields.{Fields, kept_of, publisher_of, numbers_of, is_book_of, contents_at, blocked_send}
 use Rattle.iox2_domain.specs.Invariant.{IsDomain, is_publisher, own_holders, holders_of, is_loan_in}
 use Rattle.iox2_domain.proofs.lemmas.fields.ConnectionEnds.{publisher-stands}
 use Rattle.iox2_domain.proofs.lemmas.slots.Messages.{lies_at, message_in-parts, message_at-book, message_at-slot, has_number, loan-found}
@@ -82,6 +84,16 @@ module _ {T U : Type 0} (f : Fields T U) (sound : IsDomain f) (i : ℕ) (x : Pub
       let there = holders-there f x.id s (own-in_use f sound.parts.counted sound.parts.publisher_ids i s x here (omega (arith, some))) in
       (sound.parts.numbered.one there.0 x.book s slot n (record { book = there.1; stands = there.2; in_use = there.4; number = there.5 ∙ is })
       (has_number f.contents f.books x.book slot n (Lent_message n l) lies (eq-eqb n n refl))).1
+
+  -- it isn't the slot of a blocked delivery, whose message no user holds
+  pub blocked-other : (b : BlockedDelivery) → x.blocked ≡ Some b → b.slot ≢ slot
+  blocked-other b e same =
+      let stands = publisher-stands f sound.parts i x here in
+      let waits : ((publisher_of f.books f.connections x).port).blocked ≡ Some (blocked_send (numbers_of f.books x.id) (sender_ends f.connections x.keys) b) =
+      ap (option_map (blocked_send (numbers_of f.books x.id) (sender_ends f.connections x.keys))) e in
+      let unheld = ((sound.well_formed.publishers x.id _ stands).blocked _ waits).unheld in
+      let number : numbers_of f.books x.id b.slot ≡ n = ap (numbers_of f.books x.id) same ∙ loan-number in
+      absurd (let no : None ≡ Some l = sym unheld ∙ ap (state_of (kept_of f)).loans number ∙ loan-is in cc)
 
   -- it stands there once
   pub loan-once : times slot x.loans ≡ 1

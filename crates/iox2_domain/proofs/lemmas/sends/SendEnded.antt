@@ -32,7 +32,7 @@ use mathlib.Core.Path.{fun_ext}
 
 module _ {T U : Type 0} (f : Fields T U) (parts : HasParts f) (i : ℕ) (x : PublisherFields) (here : get_or f.publishers i None ≡ Some x)
     (b : Book) (at : get f.books x.book ≡ Some b) (mine : b.publisher ≡ x.id) (slot n : ℕ) (l : Loan T U) (in_use : IsInUse b slot)
-    (lies : lies_at f x.book slot ≡ Some (Lent_message n l)) (is_written : l.is_written ≡ true) (once : times slot x.loans ≡ 1) where
+    (lies : lies_at f x.book slot ≡ Some (Lent_message n l)) (is_written : l.is_written ≡ true) (once : times slot x.loans ≡ 1) (free : x.blocked ≡ None) where
   -- the fields afterwards
   abbrev pub ended : Fields T U
   ended = record f { publishers = slice_set f.publishers i (Some (with_remembered slot x)); books = with_value f.books x.book (with_sent slot b) }
@@ -50,7 +50,6 @@ module _ {T U : Type 0} (f : Fields T U) (parts : HasParts f) (i : ℕ) (x : Pub
     strategy = refl;
     backpressure_handler = refl;
     degradation_handler = refl;
-    blocked = refl;
     allocation = refl;
     initial_max_slice_len = refl;
     loan_room = omega arith;
@@ -301,7 +300,7 @@ module _ {T U : Type 0} (f : Fields T U) (parts : HasParts f) (i : ℕ) (x : Pub
     warning_room = parts.warning_room;
     shapes = ended-shapes;
     forms = parts.forms;
-    plain = changed-plain f i x (with_remembered slot x) here refl parts.plain keeps;
+    plain = changed-plain f i x (with_remembered slot x) here refl parts.plain keeps (λ has d e. absurd (let no : None ≡ Some d = sym free ∙ e in cc));
     plain_subscribers = parts.plain_subscribers;
   }
     where

@@ -1,5 +1,5 @@
 -- A loan is sent: update, delivery and the end of the send, one after the other.
-use Rattle.std.proofs.Common.{◌≡◌, ℕ, false, get_or, ap, sym, subst, ◌∙◌, inl, inr, arith}
+use Rattle.std.proofs.Common.{◌≡◌, ℕ, Bool, false, cond, refl, get_or, ap, sym, subst, ◌∙◌, inl, inr, arith}
 use Rattle.std.proofs.lemmas.Bool.{eq-eqb}
 use Rattle.std.proofs.lemmas.List.{get_or-set_same}
 use Rattle.std.specs.declared.option.Option.{Option}
@@ -8,14 +8,19 @@ use Rattle.slab.specs.Slab.{get}
 use Rattle.iox2_store.specs.machine.Numbers.{put_at}
 use Rattle.iox2_store.specs.machine.PublisherUpdate.{UpdatePublisher}
 use Rattle.iox2_store.specs.machine.Records.{Loan, Environment}
-use Rattle.iox2_store.specs.machine.Sends.{Publish, Delivered_to, Send_error}
+use Rattle.iox2_store.specs.machine.Sends.{Publish, Delivered_to, Blocked_send, Send_error}
+use Rattle.iox2_store.specs.machine.Delivery.{no_time}
+use Rattle.iox2_store.specs.declared.errors.SendError.{SendError}
+use Rattle.iox2_store.specs.declared.errors.SendError.TheVariants.{UnableToDeliver}
 use Rattle.iox2_store.specs.machine.SingleCalls.{HoldsLoan}
 use Rattle.iox2_store.specs.machine.State.{State}
 use Rattle.iox2_ends.specs.Counters.{times}
+use Rattle.iox2_ends.specs.Deliveries.{begun}
+use Rattle.iox2_ends.specs.declared.sender.DeliveryOutcome.{DeliveryOutcome}
 use Rattle.iox2_ends.proofs.MailboxChanges.{within_if_some}
 use Rattle.iox2_laws.proofs.PublisherUpdates.{update_publisher_leaves}
 use Rattle.iox2_domain.specs.Connects.{UpdatesPublisher}
-use Rattle.iox2_domain.specs.Deliveries.{CanSend, SendsSlot, Publishes}
+use Rattle.iox2_domain.specs.Deliveries.{CanSend, SendsSlot, Publishes, result_of_send}
 use Rattle.iox2_domain.specs.Fields.{Fields, kept_of, publisher_of}
 use Rattle.iox2_domain.specs.Invariant.{IsDomain}
 use Rattle.iox2_domain.specs.Kept.{Lent_message, state_of}
@@ -26,6 +31,7 @@ use Rattle.iox2_domain.specs.SentLoans.{SendsLoan, IsReadyToSend}
 use Rattle.iox2_domain.proofs.lemmas.fields.ConnectionEnds.{publisher-stands}
 use Rattle.iox2_domain.proofs.lemmas.sends.LoanAlone.{loan-once, loan-alone, loan-own}
 use Rattle.iox2_domain.proofs.lemmas.slots.Messages.{lies_at, message_at-slot}
+use Rattle.iox2_domain.proofs.lemmas.sends.DeliverySteps.{never-fails}
 use Rattle.iox2_domain.proofs.lemmas.sends.Published.{match-some, send-publishes}
 use Rattle.iox2_domain.proofs.lemmas.loans.LoanSlots.{book-its}
 use Rattle.iox2_domain.proofs.lemmas.updates.SenderUpdates.{idle-updates}
@@ -45,7 +51,7 @@ ready-in-book {T} {U} environment f sound p n place key slot x stands idle same 
     }
 
 module _ {T U : Type 0} (environment : Environment) (f0 : Fields T U) (sound : IsDomain f0) (p n place : ℕ) (holds : HoldsWritten (state_of (kept_of f0)) p n)
-    (found : (x : PublisherFields) × (get_or f0.publishers place None ≡ Some x) × (x.id ≡ p))
+    (found : (x : PublisherFields) × (get_or f0.publishers place None ≡ Some x) × (x.id ≡ p)) (free : (found.0).blocked ≡ None)
     (f1 : Fields T U) (u : UpdatesPublisher environment f0 place found.0 f1 None) where
   -- the publisher after its update
   abbrev sender : PublisherFields
@@ -97,8 +103,8 @@ module _ {T U : Type 0} (environment : Environment) (f0 : Fields T U) (sound : I
         }
 
     -- the whole send
-    pub sends-loan : (count : ℕ) (f2 : Fields T U) → ((x : PublisherFields) → get_or f1.publishers place None ≡ Some x → SendsSlot environment f1 place x slot count f2) → SendsLoan environment f0 f2 n (Delivered_to count)
-    sends-loan count f2 sends = record {
+    pub sends-loan : (outcome : DeliveryOutcome) (f2 : Fields T U) → ((x : PublisherFields) → get_or f1.publishers place None ≡ Some x → SendsSlot environment f1 place x slot outcome f2) → SendsLoan environment f0 f2 n (result_of_send outcome)
+    sends-loan outcome f2 sends = record {
       loan = holds.0;
       out = holds.1;
       agrees = published.agrees;
@@ -106,19 +112,27 @@ module _ {T U : Type 0} (environment : Environment) (f0 : Fields T U) (sound : I
         u.after,
         None,
         subst (λ (q : ℕ). UpdatePublisher environment (state_of (kept_of f0)) q u.after None) (found.2 ∙ sym holds.2) u.updates,
-        subst (λ (q : ℕ). Publish environment u.after q n (state_of (kept_of f2)) (Delivered_to count)) (found.2 ∙ sym holds.2)
-            (subst (λ (s : State T U). Publish environment s sender.id n (state_of (kept_of f2)) (Delivered_to count)) u.reaches.state published.publishes),
+        subst (λ (q : ℕ). Publish environment u.after q n (state_of (kept_of f2)) (result_of_send outcome)) (found.2 ∙ sym holds.2)
+            (subst (λ (s : State T U). Publish environment s sender.id n (state_of (kept_of f2)) (result_of_send outcome)) u.reaches.state published.publishes),
       );
       loans = published.loans ∙ ap (λ (loans : ℕ → Option (Loan T U)). put_at loans n None) loans-are;
       entries = λ m entry e. elim (published.entries m entry e) [
         | inl new ↦ inl new
         | inr old ↦ inr (u.reaches.entries m entry old)
       ];
-      lost = λ error failed. absurd (let no : Delivered_to count ≡ Send_error error = failed in cc);
+      lost = λ error failed. absurd (goes outcome refl error failed);
+      unfailed = λ failed. goes outcome refl UnableToDeliver failed;
     }
       where
-        d : SendsSlot environment f1 place sender slot count f2
+        d : SendsSlot environment f1 place sender slot outcome f2
         d = sends sender sender-stands
 
-        published : Publishes environment f1 f2 sender.id n holds.0 (Delivered_to count)
-        published = send-publishes environment f1 updated-agrees place sender sender-stands slot n holds.0 lies holds.3 count f2 d
+        -- a publisher without a handler has no receiver that fails the send
+        goes : (o : DeliveryOutcome) → outcome ≡ o → (error : SendError) → result_of_send o ≡ Send_error error → ⊥
+        goes (DeliveryOutcome.Suspended progress) is error failed = absurd (let no : Blocked_send ≡ Send_error error = failed in cc)
+        goes (DeliveryOutcome.Complete count has_failed) is error failed =
+            let none : has_failed ≡ false = never-fails environment f1 sender slot begun no_time outcome d.delivered d.delivers (updated-agrees.parts.plain place sender sender-stands).backpressure refl count has_failed is in
+            absurd (let no : Delivered_to count ≡ Send_error error = sym (ap (λ (t : Bool). cond t (Send_error UnableToDeliver) (Delivered_to count)) none) ∙ failed in cc)
+
+        published : Publishes environment f1 f2 sender.id n holds.0 (result_of_send outcome)
+        published = send-publishes environment f1 updated-agrees place sender sender-stands slot n holds.0 lies holds.3 free outcome f2 d

@@ -12,21 +12,22 @@ use Rattle.iox2_store.specs.Link.{Link}
 use Rattle.iox2_store.specs.SlotBook.{Book, holders_at}
 use Rattle.iox2_store.specs.machine.Numbers.{contains}
 use Rattle.iox2_store.specs.machine.Mailbox.{numbers_in}
-use Rattle.iox2_store.specs.machine.Records.{Publisher}
+use Rattle.iox2_store.specs.machine.Records.{Publisher, BlockedSend}
 use Rattle.iox2_store.specs.Stored.{IsHeldMessage, In_history, In_mailbox, In_blocked_send}
 use Rattle.iox2_ends.specs.LookUp.{look_up, IsOnly}
 use Rattle.iox2_ends.specs.Counters.{times, stands_in, stands}
-use Rattle.iox2_ends.specs.Mailboxes.{is_between, mailbox_if_any}
+use Rattle.iox2_ends.specs.Mailboxes.{is_between, mailbox_if_any, sender_ends}
 use Rattle.iox2_ends.proofs.LookUps.{look_up-there, look_up-found}
 use Rattle.iox2_ends.proofs.MailboxChanges.{within_if_some, both-true}
 use Rattle.iox2_ends.proofs.Counts.{times-cons, one_if_same, stands-own}
 use Rattle.iox2_laws.proofs.NumberLemmas.{contains_in_append, contains_in_cons}
 use Rattle.iox2_domain.specs.Ports.{PublisherFields}
+use Rattle.iox2_domain.specs.declared.publisher_state.BlockedDelivery.{BlockedDelivery}
 use Rattle.iox2_domain.specs.Kept.{Named, state_of, is_named}
-use Rattle.iox2_domain.specs.Fields.{Fields, kept_of, publisher_of, is_book_of, numbers_of}
+use Rattle.iox2_domain.specs.Fields.{Fields, kept_of, publisher_of, is_book_of, numbers_of, blocked_send}
 use Rattle.iox2_domain.specs.Invariant.{IsCounted, HasNumber, is_publisher, own_holders, holders_of, is_loan_in, IsPlain}
 use Rattle.iox2_domain.proofs.lemmas.containers.LookUps.{look_up-map}
-use Rattle.iox2_domain.proofs.lemmas.fields.Views.{mailboxes-are, unblocked}
+use Rattle.iox2_domain.proofs.lemmas.fields.Views.{mailboxes-are}
 
 -- a number of a list of slots belongs to one that stands there
 pub slot_numbered : (number : ℕ → ℕ) (n : ℕ) (slots : List ℕ) → contains (map number slots) n ≡ true → (slot : ℕ) × (0 < times slot slots) × (number slot ≡ n)
@@ -118,4 +119,16 @@ module _ {T U : Type 0} (f : Fields T U) where
     held-message-slot plain p n (In_blocked_send y b at blocked is) =
         let there = publisher-there p y at in
         let x = there.1 in
-        absurd (let no : None ≡ Some b = sym (unblocked f.books f.connections x (plain there.0 x there.2)) ∙ sym (ap (λ (z : Publisher). z.blocked) there.4) ∙ blocked in cc)
+        let waits = blocked-there x (sym (ap (λ (z : Publisher). z.blocked) there.4) ∙ blocked) in
+        let slot : ℕ = (waits.0).slot in
+        lies_with p slot n
+        (moved x.id p there.3 slot (own-in_use there.0 slot x there.2 (omega (arith, (plain there.0 x there.2).lent waits.0 waits.1))))
+        (ap (λ (q : ℕ). numbers_of f.books q slot) (sym there.3) ∙ ap (λ (c : BlockedSend). c.message) waits.2 ∙ is)
+      where
+        blocked-there : (x : PublisherFields) → ((publisher_of f.books f.connections x).port).blocked ≡ Some b
+            → (d : BlockedDelivery) × (x.blocked ≡ Some d) × (blocked_send (numbers_of f.books x.id) (sender_ends f.connections x.keys) d ≡ b)
+        blocked-there x e = by x.blocked refl e where
+          by : (o : Option BlockedDelivery) → x.blocked ≡ o → option_map (blocked_send (numbers_of f.books x.id) (sender_ends f.connections x.keys)) o ≡ Some b
+              → (d : BlockedDelivery) × (x.blocked ≡ Some d) × (blocked_send (numbers_of f.books x.id) (sender_ends f.connections x.keys) d ≡ b)
+          by None e h = absurd cc
+          by (Some d) e h = (d, e, cc)

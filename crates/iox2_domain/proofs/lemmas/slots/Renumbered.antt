@@ -9,12 +9,15 @@ use Rattle.iox2_store.specs.machine.Numbers.{contains}
 use Rattle.iox2_store.specs.SlotBook.{Book}
 use Rattle.iox2_store.specs.SlotContents.{ContentState}
 use Rattle.iox2_ends.specs.LookUp.{look_up}
+use Rattle.iox2_ends.specs.Counters.{times}
+use Rattle.iox2_ends.specs.Mailboxes.{sender_ends}
 use Rattle.iox2_laws.proofs.NumberLemmas.{contains_first, contains_later}
 use Rattle.iox2_domain.specs.Ports.{PublisherFields}
+use Rattle.iox2_domain.specs.declared.publisher_state.BlockedDelivery.{BlockedDelivery}
 use Rattle.iox2_domain.specs.Kept.{state_of, port_named, ids, box_if_any, stands_between}
-use Rattle.iox2_domain.specs.Fields.{Fields, kept_of, publisher_of, between_of, numbers_of}
+use Rattle.iox2_domain.specs.Fields.{Fields, kept_of, publisher_of, between_of, numbers_of, blocked_send}
 use Rattle.iox2_domain.specs.Invariant.{IsDomain, holders_of}
-use Rattle.iox2_domain.proofs.lemmas.fields.Views.{nothing-blocked}
+use Rattle.iox2_domain.proofs.lemmas.slots.HeldMessages.{own-in_use}
 use Rattle.iox2_domain.proofs.lemmas.slots.SlotsInUse.{connected-in_use, loan-in_use, history-in_use, holders-are}
 use Rattle.iox2_domain.proofs.lemmas.slots.NumbersInUse.{times-there}
 
@@ -32,6 +35,18 @@ module _ {T U : Type 0} (f : Fields T U) (sound : IsDomain f) (new : Slab Book)
   map-numbers p [] in_use = refl
   map-numbers p (x ∷ xs) in_use = λ t. keeps p x (in_use x (contains_first x xs)) t ∷ map-numbers p xs (λ slot e. in_use slot (contains_later x slot xs e)) t
 
+  -- a blocked delivery has its number, since its slot is a loan that is out
+  pub blocked-same : (i : ℕ) (x : PublisherFields) → get_or f.publishers i None ≡ Some x
+      → option_map (blocked_send (numbers_of new x.id) (sender_ends f.connections x.keys)) x.blocked ≡ option_map (blocked_send (numbers_of f.books x.id) (sender_ends f.connections x.keys)) x.blocked
+  blocked-same i x at = by x.blocked (sound.parts.plain i x at).lent where
+    by : (o : Option BlockedDelivery) → ((b : BlockedDelivery) → o ≡ Some b → 0 < times b.slot x.loans)
+        → option_map (blocked_send (numbers_of new x.id) (sender_ends f.connections x.keys)) o ≡ option_map (blocked_send (numbers_of f.books x.id) (sender_ends f.connections x.keys)) o
+    by None lent = refl
+    by (Some b) lent =
+        let some : 0 < times b.slot x.loans = lent b refl in
+        ap (λ (n : ℕ). Some (record (blocked_send (numbers_of f.books x.id) (sender_ends f.connections x.keys) b) { message = n }))
+        (keeps x.id b.slot (own-in_use f sound.parts.counted sound.parts.publisher_ids i b.slot x at (omega (arith, some))))
+
   -- a publisher has the loans, the history and the blocked delivery that it had
   publisher-same : (i : ℕ) (x : PublisherFields) → get_or f.publishers i None ≡ Some x → publisher_of new f.connections x ≡ publisher_of f.books f.connections x
   publisher-same i x at = λ t. record (publisher_of f.books f.connections x) {
@@ -45,7 +60,7 @@ module _ {T U : Type 0} (f : Fields T U) (sound : IsDomain f) (new : Slab Book)
       history = map-numbers x.id (x.history).items (λ slot e. rw (holders-are f sound i x at slot) (history-in_use f sound i x at slot e))
 
       blocked : ((publisher_of new f.connections x).port).blocked ≡ ((publisher_of f.books f.connections x).port).blocked
-      blocked = nothing-blocked _ _ x.blocked (sound.parts.plain i x at).unblocked
+      blocked = blocked-same i x at
 
   -- in a connection lies what lay there
   between-same : (key : ℕ) (c : Link) → get f.connections key ≡ Some c → between_of new f.connections c ≡ between_of f.books f.connections c

@@ -39,6 +39,9 @@ module _ {T U : Type 0} (before f : Fields T U) (same : f ≡ before) (agrees : 
   settled : x.is_due ≡ false
   settled = sym (ap (λ (z : PublisherFields). z.is_due) end-is) ∙ end.settled
 
+  free : x.blocked ≡ None
+  free = sym (ap (λ (z : PublisherFields). z.blocked) end-is) ∙ end.unblocked
+
   there : get f.connections key ≡ Some end.link
   there = ap (λ (h : Fields T U). get h.connections key) same ∙ end.connected
 
@@ -75,7 +78,7 @@ module _ {T U : Type 0} (before f : Fields T U) (same : f ≡ before) (agrees : 
         to-c = let both : Some drops.link ≡ Some c = sym drops.stood ∙ ap (λ (h : Fields T U). get h.connections key) same ∙ at_c in cc
 
         reached : Reaches f (dropped_fields f sound i x here b at key b1.holders new drops) (with_waiting_dropped f x drops.link)
-        reached = dropped-reaches f sound i x here b at key b1.holders new drops (dropped-well f sound i j x here settled key has drops.link drops.stood)
+        reached = dropped-reaches f sound i x here b at key b1.holders new drops (dropped-well f sound i j x here settled key has drops.link drops.stood free)
 
     -- the end is gone
     pub end-lost : j < length before.subscribers → ((c : Link) → get before.connections key ≡ Some c → ReceiverHas before.subscribers key c → ⊥)
@@ -87,7 +90,7 @@ module _ {T U : Type 0} (before f : Fields T U) (same : f ≡ before) (agrees : 
         (subst (λ (h : Fields T U). LosesSenderEnd h i j x after) same
         (subst (λ (xs : List (Option PublisherFields)). LosesSenderEnd f i j x (record f { publishers = xs; connections = new; books = with_value f.books x.book b1 })) (sym publishers-are)
         (subst (λ (d : Book). LosesSenderEnd f i j x (record f { publishers = slice_set f.publishers i (Some (record x { keys = set_place x.keys j None })); connections = new; books = with_value f.books x.book d })) (sym is1)
-        (loses-end f sound i j x here settled (subst (λ (h : Fields T U). j < length h.subscribers) (sym same) low) key has b at b1.holders new removes alone-f))))
+        (loses-end f sound i j x here settled free (subst (λ (h : Fields T U). j < length h.subscribers) (sym same) low) key has b at b1.holders new removes alone-f))))
       where
         after : Fields T U
         after = record f { publishers = changed_at (without_sender_key j) f.publishers i; connections = new; books = with_value f.books x.book b1 }

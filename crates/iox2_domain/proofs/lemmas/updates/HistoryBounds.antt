@@ -123,8 +123,8 @@ module _ {T U : Type 0} (f : Fields T U) (sound : IsDomain f) (i : ℕ) (x : Pub
       ]
 
     -- so a slot has few holders
-    pub remembered-fits : length x.keys < 2 ^ 63 → (slot : ℕ) → holders_at b slot + times slot (x.history).items < 2 ^ 64
-    remembered-fits short slot =
+    pub held-few : (slot : ℕ) → (holders_at b slot ≤ length x.keys + 2) × (times slot (x.history).items ≤ 1)
+    held-few slot =
         let own : own_holders f x.id slot ≡ times slot x.loans + times slot (x.history).items =
         ap (λ o. option_map_or (λ (z : PublisherFields). times slot z.loans + times slot (z.history).items) o
         (option_map_or (λ e. cond (is_loan_in e slot) 1 0) (look_up (is_book_of x.id) f.books.slots) 0))
@@ -133,4 +133,7 @@ module _ {T U : Type 0} (f : Fields T U) (sound : IsDomain f) (i : ℕ) (x : Pub
         let lent : times slot x.loans ≤ 1 = once-times (numbers_of f.books x.id) slot x.loans u.loans_once in
         let remembered : times slot (x.history).items ≤ 1 = once-times (numbers_of f.books x.id) slot (x.history).items u.history_once in
         let standing : sum_by (stands x.id slot) f.connections.slots ≤ length x.keys = sum-keys (stands x.id slot) refl x.keys f.connections.slots (few slot) (known slot) in
-        omega (arith, counts slot, own, lent, remembered, standing, short, sound.parts.counted.at x.id slot)
+        (omega (arith, counts slot, own, lent, remembered, standing, sound.parts.counted.at x.id slot), remembered)
+
+    pub remembered-fits : length x.keys < 2 ^ 63 → (slot : ℕ) → holders_at b slot + times slot (x.history).items < 2 ^ 64
+    remembered-fits short slot = omega (arith, (held-few slot).0, (held-few slot).1, short)

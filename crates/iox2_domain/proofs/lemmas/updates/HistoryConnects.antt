@@ -173,7 +173,7 @@ module _ {T U : Type 0} (before f : Fields T U) (same : f ≡ before) (agrees : 
 -- ---- the machine's step
 
 module _ {T U : Type 0} (environment : Environment) (f : Fields T U) (sound : IsDomain f) (i j : ℕ) (x : PublisherFields) (at : get_or f.publishers i None ≡ Some x)
-    (low : j < length f.subscribers) (key : ℕ) (f1 : Fields T U) (made : MakesSenderEnd environment f i j x key f1) where
+    (free : x.blocked ≡ None) (low : j < length f.subscribers) (key : ℕ) (f1 : Fields T U) (made : MakesSenderEnd environment f i j x key f1) where
   abbrev s : State T U
   s = state_of (kept_of f)
 
@@ -230,7 +230,7 @@ module _ {T U : Type 0} (environment : Environment) (f : Fields T U) (sound : Is
 
   well : IsWellFormed (with_sender_side s x.id P full)
   well =
-      with_sender_side_keeps s sound.well_formed x.id P present (unblocked f.books f.connections x (sound.parts.plain i x at)) full
+      with_sender_side_keeps s sound.well_formed x.id P present (unblocked f.books f.connections x free) full
       (performed_keeps s sound.well_formed x.id P present environment j _ _ (sender_side s x.id P) full None
       (place-within f j low) refl refl (sender_side_begins s sound.well_formed x.id P present) made.steps)
 

@@ -43,12 +43,12 @@ module _ {T U : Type 0} (f : Fields T U) (sound : IsDomain f) (i j : ℕ) (x : P
   own-key : (o : Option ℕ) → sender_key f.publishers i j ≡ o → get_or x.keys j None ≡ o
   own-key o named = sym (ap (option_and_then (λ (z : PublisherFields). get_or z.keys j None)) at_x) ∙ named
 
-  module _ (due : x.is_due ≡ false) (key : ℕ) (named : sender_key f.publishers i j ≡ Some key) where
+  module _ (due : x.is_due ≡ false) (free : x.blocked ≡ None) (key : ℕ) (named : sender_key f.publishers i j ≡ Some key) where
     -- the publisher has an end there
     pub end-at : HasEnd f i j key
     end-at =
         let own = some_is (IsSenders x.id j) (get f.connections key) ((sound.parts.linked.senders i x at_x).at j key (own-key (Some key) named)) in
-        record { publisher = x; stands = at_x; settled = due; has = own-key (Some key) named; link = own.0; connected = own.1 }
+        record { publisher = x; stands = at_x; settled = due; unblocked = free; has = own-key (Some key) named; link = own.0; connected = own.1 }
 
     pub end-stands : ContainsKey f.connections key
     end-stands = rw end-at.connected refl
@@ -69,7 +69,7 @@ module _ {T U : Type 0} (f : Fields T U) (sound : IsDomain f) (i j : ℕ) (x : P
       pub keeps-there : (y : SubscriberFields) → get_or f.subscribers j None ≡ Some y → y.id ≡ c.home.subscriber → is_open_subscriber f.subscribers j ≡ true
           → ConnectsSender environment f i j x f None
       keeps-there y at_y same opened =
-          keeps-connection environment f sound i j x y at_x at_y due (openness f.subscribers j y true at_y opened) key c (own-key (Some key) named) at_c (sym same)
+          keeps-connection environment f sound i j x y at_x at_y due free (openness f.subscribers j y true at_y opened) key c (own-key (Some key) named) at_c (sym same)
 
       -- what waits for a closed one is lost
       pub drops-there : (y : SubscriberFields) → get_or f.subscribers j None ≡ Some y → y.id ≡ c.home.subscriber → is_open_subscriber f.subscribers j ≡ false
@@ -98,6 +98,9 @@ module _ {T U : Type 0} (f : Fields T U) (sound : IsDomain f) (i j : ℕ) (x : P
 
     pub lost-settled : (z : PublisherFields) → get_or f1.publishers i None ≡ Some z → z.is_due ≡ false
     lost-settled z at_z = ap (λ o. option_map_or (λ (w : PublisherFields). w.is_due) o false) (sym at_z ∙ lost-stands) ∙ due
+
+    pub lost-free : x.blocked ≡ None → (z : PublisherFields) → get_or f1.publishers i None ≡ Some z → z.blocked ≡ None
+    lost-free free z at_z = ap (λ o. option_and_then (λ (w : PublisherFields). w.blocked) o) (sym at_z ∙ lost-stands) ∙ free
 
     pub lost-key : sender_key f1.publishers i j ≡ None
     lost-key = ap (option_and_then (λ (z : PublisherFields). get_or z.keys j None)) lost-stands ∙ set_place-here x.keys j None

@@ -1,7 +1,7 @@
 -- What a publisher's update comes to at one subscriber's place.
 use Rattle.std.proofs.lemmas.Bool.{eq-eqb, and_from}
 use Rattle.iox2_domain.proofs.lemmas.containers.LookUps.{map-at}
-use Rattle.iox2_domain.proofs.lemmas.fields.Views.{mailboxes-are}
+use Rattle.iox2_domain.proofs.lemmas.fields.Views.{mailboxes-are, nothing-blocked}
 use Rattle.std.proofs.Common.{◌≡◌, ◌<◌, ℕ, le_refl, true, false, Bool, cond, List, [], ◌∷◌, length, map, arith, get_or, slice_set, refl, ap, sym, subst, ◌∙◌, inl, inr}
 use Rattle.std.proofs.lemmas.List.{set-get_or}
 use Rattle.std.proofs.lemmas.Option.{none-some}
@@ -38,7 +38,7 @@ use Rattle.iox2_domain.proofs.lemmas.updates.SenderSteps.{connected_sender, step
 use Rattle.iox2_domain.proofs.lemmas.fields.Standing.{key-from, no-connection, occupant-receiver_ends, one-publisher, publisher-place, receiver-joins}
 
 module _ {T U : Type 0} (environment : Environment) (f : Fields T U) (sound : IsDomain f) (i j : ℕ) (x : PublisherFields) (y : SubscriberFields)
-    (at_x : get_or f.publishers i None ≡ Some x) (at_y : get_or f.subscribers j None ≡ Some y) (due : x.is_due ≡ false) (opened : y.is_open ≡ true) where
+    (at_x : get_or f.publishers i None ≡ Some x) (at_y : get_or f.subscribers j None ≡ Some y) (due : x.is_due ≡ false) (free : x.blocked ≡ None) (opened : y.is_open ≡ true) where
   abbrev s : State T U
   s = state_of (kept_of f)
 
@@ -60,8 +60,8 @@ module _ {T U : Type 0} (environment : Environment) (f : Fields T U) (sound : Is
       occupant-sender_ends f.connections x.keys j ∙ ap (subscriber_of_key f.connections) has
       ∙ ap (option_map (λ (c : Link). c.home.subscriber)) at ∙ ap Some to in
       subst (λ (h : Fields T U). ConnectsSender environment f i j x h None) (λ k. record f { publishers = same_publishers k })
-      (steps-connect environment f sound i j x y at_x at_y due opened x.keys f.connections f.warnings None (fits-same f sound i x at_x f.connections.capacity) sound.parts.warning_room
-      (keeps-end environment f sound i j x y at_x at_y due opened there))
+      (steps-connect environment f sound i j x y at_x at_y due free opened x.keys f.connections f.warnings None (fits-same f sound i x at_x f.connections.capacity) sound.parts.warning_room
+      (keeps-end environment f sound i j x y at_x at_y due free opened there))
 
   -- ---- the subscriber has its end
 
@@ -98,7 +98,7 @@ module _ {T U : Type 0} (environment : Environment) (f : Fields T U) (sound : Is
     nobody-in key c at its to place =
         let box : s.mailboxes x.id y.id ≡ mailbox_of (numbers_of f.books x.id) c =
         mailboxes-are f x.id y.id ∙ ap (mailbox_if_any (numbers_of f.books x.id)) (look_up-found (is_between x.id y.id) f.connections.slots key c (sound.parts.apart.one x.id y.id) at (and_from _ _ (eq-eqb c.home.publisher x.id its) (eq-eqb c.home.subscriber y.id to))) in
-        let none_in = no-numbers environment f sound i j x y at_x at_y due opened none in
+        let none_in = no-numbers environment f sound i j x y at_x at_y due free opened none in
         let waits : length c.waiting ≡ 0 = nil-map (numbers_of f.books x.id) c.waiting (ap (λ (m : Mailbox). m.waiting) (sym box) ∙ none_in.0) in
         let lent : length c.borrowed ≡ 0 = nil-map (numbers_of f.books x.id) c.borrowed (ap (λ (m : Mailbox). m.borrowed) (sym box) ∙ none_in.1) in
         let back : length c.returned ≡ 0 = elim (sound.parts.linked.returned key c at) [
@@ -119,13 +119,14 @@ module _ {T U : Type 0} (environment : Environment) (f : Fields T U) (sound : Is
         → MakesSenderEnd environment f i j x key (connected_sender f i x (set_place x.keys j (Some key)) f.connections f.warnings)
     joins-connection key joined has at from =
         let own = receiver-joins f sound.parts i j x y at_x at_y key joined has at from in
-        makes-empty environment f sound i j x y at_x at_y due opened none (keys_with key) f.connections (record {
+        makes-empty environment f sound i j x y at_x at_y due free opened none (keys_with key) f.connections (record {
           extends = (fits-same f sound i x at_x f.connections.capacity).extends;
           grows = le_refl x.key_room;
           rooms = sound.parts.expired_room;
           linked = linked-with f.connections key joined (sound.parts.linked.senders i x at_x) own.stands own.publisher own.subscriber_place;
           keeps = set_place-keeps x.keys j key none;
           news = λ k c there. inl there;
+          blocked = nothing-blocked _ _ x.blocked free;
         }) (leads f.connections key joined refl own.stands own.subscriber) key joined own.stands own.publisher own.subscriber
         (sound.parts.linked.knows.at key j joined (details_of y) own.stands (details-at y at_y) (sym own.subscriber)).1
         (nobody-in key joined own.stands own.publisher own.subscriber own.subscriber_place)
@@ -151,7 +152,7 @@ module _ {T U : Type 0} (environment : Environment) (f : Fields T U) (sound : Is
       pub makes-connection : j < x.key_room → i < y.key_room → connection_count f.connections y.id < y.expired_room → (key : ℕ) (new : Slab Link) → MakesConnection f.connections (home_of i j x y) y.buffer (f.config).subscriber_max_borrowed_samples key new
           → MakesSenderEnd environment f i j x key (connected_sender f i x (set_place x.keys j (Some key)) new f.warnings)
       makes-connection room room_y room_expired key new made =
-          makes-empty environment f sound i j x y at_x at_y due opened none (keys_with key) new (record {
+          makes-empty environment f sound i j x y at_x at_y due free opened none (keys_with key) new (record {
             extends = extends key new made;
             grows = le_refl x.key_room;
             rooms = room-made f.subscribers f.connections new key link made.was_free made.made (room-here f sound j y at_y room_expired) sound.parts.expired_room;
@@ -174,6 +175,7 @@ module _ {T U : Type 0} (environment : Environment) (f : Fields T U) (sound : Is
                 buffer = refl;
               }))
             ];
+            blocked = nothing-blocked _ _ x.blocked free;
           }) (leads new key link (sender_ends-same f.connections new (extends key new made) x.id x.keys (sound.parts.linked.senders i x at_x)) made.made.changed refl)
           key link made.made.changed refl refl refl refl
 
@@ -207,7 +209,7 @@ module _ {T U : Type 0} (environment : Environment) (f : Fields T U) (sound : Is
             connections = with_capacity n;
             warnings = warning_ring (warnings_after x.id y.id action f.warnings.items) warning_limit;
           })
-          (steps-connect environment f sound i j x y at_x at_y due opened x.keys (with_capacity n) (warning_ring (warnings_after x.id y.id action f.warnings.items) warning_limit) (failure_of action)
+          (steps-connect environment f sound i j x y at_x at_y due free opened x.keys (with_capacity n) (warning_ring (warnings_after x.id y.id action f.warnings.items) warning_limit) (failure_of action)
           (fits-same f sound i x at_x n) refl
-          (makes-end environment f sound i j x y at_x at_y due opened (no_end environment f sound i j x y at_x at_y due opened none) _ (failure_of action)
+          (makes-end environment f sound i j x y at_x at_y due free opened (no_end environment f sound i j x y at_x at_y due free opened none) _ (failure_of action)
           (inr (no_receiver, warnings_after x.id y.id action f.warnings.items, (action, may, answers, refl, refl), refl))))

@@ -17,7 +17,7 @@ use Rattle.iox2_domain.specs.Kept.{Named, state_of, port_named, ids, is_named}
 use Rattle.iox2_domain.specs.Fields.{Fields, kept_of, publisher_of, subscriber_of, numbers_of, blocked_send}
 use Rattle.iox2_domain.specs.Invariant.{IsDomain, HasExpiredRoom, is_publisher}
 use Rattle.iox2_domain.proofs.lemmas.containers.LookUps.{IsOnly-map, map-at}
-use Rattle.iox2_domain.proofs.lemmas.fields.Views.{mailboxes-are, nothing-blocked}
+use Rattle.iox2_domain.proofs.lemmas.fields.Views.{mailboxes-are}
 use Rattle.iox2_domain.proofs.lemmas.containers.ChangedRecords.{changed-ids, changed-ports, map-agrees}
 use Rattle.iox2_domain.proofs.lemmas.updates.Extensions.{Extends, sender_ends-same, receiver_ends-same}
 use mathlib.Core.Path.{fun_ext}
@@ -46,7 +46,8 @@ pub record IsNewOfSender {T U : Type 0} (f : Fields T U) (i : ℕ) (x : Publishe
   pub subscriber_room : c.home.publisher_place < subscriber.key_room
   pub buffer : c.buffer ≡ subscriber.buffer
 
--- The keys may be those of the publisher x at the place i, among these connections.
+-- The keys may be those of the publisher x at the place i, among these connections. What remains of its blocked delivery
+-- stays.
 pub record FitsSender {T U : Type 0} (f : Fields T U) (i : ℕ) (x : PublisherFields) (keys : List (Option ℕ)) (key_room : ℕ) (connections : Slab Link) : Type 0 where
   pub extends : Extends f.connections connections
   pub grows : x.key_room ≤ key_room
@@ -54,6 +55,8 @@ pub record FitsSender {T U : Type 0} (f : Fields T U) (i : ℕ) (x : PublisherFi
   pub linked : IsSenderLinked x.id connections keys
   pub keeps : (place key : ℕ) → get_or x.keys place None ≡ Some key → get_or keys place None ≡ Some key
   pub news : (key : ℕ) (c : Link) → get connections key ≡ Some c → (get f.connections key ≡ Some c) ⊎ IsNewOfSender f i x keys key_room key c
+  pub blocked : option_map (blocked_send (numbers_of f.books x.id) (sender_ends connections keys)) x.blocked
+      ≡ option_map (blocked_send (numbers_of f.books x.id) (sender_ends f.connections x.keys)) x.blocked
 
 -- what the connections are to the receivers
 module _ {T U : Type 0} (f : Fields T U) (sound : IsDomain f) (connections : Slab Link) (e : Extends f.connections connections) where
@@ -103,9 +106,9 @@ module _ {T U : Type 0} (f : Fields T U) (sound : IsDomain f) (i : ℕ) (x : Pub
       map-set (option_map (publisher_of f.books connections)) f.publishers i (Some (with_keys x keys key_room is_due))
       ∙ ap (λ ns. slice_set ns i (Some (publisher_of f.books connections (with_keys x keys key_room is_due)))) (publishers-same f sound connections fits.extends)
 
-  -- the machine's publisher afterwards, since nothing is blocked
+  -- the machine's publisher afterwards
   after-port : (publisher_of f.books connections (with_keys x keys key_room is_due)).port ≡ port_after
-  after-port = λ k. record port_after { blocked = nothing-blocked (blocked_send (numbers_of f.books x.id) (sender_ends connections keys)) (blocked_send (numbers_of f.books x.id) (sender_ends f.connections x.keys)) x.blocked (sound.parts.plain i x at).unblocked k }
+  after-port = λ k. record port_after { blocked = fits.blocked k }
 
   stands-shown : get_or shown i None ≡ Some (publisher_of f.books f.connections x)
   stands-shown = map-at (publisher_of f.books f.connections) f.publishers i ∙ ap (option_map (publisher_of f.books f.connections)) at
@@ -142,6 +145,7 @@ module _ {T U : Type 0} (f : Fields T U) (sound : IsDomain f) (i : ℕ) (x : Pub
     linked = record { at = (sound.parts.linked.senders i x at).at };
     keeps = λ place key at. at;
     news = λ key c at. inl at;
+    blocked = refl;
   }
 
   -- with the room that it has

@@ -80,7 +80,7 @@ module _ {T U : Type 0} (f : Fields T U) (sound : IsDomain f) where
         let y = (sound.well_formed.mailboxes c.home.publisher c.home.subscriber).receiver_end lent in
         absurd (gone-is c.home.subscriber gone y.0 y.1)
 
-module _ {T U : Type 0} (f : Fields T U) (sound : IsDomain f) (i j : ℕ) (x : PublisherFields) (here : get_or f.publishers i None ≡ Some x) (due : x.is_due ≡ false)
+module _ {T U : Type 0} (f : Fields T U) (sound : IsDomain f) (i j : ℕ) (x : PublisherFields) (here : get_or f.publishers i None ≡ Some x) (due : x.is_due ≡ false) (free : x.blocked ≡ None)
     (low : j < length f.subscribers) (key : ℕ) (has : get_or x.keys j None ≡ Some key) (b : Book) (at : get f.books x.book ≡ Some b)
     (holders : List ℕ) (new : Slab Link) (r : RemovesConnection x.id b.holders f.connections key holders new) (alone : ReceiverHas f.subscribers key (r.drops).link → ⊥) where
   abbrev s : State T U
@@ -107,7 +107,7 @@ module _ {T U : Type 0} (f : Fields T U) (sound : IsDomain f) (i j : ℕ) (x : P
   mid = dropped_fields f sound i x here b at key holders r.mid r.drops
 
   mid-reached : Reaches f mid (with_waiting_dropped f x c)
-  mid-reached = dropped-reaches f sound i x here b at key holders r.mid r.drops (dropped-well f sound i j x here due key has c r.drops.stood)
+  mid-reached = dropped-reaches f sound i x here b at key holders r.mid r.drops (dropped-well f sound i j x here due key has c r.drops.stood free)
 
   mid-sound : IsDomain mid
   mid-sound = mid-reached.agrees
@@ -142,7 +142,7 @@ module _ {T U : Type 0} (f : Fields T U) (sound : IsDomain f) (i j : ℕ) (x : P
 
   after-is : state_of (kept_of disconnected_fields) ≡ with_sender_side s x.id P (disconnected side j (occupant P.ends j))
   after-is =
-      left-is mid mid-sound i j x key (borrowed_alone (r.drops).link) leaves new r.gone
+      left-is mid mid-sound i j x free key (borrowed_alone (r.drops).link) leaves new r.gone
       ∙ (λ t. record (mid-is t) { publishers = put_at (mid-is t).publishers x.id (Some (record (port-is t) { ends = set_place (port-is t).ends j None })) })
       ∙ ap (λ (publishers : ℕ → Option Publisher). record (with_sender_side s x.id P (dropped side c.home.subscriber)) { publishers = publishers })
       (put_at-twice s.publishers x.id (Some settled) (Some (record settled { ends = set_place P.ends j None })))
@@ -162,12 +162,12 @@ module _ {T U : Type 0} (f : Fields T U) (sound : IsDomain f) (i j : ℕ) (x : P
 
   well : IsWellFormed (with_sender_side s x.id P (disconnected side j (occupant P.ends j)))
   well = subst (λ (end : Option ℕ). IsWellFormed (with_sender_side s x.id P (disconnected side j end))) (sym leads)
-      (with_sender_side_keeps s sound.well_formed x.id P present (unblocked f.books f.connections x (sound.parts.plain i x here)) (disconnected side j (Some c.home.subscriber)) keeps)
+      (with_sender_side_keeps s sound.well_formed x.id P present (unblocked f.books f.connections x free) (disconnected side j (Some c.home.subscriber)) keeps)
 
   -- the machine's step is done
   pub loses-end : LosesSenderEnd f i j x disconnected_fields
   loses-end = record {
-    agrees = left-agrees mid mid-sound i j x key (borrowed_alone (r.drops).link) leaves new r.gone (subst IsWellFormed (sym after-is) well);
+    agrees = left-agrees mid mid-sound i j x free key (borrowed_alone (r.drops).link) leaves new r.gone (subst IsWellFormed (sym after-is) well);
     fields = refl;
     state = after-is;
     entries = λ n entry e. mid-reached.entries n entry e;

@@ -38,7 +38,7 @@ pub record LeavesEmpty {T U : Type 0} (f : Fields T U) (i j : ℕ) (x : Publishe
   pub empty : load c ≡ 0
   pub nobody : ReceiverHas f.subscribers key c → ⊥
 
-module _ {T U : Type 0} (f : Fields T U) (sound : IsDomain f) (i j : ℕ) (x : PublisherFields) (key : ℕ) (c : Link) (leaves : LeavesEmpty f i j x key c)
+module _ {T U : Type 0} (f : Fields T U) (sound : IsDomain f) (i j : ℕ) (x : PublisherFields) (free : x.blocked ≡ None) (key : ℕ) (c : Link) (leaves : LeavesEmpty f i j x key c)
     (new : Slab Link) (gone : Updates f.connections new key None) where
   abbrev s : State T U
   s = state_of (kept_of f)
@@ -152,7 +152,7 @@ module _ {T U : Type 0} (f : Fields T U) (sound : IsDomain f) (i j : ℕ) (x : P
   after-port : (publisher_of f.books f.connections changed).port ≡ port_after
   after-port = λ t. record port_after {
     ends = map-set_place (subscriber_of_key f.connections) refl x.keys j None t;
-    blocked = nothing-blocked (blocked_send (numbers_of f.books x.id) (sender_ends f.connections keys)) (blocked_send (numbers_of f.books x.id) (sender_ends f.connections x.keys)) x.blocked (sound.parts.plain i x leaves.here).unblocked t;
+    blocked = nothing-blocked (blocked_send (numbers_of f.books x.id) (sender_ends f.connections keys)) (blocked_send (numbers_of f.books x.id) (sender_ends f.connections x.keys)) x.blocked free t;
   }
 
   -- the machine sees that the end is gone

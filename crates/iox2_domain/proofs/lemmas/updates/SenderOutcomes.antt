@@ -64,7 +64,7 @@ module _ {T U : Type 0} (f : Fields T U) (sound : IsDomain f) (i j : ℕ) (x : P
       sender-room f sound.parts i j x apart.subscriber at_x apart.subscriber_stands key from.0
       (receiver-joins f sound.parts i j x apart.subscriber at_x apart.subscriber_stands key from.0 from.1 from.2 from.3)
 
-module _ {T U : Type 0} (environment : Environment) (f : Fields T U) (sound : IsDomain f) (i j : ℕ) (x : PublisherFields) (at_x : get_or f.publishers i None ≡ Some x) (due : x.is_due ≡ false) where
+module _ {T U : Type 0} (environment : Environment) (f : Fields T U) (sound : IsDomain f) (i j : ℕ) (x : PublisherFields) (at_x : get_or f.publishers i None ≡ Some x) (due : x.is_due ≡ false) (free : x.blocked ≡ None) where
   module _ (home : Home) (size : ℕ) (apart : StandApart f.publishers f.subscribers i j home size) where
     abbrev y : SubscriberFields
     y = apart.subscriber
@@ -82,7 +82,7 @@ module _ {T U : Type 0} (environment : Environment) (f : Fields T U) (sound : Is
       joins-as key at f' is =
           let from = some_from f.connections x.id (get_or y.keys i None) key (sym (from-is f sound i j x at_x home size apart) ∙ at) in
           subst (λ (h : Fields T U). MakesSenderEnd environment f i j x key h) (sym (is ∙ ap (λ o. record f { publishers = slice_set f.publishers i (option_map (with_sender_key j key) o) }) at_x))
-          (joins-connection environment f sound i j x y at_x apart.subscriber_stands due opened_y no_key key from.0 from.1 from.2 from.3)
+          (joins-connection environment f sound i j x y at_x apart.subscriber_stands due free opened_y no_key key from.0 from.1 from.2 from.3)
 
       -- no connection is there, and both ports get room for one
       module _ (nobody : key_from f.connections home.publisher (receiver_key f.subscribers j i) ≡ None)
@@ -136,7 +136,7 @@ module _ {T U : Type 0} (environment : Environment) (f : Fields T U) (sound : Is
         makes-as room_x room_y room_expired key made f' is =
             end-from f i j x y n m e sound at_x apart.subscriber_stands more_x more_y more_e environment key f'
             (subst (λ (h : Fields T U). MakesSenderEnd environment g i j (with_sender_room n x) key h) (sym after)
-            (makes-connection environment g sound-grown i j (with_sender_room n x) (with_receiver_rooms m e y) here_x here_y due opened_y no_key no_key_y
+            (makes-connection environment g sound-grown i j (with_sender_room n x) (with_receiver_rooms m e y) here_x here_y due free opened_y no_key no_key_y
             (room_x (with_sender_room n x) (ap (λ (h : Fields T U). get_or h.publishers i None) mid-is ∙ here_x))
             (room_y (with_receiver_rooms m e y) (ap (λ (h : Fields T U). get_or h.subscribers j None) mid-is ∙ here_y))
             (subst (λ (h : Home). connection_count f.connections h.subscriber < e) (home-is f sound i j x at_x home size apart) (room_expired (with_receiver_rooms m e y) (ap (λ (h : Fields T U). get_or h.subscribers j None) mid-is ∙ here_y)))
@@ -159,7 +159,7 @@ module _ {T U : Type 0} (environment : Environment) (f : Fields T U) (sound : Is
             sender-from f i j x y n m e sound at_x apart.subscriber_stands more_x more_y more_e environment f' (failure_of action)
             (subst (λ (h : Fields T U). ConnectsSender environment g i j (with_sender_room n x) h (failure_of action))
             (sym (is ∙ (λ k. record (mid-is k) { warnings = told k }) ∙ (λ k. record g { connections = same k; warnings = warning_ring (warnings_after x.id y.id action f.warnings.items) warning_limit })))
-            (misses-connection environment g sound-grown i j (with_sender_room n x) (with_receiver_rooms m e y) here_x here_y due opened_y no_key no_key_y may action answers mid.connections.capacity))
+            (misses-connection environment g sound-grown i j (with_sender_room n x) (with_receiver_rooms m e y) here_x here_y due free opened_y no_key no_key_y may action answers mid.connections.capacity))
           where
             told : warnings ≡ warning_ring (warnings_after x.id y.id action f.warnings.items) warning_limit
             told = warned_is ∙ ap (λ (h : Home). warning_ring (warnings_after h.publisher h.subscriber action f.warnings.items) warning_limit) (home-is f sound i j x at_x home size apart)

@@ -56,7 +56,7 @@ module _ {T U : Type 0} (f : Fields T U) where
       record f { publishers = slice_set f.publishers i (Some (record x { keys = keys })); connections = connections; warnings = warnings }
 
 module _ {T U : Type 0} (environment : Environment) (f : Fields T U) (sound : IsDomain f) (i j : ℕ) (x : PublisherFields) (y : SubscriberFields)
-    (at_x : get_or f.publishers i None ≡ Some x) (at_y : get_or f.subscribers j None ≡ Some y) (due : x.is_due ≡ false) (opened : y.is_open ≡ true) where
+    (at_x : get_or f.publishers i None ≡ Some x) (at_y : get_or f.subscribers j None ≡ Some y) (due : x.is_due ≡ false) (free : x.blocked ≡ None) (opened : y.is_open ≡ true) where
   abbrev s : State T U
   s = state_of (kept_of f)
 
@@ -94,7 +94,7 @@ module _ {T U : Type 0} (environment : Environment) (f : Fields T U) (sound : Is
         })
 
     well : IsWellFormed (with_sender_side s x.id P (side_with f x keys connections warnings))
-    well = with_sender_side_keeps s sound.well_formed x.id P present (unblocked f.books f.connections x (sound.parts.plain i x at_x)) (side_with f x keys connections warnings)
+    well = with_sender_side_keeps s sound.well_formed x.id P present (unblocked f.books f.connections x free) (side_with f x keys connections warnings)
         (performed_keeps s sound.well_formed x.id P present environment j _ _ (sender_side s x.id P) (side_with f x keys connections warnings) failure
         (occupied_within s.subscriber_places j y.id (subscriber-listed f sound.parts j y at_y)) refl refl (sender_side_begins s sound.well_formed x.id P present) step)
 
@@ -204,7 +204,7 @@ module _ {T U : Type 0} (environment : Environment) (f : Fields T U) (sound : Is
         ∙ ap (with_sender_side s x.id P) side-is
 
     well : IsWellFormed (with_sender_side s x.id P (connected [] (sender_side s x.id P) j y.id y.buffer))
-    well = with_sender_side_keeps s sound.well_formed x.id P present (unblocked f.books f.connections x (sound.parts.plain i x at_x)) (connected [] (sender_side s x.id P) j y.id y.buffer)
+    well = with_sender_side_keeps s sound.well_formed x.id P present (unblocked f.books f.connections x free) (connected [] (sender_side s x.id P) j y.id y.buffer)
         (connected_with_keeps s sound.well_formed x.id P present [] tt (λ n no. absurd cc) (sender_side s x.id P) j y.id y.buffer
         (occupied_within s.subscriber_places j y.id (subscriber-listed f sound.parts j y at_y)) (subscriber-listed f sound.parts j y at_y) open_buffer (no_end none)
         (sender_side_begins s sound.well_formed x.id P present))

@@ -71,10 +71,10 @@ module _ {T U : Type 0} (environment : Environment) (f : Fields T U) (sound : Is
       ∙ (λ k. record s { publishers = put_at s.publishers x.id (Some (record P { is_due = false })); mailboxes = put_at-own s.mailboxes x.id k })
 
   -- the walk begins where the publisher is due no more
-  pub walk-begins : WalksSender environment f i x 0 settled None
-  walk-begins = record {
+  pub walk-begins : x.blocked ≡ None → WalksSender environment f i x 0 settled None
+  walk-begins free = record {
     agrees = sender-agrees f sound i x at x.keys x.key_room false f.connections f.warnings (fits-same f sound i x at f.connections.capacity) sound.parts.warning_room
-        (rw settled-is (with_sender_side_keeps s sound.well_formed x.id P present (unblocked f.books f.connections x (sound.parts.plain i x at)) (sender_side s x.id P) (sender_side_begins s sound.well_formed x.id P present)));
+        (rw settled-is (with_sender_side_keeps s sound.well_formed x.id P present (unblocked f.books f.connections x free) (sender_side s x.id P) (sender_side_begins s sound.well_formed x.id P present)));
     keys = x.keys;
     key_room = x.key_room;
     fields = refl;

@@ -121,8 +121,8 @@ module _ {T U : Type 0} (f : Fields T U) (sound : IsDomain f) (i j : ℕ) (x : P
       ap (λ (publishers : ℕ → Option Publisher). record (with_waiting_dropped f x c) { publishers = publishers })
       (put_at-own before.publishers x.id ∙ ap (put_at before.publishers x.id) present ∙ (λ t. put_at before.publishers x.id (Some (record port { is_due = due t }))))
 
-  pub dropped-well : IsWellFormed (with_waiting_dropped f x c)
-  dropped-well =
+  pub dropped-well : x.blocked ≡ None → IsWellFormed (with_waiting_dropped f x c)
+  dropped-well free =
       subst IsWellFormed (sym dropped-side)
-      (with_sender_side_keeps before sound.well_formed x.id port present (unblocked f.books f.connections x (sound.parts.plain i x here)) (dropped (sender_side before x.id port) to)
+      (with_sender_side_keeps before sound.well_formed x.id port present (unblocked f.books f.connections x free) (dropped (sender_side before x.id port) to)
       (dropped_keeps before sound.well_formed x.id port present (sender_side before x.id port) j to end-leads (sender_side_begins before sound.well_formed x.id port present)))

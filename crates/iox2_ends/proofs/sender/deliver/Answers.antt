@@ -1,7 +1,8 @@
 use Rattle.std.proofs.Common.{arith, refl, sym, ◌∙◌}
+use Rattle.std.proofs.lemmas.Bool.{eq-eqb}
 use Rattle.std.proofs.lemmas.List.{length-map}
 use Rattle.iox2_ends.specs.Mailboxes.{subscriber_of_key, sender_ends}
-use Rattle.iox2_ends.proofs.DeliverySteps.{ends-at, deliver-more, deliver-stops, IsReadyToDeliver-same}
+use Rattle.iox2_ends.proofs.DeliverySteps.{ends-at, deliver-more, deliver-stops, deliver-ends, IsReadyToDeliver-same}
 use Rattle.iox2_ends.proofs.Recounts.{Recounts-same, Recounts-trans}
 use Rattle.iox2_ends.proofs.ReclaimedPuts.{GrowsAlone-same, GrowsAlone-trans, own-still}
 use Rattle.std.proofs.Common.{ap}
@@ -9,15 +10,15 @@ use Rattle.iox2_store.specs.SlotBook.{Book}
 use Rattle.iox2_ends.specs.Counters.{with_counters}
 use Rattle.std.specs.Prelude.{map}
 use Rattle.std.specs.Option.{option_map}
-use Rattle.iox2_store.specs.machine.Environments.{fixed_handlers}
+use Rattle.iox2_ends.specs.Handlers.{asked}
 use Rattle.iox2_ends.proofs.sender.deliver.Goals as goal
 
 pub loop-place-init : goal.loop-place-init
 loop-place-init g c = record {
   ready = c.requires.ready;
   recounts = Recounts-same c.args.delivery.now.publisher c.args.book.now.holders c.args.connections.now;
-  walk = λ number how boxes' rest. rest;
-  few = omega arith;
+  walk = λ number how boxes' rest. rw (eq-eqb (c.args.delivery.now.start).place (c.args.delivery.now.start).place refl) at rest;
+  few = omega (arith, c.requires.counted);
   book = refl;
   alone = GrowsAlone-same c.args.delivery.now.slot c.args.book.now.holders;
   grows = omega arith;
@@ -26,10 +27,10 @@ loop-place-init g c = record {
 pub returns-then-is_blocking-clause-delivers : goal.returns-then-is_blocking-clause-delivers
 returns-then-is_blocking-clause-delivers g c = λ number.
     c.loop-place.invariant.walk number _ _
-    (deliver-stops fixed_handlers c.args.config.now c.args.delivery.now (map (option_map g.R.Receiver.details_of) c.args.receivers.now) (number c.args.delivery.now.publisher c.args.delivery.now.slot) (sender_ends c.args.connections.now c.args.keys.now) c.loop-place.place c.loop-place.count _ _ c.deliver_at-reception.result
+    (rw c.retries_at.ensures (deliver-stops (asked g.F.BackpressureFn.allows c.args.handler.now) c.args.config.now c.args.delivery.now c.args.handler.now (map (option_map g.R.Receiver.details_of) c.args.receivers.now) (number c.args.delivery.now.publisher c.args.delivery.now.slot) (sender_ends c.args.connections.now c.args.keys.now) c.loop-place.place c.loop-place.count c.loop-place.has_failed _ _ c.deliver_at-reception.result
     (omega (arith, length-map c.args.keys.now (subscriber_of_key c.args.connections.now)))
     (rw (ends-at _ _ c.args.keys.now c.loop-place.place c.loop-place.invariant.recounts.homes) at (c.deliver_at-reception.ensures.puts number))
-    (sym c.is_blocking.ensures ∙ c.if-is_blocking.true))
+    (sym c.is_blocking.ensures ∙ c.if-is_blocking.true)))
 
 pub returns-then-is_blocking-clause-recounts : goal.returns-then-is_blocking-clause-recounts
 returns-then-is_blocking-clause-recounts g c = Recounts-trans c.args.delivery.now.publisher _ _ _ _ _ _ c.loop-place.invariant.recounts c.deliver_at-reception.ensures.recounts
@@ -39,11 +40,12 @@ loop-place-preserved g c = record {
   ready = IsReadyToDeliver-same c.args.delivery.now.publisher _ _ c.args.keys.now (map (option_map g.R.Receiver.details_of) c.args.receivers.now) c.loop-place.invariant.ready c.deliver_at-reception.ensures.recounts.homes;
   recounts = Recounts-trans c.args.delivery.now.publisher _ _ _ _ _ _ c.loop-place.invariant.recounts c.deliver_at-reception.ensures.recounts;
   walk = λ number how boxes' rest. c.loop-place.invariant.walk number how boxes'
-      (deliver-more fixed_handlers c.args.config.now c.args.delivery.now (map (option_map g.R.Receiver.details_of) c.args.receivers.now) (number c.args.delivery.now.publisher c.args.delivery.now.slot) (sender_ends c.args.connections.now c.args.keys.now) c.loop-place.place c.loop-place.count _ _ boxes' c.deliver_at-reception.result how
+      (deliver-more (asked g.F.BackpressureFn.allows c.args.handler.now) c.args.config.now c.args.delivery.now c.args.handler.now (map (option_map g.R.Receiver.details_of) c.args.receivers.now) (number c.args.delivery.now.publisher c.args.delivery.now.slot) (sender_ends c.args.connections.now c.args.keys.now) c.loop-place.place c.loop-place.count c.loop-place.has_failed _ _ boxes' c.deliver_at-reception.result how
       (omega (arith, length-map c.args.keys.now (subscriber_of_key c.args.connections.now)))
+      c.loop-place.auto.place
       (rw (ends-at _ _ c.args.keys.now c.loop-place.place c.loop-place.invariant.recounts.homes) at (c.deliver_at-reception.ensures.puts number))
       (sym c.is_blocking.ensures ∙ c.if-is_blocking.false)
-      (rw c.accepted_count-count.ensures.value at rest));
+      (rw (c.accepted_count-count.ensures.value, c.is_failed-has_failed.ensures) at rest));
   few = omega (arith, c.accepted_count-count.ensures.few);
   book = c.deliver_at-reception.ensures.book ∙ ap (λ (b : Book). with_counters b c.deliver_at-reception.new.book.holders) c.loop-place.invariant.book;
   alone = GrowsAlone-trans c.args.delivery.now.slot _ _ _ c.loop-place.invariant.alone c.deliver_at-reception.ensures.alone;
@@ -55,3 +57,9 @@ deliver_at-reception-requires-clause-own g c = own-still c.args.delivery.now.pub
 
 pub returns-then-is_blocking-clause-alone : goal.returns-then-is_blocking-clause-alone
 returns-then-is_blocking-clause-alone g c = GrowsAlone-trans c.args.delivery.now.slot _ _ _ c.loop-place.invariant.alone c.deliver_at-reception.ensures.alone
+
+pub returns-clause-delivers : goal.returns-clause-delivers
+returns-clause-delivers g c = λ number.
+    c.loop-place.invariant.walk number _ _
+    (deliver-ends (asked g.F.BackpressureFn.allows c.args.handler.now) c.args.config.now c.args.delivery.now c.args.handler.now (map (option_map g.R.Receiver.details_of) c.args.receivers.now) (number c.args.delivery.now.publisher c.args.delivery.now.slot) (sender_ends c.args.connections.now c.args.keys.now) c.loop-place.place c.loop-place.count c.loop-place.has_failed _
+    (omega (arith, c.loop-place-test.false, length-map c.args.keys.now (subscriber_of_key c.args.connections.now))))

@@ -1,9 +1,9 @@
 use Rattle.std.proofs.Common.{◌≡◌, ℕ, ◌+◌, ◌≤◌, drop, slice_index}
 use Rattle.iox2_store.specs.machine.Mailbox.{Mailbox}
-use Rattle.iox2_store.specs.machine.Delivery.{DeliveryEnd}
-use Rattle.iox2_store.specs.machine.Environments.{fixed_handlers}
+use Rattle.iox2_store.specs.machine.Delivery.{DeliveryEnd, Deliver}
+use Rattle.iox2_ends.specs.Handlers.{asked, marks_of}
 use Rattle.iox2_ends.specs.Mailboxes.{mailboxes_of, sender_ends}
-use Rattle.iox2_ends.specs.Receivers.{IsReadyToDeliver}
+use Rattle.iox2_ends.specs.Receivers.{IsReadyToDeliver, buffers_of}
 use Rattle.iox2_ends.specs.Counters.{GrowsAlone, with_counters}
 use Rattle.iox2_ends.specs.Recounts.{Recounts}
 use Rattle.iox2_ends.specs.Deliveries.{DeliversMessage}
@@ -17,10 +17,10 @@ invariant-loop-place g l = record {
   ready : IsReadyToDeliver l.delivery.publisher l.connections l.keys (map (option_map g.R.Receiver.details_of) l.receivers);
   recounts : Recounts l.delivery.publisher l.fn.book.holders l.fn.connections l.book.holders l.connections;
   walk : (number : ℕ → ℕ → ℕ) (how : DeliveryEnd) (boxes' : ℕ → Mailbox)
-      → DeliversMessage fixed_handlers l.config l.delivery (map (option_map g.R.Receiver.details_of) l.receivers) (number l.delivery.publisher l.delivery.slot) l.place (drop l.place (sender_ends l.fn.connections l.keys)) l.count (mailboxes_of number l.connections l.delivery.publisher) how boxes'
-      → DeliversMessage fixed_handlers l.config l.delivery (map (option_map g.R.Receiver.details_of) l.receivers) (number l.delivery.publisher l.delivery.slot) 0 (sender_ends l.fn.connections l.keys) 0 (mailboxes_of number l.fn.connections l.delivery.publisher) how boxes';
+      → DeliversMessage (asked g.F.BackpressureFn.allows l.handler) l.config l.delivery l.handler (map (option_map g.R.Receiver.details_of) l.receivers) (number l.delivery.publisher l.delivery.slot) l.place (drop l.place (sender_ends l.fn.connections l.keys)) l.count l.has_failed (mailboxes_of number l.connections l.delivery.publisher) how boxes'
+      → Deliver (asked g.F.BackpressureFn.allows l.handler) l.config l.delivery.publisher l.delivery.strategy (marks_of l.handler) (buffers_of (map (option_map g.R.Receiver.details_of) l.receivers)) (number l.delivery.publisher l.delivery.slot) (l.delivery.start).retries l.delivery.elapsed (l.delivery.start).place (drop (l.delivery.start).place (sender_ends l.fn.connections l.keys)) (l.delivery.start).count (l.delivery.start).has_failed (mailboxes_of number l.fn.connections l.delivery.publisher) how boxes';
   few : l.count ≤ l.place;
   book : l.book ≡ with_counters l.fn.book l.book.holders;
   alone : GrowsAlone l.delivery.slot l.fn.book.holders l.book.holders;
-  grows : slice_index l.book.holders l.delivery.slot ≤ slice_index l.fn.book.holders l.delivery.slot + l.place;
+  grows : slice_index l.book.holders l.delivery.slot + (l.delivery.start).place ≤ slice_index l.fn.book.holders l.delivery.slot + l.place;
 }

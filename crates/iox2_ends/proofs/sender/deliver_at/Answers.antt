@@ -1,6 +1,6 @@
 use Rattle.std.proofs.Common.{refl, sym, ◌∙◌}
-use Rattle.iox2_store.specs.machine.Environments.{fixed_handlers}
-use Rattle.iox2_ends.proofs.DeliverySteps.{contains-at}
+use Rattle.iox2_ends.specs.Handlers.{asked}
+use Rattle.iox2_ends.proofs.DeliverySteps.{contains-at, put-home}
 use Rattle.iox2_ends.proofs.ReclaimedPuts.{reclaim-held, reclaim-passes, reclaim-marked, reclaim-recounts, reclaim-can_leave, reclaim-puts, own-reclaimed, put-recounted, put-grows, put-alone}
 use Rattle.iox2_ends.proofs.sender.deliver_at.Goals as goal
 
@@ -18,7 +18,7 @@ is_open-requires g c =
 pub returns-then-not-is_open-clause-puts : goal.returns-then-not-is_open-clause-puts
 returns-then-not-is_open-clause-puts g c =
     reclaim-passes c.args.place _ c.requires.ready c.in-Some.is _ c.index_mut-connection.result.now c.index_mut-connection.ensures.value c.requires.covered c.reclaim_from.new.book.holders c.reclaim_from.new.connection c.reclaim_from.ensures.reclaims
-    fixed_handlers c.args.config.now c.args.delivery.now (sym c.is_open.ensures.value ∙ c.if-not-is_open.true)
+    (asked g.F.BackpressureFn.allows c.args.handler.now) c.args.config.now c.args.delivery.now c.args.handler.now (sym c.is_open.ensures.value ∙ c.if-not-is_open.true)
 
 pub returns-then-not-is_open-clause-recounts : goal.returns-then-not-is_open-clause-recounts
 returns-then-not-is_open-clause-recounts g c =
@@ -38,8 +38,9 @@ recount-requires-clause-overwritten g c =
 pub returns-clause-puts : goal.returns-clause-puts
 returns-clause-puts g c =
     reclaim-puts c.args.place _ c.requires.ready c.in-Some.is _ c.index_mut-connection.result.now c.index_mut-connection.ensures.value c.requires.covered c.reclaim_from.new.book.holders c.reclaim_from.new.connection c.reclaim_from.ensures.reclaims
-    fixed_handlers c.args.config.now c.args.delivery.now c.put-outcome.result c.put-outcome.new.self c.reception_of.result refl (sym c.is_open.ensures.value ∙ c.if-not-is_open.false)
-    c.put-outcome.ensures.put c.reception_of.ensures
+    (asked g.F.BackpressureFn.allows c.args.handler.now) c.args.config.now c.args.delivery.now c.args.handler.now c.put-outcome.result c.put-outcome.new.self c.reception_of.result refl (sym c.is_open.ensures.value ∙ c.if-not-is_open.false)
+    c.put-outcome.ensures.put
+    (rw (put-home c.reclaim_from.new.connection c.args.delivery.now.slot c.args.config.now.enable_safe_overflow c.put-outcome.result c.put-outcome.new.self c.put-outcome.ensures.put) at c.reception_of.ensures)
 
 pub returns-clause-recounts : goal.returns-clause-recounts
 returns-clause-recounts g c =

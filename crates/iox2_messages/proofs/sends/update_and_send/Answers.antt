@@ -11,26 +11,27 @@ use Rattle.iox2_domain.specs.SentLoans.{SendsLoan}
 use Rattle.iox2_domain.proofs.lemmas.discards.LeftLoan.{can-let-go, left-sent}
 use Rattle.iox2_domain.proofs.lemmas.slots.LeftConnections.{unknown, stands-nowhere}
 use Rattle.iox2_domain.proofs.lemmas.sends.SendSteps.{sender-stands, updated-agrees, can-send, sends-loan}
+use Rattle.iox2_domain.proofs.lemmas.fields.ConnectionEnds.{free-of}
 use Rattle.iox2_messages.proofs.sends.update_and_send.Goals as goal
 
 pub send_slot-requires-clause-agrees : goal.send_slot-requires-clause-agrees
 send_slot-requires-clause-agrees g c =
     let r = c.in-Some.ensures in
-    updated-agrees fixed_handlers c.args.state.now c.requires.agrees c.args.publisher c.args.number c.in-Some.ready.place c.requires.live (r.publisher, r.stands, r.is_its) c.update_and_find.new.state r.updated
+    updated-agrees fixed_handlers c.args.state.now c.requires.agrees c.args.publisher c.args.number c.in-Some.ready.place c.requires.live (r.publisher, r.stands, r.is_its) (free-of c.args.state.now c.requires.agrees.parts c.args.publisher c.in-Some.ready.place r.publisher r.stands r.is_its c.requires.unblocked) c.update_and_find.new.state r.updated
 
 pub send_slot-requires-clause-can : goal.send_slot-requires-clause-can
 send_slot-requires-clause-can g c =
     let r = c.in-Some.ensures in (
       _,
-      sender-stands fixed_handlers c.args.state.now c.requires.agrees c.args.publisher c.args.number c.in-Some.ready.place c.requires.live (r.publisher, r.stands, r.is_its) c.update_and_find.new.state r.updated,
-      can-send fixed_handlers c.args.state.now c.requires.agrees c.args.publisher c.args.number c.in-Some.ready.place c.requires.live (r.publisher, r.stands, r.is_its) c.update_and_find.new.state r.updated
+      sender-stands fixed_handlers c.args.state.now c.requires.agrees c.args.publisher c.args.number c.in-Some.ready.place c.requires.live (r.publisher, r.stands, r.is_its) (free-of c.args.state.now c.requires.agrees.parts c.args.publisher c.in-Some.ready.place r.publisher r.stands r.is_its c.requires.unblocked) c.update_and_find.new.state r.updated,
+      can-send fixed_handlers c.args.state.now c.requires.agrees c.args.publisher c.args.number c.in-Some.ready.place c.requires.live (r.publisher, r.stands, r.is_its) (free-of c.args.state.now c.requires.agrees.parts c.args.publisher c.in-Some.ready.place r.publisher r.stands r.is_its c.requires.unblocked) c.update_and_find.new.state r.updated
           r.key c.in-Some.ready.slot r.lies,
     )
 
 pub returns-clause-sends : goal.returns-clause-sends
 returns-clause-sends g c =
     let r = c.in-Some.ensures in
-    sends-loan fixed_handlers c.args.state.now c.requires.agrees c.args.publisher c.args.number c.in-Some.ready.place c.requires.live (r.publisher, r.stands, r.is_its) c.update_and_find.new.state r.updated
+    sends-loan fixed_handlers c.args.state.now c.requires.agrees c.args.publisher c.args.number c.in-Some.ready.place c.requires.live (r.publisher, r.stands, r.is_its) (free-of c.args.state.now c.requires.agrees.parts c.args.publisher c.in-Some.ready.place r.publisher r.stands r.is_its c.requires.unblocked) c.update_and_find.new.state r.updated
     r.key c.in-Some.ready.slot r.lies c.send_slot.result c.send_slot.new.state c.send_slot.ensures
 
 -- ---- of a publisher that is gone

@@ -36,7 +36,7 @@ make_between-requires-clause-buffer g c =
     rw apart.buffer_is (some-buffer c.args.state.now c.requires.agrees.parts c.requires.agrees.well_formed c.args.subscriber_place apart.subscriber apart.subscriber_stands)
 
 pub returns-in-Some : goal.returns-in-Some
-returns-in-Some g c = λ x at due.
+returns-in-Some g c = λ x at due free.
     let old = c.args.state.now in
     let viewed = c.state.view_is in
     let publishers : c.state.inside.publishers.items ≡ old.publishers = ap (λ (f : Fields g.row.T.Denot g.row.U.Denot). f.publishers) viewed in
@@ -49,11 +49,11 @@ returns-in-Some g c = λ x at due.
     let written : _ ≡ changed_at (with_sender_key c.args.subscriber_place c.in-Some.key) old.publishers c.args.publisher_place =
     with_items_is c.state.inside.publishers c.set_key_at.new.ports (c.set_key_at.auto.ports ∙ c.deref_mut.ensures.len)
     ∙ c.set_key_at.ensures ∙ ap (λ xs. changed_at (with_sender_key c.args.subscriber_place c.in-Some.key) xs c.args.publisher_place) (c.deref_mut.ensures.value ∙ publishers) in
-    joins-as fixed_handlers old c.requires.agrees c.args.publisher_place c.args.subscriber_place x at due _ _ c.ports_at-buffer.ensures c.requires.none c.requires.opened
+    joins-as fixed_handlers old c.requires.agrees c.args.publisher_place c.args.subscriber_place x at due free _ _ c.ports_at-buffer.ensures c.requires.none c.requires.opened
     c.in-Some.key looked _ (λ k. record (viewed k) { publishers = written k })
 
 pub returns-in_default-make_between : goal.returns-in_default-make_between
-returns-in_default-make_between g c = λ x at due.
+returns-in_default-make_between g c = λ x at due free.
     let old = c.args.state.now in
     let viewed = c.state.view_is in
     let publishers : c.state.inside.publishers.items ≡ old.publishers = ap (λ (f : Fields g.row.T.Denot g.row.U.Denot). f.publishers) viewed in
@@ -64,7 +64,7 @@ returns-in_default-make_between g c = λ x at due.
     let looked : key_from old.connections c.ports_at-buffer.result.0.publisher (receiver_key old.subscribers c.args.subscriber_place c.args.publisher_place) ≡ None =
     sym (c.key_from.ensures ∙ (λ k. key_from (connections k) c.ports_at-buffer.result.0.publisher (other k))) ∙ c.in_default.is in
     let mid = c.make_between.new.state in
-    misses-as fixed_handlers old c.requires.agrees c.args.publisher_place c.args.subscriber_place x at due _ _ c.ports_at-buffer.ensures c.requires.none c.requires.opened
+    misses-as fixed_handlers old c.requires.agrees c.args.publisher_place c.args.subscriber_place x at due free _ _ c.ports_at-buffer.ensures c.requires.none c.requires.opened
     looked mid c.make_between.ensures.grows tt Warn
     (answers-warn fixed_handlers x.id x.degradation_handler _ (c.requires.agrees.parts.plain c.args.publisher_place x at).degradation) c.warn_of_refusal.new.warnings
     c.in_default-make_between.ensures.refused
@@ -72,7 +72,7 @@ returns-in_default-make_between g c = λ x at due.
     _ (λ k. record (c.state-2.view_is k) { warnings = c.warn_of_refusal.new.warnings })
 
 pub returns : goal.returns
-returns g c = λ x at due.
+returns g c = λ x at due free.
     let old = c.args.state.now in
     let viewed = c.state.view_is in
     let publishers : c.state.inside.publishers.items ≡ old.publishers = ap (λ (f : Fields g.row.T.Denot g.row.U.Denot). f.publishers) viewed in
@@ -87,7 +87,7 @@ returns g c = λ x at due.
     with_items_is c.state-2.inside.publishers c.set_key_at-2.new.ports (c.set_key_at-2.auto.ports ∙ c.deref_mut-2.ensures.len)
     ∙ c.set_key_at-2.ensures
     ∙ ap (λ zs. changed_at (with_sender_key c.args.subscriber_place c.in-Ok.key) zs c.args.publisher_place) (c.deref_mut-2.ensures.value ∙ ap (λ (f : Fields g.row.T.Denot g.row.U.Denot). f.publishers) c.state-2.view_is) in
-    makes-as fixed_handlers old c.requires.agrees c.args.publisher_place c.args.subscriber_place x at due _ _ c.ports_at-buffer.ensures c.requires.none c.requires.opened
+    makes-as fixed_handlers old c.requires.agrees c.args.publisher_place c.args.subscriber_place x at due free _ _ c.ports_at-buffer.ensures c.requires.none c.requires.opened
     looked mid c.make_between.ensures.grows
     c.in-Ok.ensures.sender_room c.in-Ok.ensures.receiver_room c.in-Ok.ensures.expired_room c.in-Ok.key c.in-Ok.ensures.made
     _ (λ k. record (c.state-2.view_is k) { publishers = written k })

@@ -6,7 +6,7 @@ use Rattle.iox2_store.specs.machine.Environments.{fixed_handlers}
 use Rattle.iox2_domain.specs.Fields.{Fields}
 use Rattle.iox2_domain.specs.Drops.{StandsElsewhere}
 use Rattle.iox2_domain.specs.Updates.{sender_key, is_open_subscriber}
-use Rattle.iox2_domain.proofs.lemmas.updates.PlaceCalls.{stands-elsewhere, stands-there, alone-there, unused-there, end-stands, keeps-there, drops-there, loses-there, lost-stands, lost-within, lost-settled, lost-key}
+use Rattle.iox2_domain.proofs.lemmas.updates.PlaceCalls.{stands-elsewhere, stands-there, alone-there, unused-there, end-stands, keeps-there, drops-there, loses-there, lost-stands, lost-within, lost-settled, lost-free, lost-key}
 use Rattle.iox2_ports.proofs.connects.update_sender_place.Goals as goal
 
 pub index-requires : goal.index-requires
@@ -15,7 +15,7 @@ index-requires g c =
     let there = c.requires.publisher in
     let named : sender_key old.publishers c.args.publisher_place c.args.subscriber_place ≡ Some c.in-Some.key =
     ap (λ xs. sender_key xs c.args.publisher_place c.args.subscriber_place) (sym (c.deref.ensures.value ∙ ap (λ (f : Fields g.row.T.Denot g.row.U.Denot). f.publishers) c.state.view_is)) ∙ sym c.key_at.ensures ∙ c.in-Some.is in
-    rw (ap (λ (f : Fields g.row.T.Denot g.row.U.Denot). f.connections) c.state.view_is) (end-stands old c.requires.agrees c.args.publisher_place c.args.subscriber_place there.0 there.1 (c.requires.settled there.0 there.1) c.in-Some.key named)
+    rw (ap (λ (f : Fields g.row.T.Denot g.row.U.Denot). f.connections) c.state.view_is) (end-stands old c.requires.agrees c.args.publisher_place c.args.subscriber_place there.0 there.1 (c.requires.settled there.0 there.1) (c.requires.unblocked there.0 there.1) c.in-Some.key named)
 
 pub connect_sender-requires-then-not-stands_at-clause-agrees : goal.connect_sender-requires-then-not-stands_at-clause-agrees
 connect_sender-requires-then-not-stands_at-clause-agrees g c =
@@ -36,6 +36,12 @@ connect_sender-requires-then-not-stands_at-clause-settled g c =
     let there = c.requires.publisher in
     lost-settled c.args.state.now c.requires.agrees c.args.publisher_place c.args.subscriber_place there.0 there.1 (c.requires.settled there.0 there.1) c.disconnect_sender.new.state (c.disconnect_sender.ensures there.0 there.1)
 
+pub connect_sender-requires-then-not-stands_at-clause-unblocked : goal.connect_sender-requires-then-not-stands_at-clause-unblocked
+connect_sender-requires-then-not-stands_at-clause-unblocked g c =
+    let there = c.requires.publisher in
+    lost-free c.args.state.now c.requires.agrees c.args.publisher_place c.args.subscriber_place there.0 there.1 (c.requires.settled there.0 there.1) c.disconnect_sender.new.state (c.disconnect_sender.ensures there.0 there.1)
+    (c.requires.unblocked there.0 there.1)
+
 pub connect_sender-requires-then-not-stands_at-clause-none : goal.connect_sender-requires-then-not-stands_at-clause-none
 connect_sender-requires-then-not-stands_at-clause-none g c =
     let there = c.requires.publisher in
@@ -52,7 +58,7 @@ disconnect_sender-requires-clause-unused g c =
     let at_c : get old.connections c.in-Some.key ≡ Some c.index.result.now = ap (λ (f : Fields g.row.T.Denot g.row.U.Denot). get f.connections c.in-Some.key) (sym viewed) ∙ c.index.ensures in
     let elsewhere : StandsElsewhere old.subscribers c.args.subscriber_place c.index.result.now.home.subscriber =
     rw (sym (c.deref-2.ensures.value ∙ subscribers), sym c.home-subscriber.ensures.value) (stands-elsewhere _ c.args.subscriber_place _ c.stands_at.result c.stands_at.ensures c.if-not-stands_at.true) in
-    rw at_c (unused-there old c.requires.agrees c.args.publisher_place c.args.subscriber_place there.0 there.1 (c.requires.settled there.0 there.1) c.in-Some.key named c.index.result.now at_c elsewhere)
+    rw at_c (unused-there old c.requires.agrees c.args.publisher_place c.args.subscriber_place there.0 there.1 (c.requires.settled there.0 there.1) (c.requires.unblocked there.0 there.1) c.in-Some.key named c.index.result.now at_c elsewhere)
 
 pub disconnect_sender-requires-clause-alone : goal.disconnect_sender-requires-clause-alone
 disconnect_sender-requires-clause-alone g c = λ d at_d.
@@ -67,7 +73,7 @@ disconnect_sender-requires-clause-alone g c = λ d at_d.
     rw (sym (c.deref-2.ensures.value ∙ subscribers), sym c.home-subscriber.ensures.value) (stands-elsewhere _ c.args.subscriber_place _ c.stands_at.result c.stands_at.ensures c.if-not-stands_at.true) in
     let both : Some c.index.result.now ≡ Some d = sym at_c ∙ at_d in
     let is : c.index.result.now ≡ d = cc in
-    alone-there old c.requires.agrees c.args.publisher_place c.args.subscriber_place there.0 there.1 (c.requires.settled there.0 there.1) c.in-Some.key named d at_d
+    alone-there old c.requires.agrees c.args.publisher_place c.args.subscriber_place there.0 there.1 (c.requires.settled there.0 there.1) (c.requires.unblocked there.0 there.1) c.in-Some.key named d at_d
     (subst (λ (l : Link). StandsElsewhere old.subscribers c.args.subscriber_place l.home.subscriber) is elsewhere)
 
 pub returns-then-not-stands_at : goal.returns-then-not-stands_at
@@ -81,7 +87,7 @@ returns-then-not-stands_at g c = λ x at.
     let elsewhere : StandsElsewhere old.subscribers c.args.subscriber_place c.index.result.now.home.subscriber =
     rw (sym (c.deref-2.ensures.value ∙ subscribers), sym c.home-subscriber.ensures.value) (stands-elsewhere _ c.args.subscriber_place _ c.stands_at.result c.stands_at.ensures c.if-not-stands_at.true) in
     let loses = c.disconnect_sender.ensures x at in
-    loses-there old c.requires.agrees c.args.publisher_place c.args.subscriber_place x at (c.requires.settled x at) c.in-Some.key named fixed_handlers c.index.result.now at_c
+    loses-there old c.requires.agrees c.args.publisher_place c.args.subscriber_place x at (c.requires.settled x at) (c.requires.unblocked x at) c.in-Some.key named fixed_handlers c.index.result.now at_c
     elsewhere c.disconnect_sender.new.state loses c.connect_sender-then-not-stands_at.new.state None
     (c.connect_sender-then-not-stands_at.ensures _ (lost-stands old c.requires.agrees c.args.publisher_place c.args.subscriber_place x at (c.requires.settled x at) c.disconnect_sender.new.state loses))
 
@@ -98,7 +104,7 @@ returns-then-not-is_open_at g c = λ x at.
     let its : (there.0).id ≡ c.index.result.now.home.subscriber = there.2 ∙ ap (λ (h : Home). h.subscriber) c.home-subscriber.ensures.value in
     let shut : is_open_subscriber old.subscribers c.args.subscriber_place ≡ false =
     sym (c.is_open_at.ensures ∙ ap (λ ys. is_open_subscriber ys c.args.subscriber_place) (c.deref-else-not-stands_at.ensures.value ∙ subscribers)) ∙ c.if-not-is_open_at.true in
-    drops-there old c.requires.agrees c.args.publisher_place c.args.subscriber_place x at (c.requires.settled x at) c.in-Some.key named fixed_handlers c.index.result.now at_c
+    drops-there old c.requires.agrees c.args.publisher_place c.args.subscriber_place x at (c.requires.settled x at) (c.requires.unblocked x at) c.in-Some.key named fixed_handlers c.index.result.now at_c
     there.0 at_y its shut c.drop_waiting_at.new.state (c.drop_waiting_at.ensures x at c.index.result.now at_c)
 
 pub returns-else-not-is_open_at : goal.returns-else-not-is_open_at
@@ -114,5 +120,5 @@ returns-else-not-is_open_at g c = λ x at.
     let its : (there.0).id ≡ c.index.result.now.home.subscriber = there.2 ∙ ap (λ (h : Home). h.subscriber) c.home-subscriber.ensures.value in
     let opened : is_open_subscriber old.subscribers c.args.subscriber_place ≡ true =
     sym (c.is_open_at.ensures ∙ ap (λ ys. is_open_subscriber ys c.args.subscriber_place) (c.deref-else-not-stands_at.ensures.value ∙ subscribers)) ∙ c.if-not-is_open_at.false in
-    keeps-there old c.requires.agrees c.args.publisher_place c.args.subscriber_place x at (c.requires.settled x at) c.in-Some.key named fixed_handlers c.index.result.now at_c
+    keeps-there old c.requires.agrees c.args.publisher_place c.args.subscriber_place x at (c.requires.settled x at) (c.requires.unblocked x at) c.in-Some.key named fixed_handlers c.index.result.now at_c
     there.0 at_y its opened

@@ -32,6 +32,8 @@ returns g c =
     closes-done c.args.state.now _ c.state.view_is c.requires.sound c.args.place _
     (read-there _ c.args.place _ _ (ap (λ (f : Fields g.row.T.Denot g.row.U.Denot). slice_index_or f.publishers c.args.place None) c.state.view_is ∙ c.requires.stands.1) c.index_mut.ensures.value ∙ sym c.take.ensures.value ∙ c.in-Some.is ∙ ap Some (sym c.publisher.view_is))
     (subst (λ (f : Fields g.row.T.Denot g.row.U.Denot). IsUnmarkedSender f.connections c.args.place) (sym c.state.view_is) c.requires.unmarked)
+    (c.requires.unblocked _ (sym (ap (λ (f : Fields g.row.T.Denot g.row.U.Denot). slice_index_or f.publishers c.args.place None) c.state.view_is)
+    ∙ read-there _ c.args.place _ _ (ap (λ (f : Fields g.row.T.Denot g.row.U.Denot). slice_index_or f.publishers c.args.place None) c.state.view_is ∙ c.requires.stands.1) c.index_mut.ensures.value ∙ sym c.take.ensures.value ∙ c.in-Some.is ∙ ap Some (sym c.publisher.view_is)))
     _ c.index_mut-book.ensures.value c.leave_connections.new.book c.leave_connections.ensures.book c.leave_connections.new.connections (rw (sym c.publisher.view_is) at c.leave_connections.ensures.counters)
     c.leave_connections.ensures.slots (rw (sym c.publisher.view_is, c.deref.ensures.value) at c.leave_connections.ensures.connections)
     c.give_up_history.new.book c.give_up_history.ensures.book c.give_up_history.ensures.releases

@@ -1,4 +1,4 @@
-use Rattle.std.proofs.Common.{rules, ◌≡◌, ◌≢◌, ◌∙◌, ◌+◌, ◌≤◌, length, vec_len, ap, sym, map, arith, refl, [], get_or, inl, inr}
+use Rattle.std.proofs.Common.{rules, ◌≡◌, ◌≢◌, ◌∙◌, ◌+◌, ◌≤◌, length, vec_len, ap, map, arith, refl, [], get_or, inl, inr}
 use Rattle.std.proofs.lemmas.List.{with_items_is}
 use Rattle.std.specs.Option.{option_map}
 use Rattle.std.specs.declared.option.Option.TheVariants.{None}
@@ -56,11 +56,11 @@ overflow_add-state g c =
 pub returns-clause-step : goal.returns-clause-step
 returns-clause-step g c =
     let loans = c.args.max_loaned_samples in
-    entered-reaches-as {T = g.row.T.Denot} {U = g.row.U.Denot} c.args.state.now _ _ c.state.view_is c.requires.agrees loans c.args.slots c.args.initial_max_slice_len c.args.place c.in-Ok-entering.publisher c.in-Ok.segment.book c.in-Ok.segment.contents
+    entered-reaches-as {T = g.row.T.Denot} {U = g.row.U.Denot} c.args.state.now _ _ c.state.view_is c.requires.agrees loans c.args.slots c.args.strategy c.args.initial_max_slice_len c.args.place c.in-Ok-entering.publisher c.in-Ok.segment.book c.in-Ok.segment.contents
     c.add_segment.new.books c.requires.has_place c.requires.slots (record {
       publisher = c.in-Ok-entering.ensures.enters
-          ∙ ap (λ id. entering_publisher id c.args.place c.vacant_key-key.result loans c.args.slots c.args.initial_max_slice_len c.in-Ok-entering.publisher.loan_room (buffer [] c.state.inside.config.history_size) c.in-Ok-entering.publisher.key_room) c.new-id.ensures
-          ∙ ap (λ key. entering_publisher c.state.inside.next_port c.args.place key loans c.args.slots c.args.initial_max_slice_len c.in-Ok-entering.publisher.loan_room (buffer [] c.state.inside.config.history_size) c.in-Ok-entering.publisher.key_room) c.vacant_key-key.ensures.value;
+          ∙ ap (λ id. entering_publisher id c.args.place c.vacant_key-key.result loans c.args.slots c.args.strategy c.args.initial_max_slice_len c.in-Ok-entering.publisher.loan_room (buffer [] c.state.inside.config.history_size) c.in-Ok-entering.publisher.key_room) c.new-id.ensures
+          ∙ ap (λ key. entering_publisher c.state.inside.next_port c.args.place key loans c.args.slots c.args.strategy c.args.initial_max_slice_len c.in-Ok-entering.publisher.loan_room (buffer [] c.state.inside.config.history_size) c.in-Ok-entering.publisher.key_room) c.vacant_key-key.ensures.value;
       room = c.in-Ok-entering.ensures.room;
       is_its = c.in-Ok.ensures.is_its ∙ c.new-id.ensures;
       unused = c.in-Ok.ensures.unused;
@@ -92,6 +92,7 @@ returns-clause-stands g c = (
   c.in-Ok-entering.publisher,
   ap (λ xs. get_or xs c.args.place None) c.put_at_place.ensures.items ∙ placed-here c.in-Ok-entering.publisher c.try_reserve.new.self.items c.args.place,
   ap (λ (x : PublisherFields). x.id) c.in-Ok-entering.ensures.enters ∙ c.new-id.ensures ∙ ap (λ (f : Fields g.row.T.Denot g.row.U.Denot). f.next_port) c.state.view_is,
+  ap (λ (x : PublisherFields). x.blocked) c.in-Ok-entering.ensures.enters,
 )
 
 pub put_at_place-requires : goal.put_at_place-requires

@@ -1,6 +1,6 @@
 use Rattle.std.proofs.Common.{rules, ◌≡◌, ◌∙◌, length, true, false, ap, sym, subst, arith, vec_len, slice_set}
 use Rattle.std.proofs.lemmas.List.{with_items_is}
-use Rattle.std.specs.declared.option.Option.TheVariants.{None}
+use Rattle.std.specs.declared.option.Option.TheVariants.{None, Some}
 use Rattle.iox2_domain.specs.Ports.{PublisherFields}
 use Rattle.std.specs.Option.{option_map, option_map_or}
 use Rattle.iox2_store.specs.machine.Environments.{fixed_handlers}
@@ -19,7 +19,7 @@ loop-other-init g c = λ x at.
     ∙ ap (λ xs. changed_at updated_publisher xs c.args.place) (c.deref_mut.ensures.value ∙ ap (λ (f : Fields g.row.T.Denot g.row.U.Denot). f.publishers) viewed) in
     subst (λ (f : Fields g.row.T.Denot g.row.U.Denot). WalksSender fixed_handlers old c.args.place x 0 f None)
     (sym ((λ k. record (viewed k) { publishers = settled k }) ∙ ap (λ o. record old { publishers = slice_set old.publishers c.args.place (option_map updated_publisher o) }) at))
-    (walk-begins fixed_handlers old c.requires.agrees c.args.place x at)
+    (walk-begins fixed_handlers old c.requires.agrees c.args.place x at (c.requires.unblocked x at))
 
 pub update_sender_place-requires-clause-agrees : goal.update_sender_place-requires-clause-agrees
 update_sender_place-requires-clause-agrees g c =
@@ -46,6 +46,16 @@ update_sender_place-requires-clause-settled g c = λ z at_z.
     let there = c.requires.stands in
     let stands = walking-stands fixed_handlers old c.requires.agrees c.args.place there.0 there.1 c.loop-other.other c.loop-other.state None (c.loop-other.invariant there.0 there.1) in
     ap (λ o. option_map_or (λ (w : PublisherFields). w.is_due) o false) (sym at_z ∙ stands)
+
+pub update_sender_place-requires-clause-unblocked : goal.update_sender_place-requires-clause-unblocked
+update_sender_place-requires-clause-unblocked g c = λ z at_z.
+    let old = c.args.state.now in
+    let there = c.requires.stands in
+    let walks = c.loop-other.invariant there.0 there.1 in
+    let both : Some z ≡ Some (record (there.0) { keys = walks.keys; key_room = walks.key_room; is_due = false }) =
+    sym at_z ∙ walking-stands fixed_handlers old c.requires.agrees c.args.place there.0 there.1 c.loop-other.other c.loop-other.state None walks in
+    let is : z ≡ record (there.0) { keys = walks.keys; key_room = walks.key_room; is_due = false } = cc in
+    ap (λ (w : PublisherFields). w.blocked) is ∙ c.requires.unblocked there.0 there.1
 
 pub loop-other-preserved : goal.loop-other-preserved
 loop-other-preserved g c = λ x at.
