@@ -1,5 +1,5 @@
 -- What operations leave of the loans that publishers may still take.
-use Rattle.std.proofs.Common.{◌≡◌, ℕ, suc, ◌+◌, ◌<◌, ◌≤◌, Bool, true, false, List, [], ◌∷◌, ◌++◌, length, cond, refl, sym, ap, subst, ◌∙◌, arith, Option, None, Some}
+use Rattle.std.proofs.Common.{◌≡◌, ℕ, suc, ◌+◌, ◌<◌, ◌≤◌, Bool, true, false, List, [], ◌∷◌, ◌++◌, length, cond, drop, refl, sym, ap, subst, ◌∙◌, arith, Option, None, Some}
 use Rattle.std.specs.Prelude.{◌==◌, ◌≢◌, max, nat_lt}
 use Rattle.std.specs.Option.{option_map}
 use Rattle.std.proofs.lemmas.Bool.{ne_eqb}
@@ -9,7 +9,7 @@ use Rattle.iox2_store.specs.machine.Limits.{worst_case, last_number, buffer_limi
 use Rattle.iox2_store.specs.machine.Numbers.{put_at, contains, without, size, last_n, IsOnce}
 use Rattle.iox2_store.specs.machine.Places.{free_place}
 use Rattle.iox2_store.specs.machine.Mailbox.{Mailbox}
-use Rattle.iox2_store.specs.machine.Records.{Loan, Publisher, Subscriber, Environment, PublisherSettings, SubscriberSettings}
+use Rattle.iox2_store.specs.machine.Records.{Loan, Publisher, Subscriber, Environment, BlockedSend, PublisherSettings, SubscriberSettings}
 use Rattle.iox2_store.specs.machine.State.{State, held, with_loan, publisher_changed}
 use Rattle.iox2_store.specs.machine.Delivery.{DeliveryEnd, Complete, Suspended}
 use Rattle.iox2_store.specs.machine.PublisherUpdate.{UpdatePublisher}
@@ -19,7 +19,10 @@ use Rattle.iox2_store.specs.machine.LoansLeft.{CanLend}
 use Rattle.iox2_store.specs.machine.Ports.{CreatePublisher, CreateSubscriber, MakePublisher, MakeSubscriber, with_new_publisher, with_new_subscriber, new_publisher, with_failure_warning, first_segment_fits, slots_for, buffer_for, publisher_closed, subscriber_shut, subscriber_closed}
 use Rattle.iox2_store.specs.machine.Receives.{ReceiveResult, Got_sample, No_sample, Receive_error, TakeSample, Receive}
 use Rattle.iox2_store.specs.machine.Releases.{place_freed, unborrowed, subscriber_pruned, is_unused, freed_if_unused, released}
-use Rattle.iox2_store.specs.machine.Sends.{Send, ConcludeSend, SendResult, Blocked_send, published, with_mailboxes}
+use Rattle.std.specs.declared.time.Duration.{Duration}
+use Rattle.iox2_store.specs.machine.Delivery.{no_time}
+use Rattle.iox2_store.specs.machine.Sends.{Send, Retry, GiveUp, DeliverAndConclude, ConcludeSend, SendResult, Blocked_send, Delivered_to, Send_error, published, with_mailboxes, more_retries}
+use Rattle.iox2_store.specs.declared.errors.SendError.TheVariants.{UnableToDeliver}
 use Rattle.iox2_store.specs.machine.WellFormed.{IsWellFormed}
 use Rattle.iox2_store.specs.declared.errors.ConnectionFailure.{ConnectionFailure}
 use Rattle.iox2_store.specs.declared.errors.PublisherCreateError.{PublisherCreateError}
@@ -392,6 +395,60 @@ module _ {T U : Type 0} where
     where
       Ends : Type 0
       Ends = LoanEnds l.publisher n s s'
+
+  -- ---- a send that is blocked
+
+  concluded_kept : (s : State T U) (p n : ℕ) (how : DeliveryEnd) (s' : State T U) (result : SendResult) → result ≡ Blocked_send → ConcludeSend s p n how s' result → LoansKept s s'
+  concluded_kept s p n (Complete count has_failed) s' result is h = absurd (ended has_failed (sym h.1 ∙ is)) where
+    ended : (failed : Bool) → cond failed (Send_error UnableToDeliver) (Delivered_to count) ≡ Blocked_send → ⊥
+    ended true e = absurd cc
+    ended false e = absurd cc
+  concluded_kept s p n (Suspended b) s' result is h =
+      subst (LoansKept s) (sym h.0) (changed_kept s p (λ x. record x { blocked = Some b }) (λ x. record { allocation = refl; most = refl; slots = refl; longest = refl; loans = refl }))
+
+  delivered_kept : (environment : Environment) (s : State T U) (p n retries : ℕ) (elapsed : Duration) (place : ℕ) (ends : List (Option ℕ)) (count : ℕ) (has_failed : Bool) (s' : State T U)
+      (result : SendResult) → result ≡ Blocked_send → DeliverAndConclude environment s p n retries elapsed place ends count has_failed s' result → LoansKept s s'
+  delivered_kept environment s p n retries elapsed place ends count has_failed s' result is h =
+      by_option (LoansKept s s') (s.publishers p) _ _ h (λ _ v. absurd v)
+      (λ x _ k. kept_trans s (with_mailboxes s p k.1) s' (mailboxes_kept s p k.1) (concluded_kept (with_mailboxes s p k.1) p n k.0 s' result is k.3))
+
+  delivered_ends : (environment : Environment) (s : State T U) (p n retries : ℕ) (elapsed : Duration) (place : ℕ) (ends : List (Option ℕ)) (count : ℕ) (has_failed : Bool) (s' : State T U)
+      (result : SendResult) → (result ≡ Blocked_send → ⊥) → DeliverAndConclude environment s p n retries elapsed place ends count has_failed s' result → LoanEnds p n s s'
+  delivered_ends environment s p n retries elapsed place ends count has_failed s' result free h =
+      by_option (LoanEnds p n s s') (s.publishers p) _ _ h (λ _ v. absurd v)
+      (λ x _ k. kept_ends p n s (with_mailboxes s p k.1) s' (mailboxes_kept s p k.1) (concluded_ends (with_mailboxes s p k.1) p n k.0 s' result free k.3))
+
+  -- its loan still counts
+  pub send_blocked_kept : (environment : Environment) (s : State T U) (n : ℕ) (l : Loan T U) (s' : State T U) (result : SendResult) → result ≡ Blocked_send
+      → Send environment s n l s' result → LoansKept s s'
+  send_blocked_kept environment s n l s' result is h =
+      by_option (LoansKept s s') (s.publishers l.publisher) _ _ h
+      (λ _ k. absurd (let no : Send_error _ ≡ Blocked_send = sym k.1 ∙ is in cc))
+      (λ x _ k.
+      let first : LoansKept s k.0 = update_publisher_kept environment s l.publisher k.0 k.1 k.2 in
+      by_option (LoansKept s s') k.1 _ _ k.3
+      (λ _ j. by_option (LoansKept s s') ((k.0).publishers l.publisher) _ _ j (λ _ v. absurd v) (λ x1 _ i.
+      let mid : State T U = published k.0 l.publisher n in
+      kept_trans s mid s' (kept_trans s k.0 mid first (published_kept k.0 l.publisher n))
+      (delivered_kept environment mid l.publisher n 0 no_time 0 x1.ends 0 false s' result is i)))
+      (λ e _ j. absurd (let no : Send_error _ ≡ Blocked_send = sym j.1 ∙ is in cc)))
+
+  pub retry_blocked_kept : (environment : Environment) (s : State T U) (p : ℕ) (b : BlockedSend) (elapsed : Duration) (s' : State T U) (result : SendResult) → result ≡ Blocked_send
+      → Retry environment s p b elapsed s' result → LoansKept s s'
+  retry_blocked_kept environment s p b elapsed = delivered_kept environment s p b.message (more_retries b.retries) elapsed b.place b.ends b.count b.has_failed
+
+  pub give_up_blocked_kept : (environment : Environment) (s : State T U) (p : ℕ) (b : BlockedSend) (s' : State T U) (result : SendResult) → result ≡ Blocked_send
+      → GiveUp environment s p b s' result → LoansKept s s'
+  give_up_blocked_kept environment s p b = delivered_kept environment s p b.message 0 no_time (b.place + 1) (drop 1 b.ends) b.count b.has_failed
+
+  -- until the send ends
+  pub retry_ends : (environment : Environment) (s : State T U) (p : ℕ) (b : BlockedSend) (elapsed : Duration) (s' : State T U) (result : SendResult) → (result ≡ Blocked_send → ⊥)
+      → Retry environment s p b elapsed s' result → LoanEnds p b.message s s'
+  retry_ends environment s p b elapsed = delivered_ends environment s p b.message (more_retries b.retries) elapsed b.place b.ends b.count b.has_failed
+
+  pub give_up_ends : (environment : Environment) (s : State T U) (p : ℕ) (b : BlockedSend) (s' : State T U) (result : SendResult) → (result ≡ Blocked_send → ⊥)
+      → GiveUp environment s p b s' result → LoanEnds p b.message s s'
+  give_up_ends environment s p b = delivered_ends environment s p b.message 0 no_time (b.place + 1) (drop 1 b.ends) b.count b.has_failed
 
   -- Its publisher may take one loan more.
   pub ended_lends : (p n : ℕ) (s s' : State T U) → IsWellFormed s → (l : Loan T U) → s.loans n ≡ Some l → l.publisher ≡ p → LoanEnds p n s s'

@@ -174,6 +174,35 @@ module _ {T U : Type 0} where
       → GiveUp environment s p b s' result → result ≡ Blocked_send → HoldsBlocked s' p b.message
   give_up_waits_with environment s p b s' result = delivered_waits_with environment s p b.message 0 no_time (b.place + 1) (drop 1 b.ends) b.count b.has_failed s' result
 
+-- ---- a send that isn't blocked frees its publisher
+
+module _ {T U : Type 0} where
+  concluded_frees : (s : State T U) (p n : ℕ) (how : DeliveryEnd) (s' : State T U) (result : SendResult) → (result ≡ Blocked_send → ⊥) → ConcludeSend s p n how s' result
+      → (x' : Publisher) → s'.publishers p ≡ Some x' → x'.blocked ≡ None
+  concluded_frees s p n (Complete count has_failed) s' result free h = λ x' at.
+      let ended : Publisher → Publisher = λ (x : Publisher). record x { loans = without n x.loans; blocked = None } in
+      by (s.publishers p) x' (sym (put_at-same s.publishers p (option_map ended (s.publishers p))) ∙ sym (ap (λ (t : State T U). t.publishers p) h.0) ∙ at)
+    where
+      by : (o : Option Publisher) (x' : Publisher) → option_map (λ (x : Publisher). record x { loans = without n x.loans; blocked = None }) o ≡ Some x' → x'.blocked ≡ None
+      by None x' e = absurd (let no : None ≡ Some x' = e in cc)
+      by (Some x) x' e = sym (ap (λ (z : Publisher). z.blocked) (same_Some _ x' e))
+  concluded_frees s p n (Suspended b) s' result free h = absurd (free h.1)
+
+  delivered_frees : (environment : Environment) (s : State T U) (p n retries : ℕ) (elapsed : Duration) (place : ℕ) (ends : List (Option ℕ)) (count : ℕ)
+      (has_failed : Bool) (s' : State T U) (result : SendResult) → (result ≡ Blocked_send → ⊥)
+      → DeliverAndConclude environment s p n retries elapsed place ends count has_failed s' result → (x' : Publisher) → s'.publishers p ≡ Some x' → x'.blocked ≡ None
+  delivered_frees environment s p n retries elapsed place ends count has_failed s' result free h =
+      by_option ((x' : Publisher) → s'.publishers p ≡ Some x' → x'.blocked ≡ None) (s.publishers p) _ _ h (λ _ v. absurd v)
+      (λ x _ k. concluded_frees (with_mailboxes s p k.1) p n k.0 s' result free k.3)
+
+  pub retry_frees : (environment : Environment) (s : State T U) (p : ℕ) (b : BlockedSend) (elapsed : Duration) (s' : State T U) (result : SendResult) → (result ≡ Blocked_send → ⊥)
+      → Retry environment s p b elapsed s' result → (x' : Publisher) → s'.publishers p ≡ Some x' → x'.blocked ≡ None
+  retry_frees environment s p b elapsed = delivered_frees environment s p b.message (more_retries b.retries) elapsed b.place b.ends b.count b.has_failed
+
+  pub give_up_frees : (environment : Environment) (s : State T U) (p : ℕ) (b : BlockedSend) (s' : State T U) (result : SendResult) → (result ≡ Blocked_send → ⊥)
+      → GiveUp environment s p b s' result → (x' : Publisher) → s'.publishers p ≡ Some x' → x'.blocked ≡ None
+  give_up_frees environment s p b = delivered_frees environment s p b.message 0 no_time (b.place + 1) (drop 1 b.ends) b.count b.has_failed
+
 -- ---- a publisher that was made waits for nobody
 
 module _ {T U : Type 0} where

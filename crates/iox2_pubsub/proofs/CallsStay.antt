@@ -1,5 +1,5 @@
 -- What each call leaves of a domain.
-use Rattle.std.proofs.Common.{◌≡◌, Bool, ℕ, ◌<◌, List, refl, true, false, sym, ap, subst, ◌∙◌, Option, None, Some, Result, Ok, Err, inl, inr, arith}
+use Rattle.std.proofs.Common.{◌≡◌, Bool, ℕ, ◌<◌, List, [], refl, true, false, sym, ap, subst, ◌∙◌, Option, None, Some, Result, Ok, Err, inl, inr, arith}
 use Rattle.std.specs.Prelude.{◌≢◌}
 use Rattle.std.proofs.lemmas.Bool.{cases_eq, ne_eqb, true≢false}
 use Rattle.iox2_store.specs.machine.Environments.{ample_memory, fixed_handlers}
@@ -12,9 +12,9 @@ use Rattle.iox2_store.specs.machine.Records.{Entry, Loan, Publisher, PublisherSe
 use Rattle.iox2_store.specs.machine.Releases.{released}
 use Rattle.iox2_store.specs.machine.Sends.{SendResult, Delivered_to, Blocked_send, Send_error, Send}
 use Rattle.iox2_store.specs.declared.errors.SendError.{SendError}
-use Rattle.iox2_pubsub.specs.SendCalls.{Sends, messages_after}
+use Rattle.iox2_pubsub.specs.SendCalls.{Sends, messages_after, spent_by_send, spent_by_copy}
 use Rattle.iox2_pubsub.specs.declared.send_outcome.SendOutcome.{SendOutcome}
-use Rattle.iox2_pubsub.specs.declared.send_outcome.SendOutcome.TheVariants.{Delivered}
+use Rattle.iox2_pubsub.specs.declared.send_outcome.SendOutcome.TheVariants.{Delivered, Blocked}
 use Rattle.iox2_store.specs.Stored.{In_mailbox}
 use Rattle.iox2_store.specs.machine.State.{State, Messages, with_loan}
 use Rattle.iox2_store.specs.declared.errors.LoanError.{LoanError}
@@ -27,6 +27,7 @@ use Rattle.iox2_laws.proofs.NextLoan.{loan_next}
 use Rattle.iox2_laws.proofs.NumberLemmas.{IsOnce-apart, contains_first, contains_right}
 use Rattle.iox2_laws.proofs.PortsStay.{PortsStay, Remain, ports_stay_themselves, create_publisher_stays, create_subscriber_stays, grant_loan_stays, loan_set_stays, send_stays, update_subscriber_stays}
 use Rattle.iox2_laws.proofs.Puts.{put_at-other, put_at-same}
+use Rattle.iox2_laws.proofs.SendsRemain.{send_remains}
 use Rattle.iox2_laws.proofs.SamplesStay.{same_borrowed, IsReceived, received_one, nothing_received, released_remain, released_now, released_others}
 use Rattle.iox2_laws.proofs.SubscriberUpdates.{update_subscriber_keeps}
 use Rattle.iox2_laws.proofs.Waits.{Waits, waits_itself, create_publisher_waits, create_subscriber_waits, grant_loan_waits, loan_set_waits, send_waits as send_spared, receive_waits, released_waits}
@@ -35,12 +36,14 @@ use Rattle.iox2_domain.specs.Invariant.{IsDomain}
 use Rattle.iox2_domain.specs.Kept.{Kept, state_of, entries_of}
 use Rattle.iox2_domain.specs.Lending.{LoanCall}
 use Rattle.iox2_domain.specs.Shows.{Shows}
-use Rattle.iox2_pubsub.specs.Live.{IsPublisherKey, IsSubscriberKey, IsLoanKey, IsSampleKey, No_item, A_publisher, A_subscriber, A_loan, A_sample, IsOtherSample, StaysBut, Stays, IsNewIn, unwritten_key, written_key, sample_key}
+use Rattle.iox2_pubsub.specs.Live.{Item, IsOtherLoan, IsPublisherKey, IsSubscriberKey, IsLoanKey, IsSampleKey, No_item, A_publisher, A_subscriber, A_loan, A_sample, IsOtherSample, IsBlockedKey, A_blocked_send, Both, StaysBut, Stays, IsNewIn, unwritten_key, written_key, sample_key}
+use Rattle.iox2_pubsub.specs.declared.publisher.Publisher.{Publisher as Handle}
+use Rattle.iox2_pubsub.specs.declared.sample_mut.SampleMut.{SampleMut}
 use Rattle.iox2_pubsub.specs.Slices.{HasUnwrittenCells, HasValues}
 use Rattle.iox2_pubsub.proofs.AlwaysShows.{shows_itself}
-use Rattle.iox2_pubsub.proofs.LiveParts.{publisher-parts, subscriber-parts, loan-parts, sample-parts, origin-parts}
+use Rattle.iox2_pubsub.proofs.LiveParts.{publisher-parts, subscriber-parts, loan-parts, sample-parts, origin-parts, blocked-parts}
 use Rattle.iox2_pubsub.proofs.SliceParts.{cells-parts, values-parts}
-use Rattle.iox2_pubsub.proofs.StaysBut.{IsSpared, ports-remain, stays-between}
+use Rattle.iox2_pubsub.proofs.StaysBut.{IsSpared, PortsRemainBut, SamplesStayBut, ports-remain, stays-between, stays-on, stays-on-but}
 
 -- a domain shows some state
 pub always-shown : {T U : Type 0} (f : Fields T U) (kept : Kept T U) → IsDomain f → kept_of f ≡ kept → (m : Messages T U) × (s : State T U) × Shows kept m s
@@ -91,11 +94,18 @@ module _ {T U : Type 0} (old new : Kept T U) (m : Messages T U) (s : State T U) 
     cells = λ n cells has. tt;
     payloads = λ n values has. tt;
     unblocked = λ key free. tt;
+    blocked_sends = λ key live. (waiting-apart key live, tt);
   } where
     apart : (key : Key) → IsPublisherKey old key → key.port ≢ id
     apart key live same =
         let has = (publisher-parts old key live).2 in
         let known : key.port < s.next_port = (shown.well_formed.publishers key.port has.0 (ap (λ (t : State T U). t.publishers key.port) shown.state ∙ has.1)).is_known in
+        omega arith
+
+    waiting-apart : (key : Key) → IsBlockedKey old key → key.port ≢ id
+    waiting-apart key live same =
+        let has = (blocked-parts old key live).1 in
+        let known : key.port < s.next_port = (shown.well_formed.publishers key.port has.0 (ap (λ (t : State T U). t.publishers key.port) shown.state ∙ has.2)).is_known in
         omega arith
 
   -- the new subscriber is none that was there
@@ -111,6 +121,7 @@ module _ {T U : Type 0} (old new : Kept T U) (m : Messages T U) (s : State T U) 
     cells = λ n cells has. tt;
     payloads = λ n values has. tt;
     unblocked = λ key free. tt;
+    blocked_sends = λ key live. (tt, tt);
   } where
     apart : (key : Key) → IsSubscriberKey old key → key.port ≢ id
     apart key live same =
@@ -141,6 +152,7 @@ module _ {T U : Type 0} (old new : Kept T U) (m : Messages T U) (s : State T U) 
     cells = cells-apart;
     payloads = values-apart;
     unblocked = λ key free. tt;
+    blocked_sends = λ key live. (tt, tt);
   }
     where
       out-apart : (n : ℕ) (l : Loan T U) → (state_of old).loans n ≡ Some l → n ≢ number
@@ -169,14 +181,23 @@ module _ {T U : Type 0} (old new : Kept T U) (m : Messages T U) (s : State T U) 
       (λ i j k at _. same_borrowed s s' stay i j k ∙ at) (loan_set_waits (IsSpared (A_loan n)) s n (Some l))
 
   -- a send leaves what is borrowed and the ports, and each publisher but its own waits as it did
-  module _ (n : ℕ) (l : Loan T U) (out : s.loans n ≡ Some l) (result : SendResult) (s' : State T U) (h : Send fixed_handlers s n l s' result) (ends : result ≡ Blocked_send → ⊥)
-      (free : (x : Publisher) → s.publishers l.publisher ≡ Some x → x.blocked ≡ None) where
-    stay : PortsStay s s'
-    stay = send_stays fixed_handlers s n l s' result h ends
+  module _ (n : ℕ) (l : Loan T U) (out : s.loans n ≡ Some l) (result : SendResult) (s' : State T U) (h : Send fixed_handlers s n l s' result) where
+    sent-remain : (spent : Item) → PortsRemainBut spent s s'
+    sent-remain spent =
+        let remain = send_remains fixed_handlers s n l s' result h in
+        record {
+          config = remain.config;
+          publishers = λ p x here _. remain.publishers p x here;
+          subscribers = λ q y here is_open _. remain.subscribers q y here is_open;
+        }
 
-    -- and so does its own, where the send isn't blocked
-    send-waits : Waits (IsSpared (A_loan n)) s s'
-    send-waits =
+    sent-borrowed : (spent : Item) → SamplesStayBut spent s s'
+    sent-borrowed spent p q k at other =
+        ap (λ (ns : List ℕ). is_borrowed k (record { waiting = []; borrowed = ns })) ((send_remains fixed_handlers s n l s' result h).borrowed p q) ∙ at
+
+    -- where it isn't blocked, so does its own
+    unblocked-waits : (Spared : ℕ → Type 0) → (result ≡ Blocked_send → ⊥) → ((x : Publisher) → s.publishers l.publisher ≡ Some x → x.blocked ≡ None) → Waits Spared s s'
+    unblocked-waits Spared ends free =
         let mine = send_spared (λ (q : ℕ). q ≡ l.publisher) fixed_handlers s n l refl s' result h in
         record {
           next_port = mine.next_port;
@@ -191,7 +212,7 @@ module _ {T U : Type 0} (old new : Kept T U) (m : Messages T U) (s : State T U) 
                     | inr away ↦ was.2.blocked away
                     | inl same ↦
                         let none : (was.0).blocked ≡ None = free was.0 (ap s.publishers (sym same) ∙ was.1) in
-                        let there = (stay.remain).publishers p was.0 was.1 in
+                        let there = ((send_stays fixed_handlers s n l s' result h ends).remain).publishers p was.0 was.1 in
                         let both : Some x' ≡ Some there.0 = sym at ∙ there.1 in
                         let is : x' ≡ there.0 = cc in
                         ap (λ (x : Publisher). x.blocked) is ∙ there.2 none ∙ sym none
@@ -200,27 +221,36 @@ module _ {T U : Type 0} (old new : Kept T U) (m : Messages T U) (s : State T U) 
               );
         }
 
-    -- all but the loan stays
-    send-keeps : (m' : Messages T U) → Shows new m' s' → ((k : ℕ) (entry : Entry T U) → m k ≡ Some entry → m' k ≡ Some entry) → StaysBut (A_loan n) old new
-    send-keeps m' shown' sent =
+    -- all but the loan stays, and its publisher where it is blocked
+    sent-keeps : (spent : Item) → ((k : ℕ) → IsOtherLoan spent k → k ≢ n) → Waits (IsSpared spent) s s' → (m' : Messages T U) → Shows new m' s' → ((k : ℕ) (entry : Entry T U) → m k ≡ Some entry → m' k ≡ Some entry)
+        → StaysBut spent old new
+    sent-keeps spent others waits m' shown' sent =
         let loans : s'.loans ≡ put_at s.loans n None = send_loans fixed_handlers s n l s' result h in
-        stays-between (A_loan n) old new m m' s s' shown shown' sent (ports-remain _ s s' stay.remain)
-        (λ k loan at other. ap (λ (f : ℕ → Option (Loan T U)). f k) loans ∙ put_at-other s.loans n None k (ne_eqb k n other) ∙ at)
-        (λ i j k at _. same_borrowed s s' stay i j k ∙ at) send-waits
+        stays-between spent old new m m' s s' shown shown' sent (sent-remain spent)
+        (λ k loan at other. ap (λ (f : ℕ → Option (Loan T U)). f k) loans ∙ put_at-other s.loans n None k (ne_eqb k n (others k other)) ∙ at)
+        (sent-borrowed spent) waits
 
     -- a message that was sent before has another number
     sent-before : (k : ℕ) (entry other : Entry T U) → m k ≡ Some other → put_at m n (Some entry) k ≡ Some other
     sent-before k entry other at = put_at-other m n (Some entry) k (ne_eqb k n (λ e.
         let clash : None ≡ Some other = sym (shown.unsent n l out) ∙ ap m (sym e) ∙ at in absurd cc)) ∙ at
 
-  -- a send that may fail
-  pub sent-stays : (n : ℕ) (l : Loan T U) → s.loans n ≡ Some l → ((x : Publisher) → s.publishers l.publisher ≡ Some x → x.blocked ≡ None)
-      → (result : Result SendOutcome SendError) (s' : State T U) → Shows new (messages_after m n l result) s' → Sends s n l result s' → StaysBut (A_loan n) old new
-  sent-stays n l out free (Ok (Delivered count)) s' shown' h =
-      send-keeps n l out (Delivered_to count) s' h (λ e. let clash : Delivered_to count ≡ Blocked_send = e in cc) free _ shown'
-      (λ k other at. sent-before n l out (Delivered_to count) s' h (λ e. let clash : Delivered_to count ≡ Blocked_send = e in cc) free k (entry_of l) other at)
-  sent-stays n l out free (Err error) s' shown' h =
-      send-keeps n l out (Send_error error) s' h (λ e. let clash : Send_error error ≡ Blocked_send = e in cc) free _ shown' (λ k entry at. at)
+  -- a send that may fail, or be blocked
+  pub sent-stays : (loan : SampleMut) (l : Loan T U) → s.loans loan.loan.number ≡ Some l → l.publisher ≡ loan.loan.publisher → ((x : Publisher) → s.publishers l.publisher ≡ Some x → x.blocked ≡ None)
+      → (result : Result SendOutcome SendError) (s' : State T U) → Shows new (messages_after m loan.loan.number l result) s'
+      → Sends s loan.loan.number l result s' → StaysBut (spent_by_send loan result) old new
+  sent-stays loan l out its free (Ok (Delivered count)) s' shown' h =
+      sent-keeps loan.loan.number l out (Delivered_to count) s' h (A_loan loan.loan.number) (λ k other. other)
+      (unblocked-waits loan.loan.number l out (Delivered_to count) s' h (IsSpared (A_loan loan.loan.number)) (λ e. let clash : Delivered_to count ≡ Blocked_send = e in cc) free)
+      _ shown' (λ k entry at. sent-before loan.loan.number l out (Delivered_to count) s' h k (entry_of l) entry at)
+  sent-stays loan l out its free (Ok (Blocked blocked)) s' shown' h =
+      sent-keeps loan.loan.number l out Blocked_send s' h (Both (A_loan loan.loan.number) (A_blocked_send loan.loan.publisher)) (λ k other. other.0)
+      (send_spared (IsSpared (Both (A_loan loan.loan.number) (A_blocked_send loan.loan.publisher))) fixed_handlers s loan.loan.number l (λ other. other.1 its) s' Blocked_send h)
+      _ shown' (λ k entry at. sent-before loan.loan.number l out Blocked_send s' h k (entry_of l) entry at)
+  sent-stays loan l out its free (Err error) s' shown' h =
+      sent-keeps loan.loan.number l out (Send_error error) s' h (A_loan loan.loan.number) (λ k other. other)
+      (unblocked-waits loan.loan.number l out (Send_error error) s' h (IsSpared (A_loan loan.loan.number)) (λ e. let clash : Send_error error ≡ Blocked_send = e in cc) free)
+      _ shown' (λ k entry at. at)
 
   -- it is out no more
   pub send-spends : (environment : Environment) (key : Key) (l : Loan T U) (result : SendResult) (m' : Messages T U) (s' : State T U) → Shows new m' s'
@@ -269,7 +299,7 @@ module _ {T U : Type 0} (old new : Kept T U) (m : Messages T U) (s : State T U) 
       (λ e _ k. let clash : Got_sample p n ≡ Receive_error _ = k.1 in absurd cc)
 
   pub received-is-new : (environment : Environment) (p q n : ℕ) (s' : State T U) → Shows new m s' → Receive environment s q s' (Got_sample p n) → IsNewIn old (A_sample q n)
-  received-is-new environment p q n s' shown' h = record { publishers = λ key live. tt; subscribers = λ key live. tt; loans = λ key live. tt; unwritten_loans = λ it live. tt; written_loans = λ it live. tt; samples = apart; origins = λ it from. away it.origin it.sample.subscriber it.sample.number (origin-parts old it from); cells = λ n cells has. tt; payloads = λ n values has. tt; unblocked = λ key free. tt } where
+  received-is-new environment p q n s' shown' h = record { publishers = λ key live. tt; subscribers = λ key live. tt; loans = λ key live. tt; unwritten_loans = λ it live. tt; written_loans = λ it live. tt; samples = apart; origins = λ it from. away it.origin it.sample.subscriber it.sample.number (origin-parts old it from); cells = λ n cells has. tt; payloads = λ n values has. tt; unblocked = λ key free. tt; blocked_sends = λ key live. (tt, tt) } where
     got : IsReceived environment s q p n s'
     got = received_one environment s q p n s' h
 
@@ -320,3 +350,12 @@ module _ {T U : Type 0} (old new : Kept T U) (m : Messages T U) (s : State T U) 
         | inl e ↦ true≢false (sym there ∙ ap (λ (v : ℕ). is_borrowed n ((released s p q n).mailboxes v q)) e ∙ released_now s p q n)
         | inr away ↦ away (one-origin old m s shown i p q q n (sym (released_others s p q n i q n (λ e _ _. away e)) ∙ there) borrowed)
       ]
+
+-- a loan that is new is sent: all that was there before stays, but that its publisher isn't blocked
+pub copy-stays : {T U : Type 0} (start old new : Kept T U) → Stays start old → (publisher : Handle) (loan : SampleMut) → loan.loan.publisher ≡ publisher.id → IsNewIn start (A_loan loan.loan.number)
+    → (result : Result SendOutcome SendError) → StaysBut (spent_by_send loan result) old new → StaysBut (spent_by_copy publisher result) start new
+copy-stays start old new before publisher loan its apart (Ok (Delivered count)) next = stays-on start old before (A_loan loan.loan.number) new apart next
+copy-stays start old new before publisher loan its apart (Ok (Blocked blocked)) next =
+    subst (λ (p : ℕ). StaysBut (A_blocked_send p) start new) its
+    (stays-on-but start old before (A_loan loan.loan.number) (A_blocked_send loan.loan.publisher) new apart next)
+copy-stays start old new before publisher loan its apart (Err error) next = stays-on start old before (A_loan loan.loan.number) new apart next

@@ -1,15 +1,18 @@
 -- What it takes for a handle to be live, part by part.
-use Rattle.std.proofs.Common.{List, [], ◌∷◌, Option, ◌≡◌, ℕ, ◌<◌, Bool, true, ap, sym, subst, ◌∙◌, None, Some}
+use Rattle.std.proofs.Common.{List, [], ◌∷◌, Option, ◌≡◌, ℕ, ◌<◌, Bool, true, false, is_some, refl, ap, sym, subst, ◌∙◌, None, Some}
+use Rattle.std.specs.Option.{option_map_or}
+use Rattle.std.specs.Prelude.{◌↔◌}
 use Rattle.iox2_store.specs.machine.Mailbox.{is_borrowed}
-use Rattle.iox2_store.specs.machine.Records.{Entry, Loan, Publisher}
-use Rattle.iox2_store.specs.machine.SingleCalls.{HoldsPublisher, HoldsSubscriber, HoldsLoan, HoldsSample}
+use Rattle.iox2_store.specs.machine.Records.{Entry, Loan, Publisher, BlockedSend}
+use Rattle.iox2_store.specs.machine.SingleCalls.{HoldsPublisher, HoldsSubscriber, HoldsLoan, HoldsSample, HoldsBlocked}
+use Rattle.iox2_store.specs.machine.State.{is_blocked}
 use Rattle.iox2_store.specs.declared.backpressure.BackpressureStrategy.TheVariants.{DiscardData}
 use Rattle.iox2_store.specs.declared.header.Header.{Header}
 use Rattle.iox2_store.specs.declared.key.Key.{Key}
 use Rattle.iox2_store.specs.declared.service_config.TypeVariant.TheVariants.{FixedSize}
 use Rattle.iox2_domain.specs.Kept.{Kept, state_of, entries_of}
 use Rattle.iox2_domain.specs.LoanCalls.{HasCell, HasLoanHeader, HasLoanUserHeader, HoldsUnwritten, HoldsWritten}
-use Rattle.iox2_pubsub.specs.Live.{IsSingleValued, IsPublisherKey, IsSubscriberKey, IsLoanKey, IsSampleKey, IsUnblocked, Discards, HasMark, IsFromOrigin, UnwrittenReads, LoanReads, SampleReads, LoanHasHeader, LoanHasUserHeader, SampleHasHeader, SampleHasUserHeader, IsUnwrittenLoan, IsWrittenLoan}
+use Rattle.iox2_pubsub.specs.Live.{IsSingleValued, IsPublisherKey, IsSubscriberKey, IsLoanKey, IsSampleKey, IsBlockedKey, IsUnblocked, Discards, NeverWaits, HasMark, IsFromOrigin, UnwrittenReads, LoanReads, SampleReads, LoanHasHeader, LoanHasUserHeader, SampleHasHeader, SampleHasUserHeader, IsUnwrittenLoan, IsWrittenLoan}
 use Rattle.iox2_pubsub.specs.Slices.{HasUnwrittenCells, HasValues, SampleHasValues}
 use Rattle.iox2_pubsub.specs.declared.sample.Sample.{Sample}
 use Rattle.iox2_pubsub.specs.declared.sample_mut.SampleMut.{SampleMut}
@@ -53,6 +56,14 @@ module _ {T U : Type 0} (kept : Kept T U) where
     unfolding IsLoanKey
     loan-live parts = parts
 
+    pub blocked-parts : IsBlockedKey kept key → IsOfService key × HoldsBlocked (state_of kept) key.port key.message
+    unfolding IsBlockedKey
+    blocked-parts live = live
+
+    pub blocked-live : IsOfService key × HoldsBlocked (state_of kept) key.port key.message → IsBlockedKey kept key
+    unfolding IsBlockedKey
+    blocked-live parts = parts
+
     pub unblocked-parts : IsUnblocked kept key → (key.port < (state_of kept).next_port) × ((x : Publisher) → (state_of kept).publishers key.port ≡ Some x → x.blocked ≡ None)
     unfolding IsUnblocked
     unblocked-parts free = free
@@ -71,6 +82,20 @@ module _ {T U : Type 0} (kept : Kept T U) where
     unfolding Discards
     discards-from parts = parts
 
+    -- as the machine tests it
+    pub unblocked-test : IsUnblocked kept key → is_blocked (state_of kept) key.port ≡ false
+    unblocked-test free = by ((state_of kept).publishers key.port) refl where
+      by : (o : Option Publisher) → (state_of kept).publishers key.port ≡ o → option_map_or (λ (x : Publisher). is_some x.blocked) o false ≡ false
+      by None e = refl
+      by (Some x) e = ap is_some ((unblocked-parts free).1 x e)
+
+    -- and the other way round
+    pub unblocked-tests : key.port < (state_of kept).next_port → (answer : Bool) → answer ≡ is_blocked (state_of kept) key.port → (answer ≡ false) ↔ IsUnblocked kept key
+    unblocked-tests low answer is = (λ no. unblocked-free (low, λ x at. none x.blocked (sym (ap (λ o. option_map_or (λ (z : Publisher). is_some z.blocked) o false) at) ∙ sym is ∙ no)), λ free. is ∙ unblocked-test free) where
+      none : (o : Option BlockedSend) → is_some o ≡ false → o ≡ None
+      none None e = refl
+      none (Some b) e = absurd cc
+
     pub sample-parts : IsSampleKey kept key → IsOfService key × HoldsSample (state_of kept) key.port key.message
     unfolding IsSampleKey
     sample-parts live = live
@@ -78,6 +103,17 @@ module _ {T U : Type 0} (kept : Kept T U) where
     pub sample-live : IsOfService key × HoldsSample (state_of kept) key.port key.message → IsSampleKey kept key
     unfolding IsSampleKey
     sample-live parts = parts
+
+  pub unblocked-alike : (key key' : Key) → key'.port ≡ key.port → IsUnblocked kept key → IsUnblocked kept key'
+  unblocked-alike key key' same free =
+      unblocked-free key' (let has = unblocked-parts key free in (subst (λ (p : ℕ). p < (state_of kept).next_port) (sym same) has.0, λ x at. has.1 x (ap (state_of kept).publishers (sym same) ∙ at)))
+
+  -- who never waits doesn't, whatever the rest of the key
+  pub never-waits-alike : (key key' : Key) → key'.port ≡ key.port → NeverWaits kept key → NeverWaits kept key'
+  never-waits-alike key key' same never = record {
+    discards = discards-from key' (let has = discards-parts key never.discards in (subst (λ (p : ℕ). p < (state_of kept).next_port) (sym same) has.0, λ x at. has.1 x (ap (state_of kept).publishers (sym same) ∙ at)));
+    unblocked = unblocked-alike key key' same never.unblocked;
+  }
 
   -- ---- loans and their marks
 

@@ -1,6 +1,6 @@
 -- What calls leave of the loans that publishers may still take, seen from outside.
 use Rattle.std.proofs.Common.{◌≡◌, ℕ, Bool, ◌+◌, ◌≤◌, ◌<◌, refl, sym, ap, subst, ◌∙◌, arith, Option, None, Some, Result, Ok, Err, ◌⊎◌, inl, inr}
-use Rattle.std.specs.Prelude.{◌≢◌, OnErr}
+use Rattle.std.specs.Prelude.{◌≢◌, IfOk, OnErr}
 use Rattle.std.proofs.lemmas.Bool.{cases_eq}
 use Rattle.iox2_store.specs.machine.Environments.{ample_memory}
 use Rattle.iox2_store.specs.machine.Limits.{last_number, worst_case}
@@ -21,16 +21,16 @@ use Rattle.iox2_store.specs.declared.errors.PublisherCreateError.{PublisherCreat
 use Rattle.iox2_store.specs.declared.errors.SubscriberCreateError.{SubscriberCreateError}
 use Rattle.iox2_store.specs.declared.service_config.ServiceConfig.{ServiceConfig}
 use Rattle.iox2_laws.proofs.PortsClose.{publisher_closed_others}
-use Rattle.iox2_laws.proofs.LoansLeft.{KeepsTerms, LoansKept, LoanTaken, LoanEnds, set_kept, update_publisher_kept, update_subscriber_kept, receive_kept, released_kept, subscriber_closed_kept, create_publisher_kept, created_lends, created_longest, create_subscriber_kept, kept_itself, kept_lends, closed_lends, loan_taken, discarded_ends, send_ends, ended_lends, others_lend, lends_fewer}
+use Rattle.iox2_laws.proofs.LoansLeft.{KeepsTerms, LoansKept, LoanTaken, LoanEnds, set_kept, update_publisher_kept, update_subscriber_kept, receive_kept, released_kept, subscriber_closed_kept, create_publisher_kept, created_lends, created_longest, create_subscriber_kept, kept_itself, kept_lends, closed_lends, loan_taken, discarded_ends, send_ends, send_blocked_kept, ended_lends, others_lend, lends_fewer}
 use Rattle.iox2_domain.specs.Kept.{Kept, state_of}
 use Rattle.iox2_domain.specs.Lending.{LoanCall}
 use Rattle.iox2_domain.specs.NewPublisher.{plain_publisher}
 use Rattle.iox2_domain.specs.Shows.{Shows}
 use Rattle.iox2_pubsub.specs.LoansLeft.{LendsUpTo, HasLoansLeft, HasNumbersLeft, NumbersLeftStay, LoansLeftStay, OthersLoansLeftStay, HasOneMoreLeft, TakesOneLeft}
-use Rattle.iox2_pubsub.specs.SendCalls.{result_of_send}
+use Rattle.iox2_pubsub.specs.SendCalls.{IsDelivered, result_of_send}
 use Rattle.iox2_pubsub.specs.declared.publisher.Publisher.{Publisher}
 use Rattle.iox2_pubsub.specs.declared.send_outcome.SendOutcome.{SendOutcome}
-use Rattle.iox2_pubsub.specs.declared.send_outcome.SendOutcome.TheVariants.{Delivered}
+use Rattle.iox2_pubsub.specs.declared.send_outcome.SendOutcome.TheVariants.{Delivered, Blocked}
 
 -- a number that is left is below the last
 below_last : (now n last : ℕ) → now + (n + 1) ≤ last → now < last
@@ -204,9 +204,13 @@ module _ {T U : Type 0} (old new : Kept T U) (m m' : Messages T U) (s s' : State
   pub set-left : (n : ℕ) (l : Option (Loan T U)) → s' ≡ with_loan s n l → LoansLeftStay old new
   set-left n l is = all-left (subst (LoansKept s) (sym is) (set_kept s n l))
 
-  pub send-left : (environment : Environment) (n : ℕ) (l : Loan T U) → s.loans n ≡ Some l → (p : ℕ) → l.publisher ≡ p → (result : SendResult) → (result ≡ Blocked_send → ⊥)
+  pub send-left : (environment : Environment) (n : ℕ) (l : Loan T U) → s.loans n ≡ Some l → (p : ℕ) → l.publisher ≡ p → (result : SendResult)
       → Send environment s n l s' result → LoansLeftStay old new
-  send-left environment n l out p its result free h = ended-left n l out p its (send_ends environment s n l s' result free h)
+  send-left environment n l out p its Blocked_send h = all-left (send_blocked_kept environment s n l s' Blocked_send refl h)
+  send-left environment n l out p its (Delivered_to count) h =
+      ended-left n l out p its (send_ends environment s n l s' (Delivered_to count) (λ e. let clash : Delivered_to count ≡ Blocked_send = e in cc) h)
+  send-left environment n l out p its (Send_error error) h =
+      ended-left n l out p its (send_ends environment s n l s' (Send_error error) (λ e. let clash : Send_error error ≡ Blocked_send = e in cc) h)
 
   pub send-gives : (environment : Environment) (n : ℕ) (l : Loan T U) → s.loans n ≡ Some l → (p : ℕ) → l.publisher ≡ p → (result : SendResult) → (result ≡ Blocked_send → ⊥)
       → Send environment s n l s' result → HasOneMoreLeft p old new
@@ -218,10 +222,11 @@ module _ {T U : Type 0} (old new : Kept T U) (m m' : Messages T U) (s s' : State
   pub discard-gives : (n : ℕ) (l : Loan T U) → s.loans n ≡ Some l → (p : ℕ) → l.publisher ≡ p → s' ≡ loan_discarded s n l → HasOneMoreLeft p old new
   discard-gives n l out p its is = ended-gives n l out p its (subst (LoanEnds l.publisher n s) (sym is) (discarded_ends s n l))
 
--- a send that a call makes isn't blocked
-pub sent-free : (result : Result SendOutcome SendError) → result_of_send result ≡ Blocked_send → ⊥
-sent-free (Ok (Delivered count)) e = let clash : Delivered_to count ≡ Blocked_send = e in cc
-sent-free (Err error) e = let clash : Send_error error ≡ Blocked_send = e in cc
+-- one that reached all receivers, or failed, isn't blocked
+pub sent-free : (result : Result SendOutcome SendError) → IfOk result IsDelivered → result_of_send result ≡ Blocked_send → ⊥
+sent-free (Ok (Delivered count)) ends e = let clash : Delivered_to count ≡ Blocked_send = e in cc
+sent-free (Ok (Blocked blocked)) ends e = ends
+sent-free (Err error) ends e = let clash : Send_error error ≡ Blocked_send = e in cc
 
 first_number : (now n last : ℕ) → 1 ≡ now → n < last → now + n ≤ last
 first_number now n last e h = omega arith

@@ -1,19 +1,31 @@
 -- A send of a loan, seen from outside.
 use Rattle.std.proofs.Common.{◌≡◌, ℕ, ◌<◌, eqb, refl, ap, sym, subst, ◌∙◌, inl, inr, arith, true, false, Bool}
-use Rattle.std.proofs.lemmas.Bool.{eqb-true, cases_eq, ne_eqb, true≢false}
+use Rattle.std.proofs.lemmas.Bool.{eqb-true, cases_eq, ne_eqb}
 use Rattle.std.specs.declared.option.Option.{Option}
 use Rattle.std.specs.declared.option.Option.TheVariants.{None, Some}
 use Rattle.iox2_store.specs.machine.Loans.{entry_of}
 use Rattle.iox2_store.specs.machine.Numbers.{put_at}
-use Rattle.iox2_store.specs.machine.Records.{Entry, Loan, Environment}
+use Rattle.iox2_store.specs.machine.Records.{Entry, Loan, Publisher, Handler, Environment}
 use Rattle.iox2_store.specs.machine.Environments.{fixed_handlers}
-use Rattle.iox2_store.specs.machine.Sends.{SendResult, Send, Send_error, Delivered_to}
+use Rattle.iox2_store.specs.machine.Sends.{SendResult, Send, ConcludeSend, Send_error, Blocked_send, Delivered_to, published, with_mailboxes}
 use Rattle.iox2_store.specs.machine.SingleCalls.{HoldsPublisher}
 use Rattle.iox2_store.specs.declared.errors.SendError.{SendError}
-use Rattle.iox2_store.specs.declared.errors.SendError.TheVariants.{ConnectionBrokenSinceSenderNoLongerExists}
+use Rattle.iox2_store.specs.declared.errors.SendError.TheVariants.{ConnectionBrokenSinceSenderNoLongerExists, ConnectionError, UnableToDeliver}
 use Rattle.iox2_laws.proofs.Cases.{by_option}
-use Rattle.std.specs.Prelude.{IsOk, IfErr}
-use Rattle.iox2_store.specs.machine.State.{State, Messages}
+use Rattle.std.specs.Prelude.{IsOk, IfOk, IfErr, List}
+use Rattle.iox2_store.specs.machine.Delivery.{Deliver, DeliveryEnd, Complete, Suspended, no_time}
+use Rattle.iox2_store.specs.machine.Mailbox.{Mailbox}
+use Rattle.iox2_store.specs.declared.backpressure.BackpressureAction.{BackpressureAction}
+use Rattle.iox2_store.specs.declared.backpressure.BackpressureStrategy.TheVariants.{DiscardData}
+use Rattle.iox2_store.specs.declared.key.Key.{Key}
+use Rattle.iox2_ends.specs.declared.sender.DeliveryOutcome.{DeliveryOutcome}
+use Rattle.iox2_laws.proofs.Waits.{waits_trans, update_publisher_waits, published_waits}
+use Rattle.iox2_domain.proofs.lemmas.sends.DeliverySteps.{never-waits}
+use Rattle.iox2_domain.specs.Kept.{Kept}
+use Rattle.iox2_pubsub.specs.Live.{IsBlockedSend, blocked_key}
+use Rattle.iox2_pubsub.specs.declared.blocked_send.BlockedSend.{BlockedSend}
+use Rattle.iox2_pubsub.specs.declared.send_outcome.SendOutcome.TheVariants.{Delivered, Blocked}
+use Rattle.iox2_store.specs.machine.State.{State, Messages, receiving_buffer}
 use Rattle.iox2_laws.proofs.Puts.{put_at-same, put_at-other}
 use Rattle.iox2_laws.proofs.SendLaws.{send_advances}
 use Rattle.iox2_domain.specs.Fields.{Fields, kept_of}
@@ -22,7 +34,7 @@ use Rattle.iox2_domain.specs.SentLoans.{SendsLoan, send_result}
 use Rattle.iox2_domain.specs.Shows.{Shows}
 use Rattle.std.specs.declared.result.Result.{Result}
 use Rattle.std.specs.declared.result.Result.TheVariants.{Ok, Err}
-use Rattle.iox2_pubsub.specs.SendCalls.{messages_after, result_of_send}
+use Rattle.iox2_pubsub.specs.SendCalls.{IsDelivered, IfBlocked, messages_after, result_of_send}
 use Rattle.iox2_pubsub.specs.declared.send_outcome.SendOutcome.{SendOutcome}
 
 module _ {T U : Type 0} (environment : Environment) (f g : Fields T U) (n : ℕ) (result : SendResult) (sends : SendsLoan environment f g n result) (m : Messages T U) (s : State T U) (l : Loan T U)
@@ -102,16 +114,65 @@ module _ {T U : Type 0} (environment : Environment) (f g : Fields T U) (n : ℕ)
   sent-shown (Ok delivered) is = send-shown
   sent-shown (Err error) is = lost-shown error is
 
+-- a send that hadn't failed succeeds
+pub only-ok : (sent : Result DeliveryOutcome SendError) → IsOk sent → (send_result sent ≡ Send_error UnableToDeliver → ⊥) → (outcome : Result SendOutcome SendError) → result_of_send outcome ≡ send_result sent
+    → IsOk outcome
+only-ok sent ok unfailed (Ok came) is = refl
+only-ok (Ok (DeliveryOutcome.Complete count true)) ok unfailed (Err error) is = absurd (unfailed refl)
+only-ok (Ok (DeliveryOutcome.Complete count false)) ok unfailed (Err error) is = let clash : Send_error error ≡ Delivered_to count = is in absurd cc
+only-ok (Ok (DeliveryOutcome.Suspended progress)) ok unfailed (Err error) is = let clash : Send_error error ≡ Blocked_send = is in absurd cc
+only-ok (Err e) ok unfailed (Err error) is = absurd (let no : false ≡ true = ok in cc)
+
 -- a send whose publisher is there succeeds, and so each error is that it is gone
-pub only-error : {T U : Type 0} (f g : Fields T U) (n p : ℕ) (sent : Result ℕ SendError) → (HoldsPublisher (state_of (kept_of f)) p → IsOk sent)
+pub only-error : {T U : Type 0} (f g : Fields T U) (n p : ℕ) (sent : Result DeliveryOutcome SendError) → (HoldsPublisher (state_of (kept_of f)) p → IsOk sent)
     → (sends : SendsLoan fixed_handlers f g n (send_result sent)) → sends.loan.publisher ≡ p
     → (outcome : Result SendOutcome SendError) → result_of_send outcome ≡ send_result sent → IfErr outcome (λ error. error ≡ ConnectionBrokenSinceSenderNoLongerExists)
 only-error {T} {U} f g n p sent ok sends its (Ok delivered) is = tt
-only-error {T} {U} f g n p (Ok count) ok sends its (Err error) is = let clash : Send_error error ≡ Delivered_to count = is in absurd cc
-only-error {T} {U} f g n p (Err e) ok sends its (Err error) is =
+only-error {T} {U} f g n p sent ok sends its (Err error) is =
     by_option (error ≡ ConnectionBrokenSinceSenderNoLongerExists) ((state_of (kept_of f)).publishers sends.loan.publisher) _ _ sends.sends
     (λ _ gone. let same : Send_error error ≡ Send_error ConnectionBrokenSinceSenderNoLongerExists = is ∙ gone.1 in cc)
-    (λ x there _. absurd (true≢false (sym (ok (x, ap (state_of (kept_of f)).publishers (sym its) ∙ there)))))
+    (λ x there _. absurd (let no : false ≡ true = only-ok sent (ok (x, ap (state_of (kept_of f)).publishers (sym its) ∙ there)) sends.unfailed (Err error) is in cc))
+
+-- ---- a send that is blocked
+
+-- a publisher that discards what a full receiver doesn't take, and has no handler, waits for nobody
+pub never-blocked : {T U : Type 0} (environment : Environment) (s : State T U) (n : ℕ) (l : Loan T U) (s' : State T U) → l.publisher < s.next_port
+    → ((x : Publisher) → s.publishers l.publisher ≡ Some x → (x.backpressure_strategy ≡ DiscardData) × (x.backpressure_handler ≡ None))
+    → Send environment s n l s' Blocked_send → ⊥
+never-blocked {T} {U} environment s n l s' low discards h =
+    by_option ⊥ (s.publishers l.publisher) _ _ h
+    (λ _ k. absurd (let no : Blocked_send ≡ Send_error ConnectionBrokenSinceSenderNoLongerExists = k.1 in cc))
+    (λ x _ k. by_option ⊥ k.1 _ _ k.3
+    (λ _ j. by_option ⊥ ((k.0).publishers l.publisher) _ _ j (λ _ v. v) (λ x1 _ i.
+    by_option ⊥ ((published k.0 l.publisher n).publishers l.publisher) _ _ i (λ _ v. v) (λ x2 at d.
+    let mid : State T U = published k.0 l.publisher n in
+    let was = (waits_trans (λ _. ⊥) s k.0 mid (update_publisher_waits (λ _. ⊥) environment s l.publisher k.0 k.1 k.2) (published_waits (λ _. ⊥) k.0 l.publisher n)).publishers l.publisher x2 low at in
+    let has = discards was.0 was.1 in
+    ends mid x2 (was.2.strategy ∙ has.0) (was.2.handler ∙ has.1) x1.ends d.0 d.1 d.3 d.2)))
+    (λ e _ j. absurd (let no : Blocked_send ≡ Send_error (ConnectionError e) = j.1 in cc)))
+  where
+    ends : (mid : State T U) (x : Publisher) → x.backpressure_strategy ≡ DiscardData → x.backpressure_handler ≡ None → (whole : List (Option ℕ)) (how : DeliveryEnd) (boxes : ℕ → Mailbox)
+        → ConcludeSend (with_mailboxes mid l.publisher boxes) l.publisher n how s' Blocked_send
+        → Deliver environment mid.config l.publisher x.backpressure_strategy x.backpressure_handler (receiving_buffer mid) n 0 no_time 0 whole 0 false (mid.mailboxes l.publisher) how boxes → ⊥
+    ends mid x strategy handler whole (Complete count true) boxes concludes delivers = absurd (let no : Blocked_send ≡ Send_error UnableToDeliver = concludes.1 in cc)
+    ends mid x strategy handler whole (Complete count false) boxes concludes delivers = absurd (let no : Blocked_send ≡ Delivered_to count = concludes.1 in cc)
+    ends mid x strategy handler whole (Suspended b) boxes concludes delivers =
+        never-waits environment mid.config l.publisher x.backpressure_strategy (receiving_buffer mid) n whole (mid.mailboxes l.publisher) b boxes strategy
+        (subst (λ (o : Option (Handler BackpressureAction)). Deliver environment mid.config l.publisher x.backpressure_strategy o (receiving_buffer mid) n 0 no_time 0 whole 0 false (mid.mailboxes l.publisher) (Suspended b) boxes) handler delivers)
+
+-- so its message reaches all receivers
+pub is-delivered : (outcome : Result SendOutcome SendError) → (result_of_send outcome ≡ Blocked_send → ⊥) → IfOk outcome IsDelivered
+is-delivered (Ok (Delivered count)) never = tt
+is-delivered (Ok (Blocked blocked)) never = never refl
+is-delivered (Err error) never = tt
+
+-- where a send is blocked, its handle names it
+pub is-blocked : {T U : Type 0} (kept : Kept T U) (key : Key) (blocked : BlockedSend) → blocked_key blocked ≡ key → (outcome : Result SendOutcome SendError)
+    → IfOk outcome (λ came. IfBlocked came (λ it. it ≡ blocked)) → (result_of_send outcome ≡ Blocked_send → IsBlockedSend kept blocked)
+    → IfOk outcome (λ came. IfBlocked came (λ it. IsBlockedSend kept it × (blocked_key it ≡ key)))
+is-blocked kept key blocked is_key (Ok (Delivered count)) is waits = tt
+is-blocked kept key blocked is_key (Ok (Blocked it)) is waits = (subst (λ (b : BlockedSend). IsBlockedSend kept b) (sym is) (waits refl), ap blocked_key is ∙ is_key)
+is-blocked kept key blocked is_key (Err error) is waits = tt
 
 -- what is sent under the loan's number is its entry
 pub sent-entry : {T U : Type 0} (m : Messages T U) (n : ℕ) (l : Loan T U) (outcome : Result SendOutcome SendError) → m n ≡ None

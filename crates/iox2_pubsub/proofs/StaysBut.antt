@@ -4,6 +4,7 @@ use Rattle.iox2_store.specs.SingleValues.{is_single_valued}
 use Rattle.iox2_store.specs.machine.Mailbox.{is_borrowed}
 use Rattle.iox2_store.specs.machine.Records.{Entry, Loan, Publisher, Subscriber}
 use Rattle.iox2_store.specs.machine.State.{State, Messages}
+use Rattle.iox2_store.specs.machine.WellFormed.{IsWellFormed}
 use Rattle.iox2_store.specs.declared.header.Header.{Header}
 use Rattle.iox2_store.specs.declared.key.Key.{Key}
 use Rattle.iox2_store.specs.declared.service_config.ServiceConfig.{ServiceConfig}
@@ -13,7 +14,7 @@ use Rattle.iox2_store.specs.Stored.{In_mailbox}
 use Rattle.iox2_laws.proofs.NumberLemmas.{contains_right}
 use Rattle.iox2_domain.specs.Kept.{Kept, state_of, entries_of}
 use Rattle.iox2_domain.specs.Shows.{Shows}
-use Rattle.iox2_pubsub.specs.Live.{IsSingleValued, IsPublisherKey, IsSubscriberKey, IsLoanKey, IsSampleKey, HasMark, IsFromOrigin, LoanHasHeader, LoanHasUserHeader, SampleHasHeader, SampleHasUserHeader, Item, No_item, IsOtherPublisher, IsOtherSubscriber, IsOtherLoan, IsOtherSample, IsUnblocked, Discards, NeverWaits, IsOtherBlocked, StaysBut, Stays, IsNewIn, unwritten_key, written_key}
+use Rattle.iox2_pubsub.specs.Live.{IsSingleValued, IsPublisherKey, IsSubscriberKey, IsLoanKey, IsSampleKey, IsBlockedKey, HasMark, IsFromOrigin, LoanHasHeader, LoanHasUserHeader, SampleHasHeader, SampleHasUserHeader, Item, No_item, Both, IsOtherPublisher, IsOtherSubscriber, IsOtherLoan, IsOtherSample, IsUnblocked, Discards, NeverWaits, IsOtherBlocked, StaysBut, Stays, IsNewIn, unwritten_key, written_key}
 use Rattle.iox2_pubsub.specs.Slices.{IsSliced, HasUnwrittenCells, HasValues, SampleHasValues}
 use Rattle.iox2_pubsub.specs.declared.sample.Sample.{Sample}
 
@@ -47,6 +48,7 @@ IsSpared spent publisher = IsOtherBlocked spent publisher → ⊥
 
 module _ {T U : Type 0} (spent : Item) (old new : Kept T U) (remain : PortsRemainBut spent (state_of old) (state_of new)) (loans : LoansStayBut spent (state_of old) (state_of new))
     (samples : SamplesStayBut spent (state_of old) (state_of new)) (waits : Waits (IsSpared spent) (state_of old) (state_of new))
+    (known : (p : ℕ) (x : Publisher) → (state_of old).publishers p ≡ Some x → p < (state_of old).next_port)
     (entries : (n p q : ℕ) (entry : Entry T U) → entries_of old n ≡ Some entry → is_borrowed n ((state_of new).mailboxes p q) ≡ true → entries_of new n ≡ Some entry) where
   service : (id : ℕ) → id ≡ (old.config).service_id → id ≡ (new.config).service_id
   service id ours = ours ∙ sym (ap (λ (c : ServiceConfig). c.service_id) remain.config)
@@ -142,6 +144,16 @@ module _ {T U : Type 0} (spent : Item) (old new : Kept T U) (remain : PortsRemai
         (before.2.strategy ∙ has.0, before.2.handler ∙ has.1),
   )
 
+  blocked : (key : Key) → IsBlockedKey old key → IsOtherPublisher spent key.port → IsOtherBlocked spent key.port → IsBlockedKey new key
+  unfolding IsBlockedKey
+  blocked key live other apart =
+      let has = live.1 in
+      let there = remain.publishers key.port has.0 has.2 other in
+      let before = waits.publishers key.port there.0 (known key.port has.0 has.2) there.1 in
+      let both : Some before.0 ≡ Some has.0 = sym before.1 ∙ has.2 in
+      let same : before.0 ≡ has.0 = cc in
+      (service key.service_id live.0, (there.0, has.1, there.1, before.2.blocked (λ spared. spared apart) ∙ ap (λ (x : Publisher). x.blocked) same ∙ has.3, has.4))
+
   stays-but : StaysBut spent old new
   stays-but = record {
     settings = remain.config;
@@ -156,6 +168,7 @@ module _ {T U : Type 0} (spent : Item) (old new : Kept T U) (remain : PortsRemai
     origins = origin;
     unblocked = free;
     never_wait = λ key was other. record { discards = discards key was.discards; unblocked = free key was.unblocked other };
+    blocked_sends = blocked;
     loan_cells = loan-cells;
     loan_payloads = loan-values;
     loan_headers = λ key header live. loan-header key header;
@@ -170,7 +183,7 @@ pub stays-between : {T U : Type 0} (spent : Item) (old new : Kept T U) (m m' : M
     → ((n : ℕ) (entry : Entry T U) → m n ≡ Some entry → m' n ≡ Some entry) → PortsRemainBut spent s s' → LoansStayBut spent s s' → SamplesStayBut spent s s' → Waits (IsSpared spent) s s' → StaysBut spent old new
 stays-between {T} {U} spent old new m m' s s' shown shown' sent remain loans samples waits =
     stays-but spent old new (between (PortsRemainBut spent) remain) (between (LoansStayBut spent) loans) (between (SamplesStayBut spent) samples)
-    (between (Waits (IsSpared spent)) waits) entries
+    (between (Waits (IsSpared spent)) waits) (λ p x at. ((subst IsWellFormed shown.state shown.well_formed).publishers p x at).is_known) entries
   where
     entries : (n p q : ℕ) (entry : Entry T U) → entries_of old n ≡ Some entry → is_borrowed n ((state_of new).mailboxes p q) ≡ true → entries_of new n ≡ Some entry
     entries n p q entry at borrowed =
@@ -197,6 +210,7 @@ module _ {T U : Type 0} (start old : Kept T U) (before : Stays start old) (item 
     cells = λ n cells has. new.cells n cells (before.loan_cells n cells has tt);
     payloads = λ n values has. new.payloads n values (before.loan_payloads n values has tt);
     unblocked = λ key free. new.unblocked key (before.unblocked key free tt);
+    blocked_sends = λ key live. new.blocked_sends key (before.blocked_sends key live tt tt);
   }
 
   -- where an item that was new is spent, all that was there before stays
@@ -214,6 +228,8 @@ module _ {T U : Type 0} (start old : Kept T U) (before : Stays start old) (item 
     origins = λ it from other. next.origins it (before.origins it from other) (apart.origins it from);
     unblocked = λ key free other. next.unblocked key (before.unblocked key free other) (apart.unblocked key free);
     never_wait = λ key was other. next.never_wait key (before.never_wait key was other) (apart.unblocked key was.unblocked);
+    blocked_sends = λ key live other alike.
+        next.blocked_sends key (before.blocked_sends key live other alike) (apart.blocked_sends key live).0 (apart.blocked_sends key live).1;
     loan_cells = λ n cells has other. next.loan_cells n cells (before.loan_cells n cells has other) (apart.cells n cells has);
     loan_payloads = λ n values has other. next.loan_payloads n values (before.loan_payloads n values has other) (apart.payloads n values has);
     loan_headers = λ key header live has other. next.loan_headers key header (before.loans key live other) (before.loan_headers key header live has other) (apart.loans key live);
@@ -225,6 +241,36 @@ module _ {T U : Type 0} (start old : Kept T U) (before : Stays start old) (item 
         next.sample_headers key header (before.samples key live other) (before.sample_headers key header live has other) (apart.samples key live);
     sample_user_headers = λ key header live has other.
         next.sample_user_headers key header (before.samples key live other) (before.sample_user_headers key header live has other) (apart.samples key live);
+  }
+
+  -- and so it does but for what is spent beside it
+  pub stays-on-but : (spent : Item) (new : Kept T U) → IsNewIn start item → StaysBut (Both item spent) old new → StaysBut spent start new
+  stays-on-but spent new apart next = record {
+    settings = next.settings ∙ before.settings;
+    single_valued = λ was. next.single_valued (before.single_valued was);
+    sliced = λ was. next.sliced (before.sliced was);
+    publishers = λ key live other. next.publishers key (before.publishers key live tt) (apart.publishers key live, other);
+    subscribers = λ key live other. next.subscribers key (before.subscribers key live tt) (apart.subscribers key live, other);
+    loans = λ key live other. next.loans key (before.loans key live tt) (apart.loans key live, other);
+    unwritten_loans = λ it live other. next.unwritten_loans it (before.unwritten_loans it live tt) (apart.unwritten_loans it live, other);
+    written_loans = λ it live other. next.written_loans it (before.written_loans it live tt) (apart.written_loans it live, other);
+    samples = λ key live other. next.samples key (before.samples key live tt) (apart.samples key live, other);
+    origins = λ it from other. next.origins it (before.origins it from tt) (apart.origins it from, other);
+    unblocked = λ key free other. next.unblocked key (before.unblocked key free tt) (apart.unblocked key free, other);
+    never_wait = λ key was other. next.never_wait key (before.never_wait key was tt) (apart.unblocked key was.unblocked, other);
+    blocked_sends = λ key live other alike.
+        next.blocked_sends key (before.blocked_sends key live tt tt) ((apart.blocked_sends key live).0, other) ((apart.blocked_sends key live).1, alike);
+    loan_cells = λ n cells has other. next.loan_cells n cells (before.loan_cells n cells has tt) (apart.cells n cells has, other);
+    loan_payloads = λ n values has other. next.loan_payloads n values (before.loan_payloads n values has tt) (apart.payloads n values has, other);
+    loan_headers = λ key header live has other. next.loan_headers key header (before.loans key live tt) (before.loan_headers key header live has tt) (apart.loans key live, other);
+    loan_user_headers = λ key header live has other.
+        next.loan_user_headers key header (before.loans key live tt) (before.loan_user_headers key header live has tt) (apart.loans key live, other);
+    sample_payloads = λ key values live has other.
+        next.sample_payloads key values (before.samples key live tt) (before.sample_payloads key values live has tt) (apart.samples key live, other);
+    sample_headers = λ key header live has other.
+        next.sample_headers key header (before.samples key live tt) (before.sample_headers key header live has tt) (apart.samples key live, other);
+    sample_user_headers = λ key header live has other.
+        next.sample_user_headers key header (before.samples key live tt) (before.sample_user_headers key header live has tt) (apart.samples key live, other);
   }
 
 -- nothing is always new
@@ -240,6 +286,7 @@ nothing-is-new start = record {
   cells = λ n cells has. tt;
   payloads = λ n values has. tt;
   unblocked = λ key free. tt;
+  blocked_sends = λ key live. (tt, tt);
 }
 
 -- nothing changed
@@ -257,6 +304,7 @@ unchanged-stays spent kept = record {
   origins = λ it from other. from;
   unblocked = λ key free other. free;
   never_wait = λ key was other. was;
+  blocked_sends = λ key live other alike. live;
   loan_cells = λ n cells has other. has;
   loan_payloads = λ n values has other. has;
   loan_headers = λ key header live has other. has;

@@ -5,7 +5,7 @@ use Rattle.std.specs.List.{AllByRecursion}
 use Rattle.std.specs.declared.option.Option.TheVariants.{None, Some}
 use Rattle.iox2_store.specs.machine.Mailbox.{is_borrowed}
 use Rattle.iox2_store.specs.machine.Records.{Entry, Loan, Publisher as MachinePublisher, Subscriber as MachineSubscriber}
-use Rattle.iox2_store.specs.machine.SingleCalls.{HoldsPublisher, HoldsSubscriber, HoldsLoan, HoldsSample}
+use Rattle.iox2_store.specs.machine.SingleCalls.{HoldsPublisher, HoldsSubscriber, HoldsLoan, HoldsSample, HoldsBlocked}
 use Rattle.iox2_store.specs.declared.backpressure.BackpressureStrategy.TheVariants.{DiscardData}
 use Rattle.iox2_store.specs.declared.header.Header.{Header}
 use Rattle.iox2_store.specs.declared.key.Key.{Key}
@@ -14,6 +14,7 @@ use Rattle.iox2_domain.specs.Kept.{Kept, state_of, entries_of}
 use Rattle.iox2_domain.specs.LoanCalls.{HasLoanHeader, HasLoanUserHeader}
 use Rattle.iox2_pubsub.specs.Payloads.{payloads_for}
 use Rattle.iox2_pubsub.specs.Slices.{IsSliced, HasUnwrittenCells, HasValues, SampleHasValues}
+use Rattle.iox2_pubsub.specs.declared.blocked_send.BlockedSend.{BlockedSend}
 use Rattle.iox2_pubsub.specs.declared.publisher.Publisher.{Publisher}
 use Rattle.iox2_pubsub.specs.declared.subscriber.Subscriber.{Subscriber}
 use Rattle.iox2_pubsub.specs.declared.sample_mut_uninit.SampleMutUninit.{SampleMutUninit}
@@ -37,6 +38,10 @@ unwritten_key loan = record { service_id = loan.service_id; port = loan.loan.pub
 -- The key of a written loan.
 abbrev pub written_key : SampleMut → Key
 written_key loan = record { service_id = loan.service_id; port = loan.loan.publisher; message = loan.loan.number }
+
+-- The key of a blocked send.
+abbrev pub blocked_key : BlockedSend → Key
+blocked_key blocked = record { service_id = blocked.service_id; port = blocked.loan.publisher; message = blocked.loan.number }
 
 -- The key of a sample.
 abbrev pub sample_key : Sample → Key
@@ -81,6 +86,10 @@ module _ {T U : Type 0} (domain : Kept T U) where
       pub discards : Discards
       pub unblocked : IsUnblocked
 
+    -- The key names a send of the domain that is blocked.
+    unfoldable pub IsBlockedKey : Type 0
+    IsBlockedKey = (key.service_id ≡ (domain.config).service_id) × HoldsBlocked (state_of domain) key.port key.message
+
     -- The key names a message that a subscriber of the domain has borrowed.
     unfoldable pub IsSampleKey : Type 0
     IsSampleKey = (key.service_id ≡ (domain.config).service_id) × HoldsSample (state_of domain) key.port key.message
@@ -92,6 +101,11 @@ module _ {T U : Type 0} (domain : Kept T U) where
   -- The publisher is one of the domain's, and wasn't closed.
   abbrev pub IsLivePublisher : Publisher → Type 0
   IsLivePublisher publisher = IsPublisherKey (publisher_key publisher)
+
+  -- The publisher is one of the domain's, wasn't closed, and no send of it is blocked.
+  pub record IsReadyPublisher (publisher : Publisher) : Type 0 where
+    pub there : IsPublisherKey (publisher_key publisher)
+    pub unblocked : IsUnblocked (publisher_key publisher)
 
   -- The subscriber is one of the domain's, and wasn't closed.
   abbrev pub IsLiveSubscriber : Subscriber → Type 0
@@ -106,6 +120,10 @@ module _ {T U : Type 0} (domain : Kept T U) where
   pub record IsWrittenLoan (loan : SampleMut) : Type 0 where
     pub live : IsLoanKey (written_key loan)
     pub written : HasMark loan.loan.number true
+
+  -- The send is one of the domain's that is blocked.
+  abbrev pub IsBlockedSend : BlockedSend → Type 0
+  IsBlockedSend blocked = IsBlockedKey (blocked_key blocked)
 
   -- The publisher that lent the loan with this key wasn't closed.
   abbrev pub HasLender : Key → Type 0
@@ -217,6 +235,10 @@ unwritten_loan loan = A_loan loan.loan.number
 abbrev pub written_loan : SampleMut → Item
 written_loan loan = A_loan loan.loan.number
 
+-- The blocked send of this handle.
+abbrev pub blocked_send : BlockedSend → Item
+blocked_send blocked = A_blocked_send blocked.loan.publisher
+
 -- The sample of this handle.
 abbrev pub received_sample : Sample → Item
 received_sample sample = A_sample sample.sample.subscriber sample.sample.number
@@ -262,8 +284,8 @@ AreApart first (A_blocked_send publisher) = IsOtherBlocked first publisher
 AreApart first (Both second third) = AreApart first second × AreApart first third
 
 module _ {T U : Type 0} where
-  -- The settings stay, and each port, loan and sample that was live is live and reads as it did, but for the item that was
-  -- spent. A publisher none of whose sends is blocked, or ever is, stays so.
+  -- The settings stay, and each port, loan, sample and blocked send that was live is live and reads as it did, but for the
+  -- item that was spent. A publisher none of whose sends is blocked, or ever is, stays so.
   pub record StaysBut (spent : Item) (old new : Kept T U) : Type 0 where
     pub settings : new.config ≡ old.config
     pub single_valued : IsSingleValued old → IsSingleValued new
@@ -277,6 +299,7 @@ module _ {T U : Type 0} where
     pub origins : (sample : Sample) → IsFromOrigin old sample → IsOtherSample spent sample.sample.subscriber sample.sample.number → IsFromOrigin new sample
     pub unblocked : (key : Key) → IsUnblocked old key → IsOtherBlocked spent key.port → IsUnblocked new key
     pub never_wait : (key : Key) → NeverWaits old key → IsOtherBlocked spent key.port → NeverWaits new key
+    pub blocked_sends : (key : Key) → IsBlockedKey old key → IsOtherPublisher spent key.port → IsOtherBlocked spent key.port → IsBlockedKey new key
     pub loan_cells : (number : ℕ) (cells : List (Option T)) → HasUnwrittenCells old number cells → IsOtherLoan spent number → HasUnwrittenCells new number cells
     pub loan_payloads : (number : ℕ) (values : List T) → HasValues old number values → IsOtherLoan spent number → HasValues new number values
     pub loan_headers : (key : Key) (header : Header) → IsLoanKey old key → LoanHasHeader old key header → IsOtherLoan spent key.message → LoanHasHeader new key header
@@ -288,11 +311,11 @@ module _ {T U : Type 0} where
     pub sample_user_headers : (key : Key) (header : U) → IsSampleKey old key → SampleHasUserHeader old key header
         → IsOtherSample spent key.port key.message → SampleHasUserHeader new key header
 
-  -- The settings stay, and each port, loan and sample that was live is live and reads as it did.
+  -- The settings stay, and each port, loan, sample and blocked send that was live is live and reads as it did.
   abbrev pub Stays : (old new : Kept T U) → Type 0
   Stays old new = StaysBut No_item old new
 
-  -- The item is none of the ports, loans and samples that were live, and no send of a publisher that had none blocked.
+  -- The item is none of the ports, loans, samples and blocked sends that were live, and no send of a publisher that had none blocked.
   pub record IsNewIn (old : Kept T U) (made : Item) : Type 0 where
     pub publishers : (key : Key) → IsPublisherKey old key → IsOtherPublisher made key.port
     pub subscribers : (key : Key) → IsSubscriberKey old key → IsOtherSubscriber made key.port
@@ -304,3 +327,4 @@ module _ {T U : Type 0} where
     pub cells : (number : ℕ) (cells : List (Option T)) → HasUnwrittenCells old number cells → IsOtherLoan made number
     pub payloads : (number : ℕ) (values : List T) → HasValues old number values → IsOtherLoan made number
     pub unblocked : (key : Key) → IsUnblocked old key → IsOtherBlocked made key.port
+    pub blocked_sends : (key : Key) → IsBlockedKey old key → IsOtherPublisher made key.port × IsOtherBlocked made key.port

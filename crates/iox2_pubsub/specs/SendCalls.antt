@@ -7,15 +7,42 @@ use Rattle.iox2_store.specs.machine.Environments.{fixed_handlers}
 use Rattle.iox2_store.specs.machine.Loans.{entry_of}
 use Rattle.iox2_store.specs.machine.Numbers.{put_at}
 use Rattle.iox2_store.specs.machine.Records.{Loan}
-use Rattle.iox2_store.specs.machine.Sends.{SendResult, Delivered_to, Send_error, Send}
+use Rattle.iox2_store.specs.machine.Sends.{SendResult, Delivered_to, Blocked_send, Send_error, Send}
 use Rattle.iox2_store.specs.machine.State.{State, Messages}
 use Rattle.iox2_store.specs.declared.errors.SendError.{SendError}
 use Rattle.iox2_pubsub.specs.declared.send_outcome.SendOutcome.{SendOutcome}
-use Rattle.iox2_pubsub.specs.declared.send_outcome.SendOutcome.TheVariants.{Delivered}
+use Rattle.iox2_pubsub.specs.declared.send_outcome.SendOutcome.TheVariants.{Delivered, Blocked}
+use Rattle.iox2_pubsub.specs.declared.blocked_send.BlockedSend.{BlockedSend}
+use Rattle.iox2_pubsub.specs.declared.sample_mut.SampleMut.{SampleMut}
+use Rattle.iox2_pubsub.specs.declared.publisher.Publisher.{Publisher}
+use Rattle.iox2_pubsub.specs.Live.{Item, No_item, A_loan, A_blocked_send, Both}
 
 -- The machine's result of a send.
 abbrev pub sent_result : SendOutcome → SendResult
 sent_result (Delivered count) = Delivered_to count
+sent_result (Blocked blocked) = Blocked_send
+
+-- The message reached all receivers.
+abbrev pub IsDelivered : SendOutcome → Type 0
+IsDelivered (Delivered count) = Unit {0}
+IsDelivered (Blocked blocked) = ⊥
+
+-- Where the send is blocked this is so of it.
+abbrev pub IfBlocked : SendOutcome → (BlockedSend → Type 0) → Type 0
+IfBlocked (Delivered count) P = Unit {0}
+IfBlocked (Blocked blocked) P = P blocked
+
+-- What a send of the loan spends: the loan, and where it is blocked, that its publisher isn't.
+abbrev pub spent_by_send : SampleMut → Result SendOutcome SendError → Item
+spent_by_send loan (Ok (Delivered count)) = A_loan loan.loan.number
+spent_by_send loan (Ok (Blocked blocked)) = Both (A_loan loan.loan.number) (A_blocked_send loan.loan.publisher)
+spent_by_send loan (Err error) = A_loan loan.loan.number
+
+-- What a copy that the publisher sends spends: where it is blocked, that the publisher isn't.
+abbrev pub spent_by_copy : Publisher → Result SendOutcome SendError → Item
+spent_by_copy publisher (Ok (Delivered count)) = No_item
+spent_by_copy publisher (Ok (Blocked blocked)) = A_blocked_send publisher.id
+spent_by_copy publisher (Err error) = No_item
 
 -- The machine's result of a send that may fail.
 abbrev pub result_of_send : Result SendOutcome SendError → SendResult

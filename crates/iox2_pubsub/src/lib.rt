@@ -1,6 +1,7 @@
 //! Publish-subscribe delivery: a domain, and the ports that are made in it.
 #![tactic(auto)]
 
+mod blocked_send;
 mod custom_markers;
 mod domain;
 mod port_factory;
@@ -13,6 +14,7 @@ pub mod slice;
 mod subscriber;
 mod update_connections;
 
+pub use blocked_send::BlockedSend;
 pub use custom_markers::{CustomHeaderMarker, CustomPayloadMarker};
 pub use domain::Domain;
 pub use iox2_store::{

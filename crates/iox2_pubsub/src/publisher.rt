@@ -9,6 +9,7 @@ mod send_copy;
 mod update_connections;
 
 use crate::domain::Domain;
+use iox2_messages::is_waiting;
 use iox2_store::{BackpressureFn, DegradationFn, Key, UniquePublisherId};
 
 /// Sends messages to every subscriber of its domain. It is a value to be spent: the domain keeps
@@ -54,6 +55,23 @@ impl Publisher {
             place: _,
             initial_max_slice_len: _,
         } = self;
+    }
+}
+
+impl Publisher {
+    ghost use Rattle.std.specs.Prelude.{◌↔◌, false};
+    ghost use Rattle.iox2_pubsub.specs.Live.{IsPublisherKey, IsUnblocked};
+
+    /// Whether a send of the publisher is blocked. Until that has ended, the publisher lends, sends
+    /// and updates nothing and can't be closed. This library's own.
+    pub fn is_blocked<T: Drop, U: Default + Drop, F: BackpressureFn, G: DegradationFn>(
+        &self,
+        domain: &Domain<T, U, F, G>,
+    ) -> bool
+        requires { IsPublisherKey domain.now (publisher_key self.now) }
+        ensures { (result ≡ false) ↔ IsUnblocked domain.now (publisher_key self.now) }
+    {
+        is_waiting(&domain.state, self.id, self.place)
     }
 }
 

@@ -3,12 +3,12 @@ ghost use Rattle.std.specs.Prelude.{◌≡◌};
 
 mod discard;
 mod payload_mut;
-mod send;
+pub(crate) mod send;
 mod user_header_mut;
 
 use crate::domain::Domain;
 use iox2_domain::LoanAt;
-use iox2_messages::{loan_header, loan_user_header, loan_value};
+use iox2_messages::{is_waiting, loan_header, loan_user_header, loan_value};
 use iox2_store::{BackpressureFn, DegradationFn, Header, Key};
 
 /// A loan whose payload is written. It is a value to be spent: the domain keeps the loan until its
@@ -21,9 +21,9 @@ pub struct SampleMut {
 }
 
 impl SampleMut {
-    ghost use Rattle.std.specs.Prelude.{Some};
+    ghost use Rattle.std.specs.Prelude.{Some, false, ◌↔◌};
     ghost use Rattle.iox2_store.specs.machine.State.{State, Messages};
-    ghost use Rattle.iox2_pubsub.specs.Live.{IsLoanKey, IsSingleValued, IsWrittenLoan, LoanHasHeader, LoanHasUserHeader, LoanReads, written_key};
+    ghost use Rattle.iox2_pubsub.specs.Live.{IsLoanKey, IsSingleValued, IsUnblocked, IsWrittenLoan, LoanHasHeader, LoanHasUserHeader, LoanReads, written_key};
     ghost use Rattle.iox2_domain.specs.LoanCalls.{HasCell, HasLoanHeader, HasLoanUserHeader};
     ghost use Rattle.iox2_domain.specs.Shows.{Shows};
 
@@ -72,6 +72,18 @@ impl SampleMut {
         ensures same { (header : U) → LoanHasUserHeader domain.now (written_key self.now) header → result.now ≡ header }
     {
         loan_user_header(&domain.state, &self.loan)
+    }
+
+    /// Whether a send of its publisher is blocked, as is none of a closed one. Until that has ended,
+    /// the loan can't be sent. This library's own.
+    pub fn is_blocked<T: Drop, U: Default + Drop, F: BackpressureFn, G: DegradationFn>(
+        &self,
+        domain: &Domain<T, U, F, G>,
+    ) -> bool
+        requires { IsLoanKey domain.now (written_key self.now) }
+        ensures { (result ≡ false) ↔ IsUnblocked domain.now (written_key self.now) }
+    {
+        is_waiting(&domain.state, self.loan.publisher, self.loan.place)
     }
 
     /// Names the loan without being its handle. This library's own.

@@ -1,4 +1,8 @@
 //! What came of a send.
+ghost use Rattle.std.specs.Prelude.{◌≡◌};
+ghost use Rattle.iox2_pubsub.specs.SendCalls.{IsDelivered};
+
+use crate::blocked_send::BlockedSend;
 
 /// What came of a message that was sent.
 ///
@@ -6,4 +10,22 @@
 pub enum SendOutcome {
     /// So many subscribers took it.
     Delivered(usize),
+    /// It waits for a subscriber whose buffer is full.
+    Blocked(BlockedSend),
+}
+
+impl SendOutcome {
+    /// How many subscribers took the message, of a send that isn't blocked. This library's own.
+    pub fn delivered(self) -> usize
+        requires { IsDelivered self }
+        ensures { self ≡ SendOutcome.Delivered result }
+    {
+        match self {
+            SendOutcome::Delivered(count) => count,
+            SendOutcome::Blocked(blocked) => {
+                blocked.disown();
+                unreachable!()
+            }
+        }
+    }
 }

@@ -1,5 +1,5 @@
 //! A publisher sends a value.
-ghost use Rattle.std.specs.Prelude.{◌≡◌, ◌+◌, ℕ, IfErr, IsOk};
+ghost use Rattle.std.specs.Prelude.{◌≡◌, ◌+◌, ℕ, IfErr, IfOk, IsOk};
 ghost use Rattle.iox2_store.specs.declared.errors.LoanError.{LoanError};
 
 use crate::domain::Domain;
@@ -10,11 +10,12 @@ use iox2_store::{BackpressureFn, DegradationFn, SendError};
 impl Publisher {
     ghost use Rattle.iox2_store.specs.machine.State.{State, Messages};
     ghost use Rattle.iox2_domain.specs.Shows.{Shows};
-    ghost use Rattle.iox2_pubsub.specs.Live.{AddAtMost, IsLivePublisher, IsSingleValued, Stays, UpToDateStay};
+    ghost use Rattle.iox2_pubsub.specs.Live.{AddAtMost, IsBlockedSend, IsReadyPublisher, IsSingleValued, NeverWaits, StaysBut, UpToDateStay, blocked_key, lender_key, publisher_key};
     ghost use Rattle.iox2_pubsub.specs.LoansLeft.{HasLoansLeft, HasNumbersLeft, TakesOneLeft};
+    ghost use Rattle.iox2_pubsub.specs.SendCalls.{IfBlocked, IsDelivered, spent_by_copy};
     ghost use Rattle.iox2_pubsub.specs.WrittenLoans.{SendsCopy};
 
-    /// Lends a message, moves the value into it, and sends it. Refused as `loan_uninit` is, with
+    /// Lends a message, moves the value into it, and sends it, as `send` does. Refused as `loan_uninit` is, with
     /// `SendError::LoanError`. The value is dropped then, and nothing changes.
     ///
     /// iceoryx2's `Publisher::send_copy` (`src/port/publisher.rs`).
@@ -23,17 +24,19 @@ impl Publisher {
         domain: &mut Domain<T, U, F, G>,
         value: T,
     ) -> Result<SendOutcome, SendError>
-        requires live { IsLivePublisher domain.old self.now }
+        requires ready { IsReadyPublisher domain.old self.now }
         requires single_valued { IsSingleValued domain.old }
         ensures sends { (m : Messages T U) (s : State T U) → Shows domain.old m s
             → (m' : Messages T U) × (s' : State T U) × Shows domain.new m' s' × SendsCopy U.is_default m s self.now.id value result m' s' }
+        ensures delivered { NeverWaits domain.old (publisher_key self.now) → IfOk result IsDelivered }
+        ensures blocked { IfOk result (λ outcome. IfBlocked outcome (λ blocked. IsBlockedSend domain.new blocked × (lender_key (blocked_key blocked) ≡ publisher_key self.now))) }
         ensures refused { IfErr result (λ error. (reason : LoanError) × (error ≡ SendError.LoanError reason)) }
         ensures adds { AddAtMost ((domain.old.config).history_size + 1) domain.old domain.new }
         ensures up_to_date { UpToDateStay domain.old domain.new }
         ensures granted { (loans numbers : ℕ) → HasLoansLeft domain.old self.now (loans + 1) → HasNumbersLeft domain.old (numbers + 1) → IsOk result }
         ensures loans_left { TakesOneLeft self.now domain.old domain.new }
-        ensures given_back { (loans : ℕ) → HasLoansLeft domain.old self.now (loans + 1) → HasLoansLeft domain.new self.now (loans + 1) }
-        ensures stays { Stays domain.old domain.new }
+        ensures given_back { IfOk result IsDelivered → (loans : ℕ) → HasLoansLeft domain.old self.now (loans + 1) → HasLoansLeft domain.new self.now (loans + 1) }
+        ensures stays { StaysBut (spent_by_copy self.now result) domain.old domain.new }
     {
         let loan = self.loan_uninit(domain)?;
         loan.write_payload(domain, value).send(domain)

@@ -7,7 +7,8 @@ mod loan_slice;
 mod loan_slice_uninit;
 mod update_connections;
 
-use iox2_store::{Key, UniquePublisherId};
+use crate::domain::Domain;
+use iox2_store::{BackpressureFn, DegradationFn, Key, UniquePublisherId};
 
 /// Sends slices to every subscriber of its domain. It is a value to be spent, as the publisher of
 /// single values is, and is that publisher with other calls to lend.
@@ -18,7 +19,8 @@ pub struct Publisher {
 }
 
 impl Publisher {
-    ghost use Rattle.iox2_pubsub.specs.Live.{publisher_key};
+    ghost use Rattle.std.specs.Prelude.{false, ◌↔◌};
+    ghost use Rattle.iox2_pubsub.specs.Live.{IsPublisherKey, IsUnblocked, publisher_key};
 
     /// The same publisher, as one of slices. This library's own.
     pub fn new(publisher: crate::Publisher) -> Publisher
@@ -51,6 +53,18 @@ impl Publisher {
         ensures { result ≡ self.now.publisher.initial_max_slice_len }
     {
         self.publisher.initial_max_slice_len
+    }
+
+    /// Whether a send of the publisher is blocked. Until that has ended, the publisher sends and
+    /// updates nothing and can't be closed. This library's own.
+    pub fn is_blocked<T: Drop, U: Default + Drop, F: BackpressureFn, G: DegradationFn>(
+        &self,
+        domain: &Domain<T, U, F, G>,
+    ) -> bool
+        requires { IsPublisherKey domain.now (publisher_key self.now.publisher) }
+        ensures { (result ≡ false) ↔ IsUnblocked domain.now (publisher_key self.now.publisher) }
+    {
+        self.publisher.is_blocked(domain)
     }
 
     /// Names the publisher without being its handle. This library's own.

@@ -18,15 +18,15 @@ pub struct SampleMut {
 }
 
 impl SampleMut {
-    ghost use Rattle.std.specs.Prelude.{IfErr, IsOk, List, Some, ◌+◌};
+    ghost use Rattle.std.specs.Prelude.{IfErr, IfOk, IsOk, List, Some, false, ◌+◌, ◌↔◌};
     ghost use Rattle.iox2_store.specs.machine.Loans.{loan_discarded};
     ghost use Rattle.iox2_store.specs.machine.Records.{Loan};
     ghost use Rattle.iox2_store.specs.machine.State.{State, Messages};
     ghost use Rattle.iox2_domain.specs.Shows.{Shows};
-    ghost use Rattle.iox2_pubsub.specs.Live.{AddAtMost, AreAllSlices, HasLender, IsLoanKey, IsWrittenLoan, LoanHasHeader, LoanHasUserHeader, StaysBut, UpToDateStay, payloads, waiting, written_key, written_loan};
+    ghost use Rattle.iox2_pubsub.specs.Live.{AddAtMost, AreAllSlices, HasLender, IsBlockedSend, IsLoanKey, IsUnblocked, IsWrittenLoan, LoanHasHeader, LoanHasUserHeader, NeverWaits, StaysBut, blocked_key, UpToDateStay, payloads, waiting, written_key, written_loan};
     ghost use Rattle.iox2_pubsub.specs.declared.subscriber.Subscriber.{Subscriber};
     ghost use Rattle.iox2_pubsub.specs.LoansLeft.{HasOneMoreLeft, LoansLeftStay};
-    ghost use Rattle.iox2_pubsub.specs.SendCalls.{Sends, messages_after};
+    ghost use Rattle.iox2_pubsub.specs.SendCalls.{IfBlocked, IsDelivered, Sends, messages_after, spent_by_send};
     ghost use Rattle.iox2_pubsub.specs.Slices.{HasValues, IsSliced};
 
     /// The payload as it lies in its slot.
@@ -49,19 +49,22 @@ impl SampleMut {
         self,
         domain: &mut Domain<T, U, F, G>,
     ) -> Result<SendOutcome, SendError>
-        requires { IsWrittenLoan domain.old self.sample }
+        requires live { IsWrittenLoan domain.old self.sample }
+        requires unblocked { IsUnblocked domain.old (written_key self.sample) }
         ensures ok { HasLender domain.old (written_key self.sample) → IsOk result }
         ensures gone { IfErr result (λ error. error ≡ SendError.ConnectionBrokenSinceSenderNoLongerExists) }
         ensures sent { (m : Messages T U) (s : State T U) (l : Loan T U) → Shows domain.old m s → s.loans self.sample.loan.number ≡ Some l
             → (s' : State T U) × Shows domain.new (messages_after m self.sample.loan.number l result) s' × Sends s self.sample.loan.number l result s' }
+        ensures delivered { NeverWaits domain.old (written_key self.sample) → IfOk result IsDelivered }
+        ensures blocked { IfOk result (λ outcome. IfBlocked outcome (λ blocked. IsBlockedSend domain.new blocked × (blocked_key blocked ≡ written_key self.sample))) }
         ensures spent { IsLoanKey domain.new (written_key self.sample) → ⊥ }
         ensures adds { AddAtMost ((domain.old.config).history_size + 1) domain.old domain.new }
         ensures brings { (subscriber : Subscriber) (values : List T) → (domain.old.config).history_size ≡ 0 → waiting domain.old subscriber ≡ 0
             → HasValues domain.old self.sample.loan.number values → AreAllSlices (payloads domain.new subscriber) values }
         ensures up_to_date { UpToDateStay domain.old domain.new }
         ensures loans_left { LoansLeftStay domain.old domain.new }
-        ensures given_back { HasOneMoreLeft self.sample.loan.publisher domain.old domain.new }
-        ensures stays { StaysBut (written_loan self.sample) domain.old domain.new }
+        ensures given_back { IfOk result IsDelivered → HasOneMoreLeft self.sample.loan.publisher domain.old domain.new }
+        ensures stays { StaysBut (spent_by_send self.sample result) domain.old domain.new }
     {
         let SampleMut { sample } = self;
         sample.send(domain)
@@ -128,6 +131,18 @@ impl SampleMut {
     {
         let SampleMut { sample } = self;
         sample
+    }
+
+    /// Whether a send of its publisher is blocked, as is none of a closed one. Until that has ended,
+    /// the loan can't be sent. This library's own.
+    pub fn is_blocked<T: Drop, U: Default + Drop, F: BackpressureFn, G: DegradationFn>(
+        &self,
+        domain: &Domain<T, U, F, G>,
+    ) -> bool
+        requires { IsLoanKey domain.now (written_key self.now.sample) }
+        ensures { (result ≡ false) ↔ IsUnblocked domain.now (written_key self.now.sample) }
+    {
+        self.sample.is_blocked(domain)
     }
 
     /// Names the loan without being its handle. This library's own.

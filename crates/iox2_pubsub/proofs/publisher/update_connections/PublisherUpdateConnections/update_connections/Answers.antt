@@ -1,4 +1,11 @@
-use Rattle.std.proofs.Common.{None}
+use Rattle.std.proofs.Common.{◌≡◌, ap, sym, subst, ◌∙◌, false, None, Some}
+use Rattle.iox2_store.specs.machine.State.{is_blocked}
+use Rattle.iox2_domain.specs.Kept.{Kept, state_of}
+use Rattle.iox2_domain.specs.Ports.{PublisherFields}
+use Rattle.iox2_domain.proofs.lemmas.fields.ConnectionEnds.{free-of}
+use Rattle.iox2_laws.proofs.Waits.{update_publisher_waits}
+use Rattle.iox2_pubsub.proofs.LiveParts.{unblocked-test}
+use Rattle.iox2_pubsub.proofs.StaysBut.{IsSpared}
 use Rattle.iox2_store.specs.machine.Environments.{fixed_handlers}
 use Rattle.iox2_laws.proofs.LoanKeeping.{update_publisher_loans}
 use Rattle.iox2_laws.proofs.PortsStay.{update_publisher_stays}
@@ -18,7 +25,7 @@ use Rattle.iox2_pubsub.proofs.publisher.update_connections.PublisherUpdateConnec
 pub unreachable-requires : goal.unreachable-requires
 unreachable-requires g c =
     publisher-missing {T = g.row.T.Denot} {U = g.row.U.Denot} c.domain.inside.state c.args.domain.now c.domain.view_is c.args.self.now
-    c.in_default.ensures c.requires
+    c.in_default.ensures c.requires.there
 
 pub invariant_of-domain : goal.invariant_of-domain
 invariant_of-domain g c = (c.update_publisher.ensures c.in-Some.ensures.0 c.in-Some.ensures.1).reaches.agrees
@@ -40,7 +47,10 @@ pub update_publisher-requires-clause-stands : goal.update_publisher-requires-cla
 update_publisher-requires-clause-stands g c = (c.in-Some.ensures.0, c.in-Some.ensures.1)
 
 pub returns-clause-live : goal.returns-clause-live
-returns-clause-live g c = (returns-clause-stays g c).publishers (publisher_key c.args.self.now) c.requires tt
+returns-clause-live g c = record {
+  there = (returns-clause-stays g c).publishers (publisher_key c.args.self.now) c.requires.there tt;
+  unblocked = (returns-clause-stays g c).unblocked (publisher_key c.args.self.now) c.requires.unblocked tt;
+}
 
 pub returns-clause-adds : goal.returns-clause-adds
 returns-clause-adds g c =
@@ -59,3 +69,12 @@ returns-clause-loans_left g c =
     let it = always-shown {T = g.row.T.Denot} {U = g.row.U.Denot} c.domain.inside.state c.args.domain.now c.domain.invariant c.domain.view_is in
     let step = returns-clause-updates g c it.0 it.1 it.2 in
     update-publisher-left {T = g.row.T.Denot} {U = g.row.U.Denot} c.args.domain.now (kept_of c.update_publisher.new.state) it.0 it.0 it.1 step.0 it.2 step.1 fixed_handlers c.args.self.now.id None step.2
+
+pub update_publisher-requires-clause-unblocked : goal.update_publisher-requires-clause-unblocked
+update_publisher-requires-clause-unblocked g c = λ z at_z.
+    let found = c.in-Some.ensures in
+    let both : Some z ≡ Some found.0 = sym at_z ∙ found.1 in
+    let is : z ≡ found.0 = cc in
+    ap (λ (w : PublisherFields). w.blocked) is
+    ∙ free-of c.domain.inside.state c.domain.invariant c.args.self.now.id c.in-Some.place found.0 found.1 found.2
+    (subst (λ (k : Kept g.row.T.Denot g.row.U.Denot). is_blocked (state_of k) c.args.self.now.id ≡ false) (sym c.domain.view_is) (unblocked-test c.args.domain.now (publisher_key c.args.self.now) c.requires.unblocked))

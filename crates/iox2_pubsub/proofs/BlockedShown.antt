@@ -1,0 +1,110 @@
+-- A blocked send that is tried again or given up, seen from outside.
+use Rattle.std.proofs.Common.{◌≡◌, ℕ, ◌<◌, List, [], refl, ap, sym, subst, ◌∙◌, Option, None, Some, arith}
+use Rattle.std.proofs.lemmas.Option.{same_Some}
+use Rattle.std.specs.Option.{option_map}
+use Rattle.std.specs.declared.time.Duration.{Duration}
+use Rattle.std.specs.Prelude.{slice_index_or}
+use Rattle.iox2_store.specs.machine.Environments.{fixed_handlers}
+use Rattle.iox2_store.specs.machine.Mailbox.{is_borrowed}
+use Rattle.iox2_store.specs.machine.Records.{Entry, Loan, Publisher, BlockedSend}
+use Rattle.iox2_store.specs.machine.Sends.{Retry, GiveUp, SendResult, Blocked_send}
+use Rattle.iox2_store.specs.machine.SingleCalls.{HoldsBlocked}
+use Rattle.iox2_store.specs.machine.State.{State, Messages}
+use Rattle.iox2_store.specs.machine.WellFormed.{IsWellFormed}
+use Rattle.iox2_ends.specs.LookUp.{look_up}
+use Rattle.iox2_ends.specs.Mailboxes.{sender_ends}
+use Rattle.iox2_laws.specs.Laws.{Advances}
+use Rattle.iox2_laws.proofs.LoanKeeping.{retry_loans, give_up_loans}
+use Rattle.iox2_laws.proofs.SendLaws.{retry_advances, give_up_advances}
+use Rattle.iox2_laws.proofs.SendsRemain.{PortsRemain, retry_remains, give_up_remains}
+use Rattle.iox2_laws.proofs.Waits.{Waits, retry_waits, give_up_waits}
+use Rattle.iox2_domain.specs.BlockedSends.{HasBlocked, RetriesAs, GivesUpAs, waiting_send}
+use Rattle.iox2_domain.specs.declared.publisher_state.BlockedDelivery.{BlockedDelivery}
+use Rattle.iox2_domain.specs.Fields.{Fields, kept_of, publisher_of, numbers_of, blocked_send}
+use Rattle.iox2_domain.specs.Invariant.{IsDomain, is_publisher}
+use Rattle.iox2_domain.specs.Kept.{Kept, state_of, entries_of}
+use Rattle.iox2_domain.specs.Ports.{PublisherFields}
+use Rattle.iox2_domain.specs.Shows.{Shows, KeepsEntries}
+use Rattle.iox2_domain.proofs.lemmas.fields.ConnectionEnds.{publisher-stands}
+use Rattle.iox2_pubsub.specs.Live.{Item, A_blocked_send, StaysBut}
+use Rattle.iox2_pubsub.proofs.StaysBut.{IsSpared, stays-between}
+
+module _ {T U : Type 0} (f : Fields T U) (sound : IsDomain f) (i p n : ℕ) (found : (x : PublisherFields) × (slice_index_or f.publishers i None ≡ Some x) × (x.id ≡ p))
+    (held : HoldsBlocked (state_of (kept_of f)) p n) where
+  -- the machine's publisher stands at the place
+  same-port : held.0 ≡ (publisher_of f.books f.connections found.0).port
+  same-port = same_Some _ _ (sym held.2 ∙ ap (state_of (kept_of f)).publishers (sym found.2) ∙ publisher-stands f sound i found.0 found.1)
+
+  pub some-waits : (d : BlockedDelivery) × ((found.0).blocked ≡ Some d) × (waiting_send f found.0 d ≡ held.1)
+  some-waits = by (found.0).blocked refl where
+    by : (o : Option BlockedDelivery) → (found.0).blocked ≡ o → (d : BlockedDelivery) × ((found.0).blocked ≡ Some d) × (waiting_send f found.0 d ≡ held.1)
+    by None e = absurd (let no : None ≡ Some held.1 = sym (ap (option_map (blocked_send (numbers_of f.books (found.0).id) (sender_ends f.connections (found.0).keys))) e) ∙ sym (ap (λ (x : Publisher). x.blocked) same-port) ∙ held.3 in cc)
+    by (Some d) e =
+        let both : Some (waiting_send f found.0 d) ≡ Some held.1 =
+        sym (ap (option_map (blocked_send (numbers_of f.books (found.0).id) (sender_ends f.connections (found.0).keys))) e) ∙ sym (ap (λ (x : Publisher). x.blocked) same-port) ∙ held.3 in
+        (d, e, cc)
+
+  -- so a delivery of it is blocked
+  pub has-blocked : HasBlocked f i
+  has-blocked = record { publisher = found.0; stands = found.1; blocked = (some-waits).0; waits = (some-waits).1 }
+
+  -- what holds of it holds of the machine's
+  pub as-machine : (kept : Kept T U) → kept_of f ≡ kept → (m : Messages T U) (s : State T U) → Shows kept m s → (x : Publisher) (b : BlockedSend) → s.publishers p ≡ Some x → x.blocked ≡ Some b
+      → (P : State T U → ℕ → BlockedSend → Type 0) → P (state_of (kept_of f)) (found.0).id (waiting_send f found.0 (some-waits).0) → P s p b
+  as-machine kept view m s shown x b at waits P holds =
+      let is : state_of (kept_of f) ≡ s = ap state_of view ∙ sym shown.state in
+      let one : held.0 ≡ x = same_Some held.0 x (sym held.2 ∙ ap (λ (t : State T U). t.publishers p) is ∙ at) in
+      let same : held.1 ≡ b = same_Some held.1 b (sym held.3 ∙ ap (λ (z : Publisher). z.blocked) one ∙ waits) in
+      subst (λ (t : State T U). P t p b) is
+      (subst (P (state_of (kept_of f)) p) ((some-waits).2 ∙ same)
+      (subst (λ (q : ℕ). P (state_of (kept_of f)) q (waiting_send f found.0 (some-waits).0)) found.2 holds))
+
+-- ---- what the domain shows, and what stays
+
+module _ {T U : Type 0} (f g : Fields T U) (kept : Kept T U) (view : kept_of f ≡ kept) (m : Messages T U) (s : State T U) (shown : Shows kept m s) (p : ℕ) (result : SendResult) where
+  here : Shows (kept_of f) m s
+  here = subst (λ (k : Kept T U). Shows k m s) (sym view) shown
+
+  -- no message is sent, and no loan changes
+  goes-shown : IsDomain g → Advances s (state_of (kept_of g)) → (state_of (kept_of g)).loans ≡ s.loans
+      → ((k : ℕ) (entry : Entry T U) → entries_of (kept_of g) k ≡ Some entry → entries_of (kept_of f) k ≡ Some entry) → Shows (kept_of g) m (state_of (kept_of g))
+  goes-shown agrees rises loans entries = record {
+    state = refl;
+    well_formed = agrees.well_formed;
+    entries = λ k entry e. here.entries k entry (entries k entry e);
+    complete = agrees.entries;
+    below = λ k le. let more = rises.next_message in here.below k (omega (arith, le, more));
+    unsent = λ k loan e. here.unsent k loan (ap (λ (all : ℕ → Option (Loan T U)). all k) (sym loans) ∙ e);
+  }
+
+  goes-stays : Shows (kept_of g) m (state_of (kept_of g)) → PortsRemain s (state_of (kept_of g)) → (state_of (kept_of g)).loans ≡ s.loans
+      → Waits (IsSpared (A_blocked_send p)) s (state_of (kept_of g)) → StaysBut (A_blocked_send p) kept (kept_of g)
+  goes-stays shown' remain loans waits =
+      stays-between (A_blocked_send p) kept (kept_of g) m m s (state_of (kept_of g)) shown shown' (λ k entry at. at) (record {
+        config = remain.config;
+        publishers = λ q x at _. remain.publishers q x at;
+        subscribers = λ q y at is_open _. remain.subscribers q y at is_open;
+      })
+      (λ k loan at _. ap (λ (all : ℕ → Option (Loan T U)). all k) loans ∙ at)
+      (λ i j k at _. ap (λ (ns : List ℕ). is_borrowed k (record { waiting = []; borrowed = ns })) (remain.borrowed i j) ∙ at) waits
+
+  spared : IsSpared (A_blocked_send p) p
+  spared other = other refl
+
+  module _ (b : BlockedSend) (elapsed : Duration) (agrees : IsDomain g) (h : Retry fixed_handlers s p b elapsed (state_of (kept_of g)) result)
+      (entries : (k : ℕ) (entry : Entry T U) → entries_of (kept_of g) k ≡ Some entry → entries_of (kept_of f) k ≡ Some entry) where
+    pub retry-shown : Shows (kept_of g) m (state_of (kept_of g))
+    retry-shown = goes-shown agrees (retry_advances fixed_handlers s p b elapsed _ result h) (retry_loans fixed_handlers s p b elapsed _ result h) entries
+
+    pub retry-stays : StaysBut (A_blocked_send p) kept (kept_of g)
+    retry-stays = goes-stays retry-shown (retry_remains fixed_handlers s p b elapsed _ result h) (retry_loans fixed_handlers s p b elapsed _ result h)
+        (retry_waits (IsSpared (A_blocked_send p)) p spared fixed_handlers s b elapsed _ result h)
+
+  module _ (b : BlockedSend) (agrees : IsDomain g) (h : GiveUp fixed_handlers s p b (state_of (kept_of g)) result)
+      (entries : (k : ℕ) (entry : Entry T U) → entries_of (kept_of g) k ≡ Some entry → entries_of (kept_of f) k ≡ Some entry) where
+    pub give-up-shown : Shows (kept_of g) m (state_of (kept_of g))
+    give-up-shown = goes-shown agrees (give_up_advances fixed_handlers s p b _ result h) (give_up_loans fixed_handlers s p b _ result h) entries
+
+    pub give-up-stays : StaysBut (A_blocked_send p) kept (kept_of g)
+    give-up-stays = goes-stays give-up-shown (give_up_remains fixed_handlers s p b _ result h) (give_up_loans fixed_handlers s p b _ result h)
+        (give_up_waits (IsSpared (A_blocked_send p)) p spared fixed_handlers s b _ result h)

@@ -1,0 +1,81 @@
+use Rattle.std.proofs.Common.{◌≡◌, ℕ, ap, refl, sym, subst, ◌∙◌, None, Some}
+use Rattle.std.proofs.lemmas.Option.{same_Some}
+use Rattle.iox2_store.specs.machine.Environments.{fixed_handlers}
+use Rattle.iox2_store.specs.machine.Records.{Publisher, BlockedSend}
+use Rattle.iox2_store.specs.machine.Sends.{Retry, SendResult}
+use Rattle.iox2_store.specs.machine.SingleCalls.{HoldsBlocked}
+use Rattle.iox2_store.specs.machine.State.{State}
+use Rattle.iox2_store.specs.declared.service_config.ServiceConfig.{ServiceConfig}
+use Rattle.iox2_laws.proofs.SendsRemain.{retry_waits_with}
+use Rattle.iox2_domain.specs.Deliveries.{result_of_send as result_of_delivery}
+use Rattle.iox2_domain.specs.Fields.{Fields, kept_of}
+use Rattle.iox2_domain.specs.Kept.{Kept, state_of}
+use Rattle.iox2_domain.specs.Shows.{Shows}
+use Rattle.iox2_domain.proofs.lemmas.slots.LeftConnections.{unknown, stands-nowhere}
+use Rattle.iox2_pubsub.specs.Live.{blocked_key}
+use Rattle.iox2_pubsub.specs.SendCalls.{result_of_send}
+use Rattle.iox2_pubsub.proofs.BlockedShown.{has-blocked, as-machine, some-waits, retry-shown, retry-stays}
+use Rattle.iox2_pubsub.proofs.CallsStay.{always-shown}
+use Rattle.iox2_pubsub.proofs.LiveParts.{blocked-parts, blocked-live}
+use Rattle.iox2_pubsub.proofs.SendShown.{is-blocked}
+use Rattle.iox2_pubsub.proofs.blocked_send.BlockedSend.retry.Goals as goal
+
+pub find_live_publisher-place-requires : goal.find_live_publisher-place-requires
+find_live_publisher-place-requires g c = λ none.
+    let held = subst (λ (k : Kept g.row.T.Denot g.row.U.Denot). HoldsBlocked (state_of k) c.args.self.loan.publisher c.args.self.loan.number) (sym c.domain.view_is) (blocked-parts c.args.domain.now (blocked_key c.args.self) c.requires).1 in
+    let no : None ≡ Some held.0 = sym (unknown c.domain.inside.state c.args.self.loan.publisher (stands-nowhere c.domain.inside.state.publishers c.args.self.loan.publisher none)) ∙ held.2 in
+    absurd cc
+
+pub retry_send-outcome-requires-clause-waits : goal.retry_send-outcome-requires-clause-waits
+retry_send-outcome-requires-clause-waits g c =
+    has-blocked c.domain.inside.state c.domain.invariant c.find_live_publisher-place.result c.args.self.loan.publisher c.args.self.loan.number c.find_live_publisher-place.ensures
+    (subst (λ (k : Kept g.row.T.Denot g.row.U.Denot). HoldsBlocked (state_of k) c.args.self.loan.publisher c.args.self.loan.number) (sym c.domain.view_is) (blocked-parts c.args.domain.now (blocked_key c.args.self) c.requires).1)
+
+pub invariant_of-domain : goal.invariant_of-domain
+invariant_of-domain g c =
+    let d = some-waits c.domain.inside.state c.domain.invariant c.find_live_publisher-place.result c.args.self.loan.publisher c.args.self.loan.number c.find_live_publisher-place.ensures
+    (subst (λ (k : Kept g.row.T.Denot g.row.U.Denot). HoldsBlocked (state_of k) c.args.self.loan.publisher c.args.self.loan.number) (sym c.domain.view_is) (blocked-parts c.args.domain.now (blocked_key c.args.self) c.requires).1) in
+    (c.retry_send-outcome.ensures c.find_live_publisher-place.ensures.0 (d).0 c.find_live_publisher-place.ensures.1 (d).1).agrees
+
+pub returns-clause-retries : goal.returns-clause-retries
+returns-clause-retries g c = λ m s x b shown at waits.
+    let d = some-waits c.domain.inside.state c.domain.invariant c.find_live_publisher-place.result c.args.self.loan.publisher c.args.self.loan.number c.find_live_publisher-place.ensures
+    (subst (λ (k : Kept g.row.T.Denot g.row.U.Denot). HoldsBlocked (state_of k) c.args.self.loan.publisher c.args.self.loan.number) (sym c.domain.view_is) (blocked-parts c.args.domain.now (blocked_key c.args.self) c.requires).1) in
+    let step = c.retry_send-outcome.ensures c.find_live_publisher-place.ensures.0 (d).0 c.find_live_publisher-place.ensures.1 (d).1 in
+    let after : State g.row.T.Denot g.row.U.Denot = state_of (kept_of c.retry_send-outcome.new.state) in
+    let machine : Retry fixed_handlers s c.args.self.loan.publisher b c.args.elapsed after (result_of_delivery c.retry_send-outcome.result) =
+    as-machine c.domain.inside.state c.domain.invariant c.find_live_publisher-place.result c.args.self.loan.publisher c.args.self.loan.number c.find_live_publisher-place.ensures
+    (subst (λ (k : Kept g.row.T.Denot g.row.U.Denot). HoldsBlocked (state_of k) c.args.self.loan.publisher c.args.self.loan.number) (sym c.domain.view_is) (blocked-parts c.args.domain.now (blocked_key c.args.self) c.requires).1)
+    c.args.domain.now c.domain.view_is m s shown x b at waits
+    (λ t q w. Retry fixed_handlers t q w c.args.elapsed after (result_of_delivery c.retry_send-outcome.result)) step.retries in (
+      after,
+      retry-shown {T = g.row.T.Denot} {U = g.row.U.Denot} c.domain.inside.state c.retry_send-outcome.new.state c.args.domain.now c.domain.view_is m s shown c.args.self.loan.publisher (result_of_delivery c.retry_send-outcome.result) b c.args.elapsed
+          step.agrees machine step.entries,
+      subst (Retry fixed_handlers s c.args.self.loan.publisher b c.args.elapsed after) (sym c.outcome_of.ensures.same) machine,
+    )
+
+pub returns-clause-stays : goal.returns-clause-stays
+returns-clause-stays g c =
+    let it = always-shown {T = g.row.T.Denot} {U = g.row.U.Denot} c.domain.inside.state c.args.domain.now c.domain.invariant c.domain.view_is in
+    let held = (blocked-parts c.args.domain.now (blocked_key c.args.self) c.requires).1 in
+    let at = ap (λ (t : State g.row.T.Denot g.row.U.Denot). t.publishers c.args.self.loan.publisher) (it.2).state ∙ held.2 in
+    let next = returns-clause-retries g c it.0 it.1 held.0 held.1 it.2 at held.3 in
+    let d = some-waits c.domain.inside.state c.domain.invariant c.find_live_publisher-place.result c.args.self.loan.publisher c.args.self.loan.number c.find_live_publisher-place.ensures
+    (subst (λ (k : Kept g.row.T.Denot g.row.U.Denot). HoldsBlocked (state_of k) c.args.self.loan.publisher c.args.self.loan.number) (sym c.domain.view_is) (blocked-parts c.args.domain.now (blocked_key c.args.self) c.requires).1) in
+    let step = c.retry_send-outcome.ensures c.find_live_publisher-place.ensures.0 (d).0 c.find_live_publisher-place.ensures.1 (d).1 in
+    retry-stays {T = g.row.T.Denot} {U = g.row.U.Denot} c.domain.inside.state c.retry_send-outcome.new.state c.args.domain.now c.domain.view_is it.0 it.1 it.2 c.args.self.loan.publisher (result_of_send c.outcome_of.result) held.1 c.args.elapsed
+    step.agrees (subst (λ (t : State g.row.T.Denot g.row.U.Denot). Retry fixed_handlers it.1 c.args.self.loan.publisher held.1 c.args.elapsed t (result_of_send c.outcome_of.result)) (next.1).state next.2) step.entries
+
+pub returns-clause-blocked : goal.returns-clause-blocked
+returns-clause-blocked g c =
+    let it = always-shown {T = g.row.T.Denot} {U = g.row.U.Denot} c.domain.inside.state c.args.domain.now c.domain.invariant c.domain.view_is in
+    let parts = blocked-parts c.args.domain.now (blocked_key c.args.self) c.requires in
+    let held = parts.1 in
+    let at = ap (λ (t : State g.row.T.Denot g.row.U.Denot). t.publishers c.args.self.loan.publisher) (it.2).state ∙ held.2 in
+    let next = returns-clause-retries g c it.0 it.1 held.0 held.1 it.2 at held.3 in
+    is-blocked {T = g.row.T.Denot} {U = g.row.U.Denot} (kept_of c.retry_send-outcome.new.state) (blocked_key c.args.self) c.args.self refl c.outcome_of.result c.outcome_of.ensures.blocked (λ blocked.
+    blocked-live (kept_of c.retry_send-outcome.new.state) (blocked_key c.args.self)
+    (parts.0 ∙ sym (ap (λ (k : ServiceConfig). k.service_id) (returns-clause-stays g c).settings),
+    subst (HoldsBlocked (state_of (kept_of c.retry_send-outcome.new.state)) c.args.self.loan.publisher) held.4
+    (subst (λ (t : State g.row.T.Denot g.row.U.Denot). HoldsBlocked t c.args.self.loan.publisher held.1.message) (next.1).state
+    (retry_waits_with fixed_handlers it.1 c.args.self.loan.publisher held.1 c.args.elapsed next.0 _ next.2 blocked))))

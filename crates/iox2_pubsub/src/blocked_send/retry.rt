@@ -1,0 +1,63 @@
+//! A blocked send is tried again, or given up.
+ghost use Rattle.std.specs.Prelude.{◌≡◌, IfOk};
+ghost use Rattle.iox2_pubsub.specs.SendCalls.{IfBlocked, result_of_send};
+
+use crate::blocked_send::BlockedSend;
+use crate::domain::Domain;
+use crate::sample_mut::send::outcome_of;
+use crate::send_outcome::SendOutcome;
+use iox2_messages::{give_up_send, retry_send};
+use iox2_store::{BackpressureFn, DegradationFn, SendError};
+use std::time::Duration;
+
+impl BlockedSend {
+    ghost use Rattle.std.specs.Prelude.{Some};
+    ghost use Rattle.iox2_store.specs.machine.Environments.{fixed_handlers};
+    ghost use Rattle.iox2_store.specs.machine.Records.{Publisher as Record, BlockedSend as Waiting};
+    ghost use Rattle.iox2_store.specs.machine.Sends.{Retry, GiveUp};
+    ghost use Rattle.iox2_store.specs.machine.State.{State, Messages};
+    ghost use Rattle.iox2_pubsub.specs.Live.{IsBlockedSend, StaysBut, blocked_key, blocked_send};
+    ghost use Rattle.iox2_domain.specs.Shows.{Shows};
+
+    /// Tries the send again at the subscriber that it waits for, and goes on to those that remain.
+    /// Those that took the message aren't served again, and connections aren't updated. Where the
+    /// subscriber is still full, the send is blocked again. It takes no memory.
+    ///
+    /// This library's own, where iceoryx2's `SampleMut::send` goes on by itself.
+    pub fn retry<T: Drop, U: Default + Drop, F: BackpressureFn, G: DegradationFn>(
+        self,
+        domain: &mut Domain<T, U, F, G>,
+        elapsed: Duration,
+    ) -> Result<SendOutcome, SendError>
+        requires { IsBlockedSend domain.old self }
+        ensures retries { (m : Messages T U) (s : State T U) (x : Record) (b : Waiting) → Shows domain.old m s → s.publishers self.loan.publisher ≡ Some x → x.blocked ≡ Some b
+            → (s' : State T U) × Shows domain.new m s' × Retry fixed_handlers s self.loan.publisher b elapsed s' (result_of_send result) }
+        ensures blocked { IfOk result (λ outcome. IfBlocked outcome (λ blocked. IsBlockedSend domain.new blocked × (blocked_key blocked ≡ blocked_key self))) }
+        ensures stays { StaysBut (blocked_send self) domain.old domain.new }
+    {
+        let BlockedSend { service_id, loan } = self;
+        let place = domain.state.find_live_publisher(loan.publisher, loan.place);
+        let outcome = retry_send(&mut domain.state, place, elapsed);
+        outcome_of(BlockedSend { service_id, loan }, Ok(outcome))
+    }
+
+    /// Gives up the subscriber that the send waits for, and goes on to those that remain. That
+    /// subscriber doesn't get the message, and the send doesn't fail for it. It takes no memory.
+    ///
+    /// This library's own, where iceoryx2's `SampleMut::send` goes on by itself.
+    pub fn give_up<T: Drop, U: Default + Drop, F: BackpressureFn, G: DegradationFn>(
+        self,
+        domain: &mut Domain<T, U, F, G>,
+    ) -> Result<SendOutcome, SendError>
+        requires { IsBlockedSend domain.old self }
+        ensures gives_up { (m : Messages T U) (s : State T U) (x : Record) (b : Waiting) → Shows domain.old m s → s.publishers self.loan.publisher ≡ Some x → x.blocked ≡ Some b
+            → (s' : State T U) × Shows domain.new m s' × GiveUp fixed_handlers s self.loan.publisher b s' (result_of_send result) }
+        ensures blocked { IfOk result (λ outcome. IfBlocked outcome (λ blocked. IsBlockedSend domain.new blocked × (blocked_key blocked ≡ blocked_key self))) }
+        ensures stays { StaysBut (blocked_send self) domain.old domain.new }
+    {
+        let BlockedSend { service_id, loan } = self;
+        let place = domain.state.find_live_publisher(loan.publisher, loan.place);
+        let outcome = give_up_send(&mut domain.state, place);
+        outcome_of(BlockedSend { service_id, loan }, Ok(outcome))
+    }
+}
