@@ -18,7 +18,6 @@ pub mod ReceptionShown
 pub mod LiveParts
 pub mod StaysBut
 pub mod CallsStay
-pub mod NobodyWaits
 pub mod DiscardShows
 pub mod QuestionShown
 pub mod UpdatesStay

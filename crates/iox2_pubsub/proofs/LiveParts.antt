@@ -9,7 +9,7 @@ use Rattle.iox2_store.specs.declared.key.Key.{Key}
 use Rattle.iox2_store.specs.declared.service_config.TypeVariant.TheVariants.{FixedSize}
 use Rattle.iox2_domain.specs.Kept.{Kept, state_of, entries_of}
 use Rattle.iox2_domain.specs.LoanCalls.{HasCell, HasLoanHeader, HasLoanUserHeader, HoldsUnwritten, HoldsWritten}
-use Rattle.iox2_pubsub.specs.Live.{IsSingleValued, IsPublisherKey, IsSubscriberKey, IsLoanKey, IsSampleKey, IsUnblocked, Discards, HasMark, IsFromOrigin, UnwrittenReads, LoanReads, SampleReads, LoanHasHeader, LoanHasUserHeader, SampleHasHeader, SampleHasUserHeader, IsUnwrittenLoan, IsWrittenLoan}
+use Rattle.iox2_pubsub.specs.Live.{IsSingleValued, IsPublisherKey, IsSubscriberKey, IsLoanKey, IsSampleKey, IsUnblocked, Discards, NeverWaits, HasMark, IsFromOrigin, UnwrittenReads, LoanReads, SampleReads, LoanHasHeader, LoanHasUserHeader, SampleHasHeader, SampleHasUserHeader, IsUnwritten, IsWritten}
 use Rattle.iox2_pubsub.specs.Slices.{HasUnwrittenCells, HasValues, SampleHasValues}
 use Rattle.iox2_pubsub.specs.declared.sample.Sample.{Sample}
 use Rattle.iox2_pubsub.specs.declared.sample_mut.SampleMut.{SampleMut}
@@ -79,6 +79,20 @@ module _ {T U : Type 0} (kept : Kept T U) where
     unfolding IsSampleKey
     sample-live parts = parts
 
+  pub unblocked-alike : (key key' : Key) → key'.port ≡ key.port → IsUnblocked kept key → IsUnblocked kept key'
+  unblocked-alike key key' same free =
+      let has = unblocked-parts key free in
+      unblocked-free key' (subst (λ (p : ℕ). p < (state_of kept).next_port) (sym same) has.0, λ x at. has.1 x (ap (state_of kept).publishers (sym same) ∙ at))
+
+  -- who never waits doesn't, whatever the rest of the key
+  pub never-waits-alike : (key key' : Key) → key'.port ≡ key.port → NeverWaits kept key → NeverWaits kept key'
+  never-waits-alike key key' same never =
+      let has = discards-parts key never.discards in
+      record {
+        discards = discards-from key' (subst (λ (p : ℕ). p < (state_of kept).next_port) (sym same) has.0, λ x at. has.1 x (ap (state_of kept).publishers (sym same) ∙ at));
+        unblocked = unblocked-alike key key' same never.unblocked;
+      }
+
   -- ---- loans and their marks
 
   module _ (publisher number : ℕ) (l : Loan T U) (at : (state_of kept).loans number ≡ Some l) (its : l.publisher ≡ publisher) where
@@ -94,21 +108,21 @@ module _ {T U : Type 0} (kept : Kept T U) where
   unfolding HasMark
   has-mark number is_written l at mark = (l, at, mark)
 
-  pub unwritten-parts : (loan : SampleMutUninit) → IsUnwrittenLoan kept loan → (loan.service_id ≡ (kept.config).service_id) × HoldsUnwritten (state_of kept) loan.loan.publisher loan.loan.number
+  pub unwritten-parts : (loan : SampleMutUninit) → IsUnwritten kept loan → (loan.service_id ≡ (kept.config).service_id) × HoldsUnwritten (state_of kept) loan.loan.publisher loan.loan.number
   unwritten-parts loan live =
       let parts = loan-parts _ live.live in
       (parts.0, ((parts.1).0, (parts.1).1, (parts.1).2, marked loan.loan.publisher loan.loan.number (parts.1).0 (parts.1).1 (parts.1).2 _ live.unwritten))
 
-  pub unwritten-live : (loan : SampleMutUninit) → loan.service_id ≡ (kept.config).service_id → HoldsUnwritten (state_of kept) loan.loan.publisher loan.loan.number → IsUnwrittenLoan kept loan
+  pub unwritten-live : (loan : SampleMutUninit) → loan.service_id ≡ (kept.config).service_id → HoldsUnwritten (state_of kept) loan.loan.publisher loan.loan.number → IsUnwritten kept loan
   unwritten-live loan service has =
       record { live = loan-live _ (service, (has.0, has.1, has.2)); unwritten = has-mark loan.loan.number _ has.0 has.1 has.3 }
 
-  pub written-parts : (loan : SampleMut) → IsWrittenLoan kept loan → (loan.service_id ≡ (kept.config).service_id) × HoldsWritten (state_of kept) loan.loan.publisher loan.loan.number
+  pub written-parts : (loan : SampleMut) → IsWritten kept loan → (loan.service_id ≡ (kept.config).service_id) × HoldsWritten (state_of kept) loan.loan.publisher loan.loan.number
   written-parts loan live =
       let parts = loan-parts _ live.live in
       (parts.0, ((parts.1).0, (parts.1).1, (parts.1).2, marked loan.loan.publisher loan.loan.number (parts.1).0 (parts.1).1 (parts.1).2 _ live.written))
 
-  pub written-live : (loan : SampleMut) → loan.service_id ≡ (kept.config).service_id → HoldsWritten (state_of kept) loan.loan.publisher loan.loan.number → IsWrittenLoan kept loan
+  pub written-live : (loan : SampleMut) → loan.service_id ≡ (kept.config).service_id → HoldsWritten (state_of kept) loan.loan.publisher loan.loan.number → IsWritten kept loan
   written-live loan service has =
       record { live = loan-live _ (service, (has.0, has.1, has.2)); written = has-mark loan.loan.number _ has.0 has.1 has.3 }
 

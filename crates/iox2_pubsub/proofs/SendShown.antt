@@ -12,7 +12,7 @@ use Rattle.iox2_store.specs.machine.SingleCalls.{HoldsPublisher}
 use Rattle.iox2_store.specs.declared.errors.SendError.{SendError}
 use Rattle.iox2_store.specs.declared.errors.SendError.TheVariants.{ConnectionBrokenSinceSenderNoLongerExists}
 use Rattle.iox2_laws.proofs.Cases.{by_option}
-use Rattle.std.specs.Prelude.{IsOk, IfErr}
+use Rattle.std.specs.Prelude.{IsOk, IfOk, IfErr}
 use Rattle.iox2_store.specs.machine.State.{State, Messages}
 use Rattle.iox2_laws.proofs.Puts.{put_at-same, put_at-other}
 use Rattle.iox2_laws.proofs.SendLaws.{send_advances}
@@ -22,8 +22,9 @@ use Rattle.iox2_domain.specs.SentLoans.{SendsLoan, send_result}
 use Rattle.iox2_domain.specs.Shows.{Shows}
 use Rattle.std.specs.declared.result.Result.{Result}
 use Rattle.std.specs.declared.result.Result.TheVariants.{Ok, Err}
-use Rattle.iox2_pubsub.specs.SendCalls.{messages_after, result_of_send}
+use Rattle.iox2_pubsub.specs.SendCalls.{IsDelivered, messages_after, result_of_send}
 use Rattle.iox2_pubsub.specs.declared.send_outcome.SendOutcome.{SendOutcome}
+use Rattle.iox2_pubsub.specs.declared.send_outcome.SendOutcome.TheVariants.{Delivered}
 
 module _ {T U : Type 0} (environment : Environment) (f g : Fields T U) (n : ℕ) (result : SendResult) (sends : SendsLoan environment f g n result) (m : Messages T U) (s : State T U) (l : Loan T U)
     (shown : Shows (kept_of f) m s) (out : s.loans n ≡ Some l) where
@@ -112,6 +113,11 @@ only-error {T} {U} f g n p (Err e) ok sends its (Err error) is =
     by_option (error ≡ ConnectionBrokenSinceSenderNoLongerExists) ((state_of (kept_of f)).publishers sends.loan.publisher) _ _ sends.sends
     (λ _ gone. let same : Send_error error ≡ Send_error ConnectionBrokenSinceSenderNoLongerExists = is ∙ gone.1 in cc)
     (λ x there _. absurd (true≢false (sym (ok (x, ap (state_of (kept_of f)).publishers (sym its) ∙ there)))))
+
+-- no send waits so far
+pub is-delivered : (outcome : Result SendOutcome SendError) → IfOk outcome IsDelivered
+is-delivered (Ok (Delivered count)) = tt
+is-delivered (Err error) = tt
 
 -- what is sent under the loan's number is its entry
 pub sent-entry : {T U : Type 0} (m : Messages T U) (n : ℕ) (l : Loan T U) (outcome : Result SendOutcome SendError) → m n ≡ None

@@ -17,6 +17,10 @@ use Rattle.iox2_pubsub.specs.declared.send_outcome.SendOutcome.TheVariants.{Deli
 abbrev pub sent_result : SendOutcome → SendResult
 sent_result (Delivered count) = Delivered_to count
 
+-- The send waits for no receiver.
+abbrev pub IsDelivered : SendOutcome → Type 0
+IsDelivered (Delivered count) = Unit {0}
+
 -- The machine's result of a send that may fail.
 abbrev pub result_of_send : Result SendOutcome SendError → SendResult
 result_of_send (Ok outcome) = sent_result outcome

@@ -1,4 +1,6 @@
 //! What came of a send.
+ghost use Rattle.std.specs.Prelude.{◌≡◌};
+ghost use Rattle.iox2_pubsub.specs.SendCalls.{IsDelivered};
 
 /// What came of a message that was sent.
 ///
@@ -6,4 +8,17 @@
 pub enum SendOutcome {
     /// So many subscribers took it.
     Delivered(usize),
+}
+
+impl SendOutcome {
+    /// How many subscribers took the message, of a send that isn't blocked. This library's own.
+    #[inline(always)]
+    pub fn delivered(self) -> usize
+        requires { IsDelivered self }
+        ensures { self ≡ SendOutcome.Delivered result }
+    {
+        match self {
+            SendOutcome::Delivered(count) => count,
+        }
+    }
 }

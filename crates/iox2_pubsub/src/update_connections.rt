@@ -18,7 +18,7 @@ pub trait UpdateConnections<T: Drop, U: Default + Drop> {
     ghost use Rattle.iox2_pubsub.specs.LoansLeft.{LoansLeftStay};
     ghost use Rattle.iox2_pubsub.specs.UpdateCalls.{failure_of};
 
-    // The port is one of the domain's, and wasn't closed.
+    // The port is one of the domain's, wasn't closed, and no send of it is blocked.
     ghost is_live: { Kept T U → Self → Type 0 };
 
     // The machine's update of the port, with this failure if any.

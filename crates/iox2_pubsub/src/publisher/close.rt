@@ -11,7 +11,7 @@ impl Publisher {
     ghost use Rattle.iox2_store.specs.machine.Ports.{publisher_closed};
     ghost use Rattle.iox2_store.specs.machine.Records.{Publisher as Record};
     ghost use Rattle.iox2_store.specs.machine.State.{State, Messages};
-    ghost use Rattle.iox2_pubsub.specs.Live.{IsLivePublisher, IsUpToDate, StaysBut, publisher_key, publisher_port, waiting};
+    ghost use Rattle.iox2_pubsub.specs.Live.{IsPublisherKey, IsReadyPublisher, IsUpToDate, StaysBut, publisher_key, publisher_port, waiting};
     ghost use Rattle.iox2_pubsub.specs.LoansLeft.{NumbersLeftStay, OthersLoansLeftStay};
     ghost use Rattle.iox2_pubsub.specs.declared.subscriber.Subscriber.{Subscriber};
     ghost use Rattle.iox2_domain.specs.Shows.{Shows};
@@ -26,10 +26,10 @@ impl Publisher {
         self,
         domain: &mut Domain<T, U, F, G>,
     )
-        requires { IsLivePublisher domain.old self }
+        requires { IsReadyPublisher domain.old self }
         ensures closed { (m : Messages T U) (s : State T U) (x : Record) → Shows domain.old m s → s.publishers (publisher_key self).port ≡ Some x
             → Shows domain.new m (publisher_closed s (publisher_key self).port x) }
-        ensures spent { IsLivePublisher domain.new self → ⊥ }
+        ensures spent { IsPublisherKey domain.new (publisher_key self) → ⊥ }
         ensures no_fewer { (subscriber : Subscriber) → IsUpToDate domain.old subscriber → waiting domain.old subscriber ≤ waiting domain.new subscriber }
         ensures loans_left { OthersLoansLeftStay self domain.old domain.new }
         ensures numbers_left { NumbersLeftStay domain.old domain.new }

@@ -1,5 +1,5 @@
 //! A publisher sends a value.
-ghost use Rattle.std.specs.Prelude.{◌≡◌, ◌+◌, ℕ, IfErr, IsOk};
+ghost use Rattle.std.specs.Prelude.{◌≡◌, ◌+◌, ℕ, IfErr, IfOk, IsOk};
 ghost use Rattle.iox2_store.specs.declared.errors.LoanError.{LoanError};
 
 use crate::domain::Domain;
@@ -10,8 +10,9 @@ use iox2_store::{BackpressureFn, DegradationFn, SendError};
 impl Publisher {
     ghost use Rattle.iox2_store.specs.machine.State.{State, Messages};
     ghost use Rattle.iox2_domain.specs.Shows.{Shows};
-    ghost use Rattle.iox2_pubsub.specs.Live.{AddAtMost, IsLivePublisher, IsSingleValued, Stays, UpToDateStay};
+    ghost use Rattle.iox2_pubsub.specs.Live.{AddAtMost, IsReadyPublisher, IsSingleValued, NeverWaits, Stays, UpToDateStay, publisher_key};
     ghost use Rattle.iox2_pubsub.specs.LoansLeft.{HasLoansLeft, HasNumbersLeft, TakesOneLeft};
+    ghost use Rattle.iox2_pubsub.specs.SendCalls.{IsDelivered};
     ghost use Rattle.iox2_pubsub.specs.WrittenLoans.{SendsCopy};
 
     /// Lends a message, moves the value into it, and sends it. Refused as `loan_uninit` is, with
@@ -23,10 +24,11 @@ impl Publisher {
         domain: &mut Domain<T, U, F, G>,
         value: T,
     ) -> Result<SendOutcome, SendError>
-        requires live { IsLivePublisher domain.old self.now }
+        requires ready { IsReadyPublisher domain.old self.now }
         requires single_valued { IsSingleValued domain.old }
         ensures sends { (m : Messages T U) (s : State T U) → Shows domain.old m s
             → (m' : Messages T U) × (s' : State T U) × Shows domain.new m' s' × SendsCopy U.is_default m s self.now.id value result m' s' }
+        ensures delivered { NeverWaits domain.old (publisher_key self.now) → IfOk result IsDelivered }
         ensures refused { IfErr result (λ error. (reason : LoanError) × (error ≡ SendError.LoanError reason)) }
         ensures adds { AddAtMost ((domain.old.config).history_size + 1) domain.old domain.new }
         ensures up_to_date { UpToDateStay domain.old domain.new }

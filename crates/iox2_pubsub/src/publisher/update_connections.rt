@@ -12,11 +12,14 @@ use iox2_store::{BackpressureFn, ConnectionFailure, DegradationFn};
 impl<T: Drop, U: Default + Drop> UpdateConnections<T, U> for Publisher {
     ghost use Rattle.iox2_store.specs.machine.Environments.{fixed_handlers};
     ghost use Rattle.iox2_store.specs.machine.PublisherUpdate.{UpdatePublisher};
-    ghost use Rattle.iox2_pubsub.specs.Live.{IsLivePublisher, publisher_key};
+    ghost use Rattle.iox2_pubsub.specs.Live.{IsReadyPublisher, publisher_key};
 
-    ghost is_live = { IsLivePublisher };
+    ghost is_live = { IsReadyPublisher };
 
-    ghost live_stays = { λ old new publisher stays live. stays.publishers (publisher_key publisher) live tt };
+    ghost live_stays = { λ old new publisher stays live. record {
+        there = stays.publishers (publisher_key publisher) live.there tt;
+        unblocked = stays.unblocked (publisher_key publisher) live.unblocked tt;
+    } };
 
     ghost updates = { λ s publisher s' failure. UpdatePublisher fixed_handlers s publisher.id s' failure };
 

@@ -1,5 +1,5 @@
 //! A message is sent.
-ghost use Rattle.std.specs.Prelude.{◌≡◌, IfErr, IsOk, ◌+◌};
+ghost use Rattle.std.specs.Prelude.{◌≡◌, IfErr, IfOk, IsOk, ◌+◌};
 ghost use Rattle.iox2_domain.specs.SentLoans.{send_result};
 ghost use Rattle.iox2_pubsub.specs.SendCalls.{result_of_send};
 
@@ -13,10 +13,10 @@ impl SampleMut {
     ghost use Rattle.std.specs.Prelude.{List, Some};
     ghost use Rattle.iox2_store.specs.machine.Records.{Loan};
     ghost use Rattle.iox2_store.specs.machine.State.{State, Messages};
-    ghost use Rattle.iox2_pubsub.specs.Live.{HasLender, IsLoanKey, IsWrittenLoan, StaysBut, written_key, written_loan, AddAtMost, AreAllSlices, UpToDateStay, payloads, waiting};
+    ghost use Rattle.iox2_pubsub.specs.Live.{HasLender, IsLoanKey, IsUnblocked, IsWritten, NeverWaits, StaysBut, written_key, written_loan, AddAtMost, AreAllSlices, UpToDateStay, payloads, waiting};
     ghost use Rattle.iox2_pubsub.specs.LoansLeft.{HasOneMoreLeft, LoansLeftStay};
     ghost use Rattle.iox2_pubsub.specs.Slices.{HasValues};
-    ghost use Rattle.iox2_pubsub.specs.SendCalls.{Sends, messages_after};
+    ghost use Rattle.iox2_pubsub.specs.SendCalls.{IsDelivered, Sends, messages_after};
     ghost use Rattle.iox2_pubsub.specs.declared.subscriber.Subscriber.{Subscriber};
     ghost use Rattle.iox2_domain.specs.Shows.{Shows};
 
@@ -34,11 +34,13 @@ impl SampleMut {
         self,
         domain: &mut Domain<T, U, F, G>,
     ) -> Result<SendOutcome, SendError>
-        requires { IsWrittenLoan domain.old self }
+        requires live { IsWritten domain.old self }
+        requires unblocked { IsUnblocked domain.old (written_key self) }
         ensures ok { HasLender domain.old (written_key self) → IsOk result }
         ensures gone { IfErr result (λ error. error ≡ SendError.ConnectionBrokenSinceSenderNoLongerExists) }
         ensures sent { (m : Messages T U) (s : State T U) (l : Loan T U) → Shows domain.old m s → s.loans self.loan.number ≡ Some l
             → (s' : State T U) × Shows domain.new (messages_after m self.loan.number l result) s' × Sends s self.loan.number l result s' }
+        ensures delivered { NeverWaits domain.old (written_key self) → IfOk result IsDelivered }
         ensures spent { IsLoanKey domain.new (written_key self) → ⊥ }
         ensures adds { AddAtMost ((domain.old.config).history_size + 1) domain.old domain.new }
         ensures brings { (subscriber : Subscriber) (values : List T) → (domain.old.config).history_size ≡ 0 → waiting domain.old subscriber ≡ 0

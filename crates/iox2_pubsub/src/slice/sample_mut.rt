@@ -18,15 +18,15 @@ pub struct SampleMut {
 }
 
 impl SampleMut {
-    ghost use Rattle.std.specs.Prelude.{IfErr, IsOk, List, Some, ◌+◌};
+    ghost use Rattle.std.specs.Prelude.{IfErr, IfOk, IsOk, List, Some, ◌+◌};
     ghost use Rattle.iox2_store.specs.machine.Loans.{loan_discarded};
     ghost use Rattle.iox2_store.specs.machine.Records.{Loan};
     ghost use Rattle.iox2_store.specs.machine.State.{State, Messages};
     ghost use Rattle.iox2_domain.specs.Shows.{Shows};
-    ghost use Rattle.iox2_pubsub.specs.Live.{AddAtMost, AreAllSlices, HasLender, IsLoanKey, IsWrittenLoan, LoanHasHeader, LoanHasUserHeader, StaysBut, UpToDateStay, payloads, waiting, written_key, written_loan};
+    ghost use Rattle.iox2_pubsub.specs.Live.{AddAtMost, AreAllSlices, HasLender, IsLoanKey, IsUnblocked, IsWritten, LoanHasHeader, LoanHasUserHeader, NeverWaits, StaysBut, UpToDateStay, payloads, waiting, written_key, written_loan};
     ghost use Rattle.iox2_pubsub.specs.declared.subscriber.Subscriber.{Subscriber};
     ghost use Rattle.iox2_pubsub.specs.LoansLeft.{HasOneMoreLeft, LoansLeftStay};
-    ghost use Rattle.iox2_pubsub.specs.SendCalls.{Sends, messages_after};
+    ghost use Rattle.iox2_pubsub.specs.SendCalls.{IsDelivered, Sends, messages_after};
     ghost use Rattle.iox2_pubsub.specs.Slices.{HasValues, IsSliced};
 
     /// The payload as it lies in its slot.
@@ -36,7 +36,7 @@ impl SampleMut {
         &self,
         domain: &'a Domain<T, U, F, G>,
     ) -> &'a [T]
-        requires live { IsWrittenLoan domain.now self.now.sample }
+        requires live { IsWritten domain.now self.now.sample }
         requires sliced { IsSliced domain.now }
         ensures reads { HasValues domain.now self.now.sample.loan.number result.now }
         ensures same { (values : List T) → HasValues domain.now self.now.sample.loan.number values → result.now ≡ values }
@@ -49,11 +49,13 @@ impl SampleMut {
         self,
         domain: &mut Domain<T, U, F, G>,
     ) -> Result<SendOutcome, SendError>
-        requires { IsWrittenLoan domain.old self.sample }
+        requires live { IsWritten domain.old self.sample }
+        requires unblocked { IsUnblocked domain.old (written_key self.sample) }
         ensures ok { HasLender domain.old (written_key self.sample) → IsOk result }
         ensures gone { IfErr result (λ error. error ≡ SendError.ConnectionBrokenSinceSenderNoLongerExists) }
         ensures sent { (m : Messages T U) (s : State T U) (l : Loan T U) → Shows domain.old m s → s.loans self.sample.loan.number ≡ Some l
             → (s' : State T U) × Shows domain.new (messages_after m self.sample.loan.number l result) s' × Sends s self.sample.loan.number l result s' }
+        ensures delivered { NeverWaits domain.old (written_key self.sample) → IfOk result IsDelivered }
         ensures spent { IsLoanKey domain.new (written_key self.sample) → ⊥ }
         ensures adds { AddAtMost ((domain.old.config).history_size + 1) domain.old domain.new }
         ensures brings { (subscriber : Subscriber) (values : List T) → (domain.old.config).history_size ≡ 0 → waiting domain.old subscriber ≡ 0

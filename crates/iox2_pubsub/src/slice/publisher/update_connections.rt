@@ -11,11 +11,14 @@ use iox2_store::{BackpressureFn, ConnectionFailure, DegradationFn};
 impl<T: Drop, U: Default + Drop> UpdateConnections<T, U> for Publisher {
     ghost use Rattle.iox2_store.specs.machine.Environments.{fixed_handlers};
     ghost use Rattle.iox2_store.specs.machine.PublisherUpdate.{UpdatePublisher};
-    ghost use Rattle.iox2_pubsub.specs.Live.{IsLivePublisher, publisher_key};
+    ghost use Rattle.iox2_pubsub.specs.Live.{IsReadyPublisher, publisher_key};
 
-    ghost is_live = { λ domain publisher. IsLivePublisher domain publisher.publisher };
+    ghost is_live = { λ domain publisher. IsReadyPublisher domain publisher.publisher };
 
-    ghost live_stays = { λ old new publisher stays live. stays.publishers (publisher_key publisher.publisher) live tt };
+    ghost live_stays = { λ old new publisher stays live. record {
+        there = stays.publishers (publisher_key publisher.publisher) live.there tt;
+        unblocked = stays.unblocked (publisher_key publisher.publisher) live.unblocked tt;
+    } };
 
     ghost updates = { λ s publisher s' failure. UpdatePublisher fixed_handlers s publisher.publisher.id s' failure };
 

@@ -12,7 +12,7 @@ use Rattle.iox2_pubsub.proofs.publisher.Publisher.close.Goals as goal
 
 pub find_live_publisher-place-requires : goal.find_live_publisher-place-requires
 find_live_publisher-place-requires g c = λ none.
-    publisher-missing {T = g.row.T.Denot} {U = g.row.U.Denot} c.domain.inside.state c.args.domain.now c.domain.view_is c.args.self none c.requires
+    publisher-missing {T = g.row.T.Denot} {U = g.row.U.Denot} c.domain.inside.state c.args.domain.now c.domain.view_is c.args.self none c.requires.there
 
 pub close_publisher-requires-clause-stands : goal.close_publisher-requires-clause-stands
 close_publisher-requires-clause-stands g c = (c.find_live_publisher-place.ensures.0, c.find_live_publisher-place.ensures.1)
@@ -28,7 +28,7 @@ returns-clause-closed g c = λ m s x shown at.
 pub returns-clause-spent : goal.returns-clause-spent
 returns-clause-spent g c =
     let it = always-shown {T = g.row.T.Denot} {U = g.row.U.Denot} c.domain.inside.state c.args.domain.now c.domain.invariant c.domain.view_is in
-    let has = (publisher-parts c.args.domain.now _ c.requires).2 in
+    let has = (publisher-parts c.args.domain.now _ c.requires.there).2 in
     let there = ap (λ (t : State g.row.T.Denot g.row.U.Denot). t.publishers c.args.self.id) (it.2).state ∙ has.1 in
     publisher-close-spends {T = g.row.T.Denot} {U = g.row.U.Denot} c.args.domain.now (kept_of c.close_publisher.new.state) it.0 it.1 it.2 c.args.self.id has.0
     (returns-clause-closed g c it.0 it.1 has.0 it.2 there) (publisher_key c.args.self) refl
@@ -36,7 +36,7 @@ returns-clause-spent g c =
 pub returns-clause-stays : goal.returns-clause-stays
 returns-clause-stays g c =
     let it = always-shown {T = g.row.T.Denot} {U = g.row.U.Denot} c.domain.inside.state c.args.domain.now c.domain.invariant c.domain.view_is in
-    let has = (publisher-parts c.args.domain.now _ c.requires).2 in
+    let has = (publisher-parts c.args.domain.now _ c.requires.there).2 in
     let there = ap (λ (t : State g.row.T.Denot g.row.U.Denot). t.publishers c.args.self.id) (it.2).state ∙ has.1 in
     publisher-close-stays {T = g.row.T.Denot} {U = g.row.U.Denot} c.args.domain.now (kept_of c.close_publisher.new.state) it.0 it.1 it.2 c.args.self.id has.0
     (returns-clause-closed g c it.0 it.1 has.0 it.2 there)
@@ -44,7 +44,7 @@ returns-clause-stays g c =
 pub returns-clause-no_fewer : goal.returns-clause-no_fewer
 returns-clause-no_fewer g c =
     let it = always-shown {T = g.row.T.Denot} {U = g.row.U.Denot} c.domain.inside.state c.args.domain.now c.domain.invariant c.domain.view_is in
-    let has = (publisher-parts c.args.domain.now _ c.requires).2 in
+    let has = (publisher-parts c.args.domain.now _ c.requires.there).2 in
     let there = ap (λ (t : State g.row.T.Denot g.row.U.Denot). t.publishers c.args.self.id) (it.2).state ∙ has.1 in
     publisher-close-no-fewer {T = g.row.T.Denot} {U = g.row.U.Denot} c.args.domain.now (kept_of c.close_publisher.new.state) it.0 it.1 it.2 c.args.self.id has.0
     (returns-clause-closed g c it.0 it.1 has.0 it.2 there) there
@@ -52,7 +52,7 @@ returns-clause-no_fewer g c =
 pub returns-clause-loans_left : goal.returns-clause-loans_left
 returns-clause-loans_left g c =
     let it = always-shown {T = g.row.T.Denot} {U = g.row.U.Denot} c.domain.inside.state c.args.domain.now c.domain.invariant c.domain.view_is in
-    let has = (publisher-parts c.args.domain.now _ c.requires).2 in
+    let has = (publisher-parts c.args.domain.now _ c.requires.there).2 in
     let there = ap (λ (t : State g.row.T.Denot g.row.U.Denot). t.publishers c.args.self.id) (it.2).state ∙ has.1 in
     publisher-close-others {T = g.row.T.Denot} {U = g.row.U.Denot} c.args.domain.now (kept_of c.close_publisher.new.state) it.0 it.0 it.1 _ it.2
     (returns-clause-closed g c it.0 it.1 has.0 it.2 there) c.args.self has.0 refl
@@ -60,7 +60,7 @@ returns-clause-loans_left g c =
 pub returns-clause-numbers_left : goal.returns-clause-numbers_left
 returns-clause-numbers_left g c =
     let it = always-shown {T = g.row.T.Denot} {U = g.row.U.Denot} c.domain.inside.state c.args.domain.now c.domain.invariant c.domain.view_is in
-    let has = (publisher-parts c.args.domain.now _ c.requires).2 in
+    let has = (publisher-parts c.args.domain.now _ c.requires.there).2 in
     let there = ap (λ (t : State g.row.T.Denot g.row.U.Denot). t.publishers c.args.self.id) (it.2).state ∙ has.1 in
     publisher-close-numbers {T = g.row.T.Denot} {U = g.row.U.Denot} c.args.domain.now (kept_of c.close_publisher.new.state) it.0 it.0 it.1 _ it.2
     (returns-clause-closed g c it.0 it.1 has.0 it.2 there) c.args.self.id has.0 refl

@@ -10,12 +10,11 @@ use Rattle.iox2_domain.specs.Kept.{Kept, state_of}
 use Rattle.iox2_domain.specs.LoanCalls.{HoldsWritten}
 use Rattle.iox2_domain.specs.SentLoans.{send_result}
 use Rattle.iox2_domain.specs.Shows.{Shows}
-use Rattle.iox2_pubsub.proofs.SendShown.{machine-sends, only-error, sent-entry, sent-shown}
+use Rattle.iox2_pubsub.proofs.SendShown.{is-delivered, machine-sends, only-error, sent-entry, sent-shown}
 use Rattle.iox2_pubsub.specs.Live.{lender_key, written_key}
 use Rattle.iox2_pubsub.specs.SendCalls.{result_of_send}
 use Rattle.iox2_pubsub.proofs.CallsStay.{always-shown, sent-stays, send-spends}
-use Rattle.iox2_pubsub.proofs.LiveParts.{publisher-parts, written-parts}
-use Rattle.iox2_pubsub.proofs.NobodyWaits.{nobody-waits}
+use Rattle.iox2_pubsub.proofs.LiveParts.{publisher-parts, unblocked-parts, written-parts}
 use Rattle.iox2_pubsub.proofs.WaitingShown.{send-adds, send-brings}
 use Rattle.iox2_pubsub.proofs.UpToDateShown.{send-leaves}
 use Rattle.iox2_pubsub.proofs.LoansLeftShown.{send-left, send-gives, sent-free}
@@ -23,7 +22,7 @@ use Rattle.iox2_pubsub.proofs.sample_mut.SampleMut.send.Goals as goal
 
 pub send_loan-requires-clause-live : goal.send_loan-requires-clause-live
 send_loan-requires-clause-live g c =
-    subst (λ (k : Kept g.row.T.Denot g.row.U.Denot). HoldsWritten (state_of k) c.args.self.loan.publisher c.args.self.loan.number) (sym c.domain.view_is) (written-parts c.args.domain.now c.args.self c.requires).1
+    subst (λ (k : Kept g.row.T.Denot g.row.U.Denot). HoldsWritten (state_of k) c.args.self.loan.publisher c.args.self.loan.number) (sym c.domain.view_is) (written-parts c.args.domain.now c.args.self c.requires.live).1
 
 pub returns-clause-sent : goal.returns-clause-sent
 returns-clause-sent g c = λ m s l shown out.
@@ -38,18 +37,19 @@ returns-clause-sent g c = λ m s l shown out.
 pub returns-clause-spent : goal.returns-clause-spent
 returns-clause-spent g c = λ live.
     let it = always-shown {T = g.row.T.Denot} {U = g.row.U.Denot} c.domain.inside.state c.args.domain.now c.domain.invariant c.domain.view_is in
-    let has = (written-parts c.args.domain.now c.args.self c.requires).1 in
+    let has = (written-parts c.args.domain.now c.args.self c.requires.live).1 in
     let step = returns-clause-sent g c it.0 it.1 has.0 it.2 (ap (λ (t : State g.row.T.Denot g.row.U.Denot). t.loans c.args.self.loan.number) (it.2).state ∙ has.1) in
     send-spends {T = g.row.T.Denot} {U = g.row.U.Denot} c.args.domain.now _ it.0 it.1 it.2 fixed_handlers (written_key c.args.self) has.0 (result_of_send c.outcome_of.result) _ step.0 step.1 step.2 live
 
 pub returns-clause-stays : goal.returns-clause-stays
 returns-clause-stays g c =
     let it = always-shown {T = g.row.T.Denot} {U = g.row.U.Denot} c.domain.inside.state c.args.domain.now c.domain.invariant c.domain.view_is in
-    let has = (written-parts c.args.domain.now c.args.self c.requires).1 in
+    let has = (written-parts c.args.domain.now c.args.self c.requires.live).1 in
     let out = ap (λ (t : State g.row.T.Denot g.row.U.Denot). t.loans c.args.self.loan.number) (it.2).state ∙ has.1 in
     let step = returns-clause-sent g c it.0 it.1 has.0 it.2 out in
     sent-stays {T = g.row.T.Denot} {U = g.row.U.Denot} c.args.domain.now _ it.0 it.1 it.2 c.args.self.loan.number has.0 out
-    (nobody-waits {T = g.row.T.Denot} {U = g.row.U.Denot} c.domain.inside.state c.domain.invariant c.args.domain.now c.domain.view_is it.0 it.1 it.2 (has.0).publisher)
+    (λ x at. (unblocked-parts c.args.domain.now (written_key c.args.self) c.requires.unblocked).1 x
+    (ap (λ (t : State g.row.T.Denot g.row.U.Denot). t.publishers c.args.self.loan.publisher) (sym (it.2).state) ∙ ap (it.1).publishers (sym has.2) ∙ at))
     c.outcome_of.result step.0 step.1 step.2
 
 pub returns-clause-ok : goal.returns-clause-ok
@@ -60,7 +60,7 @@ returns-clause-ok g c = λ lent.
 
 pub returns-clause-gone : goal.returns-clause-gone
 returns-clause-gone g c =
-    let has = (written-parts c.args.domain.now c.args.self c.requires).1 in
+    let has = (written-parts c.args.domain.now c.args.self c.requires.live).1 in
     let before = subst (λ (k : Kept g.row.T.Denot g.row.U.Denot). HoldsWritten (state_of k) c.args.self.loan.publisher c.args.self.loan.number) (sym c.domain.view_is) has in
     only-error {T = g.row.T.Denot} {U = g.row.U.Denot} c.domain.inside.state c.send_loan.new.state c.args.self.loan.number c.args.self.loan.publisher c.send_loan.result c.send_loan.ensures.ok
     c.send_loan.ensures.sends
@@ -70,7 +70,7 @@ returns-clause-gone g c =
 pub returns-clause-adds : goal.returns-clause-adds
 returns-clause-adds g c =
     let it = always-shown {T = g.row.T.Denot} {U = g.row.U.Denot} c.domain.inside.state c.args.domain.now c.domain.invariant c.domain.view_is in
-    let has = (written-parts c.args.domain.now c.args.self c.requires).1 in
+    let has = (written-parts c.args.domain.now c.args.self c.requires.live).1 in
     let out = ap (λ (t : State g.row.T.Denot g.row.U.Denot). t.loans c.args.self.loan.number) (it.2).state ∙ has.1 in
     let step = returns-clause-sent g c it.0 it.1 has.0 it.2 out in
     send-adds {T = g.row.T.Denot} {U = g.row.U.Denot} c.args.domain.now _ it.0 _ it.1 step.0 it.2 step.1 fixed_handlers c.args.self.loan.number has.0 (result_of_send c.outcome_of.result) step.2
@@ -78,7 +78,7 @@ returns-clause-adds g c =
 pub returns-clause-brings : goal.returns-clause-brings
 returns-clause-brings g c = λ subscriber values no_history none reads.
     let it = always-shown {T = g.row.T.Denot} {U = g.row.U.Denot} c.domain.inside.state c.args.domain.now c.domain.invariant c.domain.view_is in
-    let has = (written-parts c.args.domain.now c.args.self c.requires).1 in
+    let has = (written-parts c.args.domain.now c.args.self c.requires.live).1 in
     let out = ap (λ (t : State g.row.T.Denot g.row.U.Denot). t.loans c.args.self.loan.number) (it.2).state ∙ has.1 in
     let step = returns-clause-sent g c it.0 it.1 has.0 it.2 out in
     send-brings {T = g.row.T.Denot} {U = g.row.U.Denot} c.args.domain.now _ it.0 _ it.1 step.0 it.2 step.1 fixed_handlers c.args.self.loan.number has.0 (result_of_send c.outcome_of.result)
@@ -87,7 +87,7 @@ returns-clause-brings g c = λ subscriber values no_history none reads.
 pub returns-clause-up_to_date : goal.returns-clause-up_to_date
 returns-clause-up_to_date g c =
     let it = always-shown {T = g.row.T.Denot} {U = g.row.U.Denot} c.domain.inside.state c.args.domain.now c.domain.invariant c.domain.view_is in
-    let has = (written-parts c.args.domain.now c.args.self c.requires).1 in
+    let has = (written-parts c.args.domain.now c.args.self c.requires.live).1 in
     let out = ap (λ (t : State g.row.T.Denot g.row.U.Denot). t.loans c.args.self.loan.number) (it.2).state ∙ has.1 in
     let step = returns-clause-sent g c it.0 it.1 has.0 it.2 out in
     send-leaves {T = g.row.T.Denot} {U = g.row.U.Denot} c.args.domain.now _ it.0 _ it.1 step.0 it.2 step.1 fixed_handlers c.args.self.loan.number has.0 (result_of_send c.outcome_of.result) step.2
@@ -95,7 +95,7 @@ returns-clause-up_to_date g c =
 pub returns-clause-loans_left : goal.returns-clause-loans_left
 returns-clause-loans_left g c =
     let it = always-shown {T = g.row.T.Denot} {U = g.row.U.Denot} c.domain.inside.state c.args.domain.now c.domain.invariant c.domain.view_is in
-    let has = (written-parts c.args.domain.now c.args.self c.requires).1 in
+    let has = (written-parts c.args.domain.now c.args.self c.requires.live).1 in
     let out = ap (λ (t : State g.row.T.Denot g.row.U.Denot). t.loans c.args.self.loan.number) (it.2).state ∙ has.1 in
     let step = returns-clause-sent g c it.0 it.1 has.0 it.2 out in
     send-left {T = g.row.T.Denot} {U = g.row.U.Denot} c.args.domain.now _ it.0 _ it.1 step.0 it.2 step.1 fixed_handlers c.args.self.loan.number has.0 out c.args.self.loan.publisher has.2 (result_of_send c.outcome_of.result) (sent-free c.outcome_of.result) step.2
@@ -103,7 +103,10 @@ returns-clause-loans_left g c =
 pub returns-clause-given_back : goal.returns-clause-given_back
 returns-clause-given_back g c =
     let it = always-shown {T = g.row.T.Denot} {U = g.row.U.Denot} c.domain.inside.state c.args.domain.now c.domain.invariant c.domain.view_is in
-    let has = (written-parts c.args.domain.now c.args.self c.requires).1 in
+    let has = (written-parts c.args.domain.now c.args.self c.requires.live).1 in
     let out = ap (λ (t : State g.row.T.Denot g.row.U.Denot). t.loans c.args.self.loan.number) (it.2).state ∙ has.1 in
     let step = returns-clause-sent g c it.0 it.1 has.0 it.2 out in
     send-gives {T = g.row.T.Denot} {U = g.row.U.Denot} c.args.domain.now _ it.0 _ it.1 step.0 it.2 step.1 fixed_handlers c.args.self.loan.number has.0 out c.args.self.loan.publisher has.2 (result_of_send c.outcome_of.result) (sent-free c.outcome_of.result) step.2
+
+pub returns-clause-delivered : goal.returns-clause-delivered
+returns-clause-delivered g c = λ never. is-delivered c.outcome_of.result

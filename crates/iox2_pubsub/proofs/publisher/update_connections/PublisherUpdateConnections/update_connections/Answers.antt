@@ -18,7 +18,7 @@ use Rattle.iox2_pubsub.proofs.publisher.update_connections.PublisherUpdateConnec
 pub unreachable-requires : goal.unreachable-requires
 unreachable-requires g c =
     publisher-missing {T = g.row.T.Denot} {U = g.row.U.Denot} c.domain.inside.state c.args.domain.now c.domain.view_is c.args.self.now
-    c.in_default.ensures c.requires
+    c.in_default.ensures c.requires.there
 
 pub invariant_of-domain : goal.invariant_of-domain
 invariant_of-domain g c = (c.update_publisher.ensures c.in-Some.ensures.0 c.in-Some.ensures.1).reaches.agrees
@@ -40,7 +40,10 @@ pub update_publisher-requires-clause-stands : goal.update_publisher-requires-cla
 update_publisher-requires-clause-stands g c = (c.in-Some.ensures.0, c.in-Some.ensures.1)
 
 pub returns-clause-live : goal.returns-clause-live
-returns-clause-live g c = (returns-clause-stays g c).publishers (publisher_key c.args.self.now) c.requires tt
+returns-clause-live g c = record {
+  there = (returns-clause-stays g c).publishers (publisher_key c.args.self.now) c.requires.there tt;
+  unblocked = (returns-clause-stays g c).unblocked (publisher_key c.args.self.now) c.requires.unblocked tt;
+}
 
 pub returns-clause-adds : goal.returns-clause-adds
 returns-clause-adds g c =
