@@ -16,7 +16,7 @@ use Rattle.iox2_domain.specs.Reaches.{Reaches}
 use Rattle.iox2_domain.specs.Shows.{Shows}
 use Rattle.iox2_store.specs.declared.header.Header.{Header}
 use Rattle.iox2_store.specs.declared.key.Key.{Key}
-use Rattle.iox2_pubsub.specs.Live.{IsUnwrittenLoan, IsWrittenLoan, LoanReads, LoanHasHeader, LoanHasUserHeader, UnwrittenReads, A_loan, StaysBut, UpToDateStay, payloads}
+use Rattle.iox2_pubsub.specs.Live.{IsUnwritten, IsWritten, LoanReads, LoanHasHeader, LoanHasUserHeader, UnwrittenReads, A_loan, StaysBut, UpToDateStay, payloads}
 use Rattle.iox2_pubsub.specs.Slices.{HasUnwrittenCells, HasValues}
 use Rattle.iox2_pubsub.specs.declared.sample_mut.SampleMut.{SampleMut}
 use Rattle.iox2_pubsub.specs.declared.sample_mut_uninit.SampleMutUninit.{SampleMutUninit}
@@ -78,7 +78,7 @@ module _ {T U : Type 0} (f g : Fields T U) (sound : IsDomain f) (kept : Kept T U
         let both = change-shown f g kept view n assumes.0 assumed assumes.1 reaches m s shown in
         (assumes.0, both.0, sym assumes.2 ∙ yes, both.1)
 
-    pub taken-live : (loan : SampleMutUninit) → loan.loan.number ≡ n → IsUnwrittenLoan kept loan → IsWrittenLoan (kept_of g) (record { service_id = loan.service_id; loan = loan.loan })
+    pub taken-live : (loan : SampleMutUninit) → loan.loan.number ≡ n → IsUnwritten kept loan → IsWritten (kept_of g) (record { service_id = loan.service_id; loan = loan.loan })
     taken-live loan its live =
         let parts = unwritten-parts kept loan live in
         let out : HoldsLoan (state_of (kept_of f)) loan.loan.publisher n =

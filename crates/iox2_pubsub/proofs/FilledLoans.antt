@@ -10,7 +10,7 @@ use Rattle.iox2_domain.specs.Fields.{Fields, kept_of}
 use Rattle.iox2_domain.specs.Invariant.{IsDomain}
 use Rattle.iox2_domain.specs.LoanCalls.{WritesLoan}
 use Rattle.iox2_domain.specs.Shows.{Shows}
-use Rattle.iox2_pubsub.specs.Live.{IsUnwrittenLoan, IsWrittenLoan, LoanHasHeader, LoanHasUserHeader, A_loan, StaysBut, UpToDateStay, payloads}
+use Rattle.iox2_pubsub.specs.Live.{IsUnwritten, IsWritten, LoanHasHeader, LoanHasUserHeader, A_loan, StaysBut, UpToDateStay, payloads}
 use Rattle.iox2_pubsub.specs.LoansLeft.{LoansLeftStay}
 use Rattle.iox2_pubsub.specs.Slices.{HasValues}
 use Rattle.iox2_pubsub.specs.declared.sample_mut.SampleMut.{SampleMut}
@@ -38,7 +38,7 @@ module _ {T U : Type 0} (f g : Fields T U) (sound : IsDomain f) (kept : Kept T U
       (filled, ap (state_of (kept_of g)).loans its ∙ changed-out f g kept view n writes.0 filled writes.1 writes.3, λ i. map Some values)
 
   pub filled-live : (loan : SampleMutUninit) (loan' : SampleMut) → loan.loan.number ≡ n → loan'.service_id ≡ loan.service_id → loan'.loan.publisher ≡ loan.loan.publisher
-      → loan'.loan.number ≡ n → IsUnwrittenLoan kept loan → IsWrittenLoan (kept_of g) loan'
+      → loan'.loan.number ≡ n → IsUnwritten kept loan → IsWritten (kept_of g) loan'
   filled-live loan loan' its service publisher number live =
       let parts = unwritten-parts kept loan live in
       let out : HoldsLoan (state_of (kept_of f)) loan.loan.publisher n =

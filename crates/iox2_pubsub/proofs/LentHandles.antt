@@ -20,7 +20,7 @@ use Rattle.iox2_domain.specs.Shows.{Shows}
 use Rattle.iox2_domain.proofs.lemmas.loans.LentLoans.{IsLent, header-lent, cell-lent, cells-lent, value-lent, values-lent}
 use Rattle.iox2_domain.proofs.lemmas.loans.LoanCalls.{contents-there, some-at, is-unwritten, is-written, user_header-read, in-lists, cell-some, cell-read, cells-read, value-some, value-read, values-read}
 use Rattle.iox2_pubsub.specs.ChangedLoans.{with_cell, with_cells, with_payload, with_payloads, with_user_header}
-use Rattle.iox2_pubsub.specs.Live.{IsUnwrittenLoan, IsWrittenLoan, LoanHasHeader, LoanHasUserHeader, A_loan, StaysBut, UpToDateStay, payloads}
+use Rattle.iox2_pubsub.specs.Live.{IsUnwritten, IsUnwrittenLoan, IsWritten, IsWrittenLoan, LoanHasHeader, LoanHasUserHeader, NeverWaits, A_loan, StaysBut, UpToDateStay, payloads, unwritten_key, written_key}
 use Rattle.iox2_pubsub.specs.Slices.{HasUnwrittenCells, HasValues}
 use Rattle.iox2_pubsub.specs.declared.sample_mut.SampleMut.{SampleMut}
 use Rattle.iox2_pubsub.specs.declared.sample_mut_uninit.SampleMutUninit.{SampleMutUninit}
@@ -147,7 +147,7 @@ module _ {T U : Type 0} (f g : Fields T U) (sound : IsDomain f) (kept : Kept T U
         lent-values m values its (same ∙ ap (λ (k : Loan T U). k.cells) (sym (loan-there had.0 (ap (state_of kept).loans (sym its) ∙ had.1))) ∙ had.2)
 
   module _ (same : (h l).publisher ≡ l.publisher) (mark : (h l).is_written ≡ l.is_written) where
-    pub lent-written : (loan : SampleMut) → loan.loan.number ≡ n → IsWrittenLoan kept loan → IsWrittenLoan after loan
+    pub lent-written : (loan : SampleMut) → loan.loan.number ≡ n → IsWritten kept loan → IsWritten after loan
     lent-written loan its live =
         let parts = written-parts kept loan live in
         let out : HoldsLoan (state_of (kept_of f)) loan.loan.publisher n =
@@ -155,16 +155,23 @@ module _ {T U : Type 0} (f g : Fields T U) (sound : IsDomain f) (kept : Kept T U
         let both : Some l ≡ Some (parts.1).0 = sym found ∙ ap (λ (k : Kept T U). (state_of k).loans n) view ∙ ap (state_of kept).loans (sym its) ∙ (parts.1).1 in
         let one : l ≡ (parts.1).0 = cc in
         let written : (h l).is_written ≡ true = mark ∙ ap (λ (k : Loan T U). k.is_written) one ∙ (parts.1).3 in
-        subst (λ (k : Kept T U). IsWrittenLoan k loan) lent-is
+        subst (λ (k : Kept T U). IsWritten k loan) lent-is
         (change-written f g kept view n l (h l) found lent.reaches same loan.loan.publisher loan.service_id parts.0 out written loan its refl refl)
 
-    pub lent-unwritten : (loan : SampleMutUninit) → loan.loan.number ≡ n → IsUnwrittenLoan kept loan → IsUnwrittenLoan after loan
+    pub lent-unwritten : (loan : SampleMutUninit) → loan.loan.number ≡ n → IsUnwritten kept loan → IsUnwritten after loan
     lent-unwritten loan its live =
         let parts = unwritten-parts kept loan live in
         let both : Some l ≡ Some (parts.1).0 = sym found ∙ ap (λ (k : Kept T U). (state_of k).loans n) view ∙ ap (state_of kept).loans (sym its) ∙ (parts.1).1 in
         let one : l ≡ (parts.1).0 = cc in
         let unwritten : (h l).is_written ≡ false = mark ∙ ap (λ (k : Loan T U). k.is_written) one ∙ (parts.1).3 in
-        subst (λ (k : Kept T U). IsUnwrittenLoan k loan) lent-is (change-unwritten f g kept view n l (h l) found lent.reaches same loan its live unwritten)
+        subst (λ (k : Kept T U). IsUnwritten k loan) lent-is (change-unwritten f g kept view n l (h l) found lent.reaches same loan its live unwritten)
+
+    -- one whose publisher never waits stays so
+    pub lent-written-loan : (loan : SampleMut) → loan.loan.number ≡ n → IsWritten kept loan → NeverWaits kept (written_key loan) → IsWrittenLoan after loan
+    lent-written-loan loan its live never = record { out = lent-written loan its live; never_waits = lent-stays.never_wait (written_key loan) never tt }
+
+    pub lent-unwritten-loan : (loan : SampleMutUninit) → loan.loan.number ≡ n → IsUnwritten kept loan → NeverWaits kept (unwritten_key loan) → IsUnwrittenLoan after loan
+    lent-unwritten-loan loan its live never = record { out = lent-unwritten loan its live; never_waits = lent-stays.never_wait (unwritten_key loan) never tt }
 
 -- a loan whose cells were changed, to as many
 pub cells-left : {T U : Type 0} (s : State T U) (n : ℕ) (l : Loan T U) → s.loans n ≡ Some l → (read cells : List (Option T)) → HasCells s n read → length cells ≡ length read

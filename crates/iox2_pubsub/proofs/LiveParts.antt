@@ -12,7 +12,7 @@ use Rattle.iox2_store.specs.declared.key.Key.{Key}
 use Rattle.iox2_store.specs.declared.service_config.TypeVariant.TheVariants.{FixedSize}
 use Rattle.iox2_domain.specs.Kept.{Kept, state_of, entries_of}
 use Rattle.iox2_domain.specs.LoanCalls.{HasCell, HasLoanHeader, HasLoanUserHeader, HoldsUnwritten, HoldsWritten}
-use Rattle.iox2_pubsub.specs.Live.{IsSingleValued, IsPublisherKey, IsSubscriberKey, IsLoanKey, IsSampleKey, IsBlockedKey, IsUnblocked, Discards, NeverWaits, HasMark, IsFromOrigin, UnwrittenReads, LoanReads, SampleReads, LoanHasHeader, LoanHasUserHeader, SampleHasHeader, SampleHasUserHeader, IsUnwrittenLoan, IsWrittenLoan}
+use Rattle.iox2_pubsub.specs.Live.{IsSingleValued, IsPublisherKey, IsSubscriberKey, IsLoanKey, IsSampleKey, IsBlockedKey, IsUnblocked, Discards, NeverWaits, HasMark, IsFromOrigin, UnwrittenReads, LoanReads, SampleReads, LoanHasHeader, LoanHasUserHeader, SampleHasHeader, SampleHasUserHeader, IsUnwritten, IsWritten}
 use Rattle.iox2_pubsub.specs.Slices.{HasUnwrittenCells, HasValues, SampleHasValues}
 use Rattle.iox2_pubsub.specs.declared.sample.Sample.{Sample}
 use Rattle.iox2_pubsub.specs.declared.sample_mut.SampleMut.{SampleMut}
@@ -130,21 +130,21 @@ module _ {T U : Type 0} (kept : Kept T U) where
   unfolding HasMark
   has-mark number is_written l at mark = (l, at, mark)
 
-  pub unwritten-parts : (loan : SampleMutUninit) → IsUnwrittenLoan kept loan → (loan.service_id ≡ (kept.config).service_id) × HoldsUnwritten (state_of kept) loan.loan.publisher loan.loan.number
+  pub unwritten-parts : (loan : SampleMutUninit) → IsUnwritten kept loan → (loan.service_id ≡ (kept.config).service_id) × HoldsUnwritten (state_of kept) loan.loan.publisher loan.loan.number
   unwritten-parts loan live =
       let parts = loan-parts _ live.live in
       (parts.0, ((parts.1).0, (parts.1).1, (parts.1).2, marked loan.loan.publisher loan.loan.number (parts.1).0 (parts.1).1 (parts.1).2 _ live.unwritten))
 
-  pub unwritten-live : (loan : SampleMutUninit) → loan.service_id ≡ (kept.config).service_id → HoldsUnwritten (state_of kept) loan.loan.publisher loan.loan.number → IsUnwrittenLoan kept loan
+  pub unwritten-live : (loan : SampleMutUninit) → loan.service_id ≡ (kept.config).service_id → HoldsUnwritten (state_of kept) loan.loan.publisher loan.loan.number → IsUnwritten kept loan
   unwritten-live loan service has =
       record { live = loan-live _ (service, (has.0, has.1, has.2)); unwritten = has-mark loan.loan.number _ has.0 has.1 has.3 }
 
-  pub written-parts : (loan : SampleMut) → IsWrittenLoan kept loan → (loan.service_id ≡ (kept.config).service_id) × HoldsWritten (state_of kept) loan.loan.publisher loan.loan.number
+  pub written-parts : (loan : SampleMut) → IsWritten kept loan → (loan.service_id ≡ (kept.config).service_id) × HoldsWritten (state_of kept) loan.loan.publisher loan.loan.number
   written-parts loan live =
       let parts = loan-parts _ live.live in
       (parts.0, ((parts.1).0, (parts.1).1, (parts.1).2, marked loan.loan.publisher loan.loan.number (parts.1).0 (parts.1).1 (parts.1).2 _ live.written))
 
-  pub written-live : (loan : SampleMut) → loan.service_id ≡ (kept.config).service_id → HoldsWritten (state_of kept) loan.loan.publisher loan.loan.number → IsWrittenLoan kept loan
+  pub written-live : (loan : SampleMut) → loan.service_id ≡ (kept.config).service_id → HoldsWritten (state_of kept) loan.loan.publisher loan.loan.number → IsWritten kept loan
   written-live loan service has =
       record { live = loan-live _ (service, (has.0, has.1, has.2)); written = has-mark loan.loan.number _ has.0 has.1 has.3 }
 

@@ -11,7 +11,7 @@ use Rattle.iox2_laws.proofs.Puts.{found_put}
 use Rattle.iox2_domain.specs.Kept.{Kept, state_of}
 use Rattle.iox2_domain.specs.Fields.{Fields, kept_of}
 use Rattle.iox2_store.specs.declared.key.Key.{Key}
-use Rattle.iox2_pubsub.specs.Live.{IsLoanKey, IsUnwrittenLoan, IsWrittenLoan, LoanHasHeader, LoanHasUserHeader, LoanReads}
+use Rattle.iox2_pubsub.specs.Live.{IsLoanKey, IsUnwritten, IsWritten, LoanHasHeader, LoanHasUserHeader, LoanReads}
 use Rattle.iox2_pubsub.specs.declared.sample_mut.SampleMut.{SampleMut}
 use Rattle.iox2_pubsub.specs.declared.sample_mut_uninit.SampleMutUninit.{SampleMutUninit}
 use Rattle.iox2_pubsub.proofs.LiveParts.{loan-header, loan-header-parts, loan-parts, loan-reads, loan-user-header, loan-user-header-parts, unwritten-parts, unwritten-live, written-parts, written-live}
@@ -28,10 +28,10 @@ module _ {T U : Type 0} (inside kept : Kept T U) (view : inside ≡ kept) where
   of-shown P holds m s shown = subst P (ap state_of view ∙ sym shown.state) holds
 
   -- a handle's loan is out
-  pub unwritten-out : (loan : SampleMutUninit) → IsUnwrittenLoan kept loan → HoldsUnwritten (state_of inside) loan.loan.publisher loan.loan.number
+  pub unwritten-out : (loan : SampleMutUninit) → IsUnwritten kept loan → HoldsUnwritten (state_of inside) loan.loan.publisher loan.loan.number
   unwritten-out loan live = subst (λ k. HoldsUnwritten (state_of k) loan.loan.publisher loan.loan.number) (sym view) (unwritten-parts kept loan live).1
 
-  pub written-out : (loan : SampleMut) → IsWrittenLoan kept loan → HoldsWritten (state_of inside) loan.loan.publisher loan.loan.number
+  pub written-out : (loan : SampleMut) → IsWritten kept loan → HoldsWritten (state_of inside) loan.loan.publisher loan.loan.number
   written-out loan live = subst (λ k. HoldsWritten (state_of k) loan.loan.publisher loan.loan.number) (sym view) (written-parts kept loan live).1
 
   pub loan-out : (key : Key) → IsLoanKey kept key → HoldsLoan (state_of inside) key.port key.message
@@ -93,7 +93,7 @@ module _ {T U : Type 0} (f g : Fields T U) (kept : Kept T U) (view : kept_of f �
         → (service ≡ ((kept_of g).config).service_id) × ((state_of (kept_of g)).loans n ≡ Some changed) × (changed.publisher ≡ p)
     change-live p service ours live = (service-still service ours, changed-out, same ∙ its-publisher p live)
 
-    pub change-unwritten : (loan : SampleMutUninit) → loan.loan.number ≡ n → IsUnwrittenLoan kept loan → changed.is_written ≡ false → IsUnwrittenLoan (kept_of g) loan
+    pub change-unwritten : (loan : SampleMutUninit) → loan.loan.number ≡ n → IsUnwritten kept loan → changed.is_written ≡ false → IsUnwritten (kept_of g) loan
     change-unwritten loan its live mark =
         let parts = unwritten-parts kept loan live in
         let out = subst (λ (k : Kept T U). HoldsLoan (state_of k) loan.loan.publisher loan.loan.number) (sym view) ((parts.1).0, (parts.1).1, (parts.1).2) in
@@ -102,7 +102,7 @@ module _ {T U : Type 0} (f g : Fields T U) (kept : Kept T U) (view : kept_of f �
 
     -- a written loan is live under a handle with the same key
     pub change-written : (p service : ℕ) → service ≡ (kept.config).service_id → HoldsLoan (state_of (kept_of f)) p n → changed.is_written ≡ true
-        → (loan : SampleMut) → loan.loan.number ≡ n → loan.service_id ≡ service → loan.loan.publisher ≡ p → IsWrittenLoan (kept_of g) loan
+        → (loan : SampleMut) → loan.loan.number ≡ n → loan.service_id ≡ service → loan.loan.publisher ≡ p → IsWritten (kept_of g) loan
     change-written p service ours out mark loan number its publisher =
         let is = change-live p service ours out in
         written-live (kept_of g) loan (its ∙ is.0) (changed, ap (state_of (kept_of g)).loans number ∙ is.1, is.2 ∙ sym publisher, mark)
@@ -127,7 +127,7 @@ module _ {T U : Type 0} (f g : Fields T U) (kept : Kept T U) (view : kept_of f �
 
   -- the written loan is out
   pub write-live : (loan : SampleMutUninit) (loan' : SampleMut) → loan.loan.number ≡ n → loan'.service_id ≡ loan.service_id → loan'.loan.publisher ≡ loan.loan.publisher
-      → loan'.loan.number ≡ n → IsUnwrittenLoan kept loan → IsWrittenLoan (kept_of g) loan'
+      → loan'.loan.number ≡ n → IsUnwritten kept loan → IsWritten (kept_of g) loan'
   write-live loan loan' its service publisher number live =
       let parts = unwritten-parts kept loan live in
       let out : HoldsLoan (state_of (kept_of f)) loan.loan.publisher n =

@@ -33,20 +33,8 @@ module _ {T U : Type 0} (f g : Fields T U) (loans len : ℕ) (environment : Envi
         subst (λ (u : State T U). CreatePublisher environment u (plain_publisher loans len) t refusal) (sym shown.state) made,
       )
 
-  -- and has the publisher that was made
-  pub created-live : (t : State T U) → CreatePublisher environment (state_of (kept_of f)) (plain_publisher loans len) t None → Reaches f g t
-      → (publisher : Publisher) → publisher.service_id ≡ (f.config).service_id → publisher.id ≡ f.next_port → IsLivePublisher (kept_of g) publisher
-  created-live t made reached publisher service id =
-      let keeps = create-keeps environment (state_of (kept_of f)) (plain_publisher loans len) t None made in
-      publisher-live (kept_of g) _ (
-        refl,
-        service ∙ ap (λ (c : ServiceConfig). c.service_id) (sym (ap (λ (u : State T U). u.config) reached.state ∙ keeps.config)),
-        subst (HoldsPublisher (state_of (kept_of g))) (sym id)
-            (subst (λ (u : State T U). HoldsPublisher u f.next_port) (sym reached.state) (create-holds environment (state_of (kept_of f)) (plain_publisher loans len) t made)),
-      )
-
-  -- which waits for nobody, ever
-  pub created-never-waits : (t : State T U) → CreatePublisher environment (state_of (kept_of f)) (plain_publisher loans len) t None → Reaches f g t
+  -- the publisher that was made never waits
+  created-never-waits : (t : State T U) → CreatePublisher environment (state_of (kept_of f)) (plain_publisher loans len) t None → Reaches f g t
       → (publisher : Publisher) → publisher.id ≡ f.next_port → NeverWaits (kept_of g) (publisher_key publisher)
   created-never-waits t made reached publisher id =
       let new = created_as environment (state_of (kept_of f)) (plain_publisher loans len) t made in
@@ -58,4 +46,23 @@ module _ {T U : Type 0} (f g : Fields T U) (loans len : ℕ) (environment : Envi
         discards = discards-from (kept_of g) _
             (low, λ x here. (ap (λ (y : Record). y.backpressure_strategy) (one x here) ∙ new.2, ap (λ (y : Record). y.backpressure_handler) (one x here) ∙ new.3));
         unblocked = unblocked-free (kept_of g) _ (low, λ x here. ap (λ (y : Record). y.blocked) (one x here) ∙ new.4);
+      }
+
+  -- and is there
+  pub created-live : (t : State T U) → CreatePublisher environment (state_of (kept_of f)) (plain_publisher loans len) t None → Reaches f g t
+      → (publisher : Publisher) → publisher.service_id ≡ (f.config).service_id → publisher.id ≡ f.next_port → IsLivePublisher (kept_of g) publisher
+  created-live t made reached publisher service id =
+      let keeps = create-keeps environment (state_of (kept_of f)) (plain_publisher loans len) t None made in
+      let never = created-never-waits t made reached publisher id in
+      record {
+        ready = record {
+          there = publisher-live (kept_of g) _ (
+            refl,
+            service ∙ ap (λ (c : ServiceConfig). c.service_id) (sym (ap (λ (u : State T U). u.config) reached.state ∙ keeps.config)),
+            subst (HoldsPublisher (state_of (kept_of g))) (sym id)
+                (subst (λ (u : State T U). HoldsPublisher u f.next_port) (sym reached.state) (create-holds environment (state_of (kept_of f)) (plain_publisher loans len) t made)),
+          );
+          unblocked = never.unblocked;
+        };
+        never_waits = never;
       }

@@ -36,6 +36,7 @@ use Rattle.std.specs.declared.result.Result.{Result}
 use Rattle.std.specs.declared.result.Result.TheVariants.{Ok, Err}
 use Rattle.iox2_pubsub.specs.SendCalls.{IsDelivered, IfBlocked, messages_after, result_of_send}
 use Rattle.iox2_pubsub.specs.declared.send_outcome.SendOutcome.{SendOutcome}
+use Rattle.iox2_pubsub.specs.declared.send_outcome.SendOutcome.TheVariants.{Delivered}
 
 module _ {T U : Type 0} (environment : Environment) (f g : Fields T U) (n : ℕ) (result : SendResult) (sends : SendsLoan environment f g n result) (m : Messages T U) (s : State T U) (l : Loan T U)
     (shown : Shows (kept_of f) m s) (out : s.loans n ≡ Some l) where
@@ -173,6 +174,11 @@ pub is-blocked : {T U : Type 0} (kept : Kept T U) (key : Key) (blocked : Blocked
 is-blocked kept key blocked is_key (Ok (Delivered count)) is waits = tt
 is-blocked kept key blocked is_key (Ok (Blocked it)) is waits = (subst (λ (b : BlockedSend). IsBlockedSend kept b) (sym is) (waits refl), ap blocked_key is ∙ is_key)
 is-blocked kept key blocked is_key (Err error) is waits = tt
+
+-- no send waits so far
+pub is-delivered : (outcome : Result SendOutcome SendError) → IfOk outcome IsDelivered
+is-delivered (Ok (Delivered count)) = tt
+is-delivered (Err error) = tt
 
 -- what is sent under the loan's number is its entry
 pub sent-entry : {T U : Type 0} (m : Messages T U) (n : ℕ) (l : Loan T U) (outcome : Result SendOutcome SendError) → m n ≡ None

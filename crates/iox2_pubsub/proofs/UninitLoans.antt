@@ -14,7 +14,7 @@ use Rattle.iox2_store.specs.machine.State.{State, Messages}
 use Rattle.iox2_store.specs.declared.errors.LoanError.{LoanError}
 use Rattle.iox2_store.specs.declared.key.Key.{Key}
 use Rattle.iox2_ends.specs.LookUp.{look_up}
-use Rattle.iox2_pubsub.specs.Live.{IsLivePublisher, IsUnwrittenLoan, LoanHasHeader}
+use Rattle.iox2_pubsub.specs.Live.{IsPublisherKey, IsUnwritten, LoanHasHeader, publisher_key}
 use Rattle.iox2_pubsub.specs.Slices.{HasUnwrittenCells}
 use Rattle.iox2_pubsub.specs.declared.publisher.Publisher.{Publisher as PublisherHandle}
 use Rattle.iox2_pubsub.specs.declared.sample_mut_uninit.SampleMutUninit.{SampleMutUninit}
@@ -39,9 +39,9 @@ module _ {T U : Type 0} (f : Fields T U) where
 
   -- a publisher that is live stands somewhere
   pub publisher-missing : (kept : Kept T U) → kept_of f ≡ kept → (publisher : PublisherHandle) → look_up (is_publisher publisher.id) f.publishers ≡ None
-      → IsLivePublisher kept publisher → ⊥
+      → IsPublisherKey kept (publisher_key publisher) → ⊥
   publisher-missing kept view publisher none live =
-      let live-here : IsLivePublisher (kept_of f) publisher = subst (λ (k : Kept T U). IsLivePublisher k publisher) (sym view) live in
+      let live-here : IsPublisherKey (kept_of f) (publisher_key publisher) = subst (λ (k : Kept T U). IsPublisherKey k (publisher_key publisher)) (sym view) live in
       let has = (publisher-parts (kept_of f) _ live-here).2 in
       let nothing : state.publishers publisher.id ≡ None =
       ap (option_map (λ (z : Named Publisher). z.port))
@@ -100,7 +100,7 @@ module _ {T U : Type 0} (f : Fields T U) where
 
   -- and isn't written
   granted-live : (is_default : U → Type 0) (checks : Bool) (len : ℕ) (new : Fields T U) (x : PublisherFields) (loan : SampleMutUninit) → loan.service_id ≡ (f.config).service_id
-      → IsNamed f x loan.loan → LoanReaches {A = LoanAt} is_default checks len f x (Ok loan.loan) new → IsUnwrittenLoan (kept_of new) loan
+      → IsNamed f x loan.loan → LoanReaches {A = LoanAt} is_default checks len f x (Ok loan.loan) new → IsUnwritten (kept_of new) loan
   granted-live is_default checks len new x loan its names reaches =
       unwritten-live (kept_of new) loan (its ∙ ap (λ (t : State T U). (t.config).service_id) (sym reaches.3.state))
       (lent_loan x reaches.0 len, granted-out is_default checks len new x loan.loan names reaches, sym names.publisher, refl)
@@ -130,7 +130,7 @@ module _ {T U : Type 0} (is_default : U → Type 0) (checks : Bool) (len : ℕ) 
 
   -- it is out
   pub ok-live : (loan : SampleMutUninit) → answer ≡ Ok loan.loan → IsSomeAnd (get_or f.publishers i None) (λ z. IsNamed f z loan.loan) → (kept : Kept T U) → kept_of f ≡ kept
-      → loan.service_id ≡ (kept.config).service_id → IsUnwrittenLoan (kept_of new) loan
+      → loan.service_id ≡ (kept.config).service_id → IsUnwritten (kept_of new) loan
   ok-live loan is named kept view service =
       granted-live f is_default checks len new stands.0 loan (service ∙ sym (ap (λ (k : Kept T U). (k.config).service_id) view))
       (subst (λ (o : Option PublisherFields). IsSomeAnd o (λ z. IsNamed f z loan.loan)) stands.1 named)

@@ -98,28 +98,39 @@ module _ {T U : Type 0} (domain : Kept T U) where
   unfoldable pub HasMark : (number : ℕ) → (is_written : Bool) → Type 0
   HasMark number is_written = (loan : Loan T U) × ((state_of domain).loans number ≡ Some loan) × (loan.is_written ≡ is_written)
 
-  -- The publisher is one of the domain's, and wasn't closed.
-  abbrev pub IsLivePublisher : Publisher → Type 0
-  IsLivePublisher publisher = IsPublisherKey (publisher_key publisher)
-
   -- The publisher is one of the domain's, wasn't closed, and no send of it is blocked.
   pub record IsReadyPublisher (publisher : Publisher) : Type 0 where
     pub there : IsPublisherKey (publisher_key publisher)
     pub unblocked : IsUnblocked (publisher_key publisher)
+
+  -- The publisher is one of the domain's, wasn't closed, and no send of it is ever blocked.
+  pub record IsLivePublisher (publisher : Publisher) : Type 0 where
+    pub ready : IsReadyPublisher publisher
+    pub never_waits : NeverWaits (publisher_key publisher)
 
   -- The subscriber is one of the domain's, and wasn't closed.
   abbrev pub IsLiveSubscriber : Subscriber → Type 0
   IsLiveSubscriber subscriber = IsSubscriberKey (subscriber_key subscriber)
 
   -- The loan is one of the domain's that is out, and isn't written.
-  pub record IsUnwrittenLoan (loan : SampleMutUninit) : Type 0 where
+  pub record IsUnwritten (loan : SampleMutUninit) : Type 0 where
     pub live : IsLoanKey (unwritten_key loan)
     pub unwritten : HasMark loan.loan.number false
 
   -- The loan is one of the domain's that is out, and is written.
-  pub record IsWrittenLoan (loan : SampleMut) : Type 0 where
+  pub record IsWritten (loan : SampleMut) : Type 0 where
     pub live : IsLoanKey (written_key loan)
     pub written : HasMark loan.loan.number true
+
+  -- The loan is one of the domain's that is out and isn't written, and no send of its publisher is ever blocked.
+  pub record IsUnwrittenLoan (loan : SampleMutUninit) : Type 0 where
+    pub out : IsUnwritten loan
+    pub never_waits : NeverWaits (unwritten_key loan)
+
+  -- The loan is one of the domain's that is out and is written, and no send of its publisher is ever blocked.
+  pub record IsWrittenLoan (loan : SampleMut) : Type 0 where
+    pub out : IsWritten loan
+    pub never_waits : NeverWaits (written_key loan)
 
   -- The send is one of the domain's that is blocked.
   abbrev pub IsBlockedSend : BlockedSend → Type 0
@@ -293,8 +304,8 @@ module _ {T U : Type 0} where
     pub publishers : (key : Key) → IsPublisherKey old key → IsOtherPublisher spent key.port → IsPublisherKey new key
     pub subscribers : (key : Key) → IsSubscriberKey old key → IsOtherSubscriber spent key.port → IsSubscriberKey new key
     pub loans : (key : Key) → IsLoanKey old key → IsOtherLoan spent key.message → IsLoanKey new key
-    pub unwritten_loans : (loan : SampleMutUninit) → IsUnwrittenLoan old loan → IsOtherLoan spent loan.loan.number → IsUnwrittenLoan new loan
-    pub written_loans : (loan : SampleMut) → IsWrittenLoan old loan → IsOtherLoan spent loan.loan.number → IsWrittenLoan new loan
+    pub unwritten_loans : (loan : SampleMutUninit) → IsUnwritten old loan → IsOtherLoan spent loan.loan.number → IsUnwritten new loan
+    pub written_loans : (loan : SampleMut) → IsWritten old loan → IsOtherLoan spent loan.loan.number → IsWritten new loan
     pub samples : (key : Key) → IsSampleKey old key → IsOtherSample spent key.port key.message → IsSampleKey new key
     pub origins : (sample : Sample) → IsFromOrigin old sample → IsOtherSample spent sample.sample.subscriber sample.sample.number → IsFromOrigin new sample
     pub unblocked : (key : Key) → IsUnblocked old key → IsOtherBlocked spent key.port → IsUnblocked new key
@@ -320,8 +331,8 @@ module _ {T U : Type 0} where
     pub publishers : (key : Key) → IsPublisherKey old key → IsOtherPublisher made key.port
     pub subscribers : (key : Key) → IsSubscriberKey old key → IsOtherSubscriber made key.port
     pub loans : (key : Key) → IsLoanKey old key → IsOtherLoan made key.message
-    pub unwritten_loans : (loan : SampleMutUninit) → IsUnwrittenLoan old loan → IsOtherLoan made loan.loan.number
-    pub written_loans : (loan : SampleMut) → IsWrittenLoan old loan → IsOtherLoan made loan.loan.number
+    pub unwritten_loans : (loan : SampleMutUninit) → IsUnwritten old loan → IsOtherLoan made loan.loan.number
+    pub written_loans : (loan : SampleMut) → IsWritten old loan → IsOtherLoan made loan.loan.number
     pub samples : (key : Key) → IsSampleKey old key → IsOtherSample made key.port key.message
     pub origins : (sample : Sample) → IsFromOrigin old sample → IsOtherSample made sample.sample.subscriber sample.sample.number
     pub cells : (number : ℕ) (cells : List (Option T)) → HasUnwrittenCells old number cells → IsOtherLoan made number

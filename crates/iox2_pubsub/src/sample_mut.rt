@@ -23,7 +23,7 @@ pub struct SampleMut {
 impl SampleMut {
     ghost use Rattle.std.specs.Prelude.{Some, false, ◌↔◌};
     ghost use Rattle.iox2_store.specs.machine.State.{State, Messages};
-    ghost use Rattle.iox2_pubsub.specs.Live.{IsLoanKey, IsSingleValued, IsUnblocked, IsWrittenLoan, LoanHasHeader, LoanHasUserHeader, LoanReads, written_key};
+    ghost use Rattle.iox2_pubsub.specs.Live.{IsLoanKey, IsSingleValued, IsUnblocked, IsWritten, LoanHasHeader, LoanHasUserHeader, LoanReads, written_key};
     ghost use Rattle.iox2_domain.specs.LoanCalls.{HasCell, HasLoanHeader, HasLoanUserHeader};
     ghost use Rattle.iox2_domain.specs.Shows.{Shows};
 
@@ -34,7 +34,7 @@ impl SampleMut {
         &self,
         domain: &'a Domain<T, U, F, G>,
     ) -> &'a T
-        requires live { IsWrittenLoan domain.now self.now }
+        requires live { IsWritten domain.now self.now }
         requires single_valued { IsSingleValued domain.now }
         ensures cell { (m : Messages T U) (s : State T U) → Shows domain.now m s → HasCell s self.now.loan.number (Some result.now) }
         ensures reads { LoanReads domain.now self.now result.now }

@@ -24,7 +24,7 @@ pub struct SampleMutUninit {
 impl SampleMutUninit {
     ghost use Rattle.std.specs.Prelude.{Option, Some};
     ghost use Rattle.iox2_store.specs.machine.State.{State, Messages};
-    ghost use Rattle.iox2_pubsub.specs.Live.{IsLoanKey, IsSingleValued, IsUnwrittenLoan, LoanHasHeader, LoanHasUserHeader, UnwrittenReads, unwritten_key};
+    ghost use Rattle.iox2_pubsub.specs.Live.{IsLoanKey, IsSingleValued, IsUnwritten, LoanHasHeader, LoanHasUserHeader, UnwrittenReads, unwritten_key};
     ghost use Rattle.iox2_domain.specs.LoanCalls.{HasCell, HasLoanHeader, HasLoanUserHeader};
     ghost use Rattle.iox2_domain.specs.Shows.{Shows};
 
@@ -35,7 +35,7 @@ impl SampleMutUninit {
         &self,
         domain: &'a Domain<T, U, F, G>,
     ) -> &'a Option<T>
-        requires live { IsUnwrittenLoan domain.now self.now }
+        requires live { IsUnwritten domain.now self.now }
         requires single_valued { IsSingleValued domain.now }
         ensures cell { (m : Messages T U) (s : State T U) → Shows domain.now m s → HasCell s self.now.loan.number result.now }
         ensures reads { UnwrittenReads domain.now self.now result.now }

@@ -16,6 +16,7 @@ pub enum SendOutcome {
 
 impl SendOutcome {
     /// How many subscribers took the message, of a send that isn't blocked. This library's own.
+    #[inline(always)]
     pub fn delivered(self) -> usize
         requires { IsDelivered self }
         ensures { self ≡ SendOutcome.Delivered result }

@@ -1,11 +1,14 @@
 -- What a run's table has entries for is live in its domain.
-use Rattle.std.proofs.Common.{◌≡◌, ℕ, true, List, map, refl, subst}
+use Rattle.std.proofs.Common.{◌≡◌, ℕ, true, List, Some, map, refl, ap, sym, subst, ◌∙◌}
+use Rattle.std.proofs.lemmas.Option.{same_Some}
 use Rattle.std.specs.Prelude.{slice_index_or}
+use Rattle.iox2_store.specs.machine.Records.{Publisher}
 use Rattle.iox2_store.specs.machine.State.{State}
+use Rattle.iox2_store.specs.machine.WellFormed.{IsWellFormed}
 use Rattle.iox2_domain.specs.Kept.{Kept as Domain, state_of}
 use Rattle.iox2_store.specs.machine.Mailbox.{is_borrowed}
-use Rattle.iox2_pubsub.specs.Live.{IsLivePublisher, IsLiveSubscriber, IsUnwrittenLoan, IsWrittenLoan, IsLiveSample}
-use Rattle.iox2_pubsub.proofs.LiveParts.{publisher-live, subscriber-live, unwritten-live, written-live, sample-live}
+use Rattle.iox2_pubsub.specs.Live.{IsReadyPublisher, IsLiveSubscriber, IsUnblocked, IsUnwritten, IsWritten, IsLiveSample, publisher_key, written_key}
+use Rattle.iox2_pubsub.proofs.LiveParts.{publisher-live, unblocked-free, subscriber-live, unwritten-live, written-live, sample-live}
 use Rattle.iox2_pubsub.specs.declared.publisher.Publisher.{Publisher as PublisherHandle}
 use Rattle.iox2_pubsub.specs.declared.subscriber.Subscriber.{Subscriber as SubscriberHandle}
 use Rattle.iox2_pubsub.specs.declared.sample_mut_uninit.SampleMutUninit.{SampleMutUninit}
@@ -26,25 +29,38 @@ module _ {T U : Type 0} (domain : Domain T U) (table : List Made) (keeps : IsLiv
       let v = handle_of keeps.1 keeps.2 keeps.3 (map entry_for table) keeps.5 of (entry_for made) (entry-stands table of made at some) in
       (v.0, subst (λ (s : State T U). IsEntryOf s v.0 (entry_for made)) (keeps.4).state v.2)
 
-  pub live_publisher : (h : PublisherHandle) → slice_index_or table of Nothing ≡ MadePublisher h → IsLivePublisher domain h
+  pub live_publisher : (h : PublisherHandle) → slice_index_or table of Nothing ≡ MadePublisher h → IsReadyPublisher domain h
   live_publisher h at =
       let v = (has_entry (MadePublisher h) at (λ e. let clash : MadePublisher h ≡ Nothing = e in cc)).1 in
-      publisher-live domain _ (refl, v.0, ((v.2).0, (v.2).1))
+      let there : (state_of domain).publishers h.id ≡ Some (v.2).0 = (v.2).1 in
+      record {
+        there = publisher-live domain _ (refl, v.0, ((v.2).0, there));
+        unblocked = unblocked-free domain (publisher_key h) (
+          ((subst IsWellFormed (keeps.4).state (keeps.4).well_formed).publishers h.id (v.2).0 there).is_known,
+          λ x at_x. ap (λ (y : Publisher). y.blocked) (same_Some x (v.2).0 (sym at_x ∙ there)) ∙ (v.2).2,
+        );
+      }
 
   pub live_subscriber : (h : SubscriberHandle) → slice_index_or table of Nothing ≡ MadeSubscriber h → IsLiveSubscriber domain h
   live_subscriber h at =
       let v = (has_entry (MadeSubscriber h) at (λ e. let clash : MadeSubscriber h ≡ Nothing = e in cc)).1 in
       subscriber-live domain _ (refl, v.0, (v.2, v.3, v.4))
 
-  pub live_unwritten : (h : SampleMutUninit) → slice_index_or table of Nothing ≡ Unwritten h → IsUnwrittenLoan domain h
+  pub live_unwritten : (h : SampleMutUninit) → slice_index_or table of Nothing ≡ Unwritten h → IsUnwritten domain h
   live_unwritten h at =
       let v = (has_entry (Unwritten h) at (λ e. let clash : Unwritten h ≡ Nothing = e in cc)).1 in
       unwritten-live domain h v.0 (v.2).0
 
-  pub live_written : (h : SampleMut) → slice_index_or table of Nothing ≡ Written h → IsWrittenLoan domain h
+  pub live_written : (h : SampleMut) → slice_index_or table of Nothing ≡ Written h → IsWritten domain h
   live_written h at =
       let v = (has_entry (Written h) at (λ e. let clash : Written h ≡ Nothing = e in cc)).1 in
       written-live domain h v.0 (v.2).0
+
+  -- and its publisher may send it
+  pub unblocked_written : (h : SampleMut) → slice_index_or table of Nothing ≡ Written h → IsUnblocked domain (written_key h)
+  unblocked_written h at =
+      let v = (has_entry (Written h) at (λ e. let clash : Written h ≡ Nothing = e in cc)).1 in
+      unblocked-free domain (written_key h) ((v.2).1, (v.2).2)
 
   pub live_sample : (h : SampleHandle) → slice_index_or table of Nothing ≡ MadeSample h → IsLiveSample domain h
   live_sample h at =

@@ -1,6 +1,7 @@
 //! Ports are closed while messages wait.
 ghost use Rattle.std.specs.Prelude.{◌≡◌, All, IfSome};
-ghost use Rattle.iox2_pubsub.specs.Live.{IsLivePublisher, IsLiveSubscriber, IsSingleValued, Stays};
+ghost use Rattle.iox2_pubsub.specs.Live.{IsLivePublisher, IsLiveSubscriber, IsReadyPublisher, IsSingleValued, IsUnblocked, Stays, publisher_key};
+ghost use Rattle.iox2_pubsub.specs.declared.publisher.Publisher.{Publisher as PublisherHandle};
 
 use crate::passing::send;
 use crate::ports::create_receivers;
@@ -112,22 +113,33 @@ fn send_many(domain: &mut Domain<u64, ()>, publisher: &Publisher, messages: usiz
 }
 
 // Closes those that are live, and returns how many they were.
-fn close_publishers(domain: &mut Domain<u64, ()>, senders: Vec<Sender>) -> usize {
+fn close_publishers(domain: &mut Domain<u64, ()>, senders: Vec<Sender>) -> usize
+    requires { All (λ sender. IsUnblocked domain.old (publisher_key sender.publisher)) senders.items }
+{
     let mut closed = 0usize;
     for sender in senders {
-        let publisher = sender.into_publisher();
-        if domain.holds_publisher(publisher.key()) {
-            close_publisher(domain, publisher);
-            closed = closed.saturating_add(1);
-        } else {
-            publisher.disown();
-        }
+        closed = closed.saturating_add(close_if_live(domain, sender.into_publisher()));
     }
     closed
 }
 
+// Closes the publisher if it is live, and returns how many were closed.
+fn close_if_live(domain: &mut Domain<u64, ()>, publisher: Publisher) -> usize
+    requires { IsUnblocked domain.old (publisher_key publisher) }
+    ensures { (other : PublisherHandle) → IsUnblocked domain.old (publisher_key other) → IsUnblocked domain.new (publisher_key other) }
+{
+    if !domain.holds_publisher(publisher.key()) {
+        publisher.disown();
+        return 0;
+    }
+    close_publisher(domain, publisher);
+    1
+}
+
 // Closes those that are live, and returns how many they were.
-fn close_subscribers(domain: &mut Domain<u64, ()>, receivers: Vec<Receiver>) -> usize {
+fn close_subscribers(domain: &mut Domain<u64, ()>, receivers: Vec<Receiver>) -> usize
+    ensures { (other : PublisherHandle) → IsUnblocked domain.old (publisher_key other) → IsUnblocked domain.new (publisher_key other) }
+{
     let mut closed = 0usize;
     for receiver in receivers {
         let subscriber = receiver.into_subscriber();
@@ -144,7 +156,8 @@ fn close_subscribers(domain: &mut Domain<u64, ()>, receivers: Vec<Receiver>) -> 
 // It stays a function of its own in the program, so that its instructions can be counted.
 #[inline(never)]
 fn close_publisher(domain: &mut Domain<u64, ()>, publisher: Publisher)
-    requires { IsLivePublisher domain.old publisher }
+    requires { IsReadyPublisher domain.old publisher }
+    ensures { (other : PublisherHandle) → IsUnblocked domain.old (publisher_key other) → IsUnblocked domain.new (publisher_key other) }
 {
     publisher.close(domain);
 }
@@ -153,6 +166,7 @@ fn close_publisher(domain: &mut Domain<u64, ()>, publisher: Publisher)
 #[inline(never)]
 fn close_subscriber(domain: &mut Domain<u64, ()>, subscriber: Subscriber)
     requires { IsLiveSubscriber domain.old subscriber }
+    ensures { (other : PublisherHandle) → IsUnblocked domain.old (publisher_key other) → IsUnblocked domain.new (publisher_key other) }
 {
     subscriber.close(domain);
 }

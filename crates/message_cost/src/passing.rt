@@ -3,7 +3,7 @@ ghost use Rattle.std.specs.Prelude.{◌≤◌, All};
 ghost use Rattle.iox2_pubsub.specs.Live.{IsLivePublisher, IsLiveSubscriber, IsSingleValued, Stays};
 
 use crate::receiver::Receiver;
-use iox2_pubsub::{Domain, Publisher, SendOutcome};
+use iox2_pubsub::{Domain, Publisher};
 
 /// Passes so many messages, one after the other. Returns how many of them every receiver received
 /// and read as they were written.
@@ -38,7 +38,7 @@ pub fn send(domain: &mut Domain<u64, ()>, publisher: &Publisher, value: u64) -> 
 {
     let loan = publisher.loan_uninit(domain).ok()?;
     let message = loan.write_payload(domain, value);
-    let SendOutcome::Delivered(_) = message.send(domain).ok()?;
+    message.send(domain).ok()?.delivered();
     Some(())
 }
 

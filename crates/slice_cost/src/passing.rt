@@ -4,7 +4,7 @@ ghost use Rattle.iox2_pubsub.specs.Live.{IsLivePublisher, IsLiveSubscriber, IsNe
 ghost use Rattle.iox2_pubsub.specs.Slices.{IsSliced};
 
 use iox2_pubsub::slice::{Publisher, SampleMut, SampleMutUninit, Subscriber};
-use iox2_pubsub::{Domain, SendOutcome, ServiceConfig, TypeVariant};
+use iox2_pubsub::{Domain, ServiceConfig, TypeVariant};
 use std::alloc::Global;
 
 /// Passes so many slices, each of so many elements, one after the other. Returns how many of them
@@ -124,7 +124,7 @@ fn send(domain: &mut Domain<u64, ()>, message: SampleMut) -> Option<()>
     requires { IsWrittenLoan domain.old message.sample }
     ensures { StaysBut (written_loan message.sample) domain.old domain.new }
 {
-    let SendOutcome::Delivered(_) = message.send(domain).ok()?;
+    message.send(domain).ok()?.delivered();
     Some(())
 }
 

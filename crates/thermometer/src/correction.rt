@@ -4,7 +4,7 @@ ghost use Rattle.iox2_pubsub.specs.Live.{IsLivePublisher, IsSingleValued, IsUnwr
 
 use crate::failure::Failure;
 use crate::reading::Reading;
-use iox2_pubsub::{Domain, Publisher, SampleMut, SampleMutUninit, SendOutcome};
+use iox2_pubsub::{Domain, Publisher, SampleMut, SampleMutUninit};
 
 /// Writes a reading into the loan, replaces it where it lies, and sends it.
 pub fn send_corrected(
@@ -19,7 +19,7 @@ pub fn send_corrected(
 {
     let mut message = loan.write_payload(domain, Reading { celsius });
     *SampleMut::payload_mut(domain, &mut message) = Reading { celsius: corrected };
-    let SendOutcome::Delivered(_) = message.send(domain)?;
+    message.send(domain)?.delivered();
     Ok(())
 }
 
@@ -67,7 +67,7 @@ pub fn send_in_place(
             unreachable!()
         }
     };
-    let SendOutcome::Delivered(_) = message.send(domain)?;
+    message.send(domain)?.delivered();
     Ok(())
 }
 
@@ -81,6 +81,8 @@ pub fn send_at_once(
     requires publisher { IsLivePublisher domain.old publisher.now }
     ensures { Stays domain.old domain.new }
 {
-    let SendOutcome::Delivered(_) = publisher.send_copy(domain, Reading { celsius })?;
+    publisher
+        .send_copy(domain, Reading { celsius })?
+        .delivered();
     Ok(())
 }

@@ -6,7 +6,7 @@ ghost use Rattle.iox2_pubsub.specs.declared.subscriber.Subscriber.{Subscriber as
 
 use crate::failure::Failure;
 use crate::reading::Reading;
-use iox2_pubsub::{Domain, Publisher, SampleMutUninit, SendOutcome, Subscriber, UpdateConnections};
+use iox2_pubsub::{Domain, Publisher, SampleMutUninit, Subscriber, UpdateConnections};
 
 /// Connects the two ports, and reports a day's temperatures: two together, and then some one by one.
 /// No reading waits afterwards.
@@ -156,7 +156,7 @@ fn send(
     ensures stays { StaysBut (unwritten_loan loan) domain.old domain.new }
 {
     let message = loan.write_payload(domain, Reading { celsius });
-    let SendOutcome::Delivered(_) = message.send(domain)?;
+    message.send(domain)?.delivered();
     Ok(())
 }
 

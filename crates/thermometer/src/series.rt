@@ -7,7 +7,7 @@ ghost use Rattle.iox2_pubsub.specs.declared.subscriber.Subscriber.{Subscriber as
 
 use crate::failure::Failure;
 use iox2_pubsub::slice::{Publisher, SampleMut, Subscriber};
-use iox2_pubsub::{Domain, SendOutcome, ServiceConfig, TypeVariant};
+use iox2_pubsub::{Domain, ServiceConfig, TypeVariant};
 use std::alloc::Global;
 
 /// Makes a domain of slices, and sends two series of three temperatures through it. Returns how many
@@ -80,7 +80,7 @@ fn send_made(domain: &mut Domain<u64, ()>, publisher: &Publisher) -> Result<(), 
     let loan = publisher.loan_slice_uninit(domain, 3).unwrap();
     let mut message = loan.write_from_fn(domain, |hour| hour as u64);
     set_first(SampleMut::payload_mut(domain, &mut message), 12);
-    let SendOutcome::Delivered(_) = message.send(domain)?;
+    message.send(domain)?.delivered();
     Ok(())
 }
 
@@ -122,7 +122,7 @@ fn send_copied(domain: &mut Domain<u64, ()>, publisher: &Publisher) -> Result<()
 {
     let loan = publisher.loan_slice_uninit(domain, 3)?;
     let message = loan.write_from_slice(domain, &[18, 19, 20]);
-    let SendOutcome::Delivered(_) = message.send(domain)?;
+    message.send(domain)?.delivered();
     Ok(())
 }
 

@@ -3,7 +3,7 @@ ghost use Rattle.std.specs.Prelude.{◌≡◌, ◌≤◌, ℕ, None, Some, IfOk,
 ghost use Rattle.iox2_store.specs.machine.Environments.{fixed_handlers};
 ghost use Rattle.iox2_store.specs.machine.Ports.{CreatePublisher};
 ghost use Rattle.iox2_store.specs.machine.State.{State, Messages};
-ghost use Rattle.iox2_pubsub.specs.Live.{IsLivePublisher, IsNewIn, NeverWaits, Stays, publisher_key, publisher_port, payloads, waiting};
+ghost use Rattle.iox2_pubsub.specs.Live.{IsLivePublisher, IsNewIn, Stays, publisher_key, publisher_port, payloads, waiting};
 ghost use Rattle.iox2_pubsub.specs.LoansLeft.{HasLoansLeft, LoansLeftStay};
 ghost use Rattle.iox2_domain.specs.NewPublisher.{plain_publisher};
 ghost use Rattle.iox2_pubsub.specs.declared.subscriber.Subscriber.{Subscriber};
@@ -82,7 +82,6 @@ impl PortFactoryPublisher {
             (λ publisher. (publisher.id ≡ s.next_port) × CreatePublisher fixed_handlers s self s' None)
             (λ e. CreatePublisher fixed_handlers s self s' (Some e)) }
         ensures live { IfOk result (λ publisher. IsLivePublisher domain.new publisher) }
-        ensures never_waits { IfOk result (λ publisher. NeverWaits domain.new (publisher_key publisher)) }
         ensures new { IfOk result (λ publisher. IsNewIn domain.old (publisher_port publisher)) }
         ensures refused { OnErr result (payloads domain.new ≡ payloads domain.old) }
         ensures no_fewer { (subscriber : Subscriber) → waiting domain.old subscriber ≤ waiting domain.new subscriber }
@@ -105,7 +104,6 @@ pub(crate) fn create_plain<T: Drop, U: Default + Drop, F: BackpressureFn, G: Deg
         (λ publisher. (publisher.id ≡ s.next_port) × CreatePublisher fixed_handlers s (plain_publisher max_loaned_samples initial_max_slice_len) s' None)
         (λ e. CreatePublisher fixed_handlers s (plain_publisher max_loaned_samples initial_max_slice_len) s' (Some e)) }
     ensures live { IfOk result (λ publisher. IsLivePublisher domain.new publisher) }
-    ensures never_waits { IfOk result (λ publisher. NeverWaits domain.new (publisher_key publisher)) }
     ensures longest { IfOk result (λ publisher. publisher.initial_max_slice_len ≡ initial_max_slice_len) }
     ensures new { IfOk result (λ publisher. IsNewIn domain.old (publisher_port publisher)) }
     ensures refused { OnErr result (payloads domain.new ≡ payloads domain.old) }

@@ -10,7 +10,7 @@ use iox2_store::{BackpressureFn, DegradationFn, Key, LoanError, UniquePublisherI
 impl Publisher {
     ghost use Rattle.iox2_store.specs.machine.State.{State, Messages};
     ghost use Rattle.iox2_store.specs.declared.service_config.TypeVariant.TheVariants.{FixedSize};
-    ghost use Rattle.iox2_pubsub.specs.Live.{HasLender, IsLivePublisher, IsSingleValued, IsUnwrittenLoan, IsNewIn, LoanHasHeader, Stays, lender_key, publisher_key, unwritten_key, unwritten_loan, UpToDateStay, payloads};
+    ghost use Rattle.iox2_pubsub.specs.Live.{HasLender, IsReadyPublisher, IsSingleValued, IsUnblocked, IsUnwritten, IsUnwrittenLoan, IsNewIn, LoanHasHeader, NeverWaits, Stays, lender_key, publisher_key, unwritten_key, unwritten_loan, UpToDateStay, payloads};
     ghost use Rattle.iox2_pubsub.specs.LoansLeft.{HasLoansLeft, HasNumbersLeft, LoansLeftStay, TakesOneLeft};
     ghost use Rattle.iox2_pubsub.specs.Slices.{HasUnwrittenCells};
     ghost use Rattle.iox2_domain.specs.Lending.{LoanCall, header_for};
@@ -36,11 +36,13 @@ impl Publisher {
         &self,
         domain: &mut Domain<T, U, F, G>,
     ) -> Result<SampleMutUninit, LoanError>
-        requires live { IsLivePublisher domain.old self.now }
+        requires ready { IsReadyPublisher domain.old self.now }
         requires single_valued { IsSingleValued domain.old }
         ensures lends { (m : Messages T U) (s : State T U) → Shows domain.old m s → (s' : State T U) × Shows domain.new m s' × LoanCall U.is_default false 1 s self.now.id result s' }
         ensures granted { (loans numbers : ℕ) → HasLoansLeft domain.old self.now (loans + 1) → HasNumbersLeft domain.old (numbers + 1) → IsOk result }
-        ensures live { IfOk result (λ loan. IsUnwrittenLoan domain.new loan) }
+        ensures out { IfOk result (λ loan. IsUnwritten domain.new loan) }
+        ensures live { NeverWaits domain.old (publisher_key self.now) → IfOk result (λ loan. IsUnwrittenLoan domain.new loan) }
+        ensures unblocked { IfOk result (λ loan. IsUnblocked domain.new (unwritten_key loan)) }
         ensures new { IfOk result (λ loan. IsNewIn domain.old (unwritten_loan loan)) }
         ensures number { IfOk result (λ loan. loan.loan.number ≡ domain.old.next_message) }
         ensures publisher { IfOk result (λ loan. loan.loan.publisher ≡ self.now.id) }
@@ -64,13 +66,15 @@ impl Publisher {
         checks_length: bool,
         len: usize,
     ) -> Result<SampleMutUninit, LoanError>
-        requires live { IsLivePublisher domain.old self.now }
+        requires ready { IsReadyPublisher domain.old self.now }
         requires unchecked { checks_length ≡ false → (domain.old.config).variant ≡ FixedSize }
         requires single { (domain.old.config).variant ≡ FixedSize → len ≡ 1 }
         ensures lends { (m : Messages T U) (s : State T U) → Shows domain.old m s → (s' : State T U) × Shows domain.new m s' × LoanCall U.is_default checks_length len s self.now.id result s' }
         ensures granted { (loans numbers : ℕ) → HasLoansLeft domain.old self.now (loans + 1) → HasNumbersLeft domain.old (numbers + 1)
             → (checks_length ≡ true → len ≤ self.now.initial_max_slice_len) → IsOk result }
-        ensures live { IfOk result (λ loan. IsUnwrittenLoan domain.new loan) }
+        ensures out { IfOk result (λ loan. IsUnwritten domain.new loan) }
+        ensures live { NeverWaits domain.old (publisher_key self.now) → IfOk result (λ loan. IsUnwrittenLoan domain.new loan) }
+        ensures unblocked { IfOk result (λ loan. IsUnblocked domain.new (unwritten_key loan)) }
         ensures cells { IfOk result (λ loan. HasUnwrittenCells domain.new loan.loan.number (replicate (len * (domain.old.config).units_per_element) None)) }
         ensures lengths { IfOk result (λ loan. (cells : List (Option T)) → HasUnwrittenCells domain.new loan.loan.number cells → length cells ≡ len * (domain.old.config).units_per_element) }
         ensures header { IfOk result (λ loan. LoanHasHeader domain.new (unwritten_key loan) (header_for domain.old.config self.now.id len)) }

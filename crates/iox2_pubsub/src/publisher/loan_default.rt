@@ -9,7 +9,7 @@ use iox2_store::{BackpressureFn, DegradationFn, LoanError};
 impl Publisher {
     ghost use Rattle.iox2_store.specs.machine.State.{State, Messages};
     ghost use Rattle.iox2_domain.specs.Shows.{Shows};
-    ghost use Rattle.iox2_pubsub.specs.Live.{HasLender, IsLivePublisher, IsNewIn, IsSingleValued, IsWrittenLoan, LoanReads, Stays, UpToDateStay, lender_key, payloads, publisher_key, written_key, written_loan};
+    ghost use Rattle.iox2_pubsub.specs.Live.{HasLender, IsNewIn, IsReadyPublisher, IsSingleValued, IsUnblocked, IsWritten, IsWrittenLoan, LoanReads, NeverWaits, Stays, UpToDateStay, lender_key, payloads, publisher_key, written_key, written_loan};
     ghost use Rattle.iox2_pubsub.specs.LoansLeft.{HasLoansLeft, HasNumbersLeft, LoansLeftStay, TakesOneLeft};
     ghost use Rattle.iox2_pubsub.specs.WrittenLoans.{WrittenLoanCall};
 
@@ -21,10 +21,12 @@ impl Publisher {
         &self,
         domain: &mut Domain<T, U, F, G>,
     ) -> Result<SampleMut, LoanError>
-        requires live { IsLivePublisher domain.old self.now }
+        requires ready { IsReadyPublisher domain.old self.now }
         requires single_valued { IsSingleValued domain.old }
         ensures lends { (m : Messages T U) (s : State T U) → Shows domain.old m s → (s' : State T U) × Shows domain.new m s' × WrittenLoanCall T.is_default U.is_default s self.now.id result s' }
-        ensures live { IfOk result (λ loan. IsWrittenLoan domain.new loan) }
+        ensures out { IfOk result (λ loan. IsWritten domain.new loan) }
+        ensures live { NeverWaits domain.old (publisher_key self.now) → IfOk result (λ loan. IsWrittenLoan domain.new loan) }
+        ensures unblocked { IfOk result (λ loan. IsUnblocked domain.new (written_key loan)) }
         ensures reads { IfOk result (λ loan. (value : T) × T.is_default value × LoanReads domain.new loan value) }
         ensures new { IfOk result (λ loan. IsNewIn domain.old (written_loan loan)) }
         ensures number { IfOk result (λ loan. loan.loan.number ≡ domain.old.next_message) }

@@ -15,7 +15,7 @@ impl SampleMut {
     ghost use Rattle.iox2_domain.specs.Shows.{Shows};
     ghost use Rattle.iox2_domain.specs.LoanCalls.{first_cell_changed};
     ghost use Rattle.iox2_pubsub.specs.ChangedLoans.{with_payload};
-    ghost use Rattle.iox2_pubsub.specs.Live.{IsSingleValued, IsWrittenLoan, LoanHasHeader, LoanHasUserHeader, LoanReads, StaysBut, UpToDateStay, payloads, written_key, written_loan};
+    ghost use Rattle.iox2_pubsub.specs.Live.{IsSingleValued, IsWritten, IsWrittenLoan, LoanHasHeader, LoanHasUserHeader, LoanReads, NeverWaits, StaysBut, UpToDateStay, payloads, written_key, written_loan};
     ghost use Rattle.iox2_pubsub.specs.LoanLends.{LendsPayload};
     ghost use Rattle.iox2_pubsub.specs.LoansLeft.{LoansLeftStay};
 
@@ -28,7 +28,7 @@ impl SampleMut {
         domain: &'a mut Domain<T, U, F, G>,
         sample: &mut SampleMut,
     ) -> &'a mut T
-        requires live { IsWrittenLoan domain.old sample.old }
+        requires live { IsWritten domain.old sample.old }
         requires single_valued { IsSingleValued domain.old }
         ensures* writes_back { sem 𝓛 (LendsPayload T.row U.row F.row G.row domain.entry sample.old.loan.number result) }
         ensures same { sample.new ≡ sample.old }
@@ -36,7 +36,8 @@ impl SampleMut {
         ensures changes { (m : Messages T U) (s : State T U) (value : T) → Shows domain.old m s
             → (l : Loan T U) × (s.loans sample.old.loan.number ≡ Some l)
             × Shows (with_payload domain.old sample.old.loan.number value) m (with_loan s sample.old.loan.number (Some (first_cell_changed (Some value) l))) }
-        ensures live { (value : T) → IsWrittenLoan (with_payload domain.old sample.old.loan.number value) sample.old }
+        ensures out { (value : T) → IsWritten (with_payload domain.old sample.old.loan.number value) sample.old }
+        ensures live { NeverWaits domain.old (written_key sample.old) → (value : T) → IsWrittenLoan (with_payload domain.old sample.old.loan.number value) sample.old }
         ensures reads { (value : T) → LoanReads (with_payload domain.old sample.old.loan.number value) sample.old value }
         ensures header { (value : T) (header : Header) → LoanHasHeader domain.old (written_key sample.old) header
             → LoanHasHeader (with_payload domain.old sample.old.loan.number value) (written_key sample.new) header }

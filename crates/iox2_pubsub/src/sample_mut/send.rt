@@ -16,7 +16,7 @@ impl SampleMut {
     ghost use Rattle.std.specs.Prelude.{List, Some};
     ghost use Rattle.iox2_store.specs.machine.Records.{Loan};
     ghost use Rattle.iox2_store.specs.machine.State.{State, Messages};
-    ghost use Rattle.iox2_pubsub.specs.Live.{HasLender, IsBlockedSend, IsLoanKey, IsUnblocked, IsWrittenLoan, NeverWaits, StaysBut, blocked_key, written_key, AddAtMost, AreAllSlices, UpToDateStay, payloads, waiting};
+    ghost use Rattle.iox2_pubsub.specs.Live.{HasLender, IsBlockedSend, IsLoanKey, IsUnblocked, IsWritten, NeverWaits, StaysBut, blocked_key, written_key, AddAtMost, AreAllSlices, UpToDateStay, payloads, waiting};
     ghost use Rattle.iox2_pubsub.specs.LoansLeft.{HasOneMoreLeft, LoansLeftStay};
     ghost use Rattle.iox2_pubsub.specs.Slices.{HasValues};
     ghost use Rattle.iox2_pubsub.specs.SendCalls.{IsDelivered, Sends, messages_after, spent_by_send};
@@ -39,7 +39,7 @@ impl SampleMut {
         self,
         domain: &mut Domain<T, U, F, G>,
     ) -> Result<SendOutcome, SendError>
-        requires live { IsWrittenLoan domain.old self }
+        requires live { IsWritten domain.old self }
         requires unblocked { IsUnblocked domain.old (written_key self) }
         ensures ok { HasLender domain.old (written_key self) → IsOk result }
         ensures gone { IfErr result (λ error. error ≡ SendError.ConnectionBrokenSinceSenderNoLongerExists) }

@@ -15,7 +15,7 @@ impl SampleMut {
     ghost use Rattle.iox2_domain.specs.LoanCalls.{user_header_changed};
     ghost use Rattle.iox2_domain.specs.Shows.{Shows};
     ghost use Rattle.iox2_pubsub.specs.ChangedLoans.{with_user_header};
-    ghost use Rattle.iox2_pubsub.specs.Live.{IsWrittenLoan, LoanHasHeader, LoanHasUserHeader, StaysBut, UpToDateStay, written_key, written_loan, payloads};
+    ghost use Rattle.iox2_pubsub.specs.Live.{IsWritten, IsWrittenLoan, LoanHasHeader, LoanHasUserHeader, NeverWaits, StaysBut, UpToDateStay, written_key, written_loan, payloads};
     ghost use Rattle.iox2_pubsub.specs.LoanLends.{LendsUserHeader};
     ghost use Rattle.iox2_pubsub.specs.LoansLeft.{LoansLeftStay};
     ghost use Rattle.iox2_pubsub.specs.Slices.{HasValues};
@@ -29,14 +29,15 @@ impl SampleMut {
         domain: &'a mut Domain<T, U, F, G>,
         sample: &mut SampleMut,
     ) -> &'a mut U
-        requires { IsWrittenLoan domain.old sample.old }
+        requires { IsWritten domain.old sample.old }
         ensures* writes_back { sem 𝓛 (LendsUserHeader T.row U.row F.row G.row domain.entry sample.old.loan.number result) }
         ensures same { sample.new ≡ sample.old }
         ensures user_header { LoanHasUserHeader domain.old (written_key sample.old) result.now }
         ensures changes { (m : Messages T U) (s : State T U) (user_header : U) → Shows domain.old m s
             → (l : Loan T U) × (s.loans sample.old.loan.number ≡ Some l)
             × Shows (with_user_header domain.old sample.old.loan.number user_header) m (with_loan s sample.old.loan.number (Some (user_header_changed user_header l))) }
-        ensures live { (user_header : U) → IsWrittenLoan (with_user_header domain.old sample.old.loan.number user_header) sample.old }
+        ensures out { (user_header : U) → IsWritten (with_user_header domain.old sample.old.loan.number user_header) sample.old }
+        ensures live { NeverWaits domain.old (written_key sample.old) → (user_header : U) → IsWrittenLoan (with_user_header domain.old sample.old.loan.number user_header) sample.old }
         ensures is { (user_header : U) → LoanHasUserHeader (with_user_header domain.old sample.old.loan.number user_header) (written_key sample.old) user_header }
         ensures reads { (user_header : U) (values : List T) → HasValues domain.old sample.old.loan.number values
             → HasValues (with_user_header domain.old sample.old.loan.number user_header) sample.old.loan.number values }

@@ -15,7 +15,7 @@ impl SampleMutUninit {
     ghost use Rattle.iox2_store.specs.machine.Records.{Loan};
     ghost use Rattle.iox2_store.specs.machine.State.{State, Messages};
     ghost use Rattle.iox2_domain.specs.Shows.{Shows};
-    ghost use Rattle.iox2_pubsub.specs.Live.{HasLender, IsUnwrittenLoan, IsWrittenLoan, LoanHasHeader, LoanHasUserHeader, LoanReads, StaysBut, UnwrittenReads, UpToDateStay, payloads, unwritten_key, unwritten_loan, written_key};
+    ghost use Rattle.iox2_pubsub.specs.Live.{HasLender, IsUnblocked, IsUnwritten, IsWritten, IsWrittenLoan, LoanHasHeader, LoanHasUserHeader, LoanReads, NeverWaits, StaysBut, UnwrittenReads, UpToDateStay, payloads, unwritten_key, unwritten_loan, written_key};
     ghost use Rattle.iox2_pubsub.specs.LoansLeft.{LoansLeftStay};
     ghost use Rattle.iox2_pubsub.specs.Slices.{HasUnwrittenCells, HasValues};
 
@@ -28,12 +28,14 @@ impl SampleMutUninit {
         self,
         domain: &mut Domain<T, U, F, G>,
     ) -> Result<SampleMut, SampleMutUninit>
-        requires { IsUnwrittenLoan domain.old self }
+        requires { IsUnwritten domain.old self }
         ensures step { (m : Messages T U) (s : State T U) → Shows domain.old m s → (l : Loan T U) × (s.loans self.loan.number ≡ Some l)
             × MatchResult result
             (λ _. (is_initialized l ≡ true) × Shows domain.new m (initialized s self.loan.number l))
             (λ _. (is_initialized l ≡ false) × Shows domain.new m s) }
-        ensures live { IfOk result (IsWrittenLoan domain.new) }
+        ensures out { IfOk result (IsWritten domain.new) }
+        ensures live { NeverWaits domain.old (unwritten_key self) → IfOk result (IsWrittenLoan domain.new) }
+        ensures unblocked { IsUnblocked domain.old (unwritten_key self) → IfOk result (λ sample. IsUnblocked domain.new (written_key sample)) }
         ensures key { IfOk result (λ sample. written_key sample ≡ unwritten_key self) }
         ensures lent { IfOk result (λ sample. HasLender domain.old (unwritten_key self) → HasLender domain.new (written_key sample)) }
         ensures reads { (value : T) → UnwrittenReads domain.old self (Some value) → IsOkAnd result (λ sample. LoanReads domain.new sample value) }

@@ -15,7 +15,7 @@ impl SampleMutUninit {
     ghost use Rattle.iox2_domain.specs.LoanCalls.{first_cell_changed};
     ghost use Rattle.iox2_domain.specs.Shows.{Shows};
     ghost use Rattle.iox2_pubsub.specs.ChangedLoans.{with_cell};
-    ghost use Rattle.iox2_pubsub.specs.Live.{IsSingleValued, IsUnwrittenLoan, LoanHasHeader, LoanHasUserHeader, UnwrittenReads, StaysBut, UpToDateStay, payloads, unwritten_key, unwritten_loan};
+    ghost use Rattle.iox2_pubsub.specs.Live.{IsSingleValued, IsUnwritten, IsUnwrittenLoan, LoanHasHeader, LoanHasUserHeader, NeverWaits, UnwrittenReads, StaysBut, UpToDateStay, payloads, unwritten_key, unwritten_loan};
     ghost use Rattle.iox2_pubsub.specs.LoanLends.{LendsCell};
     ghost use Rattle.iox2_pubsub.specs.LoansLeft.{LoansLeftStay};
 
@@ -29,7 +29,7 @@ impl SampleMutUninit {
         domain: &'a mut Domain<T, U, F, G>,
         sample: &mut SampleMutUninit,
     ) -> &'a mut Option<T>
-        requires live { IsUnwrittenLoan domain.old sample.old }
+        requires live { IsUnwritten domain.old sample.old }
         requires single_valued { IsSingleValued domain.old }
         ensures* writes_back { sem 𝓛 (LendsCell T.row U.row F.row G.row domain.entry sample.old.loan.number result) }
         ensures same { sample.new ≡ sample.old }
@@ -37,7 +37,8 @@ impl SampleMutUninit {
         ensures changes { (m : Messages T U) (s : State T U) (cell : Option T) → Shows domain.old m s
             → (l : Loan T U) × (s.loans sample.old.loan.number ≡ Some l)
             × Shows (with_cell domain.old sample.old.loan.number cell) m (with_loan s sample.old.loan.number (Some (first_cell_changed cell l))) }
-        ensures live { (cell : Option T) → IsUnwrittenLoan (with_cell domain.old sample.old.loan.number cell) sample.old }
+        ensures out { (cell : Option T) → IsUnwritten (with_cell domain.old sample.old.loan.number cell) sample.old }
+        ensures live { NeverWaits domain.old (unwritten_key sample.old) → (cell : Option T) → IsUnwrittenLoan (with_cell domain.old sample.old.loan.number cell) sample.old }
         ensures reads { (cell : Option T) → UnwrittenReads (with_cell domain.old sample.old.loan.number cell) sample.old cell }
         ensures header { (cell : Option T) (header : Header) → LoanHasHeader domain.old (unwritten_key sample.old) header
             → LoanHasHeader (with_cell domain.old sample.old.loan.number cell) (unwritten_key sample.new) header }

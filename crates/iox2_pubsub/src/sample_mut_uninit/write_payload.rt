@@ -13,7 +13,7 @@ impl SampleMutUninit {
     ghost use Rattle.iox2_store.specs.machine.Records.{Loan};
     ghost use Rattle.iox2_store.specs.machine.State.{State, Messages, with_loan};
     ghost use Rattle.iox2_store.specs.machine.Loans.{written};
-    ghost use Rattle.iox2_pubsub.specs.Live.{HasLender, IsSingleValued, IsUnwrittenLoan, IsWrittenLoan, LoanHasHeader, LoanHasUserHeader, LoanReads, StaysBut, unwritten_key, unwritten_loan, written_key, UpToDateStay, payloads};
+    ghost use Rattle.iox2_pubsub.specs.Live.{HasLender, IsSingleValued, IsUnblocked, IsUnwritten, IsWritten, IsWrittenLoan, LoanHasHeader, LoanHasUserHeader, LoanReads, NeverWaits, StaysBut, unwritten_key, unwritten_loan, written_key, UpToDateStay, payloads};
     ghost use Rattle.iox2_pubsub.specs.LoansLeft.{LoansLeftStay};
     ghost use Rattle.iox2_domain.specs.Shows.{Shows};
 
@@ -25,10 +25,12 @@ impl SampleMutUninit {
         domain: &mut Domain<T, U, F, G>,
         value: T,
     ) -> SampleMut
-        requires live { IsUnwrittenLoan domain.old self }
+        requires live { IsUnwritten domain.old self }
         requires single_valued { IsSingleValued domain.old }
         ensures written { (m : Messages T U) (s : State T U) → Shows domain.old m s → (l : Loan T U) × (s.loans self.loan.number ≡ Some l) × Shows domain.new m (with_loan s self.loan.number (Some (written l value))) }
-        ensures live { IsWrittenLoan domain.new result }
+        ensures out { IsWritten domain.new result }
+        ensures live { NeverWaits domain.old (unwritten_key self) → IsWrittenLoan domain.new result }
+        ensures unblocked { IsUnblocked domain.old (unwritten_key self) → IsUnblocked domain.new (written_key result) }
         ensures reads { LoanReads domain.new result value }
         ensures lent { HasLender domain.old (unwritten_key self) → HasLender domain.new (written_key result) }
         ensures header { (header : Header) → LoanHasHeader domain.old (unwritten_key self) header → LoanHasHeader domain.new (written_key result) header }

@@ -23,7 +23,7 @@ impl SampleMut {
     ghost use Rattle.iox2_store.specs.machine.Records.{Loan};
     ghost use Rattle.iox2_store.specs.machine.State.{State, Messages};
     ghost use Rattle.iox2_domain.specs.Shows.{Shows};
-    ghost use Rattle.iox2_pubsub.specs.Live.{AddAtMost, AreAllSlices, HasLender, IsBlockedSend, IsLoanKey, IsUnblocked, IsWrittenLoan, LoanHasHeader, LoanHasUserHeader, NeverWaits, StaysBut, blocked_key, UpToDateStay, payloads, waiting, written_key, written_loan};
+    ghost use Rattle.iox2_pubsub.specs.Live.{AddAtMost, AreAllSlices, HasLender, IsBlockedSend, IsLoanKey, IsUnblocked, IsWritten, LoanHasHeader, LoanHasUserHeader, NeverWaits, StaysBut, blocked_key, UpToDateStay, payloads, waiting, written_key, written_loan};
     ghost use Rattle.iox2_pubsub.specs.declared.subscriber.Subscriber.{Subscriber};
     ghost use Rattle.iox2_pubsub.specs.LoansLeft.{HasOneMoreLeft, LoansLeftStay};
     ghost use Rattle.iox2_pubsub.specs.SendCalls.{IfBlocked, IsDelivered, Sends, messages_after, spent_by_send};
@@ -36,7 +36,7 @@ impl SampleMut {
         &self,
         domain: &'a Domain<T, U, F, G>,
     ) -> &'a [T]
-        requires live { IsWrittenLoan domain.now self.now.sample }
+        requires live { IsWritten domain.now self.now.sample }
         requires sliced { IsSliced domain.now }
         ensures reads { HasValues domain.now self.now.sample.loan.number result.now }
         ensures same { (values : List T) → HasValues domain.now self.now.sample.loan.number values → result.now ≡ values }
@@ -49,7 +49,7 @@ impl SampleMut {
         self,
         domain: &mut Domain<T, U, F, G>,
     ) -> Result<SendOutcome, SendError>
-        requires live { IsWrittenLoan domain.old self.sample }
+        requires live { IsWritten domain.old self.sample }
         requires unblocked { IsUnblocked domain.old (written_key self.sample) }
         ensures ok { HasLender domain.old (written_key self.sample) → IsOk result }
         ensures gone { IfErr result (λ error. error ≡ SendError.ConnectionBrokenSinceSenderNoLongerExists) }

@@ -27,7 +27,7 @@ impl SampleMutUninit {
     ghost use Rattle.iox2_store.specs.machine.State.{State, Messages};
     ghost use Rattle.iox2_store.specs.machine.SingleCalls.{WriteAllFrom};
     ghost use Rattle.iox2_domain.specs.Shows.{Shows};
-    ghost use Rattle.iox2_pubsub.specs.Live.{HasLender, IsLoanKey, IsUnwrittenLoan, IsWrittenLoan, LoanHasHeader, LoanHasUserHeader, StaysBut, UpToDateStay, payloads, unwritten_key, unwritten_loan, written_key};
+    ghost use Rattle.iox2_pubsub.specs.Live.{HasLender, IsLoanKey, IsUnblocked, IsUnwritten, IsWritten, IsWrittenLoan, LoanHasHeader, LoanHasUserHeader, NeverWaits, StaysBut, UpToDateStay, payloads, unwritten_key, unwritten_loan, written_key};
     ghost use Rattle.iox2_pubsub.specs.LoansLeft.{HasOneMoreLeft, LoansLeftStay};
     ghost use Rattle.iox2_pubsub.specs.Slices.{HasUnwrittenCells, HasValues, IsSliced};
 
@@ -38,7 +38,7 @@ impl SampleMutUninit {
         &self,
         domain: &'a Domain<T, U, F, G>,
     ) -> &'a [Option<T>]
-        requires live { IsUnwrittenLoan domain.now self.now.sample }
+        requires live { IsUnwritten domain.now self.now.sample }
         requires sliced { IsSliced domain.now }
         ensures reads { HasUnwrittenCells domain.now self.now.sample.loan.number result.now }
         ensures same { (cells : List (Option T)) → HasUnwrittenCells domain.now self.now.sample.loan.number cells → result.now ≡ cells }
@@ -58,7 +58,7 @@ impl SampleMutUninit {
         G: DegradationFn,
         W: FnMut(usize) -> T + Drop,
     >(self, domain: &mut Domain<T, U, F, G>, initializer: W) -> SampleMut
-        requires live { IsUnwrittenLoan domain.old self.sample }
+        requires live { IsUnwritten domain.old self.sample }
         requires sliced { IsSliced domain.old }
         requires callable { W.IsAlwaysCallable initializer }
         ensures written { (answers : List T) × AnswersInOrder W.step initializer answers × HasValues domain.new result.sample.loan.number answers
@@ -66,7 +66,9 @@ impl SampleMutUninit {
             × (s' : State T U) × WriteAllFrom s self.sample.loan.number l answers s' × Shows domain.new m s') }
         ensures lengths { (cells : List (Option T)) (values : List T) → HasUnwrittenCells domain.old self.sample.loan.number cells
             → HasValues domain.new result.sample.loan.number values → length values ≡ length cells }
-        ensures live { IsWrittenLoan domain.new result.sample }
+        ensures out { IsWritten domain.new result.sample }
+        ensures live { NeverWaits domain.old (unwritten_key self.sample) → IsWrittenLoan domain.new result.sample }
+        ensures unblocked { IsUnblocked domain.old (unwritten_key self.sample) → IsUnblocked domain.new (written_key result.sample) }
         ensures key { written_key result.sample ≡ unwritten_key self.sample }
         ensures lent { HasLender domain.old (unwritten_key self.sample) → HasLender domain.new (written_key result.sample) }
         ensures header { (header : Header) → LoanHasHeader domain.old (unwritten_key self.sample) header → LoanHasHeader domain.new (written_key result.sample) header }
@@ -93,13 +95,15 @@ impl SampleMutUninit {
         domain: &mut Domain<T, U, F, G>,
         values: &[T],
     ) -> SampleMut
-        requires live { IsUnwrittenLoan domain.old self.sample }
+        requires live { IsUnwritten domain.old self.sample }
         requires sliced { IsSliced domain.old }
         requires lengths { (cells : List (Option T)) → HasUnwrittenCells domain.old self.sample.loan.number cells → length values.now ≡ length cells }
         ensures step { (m : Messages T U) (s : State T U) → Shows domain.old m s → (l : Loan T U) × (s.loans self.sample.loan.number ≡ Some l)
             × (s' : State T U) × WriteAllFrom s self.sample.loan.number l values.now s' × Shows domain.new m s' }
         ensures written { HasValues domain.new result.sample.loan.number values.now }
-        ensures live { IsWrittenLoan domain.new result.sample }
+        ensures out { IsWritten domain.new result.sample }
+        ensures live { NeverWaits domain.old (unwritten_key self.sample) → IsWrittenLoan domain.new result.sample }
+        ensures unblocked { IsUnblocked domain.old (unwritten_key self.sample) → IsUnblocked domain.new (written_key result.sample) }
         ensures key { written_key result.sample ≡ unwritten_key self.sample }
         ensures lent { HasLender domain.old (unwritten_key self.sample) → HasLender domain.new (written_key result.sample) }
         ensures header { (header : Header) → LoanHasHeader domain.old (unwritten_key self.sample) header → LoanHasHeader domain.new (written_key result.sample) header }
@@ -126,12 +130,14 @@ impl SampleMutUninit {
         self,
         domain: &mut Domain<T, U, F, G>,
     ) -> Result<SampleMut, SampleMutUninit>
-        requires { IsUnwrittenLoan domain.old self.sample }
+        requires { IsUnwritten domain.old self.sample }
         ensures step { (m : Messages T U) (s : State T U) → Shows domain.old m s → (l : Loan T U) × (s.loans self.sample.loan.number ≡ Some l)
             × MatchResult result
             (λ _. (is_initialized l ≡ true) × Shows domain.new m (initialized s self.sample.loan.number l))
             (λ _. (is_initialized l ≡ false) × Shows domain.new m s) }
-        ensures live { IfOk result (λ it. IsWrittenLoan domain.new it.sample) }
+        ensures out { IfOk result (λ it. IsWritten domain.new it.sample) }
+        ensures live { NeverWaits domain.old (unwritten_key self.sample) → IfOk result (λ it. IsWrittenLoan domain.new it.sample) }
+        ensures unblocked { IsUnblocked domain.old (unwritten_key self.sample) → IfOk result (λ it. IsUnblocked domain.new (written_key it.sample)) }
         ensures key { IfOk result (λ it. written_key it.sample ≡ unwritten_key self.sample) }
         ensures lent { IfOk result (λ it. HasLender domain.old (unwritten_key self.sample) → HasLender domain.new (written_key it.sample)) }
         ensures reads { (values : List T) → HasUnwrittenCells domain.old self.sample.loan.number (map Some values) → IsOkAnd result (λ it. HasValues domain.new it.sample.loan.number values) }

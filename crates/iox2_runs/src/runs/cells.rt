@@ -8,7 +8,7 @@ ghost use Rattle.iox2_store.specs.machine.Loans.{written};
 ghost use Rattle.iox2_store.specs.machine.Records.{Loan};
 ghost use Rattle.iox2_store.specs.machine.State.{State, Messages, with_loan};
 ghost use Rattle.iox2_domain.specs.Shows.{Shows};
-ghost use Rattle.iox2_pubsub.specs.Live.{IsLiveSample, IsUnwrittenLoan, IsWrittenLoan, StaysBut, unwritten_key, unwritten_loan, written_key, written_loan};
+ghost use Rattle.iox2_pubsub.specs.Live.{IsLiveSample, IsUnwritten, IsWritten, StaysBut, unwritten_key, unwritten_loan, written_key, written_loan};
 ghost use Rattle.iox2_runs.specs.Cells.{LoanHasAt, MessageHasAt, WritesAt};
 
 use super::services::is_single_valued;
@@ -26,7 +26,7 @@ pub(crate) fn unwritten_cell<
     sample: SampleMutUninit,
     at: usize,
 ) -> (Option<Option<T>>, SampleMutUninit)
-    requires { IsUnwrittenLoan domain.now sample }
+    requires { IsUnwritten domain.now sample }
     ensures reads { LoanHasAt domain.now sample.loan.number at result.0 }
     ensures same { result.1 ≡ sample }
 {
@@ -44,7 +44,7 @@ pub(crate) fn written_value<T: Copy + Drop, U: Default + Drop, F: BackpressureFn
     sample: SampleMut,
     at: usize,
 ) -> (Option<T>, SampleMut)
-    requires { IsWrittenLoan domain.now sample }
+    requires { IsWritten domain.now sample }
     ensures reads { LoanHasAt domain.now sample.loan.number at (option_map Some result.0) }
     ensures same { result.1 ≡ sample }
 {
@@ -89,7 +89,7 @@ pub(crate) fn write_cell_at<T: Drop, U: Default + Drop, F: BackpressureFn, G: De
     at: usize,
     value: T,
 ) -> (bool, SampleMutUninit)
-    requires { IsUnwrittenLoan domain.old sample }
+    requires { IsUnwritten domain.old sample }
     ensures writes { WritesAt domain.old domain.new sample.loan.number at value result.0 }
     ensures same { result.1 ≡ sample }
     ensures stays { StaysBut (unwritten_loan sample) domain.old domain.new }
@@ -119,7 +119,7 @@ pub(crate) fn set_value_at<T: Drop, U: Default + Drop, F: BackpressureFn, G: Deg
     at: usize,
     value: T,
 ) -> (bool, SampleMut)
-    requires { IsWrittenLoan domain.old sample }
+    requires { IsWritten domain.old sample }
     ensures writes { WritesAt domain.old domain.new sample.loan.number at value result.0 }
     ensures same { result.1 ≡ sample }
     ensures stays { StaysBut (written_loan sample) domain.old domain.new }
@@ -148,7 +148,7 @@ pub(crate) fn write_cells<T: Copy + Drop, U: Default + Drop, F: BackpressureFn, 
     sample: SampleMutUninit,
     value: T,
 ) -> SampleMut
-    requires { IsUnwrittenLoan domain.old sample }
+    requires { IsUnwritten domain.old sample }
     ensures written { (m : Messages T U) (s : State T U) → Shows domain.old m s
         → (l : Loan T U) × (s.loans sample.loan.number ≡ Some l) × Shows domain.new m (with_loan s sample.loan.number (Some (written l value))) }
     ensures key { written_key result ≡ unwritten_key sample }

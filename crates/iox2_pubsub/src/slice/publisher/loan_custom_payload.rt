@@ -11,7 +11,7 @@ impl Publisher {
     ghost use Rattle.iox2_store.specs.declared.service_config.TypeVariant.TheVariants.{FixedSize};
     ghost use Rattle.iox2_domain.specs.Lending.{LoanCall, header_for};
     ghost use Rattle.iox2_domain.specs.Shows.{Shows};
-    ghost use Rattle.iox2_pubsub.specs.Live.{HasLender, IsLivePublisher, IsNewIn, IsUnwrittenLoan, LoanHasHeader, Stays, UpToDateStay, lender_key, payloads, publisher_key, unwritten_key, unwritten_loan};
+    ghost use Rattle.iox2_pubsub.specs.Live.{HasLender, IsNewIn, IsReadyPublisher, IsUnblocked, IsUnwritten, IsUnwrittenLoan, LoanHasHeader, NeverWaits, Stays, UpToDateStay, lender_key, payloads, publisher_key, unwritten_key, unwritten_loan};
     ghost use Rattle.iox2_pubsub.specs.LoansLeft.{HasLoansLeft, HasNumbersLeft, LoansLeftStay, TakesOneLeft};
     ghost use Rattle.iox2_pubsub.specs.Slices.{HasUnwrittenCells};
 
@@ -25,14 +25,16 @@ impl Publisher {
         domain: &mut Domain<CustomPayloadMarker, CustomHeaderMarker, F, G>,
         slice_len: usize,
     ) -> Result<SampleMutUninit, LoanError>
-        requires live { IsLivePublisher domain.old self.now.publisher }
+        requires ready { IsReadyPublisher domain.old self.now.publisher }
         requires single { (domain.old.config).variant ≡ FixedSize → slice_len ≡ 1 }
         ensures lends { (m : Messages CustomPayloadMarker CustomHeaderMarker) (s : State CustomPayloadMarker CustomHeaderMarker) → Shows domain.old m s
             → (s' : State CustomPayloadMarker CustomHeaderMarker) × Shows domain.new m s'
             × LoanCall (λ _. ⊤) true slice_len s self.now.publisher.id result s' }
         ensures granted { (loans numbers : ℕ) → HasLoansLeft domain.old self.now.publisher (loans + 1) → HasNumbersLeft domain.old (numbers + 1)
             → slice_len ≤ self.now.publisher.initial_max_slice_len → IsOk result }
-        ensures live { IfOk result (λ loan. IsUnwrittenLoan domain.new loan.sample) }
+        ensures out { IfOk result (λ loan. IsUnwritten domain.new loan.sample) }
+        ensures live { NeverWaits domain.old (publisher_key self.now.publisher) → IfOk result (λ loan. IsUnwrittenLoan domain.new loan.sample) }
+        ensures unblocked { IfOk result (λ loan. IsUnblocked domain.new (unwritten_key loan.sample)) }
         ensures cells { IfOk result (λ loan. HasUnwrittenCells domain.new loan.sample.loan.number (replicate (slice_len * (domain.old.config).units_per_element) None)) }
         ensures lengths { IfOk result (λ loan. (cells : List (Option CustomPayloadMarker)) → HasUnwrittenCells domain.new loan.sample.loan.number cells → length cells ≡ slice_len * (domain.old.config).units_per_element) }
         ensures header { IfOk result (λ loan. LoanHasHeader domain.new (unwritten_key loan.sample) (header_for domain.old.config self.now.publisher.id slice_len)) }

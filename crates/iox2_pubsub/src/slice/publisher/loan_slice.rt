@@ -10,7 +10,7 @@ impl Publisher {
     ghost use Rattle.iox2_store.specs.machine.State.{State, Messages};
     ghost use Rattle.iox2_store.specs.declared.service_config.TypeVariant.TheVariants.{Dynamic};
     ghost use Rattle.iox2_domain.specs.Shows.{Shows};
-    ghost use Rattle.iox2_pubsub.specs.Live.{HasLender, IsLivePublisher, IsNewIn, IsWrittenLoan, Stays, UpToDateStay, lender_key, payloads, publisher_key, written_key, written_loan};
+    ghost use Rattle.iox2_pubsub.specs.Live.{HasLender, IsNewIn, IsReadyPublisher, IsUnblocked, IsWritten, IsWrittenLoan, NeverWaits, Stays, UpToDateStay, lender_key, payloads, publisher_key, written_key, written_loan};
     ghost use Rattle.iox2_pubsub.specs.LoansLeft.{HasLoansLeft, HasNumbersLeft, LoansLeftStay, TakesOneLeft};
     ghost use Rattle.iox2_pubsub.specs.Slices.{HasValues};
     ghost use Rattle.iox2_pubsub.specs.WrittenLoans.{DefaultSliceCall};
@@ -25,14 +25,16 @@ impl Publisher {
         domain: &mut Domain<T, U, F, G>,
         slice_len: usize,
     ) -> Result<SampleMut, LoanError>
-        requires live { IsLivePublisher domain.old self.now.publisher }
+        requires ready { IsReadyPublisher domain.old self.now.publisher }
         requires dynamic { (domain.old.config).variant ≡ Dynamic }
         requires one_unit { (domain.old.config).units_per_element ≡ 1 }
         ensures lends { (m : Messages T U) (s : State T U) → Shows domain.old m s
             → (s' : State T U) × Shows domain.new m s' × DefaultSliceCall T.is_default U.is_default slice_len s self.now.publisher.id result s' }
         ensures granted { (loans numbers : ℕ) → HasLoansLeft domain.old self.now.publisher (loans + 1) → HasNumbersLeft domain.old (numbers + 1)
             → slice_len ≤ self.now.publisher.initial_max_slice_len → IsOk result }
-        ensures live { IfOk result (λ loan. IsWrittenLoan domain.new loan.sample) }
+        ensures out { IfOk result (λ loan. IsWritten domain.new loan.sample) }
+        ensures live { NeverWaits domain.old (publisher_key self.now.publisher) → IfOk result (λ loan. IsWrittenLoan domain.new loan.sample) }
+        ensures unblocked { IfOk result (λ loan. IsUnblocked domain.new (written_key loan.sample)) }
         ensures reads { IfOk result (λ loan. (values : List T) × All T.is_default values × (length values ≡ slice_len) × HasValues domain.new loan.sample.loan.number values) }
         ensures new { IfOk result (λ loan. IsNewIn domain.old (written_loan loan.sample)) }
         ensures number { IfOk result (λ loan. loan.sample.loan.number ≡ domain.old.next_message) }

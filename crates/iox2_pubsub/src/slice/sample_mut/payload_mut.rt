@@ -15,7 +15,7 @@ impl SampleMut {
     ghost use Rattle.iox2_domain.specs.LoanCalls.{cells_changed};
     ghost use Rattle.iox2_domain.specs.Shows.{Shows};
     ghost use Rattle.iox2_pubsub.specs.ChangedLoans.{with_payloads};
-    ghost use Rattle.iox2_pubsub.specs.Live.{IsWrittenLoan, LoanHasHeader, LoanHasUserHeader, StaysBut, UpToDateStay, payloads, written_key, written_loan};
+    ghost use Rattle.iox2_pubsub.specs.Live.{IsWritten, IsWrittenLoan, LoanHasHeader, LoanHasUserHeader, NeverWaits, StaysBut, UpToDateStay, payloads, written_key, written_loan};
     ghost use Rattle.iox2_pubsub.specs.LoanLends.{LendsPayloads};
     ghost use Rattle.iox2_pubsub.specs.LoansLeft.{LoansLeftStay};
     ghost use Rattle.iox2_pubsub.specs.Slices.{HasValues, IsSliced};
@@ -28,7 +28,7 @@ impl SampleMut {
         domain: &'a mut Domain<T, U, F, G>,
         sample: &mut SampleMut,
     ) -> &'a mut [T]
-        requires live { IsWrittenLoan domain.old sample.old.sample }
+        requires live { IsWritten domain.old sample.old.sample }
         requires sliced { IsSliced domain.old }
         ensures* writes_back { sem 𝓛 (LendsPayloads T.row U.row F.row G.row domain.entry sample.old.sample.loan.number result) }
         ensures same { sample.new ≡ sample.old }
@@ -36,7 +36,8 @@ impl SampleMut {
         ensures changes { (m : Messages T U) (s : State T U) (left : List T) → Shows domain.old m s
             → (l : Loan T U) × (s.loans sample.old.sample.loan.number ≡ Some l)
             × Shows (with_payloads domain.old sample.old.sample.loan.number left) m (with_loan s sample.old.sample.loan.number (Some (cells_changed (map Some left) l))) }
-        ensures live { (left : List T) → IsWrittenLoan (with_payloads domain.old sample.old.sample.loan.number left) sample.old.sample }
+        ensures out { (left : List T) → IsWritten (with_payloads domain.old sample.old.sample.loan.number left) sample.old.sample }
+        ensures live { NeverWaits domain.old (written_key sample.old.sample) → (left : List T) → IsWrittenLoan (with_payloads domain.old sample.old.sample.loan.number left) sample.old.sample }
         ensures reads { (left : List T) → length left ≡ length result.now → HasValues (with_payloads domain.old sample.old.sample.loan.number left) sample.old.sample.loan.number left }
         ensures header { (left : List T) (header : Header) → LoanHasHeader domain.old (written_key sample.old.sample) header
             → LoanHasHeader (with_payloads domain.old sample.old.sample.loan.number left) (written_key sample.new.sample) header }

@@ -15,7 +15,7 @@ impl SampleMutUninit {
     ghost use Rattle.iox2_domain.specs.LoanCalls.{cells_changed};
     ghost use Rattle.iox2_domain.specs.Shows.{Shows};
     ghost use Rattle.iox2_pubsub.specs.ChangedLoans.{with_cells};
-    ghost use Rattle.iox2_pubsub.specs.Live.{IsUnwrittenLoan, LoanHasHeader, LoanHasUserHeader, StaysBut, UpToDateStay, payloads, unwritten_key, unwritten_loan};
+    ghost use Rattle.iox2_pubsub.specs.Live.{IsUnwritten, IsUnwrittenLoan, LoanHasHeader, LoanHasUserHeader, NeverWaits, StaysBut, UpToDateStay, payloads, unwritten_key, unwritten_loan};
     ghost use Rattle.iox2_pubsub.specs.LoanLends.{LendsCells};
     ghost use Rattle.iox2_pubsub.specs.LoansLeft.{LoansLeftStay};
     ghost use Rattle.iox2_pubsub.specs.Slices.{HasUnwrittenCells, IsSliced};
@@ -28,7 +28,7 @@ impl SampleMutUninit {
         domain: &'a mut Domain<T, U, F, G>,
         sample: &mut SampleMutUninit,
     ) -> &'a mut [Option<T>]
-        requires live { IsUnwrittenLoan domain.old sample.old.sample }
+        requires live { IsUnwritten domain.old sample.old.sample }
         requires sliced { IsSliced domain.old }
         ensures* writes_back { sem 𝓛 (LendsCells T.row U.row F.row G.row domain.entry sample.old.sample.loan.number result) }
         ensures same { sample.new ≡ sample.old }
@@ -36,7 +36,8 @@ impl SampleMutUninit {
         ensures changes { (m : Messages T U) (s : State T U) (left : List (Option T)) → Shows domain.old m s
             → (l : Loan T U) × (s.loans sample.old.sample.loan.number ≡ Some l)
             × Shows (with_cells domain.old sample.old.sample.loan.number left) m (with_loan s sample.old.sample.loan.number (Some (cells_changed left l))) }
-        ensures live { (left : List (Option T)) → IsUnwrittenLoan (with_cells domain.old sample.old.sample.loan.number left) sample.old.sample }
+        ensures out { (left : List (Option T)) → IsUnwritten (with_cells domain.old sample.old.sample.loan.number left) sample.old.sample }
+        ensures live { NeverWaits domain.old (unwritten_key sample.old.sample) → (left : List (Option T)) → IsUnwrittenLoan (with_cells domain.old sample.old.sample.loan.number left) sample.old.sample }
         ensures reads { (left : List (Option T)) → length left ≡ length result.now → HasUnwrittenCells (with_cells domain.old sample.old.sample.loan.number left) sample.old.sample.loan.number left }
         ensures header { (left : List (Option T)) (header : Header) → LoanHasHeader domain.old (unwritten_key sample.old.sample) header
             → LoanHasHeader (with_cells domain.old sample.old.sample.loan.number left) (unwritten_key sample.new.sample) header }

@@ -14,7 +14,7 @@ impl SampleMutUninit {
     ghost use Rattle.iox2_domain.specs.LoanCalls.{user_header_changed};
     ghost use Rattle.iox2_domain.specs.Shows.{Shows};
     ghost use Rattle.iox2_pubsub.specs.ChangedLoans.{with_user_header};
-    ghost use Rattle.iox2_pubsub.specs.Live.{IsUnwrittenLoan, LoanHasHeader, LoanHasUserHeader, StaysBut, UpToDateStay, unwritten_key, unwritten_loan, payloads};
+    ghost use Rattle.iox2_pubsub.specs.Live.{IsUnwritten, IsUnwrittenLoan, LoanHasHeader, LoanHasUserHeader, NeverWaits, StaysBut, UpToDateStay, unwritten_key, unwritten_loan, payloads};
     ghost use Rattle.iox2_pubsub.specs.LoanLends.{LendsUserHeader};
     ghost use Rattle.iox2_pubsub.specs.LoansLeft.{LoansLeftStay};
     ghost use Rattle.iox2_pubsub.specs.Slices.{HasUnwrittenCells};
@@ -27,14 +27,15 @@ impl SampleMutUninit {
         domain: &'a mut Domain<T, U, F, G>,
         sample: &mut SampleMutUninit,
     ) -> &'a mut U
-        requires { IsUnwrittenLoan domain.old sample.old.sample }
+        requires { IsUnwritten domain.old sample.old.sample }
         ensures* writes_back { sem 𝓛 (LendsUserHeader T.row U.row F.row G.row domain.entry sample.old.sample.loan.number result) }
         ensures same { sample.new ≡ sample.old }
         ensures user_header { LoanHasUserHeader domain.old (unwritten_key sample.old.sample) result.now }
         ensures changes { (m : Messages T U) (s : State T U) (user_header : U) → Shows domain.old m s
             → (l : Loan T U) × (s.loans sample.old.sample.loan.number ≡ Some l)
             × Shows (with_user_header domain.old sample.old.sample.loan.number user_header) m (with_loan s sample.old.sample.loan.number (Some (user_header_changed user_header l))) }
-        ensures live { (user_header : U) → IsUnwrittenLoan (with_user_header domain.old sample.old.sample.loan.number user_header) sample.old.sample }
+        ensures out { (user_header : U) → IsUnwritten (with_user_header domain.old sample.old.sample.loan.number user_header) sample.old.sample }
+        ensures live { NeverWaits domain.old (unwritten_key sample.old.sample) → (user_header : U) → IsUnwrittenLoan (with_user_header domain.old sample.old.sample.loan.number user_header) sample.old.sample }
         ensures is { (user_header : U) → LoanHasUserHeader (with_user_header domain.old sample.old.sample.loan.number user_header) (unwritten_key sample.old.sample) user_header }
         ensures reads { (user_header : U) (cells : List (Option T)) → HasUnwrittenCells domain.old sample.old.sample.loan.number cells
             → HasUnwrittenCells (with_user_header domain.old sample.old.sample.loan.number user_header) sample.old.sample.loan.number cells }

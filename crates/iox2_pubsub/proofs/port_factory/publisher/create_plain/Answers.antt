@@ -8,7 +8,7 @@ use Rattle.iox2_domain.specs.Kept.{Kept, state_of}
 use Rattle.iox2_domain.specs.Fields.{kept_of}
 use Rattle.iox2_domain.specs.NewPublisher.{plain_publisher}
 use Rattle.iox2_domain.specs.Shows.{Shows}
-use Rattle.iox2_pubsub.proofs.PublishersShown.{created-shows, created-live, created-never-waits}
+use Rattle.iox2_pubsub.proofs.PublishersShown.{created-shows, created-live}
 use Rattle.iox2_pubsub.proofs.CallsStay.{always-shown, publisher-creation-stays, publisher-is-new}
 use Rattle.iox2_pubsub.proofs.WaitingShown.{publisher-refused, publisher-no-fewer}
 use Rattle.iox2_pubsub.proofs.LoansLeftShown.{publisher-creation-left, created-left}
@@ -43,13 +43,6 @@ returns-clause-live g c =
     created-live {T = g.row.T.Denot} {U = g.row.U.Denot} c.domain.inside.state c.create_publisher.new.state c.args.max_loaned_samples c.args.initial_max_slice_len fixed_handlers made.0 made.1 made.2
     (record { service_id = c.config.result.now.service_id; id = c.in_ok-port.port.id; place = c.in_ok-port.port.place; initial_max_slice_len = c.args.initial_max_slice_len })
     (ap (λ (config : ServiceConfig). config.service_id) c.config.ensures) c.in_ok-port.ensures.id
-
-pub returns-clause-never_waits : goal.returns-clause-never_waits
-returns-clause-never_waits g c =
-    let made = c.in_ok-port.ensures.step in
-    created-never-waits {T = g.row.T.Denot} {U = g.row.U.Denot} c.domain.inside.state c.create_publisher.new.state c.args.max_loaned_samples c.args.initial_max_slice_len fixed_handlers made.0 made.1 made.2
-    (record { service_id = c.config.result.now.service_id; id = c.in_ok-port.port.id; place = c.in_ok-port.port.place; initial_max_slice_len = c.args.initial_max_slice_len })
-    c.in_ok-port.ensures.id
 
 pub returns-in_err-port-clause-stays : goal.returns-in_err-port-clause-stays
 returns-in_err-port-clause-stays g c =

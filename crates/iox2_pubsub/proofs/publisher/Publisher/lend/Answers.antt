@@ -6,7 +6,7 @@ use Rattle.iox2_pubsub.specs.Live.{IsPublisherKey, LoanHasHeader, lender_key, pu
 use Rattle.iox2_pubsub.specs.Slices.{HasUnwrittenCells}
 use Rattle.iox2_pubsub.proofs.UninitLoans.{err-shown, ok-cells, ok-header, ok-lengths, ok-shown, ok-live, ok-number, ok-publisher, publisher-missing}
 use Rattle.iox2_pubsub.proofs.CallsStay.{always-shown, loan-is-new, loan-stays}
-use Rattle.iox2_pubsub.proofs.LiveParts.{publisher-parts}
+use Rattle.iox2_pubsub.proofs.LiveParts.{never-waits-alike, publisher-parts, unblocked-alike}
 use Rattle.iox2_pubsub.proofs.WaitingShown.{loan-waits}
 use Rattle.iox2_pubsub.proofs.UpToDateShown.{loan-leaves}
 use Rattle.iox2_pubsub.proofs.SureLoans.{sure-granted, sure-of-loan}
@@ -29,11 +29,11 @@ returns-in_err-loan-clause-granted g c = λ loans numbers left numbered short.
     short c.find_live_publisher-place.ensures c.loan.result c.loan.ensures.reaches c.in_err-loan.field-0.0 c.in_err-loan.was c.args.domain.now c.domain.view_is
     (sure-of-loan {T = g.row.T.Denot} {U = g.row.U.Denot} c.args.domain.now c.args.self.now loans numbers left numbered))
 
-pub returns-clause-live : goal.returns-clause-live
-returns-clause-live g c =
+pub returns-clause-out : goal.returns-clause-out
+returns-clause-out g c =
     ok-live {T = g.row.T.Denot} {U = g.row.U.Denot} g.U.Default.is_default c.args.checks_length c.args.len c.domain.inside.state c.loan.new.state c.find_live_publisher-place.result c.args.self.now.id c.loan.result
     c.find_live_publisher-place.ensures c.loan.ensures.reaches (record { service_id = c.args.self.now.service_id; loan = c.in_ok-loan.loan }) c.in_ok-loan.was c.in_ok-loan.ensures.named
-    c.args.domain.now c.domain.view_is (publisher-parts c.args.domain.now _ c.requires.live).1
+    c.args.domain.now c.domain.view_is (publisher-parts c.args.domain.now _ c.requires.ready.there).1
 
 pub returns-clause-cells : goal.returns-clause-cells
 returns-clause-cells g c =
@@ -81,17 +81,29 @@ returns-clause-stays g c =
     let step = returns-clause-lends g c it.0 it.1 it.2 in
     loan-stays {T = g.row.T.Denot} {U = g.row.U.Denot} c.args.domain.now _ it.0 it.1 it.2 g.U.Default.is_default c.args.checks_length c.args.len c.args.self.now.id (Ok c.in_ok-loan.loan) step.0 step.1 step.2
 
+pub returns-clause-live : goal.returns-clause-live
+returns-clause-live g c = λ never. record {
+  out = returns-clause-out g c;
+  never_waits = never-waits-alike (kept_of c.loan.new.state) (publisher_key c.args.self.now) (unwritten_key (record { service_id = c.args.self.now.service_id; loan = c.in_ok-loan.loan }))
+      (returns-clause-publisher g c) ((returns-clause-stays g c).never_wait (publisher_key c.args.self.now) never tt);
+}
+
+pub returns-clause-unblocked : goal.returns-clause-unblocked
+returns-clause-unblocked g c =
+    unblocked-alike (kept_of c.loan.new.state) (publisher_key c.args.self.now) (unwritten_key (record { service_id = c.args.self.now.service_id; loan = c.in_ok-loan.loan }))
+    (returns-clause-publisher g c) ((returns-clause-stays g c).unblocked (publisher_key c.args.self.now) c.requires.ready.unblocked tt)
+
 pub find_live_publisher-place-requires : goal.find_live_publisher-place-requires
 find_live_publisher-place-requires g c = λ none.
     publisher-missing {T = g.row.T.Denot} {U = g.row.U.Denot} c.domain.inside.state c.args.domain.now c.domain.view_is c.args.self.now
-    none c.requires.live
+    none c.requires.ready.there
 
 pub returns-clause-lender : goal.returns-clause-lender
 returns-clause-lender g c = ap (λ (p : ℕ). lender_key (record { service_id = c.args.self.now.service_id; port = p; message = 0 })) (returns-clause-publisher g c)
 
 pub returns-clause-lent : goal.returns-clause-lent
 returns-clause-lent g c =
-    subst (IsPublisherKey (kept_of c.loan.new.state)) (sym (returns-clause-lender g c)) ((returns-clause-stays g c).publishers (publisher_key c.args.self.now) c.requires.live tt)
+    subst (IsPublisherKey (kept_of c.loan.new.state)) (sym (returns-clause-lender g c)) ((returns-clause-stays g c).publishers (publisher_key c.args.self.now) c.requires.ready.there tt)
 
 pub returns-in_err-loan-clause-waits : goal.returns-in_err-loan-clause-waits
 returns-in_err-loan-clause-waits g c =

@@ -38,3 +38,6 @@ returns-clause-sends g c = λ m s shown.
       copy-sent s lends.0 c.args.self.now.id c.in_ok-loan.loan.loan.number next wrote.0 wrote.1 c.args.value (lends.2).0 (lends.2).2
           g.U.Default.is_default (lends.2).1 m c.write_payload.result.loan.number same c.send.result (c.send.ensures.ok (c.write_payload.ensures.lent c.in_ok-loan.ensures.lent)) sent.0 sent.2,
     )
+
+pub send-requires-clause-unblocked : goal.send-requires-clause-unblocked
+send-requires-clause-unblocked g c = c.write_payload.ensures.unblocked c.in_ok-loan.ensures.unblocked

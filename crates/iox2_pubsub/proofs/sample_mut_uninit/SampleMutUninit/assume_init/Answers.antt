@@ -11,7 +11,9 @@ assume_loan-requires-clause-live g c = unwritten-out {T = g.row.T.Denot} {U = g.
 pub returns-then-not-assume_loan : goal.returns-then-not-assume_loan
 returns-then-not-assume_loan g c = record {
   step = λ m s shown. let it = left-shown {T = g.row.T.Denot} {U = g.row.U.Denot} c.domain.inside.state c.assume_loan.new.state c.domain.invariant c.args.domain.now c.domain.view_is c.args.self.loan.number c.assume_loan.result c.assume_loan.ensures c.if-not-assume_loan.true m s shown in (it.0, it.1, (it.2, it.3));
-  live = tt;
+  out = tt;
+  live = λ never. tt;
+  unblocked = λ free. tt;
   key = tt;
   lent = tt;
   reads = λ value reads. absurd (true≢false (sym (written-taken {T = g.row.T.Denot} {U = g.row.U.Denot} c.domain.inside.state c.assume_loan.new.state c.domain.invariant c.args.domain.now c.domain.view_is c.args.self.loan.number c.assume_loan.result c.assume_loan.ensures c.args.self value refl reads) ∙ c.if-not-assume_loan.true));
@@ -30,7 +32,12 @@ returns-then-not-assume_loan g c = record {
 pub returns : goal.returns
 returns g c = record {
   step = λ m s shown. let it = taken-shown {T = g.row.T.Denot} {U = g.row.U.Denot} c.domain.inside.state c.assume_loan.new.state c.domain.invariant c.args.domain.now c.domain.view_is c.args.self.loan.number c.assume_loan.result c.assume_loan.ensures c.if-not-assume_loan.false m s shown in (it.0, it.1, (it.2, it.3));
-  live = taken-live {T = g.row.T.Denot} {U = g.row.U.Denot} c.domain.inside.state c.assume_loan.new.state c.domain.invariant c.args.domain.now c.domain.view_is c.args.self.loan.number c.assume_loan.result c.assume_loan.ensures c.if-not-assume_loan.false c.args.self refl c.requires;
+  out = taken-live {T = g.row.T.Denot} {U = g.row.U.Denot} c.domain.inside.state c.assume_loan.new.state c.domain.invariant c.args.domain.now c.domain.view_is c.args.self.loan.number c.assume_loan.result c.assume_loan.ensures c.if-not-assume_loan.false c.args.self refl c.requires;
+  live = λ never. record {
+    out = taken-live {T = g.row.T.Denot} {U = g.row.U.Denot} c.domain.inside.state c.assume_loan.new.state c.domain.invariant c.args.domain.now c.domain.view_is c.args.self.loan.number c.assume_loan.result c.assume_loan.ensures c.if-not-assume_loan.false c.args.self refl c.requires;
+    never_waits = (taken-stays {T = g.row.T.Denot} {U = g.row.U.Denot} c.domain.inside.state c.assume_loan.new.state c.domain.invariant c.args.domain.now c.domain.view_is c.args.self.loan.number c.assume_loan.result c.assume_loan.ensures c.if-not-assume_loan.false).never_wait (unwritten_key c.args.self) never tt;
+  };
+  unblocked = λ free. (taken-stays {T = g.row.T.Denot} {U = g.row.U.Denot} c.domain.inside.state c.assume_loan.new.state c.domain.invariant c.args.domain.now c.domain.view_is c.args.self.loan.number c.assume_loan.result c.assume_loan.ensures c.if-not-assume_loan.false).unblocked (unwritten_key c.args.self) free tt;
   key = refl;
   lent = λ lent. (taken-stays {T = g.row.T.Denot} {U = g.row.U.Denot} c.domain.inside.state c.assume_loan.new.state c.domain.invariant c.args.domain.now c.domain.view_is c.args.self.loan.number c.assume_loan.result c.assume_loan.ensures c.if-not-assume_loan.false).publishers (lender_key (unwritten_key c.args.self)) lent tt;
   reads = λ value reads. taken-reads {T = g.row.T.Denot} {U = g.row.U.Denot} c.domain.inside.state c.assume_loan.new.state c.domain.invariant c.args.domain.now c.domain.view_is c.args.self.loan.number c.assume_loan.result c.assume_loan.ensures c.if-not-assume_loan.false c.args.self value refl reads;

@@ -2,7 +2,7 @@ use Rattle.std.proofs.Common.{ℕ, refl, ap, subst, sym, ◌∙◌}
 use Rattle.iox2_domain.specs.Fields.{kept_of}
 use Rattle.iox2_domain.specs.Kept.{Kept}
 use Rattle.iox2_pubsub.specs.Live.{IsPublisherKey, lender_key, unwritten_key, written_key}
-use Rattle.iox2_pubsub.proofs.LiveParts.{single-parts}
+use Rattle.iox2_pubsub.proofs.LiveParts.{never-waits-alike, single-parts, unblocked-alike}
 use Rattle.iox2_domain.specs.declared.loan_slots.LoanAt.{LoanAt}
 use Rattle.iox2_store.specs.machine.Loans.{written}
 use Rattle.iox2_pubsub.proofs.LoanHandles.{unwritten-out, write-header, write-shown, write-live, write-reads, write-user-header}
@@ -22,8 +22,8 @@ returns-clause-written g c =
     write-shown {T = g.row.T.Denot} {U = g.row.U.Denot} c.domain.inside.state c.write_loan.new.state c.args.domain.now c.domain.view_is
     c.args.self.loan.number c.args.value c.write_loan.ensures.writes
 
-pub returns-clause-live : goal.returns-clause-live
-returns-clause-live g c =
+pub returns-clause-out : goal.returns-clause-out
+returns-clause-out g c =
     write-live {T = g.row.T.Denot} {U = g.row.U.Denot} c.domain.inside.state c.write_loan.new.state c.args.domain.now c.domain.view_is
     c.args.self.loan.number c.args.value c.write_loan.ensures.writes c.args.self (record { service_id = c.args.self.service_id; loan = c.write_loan.result }) refl refl
     (ap (λ (at : LoanAt). at.publisher) c.write_loan.ensures.same) (ap (λ (at : LoanAt). at.number) c.write_loan.ensures.same) c.requires.live
@@ -33,6 +33,18 @@ returns-clause-stays g c =
     let it = always-shown {T = g.row.T.Denot} {U = g.row.U.Denot} c.domain.inside.state c.args.domain.now c.domain.invariant c.domain.view_is in
     let step = returns-clause-written g c it.0 it.1 it.2 in
     change-stays {T = g.row.T.Denot} {U = g.row.U.Denot} c.args.domain.now _ it.0 it.1 it.2 c.args.self.loan.number (written step.0 c.args.value) step.2
+
+pub returns-clause-live : goal.returns-clause-live
+returns-clause-live g c = λ never. record {
+  out = returns-clause-out g c;
+  never_waits = never-waits-alike (kept_of c.write_loan.new.state) (unwritten_key c.args.self) (written_key (record { service_id = c.args.self.service_id; loan = c.write_loan.result }))
+      (ap (λ (at : LoanAt). at.publisher) c.write_loan.ensures.same) ((returns-clause-stays g c).never_wait (unwritten_key c.args.self) never tt);
+}
+
+pub returns-clause-unblocked : goal.returns-clause-unblocked
+returns-clause-unblocked g c = λ free.
+    unblocked-alike (kept_of c.write_loan.new.state) (unwritten_key c.args.self) (written_key (record { service_id = c.args.self.service_id; loan = c.write_loan.result }))
+    (ap (λ (at : LoanAt). at.publisher) c.write_loan.ensures.same) ((returns-clause-stays g c).unblocked (unwritten_key c.args.self) free tt)
 
 pub write_loan-requires-clause-single : goal.write_loan-requires-clause-single
 write_loan-requires-clause-single g c =

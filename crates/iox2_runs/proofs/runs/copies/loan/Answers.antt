@@ -17,8 +17,8 @@ returns-then-not-is_single_valued-clause-carries g c =
     default_of_other {T = g.row.T.Denot} {U = g.row.U.Denot} _ c.args.domain.now c.args.domain.now c.args.table.now c.args.of
     (sym c.is_single_valued.ensures ∙ c.if-not-is_single_valued.true) refl
 
-pub loan-requires-clause-live : goal.loan-requires-clause-live
-loan-requires-clause-live g c =
+pub loan-requires-clause-ready : goal.loan-requires-clause-ready
+loan-requires-clause-ready g c =
     live_publisher {T = g.row.T.Denot} {U = g.row.U.Denot} c.args.domain.now c.args.table.now c.requires c.args.of c.in-Publisher.publisher
     (looked c.args.table.now c.args.of c.get.result c.in-Some.made _ c.get.ensures.lookup c.in-Some.is c.in-Publisher.is)
 
@@ -31,7 +31,7 @@ returns-in-Ok-clause-carries g c =
     c.in-Publisher.publisher c.in-Ok.sample
     (looked c.args.table.now c.args.of c.get.result c.in-Some.made _ c.get.ensures.lookup c.in-Some.is c.in-Publisher.is)
     (sym c.is_single_valued.ensures ∙ c.if-not-is_single_valued.false)
-    c.in-Ok.ensures.lends (written-parts {T = g.row.T.Denot} {U = g.row.U.Denot} c.loan.new.domain c.in-Ok.sample c.in-Ok.ensures.live).0 c.in-Ok.ensures.publisher c.in-Ok.ensures.number
+    c.in-Ok.ensures.lends (written-parts {T = g.row.T.Denot} {U = g.row.U.Denot} c.loan.new.domain c.in-Ok.sample c.in-Ok.ensures.out).0 c.in-Ok.ensures.publisher c.in-Ok.ensures.number
 
 pub returns-in-Err-clause-carries : goal.returns-in-Err-clause-carries
 returns-in-Err-clause-carries g c =

@@ -16,8 +16,8 @@ returns-then-not-is_single_valued-clause-carries g c =
     copy_of_other {T = g.row.T.Denot} {U = g.row.U.Denot} _ c.args.domain.now c.args.domain.now c.args.table.now c.args.of c.args.value
     (sym c.is_single_valued.ensures ∙ c.if-not-is_single_valued.true) refl
 
-pub send_copy-requires-clause-live : goal.send_copy-requires-clause-live
-send_copy-requires-clause-live g c =
+pub send_copy-requires-clause-ready : goal.send_copy-requires-clause-ready
+send_copy-requires-clause-ready g c =
     live_publisher {T = g.row.T.Denot} {U = g.row.U.Denot} c.args.domain.now c.args.table.now c.requires c.args.of c.in-Publisher.publisher
     (looked c.args.table.now c.args.of c.get.result c.in-Some.made _ c.get.ensures.lookup c.in-Some.is c.in-Publisher.is)
 

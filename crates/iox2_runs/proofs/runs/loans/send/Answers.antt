@@ -5,16 +5,20 @@ use Rattle.iox2_runs.specs.Carries.{entry_for}
 use Rattle.iox2_runs.specs.declared.runs.made.Made.{Made}
 use Rattle.iox2_runs.proofs.TableLooks.{is_written_entry}
 use Rattle.iox2_runs.proofs.TableEntries.{back, not_written}
-use Rattle.iox2_runs.proofs.LiveEntries.{live_written}
+use Rattle.iox2_runs.proofs.LiveEntries.{live_written, unblocked_written}
 use Rattle.iox2_runs.proofs.CarriedLoans.{send_passed, send_carried, send_lost}
 use Rattle.iox2_runs.proofs.LeavingSteps.{leaves-all, leaves-spending}
 use Rattle.iox2_pubsub.proofs.StaysBut.{nothing-is-new}
 use Rattle.iox2_runs.specs.declared.runs.made.Made.TheVariants.{Nothing, Written}
 use Rattle.iox2_runs.proofs.runs.loans.send.Goals as goal
 
-pub send-requires : goal.send-requires
-send-requires g c =
+pub send-requires-clause-live : goal.send-requires-clause-live
+send-requires-clause-live g c =
     live_written {T = g.row.T.Denot} {U = g.row.U.Denot} c.args.domain.now c.args.table.now.items c.requires c.args.of c.in-Written.sample (sym c.take.ensures.made ∙ c.in-Written.is)
+
+pub send-requires-clause-unblocked : goal.send-requires-clause-unblocked
+send-requires-clause-unblocked g c =
+    unblocked_written {T = g.row.T.Denot} {U = g.row.U.Denot} c.args.domain.now c.args.table.now.items c.requires c.args.of c.in-Written.sample (sym c.take.ensures.made ∙ c.in-Written.is)
 
 pub returns-in-Ok-clause-carries : goal.returns-in-Ok-clause-carries
 returns-in-Ok-clause-carries g c =

@@ -2,7 +2,7 @@ use Rattle.std.proofs.Common.{refl, sym, ap, subst, ◌∙◌}
 use Rattle.iox2_store.specs.machine.Environments.{fixed_handlers}
 use Rattle.iox2_commands.specs.declared.command.Command.TheVariants.{LoanSlice}
 use Rattle.iox2_commands.specs.declared.reply.Reply.TheVariants.{Loaned}
-use Rattle.iox2_pubsub.specs.Live.{IsLivePublisher, IsNewIn, unwritten_loan}
+use Rattle.iox2_pubsub.specs.Live.{IsReadyPublisher, IsNewIn, unwritten_loan}
 use Rattle.iox2_pubsub.specs.declared.publisher.Publisher.{Publisher as PublisherHandle}
 use Rattle.iox2_pubsub.specs.declared.sample_mut_uninit.SampleMutUninit.{SampleMutUninit}
 use Rattle.iox2_pubsub.proofs.LiveParts.{unwritten-parts}
@@ -27,9 +27,9 @@ pub returns-then-not-has_slices-clause-leaves : goal.returns-then-not-has_slices
 returns-then-not-has_slices-clause-leaves g c =
     leaves-all {T = g.row.T.Denot} {U = g.row.U.Denot} c.args.domain.now c.args.domain.now c.args.table.now.items c.args.table.now.items refl refl
 
-pub loan_slice_uninit-loaned-requires-clause-live : goal.loan_slice_uninit-loaned-requires-clause-live
-loan_slice_uninit-loaned-requires-clause-live g c =
-    subst (IsLivePublisher {T = g.row.T.Denot} {U = g.row.U.Denot} c.args.domain.now) (sym c.new-publisher.ensures)
+pub loan_slice_uninit-loaned-requires-clause-ready : goal.loan_slice_uninit-loaned-requires-clause-ready
+loan_slice_uninit-loaned-requires-clause-ready g c =
+    subst (IsReadyPublisher {T = g.row.T.Denot} {U = g.row.U.Denot} c.args.domain.now) (sym c.new-publisher.ensures)
     (live_publisher {T = g.row.T.Denot} {U = g.row.U.Denot} c.args.domain.now c.args.table.now.items c.requires c.args.of c.in-Publisher.publisher (sym c.take.ensures.made ∙ c.in-Publisher.is))
 
 pub loan_slice_uninit-loaned-requires-clause-dynamic : goal.loan_slice_uninit-loaned-requires-clause-dynamic
@@ -41,7 +41,7 @@ loan_slice_uninit-loaned-requires-clause-one_unit g c = (slices-parts c.args.dom
 pub returns-in-Ok-clause-carries : goal.returns-in-Ok-clause-carries
 returns-in-Ok-clause-carries g c =
     let lends = rw c.in-Ok.is at c.loan_slice_uninit-loaned.ensures.lends in
-    let live = rw c.in-Ok.is at c.loan_slice_uninit-loaned.ensures.live in
+    let out = rw c.in-Ok.is at c.loan_slice_uninit-loaned.ensures.out in
     let publisher = rw c.in-Ok.is at c.loan_slice_uninit-loaned.ensures.publisher in
     let number = rw c.in-Ok.is at c.loan_slice_uninit-loaned.ensures.number in
     subst (λ (it : SampleMutUninit). Carries fixed_handlers (defaults_of g.T.Default.is_default g.U.Default.is_default) c.args.domain.now c.loan_slice_uninit-loaned.new.domain c.args.table.now.items
@@ -50,7 +50,7 @@ returns-in-Ok-clause-carries g c =
     (back c.args.table.now.items c.take.new.table.items c.put.new.table.items c.args.of (MadePublisher c.into_inner.result) c.take.ensures.items
     (sym c.take.ensures.made ∙ c.in-Publisher.is ∙ ap (λ (it : PublisherHandle). MadePublisher it) (sym (c.into_inner.ensures ∙ c.new-publisher.ensures))) c.put.ensures.items) c.args.of c.args.len c.new-publisher.result.publisher
     (sym c.take.ensures.made ∙ c.in-Publisher.is ∙ ap (λ (it : PublisherHandle). MadePublisher it) (sym c.new-publisher.ensures)) (sym c.has_slices.ensures ∙ c.if-not-has_slices.false)
-    c.in-Ok.sample.sample lends (unwritten-parts {T = g.row.T.Denot} {U = g.row.U.Denot} c.loan_slice_uninit-loaned.new.domain c.in-Ok.sample.sample live).0 publisher number)
+    c.in-Ok.sample.sample lends (unwritten-parts {T = g.row.T.Denot} {U = g.row.U.Denot} c.loan_slice_uninit-loaned.new.domain c.in-Ok.sample.sample out).0 publisher number)
 
 pub returns-in-Err-clause-carries : goal.returns-in-Err-clause-carries
 returns-in-Err-clause-carries g c =

@@ -8,7 +8,7 @@ use Rattle.iox2_pubsub.specs.Live.{written_key}
 use Rattle.iox2_pubsub.proofs.LoanHandles.{written-out, unwritten-out, loan-out}
 use Rattle.iox2_pubsub.proofs.SliceParts.{sliced-parts, has-values}
 use Rattle.iox2_pubsub.specs.ChangedLoans.{with_payloads}
-use Rattle.iox2_pubsub.proofs.LentHandles.{payloads-word, values-there, values-known, values-lends, lent-is, lent-shown, lent-stays, lent-written, lent-left, lent-values, values-left, lent-same-header, lent-same-user-header, lent-waits, lent-leaves}
+use Rattle.iox2_pubsub.proofs.LentHandles.{payloads-word, values-there, values-known, values-lends, lent-is, lent-shown, lent-stays, lent-written, lent-written-loan, lent-left, lent-values, values-left, lent-same-header, lent-same-user-header, lent-waits, lent-leaves}
 use Rattle.iox2_pubsub.proofs.slice.sample_mut.SampleMut.payload_mut.Goals as goal
 
 pub find_live_loan-at-requires-clause-live : goal.find_live_loan-at-requires-clause-live
@@ -29,7 +29,8 @@ returns g c =
         same = refl;
         payload = has-values c.args.domain.now c.args.sample.now.sample.loan.number c.values_at_mut.result.now (subst (λ (k : Kept g.row.T.Denot g.row.U.Denot). HasCells (state_of k) c.args.sample.now.sample.loan.number (map Some c.values_at_mut.result.now)) c.domain.view_is known);
         changes = λ m s w shown. lent-shown {T = g.row.T.Denot} {U = g.row.U.Denot} c.domain.inside.state _ c.domain.invariant c.args.domain.now c.domain.view_is c.args.sample.now.sample.loan.number (c.find_live_loan-at.ensures).loan (c.find_live_loan-at.ensures).is_out (cells_changed (map Some w)) (values-lends {T = g.row.T.Denot} {U = g.row.U.Denot} c.domain.inside.state c.domain.invariant c.args.sample.now.sample.loan.publisher c.args.sample.now.sample.loan.number c.find_live_loan-at.result.book c.find_live_loan-at.result.slot c.find_live_loan-at.ensures (written-out {T = g.row.T.Denot} {U = g.row.U.Denot} _ c.args.domain.now c.domain.view_is c.args.sample.now.sample c.requires.live) w) (with_payloads c.args.domain.now c.args.sample.now.sample.loan.number w) (payloads-word c.args.domain.now c.args.sample.now.sample.loan.number w) m s shown;
-        live = λ w. lent-written {T = g.row.T.Denot} {U = g.row.U.Denot} c.domain.inside.state _ c.domain.invariant c.args.domain.now c.domain.view_is c.args.sample.now.sample.loan.number (c.find_live_loan-at.ensures).loan (c.find_live_loan-at.ensures).is_out (cells_changed (map Some w)) (values-lends {T = g.row.T.Denot} {U = g.row.U.Denot} c.domain.inside.state c.domain.invariant c.args.sample.now.sample.loan.publisher c.args.sample.now.sample.loan.number c.find_live_loan-at.result.book c.find_live_loan-at.result.slot c.find_live_loan-at.ensures (written-out {T = g.row.T.Denot} {U = g.row.U.Denot} _ c.args.domain.now c.domain.view_is c.args.sample.now.sample c.requires.live) w) (with_payloads c.args.domain.now c.args.sample.now.sample.loan.number w) (payloads-word c.args.domain.now c.args.sample.now.sample.loan.number w) refl refl c.args.sample.now.sample refl c.requires.live;
+        out = λ w. lent-written {T = g.row.T.Denot} {U = g.row.U.Denot} c.domain.inside.state _ c.domain.invariant c.args.domain.now c.domain.view_is c.args.sample.now.sample.loan.number (c.find_live_loan-at.ensures).loan (c.find_live_loan-at.ensures).is_out (cells_changed (map Some w)) (values-lends {T = g.row.T.Denot} {U = g.row.U.Denot} c.domain.inside.state c.domain.invariant c.args.sample.now.sample.loan.publisher c.args.sample.now.sample.loan.number c.find_live_loan-at.result.book c.find_live_loan-at.result.slot c.find_live_loan-at.ensures (written-out {T = g.row.T.Denot} {U = g.row.U.Denot} _ c.args.domain.now c.domain.view_is c.args.sample.now.sample c.requires.live) w) (with_payloads c.args.domain.now c.args.sample.now.sample.loan.number w) (payloads-word c.args.domain.now c.args.sample.now.sample.loan.number w) refl refl c.args.sample.now.sample refl c.requires.live;
+        live = λ never w. lent-written-loan {T = g.row.T.Denot} {U = g.row.U.Denot} c.domain.inside.state _ c.domain.invariant c.args.domain.now c.domain.view_is c.args.sample.now.sample.loan.number (c.find_live_loan-at.ensures).loan (c.find_live_loan-at.ensures).is_out (cells_changed (map Some w)) (values-lends {T = g.row.T.Denot} {U = g.row.U.Denot} c.domain.inside.state c.domain.invariant c.args.sample.now.sample.loan.publisher c.args.sample.now.sample.loan.number c.find_live_loan-at.result.book c.find_live_loan-at.result.slot c.find_live_loan-at.ensures (written-out {T = g.row.T.Denot} {U = g.row.U.Denot} _ c.args.domain.now c.domain.view_is c.args.sample.now.sample c.requires.live) w) (with_payloads c.args.domain.now c.args.sample.now.sample.loan.number w) (payloads-word c.args.domain.now c.args.sample.now.sample.loan.number w) refl refl c.args.sample.now.sample refl c.requires.live never;
         reads = λ w same. lent-values {T = g.row.T.Denot} {U = g.row.U.Denot} c.domain.inside.state _ c.domain.invariant c.args.domain.now c.domain.view_is c.args.sample.now.sample.loan.number (c.find_live_loan-at.ensures).loan (c.find_live_loan-at.ensures).is_out (cells_changed (map Some w)) (values-lends {T = g.row.T.Denot} {U = g.row.U.Denot} c.domain.inside.state c.domain.invariant c.args.sample.now.sample.loan.publisher c.args.sample.now.sample.loan.number c.find_live_loan-at.result.book c.find_live_loan-at.result.slot c.find_live_loan-at.ensures (written-out {T = g.row.T.Denot} {U = g.row.U.Denot} _ c.args.domain.now c.domain.view_is c.args.sample.now.sample c.requires.live) w) (with_payloads c.args.domain.now c.args.sample.now.sample.loan.number w) (payloads-word c.args.domain.now c.args.sample.now.sample.loan.number w) c.args.sample.now.sample.loan.number w refl (values-left (state_of (kept_of c.domain.inside.state)) c.args.sample.now.sample.loan.number (c.find_live_loan-at.ensures).loan (c.find_live_loan-at.ensures).is_out c.values_at_mut.result.now w known same);
         header = λ w header. lent-same-header {T = g.row.T.Denot} {U = g.row.U.Denot} c.domain.inside.state _ c.domain.invariant c.args.domain.now c.domain.view_is c.args.sample.now.sample.loan.number (c.find_live_loan-at.ensures).loan (c.find_live_loan-at.ensures).is_out (cells_changed (map Some w)) (values-lends {T = g.row.T.Denot} {U = g.row.U.Denot} c.domain.inside.state c.domain.invariant c.args.sample.now.sample.loan.publisher c.args.sample.now.sample.loan.number c.find_live_loan-at.result.book c.find_live_loan-at.result.slot c.find_live_loan-at.ensures (written-out {T = g.row.T.Denot} {U = g.row.U.Denot} _ c.args.domain.now c.domain.view_is c.args.sample.now.sample c.requires.live) w) (with_payloads c.args.domain.now c.args.sample.now.sample.loan.number w) (payloads-word c.args.domain.now c.args.sample.now.sample.loan.number w) refl (written_key c.args.sample.now.sample) refl header;
         user_header = λ w header. lent-same-user-header {T = g.row.T.Denot} {U = g.row.U.Denot} c.domain.inside.state _ c.domain.invariant c.args.domain.now c.domain.view_is c.args.sample.now.sample.loan.number (c.find_live_loan-at.ensures).loan (c.find_live_loan-at.ensures).is_out (cells_changed (map Some w)) (values-lends {T = g.row.T.Denot} {U = g.row.U.Denot} c.domain.inside.state c.domain.invariant c.args.sample.now.sample.loan.publisher c.args.sample.now.sample.loan.number c.find_live_loan-at.result.book c.find_live_loan-at.result.slot c.find_live_loan-at.ensures (written-out {T = g.row.T.Denot} {U = g.row.U.Denot} _ c.args.domain.now c.domain.view_is c.args.sample.now.sample c.requires.live) w) (with_payloads c.args.domain.now c.args.sample.now.sample.loan.number w) (payloads-word c.args.domain.now c.args.sample.now.sample.loan.number w) refl (written_key c.args.sample.now.sample) refl header;

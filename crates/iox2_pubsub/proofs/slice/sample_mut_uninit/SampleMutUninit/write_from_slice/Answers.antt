@@ -7,6 +7,7 @@ use Rattle.iox2_domain.specs.declared.loan_slots.LoanAt.{LoanAt}
 use Rattle.iox2_pubsub.specs.Live.{IsPublisherKey, lender_key, unwritten_key, written_key}
 use Rattle.iox2_pubsub.proofs.LoanHandles.{unwritten-out}
 use Rattle.iox2_pubsub.proofs.FilledLoans.{filled-header, filled-user-header, filled-waits, filled-leaves, filled-shown, filled-values, filled-live, filled-stays, filled-left}
+use Rattle.iox2_pubsub.proofs.LiveParts.{never-waits-alike, unblocked-alike}
 use Rattle.iox2_pubsub.proofs.SliceParts.{sliced-parts, has-cells}
 use Rattle.iox2_pubsub.proofs.slice.sample_mut_uninit.SampleMutUninit.write_from_slice.Goals as goal
 
@@ -22,11 +23,23 @@ write_loan_from_slice-loan-requires-clause-lengths g c = λ l found. c.requires.
 pub returns-clause-written : goal.returns-clause-written
 returns-clause-written g c = filled-values {T = g.row.T.Denot} {U = g.row.U.Denot} c.domain.inside.state c.write_loan_from_slice-loan.new.state c.domain.invariant c.args.domain.now c.domain.view_is c.args.self.sample.loan.number c.args.values.now c.write_loan_from_slice-loan.ensures.writes _ (ap (λ (at : LoanAt). at.number) c.write_loan_from_slice-loan.ensures.same)
 
-pub returns-clause-live : goal.returns-clause-live
-returns-clause-live g c = filled-live {T = g.row.T.Denot} {U = g.row.U.Denot} c.domain.inside.state c.write_loan_from_slice-loan.new.state c.domain.invariant c.args.domain.now c.domain.view_is c.args.self.sample.loan.number c.args.values.now c.write_loan_from_slice-loan.ensures.writes c.args.self.sample (record { service_id = c.args.self.sample.service_id; loan = c.write_loan_from_slice-loan.result }) refl refl (ap (λ (at : LoanAt). at.publisher) c.write_loan_from_slice-loan.ensures.same) (ap (λ (at : LoanAt). at.number) c.write_loan_from_slice-loan.ensures.same) c.requires.live
+pub returns-clause-out : goal.returns-clause-out
+returns-clause-out g c = filled-live {T = g.row.T.Denot} {U = g.row.U.Denot} c.domain.inside.state c.write_loan_from_slice-loan.new.state c.domain.invariant c.args.domain.now c.domain.view_is c.args.self.sample.loan.number c.args.values.now c.write_loan_from_slice-loan.ensures.writes c.args.self.sample (record { service_id = c.args.self.sample.service_id; loan = c.write_loan_from_slice-loan.result }) refl refl (ap (λ (at : LoanAt). at.publisher) c.write_loan_from_slice-loan.ensures.same) (ap (λ (at : LoanAt). at.number) c.write_loan_from_slice-loan.ensures.same) c.requires.live
 
 pub returns-clause-stays : goal.returns-clause-stays
 returns-clause-stays g c = filled-stays {T = g.row.T.Denot} {U = g.row.U.Denot} c.domain.inside.state c.write_loan_from_slice-loan.new.state c.domain.invariant c.args.domain.now c.domain.view_is c.args.self.sample.loan.number c.args.values.now c.write_loan_from_slice-loan.ensures.writes
+
+pub returns-clause-live : goal.returns-clause-live
+returns-clause-live g c = λ never. record {
+  out = returns-clause-out g c;
+  never_waits = never-waits-alike (kept_of c.write_loan_from_slice-loan.new.state) (unwritten_key c.args.self.sample) (written_key (record { service_id = c.args.self.sample.service_id; loan = c.write_loan_from_slice-loan.result }))
+      (ap (λ (at : LoanAt). at.publisher) c.write_loan_from_slice-loan.ensures.same) ((returns-clause-stays g c).never_wait (unwritten_key c.args.self.sample) never tt);
+}
+
+pub returns-clause-unblocked : goal.returns-clause-unblocked
+returns-clause-unblocked g c = λ free.
+    unblocked-alike (kept_of c.write_loan_from_slice-loan.new.state) (unwritten_key c.args.self.sample) (written_key (record { service_id = c.args.self.sample.service_id; loan = c.write_loan_from_slice-loan.result }))
+    (ap (λ (at : LoanAt). at.publisher) c.write_loan_from_slice-loan.ensures.same) ((returns-clause-stays g c).unblocked (unwritten_key c.args.self.sample) free tt)
 
 pub returns-clause-step : goal.returns-clause-step
 returns-clause-step g c = filled-shown {T = g.row.T.Denot} {U = g.row.U.Denot} c.domain.inside.state c.write_loan_from_slice-loan.new.state c.domain.invariant c.args.domain.now c.domain.view_is c.args.self.sample.loan.number c.args.values.now c.write_loan_from_slice-loan.ensures.writes
