@@ -9,6 +9,7 @@ use Rattle.iox2_laws.proofs.CloseLaws.{subscriber_closed_advances}
 use Rattle.iox2_laws.proofs.LoanKeeping.{publisher_closed_loans, subscriber_closed_loans}
 use Rattle.iox2_laws.proofs.PortsClose.{publisher_closed_gone, publisher_closed_others, publisher_closed_subscribers, publisher_closed_borrowed, subscriber_closed_shut, subscriber_closed_others, subscriber_closed_publishers, subscriber_closed_borrowed}
 use Rattle.iox2_laws.proofs.PortsCome.{publisher_closed_comes, subscriber_closed_comes}
+use Rattle.iox2_laws.proofs.Waits.{publisher_closed_waits, subscriber_closed_waits}
 use Rattle.iox2_domain.specs.Kept.{Kept as Domain}
 use Rattle.iox2_domain.specs.Shows.{Shows}
 use Rattle.iox2_pubsub.specs.declared.publisher.Publisher.{Publisher as PublisherHandle}
@@ -26,7 +27,7 @@ use Rattle.iox2_runs.specs.declared.runs.made.Made.TheVariants.{Nothing, Publish
 use Rattle.iox2_runs.proofs.TableCalls.{skip_comes, at_none, at_some, set_length, no_port}
 use Rattle.iox2_runs.proofs.TableEntries.{entries-set, entry-stands, lacks}
 use Rattle.iox2_runs.proofs.TableLooks.{is_publisher_entry, is_subscriber_entry, lacks_publisher, lacks_subscriber, handle_of, has_publisher, has_subscriber}
-use Rattle.iox2_runs.proofs.TableSteps.{PortsKeep, table_next, others_still}
+use Rattle.iox2_runs.proofs.TableSteps.{Anyone, PortsKeep, table_next, others_still}
 
 -- ---- what a close leaves
 
@@ -37,6 +38,7 @@ publisher-leaves s p x = record {
   publishers = λ i z other there. (z, publisher_closed_others s p x i (λ e. other (ap Publisher_handle e)) ∙ there, λ free. free);
   subscribers = λ q y other there is_open. let v = publisher_closed_subscribers s p x q y there in (v.0, v.1, v.2 ∙ is_open);
   come = publisher_closed_comes s p x;
+  waits = publisher_closed_waits Anyone s p x;
 }
 
 -- each port but the subscriber stays, and none comes back
@@ -46,6 +48,7 @@ subscriber-leaves s q y = record {
   publishers = λ p x other there. let v = subscriber_closed_publishers s q y p x there in (v.0, v.1, λ free. v.2 ∙ free);
   subscribers = λ i z other there is_open. (z, subscriber_closed_others s q y i (λ e. other (ap Subscriber_handle e)) ∙ there, is_open);
   come = subscriber_closed_comes s q y;
+  waits = subscriber_closed_waits Anyone s q y;
 }
 
 -- ---- what the command comes to

@@ -9,6 +9,7 @@ use Rattle.iox2_laws.proofs.PortsCome.{loan_discarded_comes}
 use Rattle.iox2_laws.proofs.PortsStay.{PortsStay, loan_discarded_stays}
 use Rattle.iox2_laws.proofs.Puts.{put_at-same, put_at-other}
 use Rattle.iox2_laws.proofs.SamplesStay.{same_borrowed}
+use Rattle.iox2_laws.proofs.Waits.{loan_discarded_waits}
 use Rattle.iox2_domain.specs.Kept.{Kept as Domain}
 use Rattle.iox2_domain.specs.Shows.{Shows}
 use Rattle.iox2_pubsub.specs.declared.sample_mut_uninit.SampleMutUninit.{SampleMutUninit}
@@ -26,7 +27,7 @@ use Rattle.iox2_runs.specs.declared.runs.made.Made.TheVariants.{Nothing, Unwritt
 use Rattle.iox2_runs.proofs.TableCalls.{skip_comes, at_none, at_some, set_length, no_port}
 use Rattle.iox2_runs.proofs.TableEntries.{entries-set, entry-stands, lacks}
 use Rattle.iox2_runs.proofs.TableLooks.{Lacks, is_loan_entry, lacks_loan, handle_of, has_unwritten, has_written}
-use Rattle.iox2_runs.proofs.TableSteps.{ports-keep, table_next, others_still}
+use Rattle.iox2_runs.proofs.TableSteps.{Anyone, ports-keep, table_next, others_still}
 
 -- ---- what the command comes to
 
@@ -52,7 +53,7 @@ module _ {T U : Type 0} (environment : Environment) (defaults : Defaults T U) (S
         replied = refl;
         shown = shown;
         follows = λ once. table_next s s' handles events table w No_handle No_event No_entry (slice_set table of No_entry) (le_refl s.next_message) (set_length table of No_entry)
-            (others_still s s' handles events table w of (Loan_handle n) No_entry (ports-keep (Loan_handle n) s s' stay.remain (loan_discarded_comes s n l)) named (put_at-same s.loans n None)
+            (others_still s s' handles events table w of (Loan_handle n) No_entry (ports-keep (Loan_handle n) s s' stay.remain (loan_discarded_comes s n l) (loan_discarded_waits Anyone s n l)) named (put_at-same s.loans n None)
             (λ k low other. put_at-other s.loans n None k (ne_eqb k n (λ e. other (ap Loan_handle (sym e)))))
             (λ i p q k _ _. same_borrowed s s' stay p q k))
             tt (no_port s s' (loan_discarded_comes s n l)) (λ k e. let clash : No_handle ≡ Loan_handle k = e in absurd (cc)) (λ p q k e. let clash : No_handle ≡ Sample_handle p q k = e in absurd (cc)) once;

@@ -8,6 +8,7 @@ use Rattle.iox2_store.specs.machine.State.{State, Messages}
 use Rattle.iox2_store.specs.declared.header.Header.{Header}
 use Rattle.iox2_laws.proofs.PortsCome.{ports_come_themselves}
 use Rattle.iox2_laws.proofs.PortsStay.{ports_stay_themselves}
+use Rattle.iox2_laws.proofs.Waits.{waits_itself}
 use Rattle.iox2_domain.specs.Kept.{Kept as Domain}
 use Rattle.iox2_domain.specs.LoanCalls.{HasLoanHeader, HasLoanUserHeader}
 use Rattle.iox2_domain.specs.Shows.{Shows}
@@ -29,6 +30,7 @@ use Rattle.iox2_runs.specs.declared.runs.made.Made.TheVariants.{Nothing, Unwritt
 use Rattle.iox2_runs.proofs.TableCalls.{at_none, at_some, quiet_comes}
 use Rattle.iox2_runs.proofs.TableEntries.{entry-stands, lacks}
 use Rattle.iox2_runs.proofs.TableLooks.{is_loan_entry, is_sample_entry, has_sample, has_unwritten, has_written, lacks_loan, lacks_sample}
+use Rattle.iox2_runs.proofs.TableSteps.{Anyone}
 
 module _ {T U : Type 0} (defaults : Defaults T U) (domain : Domain T U) (table : List Made) (of : ℕ) where
   -- a command that replies, and changes nothing
@@ -38,7 +40,7 @@ module _ {T U : Type 0} (defaults : Defaults T U) (domain : Domain T U) (table :
       → Comes fixed_handlers defaults (Shows domain) m s handles events command reply (map entry_for table ++ No_entry ∷ [])
   quiet m s handles events w default_value default_header is_value is_header command reply step shown =
       quiet_comes fixed_handlers defaults (Shows domain) m s handles events (map entry_for table) w default_value default_header is_value is_header command reply s step shown
-      (ports_stay_themselves s) (ports_come_themselves s) (λ n low. refl) (omega arith)
+      (ports_stay_themselves s) (ports_come_themselves s) (waits_itself Anyone s) (λ n low. refl) (omega arith)
 
   -- ---- the header
 

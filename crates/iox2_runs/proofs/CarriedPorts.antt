@@ -61,7 +61,7 @@ module _ {T U : Type 0} (environment : Environment) (defaults : Defaults T U) (o
       (map entry_for table ++ Publisher_entry h.service_id b ∷ []) in
       subst (λ (a : ℕ). Arrives a h.id) (sym (made.2).0 ∙ sym same) (subst (Arrives s.next_port) (sym (made.2).0)
       (publisher_comes environment defaults (Shows new) m s handles events (map entry_for table) w default_value default_header is_value is_header loans DiscardData Static len None Warn None
-      made.0 create (create_publisher_advances environment s (settings_of loans len s) made.0 None create).next_message made.1 h.service_id
+      refl refl made.0 create (create_publisher_advances environment s (settings_of loans len s) made.0 None create).next_message made.1 h.service_id
       (service ∙ sym (ap (λ (t : State T U). (t.config).service_id) (made.1).state))))
 
   pub publisher_denied : (loans len : ℕ) (e : PublisherCreateError)

@@ -12,6 +12,7 @@ use Rattle.iox2_laws.proofs.PortsCome.{update_publisher_comes, update_subscriber
 use Rattle.iox2_laws.proofs.PortsStay.{update_publisher_stays, update_subscriber_stays}
 use Rattle.iox2_laws.proofs.PublisherUpdates.{update_publisher_advances}
 use Rattle.iox2_laws.proofs.SubscriberUpdates.{update_subscriber_advances}
+use Rattle.iox2_laws.proofs.Waits.{update_publisher_waits, update_subscriber_waits}
 use Rattle.iox2_domain.specs.Kept.{Kept as Domain}
 use Rattle.iox2_domain.specs.Shows.{Shows}
 use Rattle.iox2_pubsub.specs.declared.publisher.Publisher.{Publisher as PublisherHandle}
@@ -28,6 +29,7 @@ use Rattle.iox2_runs.specs.declared.runs.made.Made.TheVariants.{Nothing, Publish
 use Rattle.iox2_runs.proofs.TableCalls.{skip_comes, quiet_comes, at_none, at_some}
 use Rattle.iox2_runs.proofs.TableEntries.{entry-stands, lacks}
 use Rattle.iox2_runs.proofs.TableLooks.{is_publisher_entry, is_subscriber_entry, lacks_publisher, lacks_subscriber, has_publisher, has_subscriber}
+use Rattle.iox2_runs.proofs.TableSteps.{Anyone}
 
 module _ {T U : Type 0} where
   -- what is replied where an update has this failure, if any
@@ -58,7 +60,7 @@ module _ {T U : Type 0} (environment : Environment) (defaults : Defaults T U) (o
       let found = has_publisher s handles events (map entry_for table) w of h.service_id h.id (entry-stands table of (MadePublisher h) at (λ e. let clash : MadePublisher h ≡ Nothing = e in cc)) in
       quiet_comes environment defaults (Shows new) m s handles events (map entry_for table) w default_value default_header is_value is_header (Update of) reply s'
       (at_some _ _ _ (h.id, found.0) found.1 (s', failure, updated.2, replied-so s' failure reply is))
-      updated.1 (update_publisher_stays environment s h.id s' failure updated.2) (update_publisher_comes environment s h.id s' failure updated.2)
+      updated.1 (update_publisher_stays environment s h.id s' failure updated.2) (update_publisher_comes environment s h.id s' failure updated.2) (update_publisher_waits Anyone environment s h.id s' failure updated.2)
       (λ n _. ap (λ (f : ℕ → Option (Loan T U)). f n) (update_publisher_loans environment s h.id s' failure updated.2))
       (update_publisher_advances environment s h.id s' failure updated.2).next_message
 
@@ -73,6 +75,6 @@ module _ {T U : Type 0} (environment : Environment) (defaults : Defaults T U) (o
       quiet_comes environment defaults (Shows new) m s handles events (map entry_for table) w default_value default_header is_value is_header (Update of) reply s'
       (at_none _ _ _ (lacks_publisher s handles events (map entry_for table) w of (lacks is_publisher_entry refl table of (ap (λ (v : Made). is_publisher_entry (entry_for v)) at)))
       (at_some _ _ _ (h.id, found.0) found.1 (s', failure, updated.2, replied-so s' failure reply is)))
-      updated.1 (update_subscriber_stays environment s h.id s' failure updated.2) (update_subscriber_comes environment s h.id s' failure updated.2)
+      updated.1 (update_subscriber_stays environment s h.id s' failure updated.2) (update_subscriber_comes environment s h.id s' failure updated.2) (update_subscriber_waits Anyone environment s h.id s' failure updated.2)
       (λ n _. ap (λ (f : ℕ → Option (Loan T U)). f n) (update_subscriber_loans environment s h.id s' failure updated.2))
       (update_subscriber_advances environment s h.id s' failure updated.2).next_message

@@ -24,7 +24,8 @@ use Rattle.iox2_commands.specs.declared.reply.Reply.TheVariants.{Done, Skipped, 
 use Rattle.iox2_laws.proofs.SamplesStay.{same_borrowed}
 use Rattle.iox2_laws.proofs.PortsCome.{PortsCome, ports_come_themselves, loan_set_comes, send_comes as machine_send_comes}
 use Rattle.iox2_laws.proofs.PortsStay.{PortsStay, ports_stay_themselves, send_stays, loan_set_stays}
-use Rattle.iox2_runs.proofs.TableSteps.{ports-keep, table_next, all_still, others_still}
+use Rattle.iox2_laws.proofs.Waits.{Waits, waits_itself, loan_set_waits, send_waits}
+use Rattle.iox2_runs.proofs.TableSteps.{Anyone, ports-keep, table_next, all_still, others_still}
 use Rattle.iox2_runs.proofs.TableLooks.{Lacks, is_unwritten_entry, is_written_entry, lacks_unwritten, lacks_written, handle_of, has_unwritten, has_written}
 
 -- a fact by cases, in one of the two
@@ -48,9 +49,9 @@ module _ {T U : Type 0} (environment : Environment) (defaults : Defaults T U) (S
     (is_default_value : defaults.IsDefaultValue default_value) (is_default_header : defaults.IsDefaultHeader default_header) where
   -- a command that makes nothing and after which all is kept that was
   pub quiet_comes : (command : Command T U) (reply : Reply T U) (s' : State T U) → Step environment default_value default_header m s handles command (replied reply s')
-      → Shown m s' → PortsStay s s' → PortsCome s s' → ((n : ℕ) → n < s.next_message → s'.loans n ≡ s.loans n) → s.next_message ≤ s'.next_message
+      → Shown m s' → PortsStay s s' → PortsCome s s' → Waits Anyone s s' → ((n : ℕ) → n < s.next_message → s'.loans n ≡ s.loans n) → s.next_message ≤ s'.next_message
       → Comes environment defaults Shown m s handles events command reply (table ++ No_entry ∷ [])
-  quiet_comes command reply s' step shown stay come loans rises = record {
+  quiet_comes command reply s' step shown stay come waits loans rises = record {
     default_value = default_value;
     default_header = default_header;
     is_default_value = is_default_value;
@@ -60,17 +61,17 @@ module _ {T U : Type 0} (environment : Environment) (defaults : Defaults T U) (S
     replied = refl;
     shown = shown;
     follows = λ once. table_next s s' handles events table w No_handle No_event No_entry table rises refl
-        (all_still s s' handles events table w stay.remain come loans (λ i p q n _. same_borrowed s s' stay p q n))
+        (all_still s s' handles events table w stay.remain come waits loans (λ i p q n _. same_borrowed s s' stay p q n))
         tt (no_port s s' come) (λ n e. let clash : No_handle ≡ Loan_handle n = e in absurd (cc)) (λ p q n e. let clash : No_handle ≡ Sample_handle p q n = e in absurd (cc)) once;
   }
 
   -- a command that is skipped
   pub skip_comes : (command : Command T U) → Step environment default_value default_header m s handles command (skipped s) → Shown m s
       → Comes environment defaults Shown m s handles events command Skipped (table ++ No_entry ∷ [])
-  skip_comes command step shown = quiet_comes command Skipped s step shown (ports_stay_themselves s) (ports_come_themselves s) (λ n low. refl) (omega arith)
+  skip_comes command step shown = quiet_comes command Skipped s step shown (ports_stay_themselves s) (ports_come_themselves s) (waits_itself Anyone s) (λ n low. refl) (omega arith)
 
   pub nothing_comes : Shown m s → Comes environment defaults Shown m s handles events Nothing Done (table ++ No_entry ∷ [])
-  nothing_comes shown = quiet_comes Nothing Done s refl shown (ports_stay_themselves s) (ports_come_themselves s) (λ n low. refl) (omega arith)
+  nothing_comes shown = quiet_comes Nothing Done s refl shown (ports_stay_themselves s) (ports_come_themselves s) (waits_itself Anyone s) (λ n low. refl) (omega arith)
 
   -- ---- a loan is written
 
@@ -96,8 +97,8 @@ module _ {T U : Type 0} (environment : Environment) (defaults : Defaults T U) (S
         replied = refl;
         shown = shown l found.3;
         follows = λ once. table_next s s' handles events table w No_handle No_event No_entry (slice_set table of (Written_entry service p n)) (omega arith) (set_length table of (Written_entry service p n))
-            (others_still s s' handles events table w of named.0 (Written_entry service p n) (ports-keep named.0 s s' stay.remain (loan_set_comes s n (Some (written l value)))) named.1
-            ((named.2).0, (named.2).1, ((written l value, put_at-same s.loans n (Some (written l value)), found.4, refl), ((named.2).2).1, ((named.2).2).2))
+            (others_still s s' handles events table w of named.0 (Written_entry service p n) (ports-keep named.0 s s' stay.remain (loan_set_comes s n (Some (written l value))) (loan_set_waits Anyone s n (Some (written l value)))) named.1
+            ((named.2).0, (named.2).1, ((written l value, put_at-same s.loans n (Some (written l value)), found.4, refl), ((named.2).2).1, ((named.2).2).2, ((named.2).2).3))
             (λ k low other. put_at-other s.loans n (Some (written l value)) k (ne_eqb k n (λ e. other ((named.2).1 ∙ ap Loan_handle (sym e)))))
             (λ i p q n _ _. refl))
             tt (no_port s s' (loan_set_comes s n (Some (written l value)))) (λ n e. let clash : No_handle ≡ Loan_handle n = e in absurd (cc)) (λ p q n e. let clash : No_handle ≡ Sample_handle p q n = e in absurd (cc)) once;
@@ -132,7 +133,7 @@ module _ {T U : Type 0} (environment : Environment) (defaults : Defaults T U) (S
         replied = refl;
         shown = shown;
         follows = λ once. table_next s s' handles events table w No_handle (Message_sent l.publisher n (entry_of l)) No_entry (slice_set table of No_entry) rises (set_length table of No_entry)
-            (others_still s s' handles events table w of named.0 No_entry (ports-keep named.0 s s' stay.remain come) named.1
+            (others_still s s' handles events table w of named.0 No_entry (ports-keep named.0 s s' stay.remain come (send_waits Anyone environment s n l tt s' (Delivered_to count) sends)) named.1
             (subst (IsSpent s') (sym (named.2).1) (ap (λ (f : ℕ → Option (Loan T U)). f n) loans ∙ put_at-same s.loans n None))
             (λ k low other. ap (λ (f : ℕ → Option (Loan T U)). f k) loans ∙ put_at-other s.loans n None k (ne_eqb k n (λ e. other ((named.2).1 ∙ ap Loan_handle (sym e)))))
             (λ i p q n _ _. same_borrowed s s' stay p q n))
@@ -161,7 +162,7 @@ module _ {T U : Type 0} (environment : Environment) (defaults : Defaults T U) (S
         replied = refl;
         shown = shown;
         follows = λ once. table_next s s' handles events table w No_handle No_event No_entry (slice_set table of No_entry) rises (set_length table of No_entry)
-            (others_still s s' handles events table w of named.0 No_entry (ports-keep named.0 s s' stay.remain come) named.1
+            (others_still s s' handles events table w of named.0 No_entry (ports-keep named.0 s s' stay.remain come (send_waits Anyone environment s n l tt s' result sends)) named.1
             (subst (IsSpent s') (sym (named.2).1) (ap (λ (f : ℕ → Option (Loan T U)). f n) loans ∙ put_at-same s.loans n None))
             (λ k low other. ap (λ (f : ℕ → Option (Loan T U)). f k) loans ∙ put_at-other s.loans n None k (ne_eqb k n (λ e. other ((named.2).1 ∙ ap Loan_handle (sym e)))))
             (λ i p q n _ _. same_borrowed s s' stay p q n))

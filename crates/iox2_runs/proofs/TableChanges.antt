@@ -6,6 +6,7 @@ use Rattle.iox2_store.specs.machine.Records.{Loan, Environment}
 use Rattle.iox2_store.specs.machine.State.{State, Messages, with_loan}
 use Rattle.iox2_laws.proofs.PortsCome.{loan_set_comes}
 use Rattle.iox2_laws.proofs.PortsStay.{loan_set_stays}
+use Rattle.iox2_laws.proofs.Waits.{loan_set_waits}
 use Rattle.iox2_laws.proofs.Puts.{put_at-same, put_at-other}
 use Rattle.iox2_commands.specs.Outcomes.{Handle, No_handle, Loan_handle, Sample_handle, Event, No_event, done}
 use Rattle.iox2_commands.specs.Runs.{Defaults}
@@ -16,7 +17,7 @@ use Rattle.iox2_runs.specs.Tables.{TableEntry, No_entry, Unwritten_entry, Writte
 use Rattle.iox2_runs.specs.RunSteps.{Comes}
 use Rattle.iox2_runs.proofs.TableCalls.{no_port, set_length}
 use Rattle.iox2_runs.proofs.TableLooks.{handle_of}
-use Rattle.iox2_runs.proofs.TableSteps.{ports-keep, table_next, others_still}
+use Rattle.iox2_runs.proofs.TableSteps.{Anyone, ports-keep, table_next, others_still}
 
 module _ {T U : Type 0} (environment : Environment) (defaults : Defaults T U) (Shown : Messages T U → State T U → Type 0) (m : Messages T U) (s : State T U) (handles : List Handle)
     (events : List (Event T U)) (table : List TableEntry) (w : IsTable s handles events table) (default_value : T) (default_header : U)
@@ -34,7 +35,7 @@ module _ {T U : Type 0} (environment : Environment) (defaults : Defaults T U) (S
     replied = refl;
     shown = shown;
     follows = λ once. table_next s (with_loan s n (Some l)) handles events table w No_handle No_event No_entry (slice_set table of entry) (omega arith) (set_length table of entry)
-        (others_still s (with_loan s n (Some l)) handles events table w of handle entry (ports-keep handle s (with_loan s n (Some l)) (loan_set_stays s n (Some l)).remain (loan_set_comes s n (Some l))) at
+        (others_still s (with_loan s n (Some l)) handles events table w of handle entry (ports-keep handle s (with_loan s n (Some l)) (loan_set_stays s n (Some l)).remain (loan_set_comes s n (Some l)) (loan_set_waits Anyone s n (Some l))) at
         names
         (λ k low other. put_at-other s.loans n (Some l) k (ne_eqb k n (λ e. other (is ∙ ap Loan_handle (sym e)))))
         (λ i p q n _ _. refl))
@@ -48,7 +49,7 @@ module _ {T U : Type 0} (environment : Environment) (defaults : Defaults T U) (S
     unwritten_changes at mark =
         let named = handle_of s handles events table w of (Unwritten_entry service p n) at in
         sets named.0 (Unwritten_entry service p n) named.1 (named.2).1
-        ((named.2).0, (named.2).1, ((l, put_at-same s.loans n (Some l), publisher, mark), ((named.2).2).1, ((named.2).2).2))
+        ((named.2).0, (named.2).1, ((l, put_at-same s.loans n (Some l), publisher, mark), ((named.2).2).1, ((named.2).2).2, ((named.2).2).3))
 
     -- or is written from then on
     pub unwritten_taken : slice_get table of ≡ Some (Unwritten_entry service p n) → l.is_written ≡ true
@@ -56,7 +57,7 @@ module _ {T U : Type 0} (environment : Environment) (defaults : Defaults T U) (S
     unwritten_taken at mark =
         let named = handle_of s handles events table w of (Unwritten_entry service p n) at in
         sets named.0 (Written_entry service p n) named.1 (named.2).1
-        ((named.2).0, (named.2).1, ((l, put_at-same s.loans n (Some l), publisher, mark), ((named.2).2).1, ((named.2).2).2))
+        ((named.2).0, (named.2).1, ((l, put_at-same s.loans n (Some l), publisher, mark), ((named.2).2).1, ((named.2).2).2, ((named.2).2).3))
 
     -- and a written one stays written
     pub written_changes : slice_get table of ≡ Some (Written_entry service p n) → l.is_written ≡ true
@@ -64,4 +65,4 @@ module _ {T U : Type 0} (environment : Environment) (defaults : Defaults T U) (S
     written_changes at mark =
         let named = handle_of s handles events table w of (Written_entry service p n) at in
         sets named.0 (Written_entry service p n) named.1 (named.2).1
-        ((named.2).0, (named.2).1, ((l, put_at-same s.loans n (Some l), publisher, mark), ((named.2).2).1, ((named.2).2).2))
+        ((named.2).0, (named.2).1, ((l, put_at-same s.loans n (Some l), publisher, mark), ((named.2).2).1, ((named.2).2).2, ((named.2).2).3))

@@ -19,18 +19,19 @@ use Rattle.iox2_laws.proofs.PortsCome.{PortsCome, ports_come_themselves, ports_c
 use Rattle.iox2_laws.proofs.PortsStay.{PortsStay, ports_stay_themselves, ports_stay_trans, grant_loan_stays, loan_set_stays, send_stays}
 use Rattle.iox2_laws.proofs.Puts.{put_at-same, put_at-other}
 use Rattle.iox2_laws.proofs.SamplesStay.{same_borrowed}
+use Rattle.iox2_laws.proofs.Waits.{Waits, waits_itself, waits_trans, grant_loan_waits, loan_set_waits, send_waits}
 use Rattle.iox2_commands.specs.Outcomes.{Handle, No_handle, Loan_handle, Sample_handle, Event, No_event, Message_sent, outcome}
 use Rattle.iox2_commands.specs.Runs.{Defaults}
 use Rattle.iox2_commands.specs.Step.{if_single_units, if_fixed_size, unblocked_at}
 use Rattle.iox2_commands.specs.declared.command.Command.TheVariants.{Loan as LoanDefault, SendCopy}
 use Rattle.iox2_commands.specs.declared.reply.Reply.TheVariants.{Skipped, Loaned, LoanRefused, Delivered, SendRefused}
-use Rattle.iox2_runs.specs.Tables.{port_of, TableEntry, No_entry, Publisher_entry, Written_entry, IsTable}
+use Rattle.iox2_runs.specs.Tables.{port_of, TableEntry, No_entry, Publisher_entry, Written_entry, Discards, IsTable}
 use Rattle.iox2_runs.specs.RunSteps.{Comes}
 use Rattle.iox2_runs.proofs.TableCalls.{quiet_comes, skip_comes, at_none, at_some, no_port}
 use Rattle.iox2_runs.proofs.TableLooks.{Lacks, is_publisher_entry, lacks_publisher, has_publisher, handle_of}
 use Rattle.iox2_runs.proofs.Services.{single_named, single_elsewhere, single_nothing}
 use Rattle.iox2_runs.proofs.TableMakes.{loan_any}
-use Rattle.iox2_runs.proofs.TableSteps.{table_next, all_still}
+use Rattle.iox2_runs.proofs.TableSteps.{Anyone, free-discards, discards-still, table_next, all_still}
 
 -- ---- a loan that is granted and written
 
@@ -69,6 +70,12 @@ module _ {T U : Type 0} (environment : Environment) (s : State T U) (p : ℕ) (v
       subst (PortsCome s) (sym copied-is)
       (ports_come_trans s h.0 (with_loan h.0 s.next_message (Some copied)) (grant_loan_comes environment header false 1 s p h.0 None h.1) (loan_set_comes h.0 s.next_message (Some copied)))
 
+  pub copied-waits : Waits Anyone s s'
+  copied-waits =
+      subst (Waits Anyone s) (sym copied-is)
+      (waits_trans Anyone s h.0 (with_loan h.0 s.next_message (Some copied)) (grant_loan_waits Anyone environment header false 1 s p h.0 None h.1)
+      (loan_set_waits Anyone h.0 s.next_message (Some copied)))
+
 -- one that is refused changes nothing
 pub copied-refused : {T U : Type 0} (environment : Environment) (s : State T U) (p : ℕ) (value : T) (header : U) (s' : State T U) (e : LoanError)
     → GrantWrittenLoan environment value header false 1 s p s' (Some e) → s' ≡ s
@@ -94,6 +101,10 @@ module _ {T U : Type 0} (environment : Environment) (defaults : Defaults T U) (S
       let named = handle_of s handles events table w of (Publisher_entry service p) at in
       ap (λ (v : Publisher). v.blocked) (same_Some x ((named.2).2).0 (sym there ∙ ((named.2).2).1)) ∙ ((named.2).2).2
 
+  -- and discards
+  discards : (of service p : ℕ) → slice_get table of ≡ Some (Publisher_entry service p) → Discards s p
+  discards of service p at = free-discards s p ((handle_of s handles events table w of (Publisher_entry service p) at).2).2
+
   known : (of service p : ℕ) → slice_get table of ≡ Some (Publisher_entry service p) → p < s.next_port
   known of service p at =
       let named = handle_of s handles events table w of (Publisher_entry service p) at in
@@ -116,6 +127,7 @@ module _ {T U : Type 0} (environment : Environment) (defaults : Defaults T U) (S
       let found = has_publisher s handles events table w of service p at in
       let stay : PortsStay s s' = copied-stay environment s p value header s' h in
       let come : PortsCome s s' = copied-come environment s p value header s' h in
+      let waits : Waits Anyone s s' = copied-waits environment s p value header s' h in
       let rises = copied-rises environment s p value header s' h in
       let below = known of service p at in record {
         default_value = value;
@@ -129,13 +141,14 @@ module _ {T U : Type 0} (environment : Environment) (defaults : Defaults T U) (S
         replied = refl;
         shown = shown;
         follows = λ once. table_next s s' handles events table w (Loan_handle s.next_message) No_event (Written_entry new_service p s.next_message) table (omega (arith, rises)) refl
-            (all_still s s' handles events table w stay.remain come (copied-others environment s p value header s' h) (λ i p q n _. same_borrowed s s' stay p q n)) (
+            (all_still s s' handles events table w stay.remain come waits (copied-others environment s p value header s' h) (λ i p q n _. same_borrowed s s' stay p q n)) (
               ours,
               refl,
               (
                 (copied environment s p value header s' h, copied-there environment s p value header s' h, copied-publisher environment s p value header s' h, refl),
                 (let up = come.next_port in omega (arith, below, up)),
                 λ x there. let before = come.publishers p x below there in before.2 (unblocked of service p at before.0 before.1),
+                discards-still s s' waits p below (discards of service p at),
               ),
             )
             (come.next_port, λ i e. absurd (none-some i e))
@@ -151,7 +164,7 @@ module _ {T U : Type 0} (environment : Environment) (defaults : Defaults T U) (S
       let same : s' ≡ s = copied-refused environment s p default_value default_header s' e h in
       quiet_comes environment defaults Shown m s handles events table w default_value default_header is_default_value is_default_header (LoanDefault of) (LoanRefused e) s'
       (at_some _ _ _ (p, found.0) (single_named s (unblocked_at s handles of) single ∙ found.1) (s', Some e, h, refl)) shown
-      (subst (PortsStay s) (sym same) (ports_stay_themselves s)) (subst (PortsCome s) (sym same) (ports_come_themselves s))
+      (subst (PortsStay s) (sym same) (ports_stay_themselves s)) (subst (PortsCome s) (sym same) (ports_come_themselves s)) (subst (Waits Anyone s) (sym same) (waits_itself Anyone s))
       (λ n _. ap (λ (t : State T U). t.loans n) same) (subst (λ (t : State T U). s.next_message ≤ t.next_message) (sym same) (omega arith))
 
   -- ---- a copy
@@ -173,6 +186,8 @@ module _ {T U : Type 0} (environment : Environment) (defaults : Defaults T U) (S
       (send_stays environment mid s.next_message l s' (Delivered_to count) sends (λ e. let clash : Delivered_to count ≡ Blocked_send = e in cc)) in
       let come : PortsCome s s' = ports_come_trans s mid s' (copied-come environment s p value header mid h)
       (machine_send_comes environment mid s.next_message l s' (Delivered_to count) sends (λ e. let clash : Delivered_to count ≡ Blocked_send = e in cc)) in
+      let waits : Waits Anyone s s' = waits_trans Anyone s mid s' (copied-waits environment s p value header mid h)
+      (send_waits Anyone environment mid s.next_message l tt s' (Delivered_to count) sends) in
       let loans : s'.loans ≡ put_at mid.loans s.next_message None = send_loans environment mid s.next_message l s' (Delivered_to count) sends in
       let up = copied-rises environment s p value header mid h in record {
         default_value = default_value;
@@ -185,7 +200,7 @@ module _ {T U : Type 0} (environment : Environment) (defaults : Defaults T U) (S
         replied = refl;
         shown = shown;
         follows = λ once. table_next s s' handles events table w No_handle (Message_sent l.publisher s.next_message (entry_of l)) No_entry table (omega (arith, up, rises)) refl
-            (all_still s s' handles events table w stay.remain come
+            (all_still s s' handles events table w stay.remain come waits
             (λ n low. ap (λ (f : ℕ → Option (Loan T U)). f n) loans
             ∙ put_at-other mid.loans s.next_message None n (ne_eqb n s.next_message (λ e. absurd (omega (arith, low, e)))) ∙ copied-others environment s p value header mid h n low)
             (λ i p q n _. same_borrowed s s' stay p q n))
@@ -200,5 +215,5 @@ module _ {T U : Type 0} (environment : Environment) (defaults : Defaults T U) (S
       let same : s' ≡ s = copied-refused environment s p value default_header s' e h in
       quiet_comes environment defaults Shown m s handles events table w default_value default_header is_default_value is_default_header (SendCopy of value) (SendRefused (NotLoaned e)) s'
       (at_some _ _ _ (p, found.0) (single_named s (unblocked_at s handles of) single ∙ found.1) (s', Some e, h, refl)) shown
-      (subst (PortsStay s) (sym same) (ports_stay_themselves s)) (subst (PortsCome s) (sym same) (ports_come_themselves s))
+      (subst (PortsStay s) (sym same) (ports_stay_themselves s)) (subst (PortsCome s) (sym same) (ports_come_themselves s)) (subst (Waits Anyone s) (sym same) (waits_itself Anyone s))
       (λ n _. ap (λ (t : State T U). t.loans n) same) (subst (λ (t : State T U). s.next_message ≤ t.next_message) (sym same) (omega arith))

@@ -1,23 +1,25 @@
 -- Ports and loans are made, with what the run keeps.
 use Rattle.std.proofs.Common.{◌≡◌, ℕ, ◌≤◌, ◌<◌, Bool, true, false, List, [], ◌∷◌, ◌++◌, cond, refl, sym, ap, subst, ◌∙◌, eqb, Option, None, Some, arith, ⊎_elim, inl, inr}
 use Rattle.std.specs.Bool.{MatchBool}
+use Rattle.std.specs.Option.{option_map}
 use Rattle.std.specs.Prelude.{MatchOption, ◌==◌, nat_lt, slice_get}
 use Rattle.std.proofs.lemmas.Option.{none-some, same_Some}
 use Rattle.std.proofs.lemmas.Bool.{eqb-true, eq-eqb}
 use Rattle.iox2_store.specs.SingleValues.{is_single_valued}
 use Rattle.iox2_store.specs.machine.Limits.{last_number, buffer_limit}
 use Rattle.iox2_store.specs.machine.Places.{free_place}
-use Rattle.iox2_store.specs.machine.Records.{Loan, Publisher, Subscriber, Environment, PublisherSettings, SubscriberSettings, Fixed}
+use Rattle.iox2_store.specs.machine.Records.{Loan, Publisher, Subscriber, Environment, PublisherSettings, SubscriberSettings, Handler, Fixed}
 use Rattle.iox2_store.specs.machine.State.{State, Messages}
 use Rattle.iox2_store.specs.machine.Environments.{ample_memory}
 use Rattle.iox2_store.specs.machine.Loans.{GrantLoan, StaticLoan, DynamicLoan, limit_error, is_static}
-use Rattle.iox2_store.specs.machine.Ports.{CreatePublisher, CreateSubscriber, MakePublisher, MakeSubscriber, with_new_publisher, with_new_subscriber, new_publisher, new_subscriber, first_segment_fits, buffer_for}
+use Rattle.iox2_store.specs.machine.Ports.{CreatePublisher, CreateSubscriber, MakePublisher, MakeSubscriber, with_new_publisher, with_new_subscriber, new_subscriber, first_segment_fits, buffer_for}
 use Rattle.iox2_store.specs.declared.service_config.ServiceConfig.{ServiceConfig}
 use Rattle.iox2_store.specs.declared.service_config.TypeVariant.{TypeVariant}
 use Rattle.iox2_store.specs.declared.service_config.TypeVariant.TheVariants.{FixedSize, Dynamic}
 use Rattle.iox2_store.specs.declared.allocation.AllocationStrategy.{AllocationStrategy}
 use Rattle.iox2_store.specs.declared.backpressure.BackpressureAction.{BackpressureAction}
 use Rattle.iox2_store.specs.declared.backpressure.BackpressureStrategy.{BackpressureStrategy}
+use Rattle.iox2_store.specs.declared.backpressure.BackpressureStrategy.TheVariants.{DiscardData}
 use Rattle.iox2_store.specs.declared.degradation.DegradationAction.{DegradationAction}
 use Rattle.iox2_store.specs.declared.errors.LoanError.{LoanError}
 use Rattle.iox2_store.specs.declared.errors.LoanError.TheVariants.{OutOfMemory, ExceedsMaxLoans, ExceedsMaxLoanSize, InternalFailure}
@@ -38,8 +40,10 @@ use Rattle.iox2_commands.specs.declared.command.Command.TheVariants.{CreatePubli
 use Rattle.iox2_commands.specs.declared.reply.Reply.{Reply}
 use Rattle.iox2_commands.specs.declared.reply.Reply.TheVariants.{Skipped, PublisherMade, PublisherRefused, SubscriberMade, SubscriberRefused, Loaned, LoanRefused}
 use Rattle.iox2_laws.proofs.PortsCome.{PortsCome, ports_come_trans, update_publisher_comes, update_subscriber_comes, warning_comes, create_publisher_comes, create_subscriber_comes, grant_loan_comes}
-use Rattle.iox2_laws.proofs.PortsStay.{PortsStay, update_publisher_stays, update_subscriber_stays, warning_stays, create_publisher_stays, create_subscriber_stays, grant_loan_stays, ports_stay_trans}
-use Rattle.iox2_runs.proofs.TableSteps.{table_next, all_still}
+use Rattle.iox2_laws.proofs.PortsStay.{PortsStay, update_subscriber_stays, warning_stays, create_publisher_stays, create_subscriber_stays, grant_loan_stays, ports_stay_trans}
+use Rattle.iox2_laws.proofs.SendsRemain.{created_as}
+use Rattle.iox2_laws.proofs.Waits.{Waits, create_publisher_waits, create_subscriber_waits, grant_loan_waits}
+use Rattle.iox2_runs.proofs.TableSteps.{Anyone, free-discards, discards-still, table_next, all_still}
 use Rattle.iox2_runs.proofs.TableLooks.{Lacks, is_publisher_entry, lacks_publisher, has_publisher, handle_of}
 use Rattle.iox2_laws.proofs.SamplesStay.{same_borrowed}
 use Rattle.iox2_laws.proofs.NextLoan.{IsNextLoan, loan_next, loan_refused}
@@ -48,24 +52,24 @@ use Rattle.iox2_runs.proofs.TableCalls.{quiet_comes, skip_comes, at_none, at_som
 
 module _ {T U : Type 0} (environment : Environment) (s : State T U) where
   -- a publisher that was made is there, and free
-  pub publisher_made : (given : PublisherSettings) (s' : State T U) → CreatePublisher environment s given s' None → IsFree s' s.next_port × (s.next_port < s'.next_port)
-  publisher_made given s' h =
-      by_bool IsMade (s.next_port == last_number) _ _ h (λ _ k. absurd (none-some _ k.1)) (λ _ k.
-      by_option IsMade (free_place (s.config).max_publishers s.publisher_places) _ _ k (λ _ j. absurd (none-some _ j.1)) (λ place _ j.
-      by_bool IsMade (first_segment_fits s.config given) _ _ j (λ _ i. made place i) (λ _ i. absurd (none-some _ i.1))))
+  pub publisher_made : (given : PublisherSettings) → given.backpressure_strategy ≡ DiscardData → given.backpressure_handler ≡ None → (s' : State T U)
+      → CreatePublisher environment s given s' None → IsFree s' s.next_port × (s.next_port < s'.next_port)
+  publisher_made given discards none s' h =
+      let made = created_as environment s given s' h in
+      ((made.0, made.1, made.4, made.2 ∙ discards, made.3 ∙ none),
+      by_bool IsKnown (s.next_port == last_number) _ _ h (λ _ k. absurd (none-some _ k.1)) (λ _ k.
+      by_option IsKnown (free_place (s.config).max_publishers s.publisher_places) _ _ k (λ _ j. absurd (none-some _ j.1)) (λ place _ j.
+      by_bool IsKnown (first_segment_fits s.config given) _ _ j (λ _ i. known place i) (λ _ i. absurd (none-some _ i.1)))))
     where
-      IsMade : Type 0
-      IsMade = IsFree s' s.next_port × (s.next_port < s'.next_port)
+      IsKnown : Type 0
+      IsKnown = s.next_port < s'.next_port
 
-      made : (place : ℕ) → MakePublisher environment s given place s' None → IsMade
-      made place i =
+      known : (place : ℕ) → MakePublisher environment s given place s' None → IsKnown
+      known place i =
           let new : State T U = with_new_publisher s given place in
-          let stay : PortsStay new s' = subst (PortsStay new) (sym i.3)
-          (ports_stay_trans new i.0 _ (update_publisher_stays environment new s.next_port i.0 i.1 i.2) (warning_stays i.0 (PublisherPartlyConnected s.next_port) i.1)) in
-          let v = (stay.remain).publishers s.next_port (new_publisher s given place) (put_at-same s.publishers s.next_port (Some (new_publisher s given place))) in
           let come : PortsCome new s' = subst (PortsCome new) (sym i.3)
           (ports_come_trans new i.0 _ (update_publisher_comes environment new s.next_port i.0 i.1 i.2) (warning_comes i.0 (PublisherPartlyConnected s.next_port) i.1)) in
-          ((v.0, v.1, v.2 refl), (let up = come.next_port in omega (arith, up)))
+          let up = come.next_port in omega (arith, up)
 
   -- a subscriber that was made is there, and open
   pub subscriber_made : (given : SubscriberSettings) (s' : State T U) → CreateSubscriber environment s given s' None
@@ -94,10 +98,10 @@ module _ {T U : Type 0} (environment : Environment) (defaults : Defaults T U) (S
     (is_default_value : defaults.IsDefaultValue default_value) (is_default_header : defaults.IsDefaultHeader default_header) where
   -- a command that makes a port
   port_comes : (command : Command T U) (reply : Reply T U) (handle : Handle) (entry : TableEntry) (s' : State T U)
-      → Step environment default_value default_header m s handles command (outcome reply handle s') → Shown m s' → PortsStay s s' → PortsCome s s' → s'.loans ≡ s.loans → s.next_message ≤ s'.next_message
+      → Step environment default_value default_header m s handles command (outcome reply handle s') → Shown m s' → PortsStay s s' → PortsCome s s' → Waits Anyone s s' → s'.loans ≡ s.loans → s.next_message ≤ s'.next_message
       → IsEntryOf s' handle entry → port_of handle ≡ Some s.next_port → s.next_port < s'.next_port → ((n : ℕ) → handle ≡ Loan_handle n → ⊥) → ((p q n : ℕ) → handle ≡ Sample_handle p q n → ⊥)
       → Comes environment defaults Shown m s handles events command reply (table ++ entry ∷ [])
-  port_comes command reply handle entry s' step shown stay come loans rises new is_port known no_loan no_sample = record {
+  port_comes command reply handle entry s' step shown stay come waits loans rises new is_port known no_loan no_sample = record {
     default_value = default_value;
     default_header = default_header;
     is_default_value = is_default_value;
@@ -107,23 +111,23 @@ module _ {T U : Type 0} (environment : Environment) (defaults : Defaults T U) (S
     replied = refl;
     shown = shown;
     follows = λ once. table_next s s' handles events table w handle No_event entry table rises refl
-        (all_still s s' handles events table w stay.remain come (λ n _. ap (λ (f : ℕ → Option (Loan T U)). f n) loans) (λ i p q n _. same_borrowed s s' stay p q n))
+        (all_still s s' handles events table w stay.remain come waits (λ n _. ap (λ (f : ℕ → Option (Loan T U)). f n) loans) (λ i p q n _. same_borrowed s s' stay p q n))
         new (come.next_port, λ p named. let same : s.next_port ≡ p = same_Some s.next_port p (sym is_port ∙ named) in (omega (arith, same), omega (arith, same, known)))
         (λ n e. absurd (no_loan n e)) (λ p q n e. absurd (no_sample p q n e)) once;
   }
 
   pub publisher_comes : (loans : ℕ) (strategy : BackpressureStrategy) (allocation : AllocationStrategy) (len : ℕ) (override_slots : Option ℕ) (degradation : DegradationAction)
-      (backpressure : Option BackpressureAction) (s' : State T U)
+      (backpressure : Option BackpressureAction) → strategy ≡ DiscardData → backpressure ≡ None → (s' : State T U)
       → CreatePublisher environment s (publisher_settings (s.config).variant loans strategy allocation len override_slots degradation backpressure) s' None
       → s.next_message ≤ s'.next_message → Shown m s' → (service : ℕ) → service ≡ (s'.config).service_id
       → Comes environment defaults Shown m s handles events (PublisherCommand loans strategy allocation len override_slots degradation backpressure) (PublisherMade s.next_port)
       (table ++ Publisher_entry service s.next_port ∷ [])
-  publisher_comes loans strategy allocation len override_slots degradation backpressure s' h rises shown service ours =
+  publisher_comes loans strategy allocation len override_slots degradation backpressure discards none s' h rises shown service ours =
       let given = publisher_settings (s.config).variant loans strategy allocation len override_slots degradation backpressure in
       let stay : PortsStay s s' = create_publisher_stays environment s given s' None h in
-      let made = publisher_made environment s given s' h in
+      let made = publisher_made environment s given discards (ap (λ (b : Option BackpressureAction). option_map {U = Handler BackpressureAction} (λ action. Fixed action) b) none) s' h in
       port_comes (PublisherCommand loans strategy allocation len override_slots degradation backpressure) (PublisherMade s.next_port) (Publisher_handle s.next_port)
-      (Publisher_entry service s.next_port) s' (s', None, h, refl) shown stay (create_publisher_comes environment s given s' None h) (create_publisher_loans environment s given s' None h) rises
+      (Publisher_entry service s.next_port) s' (s', None, h, refl) shown stay (create_publisher_comes environment s given s' None h) (create_publisher_waits Anyone environment s given s' None h) (create_publisher_loans environment s given s' None h) rises
       (ours, refl, made.0) refl made.1
       (λ n e. let clash : Publisher_handle s.next_port ≡ Loan_handle n = e in absurd (cc)) (λ p q n e. let clash : Publisher_handle s.next_port ≡ Sample_handle p q n = e in absurd (cc))
 
@@ -136,7 +140,7 @@ module _ {T U : Type 0} (environment : Environment) (defaults : Defaults T U) (S
       let given = publisher_settings (s.config).variant loans strategy allocation len override_slots degradation backpressure in
       quiet_comes environment defaults Shown m s handles events table w default_value default_header is_default_value is_default_header
       (PublisherCommand loans strategy allocation len override_slots degradation backpressure) (PublisherRefused e) s' (s', Some e, h, refl) shown
-      (create_publisher_stays environment s given s' (Some e) h) (create_publisher_comes environment s given s' (Some e) h) (λ n _. ap (λ (f : ℕ → Option (Loan T U)). f n) (create_publisher_loans environment s given s' (Some e) h)) rises
+      (create_publisher_stays environment s given s' (Some e) h) (create_publisher_comes environment s given s' (Some e) h) (create_publisher_waits Anyone environment s given s' (Some e) h) (λ n _. ap (λ (f : ℕ → Option (Loan T U)). f n) (create_publisher_loans environment s given s' (Some e) h)) rises
 
   -- what a command says of a subscriber
   abbrev subscriber_settings : Option ℕ → DegradationAction → SubscriberSettings
@@ -150,7 +154,7 @@ module _ {T U : Type 0} (environment : Environment) (defaults : Defaults T U) (S
       let stay : PortsStay s s' = create_subscriber_stays environment s (subscriber_settings buffer degradation) s' None h in
       let made = subscriber_made environment s (subscriber_settings buffer degradation) s' h in
       port_comes (SubscriberCommand buffer degradation) (SubscriberMade s.next_port) (Subscriber_handle s.next_port) (Subscriber_entry service s.next_port) s' (s', None, h, refl) shown stay
-      (create_subscriber_comes environment s (subscriber_settings buffer degradation) s' None h) (create_subscriber_loans environment s (subscriber_settings buffer degradation) s' None h) rises
+      (create_subscriber_comes environment s (subscriber_settings buffer degradation) s' None h) (create_subscriber_waits Anyone environment s (subscriber_settings buffer degradation) s' None h) (create_subscriber_loans environment s (subscriber_settings buffer degradation) s' None h) rises
       (ours, refl, (made.0).0, (made.0).1, (made.0).2) refl made.1
       (λ n e. let clash : Subscriber_handle s.next_port ≡ Loan_handle n = e in absurd (cc)) (λ p q n e. let clash : Subscriber_handle s.next_port ≡ Sample_handle p q n = e in absurd (cc))
 
@@ -161,7 +165,7 @@ module _ {T U : Type 0} (environment : Environment) (defaults : Defaults T U) (S
   subscriber_refused_comes buffer degradation s' e h rises shown =
       quiet_comes environment defaults Shown m s handles events table w default_value default_header is_default_value is_default_header
       (SubscriberCommand buffer degradation) (SubscriberRefused e) s' (s', Some e, h, refl) shown
-      (create_subscriber_stays environment s (subscriber_settings buffer degradation) s' (Some e) h) (create_subscriber_comes environment s (subscriber_settings buffer degradation) s' (Some e) h)
+      (create_subscriber_stays environment s (subscriber_settings buffer degradation) s' (Some e) h) (create_subscriber_comes environment s (subscriber_settings buffer degradation) s' (Some e) h) (create_subscriber_waits Anyone environment s (subscriber_settings buffer degradation) s' (Some e) h)
       (λ n _. ap (λ (f : ℕ → Option (Loan T U)). f n) (create_subscriber_loans environment s (subscriber_settings buffer degradation) s' (Some e) h)) rises
 
   -- ---- a loan
@@ -177,6 +181,7 @@ module _ {T U : Type 0} (environment : Environment) (defaults : Defaults T U) (S
       let stay : PortsStay s s' = grant_loan_stays environment header checks_length len s p s' None h in
       let next : IsNextLoan environment s p s' = loan_next environment s header checks_length len p s' h in
       let come : PortsCome s s' = grant_loan_comes environment header checks_length len s p s' None h in
+      let waits : Waits Anyone s s' = grant_loan_waits Anyone environment header checks_length len s p s' None h in
       let known : p < s.next_port = w.ports_below of p named.0 named.1 (ap port_of (named.2).1) in
       let unblocked : (x : Publisher) → s.publishers p ≡ Some x → x.blocked ≡ None =
       λ x there. ap (λ (v : Publisher). v.blocked) (same_Some x ((named.2).2).0 (sym there ∙ ((named.2).2).1)) ∙ ((named.2).2).2 in record {
@@ -189,13 +194,14 @@ module _ {T U : Type 0} (environment : Environment) (defaults : Defaults T U) (S
         replied = refl;
         shown = shown;
         follows = λ once. table_next s s' handles events table w (Loan_handle s.next_message) No_event (Unwritten_entry new_service p s.next_message) table (omega (arith, next.next)) refl
-            (all_still s s' handles events table w stay.remain come next.others (λ i p q n _. same_borrowed s s' stay p q n)) (
+            (all_still s s' handles events table w stay.remain come waits next.others (λ i p q n _. same_borrowed s s' stay p q n)) (
               ours,
               refl,
               (
                 (next.loan, next.there, next.publisher, next.unwritten),
                 (let up = come.next_port in omega (arith, known, up)),
                 λ x there. let before = come.publishers p x known there in before.2 (unblocked before.0 before.1),
+                discards-still s s' waits p known (free-discards s p (named.2).2),
               ),
             )
             (come.next_port, λ i e. absurd (none-some i e))
@@ -211,7 +217,7 @@ module _ {T U : Type 0} (environment : Environment) (defaults : Defaults T U) (S
   denied_comes command p header is_default checks_length len s' e h step shown =
       let same : s' ≡ s = loan_refused environment s header checks_length len p s' e h in
       quiet_comes environment defaults Shown m s handles events table w default_value header is_default_value is_default command (LoanRefused e) s' step shown
-      (grant_loan_stays environment header checks_length len s p s' (Some e) h) (grant_loan_comes environment header checks_length len s p s' (Some e) h)
+      (grant_loan_stays environment header checks_length len s p s' (Some e) h) (grant_loan_comes environment header checks_length len s p s' (Some e) h) (grant_loan_waits Anyone environment header checks_length len s p s' (Some e) h)
       (λ n _. ap (λ (t : State T U). t.loans n) same) (subst (λ (t : State T U). s.next_message ≤ t.next_message) (sym same) (omega arith))
 
   -- ---- a loan of a single value

@@ -20,7 +20,8 @@ use Rattle.iox2_commands.specs.declared.reply.Reply.TheVariants.{Done, Skipped, 
 use Rattle.iox2_runs.proofs.TableLooks.{Lacks, is_subscriber_entry, is_sample_entry, lacks_subscriber, lacks_sample, has_subscriber, has_sample, handle_of}
 use Rattle.iox2_laws.proofs.PortsCome.{PortsCome, ports_come_themselves, receive_comes as machine_receive_comes, released_comes}
 use Rattle.iox2_laws.proofs.PortsStay.{PortsStay, ports_stay_themselves}
-use Rattle.iox2_runs.proofs.TableSteps.{ports-keep, table_next, all_still, others_still, not_again}
+use Rattle.iox2_laws.proofs.Waits.{Waits, waits_itself, receive_waits, released_waits}
+use Rattle.iox2_runs.proofs.TableSteps.{Anyone, ports-keep, table_next, all_still, others_still, not_again}
 use Rattle.iox2_laws.proofs.SamplesStay.{IsReceived, received_one, nothing_received, released_remain, released_now, released_others}
 use Rattle.iox2_runs.proofs.TableCalls.{quiet_comes, skip_comes, at_none, at_some, set_length, no_port}
 
@@ -39,7 +40,7 @@ module _ {T U : Type 0} (environment : Environment) (defaults : Defaults T U) (S
   skips = skip_comes environment defaults Shown m s handles events table w default_value default_header is_default_value is_default_header
 
   quiet : (command : Command T U) (reply : Reply T U) (s' : State T U) → Step environment default_value default_header m s handles command (replied reply s')
-      → Shown m s' → PortsStay s s' → PortsCome s s' → ((n : ℕ) → n < s.next_message → s'.loans n ≡ s.loans n) → s.next_message ≤ s'.next_message → Arrives command reply (table ++ No_entry ∷ [])
+      → Shown m s' → PortsStay s s' → PortsCome s s' → Waits Anyone s s' → ((n : ℕ) → n < s.next_message → s'.loans n ≡ s.loans n) → s.next_message ≤ s'.next_message → Arrives command reply (table ++ No_entry ∷ [])
   quiet = quiet_comes environment defaults Shown m s handles events table w default_value default_header is_default_value is_default_header
 
   single_units : {A : Type 0} (o : Option A) → (s.config).units_per_element ≡ 1 → if_single_units s o ≡ o
@@ -67,7 +68,7 @@ module _ {T U : Type 0} (environment : Environment) (defaults : Defaults T U) (S
   receive_quiet_comes of service q at units s' result reply none e h rises shown =
       let found = has_subscriber s handles events table w of service q at in
       quiet (ReceiveCommand of) reply s' (at_some _ _ _ (q, found.0) (single_units (subscriber_at s handles of) units ∙ found.1) (s', result, h, sym e)) shown
-      (nothing_received environment s q s' result none h) (machine_receive_comes environment s q s' result h) (λ n _. ap (λ (f : ℕ → Option (Loan T U)). f n) (receive_loans environment s q s' result h)) rises
+      (nothing_received environment s q s' result none h) (machine_receive_comes environment s q s' result h) (receive_waits Anyone environment s q s' result h) (λ n _. ap (λ (f : ℕ → Option (Loan T U)). f n) (receive_loans environment s q s' result h)) rises
 
   pub receive_comes : (of service q : ℕ) → slice_get table of ≡ Some (Subscriber_entry service q) → (s.config).units_per_element ≡ 1 → (s' : State T U) (p n : ℕ)
       → Receive environment s q s' (Got_sample p n) → s.next_message ≤ s'.next_message → Shown m s' → (new_service : ℕ) → new_service ≡ (s'.config).service_id
@@ -86,7 +87,7 @@ module _ {T U : Type 0} (environment : Environment) (defaults : Defaults T U) (S
         replied = refl;
         shown = shown;
         follows = λ once. table_next s s' handles events table w (Sample_handle p q n) (Message_received p q n) (Sample_entry new_service p q n) table rises refl
-            (all_still s s' handles events table w got.remain come (λ k _. ap (λ (f : ℕ → Option (Loan T U)). f k) got.loans)
+            (all_still s s' handles events table w got.remain come (receive_waits Anyone environment s q s' (Got_sample p n) h) (λ k _. ap (λ (f : ℕ → Option (Loan T U)). f k) got.loans)
             (λ i p' q' k there. got.others p' q' k (λ e_p e_q e_n.
             let again : slice_get handles i ≡ Some (Sample_handle p q n) = there ∙ ap (λ v. Some (Sample_handle v q' k)) e_p ∙ ap (λ v. Some (Sample_handle p v k)) e_q ∙ ap (λ v. Some (Sample_handle p q v)) e_n in
             not_again s handles events table w p q n (once p q) i again))) (
@@ -118,7 +119,7 @@ module _ {T U : Type 0} (environment : Environment) (defaults : Defaults T U) (S
         replied = refl;
         shown = shown;
         follows = λ once. table_next s s' handles events table w No_handle No_event No_entry (slice_set table of No_entry) rises (set_length table of No_entry)
-            (others_still s s' handles events table w of named.0 No_entry (ports-keep named.0 s s' (released_remain s p q n) (released_comes s p q n)) named.1
+            (others_still s s' handles events table w of named.0 No_entry (ports-keep named.0 s s' (released_remain s p q n) (released_comes s p q n) (released_waits Anyone s p q n)) named.1
             (subst (IsSpent s') (sym (named.2).1) (released_now s p q n))
             (λ k low _. ap (λ (f : ℕ → Option (Loan T U)). f k) (released_loans s p q n))
             (λ i p' q' k there other. released_others s p q n p' q' k (λ e_p e_q e_n. other ((named.2).1
@@ -131,4 +132,4 @@ module _ {T U : Type 0} (environment : Environment) (defaults : Defaults T U) (S
   -- a command that reads changes nothing
   pub read_comes : (of at : ℕ) (reply : Reply T U) → Step environment default_value default_header m s handles (ReadCommand of at) (replied reply s) → Shown m s
       → Arrives (ReadCommand of at) reply (table ++ No_entry ∷ [])
-  read_comes of at reply step shown = quiet (ReadCommand of at) reply s step shown (ports_stay_themselves s) (ports_come_themselves s) (λ n low. refl) (omega arith)
+  read_comes of at reply step shown = quiet (ReadCommand of at) reply s step shown (ports_stay_themselves s) (ports_come_themselves s) (waits_itself Anyone s) (λ n low. refl) (omega arith)

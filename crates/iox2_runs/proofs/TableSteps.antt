@@ -10,14 +10,20 @@ use Rattle.iox2_store.specs.machine.State.{State}
 use Rattle.iox2_store.specs.declared.service_config.ServiceConfig.{ServiceConfig}
 use Rattle.iox2_commands.specs.Outcomes.{Handle, No_handle, Publisher_handle, Subscriber_handle, Loan_handle, Blocked_handle, Sample_handle, Event, Message_received}
 use Rattle.iox2_commands.specs.Runs.{received}
-use Rattle.iox2_runs.specs.Tables.{port_of, TableEntry, No_entry, Publisher_entry, Subscriber_entry, Unwritten_entry, Written_entry, Sample_entry, HasLoan, IsEntryOf, IsTable}
+use Rattle.iox2_runs.specs.Tables.{port_of, TableEntry, No_entry, Publisher_entry, Subscriber_entry, Unwritten_entry, Written_entry, Sample_entry, IsFree, Discards, HasLoan, IsEntryOf, IsTable}
 use Rattle.iox2_laws.proofs.NumberLemmas.{IsOnce-apart, contains_left, contains_right, contains_first}
 use Rattle.iox2_commands.proofs.GrowingLists.{old_or_last, longer}
 use Rattle.iox2_laws.proofs.PortsCome.{PortsCome}
 use Rattle.iox2_laws.proofs.PortsStay.{Remain}
+use Rattle.iox2_laws.proofs.Waits.{Waits}
 use Rattle.iox2_commands.proofs.Order.{received-append}
 
--- The ports stay there but for one that is spent, and no send is blocked where none was; and no port comes back.
+-- Of each publisher is said what no operation changes: what it does with a full receiver.
+abbrev pub Anyone : ℕ → Type 0
+Anyone p = Unit {0}
+
+-- The ports stay there but for one that is spent, and no send is blocked where none was; no port comes back, and each publisher
+-- does with a full receiver what it did.
 pub record PortsKeep {T U : Type 0} (spent : Handle) (s s' : State T U) : Type 0 where
   pub config : s'.config ≡ s.config
   pub publishers : (p : ℕ) (x : Publisher) → (Publisher_handle p ≡ spent → ⊥) → s.publishers p ≡ Some x
@@ -25,15 +31,29 @@ pub record PortsKeep {T U : Type 0} (spent : Handle) (s s' : State T U) : Type 0
   pub subscribers : (q : ℕ) (y : Subscriber) → (Subscriber_handle q ≡ spent → ⊥) → s.subscribers q ≡ Some y → y.is_open ≡ true
       → (y' : Subscriber) × (s'.subscribers q ≡ Some y') × (y'.is_open ≡ true)
   pub come : PortsCome s s'
+  pub waits : Waits Anyone s s'
 
 -- where all ports remain
-pub ports-keep : {T U : Type 0} (spent : Handle) (s s' : State T U) → Remain s s' → PortsCome s s' → PortsKeep spent s s'
-ports-keep spent s s' remain come = record {
+pub ports-keep : {T U : Type 0} (spent : Handle) (s s' : State T U) → Remain s s' → PortsCome s s' → Waits Anyone s s' → PortsKeep spent s s'
+ports-keep spent s s' remain come waits = record {
   config = remain.config;
   publishers = λ p x other there. remain.publishers p x there;
   subscribers = λ q y other there is_open. remain.subscribers q y there is_open;
   come = come;
+  waits = waits;
 }
+
+-- a publisher that is free discards
+pub free-discards : {T U : Type 0} (s : State T U) (p : ℕ) → IsFree s p → Discards s p
+free-discards s p free x there =
+    let is : free.0 ≡ x = same_Some free.0 x (sym free.1 ∙ there) in
+    (ap (λ (y : Publisher). y.backpressure_strategy) (sym is) ∙ free.3, ap (λ (y : Publisher). y.backpressure_handler) (sym is) ∙ free.4)
+
+-- and one that did so does so still
+pub discards-still : {T U : Type 0} (s s' : State T U) → Waits Anyone s s' → (p : ℕ) → p < s.next_port → Discards s p → Discards s' p
+discards-still s s' waits p low discards x there =
+    let was = waits.publishers p x low there in
+    let before = discards was.0 was.1 in ((was.2).strategy ∙ before.0, (was.2).handler ∙ before.1)
 
 module _ {T U : Type 0} (spent : Handle) (s s' : State T U) (keep : PortsKeep spent s s') where
   same : {service : ℕ} → service ≡ (s.config).service_id → service ≡ (s'.config).service_id
@@ -58,6 +78,7 @@ module _ {T U : Type 0} (spent : Handle) (s s' : State T U) (keep : PortsKeep sp
     ((h.0).0, e ∙ (h.0).1, (h.0).2, (h.0).3),
     (let low = h.1 in let rises = (keep.come).next_port in omega (arith, low, rises)),
     λ x there. let before = (keep.come).publishers p x h.1 there in before.2 (h.2 before.0 before.1),
+    discards-still s s' keep.waits p h.1 h.3,
   )
 
   -- an entry of a handle that isn't spent is one still, where what it names is kept
@@ -73,8 +94,9 @@ module _ {T U : Type 0} (spent : Handle) (s s' : State T U) (keep : PortsKeep sp
   still_entry (Blocked_handle p n) No_entry loans samples ports h = h
   still_entry (Sample_handle p q n) No_entry loans samples ports h = samples p q n refl ∙ h
   still_entry named (Publisher_entry service p) loans samples ports h =
-      let other = (ports p (ap port_of h.1)).1 in
-      let v = keep.publishers p (h.2).0 (λ e. other (h.1 ∙ e)) (h.2).1 in (same h.0, h.1, (v.0, v.1, v.2 (h.2).2))
+      let known = ports p (ap port_of h.1) in
+      let v = keep.publishers p (h.2).0 (λ e. known.1 (h.1 ∙ e)) (h.2).1 in
+      let still = discards-still s s' keep.waits p known.0 (free-discards s p h.2) v.0 v.1 in (same h.0, h.1, (v.0, v.1, v.2 (h.2).2, still.0, still.1))
   still_entry named (Subscriber_entry service q) loans samples ports h =
       let other = (ports q (ap port_of h.1)).1 in
       let v = keep.subscribers q h.2 (λ e. other (h.1 ∙ e)) h.3 h.4 in (same h.0, h.1, v.0, v.1, v.2)
@@ -176,11 +198,11 @@ module _ {T U : Type 0} (s s' : State T U) (handles : List Handle) (events : Lis
 
 module _ {T U : Type 0} (s s' : State T U) (handles : List Handle) (events : List (Event T U)) (table : List TableEntry) (w : IsTable s handles events table) where
   -- every entry is one still
-  pub all_still : Remain s s' → PortsCome s s' → ((n : ℕ) → n < s.next_message → s'.loans n ≡ s.loans n)
+  pub all_still : Remain s s' → PortsCome s s' → Waits Anyone s s' → ((n : ℕ) → n < s.next_message → s'.loans n ≡ s.loans n)
       → ((i p q n : ℕ) → slice_get handles i ≡ Some (Sample_handle p q n) → is_borrowed n (s'.mailboxes p q) ≡ is_borrowed n (s.mailboxes p q))
       → (i : ℕ) (h : Handle) (e : TableEntry) → slice_get handles i ≡ Some h → slice_get table i ≡ Some e → IsEntryOf s' h e
-  all_still remain come loans samples i h e at_h at_e =
-      still_entry No_handle s s' (ports-keep No_handle s s' remain come) h e
+  all_still remain come waits loans samples i h e at_h at_e =
+      still_entry No_handle s s' (ports-keep No_handle s s' remain come waits) h e
       (λ n is. loans n (w.loans_below i n (at_h ∙ ap Some is)))
       (λ p q n is. samples i p q n (at_h ∙ ap Some is))
       (λ p named. (w.ports_below i p h at_h named, λ none. let clash : None ≡ Some p = ap port_of (sym none) ∙ named in absurd cc))

@@ -6,6 +6,7 @@ use Rattle.iox2_store.specs.machine.Numbers.{contains}
 use Rattle.iox2_store.specs.machine.Mailbox.{is_borrowed}
 use Rattle.iox2_store.specs.machine.Records.{Loan, Publisher, Subscriber}
 use Rattle.iox2_store.specs.machine.State.{State}
+use Rattle.iox2_store.specs.declared.backpressure.BackpressureStrategy.TheVariants.{DiscardData}
 use Rattle.iox2_commands.specs.Outcomes.{Handle, No_handle, Publisher_handle, Subscriber_handle, Loan_handle, Blocked_handle, Sample_handle, Event}
 use Rattle.iox2_commands.specs.Runs.{received}
 
@@ -34,19 +35,24 @@ module _ {T U : Type 0} (s : State T U) where
   IsSpent (Blocked_handle p n) = ⊥
   IsSpent (Sample_handle p q n) = is_borrowed n (s.mailboxes p q) ≡ false
 
-  -- The publisher is there, and no send of it is blocked.
+  -- The publisher is there, no send of it is blocked, and it discards what a full receiver doesn't take, without a handler.
   abbrev pub IsFree : (p : ℕ) → Type 0
-  IsFree p = (x : Publisher) × (s.publishers p ≡ Some x) × (x.blocked ≡ None)
+  IsFree p =
+      (x : Publisher) × (s.publishers p ≡ Some x) × (x.blocked ≡ None) × (x.backpressure_strategy ≡ DiscardData) × (x.backpressure_handler ≡ None)
 
   -- No send of the publisher is blocked, where it is there.
   abbrev pub IsUnblocked : (p : ℕ) → Type 0
   IsUnblocked p = (x : Publisher) → s.publishers p ≡ Some x → x.blocked ≡ None
 
+  -- The publisher, where it is there, discards what a full receiver doesn't take, without a handler.
+  abbrev pub Discards : (p : ℕ) → Type 0
+  Discards p = (x : Publisher) → s.publishers p ≡ Some x → (x.backpressure_strategy ≡ DiscardData) × (x.backpressure_handler ≡ None)
+
   -- The loan n is out, which is written or not. The publisher that lent it may be closed; where it is there, no send of it is
-  -- blocked.
+  -- blocked, and it discards what a full receiver doesn't take, without a handler.
   abbrev pub HasLoan : (p n : ℕ) → (is_written : Bool) → Type 0
   HasLoan p n is_written =
-      ((l : Loan T U) × (s.loans n ≡ Some l) × (l.publisher ≡ p) × (l.is_written ≡ is_written)) × (p < s.next_port) × IsUnblocked p
+      ((l : Loan T U) × (s.loans n ≡ Some l) × (l.publisher ≡ p) × (l.is_written ≡ is_written)) × (p < s.next_port) × IsUnblocked p × Discards p
 
   -- The entry names what the handle names in this service, and that is live.
   abbrev pub IsEntryOf : Handle → TableEntry → Type 0
