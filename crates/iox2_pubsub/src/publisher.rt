@@ -10,7 +10,7 @@ mod update_connections;
 
 use crate::domain::Domain;
 use iox2_messages::is_waiting;
-use iox2_store::{BackpressureFn, DegradationFn, Key, UniquePublisherId};
+use iox2_store::{BackpressureFn, BackpressureStrategy, DegradationFn, Key, UniquePublisherId};
 
 /// Sends messages to every subscriber of its domain. It is a value to be spent: the domain keeps
 /// the publisher until that is closed.
@@ -21,6 +21,8 @@ pub struct Publisher {
     pub(crate) id: UniquePublisherId,
     // Where the domain looks for it first.
     pub(crate) place: usize,
+    // What it does where a receiver is full.
+    pub(crate) strategy: BackpressureStrategy,
     // How many elements a loan has at most: one in a domain of single values.
     pub(crate) initial_max_slice_len: usize,
 }
@@ -33,6 +35,16 @@ impl Publisher {
         ensures { result ≡ self.now.id }
     {
         self.id
+    }
+
+    /// What the publisher does where the buffer of a subscriber is full and the service doesn't
+    /// overflow.
+    ///
+    /// iceoryx2's `Publisher::backpressure_strategy` (`src/port/publisher.rs`).
+    pub fn backpressure_strategy(&self) -> BackpressureStrategy
+        ensures { result ≡ self.now.strategy }
+    {
+        self.strategy
     }
 
     /// Names the publisher without being its handle. This library's own.
@@ -53,6 +65,7 @@ impl Publisher {
             service_id: _,
             id: _,
             place: _,
+            strategy: _,
             initial_max_slice_len: _,
         } = self;
     }

@@ -3,7 +3,7 @@ ghost use Rattle.std.specs.Prelude.{◌≡◌, ◌≤◌, ℕ, None, Some, IfOk,
 ghost use Rattle.iox2_store.specs.machine.Environments.{fixed_handlers};
 ghost use Rattle.iox2_store.specs.machine.Ports.{CreatePublisher};
 ghost use Rattle.iox2_store.specs.machine.State.{State, Messages};
-ghost use Rattle.iox2_pubsub.specs.Live.{IsLivePublisher, IsNewIn, Stays, publisher_key, publisher_port, payloads, waiting};
+ghost use Rattle.iox2_pubsub.specs.Live.{IsNewIn, IsReadyPublisher, NeverWaits, Stays, publisher_key, publisher_port, payloads, waiting};
 ghost use Rattle.iox2_pubsub.specs.LoansLeft.{HasLoansLeft, LoansLeftStay};
 ghost use Rattle.iox2_domain.specs.NewPublisher.{plain_publisher};
 ghost use Rattle.iox2_pubsub.specs.declared.subscriber.Subscriber.{Subscriber};
@@ -12,17 +12,18 @@ ghost use Rattle.iox2_domain.specs.Shows.{Shows};
 use crate::domain::Domain;
 use crate::publisher::Publisher;
 use iox2_ports::create_publisher;
-use iox2_store::{BackpressureFn, DegradationFn, PublisherCreateError};
+use iox2_store::{BackpressureFn, BackpressureStrategy, DegradationFn, PublisherCreateError};
 use std::marker::Model;
 
-/// Makes a publisher. It begins with the loans that the domain's settings allow a publisher. So far
-/// a publisher discards what a full receiver doesn't take, and has from the start all the slots
-/// that it may ever need, whatever the settings say of strategies.
+/// Makes a publisher. It begins with the loans that the domain's settings allow a publisher, and with
+/// their strategy. So far a publisher has from the start all the slots that it may ever need, whatever
+/// the settings say of how its memory grows.
 ///
 /// iceoryx2's `PortFactoryPublisher` (`src/service/port_factory/publisher.rs`).
 #[derive(Drop)]
 pub struct PortFactoryPublisher {
     max_loaned_samples: usize,
+    backpressure_strategy: BackpressureStrategy,
 }
 
 impl Model for PortFactoryPublisher {
@@ -31,18 +32,20 @@ impl Model for PortFactoryPublisher {
 
     ghost Value = { PublisherSettings };
 
-    ghost view = { λ factory. plain_publisher factory.max_loaned_samples 1 };
+    ghost view = { λ factory. plain_publisher factory.max_loaned_samples factory.backpressure_strategy 1 };
 }
 
 impl<T: Drop, U: Default + Drop, F: BackpressureFn, G: DegradationFn> Domain<T, U, F, G> {
-    /// A factory of publishers, with as many loans as the domain's settings allow a publisher.
+    /// A factory of publishers, with as many loans as the domain's settings allow a publisher, and
+    /// with their strategy.
     ///
     /// iceoryx2's `publisher_builder` of a service's factory of ports.
     pub fn publisher_builder(&self) -> PortFactoryPublisher
-        ensures { result ≡ plain_publisher (self.now.config).publisher_max_loaned_samples 1 }
+        ensures { result ≡ plain_publisher (self.now.config).publisher_max_loaned_samples (self.now.config).backpressure_strategy 1 }
     {
         PortFactoryPublisher {
             max_loaned_samples: self.state.config().publisher_max_loaned_samples,
+            backpressure_strategy: self.state.config().backpressure_strategy,
         }
     }
 }
@@ -57,6 +60,21 @@ impl PortFactoryPublisher {
     {
         PortFactoryPublisher {
             max_loaned_samples: value,
+            backpressure_strategy: self.backpressure_strategy,
+        }
+    }
+
+    /// Sets what the publisher does where the buffer of a subscriber is full and the service doesn't
+    /// overflow: the send is blocked, or the subscriber doesn't get the message.
+    ///
+    /// iceoryx2's `PortFactoryPublisher::backpressure_strategy`
+    /// (`src/service/port_factory/publisher.rs`).
+    pub fn backpressure_strategy(self, value: BackpressureStrategy) -> Self
+        ensures { result ≡ record self { backpressure_strategy = value } }
+    {
+        PortFactoryPublisher {
+            max_loaned_samples: self.max_loaned_samples,
+            backpressure_strategy: value,
         }
     }
 
@@ -81,7 +99,9 @@ impl PortFactoryPublisher {
             × MatchResult result
             (λ publisher. (publisher.id ≡ s.next_port) × CreatePublisher fixed_handlers s self s' None)
             (λ e. CreatePublisher fixed_handlers s self s' (Some e)) }
-        ensures live { IfOk result (λ publisher. IsLivePublisher domain.new publisher) }
+        ensures ready { IfOk result (λ publisher. IsReadyPublisher domain.new publisher) }
+        ensures discards { self.backpressure_strategy ≡ BackpressureStrategy.DiscardData → IfOk result (λ publisher. NeverWaits domain.new (publisher_key publisher)) }
+        ensures strategy { IfOk result (λ publisher. publisher.strategy ≡ self.backpressure_strategy) }
         ensures new { IfOk result (λ publisher. IsNewIn domain.old (publisher_port publisher)) }
         ensures refused { OnErr result (payloads domain.new ≡ payloads domain.old) }
         ensures no_fewer { (subscriber : Subscriber) → waiting domain.old subscriber ≤ waiting domain.new subscriber }
@@ -89,21 +109,25 @@ impl PortFactoryPublisher {
         ensures left { IfOk result (λ publisher. HasLoansLeft domain.new publisher self.max_loaned_samples) }
         ensures stays { Stays domain.old domain.new }
     {
-        create_plain(domain, self.max_loaned_samples, 1)
+        create_plain(domain, self.max_loaned_samples, self.backpressure_strategy, 1)
     }
 }
 
-// Makes a publisher that may have so many loans out, each of so many elements at most.
+// Makes a publisher that may have so many loans out, each of so many elements at most, and follows the
+// strategy.
 pub(crate) fn create_plain<T: Drop, U: Default + Drop, F: BackpressureFn, G: DegradationFn>(
     domain: &mut Domain<T, U, F, G>,
     max_loaned_samples: usize,
+    strategy: BackpressureStrategy,
     initial_max_slice_len: usize,
 ) -> Result<Publisher, PublisherCreateError>
     ensures creates { (m : Messages T U) (s : State T U) → Shows domain.old m s → (s' : State T U) × Shows domain.new m s'
         × MatchResult result
-        (λ publisher. (publisher.id ≡ s.next_port) × CreatePublisher fixed_handlers s (plain_publisher max_loaned_samples initial_max_slice_len) s' None)
-        (λ e. CreatePublisher fixed_handlers s (plain_publisher max_loaned_samples initial_max_slice_len) s' (Some e)) }
-    ensures live { IfOk result (λ publisher. IsLivePublisher domain.new publisher) }
+        (λ publisher. (publisher.id ≡ s.next_port) × CreatePublisher fixed_handlers s (plain_publisher max_loaned_samples strategy initial_max_slice_len) s' None)
+        (λ e. CreatePublisher fixed_handlers s (plain_publisher max_loaned_samples strategy initial_max_slice_len) s' (Some e)) }
+    ensures ready { IfOk result (λ publisher. IsReadyPublisher domain.new publisher) }
+    ensures discards { strategy ≡ BackpressureStrategy.DiscardData → IfOk result (λ publisher. NeverWaits domain.new (publisher_key publisher)) }
+    ensures strategy { IfOk result (λ publisher. publisher.strategy ≡ strategy) }
     ensures longest { IfOk result (λ publisher. publisher.initial_max_slice_len ≡ initial_max_slice_len) }
     ensures new { IfOk result (λ publisher. IsNewIn domain.old (publisher_port publisher)) }
     ensures refused { OnErr result (payloads domain.new ≡ payloads domain.old) }
@@ -113,11 +137,12 @@ pub(crate) fn create_plain<T: Drop, U: Default + Drop, F: BackpressureFn, G: Deg
     ensures stays { Stays domain.old domain.new }
 {
     let service_id = domain.state.config().service_id;
-    let port = create_publisher(&mut domain.state, max_loaned_samples, initial_max_slice_len)?;
+    let port = create_publisher(&mut domain.state, max_loaned_samples, strategy, initial_max_slice_len)?;
     Ok(Publisher {
         service_id,
         id: port.id,
         place: port.place,
+        strategy,
         initial_max_slice_len,
     })
 }

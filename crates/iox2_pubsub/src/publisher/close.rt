@@ -39,6 +39,7 @@ impl Publisher {
             service_id: _,
             id,
             place,
+            strategy: _,
             initial_max_slice_len: _,
         } = self;
         let place = domain.state.find_live_publisher(id, place);

@@ -8,7 +8,7 @@ mod loan_slice_uninit;
 mod update_connections;
 
 use crate::domain::Domain;
-use iox2_store::{BackpressureFn, DegradationFn, Key, UniquePublisherId};
+use iox2_store::{BackpressureFn, BackpressureStrategy, DegradationFn, Key, UniquePublisherId};
 
 /// Sends slices to every subscriber of its domain. It is a value to be spent, as the publisher of
 /// single values is, and is that publisher with other calls to lend.
@@ -44,6 +44,16 @@ impl Publisher {
         ensures { result ≡ self.now.publisher.id }
     {
         self.publisher.id()
+    }
+
+    /// What the publisher does where the buffer of a subscriber is full and the service doesn't
+    /// overflow.
+    ///
+    /// iceoryx2's `Publisher::backpressure_strategy` (`src/port/publisher.rs`).
+    pub fn backpressure_strategy(&self) -> BackpressureStrategy
+        ensures { result ≡ self.now.publisher.strategy }
+    {
+        self.publisher.backpressure_strategy()
     }
 
     /// How many elements a loan may have at most: any number, 0 too.

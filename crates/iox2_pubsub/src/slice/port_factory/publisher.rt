@@ -3,7 +3,7 @@ ghost use Rattle.std.specs.Prelude.{◌≡◌, ◌≤◌, None, Some, IfOk, OnEr
 ghost use Rattle.iox2_store.specs.machine.Environments.{fixed_handlers};
 ghost use Rattle.iox2_store.specs.machine.Ports.{CreatePublisher};
 ghost use Rattle.iox2_store.specs.machine.State.{State, Messages};
-ghost use Rattle.iox2_pubsub.specs.Live.{IsLivePublisher, IsNewIn, Stays, publisher_key, publisher_port, payloads, waiting};
+ghost use Rattle.iox2_pubsub.specs.Live.{IsNewIn, IsReadyPublisher, NeverWaits, Stays, publisher_key, publisher_port, payloads, waiting};
 ghost use Rattle.iox2_pubsub.specs.LoansLeft.{HasLoansLeft, LoansLeftStay};
 ghost use Rattle.iox2_domain.specs.NewPublisher.{plain_publisher};
 ghost use Rattle.iox2_pubsub.specs.declared.subscriber.Subscriber.{Subscriber};
@@ -12,18 +12,18 @@ ghost use Rattle.iox2_domain.specs.Shows.{Shows};
 use crate::domain::Domain;
 use crate::port_factory::publisher::create_plain;
 use crate::slice::Publisher;
-use iox2_store::{BackpressureFn, DegradationFn, PublisherCreateError};
+use iox2_store::{BackpressureFn, BackpressureStrategy, DegradationFn, PublisherCreateError};
 use std::marker::Model;
 
 /// Makes a publisher of slices. It begins with the loans that the domain's settings allow a
-/// publisher, each of one element at most. So far a publisher discards what a full receiver doesn't
-/// take, and has from the start all the slots that it may ever need, whatever the settings say of
-/// strategies.
+/// publisher, each of one element at most, and with their strategy. So far a publisher has from the
+/// start all the slots that it may ever need, whatever the settings say of how its memory grows.
 ///
 /// iceoryx2's `PortFactoryPublisher` of a slice (`src/service/port_factory/publisher.rs`).
 #[derive(Drop)]
 pub struct PortFactoryPublisher {
     max_loaned_samples: usize,
+    backpressure_strategy: BackpressureStrategy,
     initial_max_slice_len: usize,
 }
 
@@ -33,19 +33,20 @@ impl Model for PortFactoryPublisher {
 
     ghost Value = { PublisherSettings };
 
-    ghost view = { λ factory. plain_publisher factory.max_loaned_samples factory.initial_max_slice_len };
+    ghost view = { λ factory. plain_publisher factory.max_loaned_samples factory.backpressure_strategy factory.initial_max_slice_len };
 }
 
 impl<T: Drop, U: Default + Drop, F: BackpressureFn, G: DegradationFn> Domain<T, U, F, G> {
     /// A factory of publishers of slices, with as many loans as the domain's settings allow a
-    /// publisher, each of one element at most.
+    /// publisher, each of one element at most, and with their strategy.
     ///
     /// iceoryx2's `publisher_builder` of a service's factory of ports.
     pub fn slice_publisher_builder(&self) -> PortFactoryPublisher
-        ensures { result ≡ plain_publisher (self.now.config).publisher_max_loaned_samples 1 }
+        ensures { result ≡ plain_publisher (self.now.config).publisher_max_loaned_samples (self.now.config).backpressure_strategy 1 }
     {
         PortFactoryPublisher {
             max_loaned_samples: self.state.config().publisher_max_loaned_samples,
+            backpressure_strategy: self.state.config().backpressure_strategy,
             initial_max_slice_len: 1,
         }
     }
@@ -61,6 +62,22 @@ impl PortFactoryPublisher {
     {
         PortFactoryPublisher {
             max_loaned_samples: value,
+            backpressure_strategy: self.backpressure_strategy,
+            initial_max_slice_len: self.initial_max_slice_len,
+        }
+    }
+
+    /// Sets what the publisher does where the buffer of a subscriber is full and the service doesn't
+    /// overflow: the send is blocked, or the subscriber doesn't get the message.
+    ///
+    /// iceoryx2's `PortFactoryPublisher::backpressure_strategy`
+    /// (`src/service/port_factory/publisher.rs`).
+    pub fn backpressure_strategy(self, value: BackpressureStrategy) -> Self
+        ensures { result ≡ record self { backpressure_strategy = value } }
+    {
+        PortFactoryPublisher {
+            max_loaned_samples: self.max_loaned_samples,
+            backpressure_strategy: value,
             initial_max_slice_len: self.initial_max_slice_len,
         }
     }
@@ -74,6 +91,7 @@ impl PortFactoryPublisher {
     {
         PortFactoryPublisher {
             max_loaned_samples: self.max_loaned_samples,
+            backpressure_strategy: self.backpressure_strategy,
             initial_max_slice_len: value,
         }
     }
@@ -98,7 +116,9 @@ impl PortFactoryPublisher {
             × MatchResult result
             (λ publisher. (publisher.publisher.id ≡ s.next_port) × CreatePublisher fixed_handlers s self s' None)
             (λ e. CreatePublisher fixed_handlers s self s' (Some e)) }
-        ensures live { IfOk result (λ publisher. IsLivePublisher domain.new publisher.publisher) }
+        ensures ready { IfOk result (λ publisher. IsReadyPublisher domain.new publisher.publisher) }
+        ensures discards { self.backpressure_strategy ≡ BackpressureStrategy.DiscardData → IfOk result (λ publisher. NeverWaits domain.new (publisher_key publisher.publisher)) }
+        ensures strategy { IfOk result (λ publisher. publisher.publisher.strategy ≡ self.backpressure_strategy) }
         ensures longest { IfOk result (λ publisher. publisher.publisher.initial_max_slice_len ≡ self.initial_max_slice_len) }
         ensures new { IfOk result (λ publisher. IsNewIn domain.old (publisher_port publisher.publisher)) }
         ensures refused { OnErr result (payloads domain.new ≡ payloads domain.old) }
@@ -107,7 +127,12 @@ impl PortFactoryPublisher {
         ensures left { IfOk result (λ publisher. HasLoansLeft domain.new publisher.publisher self.max_loaned_samples) }
         ensures stays { Stays domain.old domain.new }
     {
-        match create_plain(domain, self.max_loaned_samples, self.initial_max_slice_len) {
+        match create_plain(
+            domain,
+            self.max_loaned_samples,
+            self.backpressure_strategy,
+            self.initial_max_slice_len,
+        ) {
             Ok(publisher) => Ok(Publisher { publisher }),
             Err(error) => Err(error),
         }

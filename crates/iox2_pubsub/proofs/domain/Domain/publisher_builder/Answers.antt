@@ -6,5 +6,5 @@ use Rattle.iox2_pubsub.proofs.domain.Domain.publisher_builder.Goals as goal
 
 pub returns : goal.returns
 returns g c =
-    ap (λ (config : ServiceConfig). plain_publisher config.publisher_max_loaned_samples 1)
+    ap (λ (config : ServiceConfig). plain_publisher config.publisher_max_loaned_samples config.backpressure_strategy 1)
     (c.config.ensures ∙ ap (λ (k : Kept g.row.T.Denot g.row.U.Denot). k.config) c.self.view_is)
