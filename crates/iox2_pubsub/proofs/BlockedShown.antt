@@ -33,7 +33,7 @@ module _ {T U : Type 0} (f : Fields T U) (sound : IsDomain f) (i p n : ℕ) (fou
     (held : HoldsBlocked (state_of (kept_of f)) p n) where
   -- the machine's publisher stands at the place
   same-port : held.0 ≡ (publisher_of f.books f.connections found.0).port
-  same-port = same_Some _ _ (sym held.2 ∙ ap (state_of (kept_of f)).publishers (sym found.2) ∙ publisher-stands f sound i found.0 found.1)
+  same-port = same_Some _ _ (sym held.2 ∙ ap (state_of (kept_of f)).publishers (sym found.2) ∙ publisher-stands f sound.parts i found.0 found.1)
 
   pub some-waits : (d : BlockedDelivery) × ((found.0).blocked ≡ Some d) × (waiting_send f found.0 d ≡ held.1)
   some-waits = by (found.0).blocked refl where

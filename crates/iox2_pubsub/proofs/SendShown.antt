@@ -175,11 +175,6 @@ is-blocked kept key blocked is_key (Ok (Delivered count)) is waits = tt
 is-blocked kept key blocked is_key (Ok (Blocked it)) is waits = (subst (λ (b : BlockedSend). IsBlockedSend kept b) (sym is) (waits refl), ap blocked_key is ∙ is_key)
 is-blocked kept key blocked is_key (Err error) is waits = tt
 
--- no send waits so far
-pub is-delivered : (outcome : Result SendOutcome SendError) → IfOk outcome IsDelivered
-is-delivered (Ok (Delivered count)) = tt
-is-delivered (Err error) = tt
-
 -- what is sent under the loan's number is its entry
 pub sent-entry : {T U : Type 0} (m : Messages T U) (n : ℕ) (l : Loan T U) (outcome : Result SendOutcome SendError) → m n ≡ None
     → (entry : Entry T U) → messages_after m n l outcome n ≡ Some entry → entry ≡ entry_of l

@@ -1,11 +1,14 @@
 use iox2_ends::receiver::{receive, release};
-use iox2_ends::sender::{Delivery, DeliveryOutcome, ReceiverDetails, deliver, reclaim_all};
+use iox2_ends::sender::{
+    Delivery, DeliveryOutcome, Progress, ReceiverDetails, deliver, reclaim_all,
+};
 use iox2_store::{
-    BackpressureStrategy, Connection, Header, Home, ServiceConfig, SlotBook, UniqueNodeId,
-    UniquePublisherId,
+    BackpressureHandler, BackpressureStrategy, Connection, Header, Home, ServiceConfig, SlotBook,
+    UniqueNodeId, UniquePublisherId,
 };
 use slab::Slab;
 use std::test::Fail;
+use std::time::Duration;
 
 const HOME: Home = Home {
     publisher: 1,
@@ -44,11 +47,15 @@ fn a_message_goes_there_and_back(rt: HostRuntime) -> Result<(), Fail> {
         publisher: 1,
         slot,
         strategy: config.backpressure_strategy,
+        start: Progress::begun(),
+        elapsed: Duration::ZERO,
     };
+    let handler: Option<BackpressureHandler> = None;
 
     let outcome = deliver(
         &config,
         &delivery,
+        &handler,
         &mut connections,
         &mut book,
         &keys,
@@ -70,7 +77,13 @@ fn a_message_goes_there_and_back(rt: HostRuntime) -> Result<(), Fail> {
     let reclaimed = book.holders(slot);
     drop(connections);
     drop(book);
-    assert!(rt; outcome == DeliveryOutcome::Complete { count: 1 });
+    assert!(rt;
+        outcome
+            == DeliveryOutcome::Complete {
+                count: 1,
+                has_failed: false
+            }
+    );
     assert!(rt; received == slot);
     assert!(rt; [delivered, reclaimed] == [2, 1]);
     Ok(())

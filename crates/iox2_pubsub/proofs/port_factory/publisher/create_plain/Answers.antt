@@ -41,13 +41,15 @@ pub returns-clause-ready : goal.returns-clause-ready
 returns-clause-ready g c =
     let made = c.in_ok-port.ensures.step in
     created-ready {T = g.row.T.Denot} {U = g.row.U.Denot} c.domain.inside.state c.create_publisher.new.state c.args.max_loaned_samples c.args.strategy c.args.initial_max_slice_len fixed_handlers made.0 made.1 made.2
-    _ (ap (λ (config : ServiceConfig). config.service_id) c.config.ensures) c.in_ok-port.ensures.id
+    (record { service_id = c.config.result.now.service_id; id = c.in_ok-port.port.id; place = c.in_ok-port.port.place; strategy = c.args.strategy; initial_max_slice_len = c.args.initial_max_slice_len })
+    (ap (λ (config : ServiceConfig). config.service_id) c.config.ensures) c.in_ok-port.ensures.id
 
 pub returns-clause-discards : goal.returns-clause-discards
 returns-clause-discards g c = λ discards.
     let made = c.in_ok-port.ensures.step in
     created-never-waits {T = g.row.T.Denot} {U = g.row.U.Denot} c.domain.inside.state c.create_publisher.new.state c.args.max_loaned_samples c.args.strategy c.args.initial_max_slice_len fixed_handlers made.0 made.1 made.2
-    _ c.in_ok-port.ensures.id discards
+    (record { service_id = c.config.result.now.service_id; id = c.in_ok-port.port.id; place = c.in_ok-port.port.place; strategy = c.args.strategy; initial_max_slice_len = c.args.initial_max_slice_len })
+    c.in_ok-port.ensures.id discards
 
 pub returns-in_err-port-clause-stays : goal.returns-in_err-port-clause-stays
 returns-in_err-port-clause-stays g c =

@@ -74,5 +74,5 @@ close_publisher-requires-clause-unblocked g c = λ z at_z.
     let both : Some z ≡ Some found.0 = sym at_z ∙ found.1 in
     let is : z ≡ found.0 = cc in
     ap (λ (w : PublisherFields). w.blocked) is
-    ∙ free-of c.domain.inside.state c.domain.invariant c.args.self.id c.find_live_publisher-place.result found.0 found.1 found.2
+    ∙ free-of c.domain.inside.state c.domain.invariant.parts c.args.self.id c.find_live_publisher-place.result found.0 found.1 found.2
     (subst (λ (k : Kept g.row.T.Denot g.row.U.Denot). is_blocked (state_of k) c.args.self.id ≡ false) (sym c.domain.view_is) (unblocked-test c.args.domain.now (publisher_key c.args.self) c.requires.unblocked))

@@ -76,5 +76,5 @@ update_publisher-requires-clause-unblocked g c = λ z at_z.
     let both : Some z ≡ Some found.0 = sym at_z ∙ found.1 in
     let is : z ≡ found.0 = cc in
     ap (λ (w : PublisherFields). w.blocked) is
-    ∙ free-of c.domain.inside.state c.domain.invariant c.args.self.now.id c.in-Some.place found.0 found.1 found.2
+    ∙ free-of c.domain.inside.state c.domain.invariant.parts c.args.self.now.id c.in-Some.place found.0 found.1 found.2
     (subst (λ (k : Kept g.row.T.Denot g.row.U.Denot). is_blocked (state_of k) c.args.self.now.id ≡ false) (sym c.domain.view_is) (unblocked-test c.args.domain.now (publisher_key c.args.self.now) c.requires.unblocked))
