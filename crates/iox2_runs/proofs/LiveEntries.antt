@@ -7,8 +7,8 @@ use Rattle.iox2_store.specs.machine.State.{State}
 use Rattle.iox2_store.specs.machine.WellFormed.{IsWellFormed}
 use Rattle.iox2_domain.specs.Kept.{Kept as Domain, state_of}
 use Rattle.iox2_store.specs.machine.Mailbox.{is_borrowed}
-use Rattle.iox2_pubsub.specs.Live.{IsReadyPublisher, IsLiveSubscriber, IsUnblocked, IsUnwritten, IsWritten, IsLiveSample, publisher_key, written_key}
-use Rattle.iox2_pubsub.proofs.LiveParts.{publisher-live, unblocked-free, subscriber-live, unwritten-live, written-live, sample-live}
+use Rattle.iox2_pubsub.specs.Live.{IsReadyPublisher, IsLiveSubscriber, IsUnblocked, NeverWaits, IsUnwritten, IsWritten, IsLiveSample, publisher_key, written_key}
+use Rattle.iox2_pubsub.proofs.LiveParts.{publisher-live, unblocked-free, discards-from, subscriber-live, unwritten-live, written-live, sample-live}
 use Rattle.iox2_pubsub.specs.declared.publisher.Publisher.{Publisher as PublisherHandle}
 use Rattle.iox2_pubsub.specs.declared.subscriber.Subscriber.{Subscriber as SubscriberHandle}
 use Rattle.iox2_pubsub.specs.declared.sample_mut_uninit.SampleMutUninit.{SampleMutUninit}
@@ -41,6 +41,22 @@ module _ {T U : Type 0} (domain : Domain T U) (table : List Made) (keeps : IsLiv
         );
       }
 
+  -- and no send of it is ever blocked
+  pub publisher_never_waits : (h : PublisherHandle) → slice_index_or table of Nothing ≡ MadePublisher h → NeverWaits domain (publisher_key h)
+  publisher_never_waits h at =
+      let v = (has_entry (MadePublisher h) at (λ e. let clash : MadePublisher h ≡ Nothing = e in cc)).1 in
+      let there : (state_of domain).publishers h.id ≡ Some (v.2).0 = (v.2).1 in
+      record {
+        discards = discards-from domain (publisher_key h) (
+          ((subst IsWellFormed (keeps.4).state (keeps.4).well_formed).publishers h.id (v.2).0 there).is_known,
+          λ x at_x. let is : x ≡ (v.2).0 = same_Some x (v.2).0 (sym at_x ∙ there) in (
+            ap (λ (y : Publisher). y.backpressure_strategy) is ∙ (v.2).3,
+            ap (λ (y : Publisher). y.backpressure_handler) is ∙ (v.2).4,
+          ),
+        );
+        unblocked = (live_publisher h at).unblocked;
+      }
+
   pub live_subscriber : (h : SubscriberHandle) → slice_index_or table of Nothing ≡ MadeSubscriber h → IsLiveSubscriber domain h
   live_subscriber h at =
       let v = (has_entry (MadeSubscriber h) at (λ e. let clash : MadeSubscriber h ≡ Nothing = e in cc)).1 in
@@ -61,6 +77,15 @@ module _ {T U : Type 0} (domain : Domain T U) (table : List Made) (keeps : IsLiv
   unblocked_written h at =
       let v = (has_entry (Written h) at (λ e. let clash : Written h ≡ Nothing = e in cc)).1 in
       unblocked-free domain (written_key h) ((v.2).1, (v.2).2)
+
+  -- and no send of it is ever blocked
+  pub written_never_waits : (h : SampleMut) → slice_index_or table of Nothing ≡ Written h → NeverWaits domain (written_key h)
+  written_never_waits h at =
+      let v = (has_entry (Written h) at (λ e. let clash : Written h ≡ Nothing = e in cc)).1 in
+      record {
+        discards = discards-from domain (written_key h) ((v.2).1, (v.2).3);
+        unblocked = unblocked_written h at;
+      }
 
   pub live_sample : (h : SampleHandle) → slice_index_or table of Nothing ≡ MadeSample h → IsLiveSample domain h
   live_sample h at =

@@ -1,11 +1,11 @@
-use crate::fixtures::{Reading, domain, publish, receiver_count};
+use crate::fixtures::{Reading, domain, factory_for, publish, receiver_count};
 use iox2_pubsub::{SendError, SubscriberCreateError};
 
 // The loans of a publisher that was closed can be read and given back, and are lost at a send.
 #[test]
 fn a_loan_outlives_its_publisher(rt: HostRuntime) {
     let mut domain = domain(&rt, rt.alloc());
-    let factory = domain.publisher_builder();
+    let factory = factory_for(&domain);
     let publisher = factory.create(&mut domain).expect(&rt, "a publisher");
     let loan = publisher.loan_uninit(&mut domain).expect(&rt, "a loan");
     let key = publisher.key();
@@ -27,7 +27,7 @@ fn a_sample_outlives_both_ports(rt: HostRuntime) {
     let mut domain = domain(&rt, rt.alloc());
     let factory = domain.subscriber_builder();
     let subscriber = factory.create(&mut domain).expect(&rt, "a subscriber");
-    let factory = domain.publisher_builder();
+    let factory = factory_for(&domain);
     let publisher = factory.create(&mut domain).expect(&rt, "a publisher");
     let takers = publish(&mut domain, &publisher, 21);
     let waits = subscriber.has_samples(&mut domain);
@@ -52,7 +52,7 @@ fn a_place_is_free_with_the_last_sample(rt: HostRuntime) {
     let mut domain = domain(&rt, rt.alloc());
     let factory = domain.subscriber_builder();
     let subscriber = factory.create(&mut domain).expect(&rt, "a subscriber");
-    let factory = domain.publisher_builder();
+    let factory = factory_for(&domain);
     let publisher = factory.create(&mut domain).expect(&rt, "a publisher");
     publish(&mut domain, &publisher, 21);
     let received = subscriber.receive(&mut domain).expect(&rt, "an answer");

@@ -2,7 +2,7 @@
 ghost use Rattle.std.specs.Prelude.{◌≡◌};
 ghost use Rattle.iox2_store.specs.declared.service_config.TypeVariant.TheVariants.{Dynamic};
 
-use crate::fixtures::{receiver_count, settings};
+use crate::fixtures::{receiver_count, settings, slice_factory};
 use iox2_pubsub::{CustomHeaderMarker, CustomPayloadMarker, Domain};
 use iox2_store::{LoanError, ServiceConfig, TypeVariant};
 
@@ -25,7 +25,7 @@ fn an_element_has_many_bytes(rt: HostRuntime) {
     ).expect(&rt, "a domain");
     let factory = domain.slice_subscriber_builder();
     let subscriber = factory.create(&mut domain).expect(&rt, "a subscriber");
-    let factory = domain.slice_publisher_builder().initial_max_slice_len(3);
+    let factory = slice_factory(&domain).initial_max_slice_len(3);
     let publisher = factory.create(&mut domain).expect(&rt, "a publisher");
     let longer = publisher.loan_custom_payload(&mut domain, 4);
     let longer = longer.map(|loan| loan.disown());
@@ -35,7 +35,7 @@ fn an_element_has_many_bytes(rt: HostRuntime) {
     let cells = loan.payload(&domain).len();
     let elements = loan.header(&domain).number_of_elements();
     let message = loan.write_from_fn(&mut domain, |index| CustomPayloadMarker(low_byte(index)));
-    let takers = message.send(&mut domain).ok().map(receiver_count);
+    let takers = message.send(&mut domain).ok().and_then(receiver_count);
     let received = subscriber.receive_custom_payload(&mut domain);
     let sample = received.expect(&rt, "an answer").expect(&rt, "a sample");
     subscriber.disown();

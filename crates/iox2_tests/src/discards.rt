@@ -1,6 +1,6 @@
 ghost use Rattle.iox2_pubsub.specs.Live.{IsLivePublisher, IsSingleValued, Stays};
 
-use crate::fixtures::{Reading, Station, domain, lend, publish};
+use crate::fixtures::{Reading, Station, domain, factory_for, lend, publish};
 use iox2_pubsub::{Domain, Publisher};
 
 #[test]
@@ -54,7 +54,7 @@ fn a_publisher_lends_again_what_was_given_back(rt: HostRuntime) {
     let factory = domain.subscriber_builder();
     let subscriber = factory.create(&mut domain).expect(&rt, "a subscriber");
     subscriber.disown();
-    let factory = domain.publisher_builder().max_loaned_samples(1);
+    let factory = factory_for(&domain).max_loaned_samples(1);
     let publisher = factory.create(&mut domain).expect(&rt, "a publisher");
     let granted = lend_and_discard(&mut domain, &publisher, 100);
     let takers = publish(&mut domain, &publisher, 21);

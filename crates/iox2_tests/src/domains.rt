@@ -1,6 +1,6 @@
 ghost use Rattle.iox2_pubsub.specs.Slices.{IsSliced};
 
-use crate::fixtures::{Reading, Station, domain, settings};
+use crate::fixtures::{Reading, Station, domain, factory_for, settings};
 use iox2_pubsub::{Domain, UpdateConnections};
 use iox2_store::{ServiceConfig, TypeVariant};
 use std::alloc::Global;
@@ -32,7 +32,7 @@ fn a_new_domain_has_its_settings(rt: HostRuntime) {
 fn a_domain_may_be_for_slices(rt: HostRuntime) {
     let mut domain = sliced_domain(&rt, rt.alloc());
     let variant = domain.variant();
-    let factory = domain.publisher_builder();
+    let factory = factory_for(&domain);
     let publisher = factory.create(&mut domain).expect(&rt, "a publisher");
     let factory = domain.subscriber_builder();
     let subscriber = factory.create(&mut domain).expect(&rt, "a subscriber");

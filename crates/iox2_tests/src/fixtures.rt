@@ -4,8 +4,8 @@ ghost use Rattle.std.specs.Prelude.{◌≡◌, false};
 ghost use Rattle.iox2_store.specs.Defaults.{default_config};
 ghost use Rattle.iox2_pubsub.specs.Live.{IsLivePublisher, IsSingleValued, IsUnwrittenLoan, Stays};
 
-use iox2_pubsub::{Domain, Publisher, SampleMutUninit, SendOutcome};
-use iox2_store::ServiceConfig;
+use iox2_pubsub::{Domain, PortFactoryPublisher, Publisher, SampleMutUninit, SendOutcome, slice};
+use iox2_store::{BackpressureStrategy, ServiceConfig};
 use std::alloc::Global;
 use std::process::Abort;
 
@@ -41,13 +41,33 @@ pub(crate) fn domain(rt: &impl Abort, alloc: Global) -> Domain<Reading, Station>
     Domain::new(alloc, settings()).expect(rt, "a domain")
 }
 
+/// A factory of publishers that discard what a full subscriber doesn't take.
+pub(crate) fn factory_for<T: Drop, U: Default + Drop>(domain: &Domain<T, U>) -> PortFactoryPublisher
+    ensures { result.backpressure_strategy ≡ BackpressureStrategy.DiscardData }
+{
+    domain
+        .publisher_builder()
+        .backpressure_strategy(BackpressureStrategy::DiscardData)
+}
+
+/// A factory of publishers of slices that discard what a full subscriber doesn't take.
+pub(crate) fn slice_factory<T: Drop, U: Default + Drop>(
+    domain: &Domain<T, U>,
+) -> slice::PortFactoryPublisher
+    ensures { result.backpressure_strategy ≡ BackpressureStrategy.DiscardData }
+{
+    domain
+        .slice_publisher_builder()
+        .backpressure_strategy(BackpressureStrategy::DiscardData)
+}
+
 /// A loan of the domain's first publisher, which is made for it.
 pub(crate) fn lend(rt: &impl Abort, domain: &mut Domain<Reading, Station>) -> SampleMutUninit
     requires { IsSingleValued domain.old }
     ensures loan { IsUnwrittenLoan domain.new result }
     ensures stays { Stays domain.old domain.new }
 {
-    let factory = domain.publisher_builder();
+    let factory = factory_for(domain);
     let publisher = factory.create(domain).expect(rt, "a publisher");
     let loan = publisher.loan_uninit(domain).expect(rt, "a loan");
     publisher.disown();
@@ -67,12 +87,16 @@ pub(crate) fn publish(
 {
     let loan = publisher.loan_uninit(domain).ok()?;
     let message = loan.write_payload(domain, Reading { celsius });
-    message.send(domain).ok().map(receiver_count)
+    Some(message.send(domain).ok()?.delivered())
 }
 
-/// How many subscribers took a message.
-pub(crate) fn receiver_count(outcome: SendOutcome) -> usize {
+/// How many subscribers took a message. `None` where its send is blocked.
+pub(crate) fn receiver_count(outcome: SendOutcome) -> Option<usize> {
     match outcome {
-        SendOutcome::Delivered(count) => count,
+        SendOutcome::Delivered(count) => Some(count),
+        SendOutcome::Blocked(blocked) => {
+            blocked.disown();
+            None
+        }
     }
 }

@@ -1,6 +1,6 @@
 ghost use Rattle.iox2_pubsub.specs.Live.{IsLiveSubscriber, IsSingleValued, Stays};
 
-use crate::fixtures::{Reading, Station, publish, settings};
+use crate::fixtures::{Reading, Station, factory_for, publish, settings};
 use iox2_pubsub::{Domain, Subscriber};
 use iox2_store::ServiceConfig;
 use std::alloc::Global;
@@ -41,7 +41,7 @@ fn late_readings(
     buffer: usize,
 ) -> [Option<u64>; 3] {
     let mut domain = remembering(rt, alloc, history_size);
-    let factory = domain.publisher_builder();
+    let factory = factory_for(&domain);
     let publisher = factory.create(&mut domain).expect(rt, "a publisher");
     publish(&mut domain, &publisher, 21);
     publish(&mut domain, &publisher, 22);

@@ -2,7 +2,7 @@
 ghost use Rattle.std.specs.Prelude.{◌≡◌};
 ghost use Rattle.iox2_pubsub.specs.Live.{IsUnwrittenLoan, IsWrittenLoan, StaysBut, unwritten_loan};
 
-use crate::fixtures::{Reading, Station, receiver_count, settings};
+use crate::fixtures::{Reading, Station, factory_for, receiver_count, settings};
 use iox2_pubsub::{Domain, SampleMut, SampleMutUninit};
 use iox2_store::ServiceConfig;
 use std::process::Abort;
@@ -50,7 +50,7 @@ fn what_is_left_in_a_loan_is_sent(rt: HostRuntime) {
     let mut domain: Domain<Tag, u64> = Domain::new(rt.alloc(), settings()).expect(&rt, "a domain");
     let factory = domain.subscriber_builder();
     let subscriber = factory.create(&mut domain).expect(&rt, "a subscriber");
-    let factory = domain.publisher_builder();
+    let factory = factory_for(&domain);
     let publisher = factory.create(&mut domain).expect(&rt, "a publisher");
     let loan = publisher.loan_uninit(&mut domain).expect(&rt, "a loan");
     publisher.disown();
@@ -63,7 +63,7 @@ fn what_is_left_in_a_loan_is_sent(rt: HostRuntime) {
     let first = message.payload(&domain).0;
     *SampleMut::payload_mut(&mut domain, &mut message) = Tag(7);
     *SampleMut::user_header_mut(&mut domain, &mut message) = 3;
-    let takers = message.send(&mut domain).ok().map(receiver_count);
+    let takers = message.send(&mut domain).ok().and_then(receiver_count);
     let received = subscriber.receive(&mut domain).expect(&rt, "an answer");
     let sample = received.expect(&rt, "a sample");
     subscriber.disown();
@@ -87,7 +87,7 @@ fn a_loan_begins_without_payload_and_with_a_default_header(rt: HostRuntime) {
     let mut domain: Domain<Reading, Station> = Domain::new(rt.alloc(), config).expect(
         &rt, "a domain",
     );
-    let factory = domain.publisher_builder().max_loaned_samples(1);
+    let factory = factory_for(&domain).max_loaned_samples(1);
     let publisher = factory.create(&mut domain).expect(&rt, "a publisher");
     let mut first = publisher.loan_uninit(&mut domain).expect(&rt, "a loan");
     *SampleMutUninit::user_header_mut(&mut domain, &mut first) = Station { number: 5 };

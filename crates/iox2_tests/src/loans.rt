@@ -1,6 +1,6 @@
 ghost use Rattle.iox2_pubsub.specs.Live.{IsLivePublisher, IsSingleValued, Stays};
 
-use crate::fixtures::{Reading, Station, domain, lend};
+use crate::fixtures::{Reading, Station, domain, factory_for, lend};
 use iox2_pubsub::{Domain, Publisher};
 use iox2_store::{Key, LoanError};
 
@@ -49,7 +49,7 @@ fn a_domain_holds_its_loan_alone(rt: HostRuntime) {
 #[test]
 fn a_publisher_lends_as_much_as_it_may(rt: HostRuntime) {
     let mut domain = domain(&rt, rt.alloc());
-    let factory = domain.publisher_builder().max_loaned_samples(1);
+    let factory = factory_for(&domain).max_loaned_samples(1);
     let publisher = factory.create(&mut domain).expect(&rt, "a publisher");
     let first = lent(&mut domain, &publisher);
     let second = lent(&mut domain, &publisher);

@@ -1,7 +1,7 @@
 ghost use Rattle.std.specs.Prelude.{◌≡◌, ℕ, [], ◌∷◌};
 ghost use Rattle.iox2_pubsub.specs.Live.{IsLiveSample, IsLiveSubscriber, IsSingleValued, IsUnwrittenLoan, StaysBut, Stays, unwritten_loan};
 
-use crate::fixtures::{Reading, Station, domain, lend, publish};
+use crate::fixtures::{Reading, Station, domain, factory_for, lend, publish};
 use iox2_pubsub::{Domain, Sample, SampleMutUninit, Subscriber};
 
 // Writes into the loan, and returns what is read of it then: what was written.
@@ -82,7 +82,7 @@ fn a_sample_reads_the_same_after_another_receive(rt: HostRuntime) {
     let mut domain = domain(&rt, rt.alloc());
     let factory = domain.subscriber_builder();
     let subscriber = factory.create(&mut domain).expect(&rt, "a subscriber");
-    let factory = domain.publisher_builder();
+    let factory = factory_for(&domain);
     let publisher = factory.create(&mut domain).expect(&rt, "a publisher");
     publish(&mut domain, &publisher, 21);
     publish(&mut domain, &publisher, 22);

@@ -1,10 +1,10 @@
-use crate::fixtures::{Reading, Station, domain};
+use crate::fixtures::{Reading, Station, domain, factory_for};
 use iox2_pubsub::Domain;
 use iox2_store::{Key, PublisherCreateError};
 
 // Why a publisher with so many loans isn't made.
 fn refusal(domain: &mut Domain<Reading, Station>, loans: usize) -> Option<PublisherCreateError> {
-    let factory = domain.publisher_builder().max_loaned_samples(loans);
+    let factory = factory_for(domain).max_loaned_samples(loans);
     match factory.create(domain) {
         Ok(publisher) => {
             publisher.disown();
@@ -17,7 +17,7 @@ fn refusal(domain: &mut Domain<Reading, Station>, loans: usize) -> Option<Publis
 #[test]
 fn a_publisher_is_made_and_a_second_is_refused(rt: HostRuntime) {
     let mut domain = domain(&rt, rt.alloc());
-    let factory = domain.publisher_builder().max_loaned_samples(3);
+    let factory = factory_for(&domain).max_loaned_samples(3);
     let publisher = factory.create(&mut domain).expect(&rt, "a publisher");
     let id = publisher.id().value();
     let key = publisher.key();
@@ -44,7 +44,7 @@ fn slots_that_cannot_be_had_are_refused_and_use_up_no_id(rt: HostRuntime) {
         refusal(&mut domain, usize::MAX),
         refusal(&mut domain, usize::MAX / 2),
     ];
-    let factory = domain.publisher_builder();
+    let factory = factory_for(&domain);
     let publisher = factory.create(&mut domain).expect(&rt, "a publisher");
     let id = publisher.id().value();
     publisher.disown();

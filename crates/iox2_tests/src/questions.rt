@@ -1,11 +1,11 @@
-use crate::fixtures::{domain, publish};
+use crate::fixtures::{domain, factory_for, publish};
 
 #[test]
 fn a_subscriber_is_told_whether_messages_wait(rt: HostRuntime) {
     let mut domain = domain(&rt, rt.alloc());
     let factory = domain.subscriber_builder();
     let subscriber = factory.create(&mut domain).expect(&rt, "a subscriber");
-    let factory = domain.publisher_builder();
+    let factory = factory_for(&domain);
     let publisher = factory.create(&mut domain).expect(&rt, "a publisher");
     let before = subscriber.has_samples(&mut domain);
     let takers = publish(&mut domain, &publisher, 21);

@@ -1,7 +1,7 @@
 ghost use Rattle.std.specs.Prelude.{IfSome};
 ghost use Rattle.iox2_pubsub.specs.Live.{IsLiveSample, IsLiveSubscriber, IsSingleValued, Stays};
 
-use crate::fixtures::{Reading, Station, domain, publish, settings};
+use crate::fixtures::{Reading, Station, domain, factory_for, publish, settings};
 use iox2_pubsub::{Domain, Sample, Subscriber};
 use iox2_store::ServiceConfig;
 use std::process::Abort;
@@ -14,7 +14,7 @@ fn subscribed(rt: &impl Abort, domain: &mut Domain<Reading, Station>) -> Subscri
 {
     let factory = domain.subscriber_builder();
     let subscriber = factory.create(domain).expect(rt, "a subscriber");
-    let factory = domain.publisher_builder();
+    let factory = factory_for(&domain);
     let publisher = factory.create(domain).expect(rt, "a publisher");
     publish(domain, &publisher, 21);
     publisher.disown();

@@ -1,4 +1,4 @@
-use crate::fixtures::{Reading, domain, lend, publish, receiver_count};
+use crate::fixtures::{Reading, domain, factory_for, lend, publish, receiver_count};
 
 #[test]
 fn a_message_without_subscribers_goes_to_nobody(rt: HostRuntime) {
@@ -6,7 +6,7 @@ fn a_message_without_subscribers_goes_to_nobody(rt: HostRuntime) {
     let loan = lend(&rt, &mut domain);
     let key = loan.key();
     let message = loan.write_payload(&mut domain, Reading { celsius: 20 });
-    let count = message.send(&mut domain).ok().map(receiver_count);
+    let count = message.send(&mut domain).ok().and_then(receiver_count);
     let is_live = domain.holds_loan(key);
     drop(domain);
     assert!(rt; count == Some(0));
@@ -19,7 +19,7 @@ fn a_full_subscriber_does_not_get_the_next_message(rt: HostRuntime) {
     let factory = domain.subscriber_builder().buffer_size(1);
     let subscriber = factory.create(&mut domain).expect(&rt, "a subscriber");
     subscriber.disown();
-    let factory = domain.publisher_builder();
+    let factory = factory_for(&domain);
     let publisher = factory.create(&mut domain).expect(&rt, "a publisher");
     let first = publish(&mut domain, &publisher, 20);
     let second = publish(&mut domain, &publisher, 21);

@@ -4,7 +4,7 @@ ghost use Rattle.iox2_store.specs.Defaults.{default_config};
 ghost use Rattle.iox2_store.specs.declared.service_config.TypeVariant.TheVariants.{Dynamic};
 ghost use Rattle.iox2_pubsub.specs.Live.{IsLivePublisher, IsUnwrittenLoan, IsWrittenLoan, Stays, StaysBut, unwritten_loan};
 
-use crate::fixtures::{receiver_count, settings};
+use crate::fixtures::{receiver_count, settings, slice_factory};
 use iox2_pubsub::slice::{Publisher, SampleMut, SampleMutUninit, Subscriber};
 use iox2_pubsub::{Domain, UpdateConnections};
 use iox2_store::{LoanError, ServiceConfig, TypeVariant};
@@ -36,13 +36,13 @@ fn a_slice_is_sent_as_it_was_written(rt: HostRuntime) {
     let mut domain: Domain<u64, u64> = Domain::new(rt.alloc(), slices()).expect(&rt, "a domain");
     let factory = domain.slice_subscriber_builder().buffer_size(2);
     let subscriber = factory.create(&mut domain).expect(&rt, "a subscriber");
-    let factory = domain.slice_publisher_builder().initial_max_slice_len(16);
+    let factory = slice_factory(&domain).initial_max_slice_len(16);
     let publisher = factory.create(&mut domain).expect(&rt, "a publisher");
     let loan = publisher.loan_slice_uninit(&mut domain, 12);
     let loan = loan.expect(&rt, "a loan");
     let mut message = loan.write_from_fn(&mut domain, |index| (index as u64).wrapping_mul(1234));
     set(SampleMut::payload_mut(&mut domain, &mut message), 0, 42);
-    let takers = message.send(&mut domain).ok().map(receiver_count);
+    let takers = message.send(&mut domain).ok().and_then(receiver_count);
     let received = subscriber.receive(&mut domain).expect(&rt, "an answer");
     let sample = received.expect(&rt, "a sample");
     let written = [
@@ -64,13 +64,13 @@ fn a_slice_is_copied_into_its_loan(rt: HostRuntime) {
     let mut domain: Domain<u64, u64> = Domain::new(rt.alloc(), slices()).expect(&rt, "a domain");
     let factory = domain.slice_subscriber_builder();
     let subscriber = factory.create(&mut domain).expect(&rt, "a subscriber");
-    let factory = domain.slice_publisher_builder().initial_max_slice_len(16);
+    let factory = slice_factory(&domain).initial_max_slice_len(16);
     let publisher = factory.create(&mut domain).expect(&rt, "a publisher");
     let loan = publisher.loan_slice_uninit(&mut domain, 4);
     let loan = loan.expect(&rt, "a loan");
     publisher.disown();
     let message = loan.write_from_slice(&mut domain, &[1, 2, 3, 4]);
-    let takers = message.send(&mut domain).ok().map(receiver_count);
+    let takers = message.send(&mut domain).ok().and_then(receiver_count);
     let received = subscriber.receive(&mut domain).expect(&rt, "an answer");
     let sample = received.expect(&rt, "a sample");
     subscriber.disown();
@@ -86,7 +86,7 @@ fn a_slice_is_copied_into_its_loan(rt: HostRuntime) {
 #[test]
 fn a_slice_has_default_values(rt: HostRuntime) {
     let mut domain: Domain<u64, u64> = Domain::new(rt.alloc(), slices()).expect(&rt, "a domain");
-    let factory = domain.slice_publisher_builder().initial_max_slice_len(16);
+    let factory = slice_factory(&domain).initial_max_slice_len(16);
     let publisher = factory.create(&mut domain).expect(&rt, "a publisher");
     let message = publisher.loan_slice(&mut domain, 5);
     let mut message = message.expect(&rt, "a loan");
@@ -118,7 +118,7 @@ fn lent_length(
 #[test]
 fn a_loan_may_be_as_long_as_its_publisher_lends(rt: HostRuntime) {
     let mut domain: Domain<Tag, Tag> = Domain::new(rt.alloc(), slices()).expect(&rt, "a domain");
-    let factory = domain.slice_publisher_builder().max_loaned_samples(1);
+    let factory = slice_factory(&domain).max_loaned_samples(1);
     let publisher = factory
         .initial_max_slice_len(16)
         .create(&mut domain)
@@ -141,7 +141,7 @@ fn a_loan_may_be_as_long_as_its_publisher_lends(rt: HostRuntime) {
 #[test]
 fn the_length_is_looked_at_first(rt: HostRuntime) {
     let mut domain: Domain<Tag, Tag> = Domain::new(rt.alloc(), slices()).expect(&rt, "a domain");
-    let factory = domain.slice_publisher_builder().max_loaned_samples(1);
+    let factory = slice_factory(&domain).max_loaned_samples(1);
     let publisher = factory
         .initial_max_slice_len(16)
         .create(&mut domain)
@@ -162,7 +162,7 @@ fn the_length_is_looked_at_first(rt: HostRuntime) {
 #[test]
 fn a_loan_is_taken_as_written_once_each_cell_is(rt: HostRuntime) {
     let mut domain: Domain<Tag, Tag> = Domain::new(rt.alloc(), slices()).expect(&rt, "a domain");
-    let factory = domain.slice_publisher_builder().initial_max_slice_len(2);
+    let factory = slice_factory(&domain).initial_max_slice_len(2);
     let publisher = factory.create(&mut domain).expect(&rt, "a publisher");
     let loan = publisher.loan_slice_uninit(&mut domain, 2);
     let mut loan = loan.expect(&rt, "a loan");
@@ -228,7 +228,7 @@ fn ports_of_slices_have_the_calls_of_ports(rt: HostRuntime) {
     let mut domain: Domain<Tag, Tag> = Domain::new(rt.alloc(), slices()).expect(&rt, "a domain");
     let factory = domain.slice_subscriber_builder();
     let subscriber = factory.create(&mut domain).expect(&rt, "a subscriber");
-    let factory = domain.slice_publisher_builder();
+    let factory = slice_factory(&domain);
     let publisher = factory.create(&mut domain).expect(&rt, "a publisher");
     let ids = [publisher.id().value(), subscriber.id().value()];
     let keys = [publisher.key().port, subscriber.key().port];
@@ -238,7 +238,7 @@ fn ports_of_slices_have_the_calls_of_ports(rt: HostRuntime) {
     ];
     let before = subscriber.has_samples(&mut domain);
     let loan = publisher.loan_slice(&mut domain, 1).expect(&rt, "a loan");
-    let takers = loan.send(&mut domain).ok().map(receiver_count);
+    let takers = loan.send(&mut domain).ok().and_then(receiver_count);
     let after = subscriber.has_samples(&mut domain);
     let buffer_size = subscriber.buffer_size();
     let publisher = Publisher::new(publisher.into_inner());

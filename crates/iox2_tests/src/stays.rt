@@ -1,7 +1,7 @@
 //! What a user's functions know of handles after other calls, with nothing tested when they run.
 ghost use Rattle.iox2_pubsub.specs.Live.{HasLender, IsLivePublisher, IsLiveSample, IsLiveSubscriber, IsSingleValued, IsUnwrittenLoan, Stays, StaysBut, unwritten_key, unwritten_loan};
 
-use crate::fixtures::{Reading, Station, domain, publish, receiver_count};
+use crate::fixtures::{Reading, Station, domain, factory_for, publish};
 use iox2_pubsub::{
     ConnectionFailure, Domain, Publisher, Sample, SampleMutUninit, Subscriber, UpdateConnections,
 };
@@ -17,7 +17,7 @@ fn send_lent(domain: &mut Domain<Reading, Station>, loan: SampleMutUninit, celsi
     let Ok(outcome) = message.send(domain) else {
         unreachable!()
     };
-    receiver_count(outcome)
+    outcome.delivered()
 }
 
 // Makes a publisher, which sends one message and is closed. All that was there stays.
@@ -25,7 +25,7 @@ fn send_once(domain: &mut Domain<Reading, Station>, celsius: u64) -> Option<usiz
     requires { IsSingleValued domain.old }
     ensures { Stays domain.old domain.new }
 {
-    let publisher = domain.publisher_builder().create(domain).ok()?;
+    let publisher = factory_for(domain).create(domain).ok()?;
     let Ok(loan) = publisher.loan_uninit(domain) else {
         publisher.close(domain);
         return None;
@@ -112,7 +112,7 @@ fn what_is_read_stays(rt: HostRuntime) {
     let mut domain = domain(&rt, rt.alloc());
     let factory = domain.subscriber_builder();
     let subscriber = factory.create(&mut domain).expect(&rt, "a subscriber");
-    let factory = domain.publisher_builder();
+    let factory = factory_for(&domain);
     let publisher = factory.create(&mut domain).expect(&rt, "a publisher");
     let loan = publisher.loan_uninit(&mut domain).expect(&rt, "a loan");
     let updated = read_loan_twice(&mut domain, &publisher, &loan);

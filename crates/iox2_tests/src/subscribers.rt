@@ -1,4 +1,4 @@
-use crate::fixtures::{Reading, Station, domain};
+use crate::fixtures::{Reading, Station, domain, factory_for};
 use iox2_pubsub::Domain;
 use iox2_store::{Key, SubscriberCreateError};
 
@@ -95,7 +95,7 @@ fn a_refused_subscriber_uses_up_no_id(rt: HostRuntime) {
 #[test]
 fn ports_of_both_sides_share_their_ids(rt: HostRuntime) {
     let mut domain = domain(&rt, rt.alloc());
-    let factory = domain.publisher_builder();
+    let factory = factory_for(&domain);
     let publisher = factory.create(&mut domain).expect(&rt, "a publisher");
     let published = publisher.key();
     publisher.disown();

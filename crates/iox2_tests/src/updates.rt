@@ -1,6 +1,6 @@
 ghost use Rattle.iox2_pubsub.specs.Live.{Stays};
 
-use crate::fixtures::{Reading, Station, domain, publish};
+use crate::fixtures::{Reading, Station, domain, factory_for, publish};
 use iox2_pubsub::{ConnectionFailure, Domain, UpdateConnections};
 
 // Updates a port of either kind.
@@ -30,7 +30,7 @@ fn update_twice<P: UpdateConnections<Reading, Station>>(
 #[test]
 fn ports_of_both_kinds_are_updated(rt: HostRuntime) {
     let mut domain = domain(&rt, rt.alloc());
-    let factory = domain.publisher_builder();
+    let factory = factory_for(&domain);
     let publisher = factory.create(&mut domain).expect(&rt, "a publisher");
     let factory = domain.subscriber_builder();
     let subscriber = factory.create(&mut domain).expect(&rt, "a subscriber");

@@ -7,7 +7,10 @@ use crate::passing::send;
 use crate::ports::create_receivers;
 use crate::receiver::Receiver;
 use crate::sender::Sender;
-use iox2_pubsub::{Domain, Publisher, ServiceConfig, Subscriber, TypeVariant, UpdateConnections};
+use iox2_pubsub::{
+    BackpressureStrategy, Domain, Publisher, ServiceConfig, Subscriber, TypeVariant,
+    UpdateConnections,
+};
 use std::alloc::Global;
 
 /// What stands in a domain when its ports are closed.
@@ -71,7 +74,11 @@ fn create_senders(alloc: Global, domain: &mut Domain<u64, ()>, count: usize) -> 
 {
     let mut senders = Vec::new(alloc);
     for _ in 0..count {
-        let publisher = domain.publisher_builder().create(domain).ok()?;
+        let publisher = domain
+            .publisher_builder()
+            .backpressure_strategy(BackpressureStrategy::DiscardData)
+            .create(domain)
+            .ok()?;
         senders.push(Sender { publisher }).ok()?;
     }
     Some(senders)

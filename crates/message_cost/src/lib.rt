@@ -13,7 +13,7 @@ mod receiver;
 mod sender;
 
 use closing::{Closing, close_all};
-use iox2_pubsub::{Domain, Publisher};
+use iox2_pubsub::{BackpressureStrategy, Domain, Publisher};
 use load::Load;
 use passing::pass_all;
 use ports::{create_receivers, keep_loans, keep_publishers, keep_samples};
@@ -51,7 +51,11 @@ fn pass_in(alloc: Global, domain: &mut Domain<u64, ()>, load: &Load, messages: u
 {
     keep_publishers(domain, load.idle_publishers)?;
     let receivers = create_receivers(alloc, domain, load.subscribers)?;
-    let publisher = domain.publisher_builder().create(domain).ok()?;
+    let publisher = domain
+        .publisher_builder()
+        .backpressure_strategy(BackpressureStrategy::DiscardData)
+        .create(domain)
+        .ok()?;
     let arrived = pass_between(domain, &publisher, &receivers, load, messages);
     publisher.disown();
     arrived

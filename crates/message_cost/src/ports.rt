@@ -4,7 +4,7 @@ ghost use Rattle.iox2_pubsub.specs.Live.{IsLivePublisher, IsLiveSubscriber, IsSi
 
 use crate::passing::send;
 use crate::receiver::Receiver;
-use iox2_pubsub::{Domain, Publisher};
+use iox2_pubsub::{BackpressureStrategy, Domain, Publisher};
 use std::alloc::Global;
 
 /// Makes so many subscribers. `None` where one is refused.
@@ -30,7 +30,11 @@ pub fn keep_publishers(domain: &mut Domain<u64, ()>, count: usize) -> Option<()>
     ensures { Stays domain.old domain.new }
 {
     for _ in 0..count {
-        let publisher = domain.publisher_builder().create(domain).ok()?;
+        let publisher = domain
+            .publisher_builder()
+            .backpressure_strategy(BackpressureStrategy::DiscardData)
+            .create(domain)
+            .ok()?;
         publisher.disown();
     }
     Some(())

@@ -4,7 +4,7 @@ ghost use Rattle.iox2_pubsub.specs.Live.{IsLivePublisher, IsLiveSubscriber, IsNe
 ghost use Rattle.iox2_pubsub.specs.Slices.{IsSliced};
 
 use iox2_pubsub::slice::{Publisher, SampleMut, SampleMutUninit, Subscriber};
-use iox2_pubsub::{Domain, ServiceConfig, TypeVariant};
+use iox2_pubsub::{BackpressureStrategy, Domain, ServiceConfig, TypeVariant};
 use std::alloc::Global;
 
 /// Passes so many slices, each of so many elements, one after the other. Returns how many of them
@@ -38,6 +38,7 @@ fn pass_to(
 {
     let publisher = domain
         .slice_publisher_builder()
+        .backpressure_strategy(BackpressureStrategy::DiscardData)
         .initial_max_slice_len(elements)
         .create(domain)
         .ok()?;

@@ -17,7 +17,7 @@ mod series;
 mod waiting;
 
 use failure::Failure;
-use iox2_pubsub::{Domain, ServiceConfig, Subscriber};
+use iox2_pubsub::{BackpressureStrategy, Domain, ServiceConfig, Subscriber};
 use reading::Reading;
 use report::report_day;
 use series::exchange;
@@ -48,6 +48,7 @@ fn run(
     let publisher = domain
         .publisher_builder()
         .max_loaned_samples(2)
+        .backpressure_strategy(BackpressureStrategy::DiscardData)
         .create(domain)?;
     let outcome = report_day(rt, domain, &publisher, subscriber);
     publisher.close(domain);

@@ -7,7 +7,7 @@ ghost use Rattle.iox2_pubsub.specs.declared.subscriber.Subscriber.{Subscriber as
 
 use crate::failure::Failure;
 use iox2_pubsub::slice::{Publisher, SampleMut, Subscriber};
-use iox2_pubsub::{Domain, ServiceConfig, TypeVariant};
+use iox2_pubsub::{BackpressureStrategy, Domain, ServiceConfig, TypeVariant};
 use std::alloc::Global;
 
 /// Makes a domain of slices, and sends two series of three temperatures through it. Returns how many
@@ -36,6 +36,7 @@ fn publish(domain: &mut Domain<u64, ()>, subscriber: &Subscriber) -> Result<Opti
     let publisher = domain
         .slice_publisher_builder()
         .max_loaned_samples(1)
+        .backpressure_strategy(BackpressureStrategy::DiscardData)
         .initial_max_slice_len(3)
         .create(domain)?;
     let outcome = send_both(domain, &publisher, subscriber);

@@ -6,7 +6,6 @@ ghost use Rattle.iox2_runs.specs.Carries.{IsLiveTable, Carries, defaults_of};
 ghost use Rattle.iox2_commands.specs.declared.command.Command.TheVariants.{Loan, SendCopy};
 ghost use Rattle.iox2_runs.specs.declared.runs.made.Made.TheVariants.{Nothing};
 
-use super::loans::delivered_count;
 use super::made::Made;
 use super::services::is_single_valued;
 use iox2_commands::Reply;
@@ -58,7 +57,7 @@ pub(crate) fn send_copy<T: Default + Drop, U: Default + Drop, F: BackpressureFn,
     };
     match made {
         Made::Publisher(publisher) => match publisher.send_copy(domain, value) {
-            Ok(outcome) => Reply::Delivered(delivered_count(outcome)),
+            Ok(outcome) => Reply::Delivered(outcome.delivered()),
             Err(error) => Reply::SendRefused(error),
         },
         _ => Reply::Skipped,

@@ -1,7 +1,4 @@
 //! Commands on loans.
-ghost use Rattle.std.specs.Prelude.{◌≡◌};
-ghost use Rattle.iox2_store.specs.machine.Sends.{Delivered_to};
-ghost use Rattle.iox2_pubsub.specs.SendCalls.{sent_result};
 ghost use Rattle.iox2_store.specs.machine.Environments.{fixed_handlers};
 ghost use Rattle.iox2_runs.specs.Rooms.{SameRoom};
 ghost use Rattle.iox2_runs.specs.Leaves.{Leaves};
@@ -13,7 +10,7 @@ use super::cells::write_cells;
 use super::made::{Made, put, take};
 use super::services::is_single_valued;
 use iox2_commands::Reply;
-use iox2_pubsub::{Domain, SendOutcome};
+use iox2_pubsub::Domain;
 use iox2_store::{BackpressureFn, DegradationFn};
 
 /// Asks the publisher that the command at the position made for a loan of a single value, and
@@ -81,21 +78,12 @@ pub(crate) fn send<T: Default + Drop, U: Default + Drop, F: BackpressureFn, G: D
 {
     match take(table, of) {
         Made::Written(sample) => match sample.send(domain) {
-            Ok(outcome) => Reply::Delivered(delivered_count(outcome)),
+            Ok(outcome) => Reply::Delivered(outcome.delivered()),
             Err(error) => Reply::SendRefused(error),
         },
         other => {
             put(table, of, other);
             Reply::Skipped
         }
-    }
-}
-
-/// How many receivers took the message.
-pub(crate) fn delivered_count(outcome: SendOutcome) -> usize
-    ensures { sent_result outcome ≡ Delivered_to result }
-{
-    match outcome {
-        SendOutcome::Delivered(count) => count,
     }
 }

@@ -12,7 +12,7 @@ use super::made::Made;
 use super::publishers::make_publisher;
 use iox2_commands::Reply;
 use iox2_pubsub::Domain;
-use iox2_store::{BackpressureFn, DegradationFn};
+use iox2_store::{BackpressureFn, BackpressureStrategy, DegradationFn};
 
 /// Makes a publisher with so many loans, and for slices up to that length, and returns it too.
 pub(crate) fn create_publisher<
@@ -26,7 +26,7 @@ pub(crate) fn create_publisher<
         (CreatePublisher loans DiscardData Static len None Warn None) result.0 table.now result.1 }
     ensures leaves { Leaves domain.old domain.new table.now table.now result.1 }
 {
-    match make_publisher(domain, loans, len) {
+    match make_publisher(domain, loans, BackpressureStrategy::DiscardData, len) {
         Ok(publisher) => (
             Reply::PublisherMade(publisher.id()),
             Made::Publisher(publisher),

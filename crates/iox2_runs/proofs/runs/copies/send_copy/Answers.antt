@@ -1,10 +1,11 @@
 use Rattle.std.proofs.Common.{refl, sym, ap, ◌∙◌}
+use Rattle.iox2_pubsub.specs.SendCalls.{sent_result}
 use Rattle.iox2_runs.specs.Carries.{entry_for}
 use Rattle.iox2_runs.specs.declared.runs.made.Made.{Made}
 use Rattle.iox2_runs.proofs.TableLooks.{is_publisher_entry}
 use Rattle.iox2_runs.proofs.TableEntries.{looked, looked_past, not_publisher}
 use Rattle.iox2_runs.proofs.Services.{single-here}
-use Rattle.iox2_runs.proofs.LiveEntries.{live_publisher}
+use Rattle.iox2_runs.proofs.LiveEntries.{live_publisher, publisher_never_waits}
 use Rattle.iox2_runs.proofs.CarriedCopies.{copy_passed, copy_of_other, copy_carried, copy_denied}
 use Rattle.iox2_runs.proofs.LeavingSteps.{leaves-all, leaves-making}
 use Rattle.iox2_pubsub.proofs.StaysBut.{nothing-is-new}
@@ -24,10 +25,16 @@ send_copy-requires-clause-ready g c =
 pub send_copy-requires-clause-single_valued : goal.send_copy-requires-clause-single_valued
 send_copy-requires-clause-single_valued g c = single-here {T = g.row.T.Denot} {U = g.row.U.Denot} c.args.domain.now (sym c.is_single_valued.ensures ∙ c.if-not-is_single_valued.false)
 
+pub delivered-requires : goal.delivered-requires
+delivered-requires g c =
+    c.in-Ok.ensures.delivered
+    (publisher_never_waits {T = g.row.T.Denot} {U = g.row.U.Denot} c.args.domain.now c.args.table.now c.requires c.args.of c.in-Publisher.publisher
+    (looked c.args.table.now c.args.of c.get.result c.in-Some.made _ c.get.ensures.lookup c.in-Some.is c.in-Publisher.is))
+
 pub returns-in-Ok-clause-carries : goal.returns-in-Ok-clause-carries
 returns-in-Ok-clause-carries g c =
     copy_carried {T = g.row.T.Denot} {U = g.row.U.Denot} _ c.args.domain.now c.send_copy.new.domain c.args.table.now c.args.of
-    c.in-Publisher.publisher c.args.value c.in-Ok.outcome c.delivered_count.result c.delivered_count.ensures
+    c.in-Publisher.publisher c.args.value c.in-Ok.outcome c.delivered.result (ap sent_result c.delivered.ensures)
     (looked c.args.table.now c.args.of c.get.result c.in-Some.made _ c.get.ensures.lookup c.in-Some.is c.in-Publisher.is)
     (sym c.is_single_valued.ensures ∙ c.if-not-is_single_valued.false)
     c.in-Ok.ensures.sends

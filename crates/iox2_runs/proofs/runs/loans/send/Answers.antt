@@ -1,11 +1,12 @@
 use Rattle.std.proofs.Common.{refl, sym, ap, subst, ◌∙◌}
 use Rattle.iox2_store.specs.machine.Environments.{fixed_handlers}
-use Rattle.iox2_store.specs.machine.Sends.{Send}
+use Rattle.iox2_store.specs.machine.Sends.{Send, SendResult}
+use Rattle.iox2_pubsub.specs.SendCalls.{sent_result}
 use Rattle.iox2_runs.specs.Carries.{entry_for}
 use Rattle.iox2_runs.specs.declared.runs.made.Made.{Made}
 use Rattle.iox2_runs.proofs.TableLooks.{is_written_entry}
 use Rattle.iox2_runs.proofs.TableEntries.{back, not_written}
-use Rattle.iox2_runs.proofs.LiveEntries.{live_written, unblocked_written}
+use Rattle.iox2_runs.proofs.LiveEntries.{live_written, unblocked_written, written_never_waits}
 use Rattle.iox2_runs.proofs.CarriedLoans.{send_passed, send_carried, send_lost}
 use Rattle.iox2_runs.proofs.LeavingSteps.{leaves-all, leaves-spending}
 use Rattle.iox2_pubsub.proofs.StaysBut.{nothing-is-new}
@@ -20,12 +21,17 @@ pub send-requires-clause-unblocked : goal.send-requires-clause-unblocked
 send-requires-clause-unblocked g c =
     unblocked_written {T = g.row.T.Denot} {U = g.row.U.Denot} c.args.domain.now c.args.table.now.items c.requires c.args.of c.in-Written.sample (sym c.take.ensures.made ∙ c.in-Written.is)
 
+pub delivered-requires : goal.delivered-requires
+delivered-requires g c =
+    c.in-Ok.ensures.delivered
+    (written_never_waits {T = g.row.T.Denot} {U = g.row.U.Denot} c.args.domain.now c.args.table.now.items c.requires c.args.of c.in-Written.sample (sym c.take.ensures.made ∙ c.in-Written.is))
+
 pub returns-in-Ok-clause-carries : goal.returns-in-Ok-clause-carries
 returns-in-Ok-clause-carries g c =
     send_carried {T = g.row.T.Denot} {U = g.row.U.Denot} fixed_handlers _ c.args.domain.now c.send.new.domain c.args.table.now.items c.take.new.table.items c.args.of
-    c.in-Written.sample c.delivered_count.result (sym c.take.ensures.made ∙ c.in-Written.is)
+    c.in-Written.sample c.delivered.result (sym c.take.ensures.made ∙ c.in-Written.is)
     (λ m s l shown there. let sent = c.in-Ok.ensures.sent m s l shown there in
-    (sent.0, sent.1, subst (λ r. Send fixed_handlers s c.in-Written.sample.loan.number l sent.0 r) c.delivered_count.ensures sent.2)) c.take.ensures.items
+    (sent.0, sent.1, subst (λ (r : SendResult). Send fixed_handlers s c.in-Written.sample.loan.number l sent.0 r) (ap sent_result c.delivered.ensures) sent.2)) c.take.ensures.items
 
 pub returns-in-Err-clause-carries : goal.returns-in-Err-clause-carries
 returns-in-Err-clause-carries g c =
