@@ -2,7 +2,7 @@
 use crate::chance::Chance;
 use crate::moods::Wish;
 use crate::positions::{any, live, live_or_any};
-use crate::words::is_word;
+use crate::words::{HAS_BLOCKED_SENDS, is_word};
 use iox2_commands::Command;
 use iox2_model::{Kind, Model};
 use iox2_store::{
@@ -87,7 +87,7 @@ fn make_publisher(chance: &mut Chance) -> Command<u64, u64> {
 }
 
 fn strategy(chance: &mut Chance) -> BackpressureStrategy {
-    if chance.one_in(2) {
+    if HAS_BLOCKED_SENDS && chance.one_in(2) {
         BackpressureStrategy::RetryUntilDelivered
     } else {
         BackpressureStrategy::DiscardData
@@ -96,6 +96,9 @@ fn strategy(chance: &mut Chance) -> BackpressureStrategy {
 
 // Mostly there is none, so that the strategy decides.
 fn handler(chance: &mut Chance) -> Option<BackpressureAction> {
+    if !HAS_BLOCKED_SENDS {
+        return None;
+    }
     match chance.below(8) {
         0 => Some(BackpressureAction::FollowBackpressureyStrategy),
         1 => Some(BackpressureAction::Retry),
@@ -122,7 +125,7 @@ fn make_subscriber(chance: &mut Chance, config: &ServiceConfig) -> Command<u64, 
 // Where a send waits it goes on, each second time. Else a written loan is sent, an unwritten one is
 // written, and where there is none a loan is taken.
 fn message_step(chance: &mut Chance, model: &Model, config: &ServiceConfig) -> Command<u64, u64> {
-    if chance.one_in(2) {
+    if HAS_BLOCKED_SENDS && chance.one_in(2) {
         if let Some(of) = live(chance, model, Kind::BlockedSend) {
             return go_on(chance, model, of);
         }

@@ -7,7 +7,7 @@ use iox2_pubsub::{
 use iox2_runs::{Command, Reply};
 
 // The kinds of replies that the words can give with ample memory.
-const KINDS: [&str; 31] = [
+const KINDS: [&str; 29] = [
     "Done",
     "Skipped",
     "PublisherMade",
@@ -23,9 +23,7 @@ const KINDS: [&str; 31] = [
     "Delivered to one",
     "Delivered to 2 to 64",
     "Delivered to 65 or more",
-    "Blocked",
     "SendRefused(ConnectionBrokenSinceSenderNoLongerExists)",
-    "SendRefused(UnableToDeliver)",
     "SendRefused(LoanError(ExceedsMaxLoans))",
     "UpdateRefused",
     "Sample",
@@ -42,19 +40,19 @@ const KINDS: [&str; 31] = [
 ];
 
 // The position of the count of all other replies, which no command should have.
-const OTHER: usize = 31;
+const OTHER: usize = 29;
 
 /// How often each kind of reply was met.
 #[derive(Drop)]
 pub(crate) struct Tally {
-    counts: [u64; 32],
+    counts: [u64; 30],
     words: WordTally,
 }
 
 impl Tally {
     pub(crate) fn new() -> Tally {
         Tally {
-            counts: [0; 32],
+            counts: [0; 30],
             words: WordTally::new(),
         }
     }
@@ -114,10 +112,8 @@ fn kind_of(reply: &Reply<u64, u64>) -> usize {
         Reply::Delivered(1) => 12,
         Reply::Delivered(2..=64) => 13,
         Reply::Delivered(_) => 14,
-        Reply::Blocked => 15,
-        Reply::SendRefused(SendError::ConnectionBrokenSinceSenderNoLongerExists) => 16,
-        Reply::SendRefused(SendError::UnableToDeliver) => 17,
-        Reply::SendRefused(SendError::LoanError(LoanError::ExceedsMaxLoans)) => 18,
+        Reply::SendRefused(SendError::ConnectionBrokenSinceSenderNoLongerExists) => 15,
+        Reply::SendRefused(SendError::LoanError(LoanError::ExceedsMaxLoans)) => 16,
         _ => kind_of_use(reply),
     }
 }
@@ -125,18 +121,18 @@ fn kind_of(reply: &Reply<u64, u64>) -> usize {
 // The same for what is received and read.
 fn kind_of_use(reply: &Reply<u64, u64>) -> usize {
     match *reply {
-        Reply::UpdateRefused(_) => 19,
-        Reply::Sample(_) => 20,
-        Reply::NoSample => 21,
-        Reply::ReceiveRefused(ReceiveError::ExceedsMaxBorrows) => 22,
-        Reply::ReceiveRefused(ReceiveError::ConnectionFailure(_)) => 23,
-        Reply::Has(false) => 24,
-        Reply::Has(true) => 25,
-        Reply::Cell(None) => 26,
-        Reply::Cell(Some(_)) => 27,
-        Reply::Unwritten => 28,
-        Reply::Header(_) => 29,
-        Reply::UserHeader(_) => 30,
+        Reply::UpdateRefused(_) => 17,
+        Reply::Sample(_) => 18,
+        Reply::NoSample => 19,
+        Reply::ReceiveRefused(ReceiveError::ExceedsMaxBorrows) => 20,
+        Reply::ReceiveRefused(ReceiveError::ConnectionFailure(_)) => 21,
+        Reply::Has(false) => 22,
+        Reply::Has(true) => 23,
+        Reply::Cell(None) => 24,
+        Reply::Cell(Some(_)) => 25,
+        Reply::Unwritten => 26,
+        Reply::Header(_) => 27,
+        Reply::UserHeader(_) => 28,
         _ => OTHER,
     }
 }
