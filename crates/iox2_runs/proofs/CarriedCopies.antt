@@ -7,7 +7,7 @@ use Rattle.iox2_store.specs.machine.State.{State, Messages}
 use Rattle.iox2_store.specs.machine.Environments.{ample_memory, fixed_handlers}
 use Rattle.iox2_store.specs.machine.Numbers.{put_at}
 use Rattle.iox2_store.specs.machine.Loans.{entry_of}
-use Rattle.iox2_store.specs.machine.Sends.{Send, SendResult, Delivered_to}
+use Rattle.iox2_store.specs.machine.Sends.{Send, SendResult, Delivered_to, Blocked_send}
 use Rattle.iox2_store.specs.machine.SingleCalls.{GrantWrittenLoan}
 use Rattle.iox2_store.specs.declared.errors.LoanError.{LoanError}
 use Rattle.iox2_store.specs.declared.errors.SendError.{SendError}
@@ -20,7 +20,7 @@ use Rattle.iox2_pubsub.specs.WrittenLoans.{SendsGranted, RefusesLoan}
 use Rattle.iox2_pubsub.specs.declared.publisher.Publisher.{Publisher as PublisherHandle}
 use Rattle.iox2_pubsub.specs.declared.sample_mut.SampleMut.{SampleMut}
 use Rattle.iox2_pubsub.specs.declared.send_outcome.SendOutcome.{SendOutcome}
-use Rattle.iox2_pubsub.specs.declared.send_outcome.SendOutcome.TheVariants.{Delivered as OutcomeDelivered}
+use Rattle.iox2_pubsub.specs.declared.send_outcome.SendOutcome.TheVariants.{Delivered as OutcomeDelivered, Blocked as OutcomeBlocked}
 use Rattle.iox2_commands.specs.Runs.{Defaults}
 use Rattle.iox2_commands.specs.declared.command.Command.TheVariants.{Loan as LoanDefault, SendCopy}
 use Rattle.iox2_commands.specs.declared.reply.Reply.TheVariants.{Skipped, Loaned, LoanRefused, Delivered, SendRefused}
@@ -90,6 +90,7 @@ module _ {T U : Type 0} (defaults : Defaults T U) (old new : Domain T U) (table 
       → is_single_valued old.config ≡ true
       → ((m : Messages T U) (s : State T U) → Shows old m s → (m' : Messages T U) × (s' : State T U) × Shows new m' s' × SendsGranted defaults.IsDefaultHeader m s h.id value outcome m' s')
       → Carries fixed_handlers defaults old new table (SendCopy of value) (Delivered count) table Nothing
+  copy_carried h value (OutcomeBlocked blocked) count told at single sends = absurd (let clash : Blocked_send ≡ Delivered_to count = told in cc)
   copy_carried h value (OutcomeDelivered delivered) count told at single sends = λ m s handles events shown w default_value default_header is_value is_header.
       let sent = sends m s shown in
       let it = sent.3 in

@@ -1,5 +1,8 @@
-use Rattle.std.proofs.Common.{refl, sym, ap, ◌∙◌}
-use Rattle.iox2_pubsub.specs.SendCalls.{sent_result}
+use Rattle.std.proofs.Common.{refl, sym, ap, subst, ◌∙◌}
+use Rattle.std.specs.declared.result.Result.TheVariants.{Ok}
+use Rattle.iox2_pubsub.specs.SendCalls.{sent_result, spent_by_copy}
+use Rattle.iox2_pubsub.specs.Live.{StaysBut}
+use Rattle.iox2_pubsub.specs.declared.send_outcome.SendOutcome.{SendOutcome}
 use Rattle.iox2_runs.specs.Carries.{entry_for}
 use Rattle.iox2_runs.specs.declared.runs.made.Made.{Made}
 use Rattle.iox2_runs.proofs.TableLooks.{is_publisher_entry}
@@ -63,11 +66,13 @@ returns-then-not-is_single_valued-clause-leaves g c =
 
 pub returns-in-Ok-clause-leaves : goal.returns-in-Ok-clause-leaves
 returns-in-Ok-clause-leaves g c =
-    leaves-making {T = g.row.T.Denot} {U = g.row.U.Denot} c.args.domain.now c.send_copy.new.domain c.args.table.now c.send_copy.ensures.stays Nothing (nothing-is-new {T = g.row.T.Denot} {U = g.row.U.Denot} c.args.domain.now)
+    leaves-making {T = g.row.T.Denot} {U = g.row.U.Denot} c.args.domain.now c.send_copy.new.domain c.args.table.now 
+    (subst (λ (outcome : SendOutcome). StaysBut (spent_by_copy c.in-Publisher.publisher (Ok outcome)) c.args.domain.now c.send_copy.new.domain) c.delivered.ensures c.in-Ok.ensures.stays)
+    Nothing (nothing-is-new {T = g.row.T.Denot} {U = g.row.U.Denot} c.args.domain.now)
 
 pub returns-in-Err-clause-leaves : goal.returns-in-Err-clause-leaves
 returns-in-Err-clause-leaves g c =
-    leaves-making {T = g.row.T.Denot} {U = g.row.U.Denot} c.args.domain.now c.send_copy.new.domain c.args.table.now c.send_copy.ensures.stays Nothing (nothing-is-new {T = g.row.T.Denot} {U = g.row.U.Denot} c.args.domain.now)
+    leaves-making {T = g.row.T.Denot} {U = g.row.U.Denot} c.args.domain.now c.send_copy.new.domain c.args.table.now c.in-Err.ensures.stays Nothing (nothing-is-new {T = g.row.T.Denot} {U = g.row.U.Denot} c.args.domain.now)
 
 pub returns-in_default-made-clause-leaves : goal.returns-in_default-made-clause-leaves
 returns-in_default-made-clause-leaves g c =

@@ -1,7 +1,10 @@
 use Rattle.std.proofs.Common.{refl, sym, ap, subst, ◌∙◌}
+use Rattle.std.specs.declared.result.Result.TheVariants.{Ok}
 use Rattle.iox2_store.specs.machine.Environments.{fixed_handlers}
 use Rattle.iox2_store.specs.machine.Sends.{Send, SendResult}
-use Rattle.iox2_pubsub.specs.SendCalls.{sent_result}
+use Rattle.iox2_pubsub.specs.SendCalls.{sent_result, spent_by_send}
+use Rattle.iox2_pubsub.specs.Live.{StaysBut}
+use Rattle.iox2_pubsub.specs.declared.send_outcome.SendOutcome.{SendOutcome}
 use Rattle.iox2_runs.specs.Carries.{entry_for}
 use Rattle.iox2_runs.specs.declared.runs.made.Made.{Made}
 use Rattle.iox2_runs.proofs.TableLooks.{is_written_entry}
@@ -47,12 +50,14 @@ returns-in_default-clause-carries g c =
 pub returns-in-Ok-clause-leaves : goal.returns-in-Ok-clause-leaves
 returns-in-Ok-clause-leaves g c =
     leaves-spending {T = g.row.T.Denot} {U = g.row.U.Denot} c.args.domain.now c.send.new.domain c.args.table.now.items c.take.new.table.items c.args.of
-    (Written c.in-Written.sample) Nothing (sym c.take.ensures.made ∙ c.in-Written.is) c.send.ensures.stays (λ start new. nothing-is-new start) c.take.ensures.items
+    (Written c.in-Written.sample) Nothing (sym c.take.ensures.made ∙ c.in-Written.is) 
+    (subst (λ (outcome : SendOutcome). StaysBut (spent_by_send c.in-Written.sample (Ok outcome)) c.args.domain.now c.send.new.domain) c.delivered.ensures c.in-Ok.ensures.stays)
+    (λ start new. nothing-is-new start) c.take.ensures.items
 
 pub returns-in-Err-clause-leaves : goal.returns-in-Err-clause-leaves
 returns-in-Err-clause-leaves g c =
     leaves-spending {T = g.row.T.Denot} {U = g.row.U.Denot} c.args.domain.now c.send.new.domain c.args.table.now.items c.take.new.table.items c.args.of
-    (Written c.in-Written.sample) Nothing (sym c.take.ensures.made ∙ c.in-Written.is) c.send.ensures.stays (λ start new. nothing-is-new start) c.take.ensures.items
+    (Written c.in-Written.sample) Nothing (sym c.take.ensures.made ∙ c.in-Written.is) c.in-Err.ensures.stays (λ start new. nothing-is-new start) c.take.ensures.items
 
 pub returns-in_default-clause-leaves : goal.returns-in_default-clause-leaves
 returns-in_default-clause-leaves g c =
