@@ -450,12 +450,12 @@ module _ {T U : Type 0} where
       → GiveUp environment s p b s' result → LoanEnds p b.message s s'
   give_up_ends environment s p b = delivered_ends environment s p b.message 0 no_time (b.place + 1) (drop 1 b.ends) b.count b.has_failed
 
-  -- Its publisher may take one loan more.
-  pub ended_lends : (p n : ℕ) (s s' : State T U) → IsWellFormed s → (l : Loan T U) → s.loans n ≡ Some l → l.publisher ≡ p → LoanEnds p n s s'
+  -- Its publisher, among whose loans it was, may take one loan more.
+  pub counted_lends : (p n : ℕ) (s s' : State T U) → IsWellFormed s → (x : Publisher) → s.publishers p ≡ Some x → contains x.loans n ≡ true → LoanEnds p n s s'
       → (more : ℕ) → CanLend s p more → CanLend s' p (more + 1)
-  ended_lends p n s s' w l out its h more can =
+  counted_lends p n s s' w x stands is_its h more can =
       let there = h.own can.port can.stands in
-      let is_out : contains (can.port).loans n ≡ true = ((w.loans n l out).is_out can.port (ap s.publishers its ∙ can.stands)).0 in
+      let is_out : contains (can.port).loans n ≡ true = ap (λ (y : Publisher). contains y.loans n) (same_Some can.port x (sym can.stands ∙ stands)) ∙ is_its in
       let one : suc (length (without n (can.port).loans)) ≡ length (can.port).loans = length-without n (can.port).loans (w.publishers p can.port can.stands).loans_once is_out in
       let left : length (there.0).loans ≡ length (without n (can.port).loans) = ap (λ (ns : List ℕ). length ns) there.5 in
       record {
@@ -466,6 +466,17 @@ module _ {T U : Type 0} where
             (subst (λ (k : ℕ). worst_case s'.config k ≤ (can.port).slots) (sym there.3) (subst (λ (c : ServiceConfig). worst_case c (can.port).max_loaned_samples ≤ (can.port).slots) (sym h.config) can.slots));
         few = omega (arith, one, left, there.3, can.few);
       }
+
+  -- so where the loan was in its user's hands
+  pub ended_lends : (p n : ℕ) (s s' : State T U) → IsWellFormed s → (l : Loan T U) → s.loans n ≡ Some l → l.publisher ≡ p → LoanEnds p n s s'
+      → (more : ℕ) → CanLend s p more → CanLend s' p (more + 1)
+  ended_lends p n s s' w l out its h more can =
+      counted_lends p n s s' w can.port can.stands ((w.loans n l out).is_out can.port (ap s.publishers its ∙ can.stands)).0 h more can
+
+  -- and where it waited with a blocked send
+  pub waited_lends : (p : ℕ) (s s' : State T U) → IsWellFormed s → (x : Publisher) (b : BlockedSend) → s.publishers p ≡ Some x → x.blocked ≡ Some b → LoanEnds p b.message s s'
+      → (more : ℕ) → CanLend s p more → CanLend s' p (more + 1)
+  waited_lends p s s' w x b stands waits = counted_lends p b.message s s' w x stands ((w.publishers p x stands).blocked b waits).is_out
 
   -- each other publisher may take as many as before
   pub others_lend : (p n : ℕ) (s s' : State T U) → LoanEnds p n s s' → (i more : ℕ) → i ≢ p → CanLend s i more → CanLend s' i more

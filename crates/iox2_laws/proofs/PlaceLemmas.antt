@@ -154,6 +154,13 @@ IsOnce-occupants (Some k ∷ xs) apart = (
 )
 
 -- what stands in a list's end stands in the list
+-- who stands behind a place stands there once
+pub once-behind : (k : ℕ) (xs : List (Option ℕ)) → IsOnce (occupants xs) → IsOnce (occupants (drop k xs))
+once-behind zero xs once = once
+once-behind (suc k) [] once = once
+once-behind (suc k) (None ∷ xs) once = once-behind k xs once
+once-behind (suc k) (Some q ∷ xs) once = once-behind k xs once.1
+
 pub occupant-drop : (k : ℕ) (xs : List (Option ℕ)) (i : ℕ) → occupant (drop k xs) i ≡ occupant xs (k + i)
 occupant-drop zero xs i = let e : i ≡ zero + i = omega arith in ap (occupant xs) e
 occupant-drop (suc k) [] i = refl

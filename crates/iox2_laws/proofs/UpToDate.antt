@@ -1,7 +1,8 @@
 -- Subscribers that aren't due for an update, and which operations leave them so.
-use Rattle.std.proofs.Common.{◌≡◌, ℕ, suc, Bool, true, false, cond, not, ◌&&◌, refl, sym, ap, subst, ◌∙◌, arith, ◌<◌, Option, None, Some, inl, inr}
+use Rattle.std.proofs.Common.{◌≡◌, ℕ, suc, ◌+◌, List, drop, Bool, true, false, cond, not, ◌&&◌, refl, sym, ap, subst, ◌∙◌, arith, ◌<◌, Option, None, Some, inl, inr}
 use Rattle.std.specs.Prelude.{◌==◌, nat_lt}
 use Rattle.std.specs.List.{list_all}
+use Rattle.std.specs.declared.time.Duration.{Duration}
 use Rattle.std.specs.Option.{option_map, option_map_or}
 use Rattle.std.proofs.lemmas.Bool.{true≢false, cases_eq, ne_eqb}
 use Rattle.std.proofs.lemmas.Option.{same_Some}
@@ -9,16 +10,16 @@ use Rattle.iox2_store.specs.machine.Limits.{last_number, buffer_limit}
 use Rattle.iox2_store.specs.machine.Numbers.{size}
 use Rattle.iox2_store.specs.machine.Places.{free_place}
 use Rattle.iox2_store.specs.machine.Mailbox.{has_borrows}
-use Rattle.iox2_store.specs.machine.Records.{Loan, Publisher, Subscriber, Environment, SubscriberSettings}
+use Rattle.iox2_store.specs.machine.Records.{Loan, Publisher, Subscriber, BlockedSend, Environment, SubscriberSettings}
 use Rattle.iox2_store.specs.machine.State.{State, held, connected_publishers}
-use Rattle.iox2_store.specs.machine.Delivery.{DeliveryEnd, Complete, Suspended}
+use Rattle.iox2_store.specs.machine.Delivery.{DeliveryEnd, Complete, Suspended, no_time}
 use Rattle.iox2_store.specs.machine.PublisherUpdate.{UpdatePublisher}
 use Rattle.iox2_store.specs.machine.SubscriberUpdate.{UpdateSubscriber}
 use Rattle.iox2_store.specs.machine.Loans.{GrantLoan, StaticLoan, DynamicLoan, limit_error, is_static}
 use Rattle.iox2_store.specs.machine.Ports.{CreateSubscriber, MakeSubscriber, with_new_subscriber, new_subscriber, with_failure_warning, buffer_for}
 use Rattle.iox2_store.specs.machine.Receives.{ReceiveResult, Got_sample, No_sample, Receive_error, TakeSample, Receive}
 use Rattle.iox2_store.specs.machine.Releases.{pruned, is_unused, place_freed, unborrowed, subscriber_pruned, released}
-use Rattle.iox2_store.specs.machine.Sends.{Send, ConcludeSend, SendResult, published, with_mailboxes}
+use Rattle.iox2_store.specs.machine.Sends.{Send, Retry, GiveUp, DeliverAndConclude, ConcludeSend, SendResult, more_retries, published, with_mailboxes}
 use Rattle.iox2_store.specs.machine.Waiting.{waiting_for}
 use Rattle.iox2_store.specs.machine.WellFormed.{IsWellFormed}
 use Rattle.iox2_store.specs.declared.errors.ConnectionFailure.{ConnectionFailure}
@@ -101,6 +102,19 @@ module _ {T U : Type 0} where
     where
       Same : Type 0
       Same = s'.subscribers ≡ s.subscribers
+
+  goes_on_subscribers : (environment : Environment) (s : State T U) (p n retries : ℕ) (elapsed : Duration) (place : ℕ) (ends : List (Option ℕ)) (count : ℕ) (has_failed : Bool) (s' : State T U)
+      (result : SendResult) → DeliverAndConclude environment s p n retries elapsed place ends count has_failed s' result → s'.subscribers ≡ s.subscribers
+  goes_on_subscribers environment s p n retries elapsed place ends count has_failed s' result h =
+      by_option (s'.subscribers ≡ s.subscribers) (s.publishers p) _ _ h (λ _ v. absurd v) (λ x _ k. concluded_subscribers (with_mailboxes s p k.1) p n k.0 s' result k.3)
+
+  pub retry_subscribers : (environment : Environment) (s : State T U) (p : ℕ) (b : BlockedSend) (elapsed : Duration) (s' : State T U) (result : SendResult)
+      → Retry environment s p b elapsed s' result → s'.subscribers ≡ s.subscribers
+  retry_subscribers environment s p b elapsed = goes_on_subscribers environment s p b.message (more_retries b.retries) elapsed b.place b.ends b.count b.has_failed
+
+  pub give_up_subscribers : (environment : Environment) (s : State T U) (p : ℕ) (b : BlockedSend) (s' : State T U) (result : SendResult)
+      → GiveUp environment s p b s' result → s'.subscribers ≡ s.subscribers
+  give_up_subscribers environment s p b = goes_on_subscribers environment s p b.message 0 no_time (b.place + 1) (drop 1 b.ends) b.count b.has_failed
 
   -- ---- a subscriber's update, and a receive
 

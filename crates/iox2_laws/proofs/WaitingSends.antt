@@ -7,12 +7,12 @@ use Rattle.std.specs.Option.{option_map, option_map_or}
 use Rattle.iox2_store.specs.machine.Numbers.{put_at, contains, without, last_n, IsOnce}
 use Rattle.iox2_store.specs.machine.Places.{occupants}
 use Rattle.iox2_store.specs.machine.Mailbox.{Mailbox, has_room, waiting_count, with_appended}
-use Rattle.iox2_store.specs.machine.Records.{Loan, Publisher, Subscriber, Handler, Environment}
+use Rattle.iox2_store.specs.machine.Records.{Loan, Publisher, Subscriber, BlockedSend, Handler, Environment}
 use Rattle.iox2_store.specs.machine.State.{State, receiving_buffer, has_receiver_end}
 use Rattle.iox2_store.specs.machine.Delivery.{PutResult, DeliveryEnd, Complete, Suspended, Put, Deliver, no_time, is_blocking, accepted_count, is_failed}
 use Rattle.iox2_store.specs.machine.Connections.{ForEachPlace}
 use Rattle.iox2_store.specs.machine.PublisherUpdate.{SenderSide, sender_side, UpdateSenderPlace, UpdatePublisher}
-use Rattle.iox2_store.specs.machine.Sends.{Send, Publish, ConcludeSend, SendResult, with_mailboxes, published}
+use Rattle.iox2_store.specs.machine.Sends.{Send, Retry, GiveUp, Publish, DeliverAndConclude, ConcludeSend, SendResult, more_retries, with_mailboxes, published}
 use Rattle.iox2_store.specs.machine.Waiting.{receives_from, waiting_from, waiting_for}
 use Rattle.iox2_store.specs.machine.WellFormed.{IsWellFormed}
 use Rattle.iox2_store.specs.declared.service_config.ServiceConfig.{ServiceConfig}
@@ -23,7 +23,7 @@ use Rattle.iox2_laws.proofs.Cases.{by_option, by_bool}
 use Rattle.iox2_laws.proofs.Puts.{put_at-same, put_at-other, at_each}
 use Rattle.iox2_laws.proofs.MailboxWalks.{sender_side_keeps, deliver_keeps}
 use Rattle.iox2_laws.proofs.NumberLemmas.{length-last_n_le, contains_in_append, contains_one, contains_in_drop, contains_in_last_n}
-use Rattle.iox2_laws.proofs.PlaceLemmas.{IsOnce-occupants}
+use Rattle.iox2_laws.proofs.PlaceLemmas.{IsOnce-occupants, once-behind}
 use Rattle.iox2_laws.proofs.WaitingCounts.{sum_more, cond_more, cond_both_among}
 
 -- ---- one publisher's mailboxes change
@@ -184,6 +184,38 @@ module _ {T U : Type 0} where
       by_option (waiting_for s' q ≤ waiting_for s q + ((s.config).history_size + 1)) k.1 _ _ k.3
       (λ _ j. let last : waiting_for s' q ≤ waiting_for k.0 q + 1 = publish_waits environment k.0 l.publisher n s' result w' j q in omega arith)
       (λ e _ j. let same : waiting_for s' q ≡ waiting_for k.0 q = ap (λ (t : State T U). waiting_for t q) j.0 in omega arith))
+
+-- ---- a blocked send that goes on
+
+module _ {T U : Type 0} where
+  goes_on_waits : (environment : Environment) (s : State T U) (p n retries : ℕ) (elapsed : Duration) (place : ℕ) (ends : List (Option ℕ)) (count : ℕ) (has_failed : Bool) (s' : State T U)
+      (result : SendResult) → IsOnce (occupants ends) → DeliverAndConclude environment s p n retries elapsed place ends count has_failed s' result
+      → (q : ℕ) → waiting_for s' q ≤ waiting_for s q + 1
+  goes_on_waits environment s p n retries elapsed place ends count has_failed s' result once h q =
+      by_option (waiting_for s' q ≤ waiting_for s q + 1) (s.publishers p) _ _ h (λ _ v. absurd v) (λ x _ k.
+      let few : waiting_count (k.1 q) ≤ waiting_count (s.mailboxes p q) + cond (contains (occupants ends) q) 1 0 =
+      deliver_more environment s.config p x.backpressure_strategy x.backpressure_handler (receiving_buffer s) n retries elapsed place ends count has_failed (s.mailboxes p) k.0 k.1 once k.2 q in
+      let one : cond (contains (occupants ends) q) 1 0 ≤ 1 = at_most_one (contains (occupants ends) q) in
+      let rows : waiting_for (with_mailboxes s p k.1) q ≤ waiting_for s q + 1 = row_more s p k.1 q 1 (omega arith) in
+      let same : waiting_for s' q ≡ waiting_for (with_mailboxes s p k.1) q = concluded_waits (with_mailboxes s p k.1) p n k.0 s' result k.3 q in
+      omega arith)
+
+  -- each receiver that remains stands once
+  remain_once : (s : State T U) (p : ℕ) (x : Publisher) (b : BlockedSend) → IsWellFormed s → s.publishers p ≡ Some x → x.blocked ≡ Some b → IsOnce (occupants b.ends)
+  remain_once s p x b w stands waits =
+      let port = w.publishers p x stands in
+      subst (λ (ends : List (Option ℕ)). IsOnce (occupants ends)) (sym (port.blocked b waits).ends) (once-behind b.place x.ends (IsOnce-occupants x.ends port.ends_apart))
+
+  -- at most one more, since those that took the message aren't served again
+  pub retry_adds : (environment : Environment) (s : State T U) (p : ℕ) (x : Publisher) (b : BlockedSend) (elapsed : Duration) (s' : State T U) (result : SendResult) → IsWellFormed s
+      → s.publishers p ≡ Some x → x.blocked ≡ Some b → Retry environment s p b elapsed s' result → (q : ℕ) → waiting_for s' q ≤ waiting_for s q + 1
+  retry_adds environment s p x b elapsed s' result w stands waits =
+      goes_on_waits environment s p b.message (more_retries b.retries) elapsed b.place b.ends b.count b.has_failed s' result (remain_once s p x b w stands waits)
+
+  pub give_up_adds : (environment : Environment) (s : State T U) (p : ℕ) (x : Publisher) (b : BlockedSend) (s' : State T U) (result : SendResult) → IsWellFormed s
+      → s.publishers p ≡ Some x → x.blocked ≡ Some b → GiveUp environment s p b s' result → (q : ℕ) → waiting_for s' q ≤ waiting_for s q + 1
+  give_up_adds environment s p x b s' result w stands waits =
+      goes_on_waits environment s p b.message 0 no_time (b.place + 1) (drop 1 b.ends) b.count b.has_failed s' result (once-behind 1 b.ends (remain_once s p x b w stands waits))
 
 -- ---- which messages a send adds, where no history is kept
 

@@ -1,7 +1,6 @@
 //! Ports are closed while messages wait.
 ghost use Rattle.std.specs.Prelude.{◌≡◌, All, IfSome};
-ghost use Rattle.iox2_pubsub.specs.Live.{IsLivePublisher, IsLiveSubscriber, IsReadyPublisher, IsSingleValued, IsUnblocked, Stays, publisher_key};
-ghost use Rattle.iox2_pubsub.specs.declared.publisher.Publisher.{Publisher as PublisherHandle};
+ghost use Rattle.iox2_pubsub.specs.Live.{IsLivePublisher, IsLiveSubscriber, IsReadyPublisher, IsSingleValued, Stays};
 
 use crate::passing::send;
 use crate::ports::create_receivers;
@@ -119,34 +118,23 @@ fn send_many(domain: &mut Domain<u64, ()>, publisher: &Publisher, messages: usiz
     Some(())
 }
 
-// Closes those that are live, and returns how many they were.
-fn close_publishers(domain: &mut Domain<u64, ()>, senders: Vec<Sender>) -> usize
-    requires { All (λ sender. IsUnblocked domain.old (publisher_key sender.publisher)) senders.items }
-{
+// Closes those that are live and have no blocked send, and returns how many they were.
+fn close_publishers(domain: &mut Domain<u64, ()>, senders: Vec<Sender>) -> usize {
     let mut closed = 0usize;
     for sender in senders {
-        closed = closed.saturating_add(close_if_live(domain, sender.into_publisher()));
+        let publisher = sender.into_publisher();
+        if domain.holds_publisher(publisher.key()) && !publisher.is_blocked(domain) {
+            close_publisher(domain, publisher);
+            closed = closed.saturating_add(1);
+        } else {
+            publisher.disown();
+        }
     }
     closed
 }
 
-// Closes the publisher if it is live, and returns how many were closed.
-fn close_if_live(domain: &mut Domain<u64, ()>, publisher: Publisher) -> usize
-    requires { IsUnblocked domain.old (publisher_key publisher) }
-    ensures { (other : PublisherHandle) → IsUnblocked domain.old (publisher_key other) → IsUnblocked domain.new (publisher_key other) }
-{
-    if !domain.holds_publisher(publisher.key()) {
-        publisher.disown();
-        return 0;
-    }
-    close_publisher(domain, publisher);
-    1
-}
-
 // Closes those that are live, and returns how many they were.
-fn close_subscribers(domain: &mut Domain<u64, ()>, receivers: Vec<Receiver>) -> usize
-    ensures { (other : PublisherHandle) → IsUnblocked domain.old (publisher_key other) → IsUnblocked domain.new (publisher_key other) }
-{
+fn close_subscribers(domain: &mut Domain<u64, ()>, receivers: Vec<Receiver>) -> usize {
     let mut closed = 0usize;
     for receiver in receivers {
         let subscriber = receiver.into_subscriber();
@@ -164,7 +152,6 @@ fn close_subscribers(domain: &mut Domain<u64, ()>, receivers: Vec<Receiver>) -> 
 #[inline(never)]
 fn close_publisher(domain: &mut Domain<u64, ()>, publisher: Publisher)
     requires { IsReadyPublisher domain.old publisher }
-    ensures { (other : PublisherHandle) → IsUnblocked domain.old (publisher_key other) → IsUnblocked domain.new (publisher_key other) }
 {
     publisher.close(domain);
 }
@@ -173,7 +160,6 @@ fn close_publisher(domain: &mut Domain<u64, ()>, publisher: Publisher)
 #[inline(never)]
 fn close_subscriber(domain: &mut Domain<u64, ()>, subscriber: Subscriber)
     requires { IsLiveSubscriber domain.old subscriber }
-    ensures { (other : PublisherHandle) → IsUnblocked domain.old (publisher_key other) → IsUnblocked domain.new (publisher_key other) }
 {
     subscriber.close(domain);
 }
