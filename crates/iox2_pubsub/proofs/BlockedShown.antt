@@ -1,5 +1,5 @@
 -- A blocked send that is tried again or given up, seen from outside.
-use Rattle.std.proofs.Common.{◌≡◌, ℕ, ◌<◌, List, [], refl, ap, sym, subst, ◌∙◌, Option, None, Some, arith}
+use Rattle.std.proofs.Common.{◌≡◌, ℕ, ◌<◌, List, [], true, false, refl, ap, sym, subst, ◌∙◌, Option, None, Some, arith}
 use Rattle.std.proofs.lemmas.Option.{same_Some}
 use Rattle.std.specs.Option.{option_map}
 use Rattle.std.specs.declared.time.Duration.{Duration}
@@ -7,7 +7,7 @@ use Rattle.std.specs.Prelude.{slice_index_or}
 use Rattle.iox2_store.specs.machine.Environments.{fixed_handlers}
 use Rattle.iox2_store.specs.machine.Mailbox.{is_borrowed}
 use Rattle.iox2_store.specs.machine.Records.{Entry, Loan, Publisher, BlockedSend}
-use Rattle.iox2_store.specs.machine.Sends.{Retry, GiveUp, SendResult, Blocked_send}
+use Rattle.iox2_store.specs.machine.Sends.{Retry, GiveUp, SendResult, Blocked_send, Delivered_to, Send_error}
 use Rattle.iox2_store.specs.machine.SingleCalls.{HoldsBlocked}
 use Rattle.iox2_store.specs.machine.State.{State, Messages}
 use Rattle.iox2_store.specs.machine.WellFormed.{IsWellFormed}
@@ -16,7 +16,7 @@ use Rattle.iox2_ends.specs.Mailboxes.{sender_ends}
 use Rattle.iox2_laws.specs.Laws.{Advances}
 use Rattle.iox2_laws.proofs.LoanKeeping.{retry_loans, give_up_loans}
 use Rattle.iox2_laws.proofs.SendLaws.{retry_advances, give_up_advances}
-use Rattle.iox2_laws.proofs.SendsRemain.{PortsRemain, retry_remains, give_up_remains}
+use Rattle.iox2_laws.proofs.SendsRemain.{PortsRemain, retry_remains, retry_frees, give_up_remains, give_up_frees}
 use Rattle.iox2_laws.proofs.Waits.{Waits, retry_waits, give_up_waits}
 use Rattle.iox2_domain.specs.BlockedSends.{HasBlocked, RetriesAs, GivesUpAs, waiting_send}
 use Rattle.iox2_domain.specs.declared.publisher_state.BlockedDelivery.{BlockedDelivery}
@@ -26,7 +26,19 @@ use Rattle.iox2_domain.specs.Kept.{Kept, state_of, entries_of}
 use Rattle.iox2_domain.specs.Ports.{PublisherFields}
 use Rattle.iox2_domain.specs.Shows.{Shows, KeepsEntries}
 use Rattle.iox2_domain.proofs.lemmas.fields.ConnectionEnds.{publisher-stands}
-use Rattle.iox2_pubsub.specs.Live.{Item, A_blocked_send, StaysBut}
+use Rattle.iox2_pubsub.specs.Live.{Item, A_blocked_send, IsUnblocked, StaysBut}
+use Rattle.iox2_pubsub.specs.SendCalls.{result_of_send}
+use Rattle.iox2_pubsub.specs.declared.send_outcome.SendOutcome.{SendOutcome}
+use Rattle.iox2_pubsub.proofs.LiveParts.{unblocked-free}
+use Rattle.std.specs.Prelude.{IfErr}
+use Rattle.std.specs.declared.result.Result.{Result}
+use Rattle.std.specs.declared.result.Result.TheVariants.{Ok, Err}
+use Rattle.iox2_store.specs.declared.errors.SendError.{SendError}
+use Rattle.iox2_store.specs.declared.errors.SendError.TheVariants.{UnableToDeliver}
+use Rattle.iox2_store.specs.declared.key.Key.{Key}
+use Rattle.iox2_ends.specs.declared.sender.DeliveryOutcome.{DeliveryOutcome}
+use Rattle.iox2_ends.specs.declared.sender.DeliveryOutcome.TheVariants.{Complete as DeliveredAll, Suspended as HeldUp}
+use Rattle.iox2_domain.specs.Deliveries.{result_of_send as result_of_delivery}
 use Rattle.iox2_pubsub.proofs.StaysBut.{IsSpared, stays-between}
 
 module _ {T U : Type 0} (f : Fields T U) (sound : IsDomain f) (i p n : ℕ) (found : (x : PublisherFields) × (slice_index_or f.publishers i None ≡ Some x) × (x.id ≡ p))
@@ -108,3 +120,27 @@ module _ {T U : Type 0} (f g : Fields T U) (kept : Kept T U) (view : kept_of f �
     pub give-up-stays : StaysBut (A_blocked_send p) kept (kept_of g)
     give-up-stays = goes-stays give-up-shown (give_up_remains fixed_handlers s p b _ result h) (give_up_loans fixed_handlers s p b _ result h)
         (give_up_waits (IsSpared (A_blocked_send p)) p spared fixed_handlers s b _ result h)
+
+-- ---- a send that isn't blocked again has freed its publisher
+
+module _ {T U : Type 0} (new : Kept T U) (m : Messages T U) (s s' : State T U) (shown : Shows new m s') (p : ℕ) (x : Publisher) (b : BlockedSend) (stands : s.publishers p ≡ Some x)
+    (result : SendResult) (free : result ≡ Blocked_send → ⊥) where
+  freed : PortsRemain s s' → ((x' : Publisher) → s'.publishers p ≡ Some x' → x'.blocked ≡ None) → (key : Key) → key.port ≡ p → IsUnblocked new key
+  freed remain frees key its =
+      let there = remain.publishers p x stands in
+      let IsFree : State T U → ℕ → Type 0 = λ t i. (i < t.next_port) × ((x' : Publisher) → t.publishers i ≡ Some x' → x'.blocked ≡ None) in
+      unblocked-free new key (subst (λ (t : State T U). IsFree t key.port) shown.state (subst (IsFree s') (sym its)
+      ((shown.well_formed.publishers p there.0 there.1).is_known, frees)))
+
+  pub retry-frees-key : (elapsed : Duration) → Retry fixed_handlers s p b elapsed s' result → (key : Key) → key.port ≡ p → IsUnblocked new key
+  retry-frees-key elapsed h = freed (retry_remains fixed_handlers s p b elapsed s' result h) (retry_frees fixed_handlers s p b elapsed s' result free h)
+
+  pub give-up-frees-key : GiveUp fixed_handlers s p b s' result → (key : Key) → key.port ≡ p → IsUnblocked new key
+  give-up-frees-key h = freed (give_up_remains fixed_handlers s p b s' result h) (give_up_frees fixed_handlers s p b s' result free h)
+
+-- the one error is that of a handler
+pub only-undelivered : (outcome : DeliveryOutcome) (result : Result SendOutcome SendError) → result_of_send result ≡ result_of_delivery outcome → IfErr result (λ error. error ≡ UnableToDeliver)
+only-undelivered outcome (Ok came) is = tt
+only-undelivered (DeliveredAll count false) (Err error) is = absurd (let clash : Send_error error ≡ Delivered_to count = is in cc)
+only-undelivered (DeliveredAll count true) (Err error) is = let same : Send_error error ≡ Send_error UnableToDeliver = is in cc
+only-undelivered (HeldUp progress) (Err error) is = absurd (let clash : Send_error error ≡ Blocked_send = is in cc)

@@ -1,6 +1,7 @@
 -- What calls leave of the loans that publishers may still take, seen from outside.
 use Rattle.std.proofs.Common.{◌≡◌, ℕ, Bool, ◌+◌, ◌≤◌, ◌<◌, refl, sym, ap, subst, ◌∙◌, arith, Option, None, Some, Result, Ok, Err, ◌⊎◌, inl, inr}
 use Rattle.std.specs.Prelude.{◌≢◌, IfOk, OnErr}
+use Rattle.std.specs.declared.time.Duration.{Duration}
 use Rattle.std.proofs.lemmas.Bool.{cases_eq}
 use Rattle.iox2_store.specs.machine.Environments.{ample_memory}
 use Rattle.iox2_store.specs.machine.Limits.{last_number, worst_case}
@@ -9,9 +10,9 @@ use Rattle.iox2_store.specs.machine.LoansLeft.{CanLend}
 use Rattle.iox2_store.specs.machine.Ports.{CreatePublisher, CreateSubscriber, publisher_closed, subscriber_closed}
 use Rattle.iox2_store.specs.machine.PublisherUpdate.{UpdatePublisher}
 use Rattle.iox2_store.specs.machine.Receives.{ReceiveResult, Receive}
-use Rattle.iox2_store.specs.machine.Records.{Environment, Loan, Publisher as MachinePublisher, Subscriber as MachineSubscriber, PublisherSettings, SubscriberSettings}
+use Rattle.iox2_store.specs.machine.Records.{Environment, Loan, BlockedSend, Publisher as MachinePublisher, Subscriber as MachineSubscriber, PublisherSettings, SubscriberSettings}
 use Rattle.iox2_store.specs.machine.Releases.{released}
-use Rattle.iox2_store.specs.machine.Sends.{SendResult, Blocked_send, Delivered_to, Send_error, Send}
+use Rattle.iox2_store.specs.machine.Sends.{SendResult, Blocked_send, Delivered_to, Send_error, Send, Retry, GiveUp}
 use Rattle.iox2_store.specs.machine.State.{State, Messages, with_loan, fresh, no_messages}
 use Rattle.iox2_store.specs.machine.SubscriberUpdate.{UpdateSubscriber}
 use Rattle.iox2_store.specs.declared.errors.ConnectionFailure.{ConnectionFailure}
@@ -21,7 +22,7 @@ use Rattle.iox2_store.specs.declared.errors.PublisherCreateError.{PublisherCreat
 use Rattle.iox2_store.specs.declared.errors.SubscriberCreateError.{SubscriberCreateError}
 use Rattle.iox2_store.specs.declared.service_config.ServiceConfig.{ServiceConfig}
 use Rattle.iox2_laws.proofs.PortsClose.{publisher_closed_others}
-use Rattle.iox2_laws.proofs.LoansLeft.{KeepsTerms, LoansKept, LoanTaken, LoanEnds, set_kept, update_publisher_kept, update_subscriber_kept, receive_kept, released_kept, subscriber_closed_kept, create_publisher_kept, created_lends, created_longest, create_subscriber_kept, kept_itself, kept_lends, closed_lends, loan_taken, discarded_ends, send_ends, send_blocked_kept, ended_lends, others_lend, lends_fewer}
+use Rattle.iox2_laws.proofs.LoansLeft.{KeepsTerms, LoansKept, LoanTaken, LoanEnds, set_kept, update_publisher_kept, update_subscriber_kept, receive_kept, released_kept, subscriber_closed_kept, create_publisher_kept, created_lends, created_longest, create_subscriber_kept, kept_itself, kept_lends, closed_lends, loan_taken, discarded_ends, send_ends, send_blocked_kept, retry_ends, retry_blocked_kept, give_up_ends, give_up_blocked_kept, ended_lends, waited_lends, others_lend, lends_fewer}
 use Rattle.iox2_store.specs.declared.backpressure.BackpressureStrategy.{BackpressureStrategy}
 use Rattle.iox2_domain.specs.Kept.{Kept, state_of}
 use Rattle.iox2_domain.specs.Lending.{LoanCall}
@@ -162,31 +163,68 @@ module _ {T U : Type 0} (old new : Kept T U) (m m' : Messages T U) (s s' : State
   refused-left is_default checks len p (Ok a) h = tt
   refused-left is_default checks len p (Err e) h = same-left h.0
 
-  -- a loan ends
-  module _ (n : ℕ) (l : Loan T U) (out : s.loans n ≡ Some l) (p : ℕ) (its : l.publisher ≡ p) (ends : LoanEnds l.publisher n s s') where
-    ended : LoanEnds p n s s'
-    ended = subst (λ (i : ℕ). LoanEnds i n s s') its ends
-
-    pub ended-gives : HasOneMoreLeft p old new
-    ended-gives publisher more same left =
+  -- a loan of the publisher p ends
+  module _ (n p : ℕ) (ended : LoanEnds p n s s') (lends : (more : ℕ) → CanLend s p more → CanLend s' p (more + 1)) where
+    end-gives : HasOneMoreLeft p old new
+    end-gives publisher more same left =
         let was = lends-at old m s shown publisher more left in
         let can : CanLend s p more = subst (λ (i : ℕ). CanLend s i more) same was.0 in
         let there = ended.own (was.1).0 (ap s.publishers (sym same) ∙ (was.1).1) in
-        lends-from new m' s' shown' publisher (more + 1) (subst (λ (i : ℕ). CanLend s' i (more + 1)) (sym same) (ended_lends p n s s' shown.well_formed l out its ended more can))
+        lends-from new m' s' shown' publisher (more + 1) (subst (λ (i : ℕ). CanLend s' i (more + 1)) (sym same) (lends more can))
         (there.0, ap s'.publishers same ∙ there.1, there.6 ∙ (was.1).2)
 
-    pub ended-left : LoansLeftStay old new
-    ended-left = record {
+    end-left : LoansLeftStay old new
+    end-left = record {
       loans = λ publisher more left. at publisher more left (cases_eq publisher.id p);
-      numbers = numbers-stay ends.numbers;
+      numbers = numbers-stay ended.numbers;
     } where
       at : (publisher : Publisher) (more : ℕ) → HasLoansLeft old publisher more → (publisher.id ≡ p) ⊎ (publisher.id ≢ p) → HasLoansLeft new publisher more
-      at publisher more left (inl here) = fewer-left new publisher more (ended-gives publisher more here left)
+      at publisher more left (inl here) = fewer-left new publisher more (end-gives publisher more here left)
       at publisher more left (inr away) =
           let was = lends-at old m s shown publisher more left in
           let there = ended.others publisher.id (was.1).0 away (was.1).1 in
           let terms : KeepsTerms (was.1).0 there.0 = there.2 in
           lends-from new m' s' shown' publisher more (others_lend p n s s' ended publisher.id more away was.0) (there.0, there.1, terms.longest ∙ (was.1).2)
+
+  -- one that was in its user's hands
+  module _ (n : ℕ) (l : Loan T U) (out : s.loans n ≡ Some l) (p : ℕ) (its : l.publisher ≡ p) (ends : LoanEnds l.publisher n s s') where
+    ended : LoanEnds p n s s'
+    ended = subst (λ (i : ℕ). LoanEnds i n s s') its ends
+
+    pub ended-gives : HasOneMoreLeft p old new
+    ended-gives = end-gives n p ended (ended_lends p n s s' shown.well_formed l out its ended)
+
+    pub ended-left : LoansLeftStay old new
+    ended-left = end-left n p ended (ended_lends p n s s' shown.well_formed l out its ended)
+
+  -- one that waited with a blocked send
+  module _ (p : ℕ) (x : MachinePublisher) (b : BlockedSend) (stands : s.publishers p ≡ Some x) (waits : x.blocked ≡ Some b) where
+    ended-waiting : LoanEnds p b.message s s' → LoansLeftStay old new
+    ended-waiting ends = end-left b.message p ends (waited_lends p s s' shown.well_formed x b stands waits ends)
+
+    pub retry-gives : (environment : Environment) (elapsed : Duration) (result : SendResult) → (result ≡ Blocked_send → ⊥) → Retry environment s p b elapsed s' result → HasOneMoreLeft p old new
+    retry-gives environment elapsed result free h =
+        let ends : LoanEnds p b.message s s' = retry_ends environment s p b elapsed s' result free h in
+        end-gives b.message p ends (waited_lends p s s' shown.well_formed x b stands waits ends)
+
+    pub give-up-gives : (environment : Environment) (result : SendResult) → (result ≡ Blocked_send → ⊥) → GiveUp environment s p b s' result → HasOneMoreLeft p old new
+    give-up-gives environment result free h =
+        let ends : LoanEnds p b.message s s' = give_up_ends environment s p b s' result free h in
+        end-gives b.message p ends (waited_lends p s s' shown.well_formed x b stands waits ends)
+
+    pub retry-left : (environment : Environment) (elapsed : Duration) (result : SendResult) → Retry environment s p b elapsed s' result → LoansLeftStay old new
+    retry-left environment elapsed Blocked_send h = all-left (retry_blocked_kept environment s p b elapsed s' Blocked_send refl h)
+    retry-left environment elapsed (Delivered_to count) h =
+        ended-waiting (retry_ends environment s p b elapsed s' (Delivered_to count) (λ e. let clash : Delivered_to count ≡ Blocked_send = e in cc) h)
+    retry-left environment elapsed (Send_error error) h =
+        ended-waiting (retry_ends environment s p b elapsed s' (Send_error error) (λ e. let clash : Send_error error ≡ Blocked_send = e in cc) h)
+
+    pub give-up-left : (environment : Environment) (result : SendResult) → GiveUp environment s p b s' result → LoansLeftStay old new
+    give-up-left environment Blocked_send h = all-left (give_up_blocked_kept environment s p b s' Blocked_send refl h)
+    give-up-left environment (Delivered_to count) h =
+        ended-waiting (give_up_ends environment s p b s' (Delivered_to count) (λ e. let clash : Delivered_to count ≡ Blocked_send = e in cc) h)
+    give-up-left environment (Send_error error) h =
+        ended-waiting (give_up_ends environment s p b s' (Send_error error) (λ e. let clash : Send_error error ≡ Blocked_send = e in cc) h)
 
   pub publisher-close-numbers : (p : ℕ) (x : MachinePublisher) → s' ≡ publisher_closed s p x → NumbersLeftStay old new
   publisher-close-numbers p x is = numbers-stay (ap (λ (t : State T U). t.next_message) is)

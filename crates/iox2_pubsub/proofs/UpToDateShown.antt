@@ -1,14 +1,15 @@
 -- Which calls leave subscribers up to date, seen from outside.
 use Rattle.std.proofs.Common.{◌≡◌, ℕ, suc, refl, sym, ap, subst, ◌∙◌, arith, Bool, true, false, Option, None, Some, Result, Ok, Err}
 use Rattle.std.specs.Prelude.{OnOk}
+use Rattle.std.specs.declared.time.Duration.{Duration}
 use Rattle.iox2_store.specs.machine.Environments.{ample_memory}
 use Rattle.iox2_store.specs.machine.Loans.{loan_discarded}
 use Rattle.iox2_store.specs.machine.Ports.{CreateSubscriber}
 use Rattle.iox2_store.specs.machine.PublisherUpdate.{UpdatePublisher}
 use Rattle.iox2_store.specs.machine.Receives.{ReceiveResult, Got_sample, Receive_error, Receive}
-use Rattle.iox2_store.specs.machine.Records.{Environment, Loan, SubscriberSettings}
+use Rattle.iox2_store.specs.machine.Records.{Environment, Loan, BlockedSend, SubscriberSettings}
 use Rattle.iox2_store.specs.machine.Releases.{released}
-use Rattle.iox2_store.specs.machine.Sends.{SendResult, Send}
+use Rattle.iox2_store.specs.machine.Sends.{SendResult, Send, Retry, GiveUp}
 use Rattle.iox2_store.specs.machine.State.{State, Messages, with_loan}
 use Rattle.iox2_store.specs.machine.SubscriberUpdate.{UpdateSubscriber}
 use Rattle.iox2_store.specs.machine.Waiting.{waiting_for}
@@ -16,7 +17,7 @@ use Rattle.iox2_store.specs.declared.errors.ConnectionFailure.{ConnectionFailure
 use Rattle.iox2_store.specs.declared.errors.LoanError.{LoanError}
 use Rattle.iox2_store.specs.declared.errors.ReceiveError.{ReceiveError}
 use Rattle.iox2_store.specs.declared.errors.SubscriberCreateError.{SubscriberCreateError}
-use Rattle.iox2_laws.proofs.UpToDate.{IsUpdated, UpdatedStay, same_subscribers, grant_loan_subscribers, update_publisher_subscribers, send_subscribers, update_subscriber_updated, update_leaves_updated, receive_updated, receive_leaves_updated, receive_one_fewer, released_updated, create_subscriber_updated}
+use Rattle.iox2_laws.proofs.UpToDate.{IsUpdated, UpdatedStay, same_subscribers, grant_loan_subscribers, update_publisher_subscribers, send_subscribers, retry_subscribers, give_up_subscribers, update_subscriber_updated, update_leaves_updated, receive_updated, receive_leaves_updated, receive_one_fewer, released_updated, create_subscriber_updated}
 use Rattle.iox2_domain.specs.Kept.{Kept}
 use Rattle.iox2_domain.specs.Lending.{LoanCall}
 use Rattle.iox2_domain.specs.Questions.{IsAnswer}
@@ -44,6 +45,12 @@ module _ {T U : Type 0} (old new : Kept T U) (m m' : Messages T U) (s s' : State
 
   pub send-leaves : (environment : Environment) (n : ℕ) (l : Loan T U) (result : SendResult) → Send environment s n l s' result → UpToDateStay old new
   send-leaves environment n l result h = stay (same_subscribers s s' (send_subscribers environment s n l s' result h))
+
+  pub retry-leaves : (environment : Environment) (p : ℕ) (b : BlockedSend) (elapsed : Duration) (result : SendResult) → Retry environment s p b elapsed s' result → UpToDateStay old new
+  retry-leaves environment p b elapsed result h = stay (same_subscribers s s' (retry_subscribers environment s p b elapsed s' result h))
+
+  pub give-up-leaves : (environment : Environment) (p : ℕ) (b : BlockedSend) (result : SendResult) → GiveUp environment s p b s' result → UpToDateStay old new
+  give-up-leaves environment p b result h = stay (same_subscribers s s' (give_up_subscribers environment s p b s' result h))
 
   pub publisher-update-leaves : (environment : Environment) (p : ℕ) (failure : Option ConnectionFailure) → UpdatePublisher environment s p s' failure → UpToDateStay old new
   publisher-update-leaves environment p failure h = stay (same_subscribers s s' (update_publisher_subscribers environment s p s' failure h))

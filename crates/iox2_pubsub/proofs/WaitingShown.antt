@@ -13,9 +13,10 @@ use Rattle.iox2_store.specs.machine.Numbers.{contains}
 use Rattle.iox2_store.specs.machine.Ports.{CreatePublisher, CreateSubscriber}
 use Rattle.iox2_store.specs.machine.PublisherUpdate.{UpdatePublisher}
 use Rattle.iox2_store.specs.machine.Receives.{ReceiveResult, Got_sample, No_sample, Receive, HasSamples}
-use Rattle.iox2_store.specs.machine.Records.{Entry, Environment, Loan, PublisherSettings, SubscriberSettings, Subscriber as MachineSubscriber}
+use Rattle.std.specs.declared.time.Duration.{Duration}
+use Rattle.iox2_store.specs.machine.Records.{Entry, Environment, Loan, BlockedSend, PublisherSettings, SubscriberSettings, Publisher as MachinePublisher, Subscriber as MachineSubscriber}
 use Rattle.iox2_store.specs.machine.Releases.{released}
-use Rattle.iox2_store.specs.machine.Sends.{SendResult, Send}
+use Rattle.iox2_store.specs.machine.Sends.{SendResult, Send, Retry, GiveUp}
 use Rattle.iox2_store.specs.machine.State.{State, Messages, with_loan}
 use Rattle.iox2_store.specs.machine.SubscriberUpdate.{UpdateSubscriber}
 use Rattle.iox2_store.specs.machine.Waiting.{waiting_from, waiting_for}
@@ -36,7 +37,7 @@ use Rattle.iox2_laws.proofs.WaitingLoans.{grant_loan_waits, loan_set_waits, loan
 use Rattle.iox2_laws.proofs.WaitingReceives.{UpdateWaits, update_subscriber_waits, update_subscriber_counts, update_subscriber_others, receive_fewer, receive_none, receive_no_more, receive_waited, receive_others, has_samples_says, released_waits}
 use Rattle.iox2_laws.proofs.WaitingPorts.{NewWaits, create_subscriber_waits}
 use Rattle.iox2_laws.proofs.WaitingPublishers.{create_publisher_waits}
-use Rattle.iox2_laws.proofs.WaitingSends.{update_publisher_waits, send_waits, send_among}
+use Rattle.iox2_laws.proofs.WaitingSends.{update_publisher_waits, send_waits, send_among, retry_adds, give_up_adds}
 use Rattle.iox2_pubsub.specs.Live.{IsLiveSubscriber, AddAtMost, AreAllSlices, OthersWait, payloads, waiting, sample_key, subscriber_key}
 use Rattle.iox2_pubsub.specs.Slices.{HasValues, SampleHasValues}
 use Rattle.iox2_pubsub.specs.Payloads.{all_below, payload_of, payloads_for}
@@ -197,6 +198,15 @@ module _ {T U : Type 0} (old new : Kept T U) (m m' : Messages T U) (s s' : State
   send-adds environment n l result h =
       subst (λ (t : State T U). AddAtMost ((t.config).history_size + 1) old new) shown.state
       (adds ((s.config).history_size + 1) (send_waits environment s n l s' result shown.well_formed shown'.well_formed h))
+
+  -- a blocked send goes on
+  pub retry-adds : (environment : Environment) (p : ℕ) (x : MachinePublisher) (b : BlockedSend) (elapsed : Duration) (result : SendResult) → s.publishers p ≡ Some x → x.blocked ≡ Some b
+      → Retry environment s p b elapsed s' result → AddAtMost 1 old new
+  retry-adds environment p x b elapsed result stands waits h = adds 1 (retry_adds environment s p x b elapsed s' result shown.well_formed stands waits h)
+
+  pub give-up-adds : (environment : Environment) (p : ℕ) (x : MachinePublisher) (b : BlockedSend) (result : SendResult) → s.publishers p ≡ Some x → x.blocked ≡ Some b
+      → GiveUp environment s p b s' result → AddAtMost 1 old new
+  give-up-adds environment p x b result stands waits h = adds 1 (give_up_adds environment s p x b s' result shown.well_formed stands waits h)
 
   -- and brings its payload, where nothing waited and no history is kept
   pub send-brings : (environment : Environment) (n : ℕ) (l : Loan T U) (result : SendResult) → ((e : Entry T U) → m' n ≡ Some e → e ≡ entry_of l) → s.loans n ≡ Some l → Send environment s n l s' result

@@ -1,5 +1,5 @@
 //! A blocked send is tried again, or given up.
-ghost use Rattle.std.specs.Prelude.{◌≡◌, IfOk};
+ghost use Rattle.std.specs.Prelude.{◌≡◌, IfErr, IfOk};
 ghost use Rattle.iox2_pubsub.specs.SendCalls.{IfBlocked, result_of_send};
 
 use crate::blocked_send::BlockedSend;
@@ -16,12 +16,20 @@ impl BlockedSend {
     ghost use Rattle.iox2_store.specs.machine.Records.{Publisher as Record, BlockedSend as Waiting};
     ghost use Rattle.iox2_store.specs.machine.Sends.{Retry, GiveUp};
     ghost use Rattle.iox2_store.specs.machine.State.{State, Messages};
-    ghost use Rattle.iox2_pubsub.specs.Live.{IsBlockedSend, StaysBut, blocked_key, blocked_send};
+    ghost use Rattle.iox2_pubsub.specs.Live.{AddAtMost, IsBlockedSend, IsUnblocked, StaysBut, UpToDateStay, blocked_key, blocked_send, lender_key, written_key};
+    ghost use Rattle.iox2_pubsub.specs.LoansLeft.{HasOneMoreLeft, LoansLeftStay};
+    ghost use Rattle.iox2_pubsub.specs.SendCalls.{IsDelivered};
+    ghost use Rattle.iox2_pubsub.specs.declared.sample_mut.SampleMut.{SampleMut};
     ghost use Rattle.iox2_domain.specs.Shows.{Shows};
 
     /// Tries the send again at the subscriber that it waits for, and goes on to those that remain.
     /// Those that took the message aren't served again, and connections aren't updated. Where the
-    /// subscriber is still full, the send is blocked again. It takes no memory.
+    /// subscriber is still full, the send is blocked again. `elapsed` is the time since the send was
+    /// first blocked at that subscriber, which a publisher's handler is told. It takes no memory.
+    ///
+    /// Fails with `UnableToDeliver` alone, where a handler has failed the send at some subscriber.
+    /// When the send has ended or failed, its publisher lends, sends and updates again, and its slot
+    /// is free when every subscriber that took the message has released it.
     ///
     /// This library's own, where iceoryx2's `SampleMut::send` goes on by itself.
     pub fn retry<T: Drop, U: Default + Drop, F: BackpressureFn, G: DegradationFn>(
@@ -33,6 +41,13 @@ impl BlockedSend {
         ensures retries { (m : Messages T U) (s : State T U) (x : Record) (b : Waiting) → Shows domain.old m s → s.publishers self.loan.publisher ≡ Some x → x.blocked ≡ Some b
             → (s' : State T U) × Shows domain.new m s' × Retry fixed_handlers s self.loan.publisher b elapsed s' (result_of_send result) }
         ensures blocked { IfOk result (λ outcome. IfBlocked outcome (λ blocked. IsBlockedSend domain.new blocked × (blocked_key blocked ≡ blocked_key self))) }
+        ensures failed { IfErr result (λ error. error ≡ SendError.UnableToDeliver) }
+        ensures freed { IfOk result IsDelivered → IsUnblocked domain.new (lender_key (blocked_key self)) }
+        ensures loans_freed { IfOk result IsDelivered → (loan : SampleMut) → loan.loan.publisher ≡ self.loan.publisher → IsUnblocked domain.new (written_key loan) }
+        ensures adds { AddAtMost 1 domain.old domain.new }
+        ensures up_to_date { UpToDateStay domain.old domain.new }
+        ensures loans_left { LoansLeftStay domain.old domain.new }
+        ensures given_back { IfOk result IsDelivered → HasOneMoreLeft self.loan.publisher domain.old domain.new }
         ensures stays { StaysBut (blocked_send self) domain.old domain.new }
     {
         let BlockedSend { service_id, loan } = self;
@@ -42,7 +57,9 @@ impl BlockedSend {
     }
 
     /// Gives up the subscriber that the send waits for, and goes on to those that remain. That
-    /// subscriber doesn't get the message, and the send doesn't fail for it. It takes no memory.
+    /// subscriber doesn't get the message, and the send doesn't fail for it. Where a later one is
+    /// full, the send is blocked there. It takes no memory. Fails as `retry` does, and leaves the same
+    /// when the send has ended.
     ///
     /// This library's own, where iceoryx2's `SampleMut::send` goes on by itself.
     pub fn give_up<T: Drop, U: Default + Drop, F: BackpressureFn, G: DegradationFn>(
@@ -53,6 +70,13 @@ impl BlockedSend {
         ensures gives_up { (m : Messages T U) (s : State T U) (x : Record) (b : Waiting) → Shows domain.old m s → s.publishers self.loan.publisher ≡ Some x → x.blocked ≡ Some b
             → (s' : State T U) × Shows domain.new m s' × GiveUp fixed_handlers s self.loan.publisher b s' (result_of_send result) }
         ensures blocked { IfOk result (λ outcome. IfBlocked outcome (λ blocked. IsBlockedSend domain.new blocked × (blocked_key blocked ≡ blocked_key self))) }
+        ensures failed { IfErr result (λ error. error ≡ SendError.UnableToDeliver) }
+        ensures freed { IfOk result IsDelivered → IsUnblocked domain.new (lender_key (blocked_key self)) }
+        ensures loans_freed { IfOk result IsDelivered → (loan : SampleMut) → loan.loan.publisher ≡ self.loan.publisher → IsUnblocked domain.new (written_key loan) }
+        ensures adds { AddAtMost 1 domain.old domain.new }
+        ensures up_to_date { UpToDateStay domain.old domain.new }
+        ensures loans_left { LoansLeftStay domain.old domain.new }
+        ensures given_back { IfOk result IsDelivered → HasOneMoreLeft self.loan.publisher domain.old domain.new }
         ensures stays { StaysBut (blocked_send self) domain.old domain.new }
     {
         let BlockedSend { service_id, loan } = self;

@@ -109,7 +109,12 @@ impl PortFactoryPublisher {
         ensures left { IfOk result (λ publisher. HasLoansLeft domain.new publisher self.max_loaned_samples) }
         ensures stays { Stays domain.old domain.new }
     {
-        create_plain(domain, self.max_loaned_samples, self.backpressure_strategy, 1)
+        create_plain(
+            domain,
+            self.max_loaned_samples,
+            self.backpressure_strategy,
+            1,
+        )
     }
 }
 
@@ -137,7 +142,12 @@ pub(crate) fn create_plain<T: Drop, U: Default + Drop, F: BackpressureFn, G: Deg
     ensures stays { Stays domain.old domain.new }
 {
     let service_id = domain.state.config().service_id;
-    let port = create_publisher(&mut domain.state, max_loaned_samples, strategy, initial_max_slice_len)?;
+    let port = create_publisher(
+        &mut domain.state,
+        max_loaned_samples,
+        strategy,
+        initial_max_slice_len,
+    )?;
     Ok(Publisher {
         service_id,
         id: port.id,

@@ -16,8 +16,8 @@ impl<T: Drop, U: Default + Drop> UpdateConnections<T, U> for Publisher {
     ghost is_live = { λ domain publisher. IsReadyPublisher domain publisher.publisher };
 
     ghost live_stays = { λ old new publisher stays live. record {
-        there = stays.publishers (publisher_key publisher.publisher) live.there tt;
-        unblocked = stays.unblocked (publisher_key publisher.publisher) live.unblocked tt;
+      there = stays.publishers (publisher_key publisher.publisher) live.there tt;
+      unblocked = stays.unblocked (publisher_key publisher.publisher) live.unblocked tt;
     } };
 
     ghost updates = { λ s publisher s' failure. UpdatePublisher fixed_handlers s publisher.publisher.id s' failure };

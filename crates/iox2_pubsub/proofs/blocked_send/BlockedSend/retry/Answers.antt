@@ -12,12 +12,15 @@ use Rattle.iox2_domain.specs.Fields.{Fields, kept_of}
 use Rattle.iox2_domain.specs.Kept.{Kept, state_of}
 use Rattle.iox2_domain.specs.Shows.{Shows}
 use Rattle.iox2_domain.proofs.lemmas.slots.LeftConnections.{unknown, stands-nowhere}
-use Rattle.iox2_pubsub.specs.Live.{blocked_key}
+use Rattle.iox2_pubsub.specs.Live.{blocked_key, lender_key, written_key}
 use Rattle.iox2_pubsub.specs.SendCalls.{result_of_send}
-use Rattle.iox2_pubsub.proofs.BlockedShown.{has-blocked, as-machine, some-waits, retry-shown, retry-stays}
+use Rattle.iox2_pubsub.proofs.BlockedShown.{has-blocked, as-machine, some-waits, retry-shown, retry-stays, retry-frees-key, only-undelivered}
 use Rattle.iox2_pubsub.proofs.CallsStay.{always-shown}
 use Rattle.iox2_pubsub.proofs.LiveParts.{blocked-parts, blocked-live}
+use Rattle.iox2_pubsub.proofs.LoansLeftShown.{retry-left, retry-gives, sent-free}
 use Rattle.iox2_pubsub.proofs.SendShown.{is-blocked}
+use Rattle.iox2_pubsub.proofs.UpToDateShown.{retry-leaves}
+use Rattle.iox2_pubsub.proofs.WaitingShown.{retry-adds}
 use Rattle.iox2_pubsub.proofs.blocked_send.BlockedSend.retry.Goals as goal
 
 pub find_live_publisher-place-requires : goal.find_live_publisher-place-requires
@@ -74,8 +77,60 @@ returns-clause-blocked g c =
     let at = ap (λ (t : State g.row.T.Denot g.row.U.Denot). t.publishers c.args.self.loan.publisher) (it.2).state ∙ held.2 in
     let next = returns-clause-retries g c it.0 it.1 held.0 held.1 it.2 at held.3 in
     is-blocked {T = g.row.T.Denot} {U = g.row.U.Denot} (kept_of c.retry_send-outcome.new.state) (blocked_key c.args.self) c.args.self refl c.outcome_of.result c.outcome_of.ensures.blocked (λ blocked.
-    blocked-live (kept_of c.retry_send-outcome.new.state) (blocked_key c.args.self)
-    (parts.0 ∙ sym (ap (λ (k : ServiceConfig). k.service_id) (returns-clause-stays g c).settings),
-    subst (HoldsBlocked (state_of (kept_of c.retry_send-outcome.new.state)) c.args.self.loan.publisher) held.4
-    (subst (λ (t : State g.row.T.Denot g.row.U.Denot). HoldsBlocked t c.args.self.loan.publisher held.1.message) (next.1).state
-    (retry_waits_with fixed_handlers it.1 c.args.self.loan.publisher held.1 c.args.elapsed next.0 _ next.2 blocked))))
+    blocked-live (kept_of c.retry_send-outcome.new.state) (blocked_key c.args.self) (
+      parts.0 ∙ sym (ap (λ (k : ServiceConfig). k.service_id) (returns-clause-stays g c).settings),
+      subst (HoldsBlocked (state_of (kept_of c.retry_send-outcome.new.state)) c.args.self.loan.publisher) held.4
+          (subst (λ (t : State g.row.T.Denot g.row.U.Denot). HoldsBlocked t c.args.self.loan.publisher held.1.message) (next.1).state
+          (retry_waits_with fixed_handlers it.1 c.args.self.loan.publisher held.1 c.args.elapsed next.0 _ next.2 blocked)),
+    ))
+
+pub returns-clause-failed : goal.returns-clause-failed
+returns-clause-failed g c = only-undelivered c.retry_send-outcome.result c.outcome_of.result c.outcome_of.ensures.same
+
+pub returns-clause-freed : goal.returns-clause-freed
+returns-clause-freed g c = λ ends.
+    let it = always-shown {T = g.row.T.Denot} {U = g.row.U.Denot} c.domain.inside.state c.args.domain.now c.domain.invariant c.domain.view_is in
+    let held = (blocked-parts c.args.domain.now (blocked_key c.args.self) c.requires).1 in
+    let at = ap (λ (t : State g.row.T.Denot g.row.U.Denot). t.publishers c.args.self.loan.publisher) (it.2).state ∙ held.2 in
+    let next = returns-clause-retries g c it.0 it.1 held.0 held.1 it.2 at held.3 in
+    retry-frees-key {T = g.row.T.Denot} {U = g.row.U.Denot} (kept_of c.retry_send-outcome.new.state) it.0 it.1 next.0 next.1 c.args.self.loan.publisher held.0 held.1 at (result_of_send c.outcome_of.result) (sent-free c.outcome_of.result ends) c.args.elapsed next.2 (lender_key (blocked_key c.args.self)) refl
+
+pub returns-clause-loans_freed : goal.returns-clause-loans_freed
+returns-clause-loans_freed g c = λ ends loan its.
+    let it = always-shown {T = g.row.T.Denot} {U = g.row.U.Denot} c.domain.inside.state c.args.domain.now c.domain.invariant c.domain.view_is in
+    let held = (blocked-parts c.args.domain.now (blocked_key c.args.self) c.requires).1 in
+    let at = ap (λ (t : State g.row.T.Denot g.row.U.Denot). t.publishers c.args.self.loan.publisher) (it.2).state ∙ held.2 in
+    let next = returns-clause-retries g c it.0 it.1 held.0 held.1 it.2 at held.3 in
+    retry-frees-key {T = g.row.T.Denot} {U = g.row.U.Denot} (kept_of c.retry_send-outcome.new.state) it.0 it.1 next.0 next.1 c.args.self.loan.publisher held.0 held.1 at (result_of_send c.outcome_of.result) (sent-free c.outcome_of.result ends) c.args.elapsed next.2 (written_key loan) its
+
+pub returns-clause-adds : goal.returns-clause-adds
+returns-clause-adds g c =
+    let it = always-shown {T = g.row.T.Denot} {U = g.row.U.Denot} c.domain.inside.state c.args.domain.now c.domain.invariant c.domain.view_is in
+    let held = (blocked-parts c.args.domain.now (blocked_key c.args.self) c.requires).1 in
+    let at = ap (λ (t : State g.row.T.Denot g.row.U.Denot). t.publishers c.args.self.loan.publisher) (it.2).state ∙ held.2 in
+    let next = returns-clause-retries g c it.0 it.1 held.0 held.1 it.2 at held.3 in
+    retry-adds {T = g.row.T.Denot} {U = g.row.U.Denot} c.args.domain.now (kept_of c.retry_send-outcome.new.state) it.0 it.0 it.1 next.0 it.2 next.1 fixed_handlers c.args.self.loan.publisher held.0 held.1 c.args.elapsed (result_of_send c.outcome_of.result) at held.3 next.2
+
+pub returns-clause-up_to_date : goal.returns-clause-up_to_date
+returns-clause-up_to_date g c =
+    let it = always-shown {T = g.row.T.Denot} {U = g.row.U.Denot} c.domain.inside.state c.args.domain.now c.domain.invariant c.domain.view_is in
+    let held = (blocked-parts c.args.domain.now (blocked_key c.args.self) c.requires).1 in
+    let at = ap (λ (t : State g.row.T.Denot g.row.U.Denot). t.publishers c.args.self.loan.publisher) (it.2).state ∙ held.2 in
+    let next = returns-clause-retries g c it.0 it.1 held.0 held.1 it.2 at held.3 in
+    retry-leaves {T = g.row.T.Denot} {U = g.row.U.Denot} c.args.domain.now (kept_of c.retry_send-outcome.new.state) it.0 it.0 it.1 next.0 it.2 next.1 fixed_handlers c.args.self.loan.publisher held.1 c.args.elapsed (result_of_send c.outcome_of.result) next.2
+
+pub returns-clause-loans_left : goal.returns-clause-loans_left
+returns-clause-loans_left g c =
+    let it = always-shown {T = g.row.T.Denot} {U = g.row.U.Denot} c.domain.inside.state c.args.domain.now c.domain.invariant c.domain.view_is in
+    let held = (blocked-parts c.args.domain.now (blocked_key c.args.self) c.requires).1 in
+    let at = ap (λ (t : State g.row.T.Denot g.row.U.Denot). t.publishers c.args.self.loan.publisher) (it.2).state ∙ held.2 in
+    let next = returns-clause-retries g c it.0 it.1 held.0 held.1 it.2 at held.3 in
+    retry-left {T = g.row.T.Denot} {U = g.row.U.Denot} c.args.domain.now (kept_of c.retry_send-outcome.new.state) it.0 it.0 it.1 next.0 it.2 next.1 c.args.self.loan.publisher held.0 held.1 at held.3 fixed_handlers c.args.elapsed (result_of_send c.outcome_of.result) next.2
+
+pub returns-clause-given_back : goal.returns-clause-given_back
+returns-clause-given_back g c = λ ends.
+    let it = always-shown {T = g.row.T.Denot} {U = g.row.U.Denot} c.domain.inside.state c.args.domain.now c.domain.invariant c.domain.view_is in
+    let held = (blocked-parts c.args.domain.now (blocked_key c.args.self) c.requires).1 in
+    let at = ap (λ (t : State g.row.T.Denot g.row.U.Denot). t.publishers c.args.self.loan.publisher) (it.2).state ∙ held.2 in
+    let next = returns-clause-retries g c it.0 it.1 held.0 held.1 it.2 at held.3 in
+    retry-gives {T = g.row.T.Denot} {U = g.row.U.Denot} c.args.domain.now (kept_of c.retry_send-outcome.new.state) it.0 it.0 it.1 next.0 it.2 next.1 c.args.self.loan.publisher held.0 held.1 at held.3 fixed_handlers c.args.elapsed (result_of_send c.outcome_of.result) (sent-free c.outcome_of.result ends) next.2

@@ -89,11 +89,12 @@ returns-clause-blocked g c =
     let out = ap (λ (t : State g.row.T.Denot g.row.U.Denot). t.loans c.args.self.loan.number) (it.2).state ∙ has.1 in
     let step = returns-clause-sent g c it.0 it.1 has.0 it.2 out in
     is-blocked {T = g.row.T.Denot} {U = g.row.U.Denot} (kept_of c.send_loan.new.state) (written_key c.args.self) _ refl c.outcome_of.result c.outcome_of.ensures.blocked (λ blocked.
-    blocked-live (kept_of c.send_loan.new.state) (written_key c.args.self)
-    (parts.0 ∙ sym (ap (λ (k : ServiceConfig). k.service_id) (returns-clause-stays g c).settings),
-    subst (λ (p : ℕ). HoldsBlocked (state_of (kept_of c.send_loan.new.state)) p c.args.self.loan.number) has.2
-    (subst (λ (t : State g.row.T.Denot g.row.U.Denot). HoldsBlocked t has.0.publisher c.args.self.loan.number) (step.1).state
-    (send_waits_with fixed_handlers it.1 c.args.self.loan.number has.0 step.0 _ step.2 blocked))))
+    blocked-live (kept_of c.send_loan.new.state) (written_key c.args.self) (
+      parts.0 ∙ sym (ap (λ (k : ServiceConfig). k.service_id) (returns-clause-stays g c).settings),
+      subst (λ (p : ℕ). HoldsBlocked (state_of (kept_of c.send_loan.new.state)) p c.args.self.loan.number) has.2
+          (subst (λ (t : State g.row.T.Denot g.row.U.Denot). HoldsBlocked t has.0.publisher c.args.self.loan.number) (step.1).state
+          (send_waits_with fixed_handlers it.1 c.args.self.loan.number has.0 step.0 _ step.2 blocked)),
+    ))
 
 pub returns-clause-gone : goal.returns-clause-gone
 returns-clause-gone g c =
