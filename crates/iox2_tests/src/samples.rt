@@ -14,7 +14,7 @@ fn subscribed(rt: &impl Abort, domain: &mut Domain<Reading, Station>) -> Subscri
 {
     let factory = domain.subscriber_builder();
     let subscriber = factory.create(domain).expect(rt, "a subscriber");
-    let factory = factory_for(&domain);
+    let factory = factory_for(domain);
     let publisher = factory.create(domain).expect(rt, "a publisher");
     publish(domain, &publisher, 21);
     publisher.disown();
