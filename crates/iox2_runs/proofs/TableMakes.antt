@@ -55,11 +55,12 @@ module _ {T U : Type 0} (environment : Environment) (s : State T U) where
   pub publisher_made : (given : PublisherSettings) → given.backpressure_strategy ≡ DiscardData → given.backpressure_handler ≡ None → (s' : State T U)
       → CreatePublisher environment s given s' None → IsFree s' s.next_port × (s.next_port < s'.next_port)
   publisher_made given discards none s' h =
-      let made = created_as environment s given s' h in
-      ((made.0, made.1, made.4, made.2 ∙ discards, made.3 ∙ none),
-      by_bool IsKnown (s.next_port == last_number) _ _ h (λ _ k. absurd (none-some _ k.1)) (λ _ k.
-      by_option IsKnown (free_place (s.config).max_publishers s.publisher_places) _ _ k (λ _ j. absurd (none-some _ j.1)) (λ place _ j.
-      by_bool IsKnown (first_segment_fits s.config given) _ _ j (λ _ i. known place i) (λ _ i. absurd (none-some _ i.1)))))
+      let made = created_as environment s given s' h in (
+        (made.0, made.1, made.4, made.2 ∙ discards, made.3 ∙ none),
+        by_bool IsKnown (s.next_port == last_number) _ _ h (λ _ k. absurd (none-some _ k.1)) (λ _ k.
+            by_option IsKnown (free_place (s.config).max_publishers s.publisher_places) _ _ k (λ _ j. absurd (none-some _ j.1)) (λ place _ j.
+            by_bool IsKnown (first_segment_fits s.config given) _ _ j (λ _ i. known place i) (λ _ i. absurd (none-some _ i.1)))),
+      )
     where
       IsKnown : Type 0
       IsKnown = s.next_port < s'.next_port

@@ -66,7 +66,7 @@ returns-then-not-is_single_valued-clause-leaves g c =
 
 pub returns-in-Ok-clause-leaves : goal.returns-in-Ok-clause-leaves
 returns-in-Ok-clause-leaves g c =
-    leaves-making {T = g.row.T.Denot} {U = g.row.U.Denot} c.args.domain.now c.send_copy.new.domain c.args.table.now 
+    leaves-making {T = g.row.T.Denot} {U = g.row.U.Denot} c.args.domain.now c.send_copy.new.domain c.args.table.now
     (subst (λ (outcome : SendOutcome). StaysBut (spent_by_copy c.in-Publisher.publisher (Ok outcome)) c.args.domain.now c.send_copy.new.domain) c.delivered.ensures c.in-Ok.ensures.stays)
     Nothing (nothing-is-new {T = g.row.T.Denot} {U = g.row.U.Denot} c.args.domain.now)
 

@@ -50,7 +50,7 @@ returns-in_default-clause-carries g c =
 pub returns-in-Ok-clause-leaves : goal.returns-in-Ok-clause-leaves
 returns-in-Ok-clause-leaves g c =
     leaves-spending {T = g.row.T.Denot} {U = g.row.U.Denot} c.args.domain.now c.send.new.domain c.args.table.now.items c.take.new.table.items c.args.of
-    (Written c.in-Written.sample) Nothing (sym c.take.ensures.made ∙ c.in-Written.is) 
+    (Written c.in-Written.sample) Nothing (sym c.take.ensures.made ∙ c.in-Written.is)
     (subst (λ (outcome : SendOutcome). StaysBut (spent_by_send c.in-Written.sample (Ok outcome)) c.args.domain.now c.send.new.domain) c.delivered.ensures c.in-Ok.ensures.stays)
     (λ start new. nothing-is-new start) c.take.ensures.items
 
