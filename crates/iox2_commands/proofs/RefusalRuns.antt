@@ -22,22 +22,22 @@ use Rattle.iox2_laws.specs.Laws.{Advances}
 use Rattle.iox2_laws.proofs.Cases.{by_option}
 use Rattle.iox2_laws.proofs.Enough.{fresh_is_well_formed}
 use Rattle.iox2_commands.specs.Outcomes.{Handle, Event, Outcome, messages_after, done, replied, skipped}
-use Rattle.iox2_commands.specs.Step.{Step, after_publisher, after_subscriber, publisher_settings, unblocked_at, subscriber_at, loan_at, unwritten_at, written_at, with_cell_at, sendable_at, sample_at, if_single_units, if_fixed_size, if_dynamic}
+use Rattle.iox2_commands.specs.Step.{Step, after_publisher, after_subscriber, publisher_settings, unblocked_at, subscriber_at, loan_at, unwritten_at, written_at, with_cell_at, sendable_at, blocked_at, sample_at, if_single_units, if_fixed_size, if_dynamic}
 use Rattle.iox2_commands.specs.Points.{PointOf}
 use Rattle.iox2_commands.specs.Runs.{Defaults, RunFrom, RunTo, only_defaults}
 use Rattle.iox2_commands.specs.Refusals.{TellNoRefusal, TellsOfRefusals, RefusesPort, RefuseNoPort, MetNoRefusal, RunsWithoutRefusalsAreAmple, SubscribersAreIsolatedWithoutRefusals, ViewsStayAlikeWithoutRefusals}
 use Rattle.iox2_commands.specs.declared.command.Command.{Command}
-use Rattle.iox2_commands.specs.declared.command.Command.TheVariants.{Nothing, CreatePublisher, CreateSubscriber, LoanUninit, Loan as LoanDefault, LoanSlice, WriteCell, WriteAll, AssumeInit, WriteHeader, SetPayload, Send, SendCopy, Discard, Update, Receive, HasSamples, Read, ReadHeader, ReadUserHeader, Release, Close}
+use Rattle.iox2_commands.specs.declared.command.Command.TheVariants.{Nothing, CreatePublisher, CreateSubscriber, LoanUninit, Loan as LoanDefault, LoanSlice, WriteCell, WriteAll, AssumeInit, WriteHeader, SetPayload, Send, SendCopy, Discard, Retry, GiveUp, Update, Receive, HasSamples, Read, ReadHeader, ReadUserHeader, Release, Close}
 use Rattle.iox2_commands.specs.declared.reply.Reply.{Reply}
 use Rattle.iox2_commands.specs.declared.reply.Reply.TheVariants.{Unwritten}
 use Rattle.iox2_commands.proofs.EnoughRuns.{run_sound}
 use Rattle.iox2_commands.proofs.Isolation.{subscribers_are_isolated, views_stay_alike}
 use Rattle.iox2_commands.proofs.Points.{run_to, run_from}
 use Rattle.iox2_commands.proofs.StepLaws.{IsSound, step_sound}
-use Rattle.iox2_commands.proofs.AlikeOpen.{state_publisher, state_subscriber, state_loan, state_update, state_question, state_receive, state_send}
+use Rattle.iox2_commands.proofs.AlikeOpen.{state_publisher, state_subscriber, state_loan, state_update, state_question, state_receive, state_send, state_retry}
 use Rattle.iox2_commands.proofs.RefusalUpdates.{option_maps, update_publisher_ample, update_publisher_told, update_subscriber_ample, update_subscriber_told}
-use Rattle.iox2_commands.proofs.RefusalStates.{AllStatic, update_publisher_static, update_subscriber_static, receive_static, released_static, with_loan_static, grant_loan_static, grant_written_loan_static, loan_discarded_static, send_static, create_publisher_static, create_subscriber_static, publisher_closed_static, subscriber_closed_static}
-use Rattle.iox2_commands.proofs.RefusalSteps.{released_same, subscriber_closed_same, grant_loan_ample, grant_written_loan_ample, send_ample, receive_ample, create_publisher_ample, create_subscriber_ample}
+use Rattle.iox2_commands.proofs.RefusalStates.{AllStatic, update_publisher_static, update_subscriber_static, receive_static, released_static, with_loan_static, grant_loan_static, grant_written_loan_static, loan_discarded_static, send_static, retry_static, give_up_static, create_publisher_static, create_subscriber_static, publisher_closed_static, subscriber_closed_static}
+use Rattle.iox2_commands.proofs.RefusalSteps.{released_same, subscriber_closed_same, grant_loan_ample, grant_written_loan_ample, send_ample, retry_ample, give_up_ample, receive_ample, create_publisher_ample, create_subscriber_ample}
 
 module _ {T U : Type 0} (default_value : T) (default_header : U) (m : Messages T U) (s : State T U) (handles : List Handle) (k : AllStatic s) where
   -- what holds of a state holds of that of an outcome
@@ -93,6 +93,10 @@ module _ {T U : Type 0} (default_value : T) (default_header : U) (m : Messages T
       by AllStatic o _ i.0 i.3 (state_send i.0 _ _ _ i.1) (send_static fixed_handlers j.0 i.0 s.next_message loan i.1 i.2 mid)))
       (λ e _ i. by AllStatic o _ j.0 i refl mid))
   step_static (Discard of) o plain h = live_static o (loan_at s handles of) _ h (λ loan j. by AllStatic o _ _ j refl (loan_discarded_static s loan.0 loan.1 k))
+  step_static (Retry of elapsed) o plain h =
+      live_static o (blocked_at s handles of) _ h (λ blocked j. by AllStatic o _ j.0 j.3 (state_retry j.0 j.1) (retry_static fixed_handlers s j.0 blocked.0 blocked.1 elapsed j.1 j.2 k))
+  step_static (GiveUp of) o plain h =
+      live_static o (blocked_at s handles of) _ h (λ blocked j. by AllStatic o _ j.0 j.3 (state_retry j.0 j.1) (give_up_static fixed_handlers s j.0 blocked.0 blocked.1 j.1 j.2 k))
   step_static (Update of) o plain h =
       by_option (AllStatic o.state) (unblocked_at s handles of) _ _ h
       (λ _ j. live_static o (subscriber_at s handles of) _ j (λ subscriber j. by AllStatic o _ j.0 j.3 (state_update j.0 j.1) (update_subscriber_static fixed_handlers s j.0 subscriber.0 j.1 j.2 k)))
@@ -122,7 +126,6 @@ module _ {T U : Type 0} (default_value : T) (default_header : U) (m : Messages T
       by_option (AllStatic o.state) (unblocked_at s handles of) _ _ h
       (λ _ j. live_static o (subscriber_at s handles of) _ j (λ subscriber j. by AllStatic o _ _ j refl (subscriber_closed_static s subscriber.0 subscriber.1 k)))
       (λ publisher _ j. by AllStatic o _ _ j refl (publisher_closed_static s publisher.0 publisher.1 k))
-  step_static _ o plain h = absurd plain
 
   -- Where the count is 0 after a step, and its reply tells of no refusal, it is a step with ample memory, and the count was 0
   -- before it.
@@ -196,6 +199,16 @@ module _ {T U : Type 0} (default_value : T) (default_header : U) (m : Messages T
         (λ e _ i. back Told o _ j.0 i refl told))),
   )
   step_ample (Discard of) o plain port told h = (h, live_told o (loan_at s handles of) _ h told (λ loan j. back Told o _ _ j refl told))
+  step_ample (Retry of elapsed) o plain port told h = (
+    option_maps (blocked_at s handles of) _ _ _ _ h (λ e. e) (λ blocked _ j. (j.0, j.1, (retry_ample s j.0 blocked.0 blocked.1 elapsed j.1 j.2).0, j.3)),
+    live_told o (blocked_at s handles of) _ h told (λ blocked j.
+        subst TellNoRefusal (retry_ample s j.0 blocked.0 blocked.1 elapsed j.1 j.2).1 (back Told o _ j.0 j.3 (state_retry j.0 j.1) told)),
+  )
+  step_ample (GiveUp of) o plain port told h = (
+    option_maps (blocked_at s handles of) _ _ _ _ h (λ e. e) (λ blocked _ j. (j.0, j.1, (give_up_ample s j.0 blocked.0 blocked.1 j.1 j.2).0, j.3)),
+    live_told o (blocked_at s handles of) _ h told (λ blocked j.
+        subst TellNoRefusal (give_up_ample s j.0 blocked.0 blocked.1 j.1 j.2).1 (back Told o _ j.0 j.3 (state_retry j.0 j.1) told)),
+  )
   step_ample (Update of) o plain port told h = (
     option_maps (unblocked_at s handles of) _ _ _ _ h
         (λ j. option_maps (subscriber_at s handles of) _ _ _ _ j (λ e. e)
@@ -253,7 +266,6 @@ module _ {T U : Type 0} (default_value : T) (default_header : U) (m : Messages T
         subst TellNoRefusal (subscriber_closed_same s subscriber.0 subscriber.1) (back Told o _ _ j refl told)))
         (λ publisher _ j. back Told o _ _ j refl told),
   )
-  step_ample _ o plain port told h = absurd plain
 
 module _ {T U : Type 0} (defaults : Defaults T U) where
   -- A run after which the count is 0, and whose replies tell of no refused memory, is one with ample memory, and the count was 0

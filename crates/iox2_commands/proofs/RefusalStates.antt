@@ -1,7 +1,8 @@
 -- Publishers that have their memory from the start go on having it.
-use Rattle.std.proofs.Common.{◌≡◌, ℕ, Bool, true, false, List, [], ◌∷◌, ◌++◌, cond, refl, sym, ap, subst, ◌∙◌, Option, None, Some, eqb}
+use Rattle.std.proofs.Common.{◌≡◌, ℕ, ◌+◌, Bool, true, false, List, [], ◌∷◌, ◌++◌, drop, cond, refl, sym, ap, subst, ◌∙◌, Option, None, Some, eqb}
 use Rattle.std.specs.Prelude.{nat_lt, MatchOption}
 use Rattle.std.specs.Option.{option_map}
+use Rattle.std.specs.declared.time.Duration.{Duration}
 use Rattle.std.proofs.lemmas.Bool.{true≢false}
 use Rattle.iox2_store.specs.machine.Limits.{buffer_limit, last_number}
 use Rattle.iox2_store.specs.machine.Numbers.{put_at, size, without, last_n}
@@ -9,11 +10,11 @@ use Rattle.iox2_store.specs.machine.Places.{free_place}
 use Rattle.iox2_store.specs.machine.SingleCalls.{GrantWrittenLoan}
 use Rattle.iox2_store.specs.machine.Records.{Loan, Publisher, Subscriber, Environment, PublisherSettings, SubscriberSettings, BlockedSend}
 use Rattle.iox2_store.specs.machine.State.{State, held, with_loan, publisher_changed}
-use Rattle.iox2_store.specs.machine.Delivery.{DeliveryEnd, Complete, Suspended}
+use Rattle.iox2_store.specs.machine.Delivery.{DeliveryEnd, Complete, Suspended, no_time}
 use Rattle.iox2_store.specs.machine.PublisherUpdate.{UpdatePublisher}
 use Rattle.iox2_store.specs.machine.SubscriberUpdate.{UpdateSubscriber}
 use Rattle.iox2_store.specs.machine.Loans.{GrantLoan, is_static, limit_error, loan_discarded}
-use Rattle.iox2_store.specs.machine.Sends.{Send, SendResult, Publish, ConcludeSend, published, with_mailboxes}
+use Rattle.iox2_store.specs.machine.Sends.{Send, SendResult, Publish, DeliverAndConclude, ConcludeSend, Retry, GiveUp, more_retries, published, with_mailboxes}
 use Rattle.iox2_store.specs.machine.Receives.{Receive, TakeSample, ReceiveResult, Got_sample, No_sample, Receive_error}
 use Rattle.iox2_store.specs.machine.Releases.{released, unborrowed, subscriber_pruned, is_unused, place_freed, freed_if_unused}
 use Rattle.iox2_store.specs.machine.Ports.{new_publisher, with_new_publisher, with_new_subscriber, with_failure_warning, MakePublisher, CreatePublisher, MakeSubscriber, CreateSubscriber, first_segment_fits, buffer_for, publisher_closed, subscriber_shut, subscriber_closed}
@@ -163,11 +164,23 @@ module _ {T U : Type 0} where
   concluded_static s s' p n (Suspended b) result h k =
       subst AllStatic (sym h.0) (publisher_changed_static s p (λ x. record x { blocked = Some b }) (λ x h. h) k)
 
+  -- a delivery ends or is held up
+  delivered_static : (environment : Environment) (s s' : State T U) (p n retries : ℕ) (elapsed : Duration) (place : ℕ) (ends : List (Option ℕ)) (count : ℕ) (has_failed : Bool) (result : SendResult)
+      → DeliverAndConclude environment s p n retries elapsed place ends count has_failed s' result → AllStatic s → AllStatic s'
+  delivered_static environment s s' p n retries elapsed place ends count has_failed result h k =
+      by_option (AllStatic s') (s.publishers p) _ _ h (λ _ v. absurd v) (λ z _ h.
+      concluded_static (with_mailboxes s p h.1) s' p n h.0 result h.3 (record { publishers = k.publishers }))
+
+  pub retry_static : (environment : Environment) (s s' : State T U) (p : ℕ) (b : BlockedSend) (elapsed : Duration) (result : SendResult) → Retry environment s p b elapsed s' result → AllStatic s → AllStatic s'
+  retry_static environment s s' p b elapsed result = delivered_static environment s s' p b.message (more_retries b.retries) elapsed b.place b.ends b.count b.has_failed result
+
+  pub give_up_static : (environment : Environment) (s s' : State T U) (p : ℕ) (b : BlockedSend) (result : SendResult) → GiveUp environment s p b s' result → AllStatic s → AllStatic s'
+  give_up_static environment s s' p b result = delivered_static environment s s' p b.message 0 no_time (b.place + 1) (drop 1 b.ends) b.count b.has_failed result
+
   publish_static : (environment : Environment) (s s' : State T U) (p n : ℕ) (result : SendResult) → Publish environment s p n s' result → AllStatic s → AllStatic s'
   publish_static environment s s' p n result h k =
       by_option (AllStatic s') (s.publishers p) _ _ h (λ _ v. absurd v) (λ x _ h.
-      by_option (AllStatic s') ((published s p n).publishers p) _ _ h (λ _ v. absurd v) (λ z _ h.
-      concluded_static (with_mailboxes (published s p n) p h.1) s' p n h.0 result h.3 (record { publishers = kept.publishers })))
+      delivered_static environment (published s p n) s' p n 0 no_time 0 x.ends 0 false result h kept)
     where
       kept : AllStatic (published s p n)
       kept = publisher_changed_static (with_loan s n None) p (λ x. record x { history = last_n (s.config).history_size (x.history ++ n ∷ []) }) (λ x h. h) (with_loan_static s n None k)

@@ -1,5 +1,5 @@
 -- What a step does is done with ample memory too, where the count of refused connections is 0 afterwards.
-use Rattle.std.proofs.Common.{◌≡◌, ℕ, ◌+◌, Bool, true, false, ◌||◌, List, [], ◌∷◌, ◌++◌, length, cond, refl, sym, ap, subst, ◌∙◌, Option, None, Some, eqb, ◌⊎◌, ⊎_elim}
+use Rattle.std.proofs.Common.{◌≡◌, ℕ, ◌+◌, Bool, true, false, ◌||◌, List, [], ◌∷◌, ◌++◌, length, drop, cond, refl, sym, ap, subst, ◌∙◌, Option, None, Some, eqb, ◌⊎◌, ⊎_elim}
 use Rattle.std.specs.Prelude.{nat_lt, MatchOption}
 use Rattle.std.specs.Bool.{MatchBool}
 use Rattle.std.specs.declared.time.Duration.{Duration}
@@ -9,13 +9,13 @@ use Rattle.iox2_store.specs.machine.Mailbox.{Mailbox, has_room}
 use Rattle.iox2_store.specs.machine.Numbers.{size}
 use Rattle.iox2_store.specs.machine.Places.{free_place}
 use Rattle.iox2_store.specs.machine.SingleCalls.{GrantWrittenLoan}
-use Rattle.iox2_store.specs.machine.Records.{Loan, Publisher, Subscriber, Environment, Handler, Fixed, Custom, PublisherSettings, SubscriberSettings}
+use Rattle.iox2_store.specs.machine.Records.{Loan, Publisher, Subscriber, BlockedSend, Environment, Handler, Fixed, Custom, PublisherSettings, SubscriberSettings}
 use Rattle.iox2_store.specs.machine.State.{State, held, with_loan, warned, receiving_buffer}
 use Rattle.iox2_store.specs.machine.Delivery.{PutResult, DeliveryEnd, Complete, Suspended, Decides, Put, PutAtEnd, Deliver, is_blocking, is_failed, accepted_count, no_time}
 use Rattle.iox2_store.specs.machine.PublisherUpdate.{UpdatePublisher}
 use Rattle.iox2_store.specs.machine.SubscriberUpdate.{UpdateSubscriber}
 use Rattle.iox2_store.specs.machine.Loans.{GrantLoan, is_static, limit_error, loan_discarded}
-use Rattle.iox2_store.specs.machine.Sends.{Send, SendResult, Send_error, Publish, ConcludeSend, published, with_mailboxes}
+use Rattle.iox2_store.specs.machine.Sends.{Send, SendResult, Send_error, Publish, DeliverAndConclude, ConcludeSend, Retry, GiveUp, more_retries, published, with_mailboxes}
 use Rattle.iox2_store.specs.machine.Receives.{Receive, HasSamples, TakeSample, ReceiveResult, Got_sample, No_sample, Receive_error}
 use Rattle.iox2_store.specs.machine.Releases.{released, unborrowed, subscriber_pruned, is_unused, place_freed, freed_if_unused}
 use Rattle.iox2_store.specs.machine.Ports.{with_new_publisher, with_new_subscriber, with_failure_warning, MakePublisher, CreatePublisher, MakeSubscriber, CreateSubscriber, first_segment_fits, buffer_for, subscriber_shut, subscriber_closed}
@@ -128,21 +128,45 @@ module _ {T U : Type 0} where
   concluded_same s s' p n (Complete count has_failed) result h = ap (λ (z : State T U). z.warnings) h.0
   concluded_same s s' p n (Suspended b) result h = ap (λ (z : State T U). z.warnings) h.0
 
+  -- a delivery takes no memory, and warns of nothing
+  delivered_ample : (s s' : State T U) (p n retries : ℕ) (elapsed : Duration) (place : ℕ) (ends : List (Option ℕ)) (count : ℕ) (has_failed : Bool) (result : SendResult)
+      → DeliverAndConclude fixed_handlers s p n retries elapsed place ends count has_failed s' result → DeliverAndConclude ample_memory s p n retries elapsed place ends count has_failed s' result
+  delivered_ample s s' p n retries elapsed place ends count has_failed result h =
+      option_maps (s.publishers p) _ _ _ _ h (λ v. v) (λ z _ h. (
+        h.0,
+        h.1,
+        deliver_ample s.config p z.backpressure_strategy z.backpressure_handler (receiving_buffer s) n retries elapsed place ends count has_failed (s.mailboxes p) h.0 h.1 h.2,
+        h.3,
+      ))
+
+  delivered_same : (s s' : State T U) (p n retries : ℕ) (elapsed : Duration) (place : ℕ) (ends : List (Option ℕ)) (count : ℕ) (has_failed : Bool) (result : SendResult)
+      → DeliverAndConclude fixed_handlers s p n retries elapsed place ends count has_failed s' result → s'.warnings ≡ s.warnings
+  delivered_same s s' p n retries elapsed place ends count has_failed result h =
+      by_option (s'.warnings ≡ s.warnings) (s.publishers p) _ _ h (λ _ v. absurd v) (λ z _ h.
+      concluded_same (with_mailboxes s p h.1) s' p n h.0 result h.3)
+
+  pub retry_ample : (s s' : State T U) (p : ℕ) (b : BlockedSend) (elapsed : Duration) (result : SendResult)
+      → Retry fixed_handlers s p b elapsed s' result → Retry ample_memory s p b elapsed s' result × (s'.warnings ≡ s.warnings)
+  retry_ample s s' p b elapsed result h = (
+    delivered_ample s s' p b.message (more_retries b.retries) elapsed b.place b.ends b.count b.has_failed result h,
+    delivered_same s s' p b.message (more_retries b.retries) elapsed b.place b.ends b.count b.has_failed result h,
+  )
+
+  pub give_up_ample : (s s' : State T U) (p : ℕ) (b : BlockedSend) (result : SendResult) → GiveUp fixed_handlers s p b s' result → GiveUp ample_memory s p b s' result × (s'.warnings ≡ s.warnings)
+  give_up_ample s s' p b result h = (
+    delivered_ample s s' p b.message 0 no_time (b.place + 1) (drop 1 b.ends) b.count b.has_failed result h,
+    delivered_same s s' p b.message 0 no_time (b.place + 1) (drop 1 b.ends) b.count b.has_failed result h,
+  )
+
   publish_ample : (s s' : State T U) (p n : ℕ) (result : SendResult) → Publish fixed_handlers s p n s' result → Publish ample_memory s p n s' result
   publish_ample s s' p n result h =
       option_maps (s.publishers p) _ _ _ _ h (λ v. v) (λ x _ h.
-      option_maps ((published s p n).publishers p) _ _ _ _ h (λ v. v) (λ z _ h. (
-        h.0,
-        h.1,
-        deliver_ample s.config p z.backpressure_strategy z.backpressure_handler (receiving_buffer (published s p n)) n 0 no_time 0 x.ends 0 false ((published s p n).mailboxes p) h.0 h.1 h.2,
-        h.3,
-      )))
+      delivered_ample (published s p n) s' p n 0 no_time 0 x.ends 0 false result h)
 
   publish_same : (s s' : State T U) (p n : ℕ) (result : SendResult) → Publish fixed_handlers s p n s' result → s'.warnings ≡ s.warnings
   publish_same s s' p n result h =
       by_option (s'.warnings ≡ s.warnings) (s.publishers p) _ _ h (λ _ v. absurd v) (λ x _ h.
-      by_option (s'.warnings ≡ s.warnings) ((published s p n).publishers p) _ _ h (λ _ v. absurd v) (λ z _ h.
-      concluded_same (with_mailboxes (published s p n) p h.1) s' p n h.0 result h.3))
+      delivered_same (published s p n) s' p n 0 no_time 0 x.ends 0 false result h)
 
   pub send_ample : (s s' : State T U) (n : ℕ) (l : Loan T U) (result : SendResult) → TellNoRefusal s'.warnings
       → Send fixed_handlers s n l s' result → Send ample_memory s n l s' result × TellNoRefusal s.warnings

@@ -16,7 +16,7 @@ use Rattle.iox2_commands.specs.Step.{publisher_settings}
 use Rattle.iox2_commands.specs.Isolation.{AreIndependent, reads_at}
 use Rattle.iox2_commands.specs.Views.{SameView, OmitsOthersFrom}
 use Rattle.iox2_commands.specs.declared.command.Command.{Command}
-use Rattle.iox2_commands.specs.declared.command.Command.TheVariants.{Nothing, CreatePublisher, CreateSubscriber, LoanUninit, Loan, LoanSlice, WriteCell, WriteAll, AssumeInit, WriteHeader, SetPayload, Send, SendCopy, Discard, Update, Receive, HasSamples, Read, ReadHeader, ReadUserHeader, Release, Close}
+use Rattle.iox2_commands.specs.declared.command.Command.TheVariants.{Nothing, CreatePublisher, CreateSubscriber, LoanUninit, Loan, LoanSlice, WriteCell, WriteAll, AssumeInit, WriteHeader, SetPayload, Send, SendCopy, Discard, Retry, GiveUp, Update, Receive, HasSamples, Read, ReadHeader, ReadUserHeader, Release, Close}
 use Rattle.iox2_commands.specs.declared.reply.Reply.{Reply}
 use Rattle.iox2_commands.specs.declared.reply.Reply.TheVariants.{SubscriberMade, PublisherRefused, SubscriberRefused}
 
@@ -42,6 +42,8 @@ module _ {T U : Type 0} where
   TellsOfRefusals (Send of) = Unit {0}
   TellsOfRefusals (SendCopy of value) = Unit {0}
   TellsOfRefusals (Discard of) = Unit {0}
+  TellsOfRefusals (Retry of elapsed) = Unit {0}
+  TellsOfRefusals (GiveUp of) = Unit {0}
   TellsOfRefusals (Update of) = Unit {0}
   TellsOfRefusals (Receive of) = Unit {0}
   TellsOfRefusals (HasSamples of) = Unit {0}
@@ -50,7 +52,6 @@ module _ {T U : Type 0} where
   TellsOfRefusals (ReadUserHeader of) = Unit {0}
   TellsOfRefusals (Release of) = Unit {0}
   TellsOfRefusals (Close of) = Unit {0}
-  TellsOfRefusals _ = ⊥
 
   -- The reply to the command refuses a port for want of memory.
   abbrev pub RefusesPort : ServiceConfig → Command T U → Reply T U → Type 0

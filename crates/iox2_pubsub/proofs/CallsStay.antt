@@ -41,7 +41,7 @@ use Rattle.iox2_pubsub.specs.declared.publisher.Publisher.{Publisher as Handle}
 use Rattle.iox2_pubsub.specs.declared.sample_mut.SampleMut.{SampleMut}
 use Rattle.iox2_pubsub.specs.Slices.{HasUnwrittenCells, HasValues}
 use Rattle.iox2_pubsub.proofs.AlwaysShows.{shows_itself}
-use Rattle.iox2_pubsub.proofs.LiveParts.{publisher-parts, subscriber-parts, loan-parts, sample-parts, origin-parts, blocked-parts}
+use Rattle.iox2_pubsub.proofs.LiveParts.{publisher-parts, subscriber-parts, loan-parts, sample-parts, origin-parts, blocked-parts, unblocked-parts}
 use Rattle.iox2_pubsub.proofs.SliceParts.{cells-parts, values-parts}
 use Rattle.iox2_pubsub.proofs.StaysBut.{IsSpared, PortsRemainBut, SamplesStayBut, ports-remain, stays-between, stays-on, stays-on-but}
 
@@ -93,13 +93,18 @@ module _ {T U : Type 0} (old new : Kept T U) (m : Messages T U) (s : State T U) 
     origins = λ it from. tt;
     cells = λ n cells has. tt;
     payloads = λ n values has. tt;
-    unblocked = λ key free. tt;
+    unblocked = λ key free. (known-apart key free, tt);
     blocked_sends = λ key live. (waiting-apart key live, tt);
   } where
     apart : (key : Key) → IsPublisherKey old key → key.port ≢ id
     apart key live same =
         let has = (publisher-parts old key live).2 in
         let known : key.port < s.next_port = (shown.well_formed.publishers key.port has.0 (ap (λ (t : State T U). t.publishers key.port) shown.state ∙ has.1)).is_known in
+        omega arith
+
+    known-apart : (key : Key) → IsUnblocked old key → key.port ≢ id
+    known-apart key free same =
+        let low : key.port < s.next_port = subst (λ (t : State T U). key.port < t.next_port) (sym shown.state) (unblocked-parts old key free).0 in
         omega arith
 
     waiting-apart : (key : Key) → IsBlockedKey old key → key.port ≢ id
@@ -120,7 +125,7 @@ module _ {T U : Type 0} (old new : Kept T U) (m : Messages T U) (s : State T U) 
     origins = λ it from. tt;
     cells = λ n cells has. tt;
     payloads = λ n values has. tt;
-    unblocked = λ key free. tt;
+    unblocked = λ key free. (tt, tt);
     blocked_sends = λ key live. (tt, tt);
   } where
     apart : (key : Key) → IsSubscriberKey old key → key.port ≢ id
@@ -151,7 +156,7 @@ module _ {T U : Type 0} (old new : Kept T U) (m : Messages T U) (s : State T U) 
     origins = λ it from. tt;
     cells = cells-apart;
     payloads = values-apart;
-    unblocked = λ key free. tt;
+    unblocked = λ key free. (tt, tt);
     blocked_sends = λ key live. (tt, tt);
   }
     where
@@ -299,7 +304,7 @@ module _ {T U : Type 0} (old new : Kept T U) (m : Messages T U) (s : State T U) 
       (λ e _ k. let clash : Got_sample p n ≡ Receive_error _ = k.1 in absurd cc)
 
   pub received-is-new : (environment : Environment) (p q n : ℕ) (s' : State T U) → Shows new m s' → Receive environment s q s' (Got_sample p n) → IsNewIn old (A_sample q n)
-  received-is-new environment p q n s' shown' h = record { publishers = λ key live. tt; subscribers = λ key live. tt; loans = λ key live. tt; unwritten_loans = λ it live. tt; written_loans = λ it live. tt; samples = apart; origins = λ it from. away it.origin it.sample.subscriber it.sample.number (origin-parts old it from); cells = λ n cells has. tt; payloads = λ n values has. tt; unblocked = λ key free. tt; blocked_sends = λ key live. (tt, tt) } where
+  received-is-new environment p q n s' shown' h = record { publishers = λ key live. tt; subscribers = λ key live. tt; loans = λ key live. tt; unwritten_loans = λ it live. tt; written_loans = λ it live. tt; samples = apart; origins = λ it from. away it.origin it.sample.subscriber it.sample.number (origin-parts old it from); cells = λ n cells has. tt; payloads = λ n values has. tt; unblocked = λ key free. (tt, tt); blocked_sends = λ key live. (tt, tt) } where
     got : IsReceived environment s q p n s'
     got = received_one environment s q p n s' h
 

@@ -14,7 +14,7 @@ use Rattle.iox2_store.specs.Stored.{In_mailbox}
 use Rattle.iox2_laws.proofs.NumberLemmas.{contains_right}
 use Rattle.iox2_domain.specs.Kept.{Kept, state_of, entries_of}
 use Rattle.iox2_domain.specs.Shows.{Shows}
-use Rattle.iox2_pubsub.specs.Live.{IsSingleValued, IsPublisherKey, IsSubscriberKey, IsLoanKey, IsSampleKey, IsBlockedKey, HasMark, IsFromOrigin, LoanHasHeader, LoanHasUserHeader, SampleHasHeader, SampleHasUserHeader, Item, No_item, Both, IsOtherPublisher, IsOtherSubscriber, IsOtherLoan, IsOtherSample, IsUnblocked, Discards, NeverWaits, IsOtherBlocked, StaysBut, Stays, IsNewIn, unwritten_key, written_key}
+use Rattle.iox2_pubsub.specs.Live.{IsSingleValued, IsPublisherKey, IsSubscriberKey, IsLoanKey, IsSampleKey, IsBlockedKey, HasMark, IsFromOrigin, LoanHasHeader, LoanHasUserHeader, SampleHasHeader, SampleHasUserHeader, Item, No_item, A_publisher, A_blocked_send, Both, IsOtherPublisher, IsOtherSubscriber, IsOtherLoan, IsOtherSample, IsUnblocked, Discards, NeverWaits, IsOtherBlocked, StaysBut, Stays, IsNewIn, unwritten_key, written_key}
 use Rattle.iox2_pubsub.specs.Slices.{IsSliced, HasUnwrittenCells, HasValues, SampleHasValues}
 use Rattle.iox2_pubsub.specs.declared.sample.Sample.{Sample}
 
@@ -226,8 +226,8 @@ module _ {T U : Type 0} (start old : Kept T U) (before : Stays start old) (item 
     written_loans = λ it live other. next.written_loans it (before.written_loans it live other) (apart.written_loans it live);
     samples = λ key live other. next.samples key (before.samples key live other) (apart.samples key live);
     origins = λ it from other. next.origins it (before.origins it from other) (apart.origins it from);
-    unblocked = λ key free other. next.unblocked key (before.unblocked key free other) (apart.unblocked key free);
-    never_wait = λ key was other. next.never_wait key (before.never_wait key was other) (apart.unblocked key was.unblocked);
+    unblocked = λ key free other. next.unblocked key (before.unblocked key free other) (apart.unblocked key free).1;
+    never_wait = λ key was other. next.never_wait key (before.never_wait key was other) (apart.unblocked key was.unblocked).1;
     blocked_sends = λ key live other alike.
         next.blocked_sends key (before.blocked_sends key live other alike) (apart.blocked_sends key live).0 (apart.blocked_sends key live).1;
     loan_cells = λ n cells has other. next.loan_cells n cells (before.loan_cells n cells has other) (apart.cells n cells has);
@@ -256,8 +256,8 @@ module _ {T U : Type 0} (start old : Kept T U) (before : Stays start old) (item 
     written_loans = λ it live other. next.written_loans it (before.written_loans it live tt) (apart.written_loans it live, other);
     samples = λ key live other. next.samples key (before.samples key live tt) (apart.samples key live, other);
     origins = λ it from other. next.origins it (before.origins it from tt) (apart.origins it from, other);
-    unblocked = λ key free other. next.unblocked key (before.unblocked key free tt) (apart.unblocked key free, other);
-    never_wait = λ key was other. next.never_wait key (before.never_wait key was tt) (apart.unblocked key was.unblocked, other);
+    unblocked = λ key free other. next.unblocked key (before.unblocked key free tt) ((apart.unblocked key free).1, other);
+    never_wait = λ key was other. next.never_wait key (before.never_wait key was tt) ((apart.unblocked key was.unblocked).1, other);
     blocked_sends = λ key live other alike.
         next.blocked_sends key (before.blocked_sends key live tt tt) ((apart.blocked_sends key live).0, other) ((apart.blocked_sends key live).1, alike);
     loan_cells = λ n cells has other. next.loan_cells n cells (before.loan_cells n cells has tt) (apart.cells n cells has, other);
@@ -285,7 +285,7 @@ nothing-is-new start = record {
   origins = λ it from. tt;
   cells = λ n cells has. tt;
   payloads = λ n values has. tt;
-  unblocked = λ key free. tt;
+  unblocked = λ key free. (tt, tt);
   blocked_sends = λ key live. (tt, tt);
 }
 
@@ -316,3 +316,94 @@ unchanged-stays spent kept = record {
 
 pub stays-itself : {T U : Type 0} (kept : Kept T U) → Stays kept kept
 stays-itself kept = unchanged-stays No_item kept
+
+-- ---- more than one item
+
+module _ {T U : Type 0} (start : Kept T U) where
+  -- two new items are new
+  pub both-new : (first second : Item) → IsNewIn start first → IsNewIn start second → IsNewIn start (Both first second)
+  both-new first second a b = record {
+    publishers = λ key live. (a.publishers key live, b.publishers key live);
+    subscribers = λ key live. (a.subscribers key live, b.subscribers key live);
+    loans = λ key live. (a.loans key live, b.loans key live);
+    unwritten_loans = λ it live. (a.unwritten_loans it live, b.unwritten_loans it live);
+    written_loans = λ it live. (a.written_loans it live, b.written_loans it live);
+    samples = λ key live. (a.samples key live, b.samples key live);
+    origins = λ it from. (a.origins it from, b.origins it from);
+    cells = λ n cells has. (a.cells n cells has, b.cells n cells has);
+    payloads = λ n values has. (a.payloads n values has, b.payloads n values has);
+    unblocked = λ key free. (((a.unblocked key free).0, (b.unblocked key free).0), ((a.unblocked key free).1, (b.unblocked key free).1));
+    blocked_sends = λ key live. (((a.blocked_sends key live).0, (b.blocked_sends key live).0), ((a.blocked_sends key live).1, (b.blocked_sends key live).1));
+  }
+
+  -- each of the two is
+  pub first-new : (first second : Item) → IsNewIn start (Both first second) → IsNewIn start first
+  first-new first second both = record {
+    publishers = λ key live. (both.publishers key live).0;
+    subscribers = λ key live. (both.subscribers key live).0;
+    loans = λ key live. (both.loans key live).0;
+    unwritten_loans = λ it live. (both.unwritten_loans it live).0;
+    written_loans = λ it live. (both.written_loans it live).0;
+    samples = λ key live. (both.samples key live).0;
+    origins = λ it from. (both.origins it from).0;
+    cells = λ n cells has. (both.cells n cells has).0;
+    payloads = λ n values has. (both.payloads n values has).0;
+    unblocked = λ key free. let apart = both.unblocked key free in ((apart.0).0, (apart.1).0);
+    blocked_sends = λ key live. let apart = both.blocked_sends key live in ((apart.0).0, (apart.1).0);
+  }
+
+  pub second-new : (first second : Item) → IsNewIn start (Both first second) → IsNewIn start second
+  second-new first second both = record {
+    publishers = λ key live. (both.publishers key live).1;
+    subscribers = λ key live. (both.subscribers key live).1;
+    loans = λ key live. (both.loans key live).1;
+    unwritten_loans = λ it live. (both.unwritten_loans it live).1;
+    written_loans = λ it live. (both.written_loans it live).1;
+    samples = λ key live. (both.samples key live).1;
+    origins = λ it from. (both.origins it from).1;
+    cells = λ n cells has. (both.cells n cells has).1;
+    payloads = λ n values has. (both.payloads n values has).1;
+    unblocked = λ key free. let apart = both.unblocked key free in ((apart.0).1, (apart.1).1);
+    blocked_sends = λ key live. let apart = both.blocked_sends key live in ((apart.0).1, (apart.1).1);
+  }
+
+  -- a blocked send of a new publisher is new
+  pub blocked-new : (p : ℕ) → IsNewIn start (A_publisher p) → IsNewIn start (A_blocked_send p)
+  blocked-new p new = record {
+    publishers = λ key live. tt;
+    subscribers = λ key live. tt;
+    loans = λ key live. tt;
+    unwritten_loans = λ it live. tt;
+    written_loans = λ it live. tt;
+    samples = λ key live. tt;
+    origins = λ it from. tt;
+    cells = λ n cells has. tt;
+    payloads = λ n values has. tt;
+    unblocked = λ key free. (tt, (new.unblocked key free).0);
+    blocked_sends = λ key live. (tt, (new.blocked_sends key live).0);
+  }
+
+-- what stays but for an item stays but for that and another
+pub stays-but-more : {T U : Type 0} (first second : Item) (old new : Kept T U) → StaysBut first old new → StaysBut (Both first second) old new
+stays-but-more first second old new stays = record {
+  settings = stays.settings;
+  single_valued = stays.single_valued;
+  sliced = stays.sliced;
+  publishers = λ key live other. stays.publishers key live other.0;
+  subscribers = λ key live other. stays.subscribers key live other.0;
+  loans = λ key live other. stays.loans key live other.0;
+  unwritten_loans = λ it live other. stays.unwritten_loans it live other.0;
+  written_loans = λ it live other. stays.written_loans it live other.0;
+  samples = λ key live other. stays.samples key live other.0;
+  origins = λ it from other. stays.origins it from other.0;
+  unblocked = λ key free other. stays.unblocked key free other.0;
+  never_wait = λ key was other. stays.never_wait key was other.0;
+  blocked_sends = λ key live other alike. stays.blocked_sends key live other.0 alike.0;
+  loan_cells = λ n cells has other. stays.loan_cells n cells has other.0;
+  loan_payloads = λ n values has other. stays.loan_payloads n values has other.0;
+  loan_headers = λ key header live has other. stays.loan_headers key header live has other.0;
+  loan_user_headers = λ key header live has other. stays.loan_user_headers key header live has other.0;
+  sample_payloads = λ key values live has other. stays.sample_payloads key values live has other.0;
+  sample_headers = λ key header live has other. stays.sample_headers key header live has other.0;
+  sample_user_headers = λ key header live has other. stays.sample_user_headers key header live has other.0;
+}

@@ -326,7 +326,8 @@ module _ {T U : Type 0} where
   abbrev pub Stays : (old new : Kept T U) → Type 0
   Stays old new = StaysBut No_item old new
 
-  -- The item is none of the ports, loans, samples and blocked sends that were live, and no send of a publisher that had none blocked.
+  -- The item is none of the ports, loans, samples and blocked sends that were live, nor a publisher that waited for nobody, nor a send
+  -- of one.
   pub record IsNewIn (old : Kept T U) (made : Item) : Type 0 where
     pub publishers : (key : Key) → IsPublisherKey old key → IsOtherPublisher made key.port
     pub subscribers : (key : Key) → IsSubscriberKey old key → IsOtherSubscriber made key.port
@@ -337,5 +338,5 @@ module _ {T U : Type 0} where
     pub origins : (sample : Sample) → IsFromOrigin old sample → IsOtherSample made sample.sample.subscriber sample.sample.number
     pub cells : (number : ℕ) (cells : List (Option T)) → HasUnwrittenCells old number cells → IsOtherLoan made number
     pub payloads : (number : ℕ) (values : List T) → HasValues old number values → IsOtherLoan made number
-    pub unblocked : (key : Key) → IsUnblocked old key → IsOtherBlocked made key.port
+    pub unblocked : (key : Key) → IsUnblocked old key → IsOtherPublisher made key.port × IsOtherBlocked made key.port
     pub blocked_sends : (key : Key) → IsBlockedKey old key → IsOtherPublisher made key.port × IsOtherBlocked made key.port

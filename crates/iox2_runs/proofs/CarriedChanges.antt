@@ -31,7 +31,7 @@ use Rattle.iox2_runs.proofs.TableCalls.{at_none, at_some, quiet_comes, skip_come
 use Rattle.iox2_runs.proofs.TableChanges.{unwritten_changes, unwritten_taken, written_changes}
 use Rattle.iox2_runs.proofs.TableEntries.{entries-set, entry-stands, lacks, set_same}
 use Rattle.iox2_runs.proofs.TableLooks.{handle_of, is_loan_entry, is_unwritten_entry, is_written_entry, has_unwritten, has_written, lacks_loan, lacks_unwritten, lacks_written}
-use Rattle.iox2_runs.proofs.TableSteps.{Anyone}
+use Rattle.iox2_runs.proofs.TableSteps.{Nobody}
 
 module _ {T U : Type 0} (defaults : Defaults T U) (old new : Domain T U) (table table' : List Made) (of : ℕ) where
   -- the loan, where it has a cell at the index
@@ -216,7 +216,7 @@ module _ {T U : Type 0} (defaults : Defaults T U) (old new : Domain T U) (table 
       subst (λ (t : List Made). Comes fixed_handlers defaults (Shows new) m s handles events (AssumeInit of) NotWritten (map entry_for t ++ No_entry ∷ [])) (sym is)
       (quiet_comes fixed_handlers defaults (Shows new) m s handles events (map entry_for table) w default_value default_header is_value is_header (AssumeInit of) NotWritten s
       (at_some _ _ _ (h.loan.number, named.0) named.1 (sym (ap (λ (b : Bool). cond b (done (initialized s h.loan.number named.0)) (replied NotWritten s)) part))) (left.2).1
-      (ports_stay_themselves s) (ports_come_themselves s) (waits_itself Anyone s) (λ n low. refl) (omega arith))
+      (ports_stay_themselves s) (ports_come_themselves s) (waits_itself Nobody s) (λ n low. refl) (omega arith))
 
   pub taken_passed : is_unwritten_entry (entry_for (slice_index_or table of Nothing)) ≡ false → table' ≡ table
       → Carries fixed_handlers defaults old old table (AssumeInit of) Skipped table' Nothing

@@ -24,10 +24,10 @@ use Rattle.iox2_commands.specs.declared.command.Command.TheVariants.{Discard}
 use Rattle.iox2_commands.specs.declared.reply.Reply.TheVariants.{Done, Skipped}
 use Rattle.iox2_runs.specs.declared.runs.made.Made.{Made}
 use Rattle.iox2_runs.specs.declared.runs.made.Made.TheVariants.{Nothing, Unwritten, Written}
-use Rattle.iox2_runs.proofs.TableCalls.{skip_comes, at_none, at_some, set_length, no_port}
+use Rattle.iox2_runs.proofs.TableCalls.{skip_comes, at_none, at_some, set_length}
 use Rattle.iox2_runs.proofs.TableEntries.{entries-set, entry-stands, lacks}
 use Rattle.iox2_runs.proofs.TableLooks.{Lacks, is_loan_entry, lacks_loan, handle_of, has_unwritten, has_written}
-use Rattle.iox2_runs.proofs.TableSteps.{Anyone, ports-keep, table_next, others_still}
+use Rattle.iox2_runs.proofs.TableSteps.{Nobody, ports-keep, later_but, no_next, table_next, others_still}
 
 -- ---- what the command comes to
 
@@ -39,9 +39,9 @@ module _ {T U : Type 0} (environment : Environment) (defaults : Defaults T U) (S
       skip_comes environment defaults Shown m s handles events table w default_value default_header is_default_value is_default_header (Discard of)
       (at_none _ _ _ (lacks_loan s handles events table w of absent) refl) shown
 
-  discard_comes : (of n : ℕ) (l : Loan T U) → loan_at s handles of ≡ Some (n, l) → slice_get handles of ≡ Some (Loan_handle n) → Shown m (loan_discarded s n l)
+  discard_comes : (of n : ℕ) (l : Loan T U) → loan_at s handles of ≡ Some (n, l) → s.loans n ≡ Some l → slice_get handles of ≡ Some (Loan_handle n) → Shown m (loan_discarded s n l)
       → Comes environment defaults Shown m s handles events (Discard of) Done (slice_set table of No_entry ++ No_entry ∷ [])
-  discard_comes of n l found named shown =
+  discard_comes of n l found out named shown =
       let s' : State T U = loan_discarded s n l in
       let stay : PortsStay s s' = loan_discarded_stays s n l in record {
         default_value = default_value;
@@ -52,11 +52,12 @@ module _ {T U : Type 0} (environment : Environment) (defaults : Defaults T U) (S
         step = at_some _ _ _ (n, l) found refl;
         replied = refl;
         shown = shown;
-        follows = λ once. table_next s s' handles events table w No_handle No_event No_entry (slice_set table of No_entry) (le_refl s.next_message) (set_length table of No_entry)
-            (others_still s s' handles events table w of (Loan_handle n) No_entry (ports-keep (Loan_handle n) s s' stay.remain (loan_discarded_comes s n l) (loan_discarded_waits Anyone s n l)) named (put_at-same s.loans n None)
+        follows = λ once. table_next s s' handles events table w No_handle No_event No_entry (slice_set table of No_entry)
+            (later_but s s' n l out (loan_discarded_comes s n l).next_port (le_refl s.next_message) (λ k low other. put_at-other s.loans n None k (ne_eqb k n other))) (set_length table of No_entry)
+            (others_still s s' handles events table w of (Loan_handle n) No_entry (ports-keep (Loan_handle n) No_handle s s' stay.remain (loan_discarded_comes s n l) (loan_discarded_waits Nobody s n l)) named (put_at-same s.loans n None)
             (λ k low other. put_at-other s.loans n None k (ne_eqb k n (λ e. other (ap Loan_handle (sym e)))))
             (λ i p q k _ _. same_borrowed s s' stay p q k))
-            tt (no_port s s' (loan_discarded_comes s n l)) (λ k e. let clash : No_handle ≡ Loan_handle k = e in absurd (cc)) (λ p q k e. let clash : No_handle ≡ Sample_handle p q k = e in absurd (cc)) once;
+            tt (no_next s s' _) once;
       }
 
 -- ---- what the function of the command ensures
@@ -83,7 +84,7 @@ module _ {T U : Type 0} (environment : Environment) (defaults : Defaults T U) (o
       let named = names s handles events w in
       let after : map entry_for table' ≡ slice_set (map entry_for table) of No_entry = ap (λ (t : List Made). map entry_for t) is ∙ entries-set table of Nothing in
       subst (λ (ks : List TableEntry). Comes environment defaults (Shows new) m s handles events (Discard of) Done (ks ++ No_entry ∷ [])) (sym after)
-      (discard_comes environment defaults (Shows new) m s handles events (map entry_for table) w default_value default_header is_value is_header of n named.0 named.1 named.3
+      (discard_comes environment defaults (Shows new) m s handles events (map entry_for table) w default_value default_header is_value is_header of n named.0 named.1 named.2 named.3
       (discards m s named.0 shown named.2))
 
   -- an unwritten loan

@@ -30,7 +30,7 @@ use Rattle.iox2_runs.specs.declared.runs.made.Made.TheVariants.{Nothing, Unwritt
 use Rattle.iox2_runs.proofs.TableCalls.{at_none, at_some, quiet_comes}
 use Rattle.iox2_runs.proofs.TableEntries.{entry-stands, lacks}
 use Rattle.iox2_runs.proofs.TableLooks.{is_loan_entry, is_sample_entry, has_sample, has_unwritten, has_written, lacks_loan, lacks_sample}
-use Rattle.iox2_runs.proofs.TableSteps.{Anyone}
+use Rattle.iox2_runs.proofs.TableSteps.{Nobody}
 
 module _ {T U : Type 0} (defaults : Defaults T U) (domain : Domain T U) (table : List Made) (of : ℕ) where
   -- a command that replies, and changes nothing
@@ -40,7 +40,7 @@ module _ {T U : Type 0} (defaults : Defaults T U) (domain : Domain T U) (table :
       → Comes fixed_handlers defaults (Shows domain) m s handles events command reply (map entry_for table ++ No_entry ∷ [])
   quiet m s handles events w default_value default_header is_value is_header command reply step shown =
       quiet_comes fixed_handlers defaults (Shows domain) m s handles events (map entry_for table) w default_value default_header is_value is_header command reply s step shown
-      (ports_stay_themselves s) (ports_come_themselves s) (waits_itself Anyone s) (λ n low. refl) (omega arith)
+      (ports_stay_themselves s) (ports_come_themselves s) (waits_itself Nobody s) (λ n low. refl) (omega arith)
 
   -- ---- the header
 

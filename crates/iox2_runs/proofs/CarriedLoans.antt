@@ -1,33 +1,40 @@
 -- Commands on loans, with what a run holds.
 use Rattle.std.proofs.Common.{◌≡◌, ℕ, true, false, List, [], ◌∷◌, ◌++◌, map, refl, sym, ap, subst, ◌∙◌, None, Some}
-use Rattle.std.specs.Prelude.{slice_set, slice_index_or}
+use Rattle.std.specs.Prelude.{IfOk, IfErr, slice_get, slice_set, slice_index_or}
+use Rattle.std.specs.declared.result.Result.{Result}
+use Rattle.std.specs.declared.result.Result.TheVariants.{Ok, Err}
 use Rattle.iox2_store.specs.SingleValues.{is_single_valued}
 use Rattle.iox2_store.specs.machine.Records.{Loan, Environment}
 use Rattle.iox2_store.specs.machine.State.{State, Messages, with_loan}
-use Rattle.iox2_store.specs.machine.Numbers.{put_at}
-use Rattle.iox2_store.specs.machine.Environments.{ample_memory}
+use Rattle.iox2_store.specs.machine.Environments.{ample_memory, fixed_handlers}
 use Rattle.iox2_store.specs.machine.Loans.{GrantLoan, written, entry_of}
-use Rattle.iox2_store.specs.machine.Sends.{Send, Delivered_to, Send_error}
+use Rattle.iox2_store.specs.machine.Sends.{Delivered_to, Blocked_send, Send_error}
 use Rattle.iox2_store.specs.declared.errors.LoanError.{LoanError}
 use Rattle.iox2_store.specs.declared.errors.SendError.{SendError}
 use Rattle.iox2_store.specs.declared.errors.SendError.TheVariants.{ConnectionBrokenSinceSenderNoLongerExists}
-use Rattle.iox2_laws.proofs.SendLaws.{send_advances}
 use Rattle.iox2_domain.specs.Kept.{Kept as Domain}
 use Rattle.iox2_domain.specs.Shows.{Shows}
+use Rattle.iox2_pubsub.specs.Live.{IsBlockedSend, blocked_key, written_key}
+use Rattle.iox2_pubsub.specs.SendCalls.{IfBlocked, Sends, messages_after}
 use Rattle.iox2_pubsub.specs.declared.publisher.Publisher.{Publisher as PublisherHandle}
+use Rattle.iox2_pubsub.specs.declared.send_outcome.SendOutcome.{SendOutcome}
+use Rattle.iox2_pubsub.specs.declared.send_outcome.SendOutcome.TheVariants.{Delivered as WasDelivered, Blocked as IsBlocked}
 use Rattle.iox2_pubsub.specs.declared.sample_mut_uninit.SampleMutUninit.{SampleMutUninit}
 use Rattle.iox2_pubsub.specs.declared.sample_mut.SampleMut.{SampleMut}
+use Rattle.iox2_commands.specs.Outcomes.{Handle, No_handle, Loan_handle, Blocked_handle, Sample_handle, Event, No_event, Message_sent}
 use Rattle.iox2_commands.specs.Runs.{Defaults}
-use Rattle.iox2_runs.specs.Tables.{TableEntry, No_entry, Unwritten_entry, Written_entry}
+use Rattle.iox2_runs.specs.Tables.{TableEntry, No_entry, Unwritten_entry, Written_entry, IsUnblocked, IsTable}
 use Rattle.iox2_runs.specs.RunSteps.{Comes}
 use Rattle.iox2_runs.specs.Carries.{entry_for, Carries}
+use Rattle.iox2_runs.specs.SendReplies.{reply_to_send, made_by_send}
 use Rattle.iox2_commands.specs.declared.command.Command.TheVariants.{LoanUninit, WriteAll, Send as SendLoan}
-use Rattle.iox2_commands.specs.declared.reply.Reply.TheVariants.{Done, Skipped, Loaned, LoanRefused, Delivered, SendRefused}
+use Rattle.iox2_commands.specs.declared.reply.Reply.TheVariants.{Done, Skipped, Loaned, LoanRefused, Delivered, Blocked, SendRefused}
 use Rattle.iox2_runs.specs.declared.runs.made.Made.{Made}
-use Rattle.iox2_runs.specs.declared.runs.made.Made.TheVariants.{Nothing, Publisher as MadePublisher, Unwritten, Written}
+use Rattle.iox2_runs.specs.declared.runs.made.Made.TheVariants.{Nothing, Publisher as MadePublisher, Unwritten, Written, Blocked as MadeBlocked}
+use Rattle.iox2_runs.proofs.CarriedBlocked.{blocked_entry}
 use Rattle.iox2_runs.proofs.TableLooks.{is_publisher_entry, is_unwritten_entry, is_written_entry, has_written}
-use Rattle.iox2_runs.proofs.TableCalls.{write_comes, write_skipped, send_comes, send_lost_comes, send_skipped}
-use Rattle.iox2_runs.proofs.TableMakes.{loan_skipped, loan_elsewhere, loan_comes, loan_refused_comes, loan_any}
+use Rattle.iox2_runs.proofs.TableCalls.{write_comes, write_skipped, send_comes, send_waiting, send_skipped}
+use Rattle.iox2_runs.proofs.TableMakes.{loan_skipped, loan_waiting, loan_elsewhere, loan_comes, loan_refused_comes, loan_any}
 use Rattle.iox2_runs.proofs.TableEntries.{entries-set, entry-stands, lacks}
 
 module _ {T U : Type 0} (environment : Environment) (defaults : Defaults T U) (old new : Domain T U) (table table' : List Made) (of : ℕ) where
@@ -71,13 +78,21 @@ module _ {T U : Type 0} (environment : Environment) (defaults : Defaults T U) (o
       loan_elsewhere environment defaults (Shows new) m s handles events (map entry_for table) w default_value default_header is_value is_header of
       (ap (λ (t : State T U). is_single_valued t.config) shown.state ∙ other) (subst (λ (d : Domain T U). Shows d m s) same shown)
 
-  pub loan_carried : table' ≡ table → (h : PublisherHandle) (h' : SampleMutUninit) → slice_index_or table of Nothing ≡ MadePublisher h
+  -- the publisher waits for a receiver
+  pub loan_held_up : table' ≡ table → (h : PublisherHandle) → slice_index_or table of Nothing ≡ MadePublisher h → ((m : Messages T U) (s : State T U) → Shows old m s → IsUnblocked s h.id → ⊥) → old ≡ new
+      → Carries environment defaults old new table (LoanUninit of) Skipped table' Nothing
+  loan_held_up is h at waits same = λ m s handles events shown w default_value default_header is_value is_header.
+      subst (λ (t : List Made). Comes environment defaults (Shows new) m s handles events (LoanUninit of) Skipped (map entry_for t ++ No_entry ∷ [])) (sym is)
+      (loan_waiting environment defaults (Shows new) m s handles events (map entry_for table) w default_value default_header is_value is_header of h.service_id h.id
+      (entry-stands table of (MadePublisher h) at (λ e. let clash : MadePublisher h ≡ Nothing = e in cc)) (waits m s shown) (subst (λ (d : Domain T U). Shows d m s) same shown))
+
+  pub loan_carried : table' ≡ table → (h : PublisherHandle) (h' : SampleMutUninit) → slice_index_or table of Nothing ≡ MadePublisher h → ((m : Messages T U) (s : State T U) → Shows old m s → IsUnblocked s h.id)
       → is_single_valued old.config ≡ true
       → ((m : Messages T U) (s : State T U) → Shows old m s → (s' : State T U) × Shows new m s'
       × ((header : U) × defaults.IsDefaultHeader header × GrantLoan ample_memory header false 1 s h.id s' None))
       → h'.service_id ≡ (new.config).service_id → h'.loan.publisher ≡ h.id → h'.loan.number ≡ old.next_message
       → Carries environment defaults old new table (LoanUninit of) Loaned table' (Unwritten h')
-  loan_carried is h h' at single lends service publisher number = λ m s handles events shown w default_value default_header is_value is_header.
+  loan_carried is h h' at free single lends service publisher number = λ m s handles events shown w default_value default_header is_value is_header.
       let lent = lends m s shown in
       let loan = lent.2 in
       let made : Unwritten_entry h'.service_id h.id s.next_message ≡ entry_for (Unwritten h') =
@@ -85,20 +100,20 @@ module _ {T U : Type 0} (environment : Environment) (defaults : Defaults T U) (o
       subst (λ (t : List Made). Comes environment defaults (Shows new) m s handles events (LoanUninit of) Loaned (map entry_for t ++ entry_for (Unwritten h') ∷ [])) (sym is)
       (subst (λ (k : TableEntry). Comes environment defaults (Shows new) m s handles events (LoanUninit of) Loaned (map entry_for table ++ k ∷ [])) made
       (loan_comes environment defaults (Shows new) m s handles events (map entry_for table) w default_value default_header is_value is_header of h.service_id h.id
-      (entry-stands table of (MadePublisher h) at (λ e. let clash : MadePublisher h ≡ Nothing = e in cc))
+      (entry-stands table of (MadePublisher h) at (λ e. let clash : MadePublisher h ≡ Nothing = e in cc)) (free m s shown)
       (ap (λ (t : State T U). is_single_valued t.config) shown.state ∙ single)
       loan.0 loan.1 lent.0 (loan_any environment loan.0 false 1 s h.id lent.0 None loan.2) lent.1
       h'.service_id (service ∙ sym (ap (λ (t : State T U). (t.config).service_id) (lent.1).state))))
 
-  pub loan_denied : table' ≡ table → (h : PublisherHandle) (e : LoanError) → slice_index_or table of Nothing ≡ MadePublisher h
+  pub loan_denied : table' ≡ table → (h : PublisherHandle) (e : LoanError) → slice_index_or table of Nothing ≡ MadePublisher h → ((m : Messages T U) (s : State T U) → Shows old m s → IsUnblocked s h.id)
       → is_single_valued old.config ≡ true
       → ((m : Messages T U) (s : State T U) → Shows old m s → (s' : State T U) × Shows new m s' × ((s' ≡ s) × ((header : U) → GrantLoan ample_memory header false 1 s h.id s' (Some e))))
       → Carries environment defaults old new table (LoanUninit of) (LoanRefused e) table' Nothing
-  loan_denied is h e at single refuses = λ m s handles events shown w default_value default_header is_value is_header.
+  loan_denied is h e at free single refuses = λ m s handles events shown w default_value default_header is_value is_header.
       let refused = refuses m s shown in
       subst (λ (t : List Made). Comes environment defaults (Shows new) m s handles events (LoanUninit of) (LoanRefused e) (map entry_for t ++ No_entry ∷ [])) (sym is)
       (loan_refused_comes environment defaults (Shows new) m s handles events (map entry_for table) w default_value default_header is_value is_header of h.service_id h.id
-      (entry-stands table of (MadePublisher h) at (λ e. let clash : MadePublisher h ≡ Nothing = e in cc))
+      (entry-stands table of (MadePublisher h) at (λ e. let clash : MadePublisher h ≡ Nothing = e in cc)) (free m s shown)
       (ap (λ (t : State T U). is_single_valued t.config) shown.state ∙ single)
       default_header is_header refused.0 e (loan_any environment default_header false 1 s h.id refused.0 (Some e) ((refused.2).1 default_header)) refused.1)
 
@@ -111,34 +126,54 @@ module _ {T U : Type 0} (environment : Environment) (defaults : Defaults T U) (o
       (send_skipped environment defaults (Shows new) m s handles events (map entry_for table) w default_value default_header is_value is_header of
       (lacks is_written_entry refl table of other) (subst (λ (d : Domain T U). Shows d m s) same shown))
 
-  pub send_carried : (h : SampleMut) (count : ℕ) → slice_index_or table of Nothing ≡ Written h
+  -- its publisher waits for a receiver
+  pub send_held_up : (h : SampleMut) → slice_index_or table of Nothing ≡ Written h → ((m : Messages T U) (s : State T U) → Shows old m s → IsUnblocked s h.loan.publisher → ⊥) → old ≡ new → table' ≡ table
+      → Carries environment defaults old new table (SendLoan of) Skipped table' Nothing
+  send_held_up h at waits same is = λ m s handles events shown w default_value default_header is_value is_header.
+      subst (λ (t : List Made). Comes environment defaults (Shows new) m s handles events (SendLoan of) Skipped (map entry_for t ++ No_entry ∷ [])) (sym is)
+      (send_waiting environment defaults (Shows new) m s handles events (map entry_for table) w default_value default_header is_value is_header of h.service_id h.loan.publisher h.loan.number
+      (entry-stands table of (Written h) at (λ e. let clash : Written h ≡ Nothing = e in cc)) (waits m s shown) (subst (λ (d : Domain T U). Shows d m s) same shown))
+
+-- ---- what comes of a send
+
+module _ {T U : Type 0} (defaults : Defaults T U) (new : Domain T U) (table : List Made) (of : ℕ) (h : SampleMut) (m : Messages T U) (s : State T U) (handles : List Handle) (events : List (Event T U)) (w : IsTable s handles events (map entry_for table)) (default_value : T) (default_header : U)
+    (is_value : defaults.IsDefaultValue default_value) (is_header : defaults.IsDefaultHeader default_header)
+    (stand : slice_get (map entry_for table) of ≡ Some (Written_entry h.service_id h.loan.publisher h.loan.number)) (unblocked : IsUnblocked s h.loan.publisher)
+    (l : Loan T U) (out : s.loans h.loan.number ≡ Some l) (lender : l.publisher ≡ h.loan.publisher) where
+  sent-by : (came : Result SendOutcome SendError) → IfOk came (λ it. IfBlocked it (λ blocked. IsBlockedSend new blocked × (blocked_key blocked ≡ written_key h)))
+      → IfErr came (λ error. error ≡ ConnectionBrokenSinceSenderNoLongerExists) → (s' : State T U) → Shows new (messages_after m h.loan.number l came) s' → Sends s h.loan.number l came s'
+      → Comes fixed_handlers defaults (Shows new) m s handles events (SendLoan of) (reply_to_send came) (slice_set (map entry_for table) of No_entry ++ entry_for (made_by_send came) ∷ [])
+  sent-by (Ok (WasDelivered count)) waits broken s' shown sends =
+      send_comes fixed_handlers defaults (Shows new) m s handles events (map entry_for table) w default_value default_header is_value is_header of h.service_id h.loan.publisher h.loan.number stand unblocked l out
+      s' (Delivered_to count) sends (Delivered count) No_handle (Message_sent l.publisher h.loan.number (entry_of l)) No_entry refl refl
+      (λ k e. let clash : No_handle ≡ Loan_handle k = e in absurd cc) (λ p q k e. let clash : No_handle ≡ Sample_handle p q k = e in absurd cc) (λ p k e. let clash : No_handle ≡ Blocked_handle p k = e in absurd cc) shown tt
+  sent-by (Ok (IsBlocked blocked)) waits broken s' shown sends =
+      send_comes fixed_handlers defaults (Shows new) m s handles events (map entry_for table) w default_value default_header is_value is_header of h.service_id h.loan.publisher h.loan.number stand unblocked l out
+      s' Blocked_send sends Blocked (Blocked_handle h.loan.publisher h.loan.number) (Message_sent l.publisher h.loan.number (entry_of l)) (entry_for (MadeBlocked blocked))
+      (ap (λ (p : ℕ). record { reply = Blocked; handle = Blocked_handle p h.loan.number; event = Message_sent l.publisher h.loan.number (entry_of l); state = s' }) (sym lender)) refl
+      (λ k e. let clash : Blocked_handle h.loan.publisher h.loan.number ≡ Loan_handle k = e in absurd cc) (λ p q k e. let clash : Blocked_handle h.loan.publisher h.loan.number ≡ Sample_handle p q k = e in absurd cc)
+      (λ p k e. let same : Blocked_handle h.loan.publisher h.loan.number ≡ Blocked_handle p k = e in (cc, cc)) shown (blocked_entry new _ s' shown blocked waits.0 (written_key h) waits.1)
+  sent-by (Err error) waits broken s' shown sends =
+      let so : Sends s h.loan.number l (Err ConnectionBrokenSinceSenderNoLongerExists) s' = subst (λ (e : SendError). Sends s h.loan.number l (Err e) s') broken sends in
+      subst (λ (e : SendError). Comes fixed_handlers defaults (Shows new) m s handles events (SendLoan of) (SendRefused e) (slice_set (map entry_for table) of No_entry ++ No_entry ∷ [])) (sym broken)
+      (send_comes fixed_handlers defaults (Shows new) m s handles events (map entry_for table) w default_value default_header is_value is_header of h.service_id h.loan.publisher h.loan.number stand unblocked l out
+      s' (Send_error ConnectionBrokenSinceSenderNoLongerExists) so (SendRefused ConnectionBrokenSinceSenderNoLongerExists) No_handle No_event No_entry refl refl
+      (λ k e. let clash : No_handle ≡ Loan_handle k = e in absurd cc) (λ p q k e. let clash : No_handle ≡ Sample_handle p q k = e in absurd cc) (λ p k e. let clash : No_handle ≡ Blocked_handle p k = e in absurd cc) shown tt)
+
+module _ {T U : Type 0} (defaults : Defaults T U) (old new : Domain T U) (table table' : List Made) (of : ℕ) where
+  -- the loan is sent: to all receivers, or it waits for one, or its publisher is gone
+  pub send_carried : (h : SampleMut) (outcome : Result SendOutcome SendError) → slice_index_or table of Nothing ≡ Written h
+      → ((m : Messages T U) (s : State T U) → Shows old m s → IsUnblocked s h.loan.publisher)
       → ((m : Messages T U) (s : State T U) (l : Loan T U) → Shows old m s → s.loans h.loan.number ≡ Some l
-      → (s' : State T U) × Shows new (put_at m h.loan.number (Some (entry_of l))) s' × Send environment s h.loan.number l s' (Delivered_to count))
+      → (s' : State T U) × Shows new (messages_after m h.loan.number l outcome) s' × Sends s h.loan.number l outcome s')
+      → IfOk outcome (λ came. IfBlocked came (λ blocked. IsBlockedSend new blocked × (blocked_key blocked ≡ written_key h)))
+      → IfErr outcome (λ error. error ≡ ConnectionBrokenSinceSenderNoLongerExists)
       → table' ≡ slice_set table of Nothing
-      → Carries environment defaults old new table (SendLoan of) (Delivered count) table' Nothing
-  send_carried h count at sends is = λ m s handles events shown w default_value default_header is_value is_header.
+      → Carries fixed_handlers defaults old new table (SendLoan of) (reply_to_send outcome) table' (made_by_send outcome)
+  send_carried h outcome at free sends blocked gone is = λ m s handles events shown w default_value default_header is_value is_header.
       let stand = entry-stands table of (Written h) at (λ e. let clash : Written h ≡ Nothing = e in cc) in
       let named = has_written s handles events (map entry_for table) w of h.service_id h.loan.publisher h.loan.number stand in
       let sent = sends m s named.0 shown named.3 in
       let after : map entry_for table' ≡ slice_set (map entry_for table) of No_entry = ap (λ (t : List Made). map entry_for t) is ∙ entries-set table of Nothing in
-      subst (λ (ks : List TableEntry). Comes environment defaults (Shows new) m s handles events (SendLoan of) (Delivered count) (ks ++ No_entry ∷ [])) (sym after)
-      (send_comes environment defaults (Shows new) m s handles events (map entry_for table) w default_value default_header is_value is_header of h.service_id h.loan.publisher h.loan.number count
-      stand named.0 named.3 sent.0 sent.2 (send_advances environment s h.loan.number named.0 sent.0 (Delivered_to count) sent.2).next_message sent.1)
-
-  -- the publisher that lent it is gone
-  pub send_lost : (h : SampleMut) (error : SendError) → error ≡ ConnectionBrokenSinceSenderNoLongerExists → slice_index_or table of Nothing ≡ Written h
-      → ((m : Messages T U) (s : State T U) (l : Loan T U) → Shows old m s → s.loans h.loan.number ≡ Some l
-      → (s' : State T U) × Shows new m s' × Send environment s h.loan.number l s' (Send_error error))
-      → table' ≡ slice_set table of Nothing
-      → Carries environment defaults old new table (SendLoan of) (SendRefused error) table' Nothing
-  send_lost h error broken at sends is = λ m s handles events shown w default_value default_header is_value is_header.
-      let stand = entry-stands table of (Written h) at (λ e. let clash : Written h ≡ Nothing = e in cc) in
-      let named = has_written s handles events (map entry_for table) w of h.service_id h.loan.publisher h.loan.number stand in
-      let lost = sends m s named.0 shown named.3 in
-      let sent : Send environment s h.loan.number named.0 lost.0 (Send_error ConnectionBrokenSinceSenderNoLongerExists) =
-      subst (λ (e : SendError). Send environment s h.loan.number named.0 lost.0 (Send_error e)) broken lost.2 in
-      let after : map entry_for table' ≡ slice_set (map entry_for table) of No_entry = ap (λ (t : List Made). map entry_for t) is ∙ entries-set table of Nothing in
-      subst (λ (e : SendError). Comes environment defaults (Shows new) m s handles events (SendLoan of) (SendRefused e) (map entry_for table' ++ No_entry ∷ [])) (sym broken)
-      (subst (λ (ks : List TableEntry). Comes environment defaults (Shows new) m s handles events (SendLoan of) (SendRefused ConnectionBrokenSinceSenderNoLongerExists) (ks ++ No_entry ∷ [])) (sym after)
-      (send_lost_comes environment defaults (Shows new) m s handles events (map entry_for table) w default_value default_header is_value is_header of h.service_id h.loan.publisher h.loan.number
-      stand named.0 named.3 lost.0 sent (send_advances environment s h.loan.number named.0 lost.0 (Send_error ConnectionBrokenSinceSenderNoLongerExists) sent).next_message lost.1))
+      subst (λ (ks : List TableEntry). Comes fixed_handlers defaults (Shows new) m s handles events (SendLoan of) (reply_to_send outcome) (ks ++ entry_for (made_by_send outcome) ∷ [])) (sym after)
+      (sent-by defaults new table of h m s handles events w default_value default_header is_value is_header stand (free m s shown) named.0 named.3 named.4 outcome blocked gone sent.0 sent.1 sent.2)

@@ -6,7 +6,6 @@ use Rattle.iox2_store.specs.machine.State.{State, Messages}
 use Rattle.iox2_store.specs.machine.Ports.{CreatePublisher, CreateSubscriber}
 use Rattle.iox2_store.specs.declared.allocation.AllocationStrategy.TheVariants.{Static}
 use Rattle.iox2_store.specs.declared.backpressure.BackpressureStrategy.{BackpressureStrategy}
-use Rattle.iox2_store.specs.declared.backpressure.BackpressureStrategy.TheVariants.{DiscardData}
 use Rattle.iox2_store.specs.declared.degradation.DegradationAction.TheVariants.{Warn}
 use Rattle.iox2_store.specs.declared.errors.PublisherCreateError.{PublisherCreateError}
 use Rattle.iox2_store.specs.declared.errors.SubscriberCreateError.{SubscriberCreateError}
@@ -51,28 +50,28 @@ module _ {T U : Type 0} (old : Domain T U) where
       is ∙ ap (λ (v : TypeVariant). publisher_settings v loans strategy Static len None Warn None) (sym (ap (λ (t : State T U). (t.config).variant) shown.state ∙ variant))
 
 module _ {T U : Type 0} (environment : Environment) (defaults : Defaults T U) (old new : Domain T U) (table : List Made) where
-  pub publisher_carried : (loans len : ℕ) (h : PublisherHandle) (id : ℕ)
-      → ((m : Messages T U) (s : State T U) → Shows old m s → (s' : State T U) × Shows new m s' × ((h.id ≡ s.next_port) × CreatePublisher environment s (settings_of loans DiscardData len s) s' None))
+  pub publisher_carried : (loans : ℕ) (strategy : BackpressureStrategy) (len : ℕ) (h : PublisherHandle) (id : ℕ)
+      → ((m : Messages T U) (s : State T U) → Shows old m s → (s' : State T U) × Shows new m s' × ((h.id ≡ s.next_port) × CreatePublisher environment s (settings_of loans strategy len s) s' None))
       → h.service_id ≡ (new.config).service_id → id ≡ h.id
-      → Carries environment defaults old new table (PublisherCommand loans DiscardData Static len None Warn None) (PublisherMade id) table (MadePublisher h)
-  publisher_carried loans len h id creates service same = λ m s handles events shown w default_value default_header is_value is_header.
+      → Carries environment defaults old new table (PublisherCommand loans strategy Static len None Warn None) (PublisherMade id) table (MadePublisher h)
+  publisher_carried loans strategy len h id creates service same = λ m s handles events shown w default_value default_header is_value is_header.
       let made = creates m s shown in
       let create = (made.2).1 in
-      let Arrives : (a b : ℕ) → Type 0 = λ a b. Comes environment defaults (Shows new) m s handles events (PublisherCommand loans DiscardData Static len None Warn None) (PublisherMade a)
+      let Arrives : (a b : ℕ) → Type 0 = λ a b. Comes environment defaults (Shows new) m s handles events (PublisherCommand loans strategy Static len None Warn None) (PublisherMade a)
       (map entry_for table ++ Publisher_entry h.service_id b ∷ []) in
       subst (λ (a : ℕ). Arrives a h.id) (sym (made.2).0 ∙ sym same) (subst (Arrives s.next_port) (sym (made.2).0)
-      (publisher_comes environment defaults (Shows new) m s handles events (map entry_for table) w default_value default_header is_value is_header loans DiscardData Static len None Warn None
-      refl refl made.0 create (create_publisher_advances environment s (settings_of loans DiscardData len s) made.0 None create).next_message made.1 h.service_id
+      (publisher_comes environment defaults (Shows new) m s handles events (map entry_for table) w default_value default_header is_value is_header loans strategy Static len None Warn None
+      made.0 create (create_publisher_advances environment s (settings_of loans strategy len s) made.0 None create).next_message made.1 h.service_id
       (service ∙ sym (ap (λ (t : State T U). (t.config).service_id) (made.1).state))))
 
-  pub publisher_denied : (loans len : ℕ) (e : PublisherCreateError)
-      → ((m : Messages T U) (s : State T U) → Shows old m s → (s' : State T U) × Shows new m s' × CreatePublisher environment s (settings_of loans DiscardData len s) s' (Some e))
-      → Carries environment defaults old new table (PublisherCommand loans DiscardData Static len None Warn None) (PublisherRefused e) table Nothing
-  publisher_denied loans len e refuses = λ m s handles events shown w default_value default_header is_value is_header.
+  pub publisher_denied : (loans : ℕ) (strategy : BackpressureStrategy) (len : ℕ) (e : PublisherCreateError)
+      → ((m : Messages T U) (s : State T U) → Shows old m s → (s' : State T U) × Shows new m s' × CreatePublisher environment s (settings_of loans strategy len s) s' (Some e))
+      → Carries environment defaults old new table (PublisherCommand loans strategy Static len None Warn None) (PublisherRefused e) table Nothing
+  publisher_denied loans strategy len e refuses = λ m s handles events shown w default_value default_header is_value is_header.
       let refused = refuses m s shown in
       let create = refused.2 in
-      publisher_refused_comes environment defaults (Shows new) m s handles events (map entry_for table) w default_value default_header is_value is_header loans DiscardData Static len None Warn None
-      refused.0 e create (create_publisher_advances environment s (settings_of loans DiscardData len s) refused.0 (Some e) create).next_message refused.1
+      publisher_refused_comes environment defaults (Shows new) m s handles events (map entry_for table) w default_value default_header is_value is_header loans strategy Static len None Warn None
+      refused.0 e create (create_publisher_advances environment s (settings_of loans strategy len s) refused.0 (Some e) create).next_message refused.1
 
   pub subscriber_carried : (buffer : Option ℕ) (given : SubscriberSettings) → given ≡ given_for (buffer_limit old.config) buffer
       → (h : SubscriberHandle) (id : ℕ)

@@ -25,7 +25,7 @@ use Rattle.iox2_runs.specs.declared.runs.made.Made.TheVariants.{Nothing, Subscri
 use Rattle.iox2_runs.proofs.TableCalls.{skip_comes, quiet_comes, at_none, at_some}
 use Rattle.iox2_runs.proofs.TableEntries.{entry-stands, lacks}
 use Rattle.iox2_runs.proofs.TableLooks.{is_subscriber_entry, lacks_subscriber, has_subscriber}
-use Rattle.iox2_runs.proofs.TableSteps.{Anyone}
+use Rattle.iox2_runs.proofs.TableSteps.{Nobody}
 
 module _ {T U : Type 0} (environment : Environment) (defaults : Defaults T U) (old new : Domain T U) (table : List Made) (of : ℕ) where
   -- there is no such subscriber
@@ -47,6 +47,6 @@ module _ {T U : Type 0} (environment : Environment) (defaults : Defaults T U) (o
       let found = has_subscriber s handles events (map entry_for table) w of h.service_id h.id (entry-stands table of (MadeSubscriber h) at (λ e. let clash : MadeSubscriber h ≡ Nothing = e in cc)) in
       quiet_comes environment defaults (Shows new) m s handles events (map entry_for table) w default_value default_header is_value is_header (AskForSamples of) reply s'
       (at_some _ _ _ (h.id, found.0) found.1 (s', failure, (asked.2).0, (asked.2).1, sym (asked.2).2))
-      asked.1 (update_subscriber_stays environment s h.id s' failure ((asked.2).1).0) (update_subscriber_comes environment s h.id s' failure ((asked.2).1).0) (update_subscriber_waits Anyone environment s h.id s' failure ((asked.2).1).0)
+      asked.1 (update_subscriber_stays environment s h.id s' failure ((asked.2).1).0) (update_subscriber_comes environment s h.id s' failure ((asked.2).1).0) (update_subscriber_waits Nobody environment s h.id s' failure ((asked.2).1).0)
       (λ n _. ap (λ (f : ℕ → Option (Loan T U)). f n) (has_samples_loans environment s h.id s' failure (asked.2).0 (asked.2).1))
       (has_samples_advances environment s h.id s' failure (asked.2).0 (asked.2).1).next_message

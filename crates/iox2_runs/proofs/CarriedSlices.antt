@@ -15,12 +15,12 @@ use Rattle.iox2_commands.specs.declared.reply.Reply.TheVariants.{Skipped, Loaned
 use Rattle.iox2_runs.specs.Carries.{entry_for, Carries}
 use Rattle.iox2_runs.specs.RunSteps.{Comes}
 use Rattle.iox2_runs.specs.Services.{has_slices}
-use Rattle.iox2_runs.specs.Tables.{TableEntry, No_entry, Unwritten_entry}
+use Rattle.iox2_runs.specs.Tables.{TableEntry, No_entry, Unwritten_entry, IsUnblocked}
 use Rattle.iox2_runs.specs.declared.runs.made.Made.{Made}
 use Rattle.iox2_runs.specs.declared.runs.made.Made.TheVariants.{Nothing, Publisher as MadePublisher, Unwritten}
 use Rattle.iox2_runs.proofs.TableEntries.{entry-stands, lacks}
 use Rattle.iox2_runs.proofs.TableLooks.{is_publisher_entry}
-use Rattle.iox2_runs.proofs.TableMakes.{slice_skipped, slice_elsewhere_skipped, slice_comes, slice_refused_comes, loan_any}
+use Rattle.iox2_runs.proofs.TableMakes.{slice_skipped, slice_waiting, slice_elsewhere_skipped, slice_comes, slice_refused_comes, loan_any}
 
 module _ {T U : Type 0} (defaults : Defaults T U) (old new : Domain T U) (table table' : List Made) (is : table' ≡ table) (of len : ℕ) where
   -- there is no such publisher
@@ -37,7 +37,16 @@ module _ {T U : Type 0} (defaults : Defaults T U) (old new : Domain T U) (table 
       (slice_elsewhere_skipped fixed_handlers defaults (Shows old) m s handles events (map entry_for table) w default_value default_header is_value is_header of len
       (ap (λ (t : State T U). has_slices t.config) shown.state ∙ other) shown)
 
-  module _ (h : PublisherHandle) (at : slice_index_or table of Nothing ≡ MadePublisher h) (slices : has_slices old.config ≡ true) where
+  -- the publisher waits for a receiver
+  pub slice_held_up : (h : PublisherHandle) → slice_index_or table of Nothing ≡ MadePublisher h → ((m : Messages T U) (s : State T U) → Shows old m s → IsUnblocked s h.id → ⊥)
+      → Carries fixed_handlers defaults old old table (LoanSlice of len) Skipped table' Nothing
+  slice_held_up h at waits = λ m s handles events shown w default_value default_header is_value is_header.
+      subst (λ (t : List Made). Comes fixed_handlers defaults (Shows old) m s handles events (LoanSlice of len) Skipped (map entry_for t ++ No_entry ∷ [])) (sym is)
+      (slice_waiting fixed_handlers defaults (Shows old) m s handles events (map entry_for table) w default_value default_header is_value is_header of len h.service_id h.id
+      (entry-stands table of (MadePublisher h) at (λ e. let clash : MadePublisher h ≡ Nothing = e in cc)) (waits m s shown) shown)
+
+  module _ (h : PublisherHandle) (at : slice_index_or table of Nothing ≡ MadePublisher h) (free : (m : Messages T U) (s : State T U) → Shows old m s → IsUnblocked s h.id)
+      (slices : has_slices old.config ≡ true) where
     -- the loan is granted
     pub slice_carried : (h' : SampleMutUninit)
         → ((m : Messages T U) (s : State T U) → Shows old m s → (s' : State T U) × Shows new m s'
@@ -52,7 +61,7 @@ module _ {T U : Type 0} (defaults : Defaults T U) (old new : Domain T U) (table 
         subst (λ (t : List Made). Comes fixed_handlers defaults (Shows new) m s handles events (LoanSlice of len) Loaned (map entry_for t ++ entry_for (Unwritten h') ∷ [])) (sym is)
         (subst (λ (k : TableEntry). Comes fixed_handlers defaults (Shows new) m s handles events (LoanSlice of len) Loaned (map entry_for table ++ k ∷ [])) made
         (slice_comes fixed_handlers defaults (Shows new) m s handles events (map entry_for table) w default_value default_header is_value is_header of len h.service_id h.id
-        (entry-stands table of (MadePublisher h) at (λ e. let clash : MadePublisher h ≡ Nothing = e in cc))
+        (entry-stands table of (MadePublisher h) at (λ e. let clash : MadePublisher h ≡ Nothing = e in cc)) (free m s shown)
         (ap (λ (t : State T U). has_slices t.config) shown.state ∙ slices)
         loan.0 loan.1 lent.0 (loan_any fixed_handlers loan.0 true len s h.id lent.0 None loan.2) lent.1
         h'.service_id (service ∙ sym (ap (λ (t : State T U). (t.config).service_id) (lent.1).state))))
@@ -65,6 +74,6 @@ module _ {T U : Type 0} (defaults : Defaults T U) (old new : Domain T U) (table 
         let refused = refuses m s shown in
         subst (λ (t : List Made). Comes fixed_handlers defaults (Shows new) m s handles events (LoanSlice of len) (LoanRefused e) (map entry_for t ++ No_entry ∷ [])) (sym is)
         (slice_refused_comes fixed_handlers defaults (Shows new) m s handles events (map entry_for table) w default_value default_header is_value is_header of len h.service_id h.id
-        (entry-stands table of (MadePublisher h) at (λ e. let clash : MadePublisher h ≡ Nothing = e in cc))
+        (entry-stands table of (MadePublisher h) at (λ e. let clash : MadePublisher h ≡ Nothing = e in cc)) (free m s shown)
         (ap (λ (t : State T U). has_slices t.config) shown.state ∙ slices)
         default_header is_header refused.0 e (loan_any fixed_handlers default_header true len s h.id refused.0 (Some e) ((refused.2).1 default_header)) refused.1)

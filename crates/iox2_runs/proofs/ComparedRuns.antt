@@ -9,7 +9,7 @@ use Rattle.iox2_commands.specs.Refusals.{TellsOfRefusals, MetNoRefusal}
 use Rattle.iox2_commands.specs.Runs.{only_defaults}
 use Rattle.iox2_commands.specs.Views.{OmitsOthersFrom}
 use Rattle.iox2_commands.specs.declared.command.Command.{Command}
-use Rattle.iox2_commands.specs.declared.command.Command.TheVariants.{Nothing, CreatePublisher, CreateSubscriber, LoanUninit, Loan, LoanSlice, WriteCell, WriteAll, AssumeInit, WriteHeader, SetPayload, Send, SendCopy, Discard, Update, Receive, HasSamples, Read, ReadHeader, ReadUserHeader, Release, Close}
+use Rattle.iox2_commands.specs.declared.command.Command.TheVariants.{Nothing, CreatePublisher, CreateSubscriber, LoanUninit, Loan, LoanSlice, WriteCell, WriteAll, AssumeInit, WriteHeader, SetPayload, Send, SendCopy, Discard, Retry, GiveUp, Update, Receive, HasSamples, Read, ReadHeader, ReadUserHeader, Release, Close}
 use Rattle.iox2_commands.specs.declared.reply.Reply.{Reply}
 use Rattle.iox2_commands.proofs.RefusalRuns.{isolated_without_refusals, views_without_refusals}
 use Rattle.iox2_runs.specs.Compared.{AreCompared}
@@ -20,7 +20,7 @@ module _ {T U : Type 0} where
   -- refused memory shows in each command that is carried out so far
   supported_tells : (command : Command T U) → IsSupportedCommand command → TellsOfRefusals command
   supported_tells Nothing h = tt
-  supported_tells (CreatePublisher loans strategy allocation len override_slots degradation backpressure) h = h.1
+  supported_tells (CreatePublisher loans strategy allocation len override_slots degradation backpressure) h = h.0
   supported_tells (CreateSubscriber buffer degradation) h = tt
   supported_tells (LoanUninit of) h = tt
   supported_tells (Loan of) h = tt
@@ -33,6 +33,8 @@ module _ {T U : Type 0} where
   supported_tells (Send of) h = tt
   supported_tells (SendCopy of value) h = tt
   supported_tells (Discard of) h = tt
+  supported_tells (Retry of elapsed) h = tt
+  supported_tells (GiveUp of) h = tt
   supported_tells (Update of) h = tt
   supported_tells (Receive of) h = tt
   supported_tells (HasSamples of) h = tt
@@ -41,7 +43,6 @@ module _ {T U : Type 0} where
   supported_tells (ReadUserHeader of) h = tt
   supported_tells (Release of) h = tt
   supported_tells (Close of) h = tt
-  supported_tells _ h = absurd h
 
   all_tell : (commands : List (Command T U)) → All IsSupportedCommand commands → All TellsOfRefusals commands
   all_tell commands all = λ i d inside. supported_tells _ (all i d inside)

@@ -1,12 +1,23 @@
 -- What one command of a run leaves of what was live before the run.
-use Rattle.std.proofs.Common.{◌≡◌, ℕ, zero, suc, List, [], ◌∷◌, ◌++◌, sym, subst}
-use Rattle.std.specs.Prelude.{slice_set, slice_index_or}
+use Rattle.std.proofs.Common.{◌≡◌, ℕ, zero, suc, List, [], ◌∷◌, ◌++◌, ap, sym, subst, ◌∙◌}
+use Rattle.std.specs.Prelude.{IfOk, slice_set, slice_index_or}
+use Rattle.std.specs.declared.result.Result.{Result}
+use Rattle.std.specs.declared.result.Result.TheVariants.{Ok, Err}
+use Rattle.iox2_store.specs.declared.errors.SendError.{SendError}
 use Rattle.iox2_domain.specs.Kept.{Kept as Domain}
-use Rattle.iox2_pubsub.specs.Live.{No_item, Stays, StaysBut, IsNewIn}
-use Rattle.iox2_pubsub.proofs.StaysBut.{new-since, stays-on, nothing-is-new}
+use Rattle.iox2_pubsub.specs.Live.{Item, No_item, A_loan, A_blocked_send, Both, Stays, StaysBut, IsNewIn, blocked_send}
+use Rattle.iox2_pubsub.specs.SendCalls.{IfBlocked, spent_by_send, spent_by_copy}
+use Rattle.iox2_pubsub.specs.declared.blocked_send.BlockedSend.{BlockedSend}
+use Rattle.iox2_pubsub.specs.declared.publisher.Publisher.{Publisher}
+use Rattle.iox2_pubsub.specs.declared.sample_mut.SampleMut.{SampleMut}
+use Rattle.iox2_pubsub.specs.declared.send_outcome.SendOutcome.{SendOutcome}
+use Rattle.iox2_pubsub.specs.declared.send_outcome.SendOutcome.TheVariants.{Delivered as WasDelivered, Blocked as IsBlocked}
+use Rattle.iox2_pubsub.proofs.StaysBut.{new-since, stays-on, nothing-is-new, both-new, first-new, second-new, blocked-new}
 use Rattle.iox2_runs.specs.Leaves.{item_of, AreNewIn, Leaves}
+use Rattle.iox2_runs.specs.SendReplies.{made_by_send}
 use Rattle.iox2_runs.specs.declared.runs.made.Made.{Made}
-use Rattle.iox2_runs.specs.declared.runs.made.Made.TheVariants.{Nothing}
+use Rattle.iox2_runs.specs.declared.runs.made.Made.TheVariants.{Nothing, Publisher as MadePublisher, Written, Blocked}
+use Rattle.iox2_runs.proofs.TableEntries.{set_same}
 
 -- at the first index and at the later ones
 at_each_index : (P : ℕ → Type 0) → P zero → ((k : ℕ) → P (suc k)) → (k : ℕ) → P k
@@ -50,12 +61,70 @@ module _ {T U : Type 0} (old new : Domain T U) (table : List Made) where
   pub leaves-making-here : (table' : List Made) → table' ≡ table → Stays old new → (made : Made) → IsNewIn old (item_of made) → Leaves old new table table' made
   leaves-making-here table' same stays made is = subst (λ (t : List Made). Leaves old new table t made) (sym same) (leaves-making stays made is)
 
+  -- one that uses what stands at a position, puts something in its place, and may make something
+  pub leaves-using : (table' : List Made) (of : ℕ) (made put made' : Made) → slice_index_or table of Nothing ≡ made → (spent : Item) → StaysBut spent old new
+      → ((start : Domain T U) → IsNewIn start (item_of made) → IsNewIn start spent)
+      → ((start : Domain T U) → IsNewIn start (item_of made) → IsNewIn start (item_of put))
+      → ((start : Domain T U) → Stays start old → IsNewIn start (item_of made) → IsNewIn start (item_of made'))
+      → table' ≡ slice_set table of put → Leaves old new table table' made'
+  leaves-using table' of made put made' at spent stays spends puts makes is = λ start before are.
+      let new-one : IsNewIn start (item_of made) = subst (λ (h : Made). IsNewIn start (item_of h)) at (are of) in (
+        stays-on start old before spent new (spends start new-one) stays,
+        subst (AreNewIn start) (sym is) (set-new start table of put are (puts start new-one)),
+        makes start before new-one,
+      )
+
   -- one that spends what stands at a position, and may leave the same there as another handle
   pub leaves-spending : (table' : List Made) (of : ℕ) (made made' : Made) → slice_index_or table of Nothing ≡ made → StaysBut (item_of made) old new
       → ((start : Domain T U) → IsNewIn start (item_of made) → IsNewIn start (item_of made')) → table' ≡ slice_set table of made' → Leaves old new table table' Nothing
-  leaves-spending table' of made made' at stays put is = λ start before are.
-      let new-one : IsNewIn start (item_of made) = subst (λ (h : Made). IsNewIn start (item_of h)) at (are of) in (
-        stays-on start old before (item_of made) new new-one stays,
-        subst (AreNewIn start) (sym is) (set-new start table of made' are (put start new-one)),
-        nothing-is-new start,
-      )
+  leaves-spending table' of made made' at stays put is =
+      leaves-using table' of made made' Nothing at (item_of made) stays (λ start new-one. new-one) put (λ start before new-one. nothing-is-new start) is
+
+  -- one that lends something of the publisher at a position
+  pub leaves-lending : (table' : List Made) → table' ≡ table → (of : ℕ) (publisher : Publisher) (made : Made) (loan : Item) → slice_index_or table of Nothing ≡ MadePublisher publisher → Stays old new
+      → IsNewIn old loan → item_of made ≡ Both loan (A_blocked_send publisher.id) → Leaves old new table table' made
+  leaves-lending table' same of publisher made loan at stays new-loan is =
+      leaves-using table' of (MadePublisher publisher) (MadePublisher publisher) made at No_item stays (λ start new-one. nothing-is-new start) (λ start new-one. new-one)
+      (λ start before new-one. subst (IsNewIn start) (sym is)
+      (both-new start loan (A_blocked_send publisher.id) (new-since start old before loan new-loan) (blocked-new start publisher.id new-one)))
+      (same ∙ sym (ap (λ (h : Made). slice_set table of h) (sym at) ∙ set_same table of))
+
+  -- what a send of this publisher makes is new, where the publisher's sends are
+  made-new : (p : ℕ) (outcome : Result SendOutcome SendError) → IfOk outcome (λ came. IfBlocked came (λ blocked. blocked.loan.publisher ≡ p))
+      → (start : Domain T U) → IsNewIn start (A_blocked_send p) → IsNewIn start (item_of (made_by_send outcome))
+  made-new p (Ok (WasDelivered count)) its start is = nothing-is-new start
+  made-new p (Ok (IsBlocked blocked)) its start is = subst (λ (i : ℕ). IsNewIn start (A_blocked_send i)) (sym its) is
+  made-new p (Err error) its start is = nothing-is-new start
+
+  -- one that sends the loan at a position
+  pub leaves-sending : (table' : List Made) (of : ℕ) (loan : SampleMut) (outcome : Result SendOutcome SendError) → slice_index_or table of Nothing ≡ Written loan
+      → StaysBut (spent_by_send loan outcome) old new → IfOk outcome (λ came. IfBlocked came (λ blocked. blocked.loan.publisher ≡ loan.loan.publisher))
+      → table' ≡ slice_set table of Nothing → Leaves old new table table' (made_by_send outcome)
+  leaves-sending table' of loan outcome at stays its is =
+      leaves-using table' of (Written loan) Nothing (made_by_send outcome) at (spent_by_send loan outcome) stays (spends outcome) (λ start new-one. nothing-is-new start)
+      (λ start before new-one. made-new loan.loan.publisher outcome its start (second-new start (A_loan loan.loan.number) (A_blocked_send loan.loan.publisher) new-one)) is
+    where
+      spends : (came : Result SendOutcome SendError) (start : Domain T U) → IsNewIn start (item_of (Written loan)) → IsNewIn start (spent_by_send loan came)
+      spends (Ok (WasDelivered count)) start new-one = first-new start (A_loan loan.loan.number) (A_blocked_send loan.loan.publisher) new-one
+      spends (Ok (IsBlocked blocked)) start new-one = new-one
+      spends (Err error) start new-one = first-new start (A_loan loan.loan.number) (A_blocked_send loan.loan.publisher) new-one
+
+  -- one that sends a copy with the publisher at a position
+  pub leaves-copying : (of : ℕ) (publisher : Publisher) (outcome : Result SendOutcome SendError) → slice_index_or table of Nothing ≡ MadePublisher publisher
+      → StaysBut (spent_by_copy publisher outcome) old new → IfOk outcome (λ came. IfBlocked came (λ blocked. blocked.loan.publisher ≡ publisher.id))
+      → Leaves old new table table (made_by_send outcome)
+  leaves-copying of publisher outcome at stays its =
+      leaves-using table of (MadePublisher publisher) (MadePublisher publisher) (made_by_send outcome) at (spent_by_copy publisher outcome) stays (spends outcome) (λ start new-one. new-one)
+      (λ start before new-one. made-new publisher.id outcome its start (blocked-new start publisher.id new-one))
+      (sym (ap (λ (h : Made). slice_set table of h) (sym at) ∙ set_same table of))
+    where
+      spends : (came : Result SendOutcome SendError) (start : Domain T U) → IsNewIn start (item_of (MadePublisher publisher)) → IsNewIn start (spent_by_copy publisher came)
+      spends (Ok (WasDelivered count)) start new-one = nothing-is-new start
+      spends (Ok (IsBlocked blocked)) start new-one = blocked-new start publisher.id new-one
+      spends (Err error) start new-one = nothing-is-new start
+
+  -- one that goes on with the blocked send at a position
+  pub leaves-going-on : (table' : List Made) (of : ℕ) (send : BlockedSend) (outcome : Result SendOutcome SendError) → slice_index_or table of Nothing ≡ Blocked send → StaysBut (blocked_send send) old new
+      → IfOk outcome (λ came. IfBlocked came (λ blocked. blocked.loan.publisher ≡ send.loan.publisher)) → table' ≡ slice_set table of (made_by_send outcome) → Leaves old new table table' Nothing
+  leaves-going-on table' of send outcome at stays its is =
+      leaves-spending table' of (Blocked send) (made_by_send outcome) at stays (λ start new-one. made-new send.loan.publisher outcome its start new-one) is

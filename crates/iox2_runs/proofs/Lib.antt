@@ -18,6 +18,9 @@ pub mod CarriedCloses
 pub mod ComparedRuns
 pub mod FillingSupported
 pub mod TableCopies
+pub mod TablePassed
+pub mod TableBlocked
+pub mod CarriedBlocked
 pub mod TableChanges
 pub mod CarriedCopies
 pub mod CarriedChanges

@@ -1,26 +1,39 @@
 -- What a run's table has entries for is live in its domain.
-use Rattle.std.proofs.Common.{◌≡◌, ℕ, true, List, Some, map, refl, ap, sym, subst, ◌∙◌}
-use Rattle.std.proofs.lemmas.Option.{same_Some}
-use Rattle.std.specs.Prelude.{slice_index_or}
-use Rattle.iox2_store.specs.machine.Records.{Publisher}
-use Rattle.iox2_store.specs.machine.State.{State}
+use Rattle.std.proofs.Common.{◌≡◌, ℕ, ◌<◌, Bool, true, false, List, Some, map, refl, sym, subst, ◌∙◌}
+use Rattle.std.proofs.lemmas.Bool.{true≢false}
+use Rattle.std.specs.Prelude.{◌↔◌, slice_index_or}
+use Rattle.iox2_store.specs.machine.State.{State, Messages}
 use Rattle.iox2_store.specs.machine.WellFormed.{IsWellFormed}
+use Rattle.iox2_store.specs.declared.key.Key.{Key}
 use Rattle.iox2_domain.specs.Kept.{Kept as Domain, state_of}
+use Rattle.iox2_domain.specs.Shows.{Shows}
 use Rattle.iox2_store.specs.machine.Mailbox.{is_borrowed}
-use Rattle.iox2_pubsub.specs.Live.{IsReadyPublisher, IsLiveSubscriber, IsUnblocked, NeverWaits, IsUnwritten, IsWritten, IsLiveSample, publisher_key, written_key}
-use Rattle.iox2_pubsub.proofs.LiveParts.{publisher-live, unblocked-free, discards-from, subscriber-live, unwritten-live, written-live, sample-live}
+use Rattle.iox2_pubsub.specs.Live.{IsPublisherKey, IsReadyPublisher, IsLiveSubscriber, IsUnblocked, IsUnwritten, IsWritten, IsBlockedSend, IsLiveSample, publisher_key, blocked_key}
+use Rattle.iox2_pubsub.proofs.LiveParts.{publisher-live, unblocked-free, unblocked-parts, blocked-live, subscriber-live, unwritten-live, written-live, sample-live}
+use Rattle.iox2_pubsub.specs.declared.blocked_send.BlockedSend.{BlockedSend as BlockedHandle}
 use Rattle.iox2_pubsub.specs.declared.publisher.Publisher.{Publisher as PublisherHandle}
 use Rattle.iox2_pubsub.specs.declared.subscriber.Subscriber.{Subscriber as SubscriberHandle}
 use Rattle.iox2_pubsub.specs.declared.sample_mut_uninit.SampleMutUninit.{SampleMutUninit}
 use Rattle.iox2_pubsub.specs.declared.sample_mut.SampleMut.{SampleMut}
 use Rattle.iox2_pubsub.specs.declared.sample.Sample.{Sample as SampleHandle}
 use Rattle.iox2_commands.specs.Outcomes.{Handle}
-use Rattle.iox2_runs.specs.Tables.{IsEntryOf}
+use Rattle.iox2_runs.specs.Tables.{IsUnblocked as IsFree, IsEntryOf}
 use Rattle.iox2_runs.specs.Carries.{entry_for, IsLiveTable}
 use Rattle.iox2_runs.specs.declared.runs.made.Made.{Made}
-use Rattle.iox2_runs.specs.declared.runs.made.Made.TheVariants.{Nothing, Publisher as MadePublisher, Subscriber as MadeSubscriber, Unwritten, Written, Sample as MadeSample}
+use Rattle.iox2_runs.specs.declared.runs.made.Made.TheVariants.{Nothing, Publisher as MadePublisher, Subscriber as MadeSubscriber, Unwritten, Written, Blocked, Sample as MadeSample}
 use Rattle.iox2_runs.proofs.TableLooks.{handle_of}
 use Rattle.iox2_runs.proofs.TableEntries.{entry-stands}
+
+module _ {T U : Type 0} (domain : Domain T U) (key : Key) where
+  -- who is free in the domain is so in each state that it shows
+  pub shown_free : IsUnblocked domain key → (m : Messages T U) (s : State T U) → Shows domain m s → IsFree s key.port
+  shown_free free m s shown = subst (λ (t : State T U). IsFree t key.port) (sym shown.state) (unblocked-parts domain key free).1
+
+  -- and who waits waits there
+  pub shown_waits : key.port < (state_of domain).next_port → (answer : Bool) → ((answer ≡ false) ↔ IsUnblocked domain key) → answer ≡ true
+      → (m : Messages T U) (s : State T U) → Shows domain m s → IsFree s key.port → ⊥
+  shown_waits low answer tells is m s shown free =
+      true≢false (sym is ∙ tells.1 (unblocked-free domain key (low, subst (λ (t : State T U). IsFree t key.port) shown.state free)))
 
 module _ {T U : Type 0} (domain : Domain T U) (table : List Made) (keeps : IsLiveTable domain table) (of : ℕ) where
   -- what stands at a position is the entry of some handle, in the state that the domain keeps
@@ -29,33 +42,20 @@ module _ {T U : Type 0} (domain : Domain T U) (table : List Made) (keeps : IsLiv
       let v = handle_of keeps.1 keeps.2 keeps.3 (map entry_for table) keeps.5 of (entry_for made) (entry-stands table of made at some) in
       (v.0, subst (λ (s : State T U). IsEntryOf s v.0 (entry_for made)) (keeps.4).state v.2)
 
-  pub live_publisher : (h : PublisherHandle) → slice_index_or table of Nothing ≡ MadePublisher h → IsReadyPublisher domain h
+  pub live_publisher : (h : PublisherHandle) → slice_index_or table of Nothing ≡ MadePublisher h → IsPublisherKey domain (publisher_key h)
   live_publisher h at =
       let v = (has_entry (MadePublisher h) at (λ e. let clash : MadePublisher h ≡ Nothing = e in cc)).1 in
-      let there : (state_of domain).publishers h.id ≡ Some (v.2).0 = (v.2).1 in
-      record {
-        there = publisher-live domain _ (refl, v.0, ((v.2).0, there));
-        unblocked = unblocked-free domain (publisher_key h) (
-          ((subst IsWellFormed (keeps.4).state (keeps.4).well_formed).publishers h.id (v.2).0 there).is_known,
-          λ x at_x. ap (λ (y : Publisher). y.blocked) (same_Some x (v.2).0 (sym at_x ∙ there)) ∙ (v.2).2,
-        );
-      }
+      publisher-live domain _ (refl, v.0, (v.2, v.3))
 
-  -- and no send of it is ever blocked
-  pub publisher_never_waits : (h : PublisherHandle) → slice_index_or table of Nothing ≡ MadePublisher h → NeverWaits domain (publisher_key h)
-  publisher_never_waits h at =
+  -- it is one of those whose ids were given out
+  pub known_publisher : (h : PublisherHandle) → slice_index_or table of Nothing ≡ MadePublisher h → h.id < (state_of domain).next_port
+  known_publisher h at =
       let v = (has_entry (MadePublisher h) at (λ e. let clash : MadePublisher h ≡ Nothing = e in cc)).1 in
-      let there : (state_of domain).publishers h.id ≡ Some (v.2).0 = (v.2).1 in
-      record {
-        discards = discards-from domain (publisher_key h) (
-          ((subst IsWellFormed (keeps.4).state (keeps.4).well_formed).publishers h.id (v.2).0 there).is_known,
-          λ x at_x. let is : x ≡ (v.2).0 = same_Some x (v.2).0 (sym at_x ∙ there) in (
-            ap (λ (y : Publisher). y.backpressure_strategy) is ∙ (v.2).3,
-            ap (λ (y : Publisher). y.backpressure_handler) is ∙ (v.2).4,
-          ),
-        );
-        unblocked = (live_publisher h at).unblocked;
-      }
+      ((subst IsWellFormed (keeps.4).state (keeps.4).well_formed).publishers h.id v.2 v.3).is_known
+
+  -- where no send of it is blocked it is ready
+  pub ready_publisher : (h : PublisherHandle) → slice_index_or table of Nothing ≡ MadePublisher h → IsUnblocked domain (publisher_key h) → IsReadyPublisher domain h
+  ready_publisher h at free = record { there = live_publisher h at; unblocked = free }
 
   pub live_subscriber : (h : SubscriberHandle) → slice_index_or table of Nothing ≡ MadeSubscriber h → IsLiveSubscriber domain h
   live_subscriber h at =
@@ -72,20 +72,16 @@ module _ {T U : Type 0} (domain : Domain T U) (table : List Made) (keeps : IsLiv
       let v = (has_entry (Written h) at (λ e. let clash : Written h ≡ Nothing = e in cc)).1 in
       written-live domain h v.0 (v.2).0
 
-  -- and its publisher may send it
-  pub unblocked_written : (h : SampleMut) → slice_index_or table of Nothing ≡ Written h → IsUnblocked domain (written_key h)
-  unblocked_written h at =
+  -- the id of its publisher was given out
+  pub known_lender : (h : SampleMut) → slice_index_or table of Nothing ≡ Written h → h.loan.publisher < (state_of domain).next_port
+  known_lender h at =
       let v = (has_entry (Written h) at (λ e. let clash : Written h ≡ Nothing = e in cc)).1 in
-      unblocked-free domain (written_key h) ((v.2).1, (v.2).2)
+      (v.2).1
 
-  -- and no send of it is ever blocked
-  pub written_never_waits : (h : SampleMut) → slice_index_or table of Nothing ≡ Written h → NeverWaits domain (written_key h)
-  written_never_waits h at =
-      let v = (has_entry (Written h) at (λ e. let clash : Written h ≡ Nothing = e in cc)).1 in
-      record {
-        discards = discards-from domain (written_key h) ((v.2).1, (v.2).3);
-        unblocked = unblocked_written h at;
-      }
+  pub live_blocked : (h : BlockedHandle) → slice_index_or table of Nothing ≡ Blocked h → IsBlockedSend domain h
+  live_blocked h at =
+      let v = (has_entry (Blocked h) at (λ e. let clash : Blocked h ≡ Nothing = e in cc)).1 in
+      blocked-live domain (blocked_key h) (v.0, v.2)
 
   pub live_sample : (h : SampleHandle) → slice_index_or table of Nothing ≡ MadeSample h → IsLiveSample domain h
   live_sample h at =

@@ -49,6 +49,8 @@ module _ {T U : Type 0} (environment : Environment) (defaults : Defaults T U) wh
       ports_apart = λ i j p handle handle' at. absurd (no_element i handle at);
       loans_below = λ i n at. absurd (no_element i _ at);
       loans_apart = λ i j n at. absurd (no_element i _ at);
+      blocked_sent = λ i p n at. absurd (no_element i _ at);
+      blocked_apart = λ i j p n at. absurd (no_element i _ at);
       samples_received = λ i p q n at. absurd (no_element i _ at);
       samples_apart = λ i j p q n at. absurd (no_element i _ at);
     },

@@ -8,25 +8,27 @@ use Rattle.iox2_store.specs.machine.Numbers.{put_at}
 use Rattle.iox2_store.specs.machine.Records.{Loan, Environment}
 use Rattle.iox2_store.specs.machine.State.{State, Messages, with_loan, is_blocked}
 use Rattle.iox2_store.specs.machine.Loans.{written, entry_of}
-use Rattle.iox2_store.specs.machine.Sends.{Send, SendResult, Delivered_to, Send_error, Blocked_send}
-use Rattle.iox2_store.specs.declared.errors.SendError.TheVariants.{ConnectionBrokenSinceSenderNoLongerExists}
+use Rattle.iox2_store.specs.machine.Mailbox.{is_borrowed}
+use Rattle.iox2_store.specs.machine.Sends.{Send, SendResult}
 use Rattle.iox2_laws.proofs.LoanKeeping.{send_loans}
+use Rattle.iox2_laws.proofs.SendLaws.{send_advances}
 use Rattle.iox2_laws.proofs.Puts.{put_at-same, put_at-other}
-use Rattle.iox2_commands.specs.Outcomes.{Handle, No_handle, Loan_handle, Sample_handle, Event, No_event, Message_sent, Outcome, replied, done, skipped}
+use Rattle.iox2_commands.specs.Outcomes.{Handle, No_handle, Loan_handle, Blocked_handle, Sample_handle, Event, No_event, Outcome, messages_after, replied, done, skipped}
 use Rattle.iox2_commands.specs.Runs.{Defaults}
-use Rattle.iox2_commands.specs.Step.{Step}
-use Rattle.iox2_runs.specs.Tables.{port_of, TableEntry, No_entry, Unwritten_entry, Written_entry, IsSpent, IsTable}
+use Rattle.iox2_commands.specs.Step.{Step, after_send}
+use Rattle.iox2_runs.specs.Tables.{port_of, TableEntry, No_entry, Unwritten_entry, Written_entry, IsSpent, IsUnblocked, IsEntryOf, IsTable}
 use Rattle.iox2_runs.specs.RunSteps.{Comes}
 use Rattle.iox2_commands.specs.declared.command.Command.{Command}
 use Rattle.iox2_commands.specs.declared.command.Command.TheVariants.{Nothing, WriteAll, Send as SendLoan}
 use Rattle.iox2_commands.specs.declared.reply.Reply.{Reply}
-use Rattle.iox2_commands.specs.declared.reply.Reply.TheVariants.{Done, Skipped, Delivered, SendRefused}
+use Rattle.iox2_commands.specs.declared.reply.Reply.TheVariants.{Done, Skipped}
 use Rattle.iox2_laws.proofs.SamplesStay.{same_borrowed}
-use Rattle.iox2_laws.proofs.PortsCome.{PortsCome, ports_come_themselves, loan_set_comes, send_comes as machine_send_comes}
-use Rattle.iox2_laws.proofs.PortsStay.{PortsStay, ports_stay_themselves, send_stays, loan_set_stays}
-use Rattle.iox2_laws.proofs.Waits.{Waits, waits_itself, loan_set_waits, send_waits}
-use Rattle.iox2_runs.proofs.TableSteps.{Anyone, ports-keep, table_next, all_still, others_still}
-use Rattle.iox2_runs.proofs.TableLooks.{Lacks, is_unwritten_entry, is_written_entry, lacks_unwritten, lacks_written, handle_of, has_unwritten, has_written}
+use Rattle.iox2_laws.proofs.PortsCome.{PortsCome, ports_come_themselves, loan_set_comes}
+use Rattle.iox2_laws.proofs.PortsStay.{PortsStay, ports_stay_themselves, loan_set_stays}
+use Rattle.iox2_laws.proofs.Waits.{Waits, waits_itself, loan_set_waits}
+use Rattle.iox2_runs.proofs.TablePassed.{Passed, passed_keeps, send_passes}
+use Rattle.iox2_runs.proofs.TableSteps.{Nobody, ports-keep, later_same, later_but, no_next, table_next, all_still, others_still, others_kept}
+use Rattle.iox2_runs.proofs.TableLooks.{Lacks, is_unwritten_entry, is_written_entry, lacks_unwritten, lacks_written, handle_of, has_unwritten, sendable, unsendable}
 
 -- a fact by cases, in one of the two
 pub at_none : {A : Type 0} (o : Option A) (P : Type 0) (Q : A → Type 0) → o ≡ None → P → MatchOption o P Q
@@ -34,10 +36,6 @@ at_none o P Q e h = subst (λ v. MatchOption v P Q) (sym e) h
 
 pub at_some : {A : Type 0} (o : Option A) (P : Type 0) (Q : A → Type 0) (a : A) → o ≡ Some a → Q a → MatchOption o P Q
 at_some o P Q a e h = subst (λ v. MatchOption v P Q) (sym e) h
-
--- no port is named where none is made
-pub no_port : {T U : Type 0} (s s' : State T U) → PortsCome s s' → (s.next_port ≤ s'.next_port) × ((p : ℕ) → port_of No_handle ≡ Some p → (s.next_port ≤ p) × (p < s'.next_port))
-no_port s s' come = (come.next_port, λ p e. absurd (none-some p e))
 
 pub set_length : {A : Type 0} (xs : List A) (i : ℕ) (x : A) → length (slice_set xs i x) ≡ length xs
 set_length [] i x = refl
@@ -49,7 +47,7 @@ module _ {T U : Type 0} (environment : Environment) (defaults : Defaults T U) (S
     (is_default_value : defaults.IsDefaultValue default_value) (is_default_header : defaults.IsDefaultHeader default_header) where
   -- a command that makes nothing and after which all is kept that was
   pub quiet_comes : (command : Command T U) (reply : Reply T U) (s' : State T U) → Step environment default_value default_header m s handles command (replied reply s')
-      → Shown m s' → PortsStay s s' → PortsCome s s' → Waits Anyone s s' → ((n : ℕ) → n < s.next_message → s'.loans n ≡ s.loans n) → s.next_message ≤ s'.next_message
+      → Shown m s' → PortsStay s s' → PortsCome s s' → Waits Nobody s s' → ((n : ℕ) → n < s.next_message → s'.loans n ≡ s.loans n) → s.next_message ≤ s'.next_message
       → Comes environment defaults Shown m s handles events command reply (table ++ No_entry ∷ [])
   quiet_comes command reply s' step shown stay come waits loans rises = record {
     default_value = default_value;
@@ -60,18 +58,18 @@ module _ {T U : Type 0} (environment : Environment) (defaults : Defaults T U) (S
     step = step;
     replied = refl;
     shown = shown;
-    follows = λ once. table_next s s' handles events table w No_handle No_event No_entry table rises refl
+    follows = λ once. table_next s s' handles events table w No_handle No_event No_entry table (later_same s s' come.next_port rises loans) refl
         (all_still s s' handles events table w stay.remain come waits loans (λ i p q n _. same_borrowed s s' stay p q n))
-        tt (no_port s s' come) (λ n e. let clash : No_handle ≡ Loan_handle n = e in absurd (cc)) (λ p q n e. let clash : No_handle ≡ Sample_handle p q n = e in absurd (cc)) once;
+        tt (no_next s s' _) once;
   }
 
   -- a command that is skipped
   pub skip_comes : (command : Command T U) → Step environment default_value default_header m s handles command (skipped s) → Shown m s
       → Comes environment defaults Shown m s handles events command Skipped (table ++ No_entry ∷ [])
-  skip_comes command step shown = quiet_comes command Skipped s step shown (ports_stay_themselves s) (ports_come_themselves s) (waits_itself Anyone s) (λ n low. refl) (omega arith)
+  skip_comes command step shown = quiet_comes command Skipped s step shown (ports_stay_themselves s) (ports_come_themselves s) (waits_itself Nobody s) (λ n low. refl) (omega arith)
 
   pub nothing_comes : Shown m s → Comes environment defaults Shown m s handles events Nothing Done (table ++ No_entry ∷ [])
-  nothing_comes shown = quiet_comes Nothing Done s refl shown (ports_stay_themselves s) (ports_come_themselves s) (waits_itself Anyone s) (λ n low. refl) (omega arith)
+  nothing_comes shown = quiet_comes Nothing Done s refl shown (ports_stay_themselves s) (ports_come_themselves s) (waits_itself Nobody s) (λ n low. refl) (omega arith)
 
   -- ---- a loan is written
 
@@ -96,12 +94,13 @@ module _ {T U : Type 0} (environment : Environment) (defaults : Defaults T U) (S
         step = at_some _ _ _ (n, l) found.1 refl;
         replied = refl;
         shown = shown l found.3;
-        follows = λ once. table_next s s' handles events table w No_handle No_event No_entry (slice_set table of (Written_entry service p n)) (omega arith) (set_length table of (Written_entry service p n))
-            (others_still s s' handles events table w of named.0 (Written_entry service p n) (ports-keep named.0 s s' stay.remain (loan_set_comes s n (Some (written l value))) (loan_set_waits Anyone s n (Some (written l value)))) named.1
-            ((named.2).0, (named.2).1, ((written l value, put_at-same s.loans n (Some (written l value)), found.4, refl), ((named.2).2).1, ((named.2).2).2, ((named.2).2).3))
+        follows = λ once. table_next s s' handles events table w No_handle No_event No_entry (slice_set table of (Written_entry service p n))
+            (later_but s s' n l found.3 (omega arith) (omega arith) (λ k low other. put_at-other s.loans n (Some (written l value)) k (ne_eqb k n other))) (set_length table of (Written_entry service p n))
+            (others_still s s' handles events table w of named.0 (Written_entry service p n) (ports-keep named.0 No_handle s s' stay.remain (loan_set_comes s n (Some (written l value))) (loan_set_waits Nobody s n (Some (written l value)))) named.1
+            ((named.2).0, (named.2).1, ((written l value, put_at-same s.loans n (Some (written l value)), found.4, refl), ((named.2).2).1))
             (λ k low other. put_at-other s.loans n (Some (written l value)) k (ne_eqb k n (λ e. other ((named.2).1 ∙ ap Loan_handle (sym e)))))
             (λ i p q n _ _. refl))
-            tt (no_port s s' (loan_set_comes s n (Some (written l value)))) (λ n e. let clash : No_handle ≡ Loan_handle n = e in absurd (cc)) (λ p q n e. let clash : No_handle ≡ Sample_handle p q n = e in absurd (cc)) once;
+            tt (no_next s s' _) once;
       }
 
   -- ---- a loan is sent
@@ -112,59 +111,59 @@ module _ {T U : Type 0} (environment : Environment) (defaults : Defaults T U) (S
       (at_none _ _ _ (ap (λ (o : Option (ℕ × Loan T U)). option_and_then (λ named. cond (is_blocked s named.1.publisher) None (Some named)) o) (lacks_written s handles events table w of absent)) refl)
       shown
 
-  pub send_comes : (of service p n count : ℕ) → slice_get table of ≡ Some (Written_entry service p n)
-      → (l : Loan T U) → s.loans n ≡ Some l → (s' : State T U) → Send environment s n l s' (Delivered_to count) → s.next_message ≤ s'.next_message
-      → Shown (put_at m n (Some (entry_of l))) s'
-      → Comes environment defaults Shown m s handles events (SendLoan of) (Delivered count) (slice_set table of No_entry ++ No_entry ∷ [])
-  send_comes of service p n count at l here s' sends rises shown =
-      let found = has_written s handles events table w of service p n at in
-      let named = handle_of s handles events table w of (Written_entry service p n) at in
-      let same : found.0 ≡ l = same_Some found.0 l (sym found.3 ∙ here) in
-      let stay : PortsStay s s' = send_stays environment s n l s' (Delivered_to count) sends (λ e. absurd cc) in
-      let come : PortsCome s s' = machine_send_comes environment s n l s' (Delivered_to count) sends (λ e. absurd cc) in
-      let loans : s'.loans ≡ put_at s.loans n None = send_loans environment s n l s' (Delivered_to count) sends in
-      let o : Outcome T U = record { reply = Delivered count; handle = No_handle; event = Message_sent l.publisher n (entry_of l); state = s' } in record {
-        default_value = default_value;
-        default_header = default_header;
-        is_default_value = is_default_value;
-        is_default_header = is_default_header;
-        outcome = o;
-        step = at_some _ _ _ (n, l) (found.1 ∙ ap (λ (l : Loan T U). Some (n, l)) same) (s', Delivered_to count, sends, refl);
-        replied = refl;
-        shown = shown;
-        follows = λ once. table_next s s' handles events table w No_handle (Message_sent l.publisher n (entry_of l)) No_entry (slice_set table of No_entry) rises (set_length table of No_entry)
-            (others_still s s' handles events table w of named.0 No_entry (ports-keep named.0 s s' stay.remain come (send_waits Anyone environment s n l tt s' (Delivered_to count) sends)) named.1
-            (subst (IsSpent s') (sym (named.2).1) (ap (λ (f : ℕ → Option (Loan T U)). f n) loans ∙ put_at-same s.loans n None))
-            (λ k low other. ap (λ (f : ℕ → Option (Loan T U)). f k) loans ∙ put_at-other s.loans n None k (ne_eqb k n (λ e. other ((named.2).1 ∙ ap Loan_handle (sym e)))))
-            (λ i p q n _ _. same_borrowed s s' stay p q n))
-            tt (no_port s s' come) (λ n e. let clash : No_handle ≡ Loan_handle n = e in absurd (cc)) (λ p q n e. let clash : No_handle ≡ Sample_handle p q n = e in absurd (cc)) once;
-      }
+  -- its publisher waits for a receiver
+  pub send_waiting : (of service p n : ℕ) → slice_get table of ≡ Some (Written_entry service p n) → (IsUnblocked s p → ⊥) → Shown m s
+      → Comes environment defaults Shown m s handles events (SendLoan of) Skipped (table ++ No_entry ∷ [])
+  send_waiting of service p n at waits shown = skip_comes (SendLoan of) (at_none _ _ _ (unsendable s handles events table w of service p n at waits) refl) shown
 
-  -- the publisher is gone, and the loan is lost
-  pub send_lost_comes : (of service p n : ℕ) → slice_get table of ≡ Some (Written_entry service p n)
-      → (l : Loan T U) → s.loans n ≡ Some l → (s' : State T U) → Send environment s n l s' (Send_error ConnectionBrokenSinceSenderNoLongerExists) → s.next_message ≤ s'.next_message
-      → Shown m s'
-      → Comes environment defaults Shown m s handles events (SendLoan of) (SendRefused ConnectionBrokenSinceSenderNoLongerExists) (slice_set table of No_entry ++ No_entry ∷ [])
-  send_lost_comes of service p n at l here s' sends rises shown =
-      let found = has_written s handles events table w of service p n at in
+  -- it is sent, and this comes of it
+  pub send_comes : (of service p n : ℕ) → slice_get table of ≡ Some (Written_entry service p n) → IsUnblocked s p
+      → (l : Loan T U) → s.loans n ≡ Some l → (s' : State T U) (result : SendResult) → Send environment s n l s' result
+      → (reply : Reply T U) (handle : Handle) (event : Event T U) (entry : TableEntry)
+      → record { reply = reply; handle = handle; event = event; state = s' } ≡ after_send s' l.publisher n (entry_of l) result → port_of handle ≡ None
+      → ((k : ℕ) → handle ≡ Loan_handle k → ⊥) → ((p' q k : ℕ) → handle ≡ Sample_handle p' q k → ⊥) → ((p' k : ℕ) → handle ≡ Blocked_handle p' k → (p' ≡ p) × (k ≡ n))
+      → Shown (messages_after event m) s' → IsEntryOf s' handle entry
+      → Comes environment defaults Shown m s handles events (SendLoan of) reply (slice_set table of No_entry ++ entry ∷ [])
+  send_comes of service p n at free l here s' result sends reply handle event entry is no_port no_loan no_sample its shown new =
+      let found = sendable s handles events table w of service p n at free in
       let named = handle_of s handles events table w of (Written_entry service p n) at in
-      let same : found.0 ≡ l = same_Some found.0 l (sym found.3 ∙ here) in
-      let result : SendResult = Send_error ConnectionBrokenSinceSenderNoLongerExists in
-      let stay : PortsStay s s' = send_stays environment s n l s' result sends (λ e. let clash : Send_error ConnectionBrokenSinceSenderNoLongerExists ≡ Blocked_send = e in cc) in
-      let come : PortsCome s s' = machine_send_comes environment s n l s' result sends (λ e. let clash : Send_error ConnectionBrokenSinceSenderNoLongerExists ≡ Blocked_send = e in cc) in
-      let loans : s'.loans ≡ put_at s.loans n None = send_loans environment s n l s' result sends in record {
+      let same : found.0 ≡ l = same_Some found.0 l (sym found.2 ∙ here) in
+      let lender : l.publisher ≡ p = ap (λ (k : Loan T U). k.publisher) (sym same) ∙ found.3 in
+      let known : p < s.next_port = ((named.2).2).1 in
+      let passed : Passed p n s s' = subst (λ (i : ℕ). Passed i n s s') lender
+      (send_passes environment s n l s' result (subst (λ (i : ℕ). i < s.next_port) (sym lender) known) (subst (IsUnblocked s) (sym lender) free) sends) in
+      let loans : s'.loans ≡ put_at s.loans n None = send_loans environment s n l s' result sends in
+      let rises = send_advances environment s n l s' result sends in
+      let low : n < s.next_message = w.loans_below of n (named.1 ∙ ap Some (named.2).1) in
+      let lost : s'.loans n ≡ None = ap (λ (f : ℕ → Option (Loan T U)). f n) loans ∙ put_at-same s.loans n None in
+      let others : (k : ℕ) → k < s.next_message → (k ≡ n → ⊥) → s'.loans k ≡ s.loans k = λ k _ other. ap (λ (f : ℕ → Option (Loan T U)). f k) loans ∙ put_at-other s.loans n None k (ne_eqb k n other) in
+      let apart : (k : ℕ) → k ≡ n → s.loans k ≡ None → ⊥ = λ k same_n none. none-some l (sym (ap s.loans (sym same_n) ∙ none) ∙ here) in record {
         default_value = default_value;
         default_header = default_header;
         is_default_value = is_default_value;
         is_default_header = is_default_header;
-        outcome = replied (SendRefused ConnectionBrokenSinceSenderNoLongerExists) s';
-        step = at_some _ _ _ (n, l) (found.1 ∙ ap (λ (l : Loan T U). Some (n, l)) same) (s', result, sends, refl);
+        outcome = record { reply = reply; handle = handle; event = event; state = s' };
+        step = at_some _ _ _ (n, l) (found.1 ∙ ap (λ (l : Loan T U). Some (n, l)) same) (s', result, sends, is);
         replied = refl;
         shown = shown;
-        follows = λ once. table_next s s' handles events table w No_handle No_event No_entry (slice_set table of No_entry) rises (set_length table of No_entry)
-            (others_still s s' handles events table w of named.0 No_entry (ports-keep named.0 s s' stay.remain come (send_waits Anyone environment s n l tt s' result sends)) named.1
-            (subst (IsSpent s') (sym (named.2).1) (ap (λ (f : ℕ → Option (Loan T U)). f n) loans ∙ put_at-same s.loans n None))
-            (λ k low other. ap (λ (f : ℕ → Option (Loan T U)). f k) loans ∙ put_at-other s.loans n None k (ne_eqb k n (λ e. other ((named.2).1 ∙ ap Loan_handle (sym e)))))
-            (λ i p q n _ _. same_borrowed s s' stay p q n))
-            tt (no_port s s' come) (λ n e. let clash : No_handle ≡ Loan_handle n = e in absurd (cc)) (λ p q n e. let clash : No_handle ≡ Sample_handle p q n = e in absurd (cc)) once;
+        follows = λ once. table_next s s' handles events table w handle event entry (slice_set table of No_entry)
+            (later_but s s' n l here rises.next_port rises.next_message others) (set_length table of No_entry)
+            (others_kept s s' handles events table w of named.0 (Blocked_handle p n) No_entry (passed_keeps named.0 p n s s' passed)
+            (λ i q k at_i _ e. let clash : k ≡ n = cc in apart k clash (w.blocked_sent i q k at_i).2)
+            named.1
+            (subst (IsSpent s') (sym (named.2).1) lost)
+            (λ k low_k other. others k low_k (λ e. other ((named.2).1 ∙ ap Loan_handle (sym e))))
+            (λ i i' q k _ _. ap (λ (ns : List ℕ). is_borrowed k (record { waiting = []; borrowed = ns })) ((passed.remain).borrowed i' q)))
+            new (record {
+              port = λ i e. absurd (none-some i (sym no_port ∙ e));
+              loan = λ k e. absurd (no_loan k e);
+              sample = λ i q k e. absurd (no_sample i q k e);
+              blocked = λ i k e.
+                  let it = its i k e in (
+                    (let up = rises.next_port in omega (arith, known, up, it.0)),
+                    (let up = rises.next_message in omega (arith, low, up, it.1)),
+                    ap s'.loans it.1 ∙ lost,
+                    λ _ none. apart k it.1 none,
+                  );
+            }) once;
       }

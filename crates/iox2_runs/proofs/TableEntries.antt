@@ -7,13 +7,14 @@ use Rattle.std.specs.Slice.{IsItemAt}
 use Rattle.iox2_runs.specs.Tables.{TableEntry, No_entry}
 use Rattle.iox2_runs.specs.Carries.{entry_for}
 use Rattle.iox2_runs.specs.declared.runs.made.Made.{Made}
-use Rattle.iox2_runs.specs.declared.runs.made.Made.TheVariants.{Nothing, Publisher as MadePublisher, Subscriber as MadeSubscriber, Unwritten, Written, Sample as MadeSample}
+use Rattle.iox2_runs.specs.declared.runs.made.Made.TheVariants.{Nothing, Publisher as MadePublisher, Subscriber as MadeSubscriber, Unwritten, Written, Blocked, Sample as MadeSample}
+use Rattle.iox2_pubsub.specs.declared.blocked_send.BlockedSend.{BlockedSend}
 use Rattle.iox2_pubsub.specs.declared.publisher.Publisher.{Publisher}
 use Rattle.iox2_pubsub.specs.declared.subscriber.Subscriber.{Subscriber}
 use Rattle.iox2_pubsub.specs.declared.sample_mut_uninit.SampleMutUninit.{SampleMutUninit}
 use Rattle.iox2_pubsub.specs.declared.sample_mut.SampleMut.{SampleMut}
 use Rattle.iox2_pubsub.specs.declared.sample.Sample.{Sample}
-use Rattle.iox2_runs.proofs.TableLooks.{Lacks, is_publisher_entry, is_subscriber_entry, is_unwritten_entry, is_written_entry, is_sample_entry, is_loan_entry}
+use Rattle.iox2_runs.proofs.TableLooks.{Lacks, is_publisher_entry, is_subscriber_entry, is_unwritten_entry, is_written_entry, is_blocked_entry, is_sample_entry, is_loan_entry}
 
 -- the entries after one of the table was set
 pub entries-set : (table : List Made) (of : ℕ) (made : Made) → map entry_for (slice_set table of made) ≡ slice_set (map entry_for table) of (entry_for made)
@@ -68,6 +69,7 @@ not_unwritten (MadePublisher h) other = refl
 not_unwritten (MadeSubscriber h) other = refl
 not_unwritten (Unwritten h) other = absurd (other h refl)
 not_unwritten (Written h) other = refl
+not_unwritten (Blocked h) other = refl
 not_unwritten (MadeSample h) other = refl
 
 pub not_written : (made : Made) → ((h : SampleMut) → made ≡ Written h → ⊥) → is_written_entry (entry_for made) ≡ false
@@ -76,7 +78,17 @@ not_written (MadePublisher h) other = refl
 not_written (MadeSubscriber h) other = refl
 not_written (Unwritten h) other = refl
 not_written (Written h) other = absurd (other h refl)
+not_written (Blocked h) other = refl
 not_written (MadeSample h) other = refl
+
+pub not_blocked : (made : Made) → ((h : BlockedSend) → made ≡ Blocked h → ⊥) → is_blocked_entry (entry_for made) ≡ false
+not_blocked Nothing other = refl
+not_blocked (MadePublisher h) other = refl
+not_blocked (MadeSubscriber h) other = refl
+not_blocked (Unwritten h) other = refl
+not_blocked (Written h) other = refl
+not_blocked (Blocked h) other = absurd (other h refl)
+not_blocked (MadeSample h) other = refl
 
 pub not_sample : (made : Made) → ((h : Sample) → made ≡ MadeSample h → ⊥) → is_sample_entry (entry_for made) ≡ false
 not_sample Nothing other = refl
@@ -84,6 +96,7 @@ not_sample (MadePublisher h) other = refl
 not_sample (MadeSubscriber h) other = refl
 not_sample (Unwritten h) other = refl
 not_sample (Written h) other = refl
+not_sample (Blocked h) other = refl
 not_sample (MadeSample h) other = absurd (other h refl)
 
 pub not_publisher : (made : Made) → ((h : Publisher) → made ≡ MadePublisher h → ⊥) → is_publisher_entry (entry_for made) ≡ false
@@ -92,6 +105,7 @@ not_publisher (MadePublisher h) other = absurd (other h refl)
 not_publisher (MadeSubscriber h) other = refl
 not_publisher (Unwritten h) other = refl
 not_publisher (Written h) other = refl
+not_publisher (Blocked h) other = refl
 not_publisher (MadeSample h) other = refl
 
 pub not_subscriber : (made : Made) → ((h : Subscriber) → made ≡ MadeSubscriber h → ⊥) → is_subscriber_entry (entry_for made) ≡ false
@@ -100,6 +114,7 @@ not_subscriber (MadePublisher h) other = refl
 not_subscriber (MadeSubscriber h) other = absurd (other h refl)
 not_subscriber (Unwritten h) other = refl
 not_subscriber (Written h) other = refl
+not_subscriber (Blocked h) other = refl
 not_subscriber (MadeSample h) other = refl
 
 -- what was taken out and put back
@@ -113,4 +128,5 @@ not_loan (MadePublisher h) other other' = refl
 not_loan (MadeSubscriber h) other other' = refl
 not_loan (Unwritten h) other other' = absurd (other h refl)
 not_loan (Written h) other other' = absurd (other' h refl)
+not_loan (Blocked h) other other' = refl
 not_loan (MadeSample h) other other' = refl

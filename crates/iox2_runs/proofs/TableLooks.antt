@@ -1,15 +1,16 @@
 -- What a position of a run's table names.
 use Rattle.std.proofs.Common.{◌≡◌, ℕ, zero, suc, Bool, [], ◌∷◌, true, false, cond, List, length, refl, sym, ap, ◌∙◌, Option, None, Some, is_none, is_some, arith}
-use Rattle.std.specs.Prelude.{slice_get}
+use Rattle.std.specs.Prelude.{◌==◌, slice_get}
 use Rattle.std.specs.Option.{option_and_then, option_map, option_map_or}
-use Rattle.std.proofs.lemmas.Bool.{true≢false}
-use Rattle.std.proofs.lemmas.Option.{none-some}
+use Rattle.std.proofs.lemmas.Bool.{true≢false, ne_eqb, eq-eqb}
+use Rattle.std.proofs.lemmas.Option.{none-some, same_Some}
 use Rattle.iox2_store.specs.machine.Mailbox.{is_borrowed}
 use Rattle.iox2_store.specs.machine.Records.{Loan, Publisher, Subscriber, BlockedSend}
 use Rattle.iox2_store.specs.machine.State.{State, is_blocked}
 use Rattle.iox2_commands.specs.Outcomes.{Handle, No_handle, Publisher_handle, Subscriber_handle, Loan_handle, Blocked_handle, Sample_handle, Event}
-use Rattle.iox2_commands.specs.Step.{unblocked_at, subscriber_at, loan_at, unwritten_at, written_at, sendable_at, sample_at}
-use Rattle.iox2_runs.specs.Tables.{TableEntry, No_entry, Publisher_entry, Subscriber_entry, Unwritten_entry, Written_entry, Sample_entry, IsFree, IsUnblocked, HasLoan, IsEntryOf, IsTable}
+use Rattle.iox2_store.specs.machine.SingleCalls.{HoldsBlocked}
+use Rattle.iox2_commands.specs.Step.{publisher_at, unblocked_at, subscriber_at, loan_at, unwritten_at, written_at, sendable_at, blocked_at, sample_at}
+use Rattle.iox2_runs.specs.Tables.{TableEntry, No_entry, Publisher_entry, Subscriber_entry, Unwritten_entry, Written_entry, Blocked_entry, Sample_entry, IsUnblocked, HasLoan, IsEntryOf, IsTable}
 
 -- What kind of thing the entry names.
 abbrev pub is_publisher_entry : TableEntry → Bool
@@ -27,6 +28,10 @@ is_unwritten_entry _ = false
 abbrev pub is_written_entry : TableEntry → Bool
 is_written_entry (Written_entry service p n) = true
 is_written_entry _ = false
+
+abbrev pub is_blocked_entry : TableEntry → Bool
+is_blocked_entry (Blocked_entry service p n) = true
+is_blocked_entry _ = false
 
 abbrev pub is_sample_entry : TableEntry → Bool
 is_sample_entry (Sample_entry service p q n) = true
@@ -75,6 +80,7 @@ module _ {T U : Type 0} (s : State T U) where
   no_publisher (Publisher_handle p) (Subscriber_entry service q) k other = let clash : Publisher_handle p ≡ Subscriber_handle q = k.1 in absurd (cc)
   no_publisher (Publisher_handle p) (Unwritten_entry service p' n) k other = let clash : Publisher_handle p ≡ Loan_handle n = k.1 in absurd (cc)
   no_publisher (Publisher_handle p) (Written_entry service p' n) k other = let clash : Publisher_handle p ≡ Loan_handle n = k.1 in absurd (cc)
+  no_publisher (Publisher_handle p) (Blocked_entry service p' n) k other = let clash : Publisher_handle p ≡ Blocked_handle p' n = k.1 in absurd (cc)
   no_publisher (Publisher_handle p) (Sample_entry service p' q n) k other = let clash : Publisher_handle p ≡ Sample_handle p' q n = k.1 in absurd (cc)
   no_publisher No_handle e k other = refl
   no_publisher (Subscriber_handle q) e k other = refl
@@ -92,6 +98,7 @@ module _ {T U : Type 0} (s : State T U) where
   no_subscriber (Subscriber_handle q) (Subscriber_entry service q') k other = absurd (true≢false other)
   no_subscriber (Subscriber_handle q) (Unwritten_entry service p n) k other = let clash : Subscriber_handle q ≡ Loan_handle n = k.1 in absurd (cc)
   no_subscriber (Subscriber_handle q) (Written_entry service p n) k other = let clash : Subscriber_handle q ≡ Loan_handle n = k.1 in absurd (cc)
+  no_subscriber (Subscriber_handle q) (Blocked_entry service p n) k other = let clash : Subscriber_handle q ≡ Blocked_handle p n = k.1 in absurd (cc)
   no_subscriber (Subscriber_handle q) (Sample_entry service p q' n) k other = let clash : Subscriber_handle q ≡ Sample_handle p q' n = k.1 in absurd (cc)
   no_subscriber No_handle e k other = refl
   no_subscriber (Publisher_handle p) e k other = refl
@@ -126,6 +133,7 @@ module _ {T U : Type 0} (s : State T U) where
   no_unwritten (Loan_handle n) (Unwritten_entry service p n') k other = absurd (true≢false other)
   no_unwritten (Loan_handle n) (Written_entry service p n') k other =
       let v = loan_of n n' p true k.1 k.2 in ap IfUnwritten v.1 ∙ ap (λ (b : Bool). cond b None (Some (n', v.0))) v.4
+  no_unwritten (Loan_handle n) (Blocked_entry service p n') k other = let clash : Loan_handle n ≡ Blocked_handle p n' = k.1 in absurd (cc)
   no_unwritten (Loan_handle n) (Sample_entry service p q n') k other = let clash : Loan_handle n ≡ Sample_handle p q n' = k.1 in absurd (cc)
   no_unwritten No_handle e k other = refl
   no_unwritten (Publisher_handle p) e k other = refl
@@ -140,6 +148,7 @@ module _ {T U : Type 0} (s : State T U) where
   no_written (Loan_handle n) (Unwritten_entry service p n') k other =
       let v = loan_of n n' p false k.1 k.2 in ap IfWritten v.1 ∙ ap (λ (b : Bool). cond b (Some (n', v.0)) None) v.4
   no_written (Loan_handle n) (Written_entry service p n') k other = absurd (true≢false other)
+  no_written (Loan_handle n) (Blocked_entry service p n') k other = let clash : Loan_handle n ≡ Blocked_handle p n' = k.1 in absurd (cc)
   no_written (Loan_handle n) (Sample_entry service p q n') k other = let clash : Loan_handle n ≡ Sample_handle p q n' = k.1 in absurd (cc)
   no_written No_handle e k other = refl
   no_written (Publisher_handle p) e k other = refl
@@ -153,12 +162,48 @@ module _ {T U : Type 0} (s : State T U) where
   no_loan (Loan_handle n) (Subscriber_entry service q) k other = let clash : Loan_handle n ≡ Subscriber_handle q = k.1 in absurd (cc)
   no_loan (Loan_handle n) (Unwritten_entry service p n') k other = absurd (true≢false other)
   no_loan (Loan_handle n) (Written_entry service p n') k other = absurd (true≢false other)
+  no_loan (Loan_handle n) (Blocked_entry service p n') k other = let clash : Loan_handle n ≡ Blocked_handle p n' = k.1 in absurd (cc)
   no_loan (Loan_handle n) (Sample_entry service p q n') k other = let clash : Loan_handle n ≡ Sample_handle p q n' = k.1 in absurd (cc)
   no_loan No_handle e k other = refl
   no_loan (Publisher_handle p) e k other = refl
   no_loan (Subscriber_handle q) e k other = refl
   no_loan (Blocked_handle p n) e k other = refl
   no_loan (Sample_handle p q n) e k other = refl
+
+  -- what a blocked send's handle names
+  abbrev BlockedOf : Handle → Option (ℕ × BlockedSend)
+  BlockedOf h = elim (Some h) [
+    | Some (Blocked_handle p n) ↦
+        option_and_then {U = ℕ × BlockedSend} (λ x.
+        option_and_then {U = ℕ × BlockedSend} (λ b. cond (b.message == n) (Some (p, b)) None) x.blocked) (s.publishers p)
+    | _ ↦ None
+  ]
+
+  -- it names nothing where no such send is blocked
+  none_blocked : (p n : ℕ) → (HoldsBlocked s p n → ⊥) → BlockedOf (Blocked_handle p n) ≡ None
+  none_blocked p n none = by (s.publishers p) refl where
+    its : (x : Publisher) → s.publishers p ≡ Some x → (o : Option BlockedSend) → x.blocked ≡ o → option_and_then {U = ℕ × BlockedSend} (λ b. cond (b.message == n) (Some (p, b)) None) o ≡ None
+    its x there None e = refl
+    its x there (Some b) e = ap (λ (t : Bool). cond {A = Option (ℕ × BlockedSend)} t (Some (p, b)) None) (ne_eqb b.message n (λ same. none (x, b, there, e, same)))
+
+    by : (o : Option Publisher) → s.publishers p ≡ o
+        → option_and_then {U = ℕ × BlockedSend} (λ x. option_and_then {U = ℕ × BlockedSend} (λ b. cond (b.message == n) (Some (p, b)) None) x.blocked) o ≡ None
+    by None e = refl
+    by (Some x) e = its x e x.blocked refl
+
+  no_blocked : (h : Handle) (e : TableEntry) → IsEntryOf s h e → is_blocked_entry e ≡ false → BlockedOf h ≡ None
+  no_blocked (Blocked_handle p n) No_entry k other = none_blocked p n k
+  no_blocked (Blocked_handle p n) (Publisher_entry service p') k other = let clash : Blocked_handle p n ≡ Publisher_handle p' = k.1 in absurd (cc)
+  no_blocked (Blocked_handle p n) (Subscriber_entry service q') k other = let clash : Blocked_handle p n ≡ Subscriber_handle q' = k.1 in absurd (cc)
+  no_blocked (Blocked_handle p n) (Unwritten_entry service p' n') k other = let clash : Blocked_handle p n ≡ Loan_handle n' = k.1 in absurd (cc)
+  no_blocked (Blocked_handle p n) (Written_entry service p' n') k other = let clash : Blocked_handle p n ≡ Loan_handle n' = k.1 in absurd (cc)
+  no_blocked (Blocked_handle p n) (Blocked_entry service p' n') k other = absurd (true≢false other)
+  no_blocked (Blocked_handle p n) (Sample_entry service p' q' n') k other = let clash : Blocked_handle p n ≡ Sample_handle p' q' n' = k.1 in absurd (cc)
+  no_blocked No_handle e k other = refl
+  no_blocked (Publisher_handle p) e k other = refl
+  no_blocked (Subscriber_handle q) e k other = refl
+  no_blocked (Loan_handle n) e k other = refl
+  no_blocked (Sample_handle p q n) e k other = refl
 
   -- what a sample's handle names
   abbrev SampleOf : Handle → Option (ℕ × ℕ × ℕ)
@@ -170,6 +215,7 @@ module _ {T U : Type 0} (s : State T U) where
   no_sample (Sample_handle p q n) (Subscriber_entry service q') k other = let clash : Sample_handle p q n ≡ Subscriber_handle q' = k.1 in absurd (cc)
   no_sample (Sample_handle p q n) (Unwritten_entry service p' n') k other = let clash : Sample_handle p q n ≡ Loan_handle n' = k.1 in absurd (cc)
   no_sample (Sample_handle p q n) (Written_entry service p' n') k other = let clash : Sample_handle p q n ≡ Loan_handle n' = k.1 in absurd (cc)
+  no_sample (Sample_handle p q n) (Blocked_entry service p' n') k other = let clash : Sample_handle p q n ≡ Blocked_handle p' n' = k.1 in absurd (cc)
   no_sample (Sample_handle p q n) (Sample_entry service p' q' n') k other = absurd (true≢false other)
   no_sample No_handle e k other = refl
   no_sample (Publisher_handle p) e k other = refl
@@ -223,6 +269,15 @@ module _ {T U : Type 0} (s : State T U) where
 
     -- ---- what is there
 
+    -- what a blocked send's position names
+    abbrev blocked_named : Option Handle → Option (ℕ × BlockedSend)
+    blocked_named o = elim o [
+      | Some (Blocked_handle p n) ↦
+          option_and_then {U = ℕ × BlockedSend} (λ x.
+          option_and_then {U = ℕ × BlockedSend} (λ b. cond (b.message == n) (Some (p, b)) None) x.blocked) (s.publishers p)
+      | _ ↦ None
+    ]
+
     abbrev publisher_named : Option Handle → Option (ℕ × Publisher)
     publisher_named o = elim o [ Some (Publisher_handle p) ↦ option_map {U = ℕ × Publisher} (λ x. (p, x)) (s.publishers p) | _ ↦ None ]
 
@@ -230,16 +285,30 @@ module _ {T U : Type 0} (s : State T U) where
     if_free o = option_and_then (λ named. cond (is_none named.1.blocked) (Some named) None) o
 
     pub has_publisher : (service p : ℕ) → slice_get table of ≡ Some (Publisher_entry service p)
-        → (x : Publisher) × (unblocked_at s handles of ≡ Some (p, x)) × (s.publishers p ≡ Some x)
+        → (x : Publisher) × (publisher_at s handles of ≡ Some (p, x)) × (s.publishers p ≡ Some x)
     has_publisher service p at =
-        let v = handle_of (Publisher_entry service p) at in
-        let free : IsFree s p = (v.2).2 in (
-          free.0,
-          ap (λ (o : Option Handle). if_free (publisher_named o)) (v.1 ∙ ap Some (v.2).1)
-              ∙ ap (λ (o : Option Publisher). if_free (option_map {U = ℕ × Publisher} (λ x. (p, x)) o)) free.1
-              ∙ ap (λ (b : Option BlockedSend). cond (is_none b) (Some (p, free.0)) None) free.2,
-          free.1,
+        let v = handle_of (Publisher_entry service p) at in (
+          (v.2).2,
+          ap publisher_named (v.1 ∙ ap Some (v.2).1) ∙ ap (option_map {U = ℕ × Publisher} (λ x. (p, x))) (v.2).3,
+          (v.2).3,
         )
+
+    -- it is named where no send of it is blocked
+    pub has_free_publisher : (service p : ℕ) → slice_get table of ≡ Some (Publisher_entry service p) → IsUnblocked s p
+        → (x : Publisher) × (unblocked_at s handles of ≡ Some (p, x)) × (s.publishers p ≡ Some x)
+    has_free_publisher service p at free =
+        let found = has_publisher service p at in
+        (found.0, ap if_free found.1 ∙ ap (λ (b : Option BlockedSend). cond (is_none b) (Some (p, found.0)) None) (free found.0 found.2), found.2)
+
+    -- and not where one is
+    pub waiting_publisher : (service p : ℕ) → slice_get table of ≡ Some (Publisher_entry service p) → (IsUnblocked s p → ⊥) → unblocked_at s handles of ≡ None
+    waiting_publisher service p at waits =
+        let found = has_publisher service p at in
+        ap if_free found.1 ∙ by found.0 found.2 (found.0).blocked refl
+      where
+        by : (x : Publisher) → s.publishers p ≡ Some x → (o : Option BlockedSend) → x.blocked ≡ o → cond {A = Option (ℕ × Publisher)} (is_none o) (Some (p, x)) None ≡ None
+        by x there None e = absurd (waits (λ y at_y. ap (λ (v : Publisher). v.blocked) (same_Some y x (sym at_y ∙ there)) ∙ e))
+        by x there (Some b) e = refl
 
     abbrev subscriber_named : Option Handle → Option (ℕ × Subscriber)
     subscriber_named o = elim o [ Some (Subscriber_handle q) ↦ option_and_then {U = ℕ × Subscriber} (λ y. cond y.is_open (Some (q, y)) None) (s.subscribers q) | _ ↦ None ]
@@ -276,19 +345,57 @@ module _ {T U : Type 0} (s : State T U) where
         ((k.0).0, ap IfUnwritten there ∙ ap (λ (b : Bool). cond {A = Option (ℕ × Loan T U)} b None (Some (n, (k.0).0))) (k.0).3, there, (k.0).1, (k.0).2)
 
     pub has_written : (service p n : ℕ) → slice_get table of ≡ Some (Written_entry service p n)
-        → (l : Loan T U) × (sendable_at s handles of ≡ Some (n, l)) × (loan_at s handles of ≡ Some (n, l)) × (s.loans n ≡ Some l) × (l.publisher ≡ p)
+        → (l : Loan T U) × (written_at s handles of ≡ Some (n, l)) × (loan_at s handles of ≡ Some (n, l)) × (s.loans n ≡ Some l) × (l.publisher ≡ p)
     has_written service p n at =
         let v = handle_of (Written_entry service p n) at in
         let k : HasLoan s p n true = (v.2).2 in
         let there = loan_there n p true v.0 v.1 (v.2).1 k in
-        let free : is_blocked s ((k.0).0).publisher ≡ false = ap (is_blocked s) (k.0).2 ∙ not_blocked p k.2 in (
-          (k.0).0,
-          ap (λ (o : Option (ℕ × Loan T U)). if_unblocked (IfWritten o)) there
-              ∙ ap (λ (b : Bool). if_unblocked (cond {A = Option (ℕ × Loan T U)} b (Some (n, (k.0).0)) None)) (k.0).3
-              ∙ ap (λ (b : Bool). cond {A = Option (ℕ × Loan T U)} b None (Some (n, (k.0).0))) free,
-          there,
-          (k.0).1,
-          (k.0).2,
+        ((k.0).0, ap IfWritten there ∙ ap (λ (b : Bool). cond {A = Option (ℕ × Loan T U)} b (Some (n, (k.0).0)) None) (k.0).3, there, (k.0).1, (k.0).2)
+
+    -- it can be sent where its publisher waits for no receiver
+    pub sendable : (service p n : ℕ) → slice_get table of ≡ Some (Written_entry service p n) → IsUnblocked s p
+        → (l : Loan T U) × (sendable_at s handles of ≡ Some (n, l)) × (s.loans n ≡ Some l) × (l.publisher ≡ p)
+    sendable service p n at free =
+        let found = has_written service p n at in
+        let unblocked : is_blocked s (found.0).publisher ≡ false = ap (is_blocked s) found.4 ∙ not_blocked p free in
+        (found.0, ap if_unblocked found.1 ∙ ap (λ (b : Bool). cond {A = Option (ℕ × Loan T U)} b None (Some (n, found.0))) unblocked, found.3, found.4)
+
+    -- and not where it waits
+    pub unsendable : (service p n : ℕ) → slice_get table of ≡ Some (Written_entry service p n) → (IsUnblocked s p → ⊥) → sendable_at s handles of ≡ None
+    unsendable service p n at waits =
+        let found = has_written service p n at in
+        ap if_unblocked found.1 ∙ ap (λ (b : Bool). cond {A = Option (ℕ × Loan T U)} b None (Some (n, found.0))) (ap (is_blocked s) found.4 ∙ blocked)
+      where
+        free : (o : Option Publisher) → s.publishers p ≡ o → option_map_or (λ (x : Publisher). is_some x.blocked) o false ≡ false → IsUnblocked s p
+        free None none e = λ x there. absurd (none-some x (sym none ∙ there))
+        free (Some y) stands e = λ x there. ap (λ (v : Publisher). v.blocked) (same_Some x y (sym there ∙ stands)) ∙ none y.blocked e where
+          none : (o : Option BlockedSend) → is_some o ≡ false → o ≡ None
+          none None e = refl
+          none (Some b) e = absurd (true≢false e)
+
+        blocked : is_blocked s p ≡ true
+        blocked = by (is_blocked s p) refl where
+          by : (b : Bool) → is_blocked s p ≡ b → is_blocked s p ≡ true
+          by true e = e
+          by false e = absurd (waits (free (s.publishers p) refl e))
+
+    pub lacks_blocked : Lacks is_blocked_entry table of → blocked_at s handles of ≡ None
+    lacks_blocked absent = lacks blocked_named refl is_blocked_entry no_blocked absent
+
+    pub has_blocked : (service p n : ℕ) → slice_get table of ≡ Some (Blocked_entry service p n)
+        → (x : Publisher) × (b : BlockedSend) × (blocked_at s handles of ≡ Some (p, b)) × (s.publishers p ≡ Some x) × (x.blocked ≡ Some b) × (b.message ≡ n)
+    has_blocked service p n at =
+        let v = handle_of (Blocked_entry service p n) at in
+        let has : HoldsBlocked s p n = (v.2).2 in (
+          has.0,
+          has.1,
+          ap blocked_named (v.1 ∙ ap Some (v.2).1)
+              ∙ ap (λ (o : Option Publisher). option_and_then {U = ℕ × BlockedSend} (λ x. option_and_then {U = ℕ × BlockedSend} (λ b. cond (b.message == n) (Some (p, b)) None) x.blocked) o) has.2
+              ∙ ap (λ (o : Option BlockedSend). option_and_then {U = ℕ × BlockedSend} (λ b. cond (b.message == n) (Some (p, b)) None) o) has.3
+              ∙ ap (λ (t : Bool). cond {A = Option (ℕ × BlockedSend)} t (Some (p, has.1)) None) (eq-eqb (has.1).message n has.4),
+          has.2,
+          has.3,
+          has.4,
         )
 
     pub has_sample : (service p q n : ℕ) → slice_get table of ≡ Some (Sample_entry service p q n) → sample_at s handles of ≡ Some (p, q, n)

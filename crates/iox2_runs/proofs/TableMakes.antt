@@ -1,14 +1,13 @@
 -- Ports and loans are made, with what the run keeps.
 use Rattle.std.proofs.Common.{◌≡◌, ℕ, ◌≤◌, ◌<◌, Bool, true, false, List, [], ◌∷◌, ◌++◌, cond, refl, sym, ap, subst, ◌∙◌, eqb, Option, None, Some, arith, ⊎_elim, inl, inr}
 use Rattle.std.specs.Bool.{MatchBool}
-use Rattle.std.specs.Option.{option_map}
 use Rattle.std.specs.Prelude.{MatchOption, ◌==◌, nat_lt, slice_get}
 use Rattle.std.proofs.lemmas.Option.{none-some, same_Some}
 use Rattle.std.proofs.lemmas.Bool.{eqb-true, eq-eqb}
 use Rattle.iox2_store.specs.SingleValues.{is_single_valued}
 use Rattle.iox2_store.specs.machine.Limits.{last_number, buffer_limit}
 use Rattle.iox2_store.specs.machine.Places.{free_place}
-use Rattle.iox2_store.specs.machine.Records.{Loan, Publisher, Subscriber, Environment, PublisherSettings, SubscriberSettings, Handler, Fixed}
+use Rattle.iox2_store.specs.machine.Records.{Loan, Publisher, Subscriber, Environment, PublisherSettings, SubscriberSettings, Fixed}
 use Rattle.iox2_store.specs.machine.State.{State, Messages}
 use Rattle.iox2_store.specs.machine.Environments.{ample_memory}
 use Rattle.iox2_store.specs.machine.Loans.{GrantLoan, StaticLoan, DynamicLoan, limit_error, is_static}
@@ -19,7 +18,6 @@ use Rattle.iox2_store.specs.declared.service_config.TypeVariant.TheVariants.{Fix
 use Rattle.iox2_store.specs.declared.allocation.AllocationStrategy.{AllocationStrategy}
 use Rattle.iox2_store.specs.declared.backpressure.BackpressureAction.{BackpressureAction}
 use Rattle.iox2_store.specs.declared.backpressure.BackpressureStrategy.{BackpressureStrategy}
-use Rattle.iox2_store.specs.declared.backpressure.BackpressureStrategy.TheVariants.{DiscardData}
 use Rattle.iox2_store.specs.declared.degradation.DegradationAction.{DegradationAction}
 use Rattle.iox2_store.specs.declared.errors.LoanError.{LoanError}
 use Rattle.iox2_store.specs.declared.errors.LoanError.TheVariants.{OutOfMemory, ExceedsMaxLoans, ExceedsMaxLoanSize, InternalFailure}
@@ -29,10 +27,10 @@ use Rattle.iox2_store.specs.declared.warning.Warning.TheVariants.{PublisherPartl
 use Rattle.iox2_laws.proofs.Cases.{by_option, by_bool}
 use Rattle.iox2_laws.proofs.Puts.{put_at-same}
 use Rattle.iox2_laws.proofs.LoanKeeping.{create_publisher_loans, create_subscriber_loans}
-use Rattle.iox2_commands.specs.Outcomes.{Handle, Publisher_handle, Subscriber_handle, Loan_handle, Sample_handle, Event, No_event, outcome, replied}
+use Rattle.iox2_commands.specs.Outcomes.{Handle, Publisher_handle, Subscriber_handle, Loan_handle, Blocked_handle, Sample_handle, Event, No_event, outcome, replied}
 use Rattle.iox2_commands.specs.Runs.{Defaults}
 use Rattle.iox2_commands.specs.Step.{Step, publisher_settings, unblocked_at}
-use Rattle.iox2_runs.specs.Tables.{port_of, TableEntry, No_entry, Publisher_entry, Subscriber_entry, Unwritten_entry, IsFree, IsEntryOf, IsTable}
+use Rattle.iox2_runs.specs.Tables.{port_of, TableEntry, No_entry, Publisher_entry, Subscriber_entry, Unwritten_entry, IsUnblocked, IsEntryOf, IsTable}
 use Rattle.iox2_runs.specs.RunSteps.{Comes}
 use Rattle.iox2_runs.specs.Services.{has_slices}
 use Rattle.iox2_commands.specs.declared.command.Command.{Command}
@@ -43,20 +41,20 @@ use Rattle.iox2_laws.proofs.PortsCome.{PortsCome, ports_come_trans, update_publi
 use Rattle.iox2_laws.proofs.PortsStay.{PortsStay, update_subscriber_stays, warning_stays, create_publisher_stays, create_subscriber_stays, grant_loan_stays, ports_stay_trans}
 use Rattle.iox2_laws.proofs.SendsRemain.{created_as}
 use Rattle.iox2_laws.proofs.Waits.{Waits, create_publisher_waits, create_subscriber_waits, grant_loan_waits}
-use Rattle.iox2_runs.proofs.TableSteps.{Anyone, free-discards, discards-still, table_next, all_still}
-use Rattle.iox2_runs.proofs.TableLooks.{Lacks, is_publisher_entry, lacks_publisher, has_publisher, handle_of}
+use Rattle.iox2_runs.proofs.TableSteps.{Nobody, later_same, next_loan, table_next, all_still}
+use Rattle.iox2_runs.proofs.TableLooks.{Lacks, is_publisher_entry, lacks_publisher, has_free_publisher, waiting_publisher, handle_of}
 use Rattle.iox2_laws.proofs.SamplesStay.{same_borrowed}
 use Rattle.iox2_laws.proofs.NextLoan.{IsNextLoan, loan_next, loan_refused}
 use Rattle.iox2_runs.proofs.Services.{single_named, single_elsewhere, single_nothing, slice_named, slice_elsewhere, slice_nothing}
 use Rattle.iox2_runs.proofs.TableCalls.{quiet_comes, skip_comes, at_none, at_some}
 
 module _ {T U : Type 0} (environment : Environment) (s : State T U) where
-  -- a publisher that was made is there, and free
-  pub publisher_made : (given : PublisherSettings) → given.backpressure_strategy ≡ DiscardData → given.backpressure_handler ≡ None → (s' : State T U)
-      → CreatePublisher environment s given s' None → IsFree s' s.next_port × (s.next_port < s'.next_port)
-  publisher_made given discards none s' h =
+  -- a publisher that was made is there
+  pub publisher_made : (given : PublisherSettings) (s' : State T U) → CreatePublisher environment s given s' None
+      → ((x : Publisher) × (s'.publishers s.next_port ≡ Some x)) × (s.next_port < s'.next_port)
+  publisher_made given s' h =
       let made = created_as environment s given s' h in (
-        (made.0, made.1, made.4, made.2 ∙ discards, made.3 ∙ none),
+        (made.0, made.1),
         by_bool IsKnown (s.next_port == last_number) _ _ h (λ _ k. absurd (none-some _ k.1)) (λ _ k.
             by_option IsKnown (free_place (s.config).max_publishers s.publisher_places) _ _ k (λ _ j. absurd (none-some _ j.1)) (λ place _ j.
             by_bool IsKnown (first_segment_fits s.config given) _ _ j (λ _ i. known place i) (λ _ i. absurd (none-some _ i.1)))),
@@ -99,10 +97,10 @@ module _ {T U : Type 0} (environment : Environment) (defaults : Defaults T U) (S
     (is_default_value : defaults.IsDefaultValue default_value) (is_default_header : defaults.IsDefaultHeader default_header) where
   -- a command that makes a port
   port_comes : (command : Command T U) (reply : Reply T U) (handle : Handle) (entry : TableEntry) (s' : State T U)
-      → Step environment default_value default_header m s handles command (outcome reply handle s') → Shown m s' → PortsStay s s' → PortsCome s s' → Waits Anyone s s' → s'.loans ≡ s.loans → s.next_message ≤ s'.next_message
-      → IsEntryOf s' handle entry → port_of handle ≡ Some s.next_port → s.next_port < s'.next_port → ((n : ℕ) → handle ≡ Loan_handle n → ⊥) → ((p q n : ℕ) → handle ≡ Sample_handle p q n → ⊥)
+      → Step environment default_value default_header m s handles command (outcome reply handle s') → Shown m s' → PortsStay s s' → PortsCome s s' → Waits Nobody s s' → s'.loans ≡ s.loans → s.next_message ≤ s'.next_message
+      → IsEntryOf s' handle entry → port_of handle ≡ Some s.next_port → s.next_port < s'.next_port → ((n : ℕ) → handle ≡ Loan_handle n → ⊥) → ((p q n : ℕ) → handle ≡ Sample_handle p q n → ⊥) → ((p n : ℕ) → handle ≡ Blocked_handle p n → ⊥)
       → Comes environment defaults Shown m s handles events command reply (table ++ entry ∷ [])
-  port_comes command reply handle entry s' step shown stay come waits loans rises new is_port known no_loan no_sample = record {
+  port_comes command reply handle entry s' step shown stay come waits loans rises new is_port known no_loan no_sample no_blocked = record {
     default_value = default_value;
     default_header = default_header;
     is_default_value = is_default_value;
@@ -111,26 +109,30 @@ module _ {T U : Type 0} (environment : Environment) (defaults : Defaults T U) (S
     step = step;
     replied = refl;
     shown = shown;
-    follows = λ once. table_next s s' handles events table w handle No_event entry table rises refl
+    follows = λ once. table_next s s' handles events table w handle No_event entry table (later_same s s' come.next_port rises (λ n _. ap (λ (f : ℕ → Option (Loan T U)). f n) loans)) refl
         (all_still s s' handles events table w stay.remain come waits (λ n _. ap (λ (f : ℕ → Option (Loan T U)). f n) loans) (λ i p q n _. same_borrowed s s' stay p q n))
-        new (come.next_port, λ p named. let same : s.next_port ≡ p = same_Some s.next_port p (sym is_port ∙ named) in (omega (arith, same), omega (arith, same, known)))
-        (λ n e. absurd (no_loan n e)) (λ p q n e. absurd (no_sample p q n e)) once;
+        new (record {
+          port = λ p named. let same : s.next_port ≡ p = same_Some s.next_port p (sym is_port ∙ named) in (omega (arith, same), omega (arith, same, known));
+          loan = λ n e. absurd (no_loan n e);
+          sample = λ p q n e. absurd (no_sample p q n e);
+          blocked = λ p n e. absurd (no_blocked p n e);
+        }) once;
   }
 
   pub publisher_comes : (loans : ℕ) (strategy : BackpressureStrategy) (allocation : AllocationStrategy) (len : ℕ) (override_slots : Option ℕ) (degradation : DegradationAction)
-      (backpressure : Option BackpressureAction) → strategy ≡ DiscardData → backpressure ≡ None → (s' : State T U)
+      (backpressure : Option BackpressureAction) (s' : State T U)
       → CreatePublisher environment s (publisher_settings (s.config).variant loans strategy allocation len override_slots degradation backpressure) s' None
       → s.next_message ≤ s'.next_message → Shown m s' → (service : ℕ) → service ≡ (s'.config).service_id
       → Comes environment defaults Shown m s handles events (PublisherCommand loans strategy allocation len override_slots degradation backpressure) (PublisherMade s.next_port)
       (table ++ Publisher_entry service s.next_port ∷ [])
-  publisher_comes loans strategy allocation len override_slots degradation backpressure discards none s' h rises shown service ours =
+  publisher_comes loans strategy allocation len override_slots degradation backpressure s' h rises shown service ours =
       let given = publisher_settings (s.config).variant loans strategy allocation len override_slots degradation backpressure in
       let stay : PortsStay s s' = create_publisher_stays environment s given s' None h in
-      let made = publisher_made environment s given discards (ap (λ (b : Option BackpressureAction). option_map {U = Handler BackpressureAction} (λ action. Fixed action) b) none) s' h in
+      let made = publisher_made environment s given s' h in
       port_comes (PublisherCommand loans strategy allocation len override_slots degradation backpressure) (PublisherMade s.next_port) (Publisher_handle s.next_port)
-      (Publisher_entry service s.next_port) s' (s', None, h, refl) shown stay (create_publisher_comes environment s given s' None h) (create_publisher_waits Anyone environment s given s' None h) (create_publisher_loans environment s given s' None h) rises
-      (ours, refl, made.0) refl made.1
-      (λ n e. let clash : Publisher_handle s.next_port ≡ Loan_handle n = e in absurd (cc)) (λ p q n e. let clash : Publisher_handle s.next_port ≡ Sample_handle p q n = e in absurd (cc))
+      (Publisher_entry service s.next_port) s' (s', None, h, refl) shown stay (create_publisher_comes environment s given s' None h) (create_publisher_waits Nobody environment s given s' None h) (create_publisher_loans environment s given s' None h) rises
+      (ours, refl, (made.0).0, (made.0).1) refl made.1
+      (λ n e. let clash : Publisher_handle s.next_port ≡ Loan_handle n = e in absurd (cc)) (λ p q n e. let clash : Publisher_handle s.next_port ≡ Sample_handle p q n = e in absurd (cc)) (λ p n e. let clash : Publisher_handle s.next_port ≡ Blocked_handle p n = e in absurd (cc))
 
   pub publisher_refused_comes : (loans : ℕ) (strategy : BackpressureStrategy) (allocation : AllocationStrategy) (len : ℕ) (override_slots : Option ℕ) (degradation : DegradationAction)
       (backpressure : Option BackpressureAction) (s' : State T U) (e : PublisherCreateError)
@@ -141,7 +143,7 @@ module _ {T U : Type 0} (environment : Environment) (defaults : Defaults T U) (S
       let given = publisher_settings (s.config).variant loans strategy allocation len override_slots degradation backpressure in
       quiet_comes environment defaults Shown m s handles events table w default_value default_header is_default_value is_default_header
       (PublisherCommand loans strategy allocation len override_slots degradation backpressure) (PublisherRefused e) s' (s', Some e, h, refl) shown
-      (create_publisher_stays environment s given s' (Some e) h) (create_publisher_comes environment s given s' (Some e) h) (create_publisher_waits Anyone environment s given s' (Some e) h) (λ n _. ap (λ (f : ℕ → Option (Loan T U)). f n) (create_publisher_loans environment s given s' (Some e) h)) rises
+      (create_publisher_stays environment s given s' (Some e) h) (create_publisher_comes environment s given s' (Some e) h) (create_publisher_waits Nobody environment s given s' (Some e) h) (λ n _. ap (λ (f : ℕ → Option (Loan T U)). f n) (create_publisher_loans environment s given s' (Some e) h)) rises
 
   -- what a command says of a subscriber
   abbrev subscriber_settings : Option ℕ → DegradationAction → SubscriberSettings
@@ -155,9 +157,9 @@ module _ {T U : Type 0} (environment : Environment) (defaults : Defaults T U) (S
       let stay : PortsStay s s' = create_subscriber_stays environment s (subscriber_settings buffer degradation) s' None h in
       let made = subscriber_made environment s (subscriber_settings buffer degradation) s' h in
       port_comes (SubscriberCommand buffer degradation) (SubscriberMade s.next_port) (Subscriber_handle s.next_port) (Subscriber_entry service s.next_port) s' (s', None, h, refl) shown stay
-      (create_subscriber_comes environment s (subscriber_settings buffer degradation) s' None h) (create_subscriber_waits Anyone environment s (subscriber_settings buffer degradation) s' None h) (create_subscriber_loans environment s (subscriber_settings buffer degradation) s' None h) rises
+      (create_subscriber_comes environment s (subscriber_settings buffer degradation) s' None h) (create_subscriber_waits Nobody environment s (subscriber_settings buffer degradation) s' None h) (create_subscriber_loans environment s (subscriber_settings buffer degradation) s' None h) rises
       (ours, refl, (made.0).0, (made.0).1, (made.0).2) refl made.1
-      (λ n e. let clash : Subscriber_handle s.next_port ≡ Loan_handle n = e in absurd (cc)) (λ p q n e. let clash : Subscriber_handle s.next_port ≡ Sample_handle p q n = e in absurd (cc))
+      (λ n e. let clash : Subscriber_handle s.next_port ≡ Loan_handle n = e in absurd (cc)) (λ p q n e. let clash : Subscriber_handle s.next_port ≡ Sample_handle p q n = e in absurd (cc)) (λ p n e. let clash : Subscriber_handle s.next_port ≡ Blocked_handle p n = e in absurd (cc))
 
   pub subscriber_refused_comes : (buffer : Option ℕ) (degradation : DegradationAction) (s' : State T U) (e : SubscriberCreateError)
       → CreateSubscriber environment s (record { buffer_size = elim buffer [ None ↦ buffer_limit s.config | Some asked ↦ asked ]; degradation_handler = Fixed degradation }) s' (Some e)
@@ -166,7 +168,7 @@ module _ {T U : Type 0} (environment : Environment) (defaults : Defaults T U) (S
   subscriber_refused_comes buffer degradation s' e h rises shown =
       quiet_comes environment defaults Shown m s handles events table w default_value default_header is_default_value is_default_header
       (SubscriberCommand buffer degradation) (SubscriberRefused e) s' (s', Some e, h, refl) shown
-      (create_subscriber_stays environment s (subscriber_settings buffer degradation) s' (Some e) h) (create_subscriber_comes environment s (subscriber_settings buffer degradation) s' (Some e) h) (create_subscriber_waits Anyone environment s (subscriber_settings buffer degradation) s' (Some e) h)
+      (create_subscriber_stays environment s (subscriber_settings buffer degradation) s' (Some e) h) (create_subscriber_comes environment s (subscriber_settings buffer degradation) s' (Some e) h) (create_subscriber_waits Nobody environment s (subscriber_settings buffer degradation) s' (Some e) h)
       (λ n _. ap (λ (f : ℕ → Option (Loan T U)). f n) (create_subscriber_loans environment s (subscriber_settings buffer degradation) s' (Some e) h)) rises
 
   -- ---- a loan
@@ -182,10 +184,8 @@ module _ {T U : Type 0} (environment : Environment) (defaults : Defaults T U) (S
       let stay : PortsStay s s' = grant_loan_stays environment header checks_length len s p s' None h in
       let next : IsNextLoan environment s p s' = loan_next environment s header checks_length len p s' h in
       let come : PortsCome s s' = grant_loan_comes environment header checks_length len s p s' None h in
-      let waits : Waits Anyone s s' = grant_loan_waits Anyone environment header checks_length len s p s' None h in
-      let known : p < s.next_port = w.ports_below of p named.0 named.1 (ap port_of (named.2).1) in
-      let unblocked : (x : Publisher) → s.publishers p ≡ Some x → x.blocked ≡ None =
-      λ x there. ap (λ (v : Publisher). v.blocked) (same_Some x ((named.2).2).0 (sym there ∙ ((named.2).2).1)) ∙ ((named.2).2).2 in record {
+      let waits : Waits Nobody s s' = grant_loan_waits Nobody environment header checks_length len s p s' None h in
+      let known : p < s.next_port = w.ports_below of p named.0 named.1 (ap port_of (named.2).1) in record {
         default_value = default_value;
         default_header = header;
         is_default_value = is_default_value;
@@ -194,20 +194,17 @@ module _ {T U : Type 0} (environment : Environment) (defaults : Defaults T U) (S
         step = step;
         replied = refl;
         shown = shown;
-        follows = λ once. table_next s s' handles events table w (Loan_handle s.next_message) No_event (Unwritten_entry new_service p s.next_message) table (omega (arith, next.next)) refl
+        follows = λ once. table_next s s' handles events table w (Loan_handle s.next_message) No_event (Unwritten_entry new_service p s.next_message) table
+            (later_same s s' come.next_port (omega (arith, next.next)) next.others) refl
             (all_still s s' handles events table w stay.remain come waits next.others (λ i p q n _. same_borrowed s s' stay p q n)) (
               ours,
               refl,
               (
                 (next.loan, next.there, next.publisher, next.unwritten),
                 (let up = come.next_port in omega (arith, known, up)),
-                λ x there. let before = come.publishers p x known there in before.2 (unblocked before.0 before.1),
-                discards-still s s' waits p known (free-discards s p (named.2).2),
               ),
             )
-            (come.next_port, λ i e. absurd (none-some i e))
-            (λ n e. let same : s.next_message ≡ n = cc in (omega arith, omega (arith, next.next)))
-            (λ p q n e. let clash : Loan_handle s.next_message ≡ Sample_handle p q n = e in absurd (cc)) once;
+            (next_loan s s' (omega (arith, next.next))) once;
       }
 
   -- and where it is refused
@@ -218,7 +215,7 @@ module _ {T U : Type 0} (environment : Environment) (defaults : Defaults T U) (S
   denied_comes command p header is_default checks_length len s' e h step shown =
       let same : s' ≡ s = loan_refused environment s header checks_length len p s' e h in
       quiet_comes environment defaults Shown m s handles events table w default_value header is_default_value is_default command (LoanRefused e) s' step shown
-      (grant_loan_stays environment header checks_length len s p s' (Some e) h) (grant_loan_comes environment header checks_length len s p s' (Some e) h) (grant_loan_waits Anyone environment header checks_length len s p s' (Some e) h)
+      (grant_loan_stays environment header checks_length len s p s' (Some e) h) (grant_loan_comes environment header checks_length len s p s' (Some e) h) (grant_loan_waits Nobody environment header checks_length len s p s' (Some e) h)
       (λ n _. ap (λ (t : State T U). t.loans n) same) (subst (λ (t : State T U). s.next_message ≤ t.next_message) (sym same) (omega arith))
 
   -- ---- a loan of a single value
@@ -228,25 +225,32 @@ module _ {T U : Type 0} (environment : Environment) (defaults : Defaults T U) (S
       skip_comes environment defaults Shown m s handles events table w default_value default_header is_default_value is_default_header (LoanUninit of)
       (at_none _ _ _ (single_nothing s (unblocked_at s handles of) (lacks_publisher s handles events table w of absent)) refl) shown
 
+  -- the publisher waits for a receiver
+  pub loan_waiting : (of service p : ℕ) → slice_get table of ≡ Some (Publisher_entry service p) → (IsUnblocked s p → ⊥) → Shown m s
+      → Comes environment defaults Shown m s handles events (LoanUninit of) Skipped (table ++ No_entry ∷ [])
+  loan_waiting of service p at waits shown =
+      skip_comes environment defaults Shown m s handles events table w default_value default_header is_default_value is_default_header (LoanUninit of)
+      (at_none _ _ _ (single_nothing s (unblocked_at s handles of) (waiting_publisher s handles events table w of service p at waits)) refl) shown
+
   pub loan_elsewhere : (of : ℕ) → is_single_valued s.config ≡ false → Shown m s → Comes environment defaults Shown m s handles events (LoanUninit of) Skipped (table ++ No_entry ∷ [])
   loan_elsewhere of other shown =
       skip_comes environment defaults Shown m s handles events table w default_value default_header is_default_value is_default_header (LoanUninit of)
       (at_none _ _ _ (single_elsewhere s (unblocked_at s handles of) other) refl) shown
 
-  pub loan_comes : (of service p : ℕ) → slice_get table of ≡ Some (Publisher_entry service p) → is_single_valued s.config ≡ true
+  pub loan_comes : (of service p : ℕ) → slice_get table of ≡ Some (Publisher_entry service p) → IsUnblocked s p → is_single_valued s.config ≡ true
       → (header : U) → defaults.IsDefaultHeader header → (s' : State T U) → GrantLoan environment header false 1 s p s' None → Shown m s'
       → (new_service : ℕ) → new_service ≡ (s'.config).service_id
       → Comes environment defaults Shown m s handles events (LoanUninit of) Loaned (table ++ Unwritten_entry new_service p s.next_message ∷ [])
-  loan_comes of service p at single header is_default s' h shown new_service ours =
-      let found = has_publisher s handles events table w of service p at in
+  loan_comes of service p at free single header is_default s' h shown new_service ours =
+      let found = has_free_publisher s handles events table w of service p at free in
       granted_comes (LoanUninit of) of service p at header is_default false 1 s' h
       (at_some _ _ _ (p, found.0) (single_named s (unblocked_at s handles of) single ∙ found.1) (s', None, h, refl)) shown new_service ours
 
-  pub loan_refused_comes : (of service p : ℕ) → slice_get table of ≡ Some (Publisher_entry service p) → is_single_valued s.config ≡ true
+  pub loan_refused_comes : (of service p : ℕ) → slice_get table of ≡ Some (Publisher_entry service p) → IsUnblocked s p → is_single_valued s.config ≡ true
       → (header : U) → defaults.IsDefaultHeader header → (s' : State T U) (e : LoanError) → GrantLoan environment header false 1 s p s' (Some e) → Shown m s'
       → Comes environment defaults Shown m s handles events (LoanUninit of) (LoanRefused e) (table ++ No_entry ∷ [])
-  loan_refused_comes of service p at single header is_default s' e h shown =
-      let found = has_publisher s handles events table w of service p at in
+  loan_refused_comes of service p at free single header is_default s' e h shown =
+      let found = has_free_publisher s handles events table w of service p at free in
       denied_comes (LoanUninit of) p header is_default false 1 s' e h
       (at_some _ _ _ (p, found.0) (single_named s (unblocked_at s handles of) single ∙ found.1) (s', Some e, h, refl)) shown
 
@@ -257,25 +261,31 @@ module _ {T U : Type 0} (environment : Environment) (defaults : Defaults T U) (S
       skip_comes environment defaults Shown m s handles events table w default_value default_header is_default_value is_default_header (LoanSlice of len)
       (at_none _ _ _ (slice_nothing s (unblocked_at s handles of) (lacks_publisher s handles events table w of absent)) refl) shown
 
+  pub slice_waiting : (of len service p : ℕ) → slice_get table of ≡ Some (Publisher_entry service p) → (IsUnblocked s p → ⊥) → Shown m s
+      → Comes environment defaults Shown m s handles events (LoanSlice of len) Skipped (table ++ No_entry ∷ [])
+  slice_waiting of len service p at waits shown =
+      skip_comes environment defaults Shown m s handles events table w default_value default_header is_default_value is_default_header (LoanSlice of len)
+      (at_none _ _ _ (slice_nothing s (unblocked_at s handles of) (waiting_publisher s handles events table w of service p at waits)) refl) shown
+
   pub slice_elsewhere_skipped : (of len : ℕ) → has_slices s.config ≡ false → Shown m s → Comes environment defaults Shown m s handles events (LoanSlice of len) Skipped (table ++ No_entry ∷ [])
   slice_elsewhere_skipped of len other shown =
       skip_comes environment defaults Shown m s handles events table w default_value default_header is_default_value is_default_header (LoanSlice of len)
       (at_none _ _ _ (slice_elsewhere s (unblocked_at s handles of) other) refl) shown
 
-  pub slice_comes : (of len service p : ℕ) → slice_get table of ≡ Some (Publisher_entry service p) → has_slices s.config ≡ true
+  pub slice_comes : (of len service p : ℕ) → slice_get table of ≡ Some (Publisher_entry service p) → IsUnblocked s p → has_slices s.config ≡ true
       → (header : U) → defaults.IsDefaultHeader header → (s' : State T U) → GrantLoan environment header true len s p s' None → Shown m s'
       → (new_service : ℕ) → new_service ≡ (s'.config).service_id
       → Comes environment defaults Shown m s handles events (LoanSlice of len) Loaned (table ++ Unwritten_entry new_service p s.next_message ∷ [])
-  slice_comes of len service p at slices header is_default s' h shown new_service ours =
-      let found = has_publisher s handles events table w of service p at in
+  slice_comes of len service p at free slices header is_default s' h shown new_service ours =
+      let found = has_free_publisher s handles events table w of service p at free in
       granted_comes (LoanSlice of len) of service p at header is_default true len s' h
       (at_some _ _ _ (p, found.0) (slice_named s (unblocked_at s handles of) slices ∙ found.1) (s', None, h, refl)) shown new_service ours
 
-  pub slice_refused_comes : (of len service p : ℕ) → slice_get table of ≡ Some (Publisher_entry service p) → has_slices s.config ≡ true
+  pub slice_refused_comes : (of len service p : ℕ) → slice_get table of ≡ Some (Publisher_entry service p) → IsUnblocked s p → has_slices s.config ≡ true
       → (header : U) → defaults.IsDefaultHeader header → (s' : State T U) (e : LoanError) → GrantLoan environment header true len s p s' (Some e) → Shown m s'
       → Comes environment defaults Shown m s handles events (LoanSlice of len) (LoanRefused e) (table ++ No_entry ∷ [])
-  slice_refused_comes of len service p at slices header is_default s' e h shown =
-      let found = has_publisher s handles events table w of service p at in
+  slice_refused_comes of len service p at free slices header is_default s' e h shown =
+      let found = has_free_publisher s handles events table w of service p at free in
       denied_comes (LoanSlice of len) p header is_default true len s' e h
       (at_some _ _ _ (p, found.0) (slice_named s (unblocked_at s handles of) slices ∙ found.1) (s', Some e, h, refl)) shown
 

@@ -8,7 +8,7 @@ use Rattle.iox2_store.specs.machine.State.{State, Messages}
 use Rattle.iox2_store.specs.machine.Receives.{Receive, ReceiveResult, Got_sample}
 use Rattle.iox2_store.specs.machine.Releases.{released}
 use Rattle.iox2_laws.proofs.LoanKeeping.{receive_loans, released_loans}
-use Rattle.iox2_commands.specs.Outcomes.{Handle, No_handle, Loan_handle, Sample_handle, Event, No_event, Message_received, replied, done, skipped}
+use Rattle.iox2_commands.specs.Outcomes.{Handle, No_handle, Loan_handle, Blocked_handle, Sample_handle, Event, No_event, Message_received, replied, done, skipped}
 use Rattle.iox2_commands.specs.Runs.{Defaults}
 use Rattle.iox2_commands.specs.Step.{Step, after_receive, if_single_units, subscriber_at}
 use Rattle.iox2_runs.specs.Tables.{TableEntry, No_entry, Subscriber_entry, Sample_entry, IsSpent, IsTable}
@@ -21,9 +21,9 @@ use Rattle.iox2_runs.proofs.TableLooks.{Lacks, is_subscriber_entry, is_sample_en
 use Rattle.iox2_laws.proofs.PortsCome.{PortsCome, ports_come_themselves, receive_comes as machine_receive_comes, released_comes}
 use Rattle.iox2_laws.proofs.PortsStay.{PortsStay, ports_stay_themselves}
 use Rattle.iox2_laws.proofs.Waits.{Waits, waits_itself, receive_waits, released_waits}
-use Rattle.iox2_runs.proofs.TableSteps.{Anyone, ports-keep, table_next, all_still, others_still, not_again}
+use Rattle.iox2_runs.proofs.TableSteps.{Nobody, ports-keep, later_same, no_next, table_next, all_still, others_still, not_again}
 use Rattle.iox2_laws.proofs.SamplesStay.{IsReceived, received_one, nothing_received, released_remain, released_now, released_others}
-use Rattle.iox2_runs.proofs.TableCalls.{quiet_comes, skip_comes, at_none, at_some, set_length, no_port}
+use Rattle.iox2_runs.proofs.TableCalls.{quiet_comes, skip_comes, at_none, at_some, set_length}
 
 -- ---- what each command comes to
 
@@ -40,7 +40,7 @@ module _ {T U : Type 0} (environment : Environment) (defaults : Defaults T U) (S
   skips = skip_comes environment defaults Shown m s handles events table w default_value default_header is_default_value is_default_header
 
   quiet : (command : Command T U) (reply : Reply T U) (s' : State T U) → Step environment default_value default_header m s handles command (replied reply s')
-      → Shown m s' → PortsStay s s' → PortsCome s s' → Waits Anyone s s' → ((n : ℕ) → n < s.next_message → s'.loans n ≡ s.loans n) → s.next_message ≤ s'.next_message → Arrives command reply (table ++ No_entry ∷ [])
+      → Shown m s' → PortsStay s s' → PortsCome s s' → Waits Nobody s s' → ((n : ℕ) → n < s.next_message → s'.loans n ≡ s.loans n) → s.next_message ≤ s'.next_message → Arrives command reply (table ++ No_entry ∷ [])
   quiet = quiet_comes environment defaults Shown m s handles events table w default_value default_header is_default_value is_default_header
 
   single_units : {A : Type 0} (o : Option A) → (s.config).units_per_element ≡ 1 → if_single_units s o ≡ o
@@ -68,7 +68,7 @@ module _ {T U : Type 0} (environment : Environment) (defaults : Defaults T U) (S
   receive_quiet_comes of service q at units s' result reply none e h rises shown =
       let found = has_subscriber s handles events table w of service q at in
       quiet (ReceiveCommand of) reply s' (at_some _ _ _ (q, found.0) (single_units (subscriber_at s handles of) units ∙ found.1) (s', result, h, sym e)) shown
-      (nothing_received environment s q s' result none h) (machine_receive_comes environment s q s' result h) (receive_waits Anyone environment s q s' result h) (λ n _. ap (λ (f : ℕ → Option (Loan T U)). f n) (receive_loans environment s q s' result h)) rises
+      (nothing_received environment s q s' result none h) (machine_receive_comes environment s q s' result h) (receive_waits Nobody environment s q s' result h) (λ n _. ap (λ (f : ℕ → Option (Loan T U)). f n) (receive_loans environment s q s' result h)) rises
 
   pub receive_comes : (of service q : ℕ) → slice_get table of ≡ Some (Subscriber_entry service q) → (s.config).units_per_element ≡ 1 → (s' : State T U) (p n : ℕ)
       → Receive environment s q s' (Got_sample p n) → s.next_message ≤ s'.next_message → Shown m s' → (new_service : ℕ) → new_service ≡ (s'.config).service_id
@@ -86,8 +86,8 @@ module _ {T U : Type 0} (environment : Environment) (defaults : Defaults T U) (S
         step = at_some _ _ _ (q, found.0) (single_units (subscriber_at s handles of) units ∙ found.1) (s', Got_sample p n, h, refl);
         replied = refl;
         shown = shown;
-        follows = λ once. table_next s s' handles events table w (Sample_handle p q n) (Message_received p q n) (Sample_entry new_service p q n) table rises refl
-            (all_still s s' handles events table w got.remain come (receive_waits Anyone environment s q s' (Got_sample p n) h) (λ k _. ap (λ (f : ℕ → Option (Loan T U)). f k) got.loans)
+        follows = λ once. table_next s s' handles events table w (Sample_handle p q n) (Message_received p q n) (Sample_entry new_service p q n) table (later_same s s' come.next_port rises (λ k _. ap (λ (f : ℕ → Option (Loan T U)). f k) got.loans)) refl
+            (all_still s s' handles events table w got.remain come (receive_waits Nobody environment s q s' (Got_sample p n) h) (λ k _. ap (λ (f : ℕ → Option (Loan T U)). f k) got.loans)
             (λ i p' q' k there. got.others p' q' k (λ e_p e_q e_n.
             let again : slice_get handles i ≡ Some (Sample_handle p q n) = there ∙ ap (λ v. Some (Sample_handle v q' k)) e_p ∙ ap (λ v. Some (Sample_handle p v k)) e_q ∙ ap (λ v. Some (Sample_handle p q v)) e_n in
             not_again s handles events table w p q n (once p q) i again))) (
@@ -95,9 +95,12 @@ module _ {T U : Type 0} (environment : Environment) (defaults : Defaults T U) (S
               refl,
               got.now,
             )
-            (come.next_port, λ i e. absurd (none-some i e))
-            (λ k e. let clash : Sample_handle p q n ≡ Loan_handle k = e in absurd (cc))
-            (λ p' q' k e. sample_event T U p p' q q' n k e) once;
+            (record {
+              port = λ i e. absurd (none-some i e);
+              loan = λ k e. let clash : Sample_handle p q n ≡ Loan_handle k = e in absurd (cc);
+              sample = λ p' q' k e. sample_event T U p p' q q' n k e;
+              blocked = λ i k e. let clash : Sample_handle p q n ≡ Blocked_handle i k = e in absurd (cc);
+            }) once;
       }
 
   -- ---- release
@@ -118,13 +121,14 @@ module _ {T U : Type 0} (environment : Environment) (defaults : Defaults T U) (S
         step = at_some _ _ _ (p, q, n) (has_sample s handles events table w of service p q n at) refl;
         replied = refl;
         shown = shown;
-        follows = λ once. table_next s s' handles events table w No_handle No_event No_entry (slice_set table of No_entry) rises (set_length table of No_entry)
-            (others_still s s' handles events table w of named.0 No_entry (ports-keep named.0 s s' (released_remain s p q n) (released_comes s p q n) (released_waits Anyone s p q n)) named.1
+        follows = λ once. table_next s s' handles events table w No_handle No_event No_entry (slice_set table of No_entry)
+            (later_same s s' (released_comes s p q n).next_port rises (λ k _. ap (λ (f : ℕ → Option (Loan T U)). f k) (released_loans s p q n))) (set_length table of No_entry)
+            (others_still s s' handles events table w of named.0 No_entry (ports-keep named.0 No_handle s s' (released_remain s p q n) (released_comes s p q n) (released_waits Nobody s p q n)) named.1
             (subst (IsSpent s') (sym (named.2).1) (released_now s p q n))
             (λ k low _. ap (λ (f : ℕ → Option (Loan T U)). f k) (released_loans s p q n))
             (λ i p' q' k there other. released_others s p q n p' q' k (λ e_p e_q e_n. other ((named.2).1
             ∙ ap (λ v. Sample_handle v q n) (sym e_p) ∙ ap (λ v. Sample_handle p' v n) (sym e_q) ∙ ap (λ v. Sample_handle p' q' v) (sym e_n)))))
-            tt (no_port s s' (released_comes s p q n)) (λ n e. let clash : No_handle ≡ Loan_handle n = e in absurd (cc)) (λ p q n e. let clash : No_handle ≡ Sample_handle p q n = e in absurd (cc)) once;
+            tt (no_next s s' _) once;
       }
 
   -- ---- read
@@ -132,4 +136,4 @@ module _ {T U : Type 0} (environment : Environment) (defaults : Defaults T U) (S
   -- a command that reads changes nothing
   pub read_comes : (of at : ℕ) (reply : Reply T U) → Step environment default_value default_header m s handles (ReadCommand of at) (replied reply s) → Shown m s
       → Arrives (ReadCommand of at) reply (table ++ No_entry ∷ [])
-  read_comes of at reply step shown = quiet (ReadCommand of at) reply s step shown (ports_stay_themselves s) (ports_come_themselves s) (waits_itself Anyone s) (λ n low. refl) (omega arith)
+  read_comes of at reply step shown = quiet (ReadCommand of at) reply s step shown (ports_stay_themselves s) (ports_come_themselves s) (waits_itself Nobody s) (λ n low. refl) (omega arith)

@@ -6,12 +6,12 @@ use Rattle.iox2_domain.specs.Kept.{Kept as Domain}
 use Rattle.iox2_domain.specs.Shows.{Shows}
 use Rattle.iox2_commands.specs.Outcomes.{Handle, Event}
 use Rattle.iox2_commands.specs.Runs.{Defaults}
-use Rattle.iox2_runs.specs.Tables.{TableEntry, No_entry, Publisher_entry, Subscriber_entry, Unwritten_entry, Written_entry, Sample_entry, IsTable}
+use Rattle.iox2_runs.specs.Tables.{TableEntry, No_entry, Publisher_entry, Subscriber_entry, Unwritten_entry, Written_entry, Blocked_entry, Sample_entry, IsTable}
 use Rattle.iox2_runs.specs.RunSteps.{Comes}
 use Rattle.iox2_commands.specs.declared.command.Command.{Command}
 use Rattle.iox2_commands.specs.declared.reply.Reply.{Reply}
 use Rattle.iox2_runs.specs.declared.runs.made.Made.{Made}
-use Rattle.iox2_runs.specs.declared.runs.made.Made.TheVariants.{Nothing, Publisher, Subscriber, Unwritten, Written, Sample}
+use Rattle.iox2_runs.specs.declared.runs.made.Made.TheVariants.{Nothing, Publisher, Subscriber, Unwritten, Written, Blocked, Sample}
 
 -- The entry for what a command made.
 abbrev pub entry_for : Made → TableEntry
@@ -20,6 +20,7 @@ entry_for (Publisher publisher) = Publisher_entry publisher.service_id publisher
 entry_for (Subscriber subscriber) = Subscriber_entry subscriber.service_id subscriber.id
 entry_for (Unwritten sample) = Unwritten_entry sample.service_id sample.loan.publisher sample.loan.number
 entry_for (Written sample) = Written_entry sample.service_id sample.loan.publisher sample.loan.number
+entry_for (Blocked blocked) = Blocked_entry blocked.service_id blocked.loan.publisher blocked.loan.number
 entry_for (Sample sample) = Sample_entry sample.service_id sample.origin sample.sample.subscriber sample.sample.number
 
 -- The entries of a table, with what one command more made.

@@ -1,21 +1,22 @@
 -- What a run leaves of what was live before it.
 use Rattle.std.specs.Prelude.{ℕ, List, slice_index_or}
 use Rattle.iox2_domain.specs.Kept.{Kept as Domain}
-use Rattle.iox2_pubsub.specs.Live.{Item, No_item, Stays, IsNewIn, publisher_port, subscriber_port, unwritten_loan, written_loan, received_sample}
+use Rattle.iox2_pubsub.specs.Live.{Item, No_item, A_blocked_send, Both, Stays, IsNewIn, publisher_port, subscriber_port, unwritten_loan, written_loan, blocked_send, received_sample}
 use Rattle.iox2_runs.specs.declared.runs.made.Made.{Made}
-use Rattle.iox2_runs.specs.declared.runs.made.Made.TheVariants.{Nothing, Publisher, Subscriber, Unwritten, Written, Sample}
+use Rattle.iox2_runs.specs.declared.runs.made.Made.TheVariants.{Nothing, Publisher, Subscriber, Unwritten, Written, Blocked, Sample}
 
--- The port, loan or sample that a command made.
+-- The port, loan, blocked send or sample that a command made, and of a loan the send of its publisher that may come to be blocked.
 abbrev pub item_of : Made → Item
 item_of Nothing = No_item
 item_of (Publisher publisher) = publisher_port publisher
 item_of (Subscriber subscriber) = subscriber_port subscriber
-item_of (Unwritten sample) = unwritten_loan sample
-item_of (Written sample) = written_loan sample
+item_of (Unwritten sample) = Both (unwritten_loan sample) (A_blocked_send sample.loan.publisher)
+item_of (Written sample) = Both (written_loan sample) (A_blocked_send sample.loan.publisher)
+item_of (Blocked blocked) = blocked_send blocked
 item_of (Sample sample) = received_sample sample
 
 module _ {T U : Type 0} where
-  -- The table has no port, no loan and no sample that was live in this domain.
+  -- The table has no port, no loan, no blocked send and no sample that was live in this domain, and no publisher of one.
   abbrev pub AreNewIn : Domain T U → List Made → Type 0
   AreNewIn start table = (of : ℕ) → IsNewIn start (item_of (slice_index_or table of Nothing))
 

@@ -2,6 +2,7 @@ pub mod Tables
 pub mod Supported
 pub mod RunSteps
 pub mod Rooms
+pub mod SendReplies
 pub mod Carries
 pub mod DomainRuns
 pub mod Leaves

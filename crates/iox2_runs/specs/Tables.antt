@@ -5,8 +5,8 @@ use Rattle.std.specs.declared.option.Option.TheVariants.{None, Some}
 use Rattle.iox2_store.specs.machine.Numbers.{contains}
 use Rattle.iox2_store.specs.machine.Mailbox.{is_borrowed}
 use Rattle.iox2_store.specs.machine.Records.{Loan, Publisher, Subscriber}
+use Rattle.iox2_store.specs.machine.SingleCalls.{HoldsBlocked}
 use Rattle.iox2_store.specs.machine.State.{State}
-use Rattle.iox2_store.specs.declared.backpressure.BackpressureStrategy.TheVariants.{DiscardData}
 use Rattle.iox2_commands.specs.Outcomes.{Handle, No_handle, Publisher_handle, Subscriber_handle, Loan_handle, Blocked_handle, Sample_handle, Event}
 use Rattle.iox2_commands.specs.Runs.{received}
 
@@ -17,6 +17,7 @@ pub data TableEntry : Type 0 where
   Subscriber_entry : (service id : ℕ) → TableEntry
   Unwritten_entry : (service publisher message : ℕ) → TableEntry
   Written_entry : (service publisher message : ℕ) → TableEntry
+  Blocked_entry : (service publisher message : ℕ) → TableEntry
   Sample_entry : (service publisher subscriber message : ℕ) → TableEntry
 
 -- The port that a handle names.
@@ -26,48 +27,38 @@ port_of (Subscriber_handle q) = Some q
 port_of _ = None
 
 module _ {T U : Type 0} (s : State T U) where
-  -- The handle names nothing live. No command that `run` carries out so far blocks a send: none names a blocked send.
+  -- The handle names nothing live.
   abbrev pub IsSpent : Handle → Type 0
   IsSpent No_handle = Unit {0}
   IsSpent (Publisher_handle p) = s.publishers p ≡ None
   IsSpent (Subscriber_handle q) = (y : Subscriber) → s.subscribers q ≡ Some y → y.is_open ≡ false
   IsSpent (Loan_handle n) = s.loans n ≡ None
-  IsSpent (Blocked_handle p n) = ⊥
+  IsSpent (Blocked_handle p n) = HoldsBlocked s p n → ⊥
   IsSpent (Sample_handle p q n) = is_borrowed n (s.mailboxes p q) ≡ false
-
-  -- The publisher is there, no send of it is blocked, and it discards what a full receiver doesn't take, without a handler.
-  abbrev pub IsFree : (p : ℕ) → Type 0
-  IsFree p =
-      (x : Publisher) × (s.publishers p ≡ Some x) × (x.blocked ≡ None) × (x.backpressure_strategy ≡ DiscardData) × (x.backpressure_handler ≡ None)
 
   -- No send of the publisher is blocked, where it is there.
   abbrev pub IsUnblocked : (p : ℕ) → Type 0
   IsUnblocked p = (x : Publisher) → s.publishers p ≡ Some x → x.blocked ≡ None
 
-  -- The publisher, where it is there, discards what a full receiver doesn't take, without a handler.
-  abbrev pub Discards : (p : ℕ) → Type 0
-  Discards p = (x : Publisher) → s.publishers p ≡ Some x → (x.backpressure_strategy ≡ DiscardData) × (x.backpressure_handler ≡ None)
-
-  -- The loan n is out, which is written or not. The publisher that lent it may be closed; where it is there, no send of it is
-  -- blocked, and it discards what a full receiver doesn't take, without a handler.
+  -- The loan n is out, which is written or not. The publisher that lent it may be closed.
   abbrev pub HasLoan : (p n : ℕ) → (is_written : Bool) → Type 0
-  HasLoan p n is_written =
-      ((l : Loan T U) × (s.loans n ≡ Some l) × (l.publisher ≡ p) × (l.is_written ≡ is_written)) × (p < s.next_port) × IsUnblocked p × Discards p
+  HasLoan p n is_written = ((l : Loan T U) × (s.loans n ≡ Some l) × (l.publisher ≡ p) × (l.is_written ≡ is_written)) × (p < s.next_port)
 
   -- The entry names what the handle names in this service, and that is live.
   abbrev pub IsEntryOf : Handle → TableEntry → Type 0
   IsEntryOf handle No_entry = IsSpent handle
   IsEntryOf handle (Publisher_entry service p) =
-      (service ≡ (s.config).service_id) × (handle ≡ Publisher_handle p) × IsFree p
+      (service ≡ (s.config).service_id) × (handle ≡ Publisher_handle p) × (x : Publisher) × (s.publishers p ≡ Some x)
   IsEntryOf handle (Subscriber_entry service q) =
       (service ≡ (s.config).service_id) × (handle ≡ Subscriber_handle q) × (y : Subscriber) × (s.subscribers q ≡ Some y) × (y.is_open ≡ true)
   IsEntryOf handle (Unwritten_entry service p n) = (service ≡ (s.config).service_id) × (handle ≡ Loan_handle n) × HasLoan p n false
   IsEntryOf handle (Written_entry service p n) = (service ≡ (s.config).service_id) × (handle ≡ Loan_handle n) × HasLoan p n true
+  IsEntryOf handle (Blocked_entry service p n) = (service ≡ (s.config).service_id) × (handle ≡ Blocked_handle p n) × HoldsBlocked s p n
   IsEntryOf handle (Sample_entry service p q n) =
       (service ≡ (s.config).service_id) × (handle ≡ Sample_handle p q n) × (is_borrowed n (s.mailboxes p q) ≡ true)
 
--- A run's table has the entry of each command's handle, while what this names is live. No port, no loan and no sample has two
--- handles.
+-- A run's table has the entry of each command's handle, while what this names is live. No port, no loan, no blocked send and no
+-- sample has two handles, and a message whose send was blocked is no loan any more.
 pub record IsTable {T U : Type 0} (s : State T U) (handles : List Handle) (events : List (Event T U)) (table : List TableEntry) : Type 0 where
   pub count : length table ≡ length handles
   pub entries : (i : ℕ) (handle : Handle) (entry : TableEntry) → slice_get handles i ≡ Some handle → slice_get table i ≡ Some entry → IsEntryOf s handle entry
@@ -76,5 +67,7 @@ pub record IsTable {T U : Type 0} (s : State T U) (handles : List Handle) (event
       → port_of handle ≡ Some p → port_of handle' ≡ Some p → i ≡ j
   pub loans_below : (i n : ℕ) → slice_get handles i ≡ Some (Loan_handle n) → n < s.next_message
   pub loans_apart : (i j n : ℕ) → slice_get handles i ≡ Some (Loan_handle n) → slice_get handles j ≡ Some (Loan_handle n) → i ≡ j
+  pub blocked_sent : (i p n : ℕ) → slice_get handles i ≡ Some (Blocked_handle p n) → (p < s.next_port) × (n < s.next_message) × (s.loans n ≡ None)
+  pub blocked_apart : (i j p n : ℕ) → slice_get handles i ≡ Some (Blocked_handle p n) → slice_get handles j ≡ Some (Blocked_handle p n) → i ≡ j
   pub samples_received : (i p q n : ℕ) → slice_get handles i ≡ Some (Sample_handle p q n) → contains (received p q events) n ≡ true
   pub samples_apart : (i j p q n : ℕ) → slice_get handles i ≡ Some (Sample_handle p q n) → slice_get handles j ≡ Some (Sample_handle p q n) → i ≡ j

@@ -17,6 +17,7 @@ ghost use Rattle.iox2_runs.specs.DomainRuns.{RunsOnDomain};
 ghost use Rattle.iox2_runs.specs.Supported.{IsSupportedCommand};
 ghost use Rattle.iox2_runs.specs.declared.runs.made.Made.TheVariants.{Nothing};
 
+mod blocked_sends;
 mod cells;
 mod changes;
 mod closes;
@@ -29,6 +30,7 @@ mod ports;
 mod publishers;
 mod questions;
 mod samples;
+mod send_replies;
 mod services;
 mod slices;
 mod updates;
@@ -75,9 +77,10 @@ fn carry_out<
     match command {
         Command::CreatePublisher {
             loans,
+            strategy,
             initial_max_slice_len,
             ..
-        } => ports::create_publisher(domain, table, loans, initial_max_slice_len),
+        } => ports::create_publisher(domain, table, loans, strategy, initial_max_slice_len),
         Command::CreateSubscriber { buffer, .. } => {
             ports::create_subscriber(domain, table, buffer)
         }
@@ -102,11 +105,14 @@ fn carry_out<
             changes::set_payload(domain, table, of, at, value),
             Made::Nothing,
         ),
-        Command::Send { of } => (loans::send(domain, table, of), Made::Nothing),
-        Command::SendCopy { of, value } => {
-            (copies::send_copy(domain, table, of, value), Made::Nothing)
-        }
+        Command::Send { of } => loans::send(domain, table, of),
+        Command::SendCopy { of, value } => copies::send_copy(domain, table, of, value),
         Command::Discard { of } => (discards::discard(domain, table, of), Made::Nothing),
+        Command::Retry { of, elapsed } => (
+            blocked_sends::retry(domain, table, of, elapsed),
+            Made::Nothing,
+        ),
+        Command::GiveUp { of } => (blocked_sends::give_up(domain, table, of), Made::Nothing),
         Command::Update { of } => (updates::update(domain, table, of), Made::Nothing),
         Command::Receive { of } => samples::receive(domain, table, of),
         Command::HasSamples { of } => (questions::has_samples(domain, table, of), Made::Nothing),
@@ -118,7 +124,6 @@ fn carry_out<
         Command::Release { of } => (samples::release(domain, table, of), Made::Nothing),
         Command::Close { of } => (closes::close(domain, table, of), Made::Nothing),
         Command::Nothing => (Reply::Done, Made::Nothing),
-        _ => unreachable!(),
     }
 }
 
@@ -133,15 +138,14 @@ fn carry_out<
 /// `worst_case_slots` says for its limit of loans, while fewer loans than that limit are out and a
 /// message number is left.
 ///
-/// What the commands made is spent at the end: ports stay in the domain, loans stay out and
-/// messages stay borrowed. The memory for the replies and for what the commands make is taken
+/// What the commands made is spent at the end: ports stay in the domain, loans stay out, blocked
+/// sends stay so and messages stay borrowed. The memory for the replies and for what the commands make is taken
 /// first. Where it is refused the commands are handed back, and none was carried out.
 ///
-/// So far a publisher discards what a full receiver doesn't take, has one segment and no handlers,
-/// and a command is one of those that make, update or close ports, take a message from its loan to
-/// its release, send a value at once, change a loan where it lies, read headers, give a loan back
-/// unsent, or ask whether messages wait. The domain may have messages of either variant: those of
-/// `FixedSize` are single values, those of `Dynamic` slices.
+/// So far each port that a command makes answers a refused connection with a warning, and a
+/// publisher has one segment, as many slots as it needs, and no backpressure handler. The domain may
+/// have messages of either variant: those of `FixedSize` are single values, those of `Dynamic`
+/// slices.
 pub fn run<T: Copy + Default + Drop, U: Copy + Default + Drop, F: BackpressureFn, G: DegradationFn>(
     alloc: Global,
     domain: &mut Domain<T, U, F, G>,

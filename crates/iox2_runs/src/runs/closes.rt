@@ -11,7 +11,8 @@ use iox2_commands::Reply;
 use iox2_pubsub::Domain;
 use iox2_store::{BackpressureFn, DegradationFn};
 
-/// Closes the port that the command at the position made.
+/// Closes the port that the command at the position made, unless it is a publisher that waits for a
+/// receiver.
 pub(crate) fn close<T: Default + Drop, U: Default + Drop, F: BackpressureFn, G: DegradationFn>(
     domain: &mut Domain<T, U, F, G>,
     table: &mut Vec<Made>,
@@ -24,6 +25,10 @@ pub(crate) fn close<T: Default + Drop, U: Default + Drop, F: BackpressureFn, G: 
 {
     match take(table, of) {
         Made::Publisher(publisher) => {
+            if publisher.is_blocked(domain) {
+                put(table, of, Made::Publisher(publisher));
+                return Reply::Skipped;
+            }
             publisher.close(domain);
             Reply::Done
         }

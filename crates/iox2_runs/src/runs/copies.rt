@@ -1,12 +1,11 @@
 //! Commands that loan a value and write it at once.
-ghost use Rattle.std.specs.Prelude.{◌≡◌};
 ghost use Rattle.iox2_store.specs.machine.Environments.{fixed_handlers};
 ghost use Rattle.iox2_runs.specs.Leaves.{Leaves};
 ghost use Rattle.iox2_runs.specs.Carries.{IsLiveTable, Carries, defaults_of};
 ghost use Rattle.iox2_commands.specs.declared.command.Command.TheVariants.{Loan, SendCopy};
-ghost use Rattle.iox2_runs.specs.declared.runs.made.Made.TheVariants.{Nothing};
 
 use super::made::Made;
+use super::send_replies::send_reply;
 use super::services::is_single_valued;
 use iox2_commands::Reply;
 use iox2_pubsub::Domain;
@@ -30,36 +29,44 @@ pub(crate) fn loan<T: Default + Drop, U: Default + Drop, F: BackpressureFn, G: D
         return (Reply::Skipped, Made::Nothing);
     };
     match made {
-        Made::Publisher(publisher) => match publisher.loan(domain) {
-            Ok(sample) => (Reply::Loaned, Made::Written(sample)),
-            Err(error) => (Reply::LoanRefused(error), Made::Nothing),
-        },
+        Made::Publisher(publisher) => {
+            if publisher.is_blocked(domain) {
+                return (Reply::Skipped, Made::Nothing);
+            }
+            match publisher.loan(domain) {
+                Ok(sample) => (Reply::Loaned, Made::Written(sample)),
+                Err(error) => (Reply::LoanRefused(error), Made::Nothing),
+            }
+        }
         _ => (Reply::Skipped, Made::Nothing),
     }
 }
 
-/// Sends the value with the publisher that the command at the position made.
+/// Sends the value with the publisher that the command at the position made, and returns the blocked
+/// send too, where it is blocked.
 pub(crate) fn send_copy<T: Default + Drop, U: Default + Drop, F: BackpressureFn, G: DegradationFn>(
     domain: &mut Domain<T, U, F, G>,
     table: &[Made],
     of: usize,
     value: T,
-) -> Reply<T, U>
+) -> (Reply<T, U>, Made)
     requires { IsLiveTable domain.old table.now }
-    ensures carries { Carries fixed_handlers (defaults_of T.is_default U.is_default) domain.old domain.new table.now (SendCopy of value) result table.now Nothing }
-    ensures leaves { Leaves domain.old domain.new table.now table.now Nothing }
+    ensures carries { Carries fixed_handlers (defaults_of T.is_default U.is_default) domain.old domain.new table.now (SendCopy of value) result.0 table.now result.1 }
+    ensures leaves { Leaves domain.old domain.new table.now table.now result.1 }
 {
     if !is_single_valued(domain) {
-        return Reply::Skipped;
+        return (Reply::Skipped, Made::Nothing);
     }
     let Some(made) = table.get(of) else {
-        return Reply::Skipped;
+        return (Reply::Skipped, Made::Nothing);
     };
     match made {
-        Made::Publisher(publisher) => match publisher.send_copy(domain, value) {
-            Ok(outcome) => Reply::Delivered(outcome.delivered()),
-            Err(error) => Reply::SendRefused(error),
-        },
-        _ => Reply::Skipped,
+        Made::Publisher(publisher) => {
+            if publisher.is_blocked(domain) {
+                return (Reply::Skipped, Made::Nothing);
+            }
+            send_reply(publisher.send_copy(domain, value))
+        }
+        _ => (Reply::Skipped, Made::Nothing),
     }
 }

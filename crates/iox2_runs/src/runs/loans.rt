@@ -8,6 +8,7 @@ ghost use Rattle.iox2_runs.specs.declared.runs.made.Made.TheVariants.{Nothing};
 
 use super::cells::write_cells;
 use super::made::{Made, put, take};
+use super::send_replies::send_reply;
 use super::services::is_single_valued;
 use iox2_commands::Reply;
 use iox2_pubsub::Domain;
@@ -32,10 +33,15 @@ pub(crate) fn loan_uninit<
         return (Reply::Skipped, Made::Nothing);
     };
     match made {
-        Made::Publisher(publisher) => match publisher.loan_uninit(domain) {
-            Ok(sample) => (Reply::Loaned, Made::Unwritten(sample)),
-            Err(error) => (Reply::LoanRefused(error), Made::Nothing),
-        },
+        Made::Publisher(publisher) => {
+            if publisher.is_blocked(domain) {
+                return (Reply::Skipped, Made::Nothing);
+            }
+            match publisher.loan_uninit(domain) {
+                Ok(sample) => (Reply::Loaned, Made::Unwritten(sample)),
+                Err(error) => (Reply::LoanRefused(error), Made::Nothing),
+            }
+        }
         _ => (Reply::Skipped, Made::Nothing),
     }
 }
@@ -65,25 +71,29 @@ pub(crate) fn write_all<
     }
 }
 
-/// Sends the loan that the command at the position made.
+/// Sends the loan that the command at the position made, and returns the blocked send too, where it
+/// is blocked.
 pub(crate) fn send<T: Default + Drop, U: Default + Drop, F: BackpressureFn, G: DegradationFn>(
     domain: &mut Domain<T, U, F, G>,
     table: &mut Vec<Made>,
     of: usize,
-) -> Reply<T, U>
+) -> (Reply<T, U>, Made)
     requires { IsLiveTable domain.old table.old.items }
-    ensures carries { Carries fixed_handlers (defaults_of T.is_default U.is_default) domain.old domain.new table.old.items (Send of) result table.new.items Nothing }
-    ensures leaves { Leaves domain.old domain.new table.old.items table.new.items Nothing }
+    ensures carries { Carries fixed_handlers (defaults_of T.is_default U.is_default) domain.old domain.new table.old.items (Send of) result.0 table.new.items result.1 }
+    ensures leaves { Leaves domain.old domain.new table.old.items table.new.items result.1 }
     ensures room { SameRoom table.old table.new }
 {
     match take(table, of) {
-        Made::Written(sample) => match sample.send(domain) {
-            Ok(outcome) => Reply::Delivered(outcome.delivered()),
-            Err(error) => Reply::SendRefused(error),
-        },
+        Made::Written(sample) => {
+            if sample.is_blocked(domain) {
+                put(table, of, Made::Written(sample));
+                return (Reply::Skipped, Made::Nothing);
+            }
+            send_reply(sample.send(domain))
+        }
         other => {
             put(table, of, other);
-            Reply::Skipped
+            (Reply::Skipped, Made::Nothing)
         }
     }
 }

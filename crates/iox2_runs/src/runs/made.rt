@@ -3,7 +3,7 @@ ghost use Rattle.std.specs.Prelude.{◌≡◌, ◌<◌, length, slice_set, slice
 ghost use Rattle.iox2_runs.specs.Rooms.{SameRoom};
 ghost use Rattle.iox2_runs.specs.declared.runs.made.Made.TheVariants.{Nothing};
 
-use iox2_pubsub::{Publisher, Sample, SampleMut, SampleMutUninit, Subscriber};
+use iox2_pubsub::{BlockedSend, Publisher, Sample, SampleMut, SampleMutUninit, Subscriber};
 use std::mem;
 
 /// What a command made, while nobody has spent it.
@@ -18,6 +18,8 @@ pub(crate) enum Made {
     Unwritten(SampleMutUninit),
     /// A written loan.
     Written(SampleMut),
+    /// A send that is blocked.
+    Blocked(BlockedSend),
     /// A sample.
     Sample(Sample),
 }
@@ -31,6 +33,7 @@ impl Made {
             Made::Subscriber(subscriber) => subscriber.disown(),
             Made::Unwritten(sample) => sample.disown(),
             Made::Written(sample) => sample.disown(),
+            Made::Blocked(blocked) => blocked.disown(),
             Made::Sample(sample) => sample.disown(),
         }
     }

@@ -2,7 +2,6 @@
 ghost use Rattle.std.specs.declared.option.Option.TheVariants.{None};
 ghost use Rattle.iox2_store.specs.machine.Environments.{fixed_handlers};
 ghost use Rattle.iox2_store.specs.declared.allocation.AllocationStrategy.TheVariants.{Static};
-ghost use Rattle.iox2_store.specs.declared.backpressure.BackpressureStrategy.TheVariants.{DiscardData};
 ghost use Rattle.iox2_store.specs.declared.degradation.DegradationAction.TheVariants.{Warn};
 ghost use Rattle.iox2_runs.specs.Leaves.{Leaves};
 ghost use Rattle.iox2_runs.specs.Carries.{IsLiveTable, Carries, defaults_of};
@@ -14,19 +13,26 @@ use iox2_commands::Reply;
 use iox2_pubsub::Domain;
 use iox2_store::{BackpressureFn, BackpressureStrategy, DegradationFn};
 
-/// Makes a publisher with so many loans, and for slices up to that length, and returns it too.
+/// Makes a publisher with so many loans, with that strategy, and for slices up to that length, and
+/// returns it too.
 pub(crate) fn create_publisher<
     T: Default + Drop,
     U: Default + Drop,
     F: BackpressureFn,
     G: DegradationFn,
->(domain: &mut Domain<T, U, F, G>, table: &[Made], loans: usize, len: usize) -> (Reply<T, U>, Made)
+>(
+    domain: &mut Domain<T, U, F, G>,
+    table: &[Made],
+    loans: usize,
+    strategy: BackpressureStrategy,
+    len: usize,
+) -> (Reply<T, U>, Made)
     requires { IsLiveTable domain.old table.now }
     ensures carries { Carries fixed_handlers (defaults_of T.is_default U.is_default) domain.old domain.new table.now
-        (CreatePublisher loans DiscardData Static len None Warn None) result.0 table.now result.1 }
+        (CreatePublisher loans strategy Static len None Warn None) result.0 table.now result.1 }
     ensures leaves { Leaves domain.old domain.new table.now table.now result.1 }
 {
-    match make_publisher(domain, loans, BackpressureStrategy::DiscardData, len) {
+    match make_publisher(domain, loans, strategy, len) {
         Ok(publisher) => (
             Reply::PublisherMade(publisher.id()),
             Made::Publisher(publisher),

@@ -29,6 +29,10 @@ pub(crate) fn loan_slice<T: Default + Drop, U: Default + Drop, F: BackpressureFn
     }
     match take(table, of) {
         Made::Publisher(publisher) => {
+            if publisher.is_blocked(domain) {
+                put(table, of, Made::Publisher(publisher));
+                return (Reply::Skipped, Made::Nothing);
+            }
             let publisher = slice::Publisher::new(publisher);
             let loaned = publisher.loan_slice_uninit(domain, len);
             put(table, of, Made::Publisher(publisher.into_inner()));

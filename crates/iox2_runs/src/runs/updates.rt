@@ -14,7 +14,8 @@ use iox2_commands::Reply;
 use iox2_pubsub::{Domain, UpdateConnections};
 use iox2_store::{BackpressureFn, ConnectionFailure, DegradationFn};
 
-/// Updates the connections of the port that the command at the position made.
+/// Updates the connections of the port that the command at the position made, unless it is a
+/// publisher that waits for a receiver.
 pub(crate) fn update<T: Default + Drop, U: Default + Drop, F: BackpressureFn, G: DegradationFn>(
     domain: &mut Domain<T, U, F, G>,
     table: &[Made],
@@ -28,7 +29,12 @@ pub(crate) fn update<T: Default + Drop, U: Default + Drop, F: BackpressureFn, G:
         return Reply::Skipped;
     };
     match made {
-        Made::Publisher(publisher) => update_reply(publisher.update_connections(domain)),
+        Made::Publisher(publisher) => {
+            if publisher.is_blocked(domain) {
+                return Reply::Skipped;
+            }
+            update_reply(publisher.update_connections(domain))
+        }
         Made::Subscriber(subscriber) => update_reply(subscriber.update_connections(domain)),
         _ => Reply::Skipped,
     }

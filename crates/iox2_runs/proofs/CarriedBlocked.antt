@@ -1,0 +1,139 @@
+-- Blocked sends that are tried again or given up, with what a run holds.
+use Rattle.std.proofs.Common.{◌≡◌, ℕ, false, Bool, Option, None, Some, List, [], ◌∷◌, ◌++◌, map, refl, sym, ap, subst, ◌∙◌}
+use Rattle.std.specs.Prelude.{IfOk, slice_get, slice_set, slice_index_or}
+use Rattle.std.specs.declared.result.Result.{Result}
+use Rattle.std.specs.declared.result.Result.TheVariants.{Ok, Err}
+use Rattle.std.specs.declared.time.Duration.{Duration}
+use Rattle.iox2_store.specs.machine.Environments.{fixed_handlers}
+use Rattle.iox2_store.specs.machine.Records.{Publisher, BlockedSend as Waiting}
+use Rattle.iox2_store.specs.machine.Sends.{Retry, GiveUp, SendResult, Delivered_to, Blocked_send, Send_error}
+use Rattle.iox2_store.specs.machine.SingleCalls.{HoldsBlocked}
+use Rattle.iox2_store.specs.machine.State.{State, Messages}
+use Rattle.iox2_store.specs.declared.errors.SendError.{SendError}
+use Rattle.iox2_store.specs.declared.key.Key.{Key}
+use Rattle.iox2_laws.specs.Laws.{Advances}
+use Rattle.iox2_laws.proofs.LoanKeeping.{retry_loans, give_up_loans}
+use Rattle.iox2_laws.proofs.SendLaws.{retry_advances, give_up_advances}
+use Rattle.iox2_laws.proofs.SendsRemain.{retry_frees, give_up_frees}
+use Rattle.iox2_domain.specs.Kept.{Kept as Domain, state_of}
+use Rattle.iox2_domain.specs.Shows.{Shows}
+use Rattle.iox2_pubsub.specs.Live.{IsBlockedSend, blocked_key}
+use Rattle.iox2_pubsub.specs.SendCalls.{IfBlocked, result_of_send}
+use Rattle.iox2_pubsub.proofs.LiveParts.{blocked-parts}
+use Rattle.iox2_pubsub.specs.declared.blocked_send.BlockedSend.{BlockedSend}
+use Rattle.iox2_pubsub.specs.declared.send_outcome.SendOutcome.{SendOutcome}
+use Rattle.iox2_pubsub.specs.declared.send_outcome.SendOutcome.TheVariants.{Delivered as WasDelivered, Blocked as IsBlocked}
+use Rattle.iox2_commands.specs.Outcomes.{Handle, Blocked_handle, Outcome, replied, skipped}
+use Rattle.iox2_commands.specs.Runs.{Defaults}
+use Rattle.iox2_commands.specs.Step.{Step, after_retry, blocked_at}
+use Rattle.iox2_commands.specs.declared.command.Command.{Command}
+use Rattle.iox2_commands.specs.declared.command.Command.TheVariants.{Retry as RetrySend, GiveUp as GiveUpSend}
+use Rattle.iox2_commands.specs.declared.reply.Reply.{Reply}
+use Rattle.iox2_commands.specs.declared.reply.Reply.TheVariants.{Skipped}
+use Rattle.iox2_runs.specs.Tables.{TableEntry, No_entry, Blocked_entry, IsEntryOf}
+use Rattle.iox2_runs.specs.RunSteps.{Comes}
+use Rattle.iox2_runs.specs.Carries.{entry_for, Carries}
+use Rattle.iox2_runs.specs.SendReplies.{reply_to_send, made_by_send}
+use Rattle.iox2_runs.specs.declared.runs.made.Made.{Made}
+use Rattle.iox2_runs.specs.declared.runs.made.Made.TheVariants.{Nothing, Blocked}
+use Rattle.iox2_runs.proofs.TableBlocked.{goes_on_comes}
+use Rattle.iox2_runs.proofs.TableCalls.{skip_comes, at_none, at_some}
+use Rattle.iox2_runs.proofs.TableEntries.{entries-set, entry-stands, lacks}
+use Rattle.iox2_runs.proofs.TableLooks.{is_blocked_entry, lacks_blocked, has_blocked}
+use Rattle.iox2_runs.proofs.TablePassed.{Passed, free_waits, retry_passes, give_up_passes}
+
+-- a blocked send has its entry
+pub blocked_entry : {T U : Type 0} (new : Domain T U) (m : Messages T U) (s : State T U) → Shows new m s → (blocked : BlockedSend) → IsBlockedSend new blocked
+    → (key : Key) → blocked_key blocked ≡ key → IsEntryOf s (Blocked_handle key.port key.message) (entry_for (Blocked blocked))
+blocked_entry {T} {U} new m s shown blocked waits key is =
+    let parts = blocked-parts new (blocked_key blocked) waits in (
+      parts.0 ∙ sym (ap (λ (t : State T U). (t.config).service_id) shown.state),
+      ap (λ (k : Key). Blocked_handle k.port k.message) (sym is),
+      subst (λ (t : State T U). HoldsBlocked t blocked.loan.publisher blocked.loan.number) (sym shown.state) parts.1,
+    )
+
+-- the reply says what the machine does
+told_so : {T U : Type 0} (s : State T U) (outcome : Result SendOutcome SendError) → replied (reply_to_send outcome) s ≡ after_retry s (result_of_send outcome)
+told_so s (Ok (WasDelivered count)) = refl
+told_so s (Ok (IsBlocked blocked)) = refl
+told_so s (Err error) = refl
+
+-- What a command on a blocked send does, and what is known of that.
+record GoesOn (T U : Type 0) (command : Command T U) (of : ℕ) : Type 1 where
+  Goes : State T U → (p : ℕ) → Waiting → State T U → SendResult → Type 0
+  step : (default_value : T) (default_header : U) (m : Messages T U) (s : State T U) (handles : List Handle) (p : ℕ) (b : Waiting) (s' : State T U) (result : SendResult) (o : Outcome T U)
+      → blocked_at s handles of ≡ Some (p, b) → Goes s p b s' result → o ≡ after_retry s' result → Step fixed_handlers default_value default_header m s handles command o
+  skips : (default_value : T) (default_header : U) (m : Messages T U) (s : State T U) (handles : List Handle) → blocked_at s handles of ≡ None → Step fixed_handlers default_value default_header m s handles command (skipped s)
+  passes : (s : State T U) (p : ℕ) (x : Publisher) (b : Waiting) → s.publishers p ≡ Some x → x.blocked ≡ Some b → (s' : State T U) (result : SendResult) → Goes s p b s' result → Passed p b.message s s'
+  advances : (s : State T U) (p : ℕ) (b : Waiting) (s' : State T U) (result : SendResult) → Goes s p b s' result → Advances s s'
+  loans : (s : State T U) (p : ℕ) (b : Waiting) (s' : State T U) (result : SendResult) → Goes s p b s' result → s'.loans ≡ s.loans
+  frees : (s : State T U) (p : ℕ) (b : Waiting) (s' : State T U) (result : SendResult) → (result ≡ Blocked_send → ⊥) → Goes s p b s' result
+      → (x' : Publisher) → s'.publishers p ≡ Some x' → x'.blocked ≡ None
+
+-- it is tried again
+pub retry_goes : {T U : Type 0} (of : ℕ) (elapsed : Duration) → GoesOn T U (RetrySend of elapsed) of
+retry_goes of elapsed = record {
+  Goes = λ s p b s' result. Retry fixed_handlers s p b elapsed s' result;
+  step = λ default_value default_header m s handles p b s' result o named goes is. at_some _ _ _ (p, b) named (s', result, goes, is);
+  skips = λ default_value default_header m s handles none. at_none _ _ _ none refl;
+  passes = λ s p x b stands waiting s' result goes. retry_passes fixed_handlers s p x b stands waiting s' elapsed result goes;
+  advances = λ s p b s' result goes. retry_advances fixed_handlers s p b elapsed s' result goes;
+  loans = λ s p b s' result goes. retry_loans fixed_handlers s p b elapsed s' result goes;
+  frees = λ s p b s' result ended goes. retry_frees fixed_handlers s p b elapsed s' result ended goes;
+}
+
+-- it is given up
+pub give_up_goes : {T U : Type 0} (of : ℕ) → GoesOn T U (GiveUpSend of) of
+give_up_goes of = record {
+  Goes = λ s p b s' result. GiveUp fixed_handlers s p b s' result;
+  step = λ default_value default_header m s handles p b s' result o named goes is. at_some _ _ _ (p, b) named (s', result, goes, is);
+  skips = λ default_value default_header m s handles none. at_none _ _ _ none refl;
+  passes = λ s p x b stands waiting s' result goes. give_up_passes fixed_handlers s p x b stands waiting s' result goes;
+  advances = λ s p b s' result goes. give_up_advances fixed_handlers s p b s' result goes;
+  loans = λ s p b s' result goes. give_up_loans fixed_handlers s p b s' result goes;
+  frees = λ s p b s' result ended goes. give_up_frees fixed_handlers s p b s' result ended goes;
+}
+
+module _ {T U : Type 0} (defaults : Defaults T U) (old new : Domain T U) (table table' : List Made) (of : ℕ) (command : Command T U) (on : GoesOn T U command of) where
+  -- there is no such send
+  pub goes_on_passed : is_blocked_entry (entry_for (slice_index_or table of Nothing)) ≡ false → old ≡ new → table' ≡ table
+      → Carries fixed_handlers defaults old new table command Skipped table' Nothing
+  goes_on_passed other same is = λ m s handles events shown w default_value default_header is_value is_header.
+      subst (λ (t : List Made). Comes fixed_handlers defaults (Shows new) m s handles events command Skipped (map entry_for t ++ No_entry ∷ [])) (sym is)
+      (skip_comes fixed_handlers defaults (Shows new) m s handles events (map entry_for table) w default_value default_header is_value is_header command
+      (on.skips default_value default_header m s handles (lacks_blocked s handles events (map entry_for table) w of (lacks is_blocked_entry refl table of other)))
+      (subst (λ (d : Domain T U). Shows d m s) same shown))
+
+  -- it goes on, and comes out so
+  pub goes_on_carried : (h : BlockedSend) (outcome : Result SendOutcome SendError) → slice_index_or table of Nothing ≡ Blocked h
+      → ((m : Messages T U) (s : State T U) (x : Publisher) (b : Waiting) → Shows old m s → s.publishers h.loan.publisher ≡ Some x → x.blocked ≡ Some b
+      → (s' : State T U) × Shows new m s' × on.Goes s h.loan.publisher b s' (result_of_send outcome))
+      → IfOk outcome (λ came. IfBlocked came (λ blocked. IsBlockedSend new blocked × (blocked_key blocked ≡ blocked_key h)))
+      → table' ≡ slice_set table of (made_by_send outcome)
+      → Carries fixed_handlers defaults old new table command (reply_to_send outcome) table' Nothing
+  goes_on_carried h outcome at goes blocked is = λ m s handles events shown w default_value default_header is_value is_header.
+      let stand = entry-stands table of (Blocked h) at (λ e. let clash : Blocked h ≡ Nothing = e in cc) in
+      let p : ℕ = h.loan.publisher in
+      let n : ℕ = h.loan.number in
+      let found = has_blocked s handles events (map entry_for table) w of h.service_id p n stand in
+      let gone = goes m s found.0 found.1 shown found.3 found.4 in
+      let result : SendResult = result_of_send outcome in
+      let after : map entry_for table' ≡ slice_set (map entry_for table) of (entry_for (made_by_send outcome)) =
+      ap (λ (t : List Made). map entry_for t) is ∙ entries-set table of (made_by_send outcome) in
+      subst (λ (ks : List TableEntry). Comes fixed_handlers defaults (Shows new) m s handles events command (reply_to_send outcome) (ks ++ No_entry ∷ [])) (sym after)
+      (goes_on_comes fixed_handlers defaults (Shows new) m s handles events (map entry_for table) w default_value default_header is_value is_header command of h.service_id p n stand gone.0
+      (subst (λ (k : ℕ). Passed p k s gone.0) found.5 (on.passes s p found.0 found.1 found.3 found.4 gone.0 result gone.2))
+      (on.advances s p found.1 gone.0 result gone.2) (on.loans s p found.1 gone.0 result gone.2)
+      (reply_to_send outcome) (on.step default_value default_header m s handles p found.1 gone.0 result (replied (reply_to_send outcome) gone.0) found.2 gone.2 (told_so gone.0 outcome)) gone.1
+      (entry_for (made_by_send outcome))
+      (left m gone.0 gone.1 outcome blocked (λ ended. on.frees s p found.1 gone.0 result ended gone.2)))
+    where
+      left : (m : Messages T U) (s' : State T U) → Shows new m s' → (came : Result SendOutcome SendError)
+          → IfOk came (λ it. IfBlocked it (λ blocked. IsBlockedSend new blocked × (blocked_key blocked ≡ blocked_key h)))
+          → ((result_of_send came ≡ Blocked_send → ⊥) → (x' : Publisher) → s'.publishers h.loan.publisher ≡ Some x' → x'.blocked ≡ None)
+          → IsEntryOf s' (Blocked_handle h.loan.publisher h.loan.number) (entry_for (made_by_send came))
+      left m s' shown (Ok (WasDelivered count)) waits frees = λ has.
+          free_waits s' h.loan.publisher h.loan.number (frees (λ e. let clash : Delivered_to count ≡ Blocked_send = e in absurd cc)) has
+      left m s' shown (Ok (IsBlocked blocked)) waits frees = blocked_entry new m s' shown blocked waits.0 (blocked_key h) waits.1
+      left m s' shown (Err error) waits frees = λ has.
+          free_waits s' h.loan.publisher h.loan.number (frees (λ e. let clash : Send_error error ≡ Blocked_send = e in absurd cc)) has
