@@ -36,7 +36,7 @@ use Rattle.iox2_domain.specs.Invariant.{IsDomain}
 use Rattle.iox2_domain.specs.Kept.{Kept, state_of, entries_of}
 use Rattle.iox2_domain.specs.Lending.{LoanCall}
 use Rattle.iox2_domain.specs.Shows.{Shows}
-use Rattle.iox2_pubsub.specs.Live.{Item, IsOtherLoan, IsPublisherKey, IsSubscriberKey, IsLoanKey, IsSampleKey, No_item, A_publisher, A_subscriber, A_loan, A_sample, IsOtherSample, IsBlockedKey, A_blocked_send, Both, StaysBut, Stays, IsNewIn, unwritten_key, written_key, sample_key}
+use Rattle.iox2_pubsub.specs.Live.{Item, IsOtherLoan, IsPublisherKey, IsSubscriberKey, IsLoanKey, IsSampleKey, IsUnblocked, No_item, A_publisher, A_subscriber, A_loan, A_sample, IsOtherSample, IsBlockedKey, A_blocked_send, Both, StaysBut, Stays, IsNewIn, unwritten_key, written_key, sample_key}
 use Rattle.iox2_pubsub.specs.declared.publisher.Publisher.{Publisher as Handle}
 use Rattle.iox2_pubsub.specs.declared.sample_mut.SampleMut.{SampleMut}
 use Rattle.iox2_pubsub.specs.Slices.{HasUnwrittenCells, HasValues}

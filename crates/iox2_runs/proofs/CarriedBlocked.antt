@@ -42,6 +42,12 @@ use Rattle.iox2_runs.proofs.TableEntries.{entries-set, entry-stands, lacks}
 use Rattle.iox2_runs.proofs.TableLooks.{is_blocked_entry, lacks_blocked, has_blocked}
 use Rattle.iox2_runs.proofs.TablePassed.{Passed, free_waits, retry_passes, give_up_passes}
 
+-- what holds of each blocked send of the first kind holds of it
+pub each_blocked : (P Q : BlockedSend → Type 0) → ((blocked : BlockedSend) → P blocked → Q blocked) → (outcome : Result SendOutcome SendError) → IfOk outcome (λ came. IfBlocked came P) → IfOk outcome (λ came. IfBlocked came Q)
+each_blocked P Q maps (Ok (WasDelivered count)) is = tt
+each_blocked P Q maps (Ok (IsBlocked blocked)) is = maps blocked is
+each_blocked P Q maps (Err error) is = tt
+
 -- a blocked send has its entry
 pub blocked_entry : {T U : Type 0} (new : Domain T U) (m : Messages T U) (s : State T U) → Shows new m s → (blocked : BlockedSend) → IsBlockedSend new blocked
     → (key : Key) → blocked_key blocked ≡ key → IsEntryOf s (Blocked_handle key.port key.message) (entry_for (Blocked blocked))
@@ -59,19 +65,19 @@ told_so s (Ok (IsBlocked blocked)) = refl
 told_so s (Err error) = refl
 
 -- What a command on a blocked send does, and what is known of that.
-record GoesOn (T U : Type 0) (command : Command T U) (of : ℕ) : Type 1 where
-  Goes : State T U → (p : ℕ) → Waiting → State T U → SendResult → Type 0
-  step : (default_value : T) (default_header : U) (m : Messages T U) (s : State T U) (handles : List Handle) (p : ℕ) (b : Waiting) (s' : State T U) (result : SendResult) (o : Outcome T U)
+pub record GoesOn (T U : Type 0) (command : Command T U) (of : ℕ) : Type 1 where
+  pub Goes : State T U → (p : ℕ) → Waiting → State T U → SendResult → Type 0
+  pub step : (default_value : T) (default_header : U) (m : Messages T U) (s : State T U) (handles : List Handle) (p : ℕ) (b : Waiting) (s' : State T U) (result : SendResult) (o : Outcome T U)
       → blocked_at s handles of ≡ Some (p, b) → Goes s p b s' result → o ≡ after_retry s' result → Step fixed_handlers default_value default_header m s handles command o
-  skips : (default_value : T) (default_header : U) (m : Messages T U) (s : State T U) (handles : List Handle) → blocked_at s handles of ≡ None → Step fixed_handlers default_value default_header m s handles command (skipped s)
-  passes : (s : State T U) (p : ℕ) (x : Publisher) (b : Waiting) → s.publishers p ≡ Some x → x.blocked ≡ Some b → (s' : State T U) (result : SendResult) → Goes s p b s' result → Passed p b.message s s'
-  advances : (s : State T U) (p : ℕ) (b : Waiting) (s' : State T U) (result : SendResult) → Goes s p b s' result → Advances s s'
-  loans : (s : State T U) (p : ℕ) (b : Waiting) (s' : State T U) (result : SendResult) → Goes s p b s' result → s'.loans ≡ s.loans
-  frees : (s : State T U) (p : ℕ) (b : Waiting) (s' : State T U) (result : SendResult) → (result ≡ Blocked_send → ⊥) → Goes s p b s' result
+  pub skips : (default_value : T) (default_header : U) (m : Messages T U) (s : State T U) (handles : List Handle) → blocked_at s handles of ≡ None → Step fixed_handlers default_value default_header m s handles command (skipped s)
+  pub passes : (s : State T U) (p : ℕ) (x : Publisher) (b : Waiting) → s.publishers p ≡ Some x → x.blocked ≡ Some b → (s' : State T U) (result : SendResult) → Goes s p b s' result → Passed p b.message s s'
+  pub advances : (s : State T U) (p : ℕ) (b : Waiting) (s' : State T U) (result : SendResult) → Goes s p b s' result → Advances s s'
+  pub loans : (s : State T U) (p : ℕ) (b : Waiting) (s' : State T U) (result : SendResult) → Goes s p b s' result → s'.loans ≡ s.loans
+  pub frees : (s : State T U) (p : ℕ) (b : Waiting) (s' : State T U) (result : SendResult) → (result ≡ Blocked_send → ⊥) → Goes s p b s' result
       → (x' : Publisher) → s'.publishers p ≡ Some x' → x'.blocked ≡ None
 
 -- it is tried again
-pub retry_goes : {T U : Type 0} (of : ℕ) (elapsed : Duration) → GoesOn T U (RetrySend of elapsed) of
+abbrev pub retry_goes : {T U : Type 0} (of : ℕ) (elapsed : Duration) → GoesOn T U (RetrySend of elapsed) of
 retry_goes of elapsed = record {
   Goes = λ s p b s' result. Retry fixed_handlers s p b elapsed s' result;
   step = λ default_value default_header m s handles p b s' result o named goes is. at_some _ _ _ (p, b) named (s', result, goes, is);
@@ -83,7 +89,7 @@ retry_goes of elapsed = record {
 }
 
 -- it is given up
-pub give_up_goes : {T U : Type 0} (of : ℕ) → GoesOn T U (GiveUpSend of) of
+abbrev pub give_up_goes : {T U : Type 0} (of : ℕ) → GoesOn T U (GiveUpSend of) of
 give_up_goes of = record {
   Goes = λ s p b s' result. GiveUp fixed_handlers s p b s' result;
   step = λ default_value default_header m s handles p b s' result o named goes is. at_some _ _ _ (p, b) named (s', result, goes, is);

@@ -1,8 +1,9 @@
 -- Commands that loan a value and write it at once, with what a run holds.
 use Rattle.std.proofs.Common.{◌≡◌, ℕ, true, false, List, [], ◌∷◌, ◌++◌, map, refl, sym, ap, subst, ◌∙◌, None, Some}
 use Rattle.std.proofs.lemmas.Option.{same_Some}
-use Rattle.std.specs.Prelude.{slice_get, slice_index_or}
-use Rattle.std.specs.declared.result.Result.TheVariants.{Ok}
+use Rattle.std.specs.Prelude.{IfOk, slice_get, slice_index_or}
+use Rattle.std.specs.declared.result.Result.{Result}
+use Rattle.std.specs.declared.result.Result.TheVariants.{Ok, Err}
 use Rattle.iox2_store.specs.SingleValues.{is_single_valued}
 use Rattle.iox2_store.specs.machine.Records.{Loan, Environment}
 use Rattle.iox2_store.specs.machine.State.{State, Messages}
@@ -21,7 +22,7 @@ use Rattle.iox2_pubsub.specs.Live.{IsBlockedSend, blocked_key, lender_key, publi
 use Rattle.iox2_pubsub.proofs.LiveParts.{blocked-parts}
 use Rattle.iox2_laws.proofs.SendsRemain.{send_waits_with}
 use Rattle.iox2_pubsub.specs.SendCalls.{IfBlocked, sent_result}
-use Rattle.iox2_pubsub.specs.WrittenLoans.{SendsGranted, RefusesLoan}
+use Rattle.iox2_pubsub.specs.WrittenLoans.{SendsCopy, SendsGranted, RefusesLoan}
 use Rattle.iox2_pubsub.specs.declared.publisher.Publisher.{Publisher as PublisherHandle}
 use Rattle.iox2_pubsub.specs.declared.sample_mut.SampleMut.{SampleMut}
 use Rattle.iox2_pubsub.specs.declared.send_outcome.SendOutcome.{SendOutcome}
@@ -167,3 +168,12 @@ module _ {T U : Type 0} (defaults : Defaults T U) (old new : Domain T U) (table 
       (entry-stands table of (MadePublisher h) at (λ e. let clash : MadePublisher h ≡ Nothing = e in cc)) (free m s shown) (ap (λ (t : State T U). is_single_valued t.config) shown.state ∙ single)
       refused.1 it.reason (written_any fixed_handlers value default_header s h.id refused.1 (Some it.reason) (it.refused value default_header))
       (subst (λ (k : Messages T U). Shows new k refused.1) it.messages refused.2))
+
+  -- whichever it is
+  pub copy_came : (h : PublisherHandle) (value : T) (result : Result SendOutcome SendError) → slice_index_or table of Nothing ≡ MadePublisher h
+      → ((m : Messages T U) (s : State T U) → Shows old m s → IsUnblocked s h.id) → is_single_valued old.config ≡ true
+      → ((m : Messages T U) (s : State T U) → Shows old m s → (m' : Messages T U) × (s' : State T U) × Shows new m' s' × SendsCopy defaults.IsDefaultHeader m s h.id value result m' s')
+      → IfOk result (λ outcome. IfBlocked outcome (λ blocked. IsBlockedSend new blocked × (lender_key (blocked_key blocked) ≡ publisher_key h)))
+      → Carries fixed_handlers defaults old new table (SendCopy of value) (reply_to_send result) table (made_by_send result)
+  copy_came h value (Ok outcome) at free single sends blocked = copy_carried h value outcome at free single sends blocked
+  copy_came h value (Err error) at free single sends blocked = copy_denied h value error at free single sends

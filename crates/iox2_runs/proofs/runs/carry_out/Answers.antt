@@ -109,7 +109,7 @@ returns-in-Nothing-clause-room g c = record { len = refl; capacity = refl }
 pub returns-in-CreatePublisher-clause-carries : goal.returns-in-CreatePublisher-clause-carries
 returns-in-CreatePublisher-clause-carries g c =
     let told = rw c.in-CreatePublisher.is at c.requires.supported in
-    rw (c.in-CreatePublisher.is, told.0, told.1, told.2, told.3, told.4, sym c.deref.ensures.value) c.create_publisher.ensures.carries
+    rw (c.in-CreatePublisher.is, told.0, told.1, told.2, told.3, sym c.deref.ensures.value) c.create_publisher.ensures.carries
 
 pub returns-in-CreateSubscriber-clause-carries : goal.returns-in-CreateSubscriber-clause-carries
 returns-in-CreateSubscriber-clause-carries g c =
@@ -287,3 +287,27 @@ returns-in-ReadUserHeader-clause-room g c = record { len = refl; capacity = refl
 pub returns-in-ReadUserHeader-clause-leaves : goal.returns-in-ReadUserHeader-clause-leaves
 returns-in-ReadUserHeader-clause-leaves g c =
     leaves-all {T = g.row.T.Denot} {U = g.row.U.Denot} c.args.domain.now c.args.domain.now c.args.table.now.items c.args.table.now.items refl refl
+
+pub returns-in-Retry-clause-carries : goal.returns-in-Retry-clause-carries
+returns-in-Retry-clause-carries g c = rw c.in-Retry.is c.retry.ensures.carries
+
+pub retry-requires : goal.retry-requires
+retry-requires g c = c.requires.keeps
+
+pub returns-in-Retry-clause-room : goal.returns-in-Retry-clause-room
+returns-in-Retry-clause-room g c = c.retry.ensures.room
+
+pub returns-in-Retry-clause-leaves : goal.returns-in-Retry-clause-leaves
+returns-in-Retry-clause-leaves g c = c.retry.ensures.leaves
+
+pub returns-in-GiveUp-clause-carries : goal.returns-in-GiveUp-clause-carries
+returns-in-GiveUp-clause-carries g c = rw c.in-GiveUp.is c.give_up.ensures.carries
+
+pub give_up-requires : goal.give_up-requires
+give_up-requires g c = c.requires.keeps
+
+pub returns-in-GiveUp-clause-room : goal.returns-in-GiveUp-clause-room
+returns-in-GiveUp-clause-room g c = c.give_up.ensures.room
+
+pub returns-in-GiveUp-clause-leaves : goal.returns-in-GiveUp-clause-leaves
+returns-in-GiveUp-clause-leaves g c = c.give_up.ensures.leaves

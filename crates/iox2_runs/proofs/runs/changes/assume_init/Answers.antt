@@ -1,7 +1,7 @@
 use Rattle.std.proofs.Common.{refl, sym, ap, subst, ◌∙◌, List}
 use Rattle.std.specs.Prelude.{slice_set}
 use Rattle.iox2_store.specs.declared.key.Key.{Key}
-use Rattle.iox2_pubsub.specs.Live.{A_loan, IsNewIn}
+use Rattle.iox2_pubsub.specs.Live.{A_loan, IsNewIn, Both, A_blocked_send}
 use Rattle.iox2_pubsub.specs.declared.sample_mut_uninit.SampleMutUninit.{SampleMutUninit}
 use Rattle.iox2_runs.specs.Carries.{entry_for}
 use Rattle.iox2_runs.specs.declared.runs.made.Made.{Made}
@@ -10,6 +10,7 @@ use Rattle.iox2_runs.proofs.TableLooks.{is_unwritten_entry}
 use Rattle.iox2_runs.proofs.TableEntries.{back, set_again, not_unwritten}
 use Rattle.iox2_runs.proofs.LiveEntries.{live_unwritten}
 use Rattle.iox2_runs.proofs.CarriedChanges.{taken_carried, taken_refused, taken_passed}
+use Rattle.iox2_pubsub.proofs.StaysBut.{stays-but-more}
 use Rattle.iox2_runs.proofs.LeavingSteps.{leaves-all, leaves-spending}
 use Rattle.iox2_runs.proofs.runs.changes.assume_init.Goals as goal
 
@@ -39,8 +40,8 @@ returns-in_default-clause-carries g c =
 pub returns-in-Ok-clause-leaves : goal.returns-in-Ok-clause-leaves
 returns-in-Ok-clause-leaves g c =
     leaves-spending {T = g.row.T.Denot} {U = g.row.U.Denot} c.args.domain.now c.assume_init.new.domain c.args.table.now.items c.put.new.table.items c.args.of
-    (Unwritten c.in-Unwritten.sample) (Written c.in-Ok.sample) (sym c.take.ensures.made ∙ c.in-Unwritten.is) c.assume_init.ensures.stays
-    (λ start fresh. subst (λ (k : Key). IsNewIn start (A_loan k.message)) (sym c.in-Ok.ensures.key) fresh)
+    (Unwritten c.in-Unwritten.sample) (Written c.in-Ok.sample) (sym c.take.ensures.made ∙ c.in-Unwritten.is) (stays-but-more _ _ _ _ c.assume_init.ensures.stays)
+    (λ start fresh. subst (λ (k : Key). IsNewIn start (Both (A_loan k.message) (A_blocked_send k.port))) (sym c.in-Ok.ensures.key) fresh)
     (c.put.ensures.items ∙ ap (λ (t : List Made). slice_set t c.args.of (Written c.in-Ok.sample)) c.take.ensures.items ∙ set_again c.args.table.now.items c.args.of Nothing (Written c.in-Ok.sample))
 
 pub returns-in-Err-clause-leaves : goal.returns-in-Err-clause-leaves

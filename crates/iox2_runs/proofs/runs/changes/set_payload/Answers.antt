@@ -7,6 +7,7 @@ use Rattle.iox2_runs.proofs.TableLooks.{is_written_entry}
 use Rattle.iox2_runs.proofs.TableEntries.{back, set_again, not_written}
 use Rattle.iox2_runs.proofs.LiveEntries.{live_written}
 use Rattle.iox2_runs.proofs.CarriedChanges.{payload_carried, payload_passed}
+use Rattle.iox2_pubsub.proofs.StaysBut.{stays-but-more}
 use Rattle.iox2_runs.proofs.LeavingSteps.{leaves-all, leaves-spending}
 use Rattle.iox2_runs.proofs.runs.changes.set_payload.Goals as goal
 
@@ -28,7 +29,7 @@ returns-in_default-clause-carries g c =
 pub returns-in-Written-clause-leaves : goal.returns-in-Written-clause-leaves
 returns-in-Written-clause-leaves g c =
     leaves-spending {T = g.row.T.Denot} {U = g.row.U.Denot} c.args.domain.now c.set_value_at-is_there.new.domain c.args.table.now.items c.put.new.table.items c.args.of
-    (Written c.in-Written.sample) (Written c.set_value_at-is_there.result.1) (sym c.take.ensures.made ∙ c.in-Written.is) c.set_value_at-is_there.ensures.stays
+    (Written c.in-Written.sample) (Written c.set_value_at-is_there.result.1) (sym c.take.ensures.made ∙ c.in-Written.is) (stays-but-more _ _ _ _ c.set_value_at-is_there.ensures.stays)
     (λ start fresh. rw c.set_value_at-is_there.ensures.same fresh)
     (c.put.ensures.items ∙ ap (λ (t : List Made). slice_set t c.args.of (Written c.set_value_at-is_there.result.1)) c.take.ensures.items ∙ set_again c.args.table.now.items c.args.of Nothing (Written c.set_value_at-is_there.result.1))
 

@@ -7,6 +7,7 @@ use Rattle.iox2_runs.proofs.TableLooks.{is_unwritten_entry}
 use Rattle.iox2_runs.proofs.TableEntries.{back, set_again, not_unwritten}
 use Rattle.iox2_runs.proofs.LiveEntries.{live_unwritten}
 use Rattle.iox2_runs.proofs.CarriedChanges.{cell_carried, cell_passed}
+use Rattle.iox2_pubsub.proofs.StaysBut.{stays-but-more}
 use Rattle.iox2_runs.proofs.LeavingSteps.{leaves-all, leaves-spending}
 use Rattle.iox2_runs.proofs.runs.changes.write_cell.Goals as goal
 
@@ -28,7 +29,7 @@ returns-in_default-clause-carries g c =
 pub returns-in-Unwritten-clause-leaves : goal.returns-in-Unwritten-clause-leaves
 returns-in-Unwritten-clause-leaves g c =
     leaves-spending {T = g.row.T.Denot} {U = g.row.U.Denot} c.args.domain.now c.write_cell_at-is_there.new.domain c.args.table.now.items c.put.new.table.items c.args.of
-    (Unwritten c.in-Unwritten.sample) (Unwritten c.write_cell_at-is_there.result.1) (sym c.take.ensures.made ∙ c.in-Unwritten.is) c.write_cell_at-is_there.ensures.stays
+    (Unwritten c.in-Unwritten.sample) (Unwritten c.write_cell_at-is_there.result.1) (sym c.take.ensures.made ∙ c.in-Unwritten.is) (stays-but-more _ _ _ _ c.write_cell_at-is_there.ensures.stays)
     (λ start fresh. rw c.write_cell_at-is_there.ensures.same fresh)
     (c.put.ensures.items ∙ ap (λ (t : List Made). slice_set t c.args.of (Unwritten c.write_cell_at-is_there.result.1)) c.take.ensures.items ∙ set_again c.args.table.now.items c.args.of Nothing (Unwritten c.write_cell_at-is_there.result.1))
 

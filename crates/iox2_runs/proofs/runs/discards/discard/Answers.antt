@@ -7,7 +7,7 @@ use Rattle.iox2_runs.proofs.TableEntries.{back, not_loan}
 use Rattle.iox2_runs.proofs.LiveEntries.{live_unwritten, live_written}
 use Rattle.iox2_runs.proofs.CarriedDiscards.{discard_passed, discard_unwritten, discard_written}
 use Rattle.iox2_runs.proofs.LeavingSteps.{leaves-all, leaves-spending}
-use Rattle.iox2_pubsub.proofs.StaysBut.{nothing-is-new}
+use Rattle.iox2_pubsub.proofs.StaysBut.{stays-but-more, nothing-is-new}
 use Rattle.iox2_runs.specs.declared.runs.made.Made.TheVariants.{Nothing, Unwritten, Written}
 use Rattle.iox2_runs.proofs.runs.discards.discard.Goals as goal
 
@@ -38,12 +38,12 @@ returns-in_default-clause-carries g c =
 pub returns-in-Unwritten-clause-leaves : goal.returns-in-Unwritten-clause-leaves
 returns-in-Unwritten-clause-leaves g c =
     leaves-spending {T = g.row.T.Denot} {U = g.row.U.Denot} c.args.domain.now c.discard.new.domain c.args.table.now.items c.take.new.table.items c.args.of
-    (Unwritten c.in-Unwritten.sample) Nothing (sym c.take.ensures.made ∙ c.in-Unwritten.is) c.discard.ensures.stays (λ start new. nothing-is-new start) c.take.ensures.items
+    (Unwritten c.in-Unwritten.sample) Nothing (sym c.take.ensures.made ∙ c.in-Unwritten.is) (stays-but-more _ _ _ _ c.discard.ensures.stays) (λ start new. nothing-is-new start) c.take.ensures.items
 
 pub returns-in-Written-clause-leaves : goal.returns-in-Written-clause-leaves
 returns-in-Written-clause-leaves g c =
     leaves-spending {T = g.row.T.Denot} {U = g.row.U.Denot} c.args.domain.now c.discard-in-Written.new.domain c.args.table.now.items c.take.new.table.items c.args.of
-    (Written c.in-Written.sample) Nothing (sym c.take.ensures.made ∙ c.in-Written.is) c.discard-in-Written.ensures.stays (λ start new. nothing-is-new start) c.take.ensures.items
+    (Written c.in-Written.sample) Nothing (sym c.take.ensures.made ∙ c.in-Written.is) (stays-but-more _ _ _ _ c.discard-in-Written.ensures.stays) (λ start new. nothing-is-new start) c.take.ensures.items
 
 pub returns-in_default-clause-leaves : goal.returns-in_default-clause-leaves
 returns-in_default-clause-leaves g c =

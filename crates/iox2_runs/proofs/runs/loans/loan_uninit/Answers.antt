@@ -1,4 +1,4 @@
-use Rattle.std.proofs.Common.{refl, sym, ap, ◌∙◌}
+use Rattle.std.proofs.Common.{ℕ, refl, sym, ap, ◌∙◌}
 use Rattle.iox2_store.specs.machine.Environments.{fixed_handlers}
 use Rattle.iox2_runs.specs.Carries.{entry_for}
 use Rattle.iox2_runs.specs.declared.runs.made.Made.{Made}
@@ -6,9 +6,10 @@ use Rattle.iox2_runs.proofs.TableLooks.{is_publisher_entry}
 use Rattle.iox2_runs.proofs.TableEntries.{looked, looked_past, not_publisher}
 use Rattle.iox2_pubsub.proofs.LiveParts.{unwritten-parts}
 use Rattle.iox2_runs.proofs.Services.{single-here}
-use Rattle.iox2_runs.proofs.LiveEntries.{live_publisher}
-use Rattle.iox2_runs.proofs.CarriedLoans.{loan_passed, loan_of_other, loan_carried, loan_denied}
-use Rattle.iox2_runs.proofs.LeavingSteps.{leaves-all, leaves-making}
+use Rattle.iox2_pubsub.specs.Live.{A_loan, A_blocked_send, Both, publisher_key}
+use Rattle.iox2_runs.proofs.LiveEntries.{live_publisher, known_publisher, ready_publisher, shown_free, shown_waits}
+use Rattle.iox2_runs.proofs.CarriedLoans.{loan_passed, loan_of_other, loan_held_up, loan_carried, loan_denied}
+use Rattle.iox2_runs.proofs.LeavingSteps.{leaves-all, leaves-making, leaves-lending}
 use Rattle.iox2_pubsub.proofs.StaysBut.{nothing-is-new}
 use Rattle.iox2_runs.specs.declared.runs.made.Made.TheVariants.{Nothing, Unwritten}
 use Rattle.iox2_runs.proofs.runs.loans.loan_uninit.Goals as goal
@@ -18,11 +19,6 @@ returns-then-not-is_single_valued-clause-carries g c =
     loan_of_other {T = g.row.T.Denot} {U = g.row.U.Denot} fixed_handlers _ c.args.domain.now c.args.domain.now c.args.table.now c.args.table.now c.args.of
     (sym c.is_single_valued.ensures ∙ c.if-not-is_single_valued.true) refl
 
-pub loan_uninit-requires-clause-ready : goal.loan_uninit-requires-clause-ready
-loan_uninit-requires-clause-ready g c =
-    live_publisher {T = g.row.T.Denot} {U = g.row.U.Denot} c.args.domain.now c.args.table.now c.requires c.args.of c.in-Publisher.publisher
-    (looked c.args.table.now c.args.of c.get.result c.in-Some.made _ c.get.ensures.lookup c.in-Some.is c.in-Publisher.is)
-
 pub loan_uninit-requires-clause-single_valued : goal.loan_uninit-requires-clause-single_valued
 loan_uninit-requires-clause-single_valued g c = single-here {T = g.row.T.Denot} {U = g.row.U.Denot} c.args.domain.now (sym c.is_single_valued.ensures ∙ c.if-not-is_single_valued.false)
 
@@ -31,6 +27,7 @@ returns-in-Ok-clause-carries g c =
     loan_carried {T = g.row.T.Denot} {U = g.row.U.Denot} fixed_handlers _ c.args.domain.now c.loan_uninit.new.domain c.args.table.now c.args.table.now c.args.of
     refl c.in-Publisher.publisher c.in-Ok.sample
     (looked c.args.table.now c.args.of c.get.result c.in-Some.made _ c.get.ensures.lookup c.in-Some.is c.in-Publisher.is)
+    (shown_free {T = g.row.T.Denot} {U = g.row.U.Denot} c.args.domain.now (publisher_key c.in-Publisher.publisher) (c.is_blocked.ensures.0 c.if-is_blocked.false))
     (sym c.is_single_valued.ensures ∙ c.if-not-is_single_valued.false)
     c.in-Ok.ensures.lends (unwritten-parts {T = g.row.T.Denot} {U = g.row.U.Denot} c.loan_uninit.new.domain c.in-Ok.sample c.in-Ok.ensures.out).0 c.in-Ok.ensures.publisher c.in-Ok.ensures.number
 
@@ -39,6 +36,7 @@ returns-in-Err-clause-carries g c =
     loan_denied {T = g.row.T.Denot} {U = g.row.U.Denot} fixed_handlers _ c.args.domain.now c.loan_uninit.new.domain c.args.table.now c.args.table.now c.args.of
     refl c.in-Publisher.publisher c.in-Err.error
     (looked c.args.table.now c.args.of c.get.result c.in-Some.made _ c.get.ensures.lookup c.in-Some.is c.in-Publisher.is)
+    (shown_free {T = g.row.T.Denot} {U = g.row.U.Denot} c.args.domain.now (publisher_key c.in-Publisher.publisher) (c.is_blocked.ensures.0 c.if-is_blocked.false))
     (sym c.is_single_valued.ensures ∙ c.if-not-is_single_valued.false)
     c.in-Err.ensures.lends
 
@@ -58,7 +56,9 @@ returns-then-not-is_single_valued-clause-leaves g c =
 
 pub returns-in-Ok-clause-leaves : goal.returns-in-Ok-clause-leaves
 returns-in-Ok-clause-leaves g c =
-    leaves-making {T = g.row.T.Denot} {U = g.row.U.Denot} c.args.domain.now c.loan_uninit.new.domain c.args.table.now c.loan_uninit.ensures.stays (Unwritten c.in-Ok.sample) c.in-Ok.ensures.new
+    leaves-lending {T = g.row.T.Denot} {U = g.row.U.Denot} c.args.domain.now c.loan_uninit.new.domain c.args.table.now c.args.table.now refl c.args.of c.in-Publisher.publisher (Unwritten c.in-Ok.sample) (A_loan c.in-Ok.sample.loan.number)
+    (looked c.args.table.now c.args.of c.get.result c.in-Some.made _ c.get.ensures.lookup c.in-Some.is c.in-Publisher.is)
+    c.loan_uninit.ensures.stays c.in-Ok.ensures.new (ap (λ (p : ℕ). Both (A_loan c.in-Ok.sample.loan.number) (A_blocked_send p)) c.in-Ok.ensures.publisher)
 
 pub returns-in-Err-clause-leaves : goal.returns-in-Err-clause-leaves
 returns-in-Err-clause-leaves g c =
@@ -70,4 +70,22 @@ returns-in_default-made-clause-leaves g c =
 
 pub returns-in_default-clause-leaves : goal.returns-in_default-clause-leaves
 returns-in_default-clause-leaves g c =
+    leaves-all {T = g.row.T.Denot} {U = g.row.U.Denot} c.args.domain.now c.args.domain.now c.args.table.now c.args.table.now refl refl
+
+pub is_blocked-requires : goal.is_blocked-requires
+is_blocked-requires g c =
+    live_publisher {T = g.row.T.Denot} {U = g.row.U.Denot} c.args.domain.now c.args.table.now c.requires c.args.of c.in-Publisher.publisher (looked c.args.table.now c.args.of c.get.result c.in-Some.made _ c.get.ensures.lookup c.in-Some.is c.in-Publisher.is)
+
+pub loan_uninit-requires-clause-ready : goal.loan_uninit-requires-clause-ready
+loan_uninit-requires-clause-ready g c =
+    ready_publisher {T = g.row.T.Denot} {U = g.row.U.Denot} c.args.domain.now c.args.table.now c.requires c.args.of c.in-Publisher.publisher (looked c.args.table.now c.args.of c.get.result c.in-Some.made _ c.get.ensures.lookup c.in-Some.is c.in-Publisher.is) (c.is_blocked.ensures.0 c.if-is_blocked.false)
+
+pub returns-then-is_blocked-clause-carries : goal.returns-then-is_blocked-clause-carries
+returns-then-is_blocked-clause-carries g c =
+    loan_held_up {T = g.row.T.Denot} {U = g.row.U.Denot} fixed_handlers _ c.args.domain.now c.args.domain.now c.args.table.now c.args.table.now c.args.of refl c.in-Publisher.publisher
+    (looked c.args.table.now c.args.of c.get.result c.in-Some.made _ c.get.ensures.lookup c.in-Some.is c.in-Publisher.is)
+    (shown_waits {T = g.row.T.Denot} {U = g.row.U.Denot} c.args.domain.now (publisher_key c.in-Publisher.publisher) (known_publisher {T = g.row.T.Denot} {U = g.row.U.Denot} c.args.domain.now c.args.table.now c.requires c.args.of c.in-Publisher.publisher (looked c.args.table.now c.args.of c.get.result c.in-Some.made _ c.get.ensures.lookup c.in-Some.is c.in-Publisher.is)) c.is_blocked.result c.is_blocked.ensures c.if-is_blocked.true) refl
+
+pub returns-then-is_blocked-clause-leaves : goal.returns-then-is_blocked-clause-leaves
+returns-then-is_blocked-clause-leaves g c =
     leaves-all {T = g.row.T.Denot} {U = g.row.U.Denot} c.args.domain.now c.args.domain.now c.args.table.now c.args.table.now refl refl

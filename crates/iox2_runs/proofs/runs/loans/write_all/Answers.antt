@@ -9,8 +9,9 @@ use Rattle.iox2_runs.proofs.TableLooks.{is_unwritten_entry}
 use Rattle.iox2_runs.proofs.TableEntries.{put_back, set_again, not_unwritten}
 use Rattle.iox2_runs.proofs.LiveEntries.{live_unwritten}
 use Rattle.iox2_runs.proofs.CarriedLoans.{write_carried, write_passed}
+use Rattle.iox2_pubsub.proofs.StaysBut.{stays-but-more}
 use Rattle.iox2_runs.proofs.LeavingSteps.{leaves-all, leaves-spending}
-use Rattle.iox2_pubsub.specs.Live.{A_loan, IsNewIn}
+use Rattle.iox2_pubsub.specs.Live.{A_loan, IsNewIn, Both, A_blocked_send}
 use Rattle.iox2_runs.specs.declared.runs.made.Made.TheVariants.{Unwritten}
 use Rattle.iox2_runs.proofs.runs.loans.write_all.Goals as goal
 
@@ -35,8 +36,8 @@ returns-in_default-clause-carries g c =
 pub returns-in-Unwritten-clause-leaves : goal.returns-in-Unwritten-clause-leaves
 returns-in-Unwritten-clause-leaves g c =
     leaves-spending {T = g.row.T.Denot} {U = g.row.U.Denot} c.args.domain.now c.write_cells-sample.new.domain c.args.table.now.items c.put.new.table.items c.args.of
-    (Unwritten c.in-Unwritten.sample) (Written c.write_cells-sample.result) (sym c.take.ensures.made ∙ c.in-Unwritten.is) c.write_cells-sample.ensures.stays
-    (λ start new. subst (λ (k : Key). IsNewIn start (A_loan k.message)) (sym c.write_cells-sample.ensures.key) new)
+    (Unwritten c.in-Unwritten.sample) (Written c.write_cells-sample.result) (sym c.take.ensures.made ∙ c.in-Unwritten.is) (stays-but-more _ _ _ _ c.write_cells-sample.ensures.stays)
+    (λ start new. subst (λ (k : Key). IsNewIn start (Both (A_loan k.message) (A_blocked_send k.port))) (sym c.write_cells-sample.ensures.key) new)
     (c.put.ensures.items ∙ ap (λ (t : List Made). slice_set t c.args.of (Written c.write_cells-sample.result)) c.take.ensures.items ∙ set_again c.args.table.now.items c.args.of Nothing (Written c.write_cells-sample.result))
 
 pub returns-in_default-clause-leaves : goal.returns-in_default-clause-leaves
