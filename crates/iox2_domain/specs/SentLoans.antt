@@ -1,8 +1,6 @@
 -- A loan is sent.
 use Rattle.std.specs.Prelude.{◌≡◌, ◌⊎◌, ℕ, slice_index_or}
 use Rattle.std.specs.declared.option.Option.TheVariants.{None, Some}
-use Rattle.std.specs.declared.result.Result.{Result}
-use Rattle.std.specs.declared.result.Result.TheVariants.{Ok, Err}
 use Rattle.iox2_store.specs.machine.Loans.{entry_of}
 use Rattle.iox2_store.specs.machine.Numbers.{put_at}
 use Rattle.iox2_store.specs.machine.Records.{Entry, Loan, Environment}
@@ -10,11 +8,9 @@ use Rattle.iox2_store.specs.machine.Sends.{SendResult, Send, Send_error}
 use Rattle.iox2_store.specs.declared.errors.SendError.{SendError}
 use Rattle.iox2_store.specs.declared.errors.SendError.TheVariants.{UnableToDeliver}
 use Rattle.iox2_ends.specs.LookUp.{look_up}
-use Rattle.iox2_ends.specs.declared.sender.DeliveryOutcome.{DeliveryOutcome}
 use Rattle.iox2_domain.specs.Kept.{state_of, entries_of}
 use Rattle.iox2_domain.specs.Fields.{Fields, kept_of}
 use Rattle.iox2_domain.specs.Connects.{UpdatesPublisher}
-use Rattle.iox2_domain.specs.Deliveries.{result_of_send}
 use Rattle.iox2_domain.specs.Invariant.{IsDomain, is_publisher}
 use Rattle.iox2_domain.specs.LoanSlots.{LiesInSlot}
 use Rattle.iox2_domain.specs.Ports.{PublisherFields}
@@ -32,11 +28,6 @@ pub record IsReadyToSend {T U : Type 0} (environment : Environment) (old new : F
 pub record IsLeftLoan {T U : Type 0} (old new : Fields T U) (p : ℕ) : Type 0 where
   pub is_gone : look_up (is_publisher p) old.publishers ≡ None
   pub same : new ≡ old
-
--- The machine's result of a send: how its delivery ended, or an error.
-abbrev pub send_result : Result DeliveryOutcome SendError → SendResult
-send_result (Ok outcome) = result_of_send outcome
-send_result (Err error) = Send_error error
 
 -- The loan n was sent, with this result, and it is in its user's hands no more. Its entry may be newly kept, and no other is.
 pub record SendsLoan {T U : Type 0} (environment : Environment) (old new : Fields T U) (n : ℕ) (result : SendResult) : Type 0 where

@@ -165,15 +165,26 @@ impl Reception {
     {
         matches!(self, Reception::Failed)
     }
+}
 
-    fn accepted_count(self) -> usize
-        ensures value { result ≡ accepted_count (result_of self) }
-        ensures few { result ≤ 1 }
-    {
-        match self {
-            Reception::Accepted => 1,
-            Reception::Skipped | Reception::Failed | Reception::WouldBlock => 0,
-        }
+// One place more. It stands apart, so that at a receiver that takes the message nothing is counted.
+#[cold]
+#[inline(never)]
+fn one_more(missed: usize) -> usize
+    requires fits { missed + 1 < 2 ^ 64 }
+    ensures { result ≡ missed + 1 }
+{
+    missed + 1
+}
+
+// How many places have missed the message, with one at which it came to this.
+fn count_missed(missed: usize, reception: Reception) -> usize
+    requires fits { missed + 1 < 2 ^ 64 }
+    ensures { result + accepted_count (result_of reception) ≡ missed + 1 }
+{
+    match reception {
+        Reception::Accepted => missed,
+        Reception::Skipped | Reception::Failed | Reception::WouldBlock => one_more(missed),
     }
 }
 
@@ -366,7 +377,7 @@ pub fn deliver<R: Receiver, F: BackpressureFn>(
     ensures alone { GrowsAlone delivery.now.slot book.old.holders book.new.holders }
 {
     let start = delivery.start;
-    let mut count = start.count;
+    let mut missed = start.place - start.count;
     let mut has_failed = start.has_failed;
     for place in start.place..keys.len() {
         let reception = deliver_at(
@@ -383,14 +394,17 @@ pub fn deliver<R: Receiver, F: BackpressureFn>(
             return DeliveryOutcome::Suspended(Progress {
                 place,
                 retries: delivery.retries_at(place),
-                count,
+                count: place - missed,
                 has_failed,
             });
         }
-        count += reception.accepted_count();
+        missed = count_missed(missed, reception);
         has_failed |= reception.is_failed();
     }
-    DeliveryOutcome::Complete { count, has_failed }
+    DeliveryOutcome::Complete {
+        count: keys.len() - missed,
+        has_failed,
+    }
 }
 
 // Reclaims all slots that were given back in a connection.

@@ -11,10 +11,11 @@ ghost use Rattle.iox2_domain.specs.declared.publisher_state.BlockedDelivery.{Blo
 ghost use Rattle.iox2_domain.specs.Fields.{kept_of};
 ghost use Rattle.iox2_domain.specs.Kept.{state_of};
 ghost use Rattle.iox2_domain.specs.Invariant.{IsDomain};
-ghost use Rattle.iox2_domain.specs.Deliveries.{result_of_send};
 ghost use Rattle.iox2_domain.specs.BlockedSends.{with_outcome, counters_after, HasBlocked, CanGoOn, GoesOn, RetriesAs, GivesUpAs};
+ghost use Rattle.iox2_messages.specs.SendEnds.{IsKept, end_result};
 
 use crate::reclaims::reclaim;
+use crate::send_end::SendEnd;
 use iox2_domain::{BlockedDelivery, DomainState, PublisherState};
 use iox2_ends::sender::{Delivery, DeliveryOutcome, Progress, deliver};
 use iox2_store::{BackpressureHandler, SlotBook, UniquePublisherId};
@@ -139,11 +140,12 @@ pub fn retry_send<T: Drop, U: Default + Drop>(
     state: &mut DomainState<T, U>,
     place: usize,
     elapsed: Duration,
-) -> DeliveryOutcome
+) -> SendEnd
     requires agrees { IsDomain state.old }
     requires waits { HasBlocked state.old place }
-    ensures { (x : PublisherFields) (b : BlockedDelivery) → slice_index_or state.old.publishers place None ≡ Some x → x.blocked ≡ Some b
-        → RetriesAs fixed_handlers state.old state.new x b elapsed (result_of_send result) }
+    ensures goes { (x : PublisherFields) (b : BlockedDelivery) → slice_index_or state.old.publishers place None ≡ Some x → x.blocked ≡ Some b
+        → RetriesAs fixed_handlers state.old state.new x b elapsed (end_result result) }
+    ensures kept { IsKept result }
 {
     reclaim(state, place);
     let progress = progress_at(state, place);
@@ -151,7 +153,7 @@ pub fn retry_send<T: Drop, U: Default + Drop>(
         retries: more_retries(progress.retries),
         ..progress
     };
-    go_on(state, place, start, elapsed)
+    SendEnd::of(go_on(state, place, start, elapsed))
 }
 
 /// The blocked send of the publisher at a place goes on behind the receiver that it waits for, which
@@ -159,15 +161,16 @@ pub fn retry_send<T: Drop, U: Default + Drop>(
 pub fn give_up_send<T: Drop, U: Default + Drop>(
     state: &mut DomainState<T, U>,
     place: usize,
-) -> DeliveryOutcome
+) -> SendEnd
     requires agrees { IsDomain state.old }
     requires waits { HasBlocked state.old place }
-    ensures { (x : PublisherFields) (b : BlockedDelivery) → slice_index_or state.old.publishers place None ≡ Some x → x.blocked ≡ Some b
-        → GivesUpAs fixed_handlers state.old state.new x b (result_of_send result) }
+    ensures goes { (x : PublisherFields) (b : BlockedDelivery) → slice_index_or state.old.publishers place None ≡ Some x → x.blocked ≡ Some b
+        → GivesUpAs fixed_handlers state.old state.new x b (end_result result) }
+    ensures kept { IsKept result }
 {
     reclaim(state, place);
     let start = progress_behind(state, place);
-    go_on(state, place, start, Duration::ZERO)
+    SendEnd::of(go_on(state, place, start, Duration::ZERO))
 }
 
 // Whether the publisher that stands at a place waits for a receiver.

@@ -14,6 +14,7 @@ mod questions;
 mod receipts;
 mod reclaims;
 mod sample_reads;
+mod send_end;
 mod sends;
 
 pub use blocked_sends::{give_up_send, is_waiting, retry_send};
@@ -27,4 +28,5 @@ pub use loans::loan;
 pub use questions::has_samples_at;
 pub use receipts::{give_back, receive_at};
 pub use sample_reads::{sample_header, sample_payload, sample_payloads, sample_user_header};
+pub use send_end::SendEnd;
 pub use sends::send_loan;

@@ -1,19 +1,20 @@
 //! A loan is sent.
-ghost use Rattle.std.specs.Prelude.{◌≡◌, IsTrue, IsOk, MatchOption, false};
+ghost use Rattle.std.specs.Prelude.{◌≡◌, IsTrue, MatchOption, false};
 ghost use Rattle.iox2_store.specs.machine.Environments.{fixed_handlers};
 ghost use Rattle.iox2_store.specs.machine.SingleCalls.{HoldsPublisher};
 ghost use Rattle.iox2_domain.specs.Kept.{state_of};
 ghost use Rattle.iox2_domain.specs.Fields.{kept_of};
 ghost use Rattle.iox2_domain.specs.Invariant.{IsDomain};
 ghost use Rattle.iox2_domain.specs.LoanCalls.{HoldsWritten};
-ghost use Rattle.iox2_domain.specs.SentLoans.{IsLeftLoan, IsReadyToSend, SendsLoan, send_result};
+ghost use Rattle.iox2_domain.specs.SentLoans.{IsLeftLoan, IsReadyToSend, SendsLoan};
 ghost use Rattle.iox2_store.specs.machine.State.{is_blocked};
+ghost use Rattle.iox2_messages.specs.SendEnds.{IsKept, end_result};
 
 use crate::deliveries::send_slot;
+use crate::send_end::SendEnd;
 use iox2_domain::{DomainState, LoanAt};
-use iox2_ends::sender::DeliveryOutcome;
 use iox2_ports::update_publisher;
-use iox2_store::{SendError, UniquePublisherId};
+use iox2_store::UniquePublisherId;
 
 // Whether the loan lies where its handle says, and its publisher is due for no update.
 fn is_ready<T: Drop, U: Default + Drop>(state: &DomainState<T, U>, loan: &LoanAt) -> bool
@@ -66,39 +67,36 @@ fn update_and_send<T: Drop, U: Default + Drop>(
     state: &mut DomainState<T, U>,
     publisher: UniquePublisherId,
     number: u128,
-) -> Result<DeliveryOutcome, SendError>
+) -> SendEnd
     requires agrees { IsDomain state.old }
     requires live { HoldsWritten (state_of (kept_of state.old)) publisher number }
     requires unblocked { is_blocked (state_of (kept_of state.old)) publisher ≡ false }
-    ensures sends { SendsLoan fixed_handlers state.old state.new number (send_result result) }
-    ensures ok { HoldsPublisher (state_of (kept_of state.old)) publisher → IsOk result }
+    ensures sends { SendsLoan fixed_handlers state.old state.new number (end_result result) }
+    ensures kept { HoldsPublisher (state_of (kept_of state.old)) publisher → IsKept result }
 {
     let Some(ready) = update_and_find(state, publisher, number) else {
         let at = state.search_loan(publisher, number);
         state.let_go(at.book, at.slot);
-        return Err(SendError::ConnectionBrokenSinceSenderNoLongerExists);
+        return SendEnd::Lost;
     };
-    Ok(send_slot(state, ready.place, ready.slot))
+    SendEnd::of(send_slot(state, ready.place, ready.slot))
 }
 
 /// Sends a publisher's written loan to its receivers, and returns how that ended. The publisher's
 /// connections are updated first. Where memory for a connection is refused, that is a warning. Of a
-/// publisher that is gone the loan is lost, which is an error. The loan is out no more afterwards,
-/// unless the send is blocked.
+/// publisher that is gone the loan is lost. The loan is out no more afterwards, unless the send is
+/// blocked.
 ///
 /// iceoryx2's `PublisherSharedState::send_sample` (`src/port/publisher.rs`).
-pub fn send_loan<T: Drop, U: Default + Drop>(
-    state: &mut DomainState<T, U>,
-    loan: LoanAt,
-) -> Result<DeliveryOutcome, SendError>
+pub fn send_loan<T: Drop, U: Default + Drop>(state: &mut DomainState<T, U>, loan: LoanAt) -> SendEnd
     requires agrees { IsDomain state.old }
     requires live { HoldsWritten (state_of (kept_of state.old)) loan.publisher loan.number }
     requires unblocked { is_blocked (state_of (kept_of state.old)) loan.publisher ≡ false }
-    ensures sends { SendsLoan fixed_handlers state.old state.new loan.number (send_result result) }
-    ensures ok { HoldsPublisher (state_of (kept_of state.old)) loan.publisher → IsOk result }
+    ensures sends { SendsLoan fixed_handlers state.old state.new loan.number (end_result result) }
+    ensures kept { HoldsPublisher (state_of (kept_of state.old)) loan.publisher → IsKept result }
 {
     if is_ready(state, &loan) {
-        return Ok(send_slot(state, loan.place, loan.slot));
+        return SendEnd::of(send_slot(state, loan.place, loan.slot));
     }
     update_and_send(state, loan.publisher, loan.number)
 }

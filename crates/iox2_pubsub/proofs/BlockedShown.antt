@@ -36,9 +36,8 @@ use Rattle.std.specs.declared.result.Result.TheVariants.{Ok, Err}
 use Rattle.iox2_store.specs.declared.errors.SendError.{SendError}
 use Rattle.iox2_store.specs.declared.errors.SendError.TheVariants.{UnableToDeliver}
 use Rattle.iox2_store.specs.declared.key.Key.{Key}
-use Rattle.iox2_ends.specs.declared.sender.DeliveryOutcome.{DeliveryOutcome}
-use Rattle.iox2_ends.specs.declared.sender.DeliveryOutcome.TheVariants.{Complete as DeliveredAll, Suspended as HeldUp}
-use Rattle.iox2_domain.specs.Deliveries.{result_of_send as result_of_delivery}
+use Rattle.iox2_messages.specs.SendEnds.{IsKept, end_result}
+use Rattle.iox2_messages.specs.declared.send_end.SendEnd.{SendEnd}
 use Rattle.iox2_pubsub.proofs.StaysBut.{IsSpared, stays-between}
 
 module _ {T U : Type 0} (f : Fields T U) (sound : IsDomain f) (i p n : ℕ) (found : (x : PublisherFields) × (slice_index_or f.publishers i None ≡ Some x) × (x.id ≡ p))
@@ -139,8 +138,9 @@ module _ {T U : Type 0} (new : Kept T U) (m : Messages T U) (s s' : State T U) (
   give-up-frees-key h = freed (give_up_remains fixed_handlers s p b s' result h) (give_up_frees fixed_handlers s p b s' result free h)
 
 -- the one error is that of a handler
-pub only-undelivered : (outcome : DeliveryOutcome) (result : Result SendOutcome SendError) → result_of_send result ≡ result_of_delivery outcome → IfErr result (λ error. error ≡ UnableToDeliver)
-only-undelivered outcome (Ok came) is = tt
-only-undelivered (DeliveredAll count false) (Err error) is = absurd (let clash : Send_error error ≡ Delivered_to count = is in cc)
-only-undelivered (DeliveredAll count true) (Err error) is = let same : Send_error error ≡ Send_error UnableToDeliver = is in cc
-only-undelivered (HeldUp progress) (Err error) is = absurd (let clash : Send_error error ≡ Blocked_send = is in cc)
+pub only-undelivered : (end : SendEnd) → IsKept end → (result : Result SendOutcome SendError) → result_of_send result ≡ end_result end → IfErr result (λ error. error ≡ UnableToDeliver)
+only-undelivered end kept (Ok came) is = tt
+only-undelivered (SendEnd.Delivered count) kept (Err error) is = absurd (let clash : Send_error error ≡ Delivered_to count = is in cc)
+only-undelivered SendEnd.Undelivered kept (Err error) is = let same : Send_error error ≡ Send_error UnableToDeliver = is in cc
+only-undelivered SendEnd.Blocked kept (Err error) is = absurd (let clash : Send_error error ≡ Blocked_send = is in cc)
+only-undelivered SendEnd.Lost kept (Err error) is = absurd kept

@@ -18,7 +18,6 @@ use Rattle.iox2_store.specs.machine.Mailbox.{Mailbox}
 use Rattle.iox2_store.specs.declared.backpressure.BackpressureAction.{BackpressureAction}
 use Rattle.iox2_store.specs.declared.backpressure.BackpressureStrategy.TheVariants.{DiscardData}
 use Rattle.iox2_store.specs.declared.key.Key.{Key}
-use Rattle.iox2_ends.specs.declared.sender.DeliveryOutcome.{DeliveryOutcome}
 use Rattle.iox2_laws.proofs.Waits.{waits_trans, update_publisher_waits, published_waits}
 use Rattle.iox2_domain.proofs.lemmas.sends.DeliverySteps.{never-waits}
 use Rattle.iox2_domain.specs.Kept.{Kept}
@@ -30,7 +29,9 @@ use Rattle.iox2_laws.proofs.Puts.{put_at-same, put_at-other}
 use Rattle.iox2_laws.proofs.SendLaws.{send_advances}
 use Rattle.iox2_domain.specs.Fields.{Fields, kept_of}
 use Rattle.iox2_domain.specs.Kept.{state_of}
-use Rattle.iox2_domain.specs.SentLoans.{SendsLoan, send_result}
+use Rattle.iox2_domain.specs.SentLoans.{SendsLoan}
+use Rattle.iox2_messages.specs.SendEnds.{IsKept, end_result}
+use Rattle.iox2_messages.specs.declared.send_end.SendEnd.{SendEnd}
 use Rattle.iox2_domain.specs.Shows.{Shows}
 use Rattle.std.specs.declared.result.Result.{Result}
 use Rattle.std.specs.declared.result.Result.TheVariants.{Ok, Err}
@@ -116,23 +117,23 @@ module _ {T U : Type 0} (environment : Environment) (f g : Fields T U) (n : ℕ)
   sent-shown (Err error) is = lost-shown error is
 
 -- a send that hadn't failed succeeds
-pub only-ok : (sent : Result DeliveryOutcome SendError) → IsOk sent → (send_result sent ≡ Send_error UnableToDeliver → ⊥) → (outcome : Result SendOutcome SendError) → result_of_send outcome ≡ send_result sent
+pub only-ok : (end : SendEnd) → IsKept end → (end_result end ≡ Send_error UnableToDeliver → ⊥) → (outcome : Result SendOutcome SendError) → result_of_send outcome ≡ end_result end
     → IsOk outcome
-only-ok sent ok unfailed (Ok came) is = refl
-only-ok (Ok (DeliveryOutcome.Complete count true)) ok unfailed (Err error) is = absurd (unfailed refl)
-only-ok (Ok (DeliveryOutcome.Complete count false)) ok unfailed (Err error) is = let clash : Send_error error ≡ Delivered_to count = is in absurd cc
-only-ok (Ok (DeliveryOutcome.Suspended progress)) ok unfailed (Err error) is = let clash : Send_error error ≡ Blocked_send = is in absurd cc
-only-ok (Err e) ok unfailed (Err error) is = absurd (let no : false ≡ true = ok in cc)
+only-ok end kept unfailed (Ok came) is = refl
+only-ok (SendEnd.Delivered count) kept unfailed (Err error) is = let clash : Send_error error ≡ Delivered_to count = is in absurd cc
+only-ok SendEnd.Undelivered kept unfailed (Err error) is = absurd (unfailed refl)
+only-ok SendEnd.Blocked kept unfailed (Err error) is = let clash : Send_error error ≡ Blocked_send = is in absurd cc
+only-ok SendEnd.Lost kept unfailed (Err error) is = absurd kept
 
 -- a send whose publisher is there succeeds, and so each error is that it is gone
-pub only-error : {T U : Type 0} (f g : Fields T U) (n p : ℕ) (sent : Result DeliveryOutcome SendError) → (HoldsPublisher (state_of (kept_of f)) p → IsOk sent)
-    → (sends : SendsLoan fixed_handlers f g n (send_result sent)) → sends.loan.publisher ≡ p
-    → (outcome : Result SendOutcome SendError) → result_of_send outcome ≡ send_result sent → IfErr outcome (λ error. error ≡ ConnectionBrokenSinceSenderNoLongerExists)
-only-error {T} {U} f g n p sent ok sends its (Ok delivered) is = tt
-only-error {T} {U} f g n p sent ok sends its (Err error) is =
+pub only-error : {T U : Type 0} (f g : Fields T U) (n p : ℕ) (end : SendEnd) → (HoldsPublisher (state_of (kept_of f)) p → IsKept end)
+    → (sends : SendsLoan fixed_handlers f g n (end_result end)) → sends.loan.publisher ≡ p
+    → (outcome : Result SendOutcome SendError) → result_of_send outcome ≡ end_result end → IfErr outcome (λ error. error ≡ ConnectionBrokenSinceSenderNoLongerExists)
+only-error {T} {U} f g n p end kept sends its (Ok delivered) is = tt
+only-error {T} {U} f g n p end kept sends its (Err error) is =
     by_option (error ≡ ConnectionBrokenSinceSenderNoLongerExists) ((state_of (kept_of f)).publishers sends.loan.publisher) _ _ sends.sends
     (λ _ gone. let same : Send_error error ≡ Send_error ConnectionBrokenSinceSenderNoLongerExists = is ∙ gone.1 in cc)
-    (λ x there _. absurd (let no : false ≡ true = only-ok sent (ok (x, ap (state_of (kept_of f)).publishers (sym its) ∙ there)) sends.unfailed (Err error) is in cc))
+    (λ x there _. absurd (let no : false ≡ true = only-ok end (kept (x, ap (state_of (kept_of f)).publishers (sym its) ∙ there)) sends.unfailed (Err error) is in cc))
 
 -- ---- a send that is blocked
 

@@ -52,8 +52,8 @@ impl BlockedSend {
     {
         let BlockedSend { service_id, loan } = self;
         let place = domain.state.find_live_publisher(loan.publisher, loan.place);
-        let outcome = retry_send(&mut domain.state, place, elapsed);
-        outcome_of(BlockedSend { service_id, loan }, Ok(outcome))
+        let end = retry_send(&mut domain.state, place, elapsed);
+        outcome_of(BlockedSend { service_id, loan }, end)
     }
 
     /// Gives up the subscriber that the send waits for, and goes on to those that remain. That
@@ -81,7 +81,7 @@ impl BlockedSend {
     {
         let BlockedSend { service_id, loan } = self;
         let place = domain.state.find_live_publisher(loan.publisher, loan.place);
-        let outcome = give_up_send(&mut domain.state, place);
-        outcome_of(BlockedSend { service_id, loan }, Ok(outcome))
+        let end = give_up_send(&mut domain.state, place);
+        outcome_of(BlockedSend { service_id, loan }, end)
     }
 }

@@ -1,6 +1,6 @@
 //! A message is sent.
 ghost use Rattle.std.specs.Prelude.{◌≡◌, IfErr, IfOk, IsOk, ◌+◌};
-ghost use Rattle.iox2_domain.specs.SentLoans.{send_result};
+ghost use Rattle.iox2_messages.specs.SendEnds.{end_result};
 ghost use Rattle.iox2_pubsub.specs.SendCalls.{IfBlocked, result_of_send};
 
 use crate::blocked_send::BlockedSend;
@@ -8,8 +8,7 @@ use crate::domain::Domain;
 use crate::sample_mut::SampleMut;
 use crate::send_outcome::SendOutcome;
 use iox2_domain::LoanAt;
-use iox2_ends::sender::DeliveryOutcome;
-use iox2_messages::send_loan;
+use iox2_messages::{SendEnd, send_loan};
 use iox2_store::{BackpressureFn, DegradationFn, SendError};
 
 impl SampleMut {
@@ -71,28 +70,24 @@ impl SampleMut {
     }
 }
 
-/// What came of a send of which the delivery ended so, or that failed. Where it is blocked it has
-/// this handle.
-pub(crate) fn outcome_of(
-    blocked: BlockedSend,
-    sent: Result<DeliveryOutcome, SendError>,
-) -> Result<SendOutcome, SendError>
-    ensures same { result_of_send result ≡ send_result sent }
+/// What came of a send that ended so. Where it is blocked it has this handle.
+pub(crate) fn outcome_of(blocked: BlockedSend, end: SendEnd) -> Result<SendOutcome, SendError>
+    ensures same { result_of_send result ≡ end_result end }
     ensures blocked { IfOk result (λ came. IfBlocked came (λ it. it ≡ blocked)) }
 {
-    match sent {
-        Ok(DeliveryOutcome::Complete { count, has_failed }) => {
+    match end {
+        SendEnd::Delivered(count) => {
             blocked.disown();
-            if has_failed {
-                Err(SendError::UnableToDeliver)
-            } else {
-                Ok(SendOutcome::Delivered(count))
-            }
+            Ok(SendOutcome::Delivered(count))
         }
-        Ok(DeliveryOutcome::Suspended(_)) => Ok(SendOutcome::Blocked(blocked)),
-        Err(error) => {
+        SendEnd::Undelivered => {
             blocked.disown();
-            Err(error)
+            Err(SendError::UnableToDeliver)
+        }
+        SendEnd::Blocked => Ok(SendOutcome::Blocked(blocked)),
+        SendEnd::Lost => {
+            blocked.disown();
+            Err(SendError::ConnectionBrokenSinceSenderNoLongerExists)
         }
     }
 }

@@ -10,8 +10,8 @@ go_on-requires-clause-can g c = λ x b at waits.
     let is = c.progress_behind-start.ensures x b at waits in
     can-give_up c.reclaim.new.state c.reclaim.ensures.reaches.agrees c.args.place x at b waits _ (ap (λ (v : Progress). v.place) is) (ap (λ (v : Progress). v.count) is)
 
-pub returns : goal.returns
-returns g c = λ x b at waits.
+pub returns-clause-goes : goal.returns-clause-goes
+returns-clause-goes g c = λ x b at waits.
     let now = ap (λ (f : Fields g.row.T.Denot g.row.U.Denot). get_or f.publishers c.args.place None) c.reclaim.ensures.only ∙ at in
-    gives-up-as fixed_handlers c.args.state.now c.reclaim.new.state c.go_on.new.state c.requires.agrees c.reclaim.ensures.reaches c.args.place x at now b waits c.go_on.result _
-    (c.progress_behind-start.ensures x b now waits) (c.go_on.ensures x b now waits)
+    rw c.of.ensures.same (gives-up-as fixed_handlers c.args.state.now c.reclaim.new.state c.go_on.new.state c.requires.agrees c.reclaim.ensures.reaches c.args.place x at now b waits c.go_on.result _
+    (c.progress_behind-start.ensures x b now waits) (c.go_on.ensures x b now waits))

@@ -20,5 +20,5 @@ send_slot-requires-clause-can g c =
 pub returns-then-is_ready-clause-sends : goal.returns-then-is_ready-clause-sends
 returns-then-is_ready-clause-sends g c =
     let r = c.is_ready.ensures c.if-is_ready.true in
-    sends-loan fixed_handlers c.args.state.now c.requires.agrees c.args.loan.publisher c.args.loan.number c.args.loan.place c.requires.live (r.publisher, r.stands, r.is_its) (free-of c.args.state.now c.requires.agrees.parts c.args.loan.publisher c.args.loan.place r.publisher r.stands r.is_its c.requires.unblocked) c.args.state.now r.updated
-    r.key c.args.loan.slot r.lies c.send_slot.result c.send_slot.new.state c.send_slot.ensures
+    rw c.of.ensures.same (sends-loan fixed_handlers c.args.state.now c.requires.agrees c.args.loan.publisher c.args.loan.number c.args.loan.place c.requires.live (r.publisher, r.stands, r.is_its) (free-of c.args.state.now c.requires.agrees.parts c.args.loan.publisher c.args.loan.place r.publisher r.stands r.is_its c.requires.unblocked) c.args.state.now r.updated
+    r.key c.args.loan.slot r.lies c.send_slot.result c.send_slot.new.state c.send_slot.ensures)

@@ -31,8 +31,8 @@ send_slot-requires-clause-can g c =
 pub returns-clause-sends : goal.returns-clause-sends
 returns-clause-sends g c =
     let r = c.in-Some.ensures in
-    sends-loan fixed_handlers c.args.state.now c.requires.agrees c.args.publisher c.args.number c.in-Some.ready.place c.requires.live (r.publisher, r.stands, r.is_its) (free-of c.args.state.now c.requires.agrees.parts c.args.publisher c.in-Some.ready.place r.publisher r.stands r.is_its c.requires.unblocked) c.update_and_find.new.state r.updated
-    r.key c.in-Some.ready.slot r.lies c.send_slot.result c.send_slot.new.state c.send_slot.ensures
+    rw c.of.ensures.same (sends-loan fixed_handlers c.args.state.now c.requires.agrees c.args.publisher c.args.number c.in-Some.ready.place c.requires.live (r.publisher, r.stands, r.is_its) (free-of c.args.state.now c.requires.agrees.parts c.args.publisher c.in-Some.ready.place r.publisher r.stands r.is_its c.requires.unblocked) c.update_and_find.new.state r.updated
+    r.key c.in-Some.ready.slot r.lies c.send_slot.result c.send_slot.new.state c.send_slot.ensures)
 
 -- ---- of a publisher that is gone
 
@@ -56,6 +56,6 @@ returns-in_default-clause-sends g c =
     (ap (λ (f : Fields g.row.T.Denot g.row.U.Denot). look_up (is_publisher c.args.publisher) f.publishers) c.in_default.ensures.same ∙ c.in_default.ensures.is_gone)
     fixed_handlers c.let_go.new.self c.let_go.ensures)
 
-pub returns-in_default-clause-ok : goal.returns-in_default-clause-ok
-returns-in_default-clause-ok g c = λ holds.
+pub returns-in_default-clause-kept : goal.returns-in_default-clause-kept
+returns-in_default-clause-kept g c = λ holds.
     let no : None ≡ Some holds.0 = sym (unknown c.args.state.now c.args.publisher (stands-nowhere c.args.state.now.publishers c.args.publisher c.in_default.ensures.is_gone)) ∙ holds.1 in absurd cc

@@ -7,7 +7,7 @@ use Rattle.iox2_store.specs.machine.SingleCalls.{HoldsBlocked}
 use Rattle.iox2_store.specs.machine.State.{State}
 use Rattle.iox2_store.specs.declared.service_config.ServiceConfig.{ServiceConfig}
 use Rattle.iox2_laws.proofs.SendsRemain.{give_up_waits_with}
-use Rattle.iox2_domain.specs.Deliveries.{result_of_send as result_of_delivery}
+use Rattle.iox2_messages.specs.SendEnds.{end_result}
 use Rattle.iox2_domain.specs.Fields.{Fields, kept_of}
 use Rattle.iox2_domain.specs.Kept.{Kept, state_of}
 use Rattle.iox2_domain.specs.Shows.{Shows}
@@ -29,8 +29,8 @@ find_live_publisher-place-requires g c = λ none.
     let no : None ≡ Some held.0 = sym (unknown c.domain.inside.state c.args.self.loan.publisher (stands-nowhere c.domain.inside.state.publishers c.args.self.loan.publisher none)) ∙ held.2 in
     absurd cc
 
-pub give_up_send-outcome-requires-clause-waits : goal.give_up_send-outcome-requires-clause-waits
-give_up_send-outcome-requires-clause-waits g c =
+pub give_up_send-end-requires-clause-waits : goal.give_up_send-end-requires-clause-waits
+give_up_send-end-requires-clause-waits g c =
     has-blocked c.domain.inside.state c.domain.invariant c.find_live_publisher-place.result c.args.self.loan.publisher c.args.self.loan.number c.find_live_publisher-place.ensures
     (subst (λ (k : Kept g.row.T.Denot g.row.U.Denot). HoldsBlocked (state_of k) c.args.self.loan.publisher c.args.self.loan.number) (sym c.domain.view_is) (blocked-parts c.args.domain.now (blocked_key c.args.self) c.requires).1)
 
@@ -38,21 +38,21 @@ pub invariant_of-domain : goal.invariant_of-domain
 invariant_of-domain g c =
     let d = some-waits c.domain.inside.state c.domain.invariant c.find_live_publisher-place.result c.args.self.loan.publisher c.args.self.loan.number c.find_live_publisher-place.ensures
     (subst (λ (k : Kept g.row.T.Denot g.row.U.Denot). HoldsBlocked (state_of k) c.args.self.loan.publisher c.args.self.loan.number) (sym c.domain.view_is) (blocked-parts c.args.domain.now (blocked_key c.args.self) c.requires).1) in
-    (c.give_up_send-outcome.ensures c.find_live_publisher-place.ensures.0 (d).0 c.find_live_publisher-place.ensures.1 (d).1).agrees
+    (c.give_up_send-end.ensures.goes c.find_live_publisher-place.ensures.0 (d).0 c.find_live_publisher-place.ensures.1 (d).1).agrees
 
 pub returns-clause-gives_up : goal.returns-clause-gives_up
 returns-clause-gives_up g c = λ m s x b shown at waits.
     let d = some-waits c.domain.inside.state c.domain.invariant c.find_live_publisher-place.result c.args.self.loan.publisher c.args.self.loan.number c.find_live_publisher-place.ensures
     (subst (λ (k : Kept g.row.T.Denot g.row.U.Denot). HoldsBlocked (state_of k) c.args.self.loan.publisher c.args.self.loan.number) (sym c.domain.view_is) (blocked-parts c.args.domain.now (blocked_key c.args.self) c.requires).1) in
-    let step = c.give_up_send-outcome.ensures c.find_live_publisher-place.ensures.0 (d).0 c.find_live_publisher-place.ensures.1 (d).1 in
-    let after : State g.row.T.Denot g.row.U.Denot = state_of (kept_of c.give_up_send-outcome.new.state) in
-    let machine : GiveUp fixed_handlers s c.args.self.loan.publisher b after (result_of_delivery c.give_up_send-outcome.result) =
+    let step = c.give_up_send-end.ensures.goes c.find_live_publisher-place.ensures.0 (d).0 c.find_live_publisher-place.ensures.1 (d).1 in
+    let after : State g.row.T.Denot g.row.U.Denot = state_of (kept_of c.give_up_send-end.new.state) in
+    let machine : GiveUp fixed_handlers s c.args.self.loan.publisher b after (end_result c.give_up_send-end.result) =
     as-machine c.domain.inside.state c.domain.invariant c.find_live_publisher-place.result c.args.self.loan.publisher c.args.self.loan.number c.find_live_publisher-place.ensures
     (subst (λ (k : Kept g.row.T.Denot g.row.U.Denot). HoldsBlocked (state_of k) c.args.self.loan.publisher c.args.self.loan.number) (sym c.domain.view_is) (blocked-parts c.args.domain.now (blocked_key c.args.self) c.requires).1)
     c.args.domain.now c.domain.view_is m s shown x b at waits
-    (λ t q w. GiveUp fixed_handlers t q w after (result_of_delivery c.give_up_send-outcome.result)) step.gives_up in (
+    (λ t q w. GiveUp fixed_handlers t q w after (end_result c.give_up_send-end.result)) step.gives_up in (
       after,
-      give-up-shown {T = g.row.T.Denot} {U = g.row.U.Denot} c.domain.inside.state c.give_up_send-outcome.new.state c.args.domain.now c.domain.view_is m s shown c.args.self.loan.publisher (result_of_delivery c.give_up_send-outcome.result) b
+      give-up-shown {T = g.row.T.Denot} {U = g.row.U.Denot} c.domain.inside.state c.give_up_send-end.new.state c.args.domain.now c.domain.view_is m s shown c.args.self.loan.publisher (end_result c.give_up_send-end.result) b
           step.agrees machine step.entries,
       subst (GiveUp fixed_handlers s c.args.self.loan.publisher b after) (sym c.outcome_of.ensures.same) machine,
     )
@@ -65,8 +65,8 @@ returns-clause-stays g c =
     let next = returns-clause-gives_up g c it.0 it.1 held.0 held.1 it.2 at held.3 in
     let d = some-waits c.domain.inside.state c.domain.invariant c.find_live_publisher-place.result c.args.self.loan.publisher c.args.self.loan.number c.find_live_publisher-place.ensures
     (subst (λ (k : Kept g.row.T.Denot g.row.U.Denot). HoldsBlocked (state_of k) c.args.self.loan.publisher c.args.self.loan.number) (sym c.domain.view_is) (blocked-parts c.args.domain.now (blocked_key c.args.self) c.requires).1) in
-    let step = c.give_up_send-outcome.ensures c.find_live_publisher-place.ensures.0 (d).0 c.find_live_publisher-place.ensures.1 (d).1 in
-    give-up-stays {T = g.row.T.Denot} {U = g.row.U.Denot} c.domain.inside.state c.give_up_send-outcome.new.state c.args.domain.now c.domain.view_is it.0 it.1 it.2 c.args.self.loan.publisher (result_of_send c.outcome_of.result) held.1
+    let step = c.give_up_send-end.ensures.goes c.find_live_publisher-place.ensures.0 (d).0 c.find_live_publisher-place.ensures.1 (d).1 in
+    give-up-stays {T = g.row.T.Denot} {U = g.row.U.Denot} c.domain.inside.state c.give_up_send-end.new.state c.args.domain.now c.domain.view_is it.0 it.1 it.2 c.args.self.loan.publisher (result_of_send c.outcome_of.result) held.1
     step.agrees (subst (λ (t : State g.row.T.Denot g.row.U.Denot). GiveUp fixed_handlers it.1 c.args.self.loan.publisher held.1 t (result_of_send c.outcome_of.result)) (next.1).state next.2) step.entries
 
 pub returns-clause-blocked : goal.returns-clause-blocked
@@ -76,16 +76,16 @@ returns-clause-blocked g c =
     let held = parts.1 in
     let at = ap (λ (t : State g.row.T.Denot g.row.U.Denot). t.publishers c.args.self.loan.publisher) (it.2).state ∙ held.2 in
     let next = returns-clause-gives_up g c it.0 it.1 held.0 held.1 it.2 at held.3 in
-    is-blocked {T = g.row.T.Denot} {U = g.row.U.Denot} (kept_of c.give_up_send-outcome.new.state) (blocked_key c.args.self) c.args.self refl c.outcome_of.result c.outcome_of.ensures.blocked (λ blocked.
-    blocked-live (kept_of c.give_up_send-outcome.new.state) (blocked_key c.args.self) (
+    is-blocked {T = g.row.T.Denot} {U = g.row.U.Denot} (kept_of c.give_up_send-end.new.state) (blocked_key c.args.self) c.args.self refl c.outcome_of.result c.outcome_of.ensures.blocked (λ blocked.
+    blocked-live (kept_of c.give_up_send-end.new.state) (blocked_key c.args.self) (
       parts.0 ∙ sym (ap (λ (k : ServiceConfig). k.service_id) (returns-clause-stays g c).settings),
-      subst (HoldsBlocked (state_of (kept_of c.give_up_send-outcome.new.state)) c.args.self.loan.publisher) held.4
+      subst (HoldsBlocked (state_of (kept_of c.give_up_send-end.new.state)) c.args.self.loan.publisher) held.4
           (subst (λ (t : State g.row.T.Denot g.row.U.Denot). HoldsBlocked t c.args.self.loan.publisher held.1.message) (next.1).state
           (give_up_waits_with fixed_handlers it.1 c.args.self.loan.publisher held.1 next.0 _ next.2 blocked)),
     ))
 
 pub returns-clause-failed : goal.returns-clause-failed
-returns-clause-failed g c = only-undelivered c.give_up_send-outcome.result c.outcome_of.result c.outcome_of.ensures.same
+returns-clause-failed g c = only-undelivered c.give_up_send-end.result c.give_up_send-end.ensures.kept c.outcome_of.result c.outcome_of.ensures.same
 
 pub returns-clause-freed : goal.returns-clause-freed
 returns-clause-freed g c = λ ends.
@@ -93,7 +93,7 @@ returns-clause-freed g c = λ ends.
     let held = (blocked-parts c.args.domain.now (blocked_key c.args.self) c.requires).1 in
     let at = ap (λ (t : State g.row.T.Denot g.row.U.Denot). t.publishers c.args.self.loan.publisher) (it.2).state ∙ held.2 in
     let next = returns-clause-gives_up g c it.0 it.1 held.0 held.1 it.2 at held.3 in
-    give-up-frees-key {T = g.row.T.Denot} {U = g.row.U.Denot} (kept_of c.give_up_send-outcome.new.state) it.0 it.1 next.0 next.1 c.args.self.loan.publisher held.0 held.1 at (result_of_send c.outcome_of.result) (sent-free c.outcome_of.result ends) next.2 (lender_key (blocked_key c.args.self)) refl
+    give-up-frees-key {T = g.row.T.Denot} {U = g.row.U.Denot} (kept_of c.give_up_send-end.new.state) it.0 it.1 next.0 next.1 c.args.self.loan.publisher held.0 held.1 at (result_of_send c.outcome_of.result) (sent-free c.outcome_of.result ends) next.2 (lender_key (blocked_key c.args.self)) refl
 
 pub returns-clause-loans_freed : goal.returns-clause-loans_freed
 returns-clause-loans_freed g c = λ ends loan its.
@@ -101,7 +101,7 @@ returns-clause-loans_freed g c = λ ends loan its.
     let held = (blocked-parts c.args.domain.now (blocked_key c.args.self) c.requires).1 in
     let at = ap (λ (t : State g.row.T.Denot g.row.U.Denot). t.publishers c.args.self.loan.publisher) (it.2).state ∙ held.2 in
     let next = returns-clause-gives_up g c it.0 it.1 held.0 held.1 it.2 at held.3 in
-    give-up-frees-key {T = g.row.T.Denot} {U = g.row.U.Denot} (kept_of c.give_up_send-outcome.new.state) it.0 it.1 next.0 next.1 c.args.self.loan.publisher held.0 held.1 at (result_of_send c.outcome_of.result) (sent-free c.outcome_of.result ends) next.2 (written_key loan) its
+    give-up-frees-key {T = g.row.T.Denot} {U = g.row.U.Denot} (kept_of c.give_up_send-end.new.state) it.0 it.1 next.0 next.1 c.args.self.loan.publisher held.0 held.1 at (result_of_send c.outcome_of.result) (sent-free c.outcome_of.result ends) next.2 (written_key loan) its
 
 pub returns-clause-adds : goal.returns-clause-adds
 returns-clause-adds g c =
@@ -109,7 +109,7 @@ returns-clause-adds g c =
     let held = (blocked-parts c.args.domain.now (blocked_key c.args.self) c.requires).1 in
     let at = ap (λ (t : State g.row.T.Denot g.row.U.Denot). t.publishers c.args.self.loan.publisher) (it.2).state ∙ held.2 in
     let next = returns-clause-gives_up g c it.0 it.1 held.0 held.1 it.2 at held.3 in
-    give-up-adds {T = g.row.T.Denot} {U = g.row.U.Denot} c.args.domain.now (kept_of c.give_up_send-outcome.new.state) it.0 it.0 it.1 next.0 it.2 next.1 fixed_handlers c.args.self.loan.publisher held.0 held.1 (result_of_send c.outcome_of.result) at held.3 next.2
+    give-up-adds {T = g.row.T.Denot} {U = g.row.U.Denot} c.args.domain.now (kept_of c.give_up_send-end.new.state) it.0 it.0 it.1 next.0 it.2 next.1 fixed_handlers c.args.self.loan.publisher held.0 held.1 (result_of_send c.outcome_of.result) at held.3 next.2
 
 pub returns-clause-up_to_date : goal.returns-clause-up_to_date
 returns-clause-up_to_date g c =
@@ -117,7 +117,7 @@ returns-clause-up_to_date g c =
     let held = (blocked-parts c.args.domain.now (blocked_key c.args.self) c.requires).1 in
     let at = ap (λ (t : State g.row.T.Denot g.row.U.Denot). t.publishers c.args.self.loan.publisher) (it.2).state ∙ held.2 in
     let next = returns-clause-gives_up g c it.0 it.1 held.0 held.1 it.2 at held.3 in
-    give-up-leaves {T = g.row.T.Denot} {U = g.row.U.Denot} c.args.domain.now (kept_of c.give_up_send-outcome.new.state) it.0 it.0 it.1 next.0 it.2 next.1 fixed_handlers c.args.self.loan.publisher held.1 (result_of_send c.outcome_of.result) next.2
+    give-up-leaves {T = g.row.T.Denot} {U = g.row.U.Denot} c.args.domain.now (kept_of c.give_up_send-end.new.state) it.0 it.0 it.1 next.0 it.2 next.1 fixed_handlers c.args.self.loan.publisher held.1 (result_of_send c.outcome_of.result) next.2
 
 pub returns-clause-loans_left : goal.returns-clause-loans_left
 returns-clause-loans_left g c =
@@ -125,7 +125,7 @@ returns-clause-loans_left g c =
     let held = (blocked-parts c.args.domain.now (blocked_key c.args.self) c.requires).1 in
     let at = ap (λ (t : State g.row.T.Denot g.row.U.Denot). t.publishers c.args.self.loan.publisher) (it.2).state ∙ held.2 in
     let next = returns-clause-gives_up g c it.0 it.1 held.0 held.1 it.2 at held.3 in
-    give-up-left {T = g.row.T.Denot} {U = g.row.U.Denot} c.args.domain.now (kept_of c.give_up_send-outcome.new.state) it.0 it.0 it.1 next.0 it.2 next.1 c.args.self.loan.publisher held.0 held.1 at held.3 fixed_handlers (result_of_send c.outcome_of.result) next.2
+    give-up-left {T = g.row.T.Denot} {U = g.row.U.Denot} c.args.domain.now (kept_of c.give_up_send-end.new.state) it.0 it.0 it.1 next.0 it.2 next.1 c.args.self.loan.publisher held.0 held.1 at held.3 fixed_handlers (result_of_send c.outcome_of.result) next.2
 
 pub returns-clause-given_back : goal.returns-clause-given_back
 returns-clause-given_back g c = λ ends.
@@ -133,4 +133,4 @@ returns-clause-given_back g c = λ ends.
     let held = (blocked-parts c.args.domain.now (blocked_key c.args.self) c.requires).1 in
     let at = ap (λ (t : State g.row.T.Denot g.row.U.Denot). t.publishers c.args.self.loan.publisher) (it.2).state ∙ held.2 in
     let next = returns-clause-gives_up g c it.0 it.1 held.0 held.1 it.2 at held.3 in
-    give-up-gives {T = g.row.T.Denot} {U = g.row.U.Denot} c.args.domain.now (kept_of c.give_up_send-outcome.new.state) it.0 it.0 it.1 next.0 it.2 next.1 c.args.self.loan.publisher held.0 held.1 at held.3 fixed_handlers (result_of_send c.outcome_of.result) (sent-free c.outcome_of.result ends) next.2
+    give-up-gives {T = g.row.T.Denot} {U = g.row.U.Denot} c.args.domain.now (kept_of c.give_up_send-end.new.state) it.0 it.0 it.1 next.0 it.2 next.1 c.args.self.loan.publisher held.0 held.1 at held.3 fixed_handlers (result_of_send c.outcome_of.result) (sent-free c.outcome_of.result ends) next.2

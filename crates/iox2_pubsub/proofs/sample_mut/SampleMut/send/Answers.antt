@@ -12,7 +12,7 @@ use Rattle.iox2_store.specs.machine.State.{State}
 use Rattle.iox2_domain.specs.Fields.{kept_of}
 use Rattle.iox2_domain.specs.Kept.{Kept, state_of}
 use Rattle.iox2_domain.specs.LoanCalls.{HoldsWritten}
-use Rattle.iox2_domain.specs.SentLoans.{send_result}
+use Rattle.iox2_messages.specs.SendEnds.{end_result}
 use Rattle.iox2_domain.specs.Shows.{Shows}
 use Rattle.iox2_pubsub.proofs.SendShown.{machine-sends, only-ok, only-error, never-blocked, is-delivered, is-blocked, sent-entry, sent-shown}
 use Rattle.iox2_pubsub.specs.Live.{lender_key, written_key}
@@ -32,10 +32,10 @@ pub returns-clause-sent : goal.returns-clause-sent
 returns-clause-sent g c = λ m s l shown out.
     let before = subst (λ (k : Kept g.row.T.Denot g.row.U.Denot). Shows k m s) (sym c.domain.view_is) shown in (
       state_of (kept_of c.send_loan.new.state),
-      sent-shown fixed_handlers c.domain.inside.state c.send_loan.new.state c.args.self.loan.number (send_result c.send_loan.result) c.send_loan.ensures.sends m s l before out
+      sent-shown fixed_handlers c.domain.inside.state c.send_loan.new.state c.args.self.loan.number (end_result c.send_loan.result) c.send_loan.ensures.sends m s l before out
           c.outcome_of.result (sym c.outcome_of.ensures.same),
       subst (Send fixed_handlers s c.args.self.loan.number l (state_of (kept_of c.send_loan.new.state))) (sym c.outcome_of.ensures.same)
-          (machine-sends fixed_handlers c.domain.inside.state c.send_loan.new.state c.args.self.loan.number (send_result c.send_loan.result) c.send_loan.ensures.sends m s l before out),
+          (machine-sends fixed_handlers c.domain.inside.state c.send_loan.new.state c.args.self.loan.number (end_result c.send_loan.result) c.send_loan.ensures.sends m s l before out),
     )
 
 pub returns-clause-spent : goal.returns-clause-spent
@@ -59,7 +59,7 @@ returns-clause-stays g c =
 pub returns-clause-ok : goal.returns-clause-ok
 returns-clause-ok g c = λ lent.
     only-ok c.send_loan.result
-    (c.send_loan.ensures.ok
+    (c.send_loan.ensures.kept
     (subst (λ (k : Kept g.row.T.Denot g.row.U.Denot). HoldsPublisher (state_of k) c.args.self.loan.publisher) (sym c.domain.view_is)
     (publisher-parts c.args.domain.now (lender_key (written_key c.args.self)) lent).2))
     c.send_loan.ensures.sends.unfailed c.outcome_of.result c.outcome_of.ensures.same
@@ -100,7 +100,7 @@ pub returns-clause-gone : goal.returns-clause-gone
 returns-clause-gone g c =
     let has = (written-parts c.args.domain.now c.args.self c.requires.live).1 in
     let before = subst (λ (k : Kept g.row.T.Denot g.row.U.Denot). HoldsWritten (state_of k) c.args.self.loan.publisher c.args.self.loan.number) (sym c.domain.view_is) has in
-    only-error {T = g.row.T.Denot} {U = g.row.U.Denot} c.domain.inside.state c.send_loan.new.state c.args.self.loan.number c.args.self.loan.publisher c.send_loan.result c.send_loan.ensures.ok
+    only-error {T = g.row.T.Denot} {U = g.row.U.Denot} c.domain.inside.state c.send_loan.new.state c.args.self.loan.number c.args.self.loan.publisher c.send_loan.result c.send_loan.ensures.kept
     c.send_loan.ensures.sends
     (ap (λ (l : Loan g.row.T.Denot g.row.U.Denot). l.publisher) (same_Some _ before.0 (sym c.send_loan.ensures.sends.out ∙ before.1)) ∙ before.2)
     c.outcome_of.result c.outcome_of.ensures.same
