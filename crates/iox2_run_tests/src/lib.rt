@@ -3,6 +3,8 @@
 #![tactic(auto)]
 
 #[cfg(test)]
+mod blocked_sends;
+#[cfg(test)]
 mod closing_orders;
 #[cfg(test)]
 mod commands;

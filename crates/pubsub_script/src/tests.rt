@@ -1,4 +1,6 @@
 mod arrivals;
+mod blocked_publishers;
+mod blocked_sends;
 mod buffers;
 mod calls;
 mod changing_ports;
@@ -256,6 +258,10 @@ fn a_malformed_line_is_named(rt: HostRuntime) -> Result<(), Fail> {
         b"pub discard".as_slice(),
         b"pub 1 discards".as_slice(),
         b"pub 1 discard 1".as_slice(),
+        b"pub retry".as_slice(),
+        b"pub 1 Retry".as_slice(),
+        b"pub 1 retry 1".as_slice(),
+        b"pub 1 retry discard".as_slice(),
         b"loan".as_slice(),
         b"loan 1 1".as_slice(),
         b"write 1".as_slice(),
@@ -269,6 +275,13 @@ fn a_malformed_line_is_named(rt: HostRuntime) -> Result<(), Fail> {
         b"copy 1 1 1".as_slice(),
         b"discard".as_slice(),
         b"discard 1 1".as_slice(),
+        b"retry".as_slice(),
+        b"retry x".as_slice(),
+        b"retry 1 0".as_slice(),
+        b"giveup".as_slice(),
+        b"giveup 1 1".as_slice(),
+        b"give 1".as_slice(),
+        b"blocked 1".as_slice(),
         b"close".as_slice(),
         b"close 1 1".as_slice(),
         b"recv".as_slice(),
@@ -282,9 +295,8 @@ fn a_malformed_line_is_named(rt: HostRuntime) -> Result<(), Fail> {
         b"release".as_slice(),
         b"release 1 1".as_slice(),
         // What later scripts may ask for.
-        b"pub 1 retry".as_slice(),
-        b"retry 1".as_slice(),
-        b"giveup 1".as_slice(),
+        b"pub 1 wait".as_slice(),
+        b"wait 1".as_slice(),
         b"shut 1".as_slice(),
     ] {
         let mut text = Vec::new(rt.alloc());
@@ -318,6 +330,8 @@ fn a_number_that_names_nothing_is_skipped(rt: HostRuntime) {
         b"domain 1 1 1 1 0 0 keep\nread 00000000000000000000000000001".as_slice(),
         b"domain 1 1 1 1 0 0 keep\nrelease 1".as_slice(),
         b"domain 1 1 1 1 0 0 keep\ndiscard 1".as_slice(),
+        b"domain 1 1 1 1 0 0 keep\nretry 1".as_slice(),
+        b"domain 1 1 1 1 0 0 keep\ngiveup 0".as_slice(),
         b"domain 1 1 1 1 0 0 keep\nhas 1".as_slice(),
         b"domain 1 1 1 1 0 0 keep\nupdate 1".as_slice(),
         b"domain 1 1 1 1 0 0 keep\nclose 1".as_slice(),

@@ -2,7 +2,7 @@
 use crate::chance::Chance;
 use crate::moods::Wish;
 use crate::positions::{any, live, live_or_any};
-use crate::words::{HAS_BLOCKED_SENDS, is_word};
+use crate::words::{HAS_HANDLERS, is_word};
 use iox2_commands::Command;
 use iox2_model::{Kind, Model};
 use iox2_store::{
@@ -87,7 +87,7 @@ fn make_publisher(chance: &mut Chance) -> Command<u64, u64> {
 }
 
 fn strategy(chance: &mut Chance) -> BackpressureStrategy {
-    if HAS_BLOCKED_SENDS && chance.one_in(2) {
+    if chance.one_in(2) {
         BackpressureStrategy::RetryUntilDelivered
     } else {
         BackpressureStrategy::DiscardData
@@ -96,7 +96,7 @@ fn strategy(chance: &mut Chance) -> BackpressureStrategy {
 
 // Mostly there is none, so that the strategy decides.
 fn handler(chance: &mut Chance) -> Option<BackpressureAction> {
-    if !HAS_BLOCKED_SENDS {
+    if !HAS_HANDLERS {
         return None;
     }
     match chance.below(8) {
@@ -125,7 +125,7 @@ fn make_subscriber(chance: &mut Chance, config: &ServiceConfig) -> Command<u64, 
 // Where a send waits it goes on, each second time. Else a written loan is sent, an unwritten one is
 // written, and where there is none a loan is taken.
 fn message_step(chance: &mut Chance, model: &Model, config: &ServiceConfig) -> Command<u64, u64> {
-    if HAS_BLOCKED_SENDS && chance.one_in(2) {
+    if chance.one_in(2) {
         if let Some(of) = live(chance, model, Kind::BlockedSend) {
             return go_on(chance, model, of);
         }
@@ -150,22 +150,29 @@ fn message_step(chance: &mut Chance, model: &Model, config: &ServiceConfig) -> C
     }
 }
 
-// A blocked send is given up, or tried again, at once or later. Some names of it are wrong.
+// A blocked send is given up, or tried again, at once or later, or a subscriber makes room. Some names
+// of the send are wrong.
 fn go_on(chance: &mut Chance, model: &Model, waiting: usize) -> Command<u64, u64> {
     let of = if chance.one_in(8) {
         any(chance, model)
     } else {
         waiting
     };
-    match chance.below(6) {
-        0 | 1 => Command::GiveUp { of },
-        2 => Command::Retry {
+    match chance.below(8) {
+        0 => Command::GiveUp { of },
+        1 => Command::Retry {
             of,
             elapsed: Duration::from_millis(5),
         },
-        _ => Command::Retry {
+        2 | 3 => Command::Retry {
             of,
             elapsed: Duration::ZERO,
+        },
+        4 => Command::Release {
+            of: live_or_any(chance, model, Kind::Sample),
+        },
+        _ => Command::Receive {
+            of: live_or_any(chance, model, Kind::Subscriber),
         },
     }
 }

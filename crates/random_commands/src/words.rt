@@ -3,11 +3,11 @@ ghost use Rattle.std.specs.Prelude.{IsTrue};
 ghost use Rattle.iox2_runs.specs.Supported.{IsSupportedCommand};
 
 use iox2_commands::Command;
-use iox2_store::{AllocationStrategy, BackpressureStrategy, DegradationAction};
+use iox2_store::{AllocationStrategy, DegradationAction};
 
-/// Whether scripts have publishers that wait for a full receiver or fail a send there, as they are
-/// told when they are made, and the commands on sends that wait. `run` doesn't carry these out yet.
-pub(crate) const HAS_BLOCKED_SENDS: bool = false;
+/// Whether scripts have publishers whose backpressure handler decides what becomes of a full receiver.
+/// `run` doesn't carry these out yet.
+pub(crate) const HAS_HANDLERS: bool = false;
 
 /// Whether the command is one that `run` carries out so far. This is the list of all words that
 /// random scripts have.
@@ -16,7 +16,6 @@ pub fn is_word(command: &Command<u64, u64>) -> bool
 {
     match command {
         Command::CreatePublisher {
-            strategy: BackpressureStrategy::DiscardData,
             allocation: AllocationStrategy::Static,
             override_slots: None,
             degradation: DegradationAction::Warn,
@@ -28,9 +27,7 @@ pub fn is_word(command: &Command<u64, u64>) -> bool
             override_slots: None,
             degradation: DegradationAction::Warn,
             ..
-        }
-        | Command::Retry { .. }
-        | Command::GiveUp { .. } => HAS_BLOCKED_SENDS,
+        } => HAS_HANDLERS,
         Command::CreateSubscriber {
             degradation: DegradationAction::Warn,
             ..
@@ -47,6 +44,8 @@ pub fn is_word(command: &Command<u64, u64>) -> bool
         | Command::Send { .. }
         | Command::SendCopy { .. }
         | Command::Discard { .. }
+        | Command::Retry { .. }
+        | Command::GiveUp { .. }
         | Command::Update { .. }
         | Command::Receive { .. }
         | Command::HasSamples { .. }

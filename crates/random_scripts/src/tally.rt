@@ -7,7 +7,7 @@ use iox2_pubsub::{
 use iox2_runs::{Command, Reply};
 
 // The kinds of replies that the words can give with ample memory.
-const KINDS: [&str; 29] = [
+const KINDS: [&str; 30] = [
     "Done",
     "Skipped",
     "PublisherMade",
@@ -23,6 +23,7 @@ const KINDS: [&str; 29] = [
     "Delivered to one",
     "Delivered to 2 to 64",
     "Delivered to 65 or more",
+    "Blocked",
     "SendRefused(ConnectionBrokenSinceSenderNoLongerExists)",
     "SendRefused(LoanError(ExceedsMaxLoans))",
     "UpdateRefused",
@@ -40,19 +41,19 @@ const KINDS: [&str; 29] = [
 ];
 
 // The position of the count of all other replies, which no command should have.
-const OTHER: usize = 29;
+const OTHER: usize = 30;
 
 /// How often each kind of reply was met.
 #[derive(Drop)]
 pub(crate) struct Tally {
-    counts: [u64; 30],
+    counts: [u64; 31],
     words: WordTally,
 }
 
 impl Tally {
     pub(crate) fn new() -> Tally {
         Tally {
-            counts: [0; 30],
+            counts: [0; 31],
             words: WordTally::new(),
         }
     }
@@ -112,8 +113,9 @@ fn kind_of(reply: &Reply<u64, u64>) -> usize {
         Reply::Delivered(1) => 12,
         Reply::Delivered(2..=64) => 13,
         Reply::Delivered(_) => 14,
-        Reply::SendRefused(SendError::ConnectionBrokenSinceSenderNoLongerExists) => 15,
-        Reply::SendRefused(SendError::LoanError(LoanError::ExceedsMaxLoans)) => 16,
+        Reply::Blocked => 15,
+        Reply::SendRefused(SendError::ConnectionBrokenSinceSenderNoLongerExists) => 16,
+        Reply::SendRefused(SendError::LoanError(LoanError::ExceedsMaxLoans)) => 17,
         _ => kind_of_use(reply),
     }
 }
@@ -121,18 +123,18 @@ fn kind_of(reply: &Reply<u64, u64>) -> usize {
 // The same for what is received and read.
 fn kind_of_use(reply: &Reply<u64, u64>) -> usize {
     match *reply {
-        Reply::UpdateRefused(_) => 17,
-        Reply::Sample(_) => 18,
-        Reply::NoSample => 19,
-        Reply::ReceiveRefused(ReceiveError::ExceedsMaxBorrows) => 20,
-        Reply::ReceiveRefused(ReceiveError::ConnectionFailure(_)) => 21,
-        Reply::Has(false) => 22,
-        Reply::Has(true) => 23,
-        Reply::Cell(None) => 24,
-        Reply::Cell(Some(_)) => 25,
-        Reply::Unwritten => 26,
-        Reply::Header(_) => 27,
-        Reply::UserHeader(_) => 28,
+        Reply::UpdateRefused(_) => 18,
+        Reply::Sample(_) => 19,
+        Reply::NoSample => 20,
+        Reply::ReceiveRefused(ReceiveError::ExceedsMaxBorrows) => 21,
+        Reply::ReceiveRefused(ReceiveError::ConnectionFailure(_)) => 22,
+        Reply::Has(false) => 23,
+        Reply::Has(true) => 24,
+        Reply::Cell(None) => 25,
+        Reply::Cell(Some(_)) => 26,
+        Reply::Unwritten => 27,
+        Reply::Header(_) => 28,
+        Reply::UserHeader(_) => 29,
         _ => OTHER,
     }
 }

@@ -3,7 +3,7 @@ use crate::failure::Failure;
 use iox2_runs::{Command, Reply};
 
 // The words that exist. Those of the first three are never skipped.
-const WORDS: [&str; 22] = [
+const WORDS: [&str; 24] = [
     "Nothing",
     "CreatePublisher",
     "CreateSubscriber",
@@ -18,6 +18,8 @@ const WORDS: [&str; 22] = [
     "Send",
     "SendCopy",
     "Discard",
+    "Retry",
+    "GiveUp",
     "Update",
     "Receive",
     "HasSamples",
@@ -34,15 +36,15 @@ const NEVER_SKIPPED: usize = 3;
 /// How often each word was carried out, and how often it was skipped.
 #[derive(Drop)]
 pub(crate) struct WordTally {
-    done: [u64; 22],
-    skipped: [u64; 22],
+    done: [u64; 24],
+    skipped: [u64; 24],
 }
 
 impl WordTally {
     pub(crate) fn new() -> WordTally {
         WordTally {
-            done: [0; 22],
-            skipped: [0; 22],
+            done: [0; 24],
+            skipped: [0; 24],
         }
     }
 
@@ -78,7 +80,7 @@ impl WordTally {
     }
 }
 
-fn count_up(counts: &mut [u64; 22], word: usize) {
+fn count_up(counts: &mut [u64; 24], word: usize) {
     if let Some(count) = counts.get_mut(word) {
         *count = count.saturating_add(1);
     }
@@ -91,6 +93,7 @@ fn is_refusal(reply: &Reply<u64, u64>) -> bool {
         | Reply::SubscriberRefused(_)
         | Reply::LoanRefused(_)
         | Reply::Unwritten
+        | Reply::Blocked
         | Reply::SendRefused(_)
         | Reply::UpdateRefused(_)
         | Reply::NoSample
@@ -99,7 +102,7 @@ fn is_refusal(reply: &Reply<u64, u64>) -> bool {
     }
 }
 
-// The position of the command's word; past the end for one that isn't among them.
+// The position of the command's word.
 fn position_of(command: &Command<u64, u64>) -> usize {
     match *command {
         Command::Nothing => 0,
@@ -116,14 +119,15 @@ fn position_of(command: &Command<u64, u64>) -> usize {
         Command::Send { .. } => 11,
         Command::SendCopy { .. } => 12,
         Command::Discard { .. } => 13,
-        Command::Update { .. } => 14,
-        Command::Receive { .. } => 15,
-        Command::HasSamples { .. } => 16,
-        Command::Read { .. } => 17,
-        Command::ReadHeader { .. } => 18,
-        Command::ReadUserHeader { .. } => 19,
-        Command::Release { .. } => 20,
-        Command::Close { .. } => 21,
-        _ => WORDS.len(),
+        Command::Retry { .. } => 14,
+        Command::GiveUp { .. } => 15,
+        Command::Update { .. } => 16,
+        Command::Receive { .. } => 17,
+        Command::HasSamples { .. } => 18,
+        Command::Read { .. } => 19,
+        Command::ReadHeader { .. } => 20,
+        Command::ReadUserHeader { .. } => 21,
+        Command::Release { .. } => 22,
+        Command::Close { .. } => 23,
     }
 }

@@ -10,30 +10,9 @@ use Rattle.script_text.specs.ScriptText.{NamesCommands}
 
 -- What words name, `run` carries out.
 pub IsSupported-named : (words : Words) (c : Command ℕ ℕ) → IsCommandLine words c → IsSupportedCommand c
-IsSupported-named words (command.CreatePublisher a b d e f h k) names = (names.3, names.4, names.6, names.7, names.8)
+IsSupported-named words (command.CreatePublisher a b d e f h k) names = (names.3, names.5, names.6, names.7)
 IsSupported-named words (command.CreateSubscriber a b) names = names.3
-IsSupported-named words (command.LoanUninit a) names = tt
-IsSupported-named words (command.WriteAll a b) names = tt
-IsSupported-named words (command.Send a) names = tt
-IsSupported-named words (command.Discard a) names = tt
-IsSupported-named words (command.Update a) names = tt
-IsSupported-named words (command.Receive a) names = tt
-IsSupported-named words (command.HasSamples a) names = tt
-IsSupported-named words (command.Read a b) names = tt
-IsSupported-named words (command.Release a) names = tt
-IsSupported-named words (command.Close a) names = tt
-IsSupported-named words command.Nothing names = absurd names
-IsSupported-named words (command.Loan a) names = absurd names
-IsSupported-named words (command.LoanSlice a b) names = absurd names
-IsSupported-named words (command.WriteCell a b d) names = absurd names
-IsSupported-named words (command.AssumeInit a) names = absurd names
-IsSupported-named words (command.WriteHeader a b) names = absurd names
-IsSupported-named words (command.SetPayload a b d) names = absurd names
-IsSupported-named words (command.SendCopy a b) names = tt
-IsSupported-named words (command.Retry a b) names = absurd names
-IsSupported-named words (command.GiveUp a) names = absurd names
-IsSupported-named words (command.ReadHeader a) names = absurd names
-IsSupported-named words (command.ReadUserHeader a) names = absurd names
+IsSupported-named words _ names = tt
 
 -- What lines name, `run` carries out.
 pub All-supported : (others : List (List ℕ)) (commands : List (Command ℕ ℕ)) → NamesCommands others commands → All IsSupportedCommand commands

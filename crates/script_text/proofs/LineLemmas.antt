@@ -72,8 +72,8 @@ words-long words long (command.AssumeInit a) names = names
 words-long words long (command.WriteHeader a b) names = names
 words-long words long (command.SetPayload a b d) names = names
 words-long words long (command.SendCopy a b) names = omega (arith, long, names.0.0)
-words-long words long (command.Retry a b) names = names
-words-long words long (command.GiveUp a) names = names
+words-long words long (command.Retry a b) names = omega (arith, long, names.0.0)
+words-long words long (command.GiveUp a) names = omega (arith, long, names.0.0)
 words-long words long (command.ReadHeader a) names = names
 words-long words long (command.ReadUserHeader a) names = names
 

@@ -6,8 +6,10 @@ use Rattle.script_text.specs.Words.{Words, line_words, words_of}
 use Rattle.iox2_store.specs.declared.service_config.ServiceConfig.{ServiceConfig}
 use Rattle.iox2_store.specs.declared.service_config.TypeVariant.TheVariants.{FixedSize}
 use Rattle.iox2_store.specs.declared.allocation.AllocationStrategy.TheVariants.{Static}
-use Rattle.iox2_store.specs.declared.backpressure.BackpressureStrategy.TheVariants.{DiscardData}
+use Rattle.iox2_store.specs.declared.backpressure.BackpressureStrategy.{BackpressureStrategy}
+use Rattle.iox2_store.specs.declared.backpressure.BackpressureStrategy.TheVariants.{RetryUntilDelivered, DiscardData}
 use Rattle.iox2_store.specs.declared.degradation.DegradationAction.TheVariants.{Warn}
+use Rattle.iox2_store.specs.machine.Delivery.{no_time}
 use Rattle.iox2_commands.specs.declared.command.Command.{Command}
 use Rattle.iox2_commands.specs.declared.command.Command.TheVariants as command
 
@@ -47,6 +49,11 @@ abbrev pub IsMode : List ℕ → (overflow : Bool) → Type 0
 IsMode word true = word ≡ codes "overflow"
 IsMode word false = word ≡ codes "keep"
 
+-- `retry`: a send waits for a full receiver. `discard`: it passes it over.
+abbrev pub IsStrategy : List ℕ → BackpressureStrategy → Type 0
+IsStrategy word RetryUntilDelivered = word ≡ codes "retry"
+IsStrategy word DiscardData = word ≡ codes "discard"
+
 -- `domain P S B R H E overflow` or `.. keep` names the settings with P, S, B, R, H and E.
 pub record IsDomainLine (words : Words) (config : ServiceConfig) : Type 0 where
   pub form : HasForm words (codes "domain") 8
@@ -62,20 +69,22 @@ pub record IsDomainLine (words : Words) (config : ServiceConfig) : Type 0 where
 
 -- What the words of a line after the first ask for.
 abbrev pub IsCommandLine : Words → Command ℕ ℕ → Type 0
--- `pub L discard`: a publisher with so many loans that discards, whose memory is static.
+-- `pub L retry` or `.. discard`: a publisher with so many loans and this strategy, whose memory is static.
 IsCommandLine words (command.CreatePublisher loans strategy allocation initial_max_slice_len override_slots degradation backpressure) =
-    HasForm words (codes "pub") 3 × IsNumberAt words 1 loans × (words.word 2 ≡ codes "discard") × (strategy ≡ DiscardData)
+    HasForm words (codes "pub") 3 × IsNumberAt words 1 loans × IsStrategy (words.word 2) strategy
     × (allocation ≡ Static) × (initial_max_slice_len ≡ 1) × (override_slots ≡ None) × (degradation ≡ Warn) × (backpressure ≡ None)
 -- `sub B`: a subscriber with this buffer.
 IsCommandLine words (command.CreateSubscriber buffer degradation) =
     HasForm words (codes "sub") 2 × IsNumber (words.word 1) × (buffer ≡ Some (value_of (words.word 1))) × (degradation ≡ Warn)
--- `loan N`, `write N V`, `send N`, `copy N V`, `discard N`, `update N`, `recv N`, `has N`, `read N`, `release N`, `close N`: calls of a
--- port or of a single value.
+-- `loan N`, `write N V`, `send N`, `copy N V`, `discard N`, `retry N`, `giveup N`, `update N`, `recv N`, `has N`, `read N`,
+-- `release N`, `close N`: calls of a port, of a single value or of a blocked send. A retry comes at once.
 IsCommandLine words (command.LoanUninit of) = HasForm words (codes "loan") 2 × IsNameAt words 1 of
 IsCommandLine words (command.WriteAll of value) = HasForm words (codes "write") 3 × IsNameAt words 1 of × IsNumberAt words 2 value
 IsCommandLine words (command.Send of) = HasForm words (codes "send") 2 × IsNameAt words 1 of
 IsCommandLine words (command.SendCopy of value) = HasForm words (codes "copy") 3 × IsNameAt words 1 of × IsNumberAt words 2 value
 IsCommandLine words (command.Discard of) = HasForm words (codes "discard") 2 × IsNameAt words 1 of
+IsCommandLine words (command.Retry of elapsed) = HasForm words (codes "retry") 2 × IsNameAt words 1 of × (elapsed ≡ no_time)
+IsCommandLine words (command.GiveUp of) = HasForm words (codes "giveup") 2 × IsNameAt words 1 of
 IsCommandLine words (command.Update of) = HasForm words (codes "update") 2 × IsNameAt words 1 of
 IsCommandLine words (command.Receive of) = HasForm words (codes "recv") 2 × IsNameAt words 1 of
 IsCommandLine words (command.HasSamples of) = HasForm words (codes "has") 2 × IsNameAt words 1 of

@@ -1,8 +1,9 @@
 //! What the lines of a script ask for.
 ghost use Rattle.std.specs.Prelude.{◌≡◌, ◌↔◌, ◌<◌, ℕ, Bool, IfErr, IfNone, IfOk, IfSome, IsSome, length};
+ghost use Rattle.iox2_store.specs.declared.backpressure.BackpressureStrategy.{BackpressureStrategy};
 ghost use Rattle.iox2_store.specs.declared.service_config.ServiceConfig.{ServiceConfig};
 ghost use Rattle.iox2_commands.specs.declared.command.Command.{Command};
-ghost use Rattle.script_text.specs.Commands.{IsCommandLine, IsDomainLine, IsMode, NamesCommand, NamesDomain};
+ghost use Rattle.script_text.specs.Commands.{IsCommandLine, IsDomainLine, IsMode, IsStrategy, NamesCommand, NamesDomain};
 ghost use Rattle.script_text.specs.Numbers.{IsNumber, position_of, value_of};
 ghost use Rattle.script_text.specs.ScriptText.{IsRefused, IsScript};
 ghost use Rattle.script_text.specs.Words.{line_words, texts, words_in};
@@ -13,6 +14,7 @@ use arrayvec::ArrayVec;
 use iox2_commands::Command;
 use iox2_store::{AllocationStrategy, BackpressureStrategy, DegradationAction, ServiceConfig};
 use std::alloc::Global;
+use std::time::Duration;
 
 /// A script: the settings of its domain, which its first line names, and the commands of its other
 /// lines.
@@ -126,9 +128,9 @@ fn parse_command(words: &[&str]) -> Option<Command<u64, u64>>
     ensures refuses { IfNone result ((command : Command ℕ ℕ) → ¬ IsCommandLine (words_in words.now) command) }
 {
     let command = match *words {
-        ["pub", loans, "discard"] => Command::CreatePublisher {
+        ["pub", loans, strategy] => Command::CreatePublisher {
             loans: parse_size(loans)?,
-            strategy: BackpressureStrategy::DiscardData,
+            strategy: parse_strategy(strategy)?,
             allocation: AllocationStrategy::Static,
             initial_max_slice_len: 1,
             override_slots: None,
@@ -153,6 +155,11 @@ fn parse_command(words: &[&str]) -> Option<Command<u64, u64>>
                 "loan" => Command::LoanUninit { of },
                 "send" => Command::Send { of },
                 "discard" => Command::Discard { of },
+                "retry" => Command::Retry {
+                    of,
+                    elapsed: Duration::ZERO,
+                },
+                "giveup" => Command::GiveUp { of },
                 "update" => Command::Update { of },
                 "recv" => Command::Receive { of },
                 "has" => Command::HasSamples { of },
@@ -165,6 +172,18 @@ fn parse_command(words: &[&str]) -> Option<Command<u64, u64>>
         _ => return None,
     };
     Some(command)
+}
+
+/// What a publisher does with a full receiver: `retry` waits for it, `discard` passes it over.
+fn parse_strategy(word: &str) -> Option<BackpressureStrategy>
+    ensures reads { IfSome result (IsStrategy word.now) }
+    ensures refuses { IfNone result ((strategy : BackpressureStrategy) → ¬ IsStrategy word.now strategy) }
+{
+    match word {
+        "retry" => Some(BackpressureStrategy::RetryUntilDelivered),
+        "discard" => Some(BackpressureStrategy::DiscardData),
+        _ => None,
+    }
 }
 
 /// The most words that a line has: those of the domain line.

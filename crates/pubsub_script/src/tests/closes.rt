@@ -226,12 +226,7 @@ fn a_script_with_closed_ports_gets_these_replies(rt: HostRuntime) -> Result<(), 
         ("domain 1 1 1 1 0 1 keep", SECOND_DEPARTED_LOSES),
         ("domain 1 1 1 1 0 0 keep", LOAN_OF_CLOSED),
     ] {
-        let mut plan = Plan::new(rt.alloc(), domain)?;
-        for &(line, reply) in lines {
-            write!(plan.text, "{line}")?;
-            plan.end(reply)?;
-        }
-        plan.assert(&rt, rt.alloc());
+        Plan::of(rt.alloc(), domain, lines)?.assert(&rt, rt.alloc());
     }
     Ok(())
 }
