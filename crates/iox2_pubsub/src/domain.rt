@@ -42,7 +42,7 @@ impl<T, U, F, G> Model for Domain<T, U, F, G> {
 impl<T: Drop, U: Default + Drop> Domain<T, U> {
     /// A domain with these settings and no port, as in `Domain::new(alloc, ServiceConfig::new(7))`.
     /// Each message has one element in a domain of the variant `FixedSize`, and any number of them in
-    /// one of `Dynamic`. So far its ports lend no slices.
+    /// one of `Dynamic`, whose ports are those of module `slice`.
     ///
     /// Fails with `DomainCreateError::OutOfMemory` where memory is refused.
     pub fn new(alloc: Global, config: ServiceConfig) -> Result<Self, DomainCreateError>

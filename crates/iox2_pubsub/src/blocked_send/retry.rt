@@ -29,7 +29,7 @@ impl BlockedSend {
     ///
     /// Fails with `UnableToDeliver` alone, where a handler has failed the send at some subscriber.
     /// When the send has ended or failed, its publisher lends, sends and updates again, and its slot
-    /// is free when every subscriber that took the message has released it.
+    /// is free when every subscriber that took the message has released it and no history keeps it.
     ///
     /// This library's own, where iceoryx2's `SampleMut::send` goes on by itself.
     pub fn retry<T: Drop, U: Default + Drop, F: BackpressureFn, G: DegradationFn>(

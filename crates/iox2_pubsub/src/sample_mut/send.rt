@@ -28,10 +28,11 @@ impl SampleMut {
     /// send.
     ///
     /// No error is returned by a publisher without handlers that wasn't closed. The loan of one that
-    /// is gone is lost, and the error says so. The loan is out no more; its slot is free again when
-    /// the send has ended and every subscriber that took the message has released it. Memory is
-    /// asked for only where the publisher gets a connection with a new subscriber: where it is
-    /// refused, that subscriber doesn't get the message, and the domain keeps a warning.
+    /// is gone is lost, and the error says so. The loan counts among the publisher's loans until the
+    /// send has ended. Its slot is free again when, besides, every subscriber that took the message
+    /// has released it and no history keeps it. Memory is asked for only where the publisher gets a
+    /// connection with a new subscriber: where it is refused, that subscriber doesn't get the message,
+    /// and the domain keeps a warning.
     ///
     /// iceoryx2's `SampleMut::send` (`src/sample_mut.rs`).
     pub fn send<T: Drop, U: Default + Drop, F: BackpressureFn, G: DegradationFn>(

@@ -65,8 +65,8 @@ impl Publisher {
         self.publisher.initial_max_slice_len
     }
 
-    /// Whether a send of the publisher is blocked. Until that has ended, the publisher sends and
-    /// updates nothing and can't be closed. This library's own.
+    /// Whether a send of the publisher is blocked. Until that has ended, the publisher lends, sends
+    /// and updates nothing and can't be closed. This library's own.
     pub fn is_blocked<T: Drop, U: Default + Drop, F: BackpressureFn, G: DegradationFn>(
         &self,
         domain: &Domain<T, U, F, G>,
