@@ -5,14 +5,11 @@ use Rattle.std.specs.List.{All}
 use Rattle.std.proofs.lemmas.List.Elements.{All-head, All-tail, All-take, All-drop}
 use Rattle.std.proofs.lemmas.Option.{none-some}
 use Rattle.iox2_store.specs.machine.Limits.{buffer_limit}
-use Rattle.iox2_store.specs.machine.Records.{Publisher, Subscriber, SubscriberSettings, PublisherSettings, Fixed}
+use Rattle.iox2_store.specs.machine.Records.{PublisherSettings, Fixed}
 use Rattle.iox2_store.specs.machine.State.{State, Messages, fresh, no_messages}
 use Rattle.iox2_store.specs.machine.WellFormed.{IsWellFormed}
 use Rattle.iox2_store.specs.machine.Loans.{is_static, is_initialized, initialized}
-use Rattle.iox2_store.specs.machine.Ports.{first_segment_fits, publisher_closed, subscriber_closed}
 use Rattle.iox2_store.specs.machine.Environments.{fixed_handlers, ample_memory}
-use Rattle.iox2_store.specs.declared.degradation.DegradationAction.{DegradationAction}
-use Rattle.iox2_store.specs.declared.allocation.AllocationStrategy.{AllocationStrategy}
 use Rattle.iox2_store.specs.declared.errors.PublisherCreateError.{PublisherCreateError}
 use Rattle.iox2_store.specs.declared.errors.PublisherCreateError.TheVariants.{UnableToCreateDataSegment, FailedToDeployThreadsafetyPolicy as NoPublisherState}
 use Rattle.iox2_store.specs.declared.errors.SubscriberCreateError.{SubscriberCreateError}

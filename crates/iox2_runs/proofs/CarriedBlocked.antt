@@ -1,6 +1,6 @@
 -- Blocked sends that are tried again or given up, with what a run holds.
-use Rattle.std.proofs.Common.{◌≡◌, ℕ, false, Bool, Option, None, Some, List, [], ◌∷◌, ◌++◌, map, refl, sym, ap, subst, ◌∙◌}
-use Rattle.std.specs.Prelude.{IfOk, slice_get, slice_set, slice_index_or}
+use Rattle.std.proofs.Common.{◌≡◌, ℕ, false, None, Some, List, [], ◌∷◌, ◌++◌, map, refl, sym, ap, subst, ◌∙◌}
+use Rattle.std.specs.Prelude.{IfOk, slice_set, slice_index_or}
 use Rattle.std.specs.declared.result.Result.{Result}
 use Rattle.std.specs.declared.result.Result.TheVariants.{Ok, Err}
 use Rattle.std.specs.declared.time.Duration.{Duration}
@@ -15,7 +15,7 @@ use Rattle.iox2_laws.specs.Laws.{Advances}
 use Rattle.iox2_laws.proofs.LoanKeeping.{retry_loans, give_up_loans}
 use Rattle.iox2_laws.proofs.SendLaws.{retry_advances, give_up_advances}
 use Rattle.iox2_laws.proofs.SendsRemain.{retry_frees, give_up_frees}
-use Rattle.iox2_domain.specs.Kept.{Kept as Domain, state_of}
+use Rattle.iox2_domain.specs.Kept.{Kept as Domain}
 use Rattle.iox2_domain.specs.Shows.{Shows}
 use Rattle.iox2_pubsub.specs.Live.{IsBlockedSend, blocked_key}
 use Rattle.iox2_pubsub.specs.SendCalls.{IfBlocked, result_of_send}
@@ -28,9 +28,8 @@ use Rattle.iox2_commands.specs.Runs.{Defaults}
 use Rattle.iox2_commands.specs.Step.{Step, after_retry, blocked_at}
 use Rattle.iox2_commands.specs.declared.command.Command.{Command}
 use Rattle.iox2_commands.specs.declared.command.Command.TheVariants.{Retry as RetrySend, GiveUp as GiveUpSend}
-use Rattle.iox2_commands.specs.declared.reply.Reply.{Reply}
 use Rattle.iox2_commands.specs.declared.reply.Reply.TheVariants.{Skipped}
-use Rattle.iox2_runs.specs.Tables.{TableEntry, No_entry, Blocked_entry, IsEntryOf}
+use Rattle.iox2_runs.specs.Tables.{TableEntry, No_entry, IsEntryOf}
 use Rattle.iox2_runs.specs.RunSteps.{Comes}
 use Rattle.iox2_runs.specs.Carries.{entry_for, Carries}
 use Rattle.iox2_runs.specs.SendReplies.{reply_to_send, made_by_send}

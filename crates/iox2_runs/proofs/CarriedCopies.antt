@@ -5,7 +5,7 @@ use Rattle.std.specs.Prelude.{IfOk, slice_get, slice_index_or}
 use Rattle.std.specs.declared.result.Result.{Result}
 use Rattle.std.specs.declared.result.Result.TheVariants.{Ok, Err}
 use Rattle.iox2_store.specs.SingleValues.{is_single_valued}
-use Rattle.iox2_store.specs.machine.Records.{Loan, Environment}
+use Rattle.iox2_store.specs.machine.Records.{Loan}
 use Rattle.iox2_store.specs.machine.State.{State, Messages}
 use Rattle.iox2_store.specs.machine.Environments.{ample_memory, fixed_handlers}
 use Rattle.iox2_store.specs.machine.Numbers.{put_at}
@@ -14,7 +14,6 @@ use Rattle.iox2_store.specs.machine.Sends.{Send, Delivered_to, Blocked_send}
 use Rattle.iox2_store.specs.machine.SingleCalls.{GrantWrittenLoan, HoldsBlocked}
 use Rattle.iox2_store.specs.declared.errors.LoanError.{LoanError}
 use Rattle.iox2_store.specs.declared.errors.SendError.{SendError}
-use Rattle.iox2_store.specs.declared.errors.SendError.TheVariants.{LoanError as NotLoaned}
 use Rattle.iox2_domain.specs.Kept.{Kept as Domain}
 use Rattle.iox2_domain.specs.Shows.{Shows}
 use Rattle.iox2_store.specs.declared.key.Key.{Key}

@@ -14,7 +14,7 @@ use Rattle.iox2_domain.specs.Kept.{Kept as Domain}
 use Rattle.iox2_domain.specs.Shows.{Shows}
 use Rattle.iox2_pubsub.specs.declared.sample_mut_uninit.SampleMutUninit.{SampleMutUninit}
 use Rattle.iox2_pubsub.specs.declared.sample_mut.SampleMut.{SampleMut}
-use Rattle.iox2_commands.specs.Outcomes.{Handle, No_handle, Loan_handle, Sample_handle, Event, No_event, done}
+use Rattle.iox2_commands.specs.Outcomes.{Handle, No_handle, Loan_handle, Event, No_event, done}
 use Rattle.iox2_commands.specs.Runs.{Defaults}
 use Rattle.iox2_commands.specs.Step.{loan_at}
 use Rattle.iox2_runs.specs.Tables.{TableEntry, No_entry, IsTable}

@@ -1,5 +1,5 @@
 -- Commands that make ports, with what a run holds.
-use Rattle.std.proofs.Common.{◌≡◌, ℕ, List, [], ◌∷◌, ◌++◌, map, refl, sym, ap, subst, ◌∙◌, Option, None, Some}
+use Rattle.std.proofs.Common.{◌≡◌, ℕ, List, [], ◌∷◌, ◌++◌, map, sym, ap, subst, ◌∙◌, Option, None, Some}
 use Rattle.iox2_store.specs.machine.Limits.{buffer_limit}
 use Rattle.iox2_store.specs.machine.Records.{PublisherSettings, SubscriberSettings, Fixed, Environment}
 use Rattle.iox2_store.specs.machine.State.{State, Messages}

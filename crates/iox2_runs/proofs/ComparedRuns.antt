@@ -1,5 +1,5 @@
 -- Two runs that tell of no refused memory, compared.
-use Rattle.std.proofs.Common.{◌≡◌, ℕ, List, [], ◌++◌, sym, ap, subst, ◌∙◌}
+use Rattle.std.proofs.Common.{List, [], sym, ap, subst}
 use Rattle.std.specs.List.{All}
 use Rattle.std.proofs.lemmas.List.{append-nil}
 use Rattle.iox2_store.specs.machine.State.{State, fresh, no_messages}

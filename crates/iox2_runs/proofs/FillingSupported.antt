@@ -1,5 +1,5 @@
 -- The list that fills every slot of its publisher is one that `run` carries out.
-use Rattle.std.proofs.Common.{◌≡◌, ℕ, zero, suc, ◌+◌, ◌*◌, List, [], ◌∷◌, ◌++◌, replicate, refl, None}
+use Rattle.std.proofs.Common.{ℕ, zero, suc, ◌+◌, ◌*◌, List, ◌∷◌, ◌++◌, replicate, refl, None}
 use Rattle.std.specs.List.{All, AllByRecursion}
 use Rattle.std.proofs.lemmas.List.Elements.{All-nil, All-cons, All-append, All-replicate, All-from_recursion}
 use Rattle.iox2_store.specs.machine.Limits.{buffer_limit}
@@ -7,7 +7,7 @@ use Rattle.iox2_store.specs.declared.degradation.DegradationAction.TheVariants.{
 use Rattle.iox2_store.specs.declared.service_config.ServiceConfig.{ServiceConfig}
 use Rattle.iox2_store.specs.declared.service_config.TypeVariant.{TypeVariant}
 use Rattle.iox2_store.specs.declared.service_config.TypeVariant.TheVariants.{FixedSize, Dynamic}
-use Rattle.iox2_commands.specs.FillingCommands.{publisher_command, loan_command, sends, rounds, subscriber_filled, subscribers_filled, filling_length, filling_commands}
+use Rattle.iox2_commands.specs.FillingCommands.{publisher_command, loan_command, sends, rounds, subscriber_filled, subscribers_filled, filling_length}
 use Rattle.iox2_commands.specs.declared.command.Command.{Command}
 use Rattle.iox2_commands.specs.declared.command.Command.TheVariants.{CreateSubscriber, Update}
 use Rattle.iox2_runs.specs.Supported.{IsSupportedCommand, FillingIsSupported}

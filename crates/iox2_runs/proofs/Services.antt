@@ -1,5 +1,5 @@
 -- In which service a command names anything.
-use Rattle.std.proofs.Common.{◌≡◌, ℕ, Bool, true, false, cond, refl, eqb, ◌&&◌, ◌==◌, not, Option, None, Some}
+use Rattle.std.proofs.Common.{◌≡◌, Bool, true, false, cond, refl, eqb, ◌&&◌, not, Option, None}
 use Rattle.std.proofs.lemmas.Bool.{eqb-true}
 use Rattle.iox2_store.specs.SingleValues.{is_fixed_size, is_single_valued}
 use Rattle.iox2_store.specs.machine.State.{State}

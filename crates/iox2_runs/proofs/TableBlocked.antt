@@ -1,5 +1,5 @@
 -- Blocked sends that go on, with what the run keeps.
-use Rattle.std.proofs.Common.{◌≡◌, ℕ, Option, None, Some, List, [], ◌∷◌, ◌++◌, refl, sym, ap, ◌∙◌}
+use Rattle.std.proofs.Common.{◌≡◌, ℕ, Option, Some, List, [], ◌∷◌, ◌++◌, refl, ap, ◌∙◌}
 use Rattle.std.specs.Prelude.{slice_get, slice_set}
 use Rattle.iox2_store.specs.machine.Mailbox.{is_borrowed}
 use Rattle.iox2_store.specs.machine.Records.{Environment, Loan}

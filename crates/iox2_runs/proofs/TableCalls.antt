@@ -13,7 +13,7 @@ use Rattle.iox2_store.specs.machine.Sends.{Send, SendResult}
 use Rattle.iox2_laws.proofs.LoanKeeping.{send_loans}
 use Rattle.iox2_laws.proofs.SendLaws.{send_advances}
 use Rattle.iox2_laws.proofs.Puts.{put_at-same, put_at-other}
-use Rattle.iox2_commands.specs.Outcomes.{Handle, No_handle, Loan_handle, Blocked_handle, Sample_handle, Event, No_event, Outcome, messages_after, replied, done, skipped}
+use Rattle.iox2_commands.specs.Outcomes.{Handle, No_handle, Loan_handle, Blocked_handle, Sample_handle, Event, No_event, messages_after, replied, done, skipped}
 use Rattle.iox2_commands.specs.Runs.{Defaults}
 use Rattle.iox2_commands.specs.Step.{Step, after_send}
 use Rattle.iox2_runs.specs.Tables.{port_of, TableEntry, No_entry, Unwritten_entry, Written_entry, IsSpent, IsUnblocked, IsEntryOf, IsTable}

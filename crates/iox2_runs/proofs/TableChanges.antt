@@ -1,5 +1,5 @@
 -- A loan that is out is changed, with what the run keeps.
-use Rattle.std.proofs.Common.{◌≡◌, ℕ, Bool, true, false, List, [], ◌∷◌, ◌++◌, refl, sym, ap, ◌∙◌, Some, arith}
+use Rattle.std.proofs.Common.{◌≡◌, ℕ, true, false, List, [], ◌∷◌, ◌++◌, refl, sym, ap, ◌∙◌, Some, arith}
 use Rattle.std.specs.Prelude.{slice_get, slice_set}
 use Rattle.std.proofs.lemmas.Bool.{ne_eqb}
 use Rattle.iox2_store.specs.machine.Records.{Loan, Environment}
@@ -8,7 +8,7 @@ use Rattle.iox2_laws.proofs.PortsCome.{loan_set_comes}
 use Rattle.iox2_laws.proofs.PortsStay.{loan_set_stays}
 use Rattle.iox2_laws.proofs.Waits.{loan_set_waits}
 use Rattle.iox2_laws.proofs.Puts.{put_at-same, put_at-other}
-use Rattle.iox2_commands.specs.Outcomes.{Handle, No_handle, Loan_handle, Sample_handle, Event, No_event, done}
+use Rattle.iox2_commands.specs.Outcomes.{Handle, No_handle, Loan_handle, Event, No_event, done}
 use Rattle.iox2_commands.specs.Runs.{Defaults}
 use Rattle.iox2_commands.specs.Step.{Step}
 use Rattle.iox2_commands.specs.declared.command.Command.{Command}

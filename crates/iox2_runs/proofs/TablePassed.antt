@@ -1,5 +1,5 @@
 -- What a send leaves of the ports and of the sends that are blocked, also one that is tried again or given up.
-use Rattle.std.proofs.Common.{◌≡◌, ℕ, ◌≤◌, ◌<◌, Option, None, Some, refl, sym, ap, subst, ◌∙◌, inl, inr, arith}
+use Rattle.std.proofs.Common.{◌≡◌, ℕ, ◌<◌, Option, None, Some, refl, sym, ap, subst, ◌∙◌, inl, inr}
 use Rattle.std.proofs.lemmas.Bool.{cases_eq}
 use Rattle.std.proofs.lemmas.Option.{none-some, same_Some}
 use Rattle.std.specs.declared.time.Duration.{Duration}
@@ -7,9 +7,7 @@ use Rattle.iox2_store.specs.machine.Records.{Loan, Publisher, Subscriber, Blocke
 use Rattle.iox2_store.specs.machine.Sends.{Send, Retry, GiveUp, SendResult, Delivered_to, Blocked_send, Send_error}
 use Rattle.iox2_store.specs.machine.SingleCalls.{HoldsBlocked}
 use Rattle.iox2_store.specs.machine.State.{State}
-use Rattle.iox2_laws.specs.Laws.{Advances}
-use Rattle.iox2_laws.proofs.PortsCome.{PortsCome, send_comes}
-use Rattle.iox2_laws.proofs.SendLaws.{send_advances, retry_advances, give_up_advances}
+use Rattle.iox2_laws.proofs.PortsCome.{send_comes}
 use Rattle.iox2_laws.proofs.SendsRemain.{PortsRemain, send_remains, retry_remains, give_up_remains, send_waits_with, retry_waits_with, give_up_waits_with, retry_frees, give_up_frees}
 use Rattle.iox2_laws.proofs.UpToDate.{send_subscribers, retry_subscribers, give_up_subscribers}
 use Rattle.iox2_laws.proofs.Waits.{Waits, send_waits, retry_waits, give_up_waits}

@@ -1,8 +1,8 @@
 -- Two runs, each on a new domain.
-use Rattle.std.specs.Prelude.{ℕ, true, List, [], ◌≡◌, slice_get}
+use Rattle.std.specs.Prelude.{ℕ, true, List, ◌≡◌, slice_get}
 use Rattle.std.specs.declared.option.Option.TheVariants.{Some}
 use Rattle.iox2_store.specs.machine.Environments.{fixed_handlers}
-use Rattle.iox2_store.specs.machine.State.{State, Messages, fresh, no_messages}
+use Rattle.iox2_store.specs.machine.State.{fresh, no_messages}
 use Rattle.iox2_store.specs.declared.service_config.ServiceConfig.{ServiceConfig}
 use Rattle.iox2_domain.specs.Kept.{Kept as Domain}
 use Rattle.iox2_commands.specs.Isolation.{AreIndependent, reads_at}

@@ -1,4 +1,4 @@
-use Rattle.std.proofs.Common.{◌≡◌, sym, subst, ◌∙◌}
+use Rattle.std.proofs.Common.{sym, subst, ◌∙◌}
 use Rattle.iox2_pubsub.specs.Live.{sample_key}
 use Rattle.iox2_pubsub.specs.Slices.{SampleHasValues}
 use Rattle.iox2_pubsub.specs.declared.sample.Sample.{Sample}

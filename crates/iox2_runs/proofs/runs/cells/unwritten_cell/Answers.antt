@@ -1,4 +1,4 @@
-use Rattle.std.proofs.Common.{◌≡◌, sym, subst, ◌∙◌, Some}
+use Rattle.std.proofs.Common.{sym, subst, ◌∙◌}
 use Rattle.iox2_pubsub.specs.Slices.{HasUnwrittenCells}
 use Rattle.iox2_pubsub.specs.declared.sample_mut_uninit.SampleMutUninit.{SampleMutUninit}
 use Rattle.iox2_runs.proofs.CellLists.{item-read}

@@ -1,4 +1,4 @@
-use Rattle.std.proofs.Common.{◌≡◌, ◌<◌, ℕ, true, false, refl, sym, subst, ◌∙◌, Some}
+use Rattle.std.proofs.Common.{◌<◌, ℕ, true, false, refl, sym, subst, ◌∙◌, Some}
 use Rattle.std.specs.Prelude.{slice_set}
 use Rattle.iox2_pubsub.specs.ChangedLoans.{with_cell, with_cells}
 use Rattle.iox2_pubsub.specs.declared.sample_mut_uninit.SampleMutUninit.{SampleMutUninit}

@@ -1,4 +1,4 @@
-use Rattle.std.proofs.Common.{◌≡◌, sym, subst, ◌∙◌, Some}
+use Rattle.std.proofs.Common.{sym, subst, ◌∙◌}
 use Rattle.iox2_pubsub.specs.Slices.{HasValues}
 use Rattle.iox2_pubsub.specs.declared.sample_mut.SampleMut.{SampleMut}
 use Rattle.iox2_runs.proofs.CellLists.{item-read}

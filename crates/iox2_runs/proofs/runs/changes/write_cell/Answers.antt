@@ -1,4 +1,4 @@
-use Rattle.std.proofs.Common.{refl, sym, ap, ◌∙◌, List, Some}
+use Rattle.std.proofs.Common.{refl, sym, ap, ◌∙◌, List}
 use Rattle.std.specs.Prelude.{slice_set}
 use Rattle.iox2_runs.specs.Carries.{entry_for}
 use Rattle.iox2_runs.specs.declared.runs.made.Made.{Made}
