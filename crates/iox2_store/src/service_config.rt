@@ -55,8 +55,7 @@ pub struct ServiceConfig {
     pub subscriber_expired_connection_buffer: usize,
     /// How many loans of a publisher may be out at a time, where its factory sets no number.
     pub publisher_max_loaned_samples: usize,
-    /// What a publisher does at a full buffer, where its factory sets no strategy. So far it
-    /// changes nothing: a publisher discards.
+    /// What a publisher does at a full buffer, where its factory sets no strategy.
     pub backpressure_strategy: BackpressureStrategy,
     /// How a publisher's memory grows, where its factory sets no strategy. So far it changes
     /// nothing: the memory doesn't grow.
