@@ -155,59 +155,41 @@ fn a_retry_passes_a_closed_subscriber_over(rt: HostRuntime) {
     check(&rt, rt.alloc(), service(1, 1), &commands, &expected);
 }
 
-// While its publisher waits, a loan may be changed, read and given back, and nothing else of that
-// publisher goes on. What is sent is what the loan was when it was sent.
+// While a publisher waits, nothing of it goes on but that send, which has the position where it was
+// blocked.
 #[test]
 fn a_blocked_publisher_does_nothing_else(rt: HostRuntime) {
     let commands = [
         CREATE_SUBSCRIBER,
         waiting_publisher(3),
-        Command::Loan { of: 1 },
-        Command::LoanUninit { of: 1 },
-        Command::Send { of: 2 },
-        Command::Loan { of: 1 },
-        Command::Loan { of: 1 },
-        Command::WriteHeader { of: 5, value: 4 },
-        Command::Send { of: 5 },
-        Command::LoanUninit { of: 1 },
-        Command::Loan { of: 1 },
         Command::SendCopy { of: 1, value: 1 },
-        Command::Send { of: 6 },
+        Command::Loan { of: 1 },
+        Command::Loan { of: 1 },
+        Command::Send { of: 3 },
+        Command::LoanUninit { of: 1 },
+        Command::Loan { of: 1 },
+        Command::SendCopy { of: 1, value: 2 },
+        Command::Send { of: 4 },
         Command::Update { of: 1 },
         Command::Close { of: 1 },
-        Command::WriteHeader { of: 5, value: 9 },
-        Command::WriteAll { of: 3, value: 7 },
-        Command::SetPayload {
-            of: 3,
-            at: 0,
-            value: 8,
-        },
-        Command::Read { of: 3, at: 0 },
-        Command::Discard { of: 6 },
-        Command::GiveUp { of: 5 },
+        Command::GiveUp { of: 3 },
         Command::Receive { of: 0 },
         Command::Retry {
-            of: 8,
+            of: 5,
             elapsed: Duration::ZERO,
         },
-        Command::Send { of: 3 },
-        Command::GiveUp { of: 8 },
-        Command::Release { of: 21 },
-        Command::Receive { of: 0 },
-        Command::ReadUserHeader { of: 26 },
+        Command::Send { of: 4 },
+        Command::GiveUp { of: 5 },
         Command::Close { of: 1 },
-        Command::GiveUp { of: 23 },
+        Command::GiveUp { of: 15 },
         Command::Close { of: 1 },
     ];
     let expected = [
         Reply::SubscriberMade(UniqueSubscriberId::new(1)),
         Reply::PublisherMade(UniquePublisherId::new(2)),
-        Reply::Loaned,
-        Reply::Loaned,
         Reply::Delivered(1),
         Reply::Loaned,
         Reply::Loaned,
-        Reply::Done,
         Reply::Blocked,
         Reply::Skipped,
         Reply::Skipped,
@@ -215,22 +197,70 @@ fn a_blocked_publisher_does_nothing_else(rt: HostRuntime) {
         Reply::Skipped,
         Reply::Skipped,
         Reply::Skipped,
+        Reply::Skipped,
+        Reply::Sample(UniquePublisherId::new(2)),
+        Reply::Delivered(1),
+        Reply::Blocked,
+        Reply::Skipped,
+        Reply::Skipped,
+        Reply::Delivered(0),
+        Reply::Done,
+    ];
+    check(&rt, rt.alloc(), service(1, 0), &commands, &expected);
+}
+
+// Its other loans may be changed, read and given back meanwhile. What is sent is what the loan was
+// when it was sent.
+#[test]
+fn loans_of_a_blocked_publisher_are_changed(rt: HostRuntime) {
+    let commands = [
+        CREATE_SUBSCRIBER,
+        waiting_publisher(3),
+        Command::SendCopy { of: 1, value: 1 },
+        Command::Loan { of: 1 },
+        Command::LoanUninit { of: 1 },
+        Command::Loan { of: 1 },
+        Command::WriteHeader { of: 3, value: 4 },
+        Command::Send { of: 3 },
+        Command::WriteHeader { of: 3, value: 9 },
+        Command::WriteAll { of: 4, value: 7 },
+        Command::SetPayload {
+            of: 4,
+            at: 0,
+            value: 8,
+        },
+        Command::Read { of: 4, at: 0 },
+        Command::Discard { of: 5 },
+        Command::Receive { of: 0 },
+        Command::Retry {
+            of: 7,
+            elapsed: Duration::ZERO,
+        },
+        Command::Release { of: 13 },
+        Command::Receive { of: 0 },
+        Command::ReadUserHeader { of: 16 },
+        Command::Send { of: 4 },
+    ];
+    let expected = [
+        Reply::SubscriberMade(UniqueSubscriberId::new(1)),
+        Reply::PublisherMade(UniquePublisherId::new(2)),
+        Reply::Delivered(1),
+        Reply::Loaned,
+        Reply::Loaned,
+        Reply::Loaned,
+        Reply::Done,
+        Reply::Blocked,
         Reply::Skipped,
         Reply::Done,
         Reply::Done,
         Reply::Cell(Some(8)),
         Reply::Done,
-        Reply::Skipped,
         Reply::Sample(UniquePublisherId::new(2)),
         Reply::Delivered(1),
-        Reply::Blocked,
-        Reply::Skipped,
         Reply::Done,
         Reply::Sample(UniquePublisherId::new(2)),
         Reply::UserHeader(4),
-        Reply::Skipped,
-        Reply::Delivered(0),
-        Reply::Done,
+        Reply::Delivered(1),
     ];
     check(&rt, rt.alloc(), service(1, 0), &commands, &expected);
 }
