@@ -2,9 +2,11 @@
 
 ghost use Rattle.std.specs.Prelude.{◌≡◌, false};
 ghost use Rattle.iox2_store.specs.Defaults.{default_config};
-ghost use Rattle.iox2_pubsub.specs.Live.{IsLivePublisher, IsSingleValued, IsUnwrittenLoan, Stays};
+ghost use Rattle.iox2_pubsub.specs.Live.{IsLivePublisher, IsLiveSubscriber, IsSingleValued, IsUnwrittenLoan, Stays};
 
-use iox2_pubsub::{Domain, PortFactoryPublisher, Publisher, SampleMutUninit, SendOutcome, slice};
+use iox2_pubsub::{
+    Domain, PortFactoryPublisher, Publisher, SampleMutUninit, SendOutcome, Subscriber, slice,
+};
 use iox2_store::{BackpressureStrategy, ServiceConfig};
 use std::alloc::Global;
 use std::process::Abort;
@@ -88,6 +90,22 @@ pub(crate) fn publish(
     let loan = publisher.loan_uninit(domain).ok()?;
     let message = loan.write_payload(domain, Reading { celsius });
     Some(message.send(domain).ok()?.delivered())
+}
+
+/// Reads and releases what the subscriber receives next.
+pub(crate) fn next_reading(
+    rt: &impl Abort,
+    domain: &mut Domain<Reading, Station>,
+    subscriber: &Subscriber,
+) -> Option<u64>
+    requires single_valued { IsSingleValued domain.old }
+    requires live { IsLiveSubscriber domain.old subscriber.now }
+    ensures { Stays domain.old domain.new }
+{
+    let sample = subscriber.receive(domain).expect(rt, "an answer")?;
+    let celsius = sample.payload(domain).celsius;
+    sample.release(domain);
+    Some(celsius)
 }
 
 /// How many subscribers took a message. `None` where its send is blocked.

@@ -1,7 +1,7 @@
-ghost use Rattle.iox2_pubsub.specs.Live.{IsLiveSubscriber, IsSingleValued, Stays};
+ghost use Rattle.iox2_pubsub.specs.Live.{IsSingleValued};
 
-use crate::fixtures::{Reading, Station, factory_for, publish, settings};
-use iox2_pubsub::{Domain, Subscriber};
+use crate::fixtures::{Reading, Station, factory_for, next_reading, publish, settings};
+use iox2_pubsub::Domain;
 use iox2_store::ServiceConfig;
 use std::alloc::Global;
 use std::process::Abort;
@@ -15,22 +15,6 @@ fn remembering(rt: &impl Abort, alloc: Global, history_size: usize) -> Domain<Re
         ..settings()
     };
     Domain::new(alloc, config).expect(rt, "a domain")
-}
-
-// Reads and releases what the subscriber receives next.
-fn next_reading(
-    rt: &impl Abort,
-    domain: &mut Domain<Reading, Station>,
-    subscriber: &Subscriber,
-) -> Option<u64>
-    requires single_valued { IsSingleValued domain.old }
-    requires live { IsLiveSubscriber domain.old subscriber.now }
-    ensures { Stays domain.old domain.new }
-{
-    let sample = subscriber.receive(domain).expect(rt, "an answer")?;
-    let celsius = sample.payload(domain).celsius;
-    sample.release(domain);
-    Some(celsius)
 }
 
 // What a subscriber reads that comes when a publisher has sent 21, 22 and 23.

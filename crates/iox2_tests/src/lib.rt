@@ -3,6 +3,14 @@
 #![tactic(auto)]
 
 #[cfg(test)]
+mod blocked_publishers;
+#[cfg(test)]
+mod blocked_sends;
+#[cfg(test)]
+mod blocked_slices;
+#[cfg(test)]
+mod blocked_slots;
+#[cfg(test)]
 mod closes;
 #[cfg(test)]
 mod copies;
@@ -40,3 +48,5 @@ mod stays;
 mod subscribers;
 #[cfg(test)]
 mod updates;
+#[cfg(test)]
+mod waiting_publishers;

@@ -1,0 +1,221 @@
+//! Sends that wait for a full subscriber are tried again and given up.
+use crate::fixtures::{Reading, Station, next_reading, settings};
+use crate::waiting_publishers::{
+    blocked, delivered, subscriber_of, waiting_domain, waiting_publisher,
+};
+use iox2_pubsub::Domain;
+use iox2_store::{BackpressureStrategy, ServiceConfig};
+use std::time::Duration;
+
+#[test]
+fn a_full_subscriber_blocks_the_send_until_it_has_room(rt: HostRuntime) {
+    let mut domain = waiting_domain(&rt, rt.alloc());
+    let subscriber = subscriber_of(&rt, &mut domain, 1);
+    let publisher = waiting_publisher(&rt, &mut domain);
+    let strategy = publisher.backpressure_strategy();
+    let sent = publisher.send_copy(&mut domain, Reading { celsius: 20 });
+    let first = delivered(&rt, sent);
+    let before = publisher.is_blocked(&domain);
+    let loan = publisher.loan_uninit(&mut domain).expect(&rt, "a loan");
+    let key = loan.key();
+    let message = loan.write_payload(&mut domain, Reading { celsius: 21 });
+    let waiting = blocked(&rt, message.send(&mut domain));
+    let names_its_loan = waiting.key() == key;
+    let is_loan = domain.holds_loan(key);
+    let meanwhile = publisher.is_blocked(&domain);
+    let read = next_reading(&rt, &mut domain, &subscriber);
+    let until_retried = publisher.is_blocked(&domain);
+    let nothing = next_reading(&rt, &mut domain, &subscriber);
+    let second = delivered(&rt, waiting.retry(&mut domain, Duration::ZERO));
+    let after = publisher.is_blocked(&domain);
+    let last = next_reading(&rt, &mut domain, &subscriber);
+    publisher.close(&mut domain);
+    subscriber.close(&mut domain);
+    drop(domain);
+    assert!(rt; strategy == BackpressureStrategy::RetryUntilDelivered);
+    assert!(rt; [first, second] == [1, 1]);
+    assert!(rt; names_its_loan && !is_loan);
+    assert!(rt; [before, meanwhile, until_retried, after] == [false, true, true, false]);
+    assert!(rt; [read, nothing, last] == [Some(20), None, Some(21)]);
+}
+
+#[test]
+fn a_retry_without_room_stays_blocked(rt: HostRuntime) {
+    let mut domain = waiting_domain(&rt, rt.alloc());
+    let subscriber = subscriber_of(&rt, &mut domain, 1);
+    let publisher = waiting_publisher(&rt, &mut domain);
+    let sent = publisher.send_copy(&mut domain, Reading { celsius: 20 });
+    let first = delivered(&rt, sent);
+    let sent = publisher.send_copy(&mut domain, Reading { celsius: 21 });
+    let waiting = blocked(&rt, sent);
+    let key = waiting.key();
+    let waiting = blocked(&rt, waiting.retry(&mut domain, Duration::ZERO));
+    let again = waiting.key();
+    let waiting = blocked(&rt, waiting.retry(&mut domain, Duration::ZERO));
+    let is_blocked = publisher.is_blocked(&domain);
+    let read = next_reading(&rt, &mut domain, &subscriber);
+    let second = delivered(&rt, waiting.retry(&mut domain, Duration::ZERO));
+    let last = next_reading(&rt, &mut domain, &subscriber);
+    let nothing = next_reading(&rt, &mut domain, &subscriber);
+    subscriber.disown();
+    publisher.disown();
+    drop(domain);
+    assert!(rt; [first, second] == [1, 1]);
+    assert!(rt; again == key);
+    assert!(rt; is_blocked);
+    assert!(rt; [read, last, nothing] == [Some(20), Some(21), None]);
+}
+
+// Three subscribers, the second and the third of which are full. Those that took the message before
+// aren't served again.
+#[test]
+fn a_retry_goes_on_where_the_send_waits(rt: HostRuntime) {
+    let mut domain = waiting_domain(&rt, rt.alloc());
+    let wide = subscriber_of(&rt, &mut domain, 2);
+    let second = subscriber_of(&rt, &mut domain, 1);
+    let third = subscriber_of(&rt, &mut domain, 1);
+    let publisher = waiting_publisher(&rt, &mut domain);
+    let sent = publisher.send_copy(&mut domain, Reading { celsius: 20 });
+    let to_all = delivered(&rt, sent);
+    let sent = publisher.send_copy(&mut domain, Reading { celsius: 21 });
+    publisher.disown();
+    let waiting = blocked(&rt, sent);
+    let before = [
+        next_reading(&rt, &mut domain, &wide),
+        next_reading(&rt, &mut domain, &wide),
+        next_reading(&rt, &mut domain, &second),
+    ];
+    let waiting = blocked(&rt, waiting.retry(&mut domain, Duration::ZERO));
+    let between = [
+        next_reading(&rt, &mut domain, &wide),
+        next_reading(&rt, &mut domain, &second),
+        next_reading(&rt, &mut domain, &third),
+    ];
+    let takers = delivered(&rt, waiting.retry(&mut domain, Duration::ZERO));
+    let after = [
+        next_reading(&rt, &mut domain, &wide),
+        next_reading(&rt, &mut domain, &second),
+        next_reading(&rt, &mut domain, &third),
+    ];
+    wide.disown();
+    second.disown();
+    third.disown();
+    drop(domain);
+    assert!(rt; [to_all, takers] == [3, 3]);
+    assert!(rt; before == [Some(20), Some(21), Some(20)]);
+    assert!(rt; between == [None, Some(21), Some(20)]);
+    assert!(rt; after == [None, None, Some(21)]);
+}
+
+#[test]
+fn giving_up_passes_a_full_subscriber_over(rt: HostRuntime) {
+    let mut domain = waiting_domain(&rt, rt.alloc());
+    let first = subscriber_of(&rt, &mut domain, 1);
+    let second = subscriber_of(&rt, &mut domain, 1);
+    let wide = subscriber_of(&rt, &mut domain, 2);
+    let publisher = waiting_publisher(&rt, &mut domain);
+    let sent = publisher.send_copy(&mut domain, Reading { celsius: 20 });
+    let to_all = delivered(&rt, sent);
+    let sent = publisher.send_copy(&mut domain, Reading { celsius: 21 });
+    let waiting = blocked(&rt, sent);
+    let key = waiting.key();
+    let waiting = blocked(&rt, waiting.give_up(&mut domain));
+    let names_the_same = waiting.key() == key;
+    let takers = delivered(&rt, waiting.give_up(&mut domain));
+    let is_blocked = publisher.is_blocked(&domain);
+    publisher.disown();
+    let read = [
+        next_reading(&rt, &mut domain, &first),
+        next_reading(&rt, &mut domain, &first),
+        next_reading(&rt, &mut domain, &second),
+        next_reading(&rt, &mut domain, &second),
+        next_reading(&rt, &mut domain, &wide),
+        next_reading(&rt, &mut domain, &wide),
+    ];
+    first.disown();
+    second.disown();
+    wide.disown();
+    drop(domain);
+    assert!(rt; [to_all, takers] == [3, 1]);
+    assert!(rt; names_the_same && !is_blocked);
+    assert!(rt; read == [Some(20), None, Some(20), None, Some(20), Some(21)]);
+}
+
+#[test]
+fn a_closed_subscriber_blocks_no_more(rt: HostRuntime) {
+    let mut domain = waiting_domain(&rt, rt.alloc());
+    let first = subscriber_of(&rt, &mut domain, 1);
+    let second = subscriber_of(&rt, &mut domain, 2);
+    let publisher = waiting_publisher(&rt, &mut domain);
+    let sent = publisher.send_copy(&mut domain, Reading { celsius: 20 });
+    let to_both = delivered(&rt, sent);
+    let sent = publisher.send_copy(&mut domain, Reading { celsius: 21 });
+    let waiting = blocked(&rt, sent);
+    first.close(&mut domain);
+    let is_blocked = publisher.is_blocked(&domain);
+    let takers = delivered(&rt, waiting.retry(&mut domain, Duration::ZERO));
+    let sent = publisher.send_copy(&mut domain, Reading { celsius: 22 });
+    publisher.disown();
+    let waiting = blocked(&rt, sent);
+    let read = [
+        next_reading(&rt, &mut domain, &second),
+        next_reading(&rt, &mut domain, &second),
+    ];
+    let later = delivered(&rt, waiting.retry(&mut domain, Duration::ZERO));
+    let last = next_reading(&rt, &mut domain, &second);
+    second.disown();
+    drop(domain);
+    assert!(rt; is_blocked);
+    assert!(rt; [to_both, takers, later] == [2, 1, 1]);
+    assert!(rt; read == [Some(20), Some(21)]);
+    assert!(rt; last == Some(22));
+}
+
+// With overflow a full subscriber loses its oldest message, whatever the publisher's strategy.
+#[test]
+fn nothing_blocks_where_buffers_overflow(rt: HostRuntime) {
+    let config = ServiceConfig {
+        enable_safe_overflow: true,
+        ..settings()
+    };
+    let mut domain: Domain<Reading, Station> = Domain::new(rt.alloc(), config).expect(
+        &rt, "a domain",
+    );
+    let subscriber = subscriber_of(&rt, &mut domain, 1);
+    let publisher = waiting_publisher(&rt, &mut domain);
+    let sent = publisher.send_copy(&mut domain, Reading { celsius: 20 });
+    let first = delivered(&rt, sent);
+    let sent = publisher.send_copy(&mut domain, Reading { celsius: 21 });
+    let second = delivered(&rt, sent);
+    let is_blocked = publisher.is_blocked(&domain);
+    publisher.disown();
+    let read = next_reading(&rt, &mut domain, &subscriber);
+    let nothing = next_reading(&rt, &mut domain, &subscriber);
+    subscriber.disown();
+    drop(domain);
+    assert!(rt; [first, second] == [1, 1]);
+    assert!(rt; !is_blocked);
+    assert!(rt; [read, nothing] == [Some(21), None]);
+}
+
+// The domain keeps a send whose handle is gone, and nothing ends it.
+#[test]
+fn a_disowned_send_blocks_its_publisher(rt: HostRuntime) {
+    let mut domain = waiting_domain(&rt, rt.alloc());
+    let subscriber = subscriber_of(&rt, &mut domain, 1);
+    let publisher = waiting_publisher(&rt, &mut domain);
+    let sent = publisher.send_copy(&mut domain, Reading { celsius: 20 });
+    let first = delivered(&rt, sent);
+    let sent = publisher.send_copy(&mut domain, Reading { celsius: 21 });
+    blocked(&rt, sent).disown();
+    let read = next_reading(&rt, &mut domain, &subscriber);
+    let nothing = next_reading(&rt, &mut domain, &subscriber);
+    let is_blocked = publisher.is_blocked(&domain);
+    let is_live = domain.holds_publisher(publisher.key());
+    subscriber.disown();
+    publisher.disown();
+    drop(domain);
+    assert!(rt; first == 1);
+    assert!(rt; [read, nothing] == [Some(20), None]);
+    assert!(rt; is_blocked && is_live);
+}
